@@ -1,0 +1,30 @@
+//! Names, texts, kinds, values, moments and what the layers tell each other: the words that every
+//! other crate is written in.
+#![tactic(auto)]
+
+mod dialect;
+mod duplicate;
+mod identity;
+mod kind;
+mod literal;
+mod memory;
+mod name;
+mod reason;
+mod run;
+mod text;
+mod tracking;
+mod value;
+
+pub use dialect::Dialect;
+pub use duplicate::{Duplicate, Same};
+pub use identity::Identity;
+pub use kind::Kind;
+pub use literal::Literal;
+pub use memory::NoMemory;
+pub use name::{Name, NameFault};
+pub use reason::Reason;
+pub use run::{Did, Happened, Printed, Why};
+pub use sqlite_items::{Boxed, Items};
+pub use text::Text;
+pub use tracking::{Exec, Lock, Tracked};
+pub use value::Value;

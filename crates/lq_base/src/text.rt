@@ -1,0 +1,64 @@
+ghost use Rattle.std.specs.Prelude.{◌≡◌, ◌++◌, IfOk, OnOk, OnErr};
+
+use crate::duplicate::{Duplicate, Same};
+use crate::memory::NoMemory;
+use std::alloc::Global;
+use std::marker::Model;
+
+/// A text, which contracts see as its bytes in UTF-8.
+#[derive(Debug, Drop)]
+pub struct Text {
+    text: String,
+}
+
+impl Model for Text {
+    ghost use Rattle.std.specs.Prelude.{List, ℕ, string_bytes};
+
+    ghost Value = { List ℕ };
+
+    ghost view = { λ t. string_bytes t.text };
+}
+
+impl Text {
+    pub fn new(alloc: Global, text: &str) -> Result<Text, NoMemory>
+        ensures { IfOk result (λ made. made ≡ text.now) }
+    {
+        Ok(Text {
+            text: String::from_str(alloc, text)?,
+        })
+    }
+
+    /// A text of its own with the same bytes.
+    pub fn copy(&self, alloc: Global) -> Result<Text, NoMemory>
+        ensures { IfOk result (λ made. made ≡ self.now) }
+    {
+        Text::new(alloc, self.as_str())
+    }
+
+    pub fn as_str(&self) -> &str
+        ensures { result.now ≡ self.now }
+    {
+        self.text.as_str()
+    }
+
+    /// Appends `more`, or changes nothing where there is no memory.
+    pub fn push_str(&mut self, more: &str) -> Result<(), NoMemory>
+        ensures ok { OnOk result (self.new ≡ self.old ++ more.now) }
+        ensures err { OnErr result (self.new ≡ self.old) }
+    {
+        self.text.push_str(more)?;
+        Ok(())
+    }
+}
+
+impl Duplicate for Text {
+    fn duplicate(&self, alloc: Global) -> Result<Text, NoMemory> {
+        self.copy(alloc)
+    }
+}
+
+impl Same for Text {
+    fn same(&self, other: &Text) -> bool {
+        self.as_str() == other.as_str()
+    }
+}
