@@ -1,0 +1,53 @@
+use lq_base::{Dialect, Reason, Text};
+use thiserror::Error;
+
+/// Why a query gets no answer.
+#[derive(Clone, Copy, Debug, PartialEq, Eq, Error)]
+pub enum AskFault {
+    #[error("the query is refused")]
+    Refused(Reason),
+    #[error("out of memory")]
+    OutOfMemory,
+}
+
+/// Why a text is no statement, query or test.
+#[derive(Clone, Copy, Debug, PartialEq, Eq, Error)]
+pub enum ParseFault {
+    #[error("no SQL of the dialect is spelled so")]
+    NotSql,
+    #[error("out of memory")]
+    OutOfMemory,
+}
+
+/// Why a node is no change or condition. A key is given by its path from the node, as
+/// `columns[0].column.type`.
+#[derive(Debug, Drop, Error)]
+pub enum KindFault {
+    #[error("a key is missing")]
+    Missing(Text),
+    #[error("a key is unknown")]
+    Unknown(Text),
+    #[error("a key's value is bad")]
+    Bad(Text),
+    #[error("the change is not for this dialect")]
+    NotFor(Dialect),
+    #[error("out of memory")]
+    OutOfMemory,
+}
+
+/// Why a call of the store did not do what was asked.
+#[derive(Clone, Copy, Debug, PartialEq, Eq, Error)]
+pub enum StoreFault {
+    #[error("the statement is refused")]
+    Refused(Reason),
+    #[error("the text is no statement")]
+    NotSql,
+    #[error("another session has a transaction open")]
+    Busy(u32),
+    #[error("a disk fault")]
+    Disk,
+    #[error("the journal is full")]
+    Full { used: u64, next: u64 },
+    #[error("out of memory")]
+    OutOfMemory,
+}
