@@ -2,6 +2,7 @@
 //! other crate is written in.
 #![tactic(auto)]
 
+mod character;
 mod dialect;
 mod duplicate;
 mod identity;
@@ -15,6 +16,7 @@ mod text;
 mod tracking;
 mod value;
 
+pub use character::{char_count, has_control};
 pub use dialect::Dialect;
 pub use duplicate::{Duplicate, Same};
 pub use identity::Identity;

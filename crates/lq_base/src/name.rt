@@ -1,20 +1,37 @@
 ghost use Rattle.std.specs.Prelude.{◌≡◌, ◌↔◌, IfOk, false};
-ghost use Rattle.std.specs.List.{list_all};
-ghost use Rattle.lq_base.specs.Name.{IsName, is_name, is_plain};
+ghost use Rattle.lq_base.specs.Name.{IsName, is_name};
 
+use crate::character::has_control;
 use crate::duplicate::{Duplicate, Same};
 use crate::memory::NoMemory;
-use std::alloc::Global;
+use std::alloc::{AllocError, Global};
 use std::cmp::Ordering;
 use std::marker::Model;
+use thiserror::Error;
 
-#[derive(Clone, Copy, Debug, PartialEq, Eq)]
+/// Why a text was not made a name.
+#[derive(Clone, Copy, Debug, PartialEq, Eq, Error)]
 pub enum NameFault {
+    #[error("not a name")]
     BadName,
+    #[error("out of memory")]
     OutOfMemory,
 }
 
-/// A name of 1 to 63 bytes, none a control character.
+impl From<AllocError> for NameFault {
+    ghost use Rattle.std.specs.Prelude.{◌≡◌};
+    ghost use Rattle.lq_base.specs.declared.name.NameFault.TheVariants.{OutOfMemory};
+
+    ghost from_gives = { λ _ e. e ≡ OutOfMemory };
+
+    fn from(_: AllocError) -> NameFault {
+        NameFault::OutOfMemory
+    }
+}
+
+/// The name of an object or of a part of one: 1 to 63 bytes, none of them a control character
+/// (63 is PostgreSQL's limit). Contracts see the bytes of its key, by which names are equal and
+/// ordered.
 #[derive(Debug, Drop)]
 pub struct Name {
     text: String,
@@ -32,19 +49,27 @@ impl Model for Name {
 }
 
 impl Name {
+    /// BadName where the text has not 1 to 63 bytes or has a control character.
     pub fn new(alloc: Global, text: &str) -> Result<Name, NameFault>
-        ensures value { IfOk result (λ n. (n ≡ text.now) × IsName text.now) }
+        ensures value { IfOk result (λ name. (name ≡ text.now) × IsName text.now) }
         ensures bad { (result ≡ Err NameFault.BadName) ↔ (is_name text.now ≡ false) }
     {
         if !is_name(text) {
             return Err(NameFault::BadName);
         }
-        match String::from_str(alloc, text) {
-            Ok(text) => Ok(Name { text }),
-            Err(_) => Err(NameFault::OutOfMemory),
-        }
+        let text = String::from_str(alloc, text)?;
+        Ok(Name { text })
     }
 
+    /// The name with this key. It answers as `Name::new`.
+    pub fn from_key(alloc: Global, key: &str) -> Result<Name, NameFault>
+        ensures value { IfOk result (λ name. (name ≡ key.now) × IsName key.now) }
+        ensures bad { (result ≡ Err NameFault.BadName) ↔ (is_name key.now ≡ false) }
+    {
+        Name::new(alloc, key)
+    }
+
+    /// What the name is known by in maps and in what is stored.
     pub fn as_key(&self) -> &str
         ensures value { result.now ≡ self.now }
         ensures name { IsName self.now }
@@ -56,19 +81,10 @@ impl Name {
 fn is_name(text: &str) -> bool
     ensures { result ≡ is_name text.now }
 {
-    if text.is_empty() {
+    if text.is_empty() || text.len() > 63 {
         return false;
     }
-    if text.len() > 63 {
-        return false;
-    }
-    has_plain_bytes(text.as_bytes())
-}
-
-fn has_plain_bytes(bytes: &[u8]) -> bool
-    ensures { result ≡ list_all is_plain bytes.now }
-{
-    bytes.iter().all(|b| *b >= 32 && *b != 127)
+    !has_control(text)
 }
 
 impl Duplicate for Name {

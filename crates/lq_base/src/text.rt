@@ -3,6 +3,7 @@ ghost use Rattle.std.specs.Prelude.{◌≡◌, ◌++◌, IfOk, OnOk, OnErr};
 use crate::duplicate::{Duplicate, Same};
 use crate::memory::NoMemory;
 use std::alloc::Global;
+use std::cmp::Ordering;
 use std::marker::Model;
 
 /// A text, which contracts see as its bytes in UTF-8.
@@ -54,6 +55,61 @@ impl Text {
 impl Duplicate for Text {
     fn duplicate(&self, alloc: Global) -> Result<Text, NoMemory> {
         self.copy(alloc)
+    }
+}
+
+impl PartialEq for Text {
+    ghost use Rattle.lq_base.specs.Text.{is_text};
+    ghost use Rattle.std.proofs.Common.{rules};
+    ghost use Rattle.std.specs.Cmp.Rules.{comparing};
+
+    ghost eq = { is_text };
+
+    ghost laws = { Prim.search (comparing, rules) };
+
+    fn eq(&self, other: &Text) -> bool {
+        self.text.cmp(&other.text).is_eq()
+    }
+}
+
+impl Eq for Text {
+    ghost use Rattle.std.proofs.Common.{rules};
+    ghost use Rattle.std.specs.Cmp.Rules.{comparing};
+
+    ghost laws = { Prim.search (comparing, rules) };
+}
+
+impl PartialOrd for Text {
+    ghost use Rattle.lq_base.specs.Text.{text_cmp};
+    ghost use Rattle.std.specs.Cmp.{partial_order_from_own_ties};
+    ghost use Rattle.std.specs.Ordering.{as_partial_cmp};
+    ghost use Rattle.std.proofs.Common.{rules};
+    ghost use Rattle.std.specs.Cmp.Rules.{comparing};
+
+    ghost partial_cmp = { as_partial_cmp text_cmp };
+
+    ghost laws = { partial_order_from_own_ties (Prim.search (comparing, rules)) (Prim.search (comparing, rules)) };
+
+    fn partial_cmp(&self, other: &Text) -> Option<Ordering> {
+        Some(self.cmp(other))
+    }
+}
+
+impl Ord for Text {
+    ghost use Rattle.lq_base.specs.Text.{text_cmp};
+    ghost use Rattle.std.proofs.Common.{rules};
+    ghost use Rattle.std.specs.Cmp.Rules.{comparing};
+
+    ghost cmp = { text_cmp };
+
+    ghost total = { Prim.search (comparing, rules) };
+
+    ghost matches_partial_cmp = { Prim.search (comparing, rules) };
+
+    ghost matches_eq = { Prim.search (comparing, rules) };
+
+    fn cmp(&self, other: &Text) -> Ordering {
+        self.text.cmp(&other.text)
     }
 }
 
