@@ -1,3 +1,6 @@
 pub mod Character
+pub mod Dialect
 pub mod Name
+pub mod Reason
 pub mod Text
+pub mod Tracking

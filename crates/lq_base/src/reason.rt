@@ -1,3 +1,6 @@
+ghost use Rattle.std.specs.Prelude.{◌≡◌};
+ghost use Rattle.lq_base.specs.Reason.{reason_text};
+
 /// Why the engine refuses a statement or a query. Where several apply, the engine's rules say which.
 #[derive(Clone, Copy, Debug, PartialEq, Eq)]
 pub enum Reason {
@@ -25,4 +28,26 @@ pub enum Reason {
     TooManyRows,
     /// A query that does not answer one value.
     NotOne,
+}
+
+impl Reason {
+    /// The text of the reason, as messages have it.
+    pub fn text(self) -> &'static str
+        ensures { result.now ≡ reason_text self }
+    {
+        match self {
+            Reason::Exists => "exists",
+            Reason::Missing => "missing",
+            Reason::Depends => "depends",
+            Reason::NullFound => "null found",
+            Reason::Duplicate => "duplicate",
+            Reason::NoParent => "no parent",
+            Reason::HasChildren => "has children",
+            Reason::TooWide => "too wide",
+            Reason::WrongKind => "wrong kind",
+            Reason::Reserved => "reserved",
+            Reason::TooManyRows => "too many rows",
+            Reason::NotOne => "not one value",
+        }
+    }
 }

@@ -1,7 +1,10 @@
+use crate::duplicate::{Duplicate, Same};
 use crate::identity::Identity;
+use crate::memory::NoMemory;
 use crate::reason::Reason;
 use crate::text::Text;
 use sqlite_items::Items;
+use std::alloc::Global;
 
 /// Why a run halted at a precondition.
 #[derive(Clone, Copy, Debug, PartialEq, Eq)]
@@ -34,4 +37,34 @@ pub enum Did {
 pub struct Happened {
     pub what: Did,
     pub identity: Identity,
+}
+
+impl Duplicate for Printed {
+    fn duplicate(&self, alloc: Global) -> Result<Printed, NoMemory> {
+        Ok(Printed {
+            identity: self.identity.duplicate(alloc)?,
+            texts: self.texts.duplicate(alloc)?,
+        })
+    }
+}
+
+impl Same for Printed {
+    fn same(&self, other: &Printed) -> bool {
+        self.identity.same(&other.identity) && self.texts.same(&other.texts)
+    }
+}
+
+impl Duplicate for Happened {
+    fn duplicate(&self, alloc: Global) -> Result<Happened, NoMemory> {
+        Ok(Happened {
+            what: self.what,
+            identity: self.identity.duplicate(alloc)?,
+        })
+    }
+}
+
+impl Same for Happened {
+    fn same(&self, other: &Happened) -> bool {
+        self.what == other.what && self.identity.same(&other.identity)
+    }
 }

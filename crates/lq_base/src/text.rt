@@ -1,4 +1,5 @@
 ghost use Rattle.std.specs.Prelude.{◌≡◌, ◌++◌, IfOk, OnOk, OnErr};
+ghost use Rattle.std.specs.List.{flat_map};
 
 use crate::duplicate::{Duplicate, Same};
 use crate::memory::NoMemory;
@@ -48,6 +49,21 @@ impl Text {
         ensures err { OnErr result (self.new ≡ self.old) }
     {
         self.text.push_str(more)?;
+        Ok(())
+    }
+
+    /// Appends the parts in order, or changes nothing where there is no memory.
+    pub fn push_all(&mut self, parts: &[&str]) -> Result<(), NoMemory>
+        ensures ok { OnOk result (self.new ≡ self.old ++ flat_map (λ part. part.now) parts.now) }
+        ensures err { OnErr result (self.new ≡ self.old) }
+    {
+        let start = self.text.len();
+        for part in parts {
+            if self.text.push_str(part).is_err() {
+                self.text.truncate(start);
+                return Err(NoMemory);
+            }
+        }
         Ok(())
     }
 }

@@ -1,4 +1,10 @@
+ghost use Rattle.std.specs.Prelude.{◌≡◌};
+ghost use Rattle.lq_base.specs.Tracking.{exec_text};
+
+use crate::duplicate::{Duplicate, Same};
+use crate::memory::NoMemory;
 use crate::text::Text;
+use std::alloc::Global;
 
 /// The row of the table DATABASECHANGELOGLOCK.
 #[derive(Debug, Drop)]
@@ -15,6 +21,19 @@ pub enum Exec {
     Executed,
     Reran,
     MarkRan,
+}
+
+impl Exec {
+    /// Its text in the column EXECTYPE.
+    pub fn text(self) -> &'static str
+        ensures { result.now ≡ exec_text self }
+    {
+        match self {
+            Exec::Executed => "EXECUTED",
+            Exec::Reran => "RERAN",
+            Exec::MarkRan => "MARK_RAN",
+        }
+    }
 }
 
 /// A row of the table DATABASECHANGELOG.
@@ -39,4 +58,41 @@ pub struct Tracked {
     pub labels: Text,
     /// The column DEPLOYMENT_ID.
     pub deployment: Text,
+}
+
+impl Duplicate for Lock {
+    fn duplicate(&self, alloc: Global) -> Result<Lock, NoMemory> {
+        Ok(Lock {
+            locked: self.locked,
+            granted: self.granted,
+            by: self.by.duplicate(alloc)?,
+        })
+    }
+}
+
+impl Same for Lock {
+    fn same(&self, other: &Lock) -> bool {
+        self.locked == other.locked && self.granted == other.granted && self.by.same(&other.by)
+    }
+}
+
+impl Duplicate for Tracked {
+    fn duplicate(&self, alloc: Global) -> Result<Tracked, NoMemory> {
+        Ok(Tracked {
+            id: self.id.duplicate(alloc)?,
+            author: self.author.duplicate(alloc)?,
+            filename: self.filename.duplicate(alloc)?,
+            date: self.date,
+            order: self.order,
+            exec: self.exec,
+            md5sum: self.md5sum.duplicate(alloc)?,
+            description: self.description.duplicate(alloc)?,
+            comments: self.comments.duplicate(alloc)?,
+            tag: self.tag.duplicate(alloc)?,
+            tool: self.tool.duplicate(alloc)?,
+            contexts: self.contexts.duplicate(alloc)?,
+            labels: self.labels.duplicate(alloc)?,
+            deployment: self.deployment.duplicate(alloc)?,
+        })
+    }
 }
