@@ -1,0 +1,62 @@
+-- Which texts spell a number, and how a number is written.
+use Rattle.std.specs.Prelude.{ℕ, zero, suc, ◌+◌, ◌/◌, ◌%◌, ◌^◌, ◌==◌, ◌&&◌, nat_lt, nat_le, Bool, if◌then◌else◌, ℤ, pos, negsuc, neg_ℤ, unsigned_abs, List, [], ◌∷◌, ◌++◌, length, drop, Option, Some, None}
+use Rattle.std.specs.Int.{is_negative}
+use Rattle.std.specs.Char.{is_ascii_digit}
+use Rattle.std.specs.Fmt.{decimal, signed_decimal, sign_text}
+use Rattle.std.specs.List.{list_all, before_first, after_first, position_or_len}
+use Rattle.std.specs.Str.Parse.{digits_value, starts_with_minus}
+use Rattle.lq_base.specs.declared.literal.Literal.{Literal}
+use Rattle.lq_base.specs.declared.literal.Literal.TheVariants.{Int, Fixed}
+
+-- the number with this sign and magnitude
+abbrev pub signed : Bool → ℕ → ℤ
+signed negative magnitude = if negative then neg_ℤ (pos magnitude) else pos magnitude
+
+-- one decimal digit or more, and nothing else
+abbrev pub is_digits : List ℕ → Bool
+is_digits text = nat_lt 0 (length text) && list_all is_ascii_digit text
+
+abbrev pub without_minus : List ℕ → List ℕ
+without_minus text = if starts_with_minus text then drop 1 text else text
+
+abbrev pub is_dot : ℕ → Bool
+is_dot byte = byte == 46
+
+-- a whole number: `-?digits`, at most 38 digits
+abbrev pub whole_number : Bool → List ℕ → Option Literal
+whole_number negative digits =
+    if is_digits digits && nat_le (length digits) 38
+    then Some (Int (signed negative (digits_value 10 digits))) else None
+
+-- a decimal number: `-?digits.digits`, at most 38 digits in all
+abbrev pub decimal_number : Bool → List ℕ → List ℕ → Option Literal
+decimal_number negative whole fraction =
+    if (is_digits whole && is_digits fraction) && nat_le (length whole + length fraction) 38
+    then Some (Fixed (signed negative (digits_value 10 (whole ++ fraction))) (length fraction)) else None
+
+-- of what follows the sign
+abbrev pub unsigned_number : Bool → List ℕ → Option Literal
+unsigned_number negative text =
+    if nat_lt (position_or_len is_dot text) (length text)
+    then decimal_number negative (before_first is_dot text) (after_first is_dot text)
+    else whole_number negative text
+
+-- the number that a text spells, or none
+unfoldable pub number_of : List ℕ → Option Literal
+number_of text = unsigned_number (starts_with_minus text) (without_minus text)
+
+-- a whole number in decimal digits, `-` before a negative one
+abbrev pub whole_text : ℤ → List ℕ
+whole_text = signed_decimal
+
+-- the last so many decimal digits
+abbrev pub last_digits : ℕ → ℕ → List ℕ
+last_digits zero n = []
+last_digits (suc count) n = last_digits count (n / 10) ++ (48 + n % 10) ∷ []
+
+-- units divided by ten to the power of scale, with as many digits after the dot; without a dot where there are none
+abbrev pub fixed_text : ℤ → ℕ → List ℕ
+fixed_text units zero = whole_text units
+fixed_text units (suc more) =
+    sign_text (is_negative units) ++ decimal (unsigned_abs units / 10 ^ suc more)
+    ++ 46 ∷ last_digits (suc more) (unsigned_abs units)
