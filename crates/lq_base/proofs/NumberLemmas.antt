@@ -74,3 +74,7 @@ scaled_fits v m k small few =
 pub digits_value_after-append : (radix v : ℕ) (xs ys : List ℕ) → digits_value_after radix v (xs ++ ys) ≡ digits_value_after radix (digits_value_after radix v xs) ys
 digits_value_after-append radix v [] ys = refl
 digits_value_after-append radix v (x ∷ xs) ys = digits_value_after-append radix (v * radix + digit_value x) xs ys
+
+-- where three tests hold, the first of two is taken
+pub all_three : {A : Type 0} (a b c : Bool) (x y : A) → a ≡ true → b ≡ true → c ≡ true → x ≡ cond ((a && b) && c) x y
+all_three a b c x y p q r = rw (p, q, r) refl
