@@ -1,3 +1,4 @@
+pub mod Listing
 pub mod Moments
 pub mod Moves
 pub mod Taking

@@ -1,5 +1,5 @@
 -- What files tell.
-use Rattle.std.specs.Prelude.{◌≡◌, ◌<◌, ◌≤◌, ◌++◌, ◌∷◌, [], ℕ, List, length, Option, None, Some, IsSome, bytes_eq, slice_get, ◌≢◌, ⊤}
+use Rattle.std.specs.Prelude.{◌≡◌, ◌<◌, ◌≤◌, ◌++◌, ◌∷◌, [], ℕ, List, length, Option, None, Some, IsSome, bytes_eq, slice_get, ◌≢◌, ◌⊎◌, ⊤, if◌then◌else◌}
 use Rattle.std.specs.List.{Contains, IsDistinct}
 use Rattle.lq_outside.specs.declared.files.Found.{Found}
 use Rattle.lq_outside.specs.declared.files.Found.TheVariants.{Bytes, Absent, TooLong}
@@ -29,3 +29,14 @@ pub record IsListing (files : List ℕ → Option (List ℕ)) (folder : List ℕ
   pub each : (path : List ℕ) → Contains paths path → IsSome (files path) × IsUnder folder path
   pub all : (path : List ℕ) → IsSome (files path) → IsUnder folder path → Contains paths path
   pub once : IsDistinct bytes_eq paths
+
+-- the step from the paths of some files to those of one more
+abbrev pub Notes : List ℕ → List ℕ → List (List ℕ) → List (List ℕ) → Type 0
+Notes folder path before after =
+    (IsUnder folder path × (Contains before path → ⊥) × (after ≡ before ++ path ∷ []))
+    ⊎ ((IsUnder folder path → Contains before path) × (after ≡ before))
+
+-- what a list of files holds at a path: of two with one path, the first
+abbrev pub held_in : List (List ℕ × List ℕ) → List ℕ → Option (List ℕ)
+held_in [] path = None
+held_in (file ∷ files) path = if bytes_eq file.0 path then Some file.1 else held_in files path

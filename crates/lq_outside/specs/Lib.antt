@@ -3,6 +3,8 @@ pub mod Bytes
 pub mod Count
 pub mod Crash
 pub mod Folder
+pub mod Forms
 pub mod Fuse
+pub mod Plan
 pub mod Record
 pub mod Sink
