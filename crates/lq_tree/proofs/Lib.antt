@@ -1,1 +1,3 @@
 pub mod Prefix
+pub mod Order
+pub mod Floats

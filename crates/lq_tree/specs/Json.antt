@@ -1,16 +1,21 @@
 -- The tree of a JSON text.
-use Rattle.std.specs.Prelude.{◌≡◌, ◌⊎◌, ℕ, List, [], ◌∷◌, Option, Some, None, option_map, option_and_then, if◌then◌else◌, Result, Ok, Err}
+use Rattle.std.specs.Prelude.{ℕ, Bool, false, unwrap_or, List, [], ◌∷◌, Option, Some, None, option_map, option_and_then, if◌then◌else◌, Result, Ok, Err}
 use Rattle.std.specs.Str.{is_utf8}
 use Rattle.serde_json.specs.Data.{Data, null, boolean, number, string, array, object, Items, no_items, item, Members, no_members, member}
 use Rattle.serde_json.specs.Find.{as_integer}
 use Rattle.serde_json.specs.Read.{read}
+use Rattle.serde_json.specs.Written.{has_float}
 use Rattle.lq_tree.specs.declared.node.Node.{Node, Null, Truth, Whole, Text, List as ListNode, Map as MapNode}
 use Rattle.lq_tree.specs.declared.node.TreeFault.{TreeFault}
-use Rattle.lq_tree.specs.declared.node.TreeFault.TheVariants.{NotJson, FloatNumber, OutOfMemory}
+use Rattle.lq_tree.specs.declared.node.TreeFault.TheVariants.{NotJson, FloatNumber}
 
 -- what `serde_json` reads the bytes as: None where they are not UTF-8 or no JSON
 abbrev pub json_value : List ℕ → Option Data
 json_value bytes = if is_utf8 bytes then read bytes else None
+
+-- whether a number of that value is held neither as an i64 nor as a u64
+abbrev pub holds_float : List ℕ → Bool
+holds_float bytes = unwrap_or (option_map has_float (json_value bytes)) false
 
 -- the tree of a value of `serde_json`: None where one of its numbers is a float
 abbrev mutual

@@ -1,6 +1,7 @@
-ghost use Rattle.std.specs.Prelude.{◌≡◌, ◌⊎◌, Some, None, Ok, Err, IfOk, IfErr};
+ghost use Rattle.std.specs.Prelude.{◌≡◌, ◌⊎◌, Some, None, Ok, Err, IfOk, IfErr, true, false};
 ghost use Rattle.serde_json.specs.View.{view, items_view, members_view};
-ghost use Rattle.lq_tree.specs.Json.{json_tree, json_value, tree_of, trees_of, entries_of};
+ghost use Rattle.lq_tree.specs.Json.{json_tree, json_value, holds_float, tree_of, trees_of, entries_of};
+ghost use Rattle.lq_tree.specs.Tree.{IsTree};
 
 use crate::node::{Node, TreeFault};
 use lq_base::{Items, Text};
@@ -9,7 +10,10 @@ use std::alloc::Global;
 
 /// The tree of a JSON text.
 pub fn read_json(alloc: Global, bytes: &[u8]) -> Result<Node, TreeFault>
-    ensures { (result ≡ Err TreeFault.OutOfMemory) ⊎ (result ≡ json_tree bytes.now) }
+    ensures tree { (result ≡ Err TreeFault.OutOfMemory) ⊎ (result ≡ json_tree bytes.now) }
+    ensures order { IfOk result IsTree }
+    ensures whole { IfOk result (λ _. holds_float bytes.now ≡ false) }
+    ensures float { (result ≡ Err TreeFault.FloatNumber) → holds_float bytes.now ≡ true }
 {
     let value = value_of(alloc, bytes)?;
     node_of(alloc, &value)
