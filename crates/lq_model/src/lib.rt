@@ -2,6 +2,8 @@
 #![tactic(auto)]
 
 mod caller;
+mod canon;
+mod canon_laws;
 mod column;
 mod constraint;
 mod fault;
@@ -11,6 +13,10 @@ mod statement;
 mod test;
 
 pub use caller::{By, ByText, Room};
+pub use canon::{Begun, Canon};
+pub use canon_laws::{
+    atoms_are_read_one_way, text_tells_change, text_tells_changes, text_tells_value,
+};
 pub use column::{Column, ColumnDef};
 pub use constraint::{ForeignKey, Key, Unique};
 pub use fault::{AskFault, KindFault, ParseFault, StoreFault};

@@ -1,0 +1,94 @@
+-- Canonical text: what a change is in one way of writing alone, so that its checksum tells it.
+use Rattle.std.specs.Prelude.{◌≡◌, ℕ, zero, suc, ◌+◌, ℤ, pos, negsuc, Bool, true, false, List, [], ◌∷◌, ◌++◌, length, map, codes, Option, Some, None}
+use Rattle.std.specs.Int.Digits.{digits_of}
+use Rattle.lq_model.specs.declared.canon.Begun.{Begun}
+
+-- a value of a change's key
+mutual
+  pub data CanonicalValue : Type 0 where
+    text : List ℕ → CanonicalValue
+    number : ℤ → CanonicalValue
+    truth : Bool → CanonicalValue
+    list : CanonicalValues → CanonicalValue
+    map_of : CanonicalPairs → CanonicalValue
+
+  pub data CanonicalValues : Type 0 where
+    no_values : CanonicalValues
+    value : CanonicalValue → CanonicalValues → CanonicalValues
+
+  pub data CanonicalPairs : Type 0 where
+    no_pairs : CanonicalPairs
+    pair : List ℕ → CanonicalValue → CanonicalPairs → CanonicalPairs
+
+-- a change: its type's name and its keys
+pub record CanonicalChange : Type 0 where
+  pub name : List ℕ
+  pub pairs : CanonicalPairs
+
+-- the digits of n in base ten, the highest first
+unfoldable pub decimal_digits : ℕ → List ℕ
+decimal_digits zero = 0 ∷ []
+decimal_digits (suc n) = digits_of 10 (suc n)
+
+-- a number in decimal: `0`, or digits that do not begin with `0`
+unfoldable pub numeral : ℕ → List ℕ
+numeral n = map (λ digit. 48 + digit) (decimal_digits n)
+
+-- and with its sign
+abbrev pub signed_numeral : ℤ → List ℕ
+signed_numeral (pos n) = numeral n
+signed_numeral (negsuc n) = codes "-" ++ numeral (suc n)
+
+-- the number of the text's bytes, `:`, the text
+unfoldable pub atom : List ℕ → List ℕ
+atom t = numeral (length t) ++ codes ":" ++ t
+
+abbrev mutual
+  pub canonical : CanonicalValue → List ℕ
+  canonical (text t) = codes "t" ++ atom t
+  canonical (number n) = codes "n" ++ atom (signed_numeral n)
+  canonical (truth false) = codes "b0"
+  canonical (truth true) = codes "b1"
+  canonical (list values) = codes "[" ++ canonical_values values ++ codes "]"
+  canonical (map_of pairs) = codes "{" ++ canonical_pairs pairs ++ codes "}"
+
+  pub canonical_values : CanonicalValues → List ℕ
+  canonical_values no_values = []
+  canonical_values (value v values) = canonical v ++ canonical_values values
+
+  pub canonical_pairs : CanonicalPairs → List ℕ
+  canonical_pairs no_pairs = []
+  canonical_pairs (pair key v pairs) = atom key ++ canonical v ++ canonical_pairs pairs
+
+-- the atom of the type's name, and the map of its keys
+abbrev pub canonical_change : CanonicalChange → List ℕ
+canonical_change change = atom change.name ++ canonical (map_of change.pairs)
+
+abbrev pub canonical_each : List CanonicalChange → List ℕ
+canonical_each [] = []
+canonical_each (change ∷ changes) = canonical_change change ++ canonical_each changes
+
+-- the canonical text of a changeset: the list of its changes
+abbrev pub canonical_changes : List CanonicalChange → List ℕ
+canonical_changes changes = codes "[" ++ canonical_each changes ++ codes "]"
+
+-- what a writer has written, and the lists and maps that it has begun and not ended, the last one first
+pub record Writing : Type 0 where
+  pub written : List ℕ
+  pub begun : List Begun
+
+-- what was begun last and is not ended
+abbrev pub innermost : List Begun → Option Begun
+innermost [] = None
+innermost (begun ∷ outer) = Some begun
+
+-- what stays begun once that is ended
+abbrev pub without_innermost : List Begun → List Begun
+without_innermost [] = []
+without_innermost (begun ∷ outer) = outer
+
+-- one whole list of changes, with nothing left open
+pub record IsFinished (w : Writing) : Type 0 where
+  pub changes : List CanonicalChange
+  pub whole : w.written ≡ canonical_changes changes
+  pub closed : w.begun ≡ []
