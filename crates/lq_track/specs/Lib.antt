@@ -1,0 +1,6 @@
+pub mod Columns
+pub mod Lock
+pub mod Log
+pub mod Moment
+pub mod Row
+pub mod Statements

@@ -1,0 +1,49 @@
+-- The table DATABASECHANGELOGLOCK: its columns, its key, and its one row.
+use Rattle.std.specs.Prelude.{ℕ, ℤ, true, false, pos, List, [], ◌∷◌, Option, Some, None, codes}
+use Rattle.lq_base.specs.declared.dialect.Dialect.{Dialect}
+use Rattle.lq_base.specs.declared.dialect.Dialect.TheVariants.{Postgresql, Mysql}
+use Rattle.lq_base.specs.declared.kind.Kind.TheVariants.{Int, Boolean, Moment, Text}
+use Rattle.lq_base.specs.declared.literal.Literal.{Literal}
+use Rattle.lq_base.specs.declared.literal.Literal.TheVariants as literal
+use Rattle.lq_base.specs.declared.tracking.Lock.{Lock}
+use Rattle.lq_model.specs.declared.column.ColumnDef.{ColumnDef}
+use Rattle.lq_model.specs.declared.constraint.Key.{Key}
+use Rattle.lq_track.specs.Columns.{not_null, nullable, text_or_null, moment_or_null}
+use Rattle.lq_track.specs.declared.lock_column.LockColumn.{LockColumn}
+use Rattle.lq_track.specs.declared.lock_column.LockColumn.TheVariants.{Id, Locked, LockGranted, LockedBy}
+
+unfoldable pub lock_table : List ℕ
+lock_table = codes "DATABASECHANGELOGLOCK"
+
+unfoldable pub lock_column : LockColumn → ColumnDef
+lock_column Id = not_null (codes "ID") Int
+lock_column Locked = not_null (codes "LOCKED") Boolean
+lock_column LockGranted = nullable (codes "LOCKGRANTED") Moment
+lock_column LockedBy = nullable (codes "LOCKEDBY") Text
+
+-- the table's order
+unfoldable pub lock_order : List LockColumn
+lock_order = Id ∷ Locked ∷ LockGranted ∷ LockedBy ∷ []
+
+abbrev pub lock_name : LockColumn → List ℕ
+lock_name c = (lock_column c).name
+
+unfoldable pub lock_key_name : Dialect → List ℕ
+lock_key_name Postgresql = codes "pk_DATABASECHANGELOGLOCK"
+lock_key_name Mysql = codes "PRIMARY"
+
+abbrev pub lock_key : Dialect → Key
+lock_key d = record { name = lock_key_name d; columns = lock_name Id ∷ [] }
+
+-- what the row holds in the column
+unfoldable pub lock_value : Lock → LockColumn → Literal
+lock_value l Id = literal.Int (pos 1)
+lock_value l Locked = literal.Bool l.locked
+lock_value l LockGranted = moment_or_null l.granted
+lock_value l LockedBy = text_or_null l.by
+
+abbrev pub free : Lock
+free = record { locked = false; granted = None; by = None }
+
+abbrev pub taken : ℤ → List ℕ → Lock
+taken at by = record { locked = true; granted = Some at; by = Some by }

@@ -1,0 +1,189 @@
+ghost use Rattle.std.specs.Prelude.{◌≡◌, ◌∷◌, [], map, IfOk, Some, ℕ, List};
+ghost use Rattle.lq_base.specs.declared.literal.Literal.TheVariants as literal;
+ghost use Rattle.lq_model.specs.declared.statement.Statement.TheVariants as statement;
+ghost use Rattle.lq_track.specs.Log.{log_column, log_name, log_table, log_value, exec_text};
+ghost use Rattle.lq_track.specs.Moment.{IsMoment};
+ghost use Rattle.lq_track.specs.Statements.{log_holds, row_test, row_inserted, row_again, row_deleted, row_set, tag_set, sum_filled};
+
+use crate::literals::{holds, moment_literal, text_literal, text_or_null};
+use crate::log_column::LogColumn;
+use crate::name::fixed_name;
+use lq_base::{Boxed, Exec, Identity, Items, Literal, Name, NoMemory, Text, Tracked};
+use lq_model::{ColumnDef, Statement, Test};
+use std::alloc::Global;
+
+/// Writes the row of a changeset that has none.
+#[tactic(auto, unfolding(crate::specs::Log::log_order))]
+pub fn insert_row(alloc: Global, row: &Tracked) -> Result<Statement, NoMemory>
+    requires { IsMoment row.now.date }
+    ensures { IfOk result (λ s. s ≡ row_inserted row.now) }
+{
+    Ok(Statement::Insert {
+        table: log_table(alloc)?,
+        columns: log_names(alloc, &LogColumn::ALL)?,
+        values: log_values(alloc, row, &LogColumn::ALL)?,
+    })
+}
+
+/// Writes the date, order, way, checksum and deployment of a changeset that has a row.
+#[tactic(auto, unfolding(crate::specs::Log::again_order))]
+pub fn again_row(alloc: Global, row: &Tracked) -> Result<Statement, NoMemory>
+    requires { IsMoment row.now.date }
+    ensures { IfOk result (λ s. s ≡ row_again row.now) }
+{
+    Ok(Statement::Update {
+        table: log_table(alloc)?,
+        sets: log_sets(alloc, row, &LogColumn::AGAIN)?,
+        test: Some(row_test(alloc, &row.id, &row.author, &row.filename)?),
+    })
+}
+
+pub fn delete_row(alloc: Global, of: &Identity) -> Result<Statement, NoMemory>
+    ensures { IfOk result (λ s. s ≡ row_deleted of.now) }
+{
+    Ok(Statement::Delete {
+        table: log_table(alloc)?,
+        test: Some(row_test(alloc, &of.id, &of.author, &of.file)?),
+    })
+}
+
+pub fn set_tag(alloc: Global, of: &Identity, tag: &Text) -> Result<Statement, NoMemory>
+    ensures { IfOk result (λ s. s ≡ tag_set of.now tag.now) }
+{
+    set_text(alloc, of, LogColumn::Tag, tag)
+}
+
+/// Writes the checksum of a row that has none.
+pub fn fill_sum(alloc: Global, of: &Identity, sum: &Text) -> Result<Statement, NoMemory>
+    ensures { IfOk result (λ s. s ≡ sum_filled of.now sum.now) }
+{
+    set_text(alloc, of, LogColumn::Md5Sum, sum)
+}
+
+fn set_text(
+    alloc: Global,
+    of: &Identity,
+    column: LogColumn,
+    text: &Text,
+) -> Result<Statement, NoMemory>
+    ensures { IfOk result (λ s. s ≡ row_set column text.now of.now) }
+{
+    let value = text_literal(alloc, text)?;
+    let mut sets = Items::new(alloc);
+    sets.push((column.name(alloc)?, value))?;
+    Ok(Statement::Update {
+        table: log_table(alloc)?,
+        sets,
+        test: Some(row_test(alloc, &of.id, &of.author, &of.file)?),
+    })
+}
+
+/// That a row is the changeset's.
+fn row_test(alloc: Global, id: &Text, author: &Text, file: &Text) -> Result<Test, NoMemory>
+    ensures { IfOk result (λ test. test ≡ row_test (record { file = file.now; id = id.now; author = author.now })) }
+{
+    let id = log_holds(alloc, LogColumn::Id, id)?;
+    let author = log_holds(alloc, LogColumn::Author, author)?;
+    let file = log_holds(alloc, LogColumn::Filename, file)?;
+    let both = Test::And(Boxed::new(alloc, id)?, Boxed::new(alloc, author)?);
+    Ok(Test::And(Boxed::new(alloc, both)?, Boxed::new(alloc, file)?))
+}
+
+fn log_holds(alloc: Global, column: LogColumn, text: &Text) -> Result<Test, NoMemory>
+    ensures { IfOk result (λ test. test ≡ log_holds column text.now) }
+{
+    let value = text_literal(alloc, text)?;
+    Ok(holds(column.name(alloc)?, value))
+}
+
+#[tactic(auto, using(crate::proofs::Names::log_table_is_name), unfolding(crate::specs::Log::log_table))]
+pub fn log_table(alloc: Global) -> Result<Name, NoMemory>
+    ensures { IfOk result (λ name. name ≡ log_table) }
+{
+    fixed_name(alloc, "DATABASECHANGELOG")
+}
+
+#[tactic(auto, unfolding(crate::specs::Log::exec_text))]
+fn exec_text(exec: Exec) -> &'static str
+    ensures { result.now ≡ exec_text exec }
+{
+    match exec {
+        Exec::Executed => "EXECUTED",
+        Exec::Reran => "RERAN",
+        Exec::MarkRan => "MARK_RAN",
+    }
+}
+
+#[tactic(auto, unfolding(crate::specs::Log::log_value))]
+fn log_value(alloc: Global, row: &Tracked, column: LogColumn) -> Result<Literal, NoMemory>
+    requires { IsMoment row.now.date }
+    ensures { IfOk result (λ value. value ≡ log_value row.now column) }
+{
+    match column {
+        LogColumn::Id => text_literal(alloc, &row.id),
+        LogColumn::Author => text_literal(alloc, &row.author),
+        LogColumn::Filename => text_literal(alloc, &row.filename),
+        LogColumn::DateExecuted => moment_literal(alloc, row.date),
+        LogColumn::OrderExecuted => Ok(Literal::Int(row.order as i128)),
+        LogColumn::ExecType => Ok(Literal::Text(Text::new(alloc, exec_text(row.exec))?)),
+        LogColumn::Md5Sum => text_or_null(alloc, &row.md5sum),
+        LogColumn::Description => text_literal(alloc, &row.description),
+        LogColumn::Comments => text_literal(alloc, &row.comments),
+        LogColumn::Tag => text_or_null(alloc, &row.tag),
+        LogColumn::Liquibase => text_literal(alloc, &row.tool),
+        LogColumn::Contexts => text_literal(alloc, &row.contexts),
+        LogColumn::Labels => text_literal(alloc, &row.labels),
+        LogColumn::DeploymentId => text_literal(alloc, &row.deployment),
+    }
+}
+
+pub fn log_defs(alloc: Global, columns: &[LogColumn]) -> Result<Items<ColumnDef>, NoMemory>
+    ensures { IfOk result (λ defs. defs ≡ map log_column columns.now) }
+{
+    let mut defs = Items::new(alloc);
+    for column in columns {
+        defs.push(column.def(alloc)?)?;
+    }
+    Ok(defs)
+}
+
+fn log_names(alloc: Global, columns: &[LogColumn]) -> Result<Items<Name>, NoMemory>
+    ensures { IfOk result (λ names. names ≡ map log_name columns.now) }
+{
+    let mut names = Items::new(alloc);
+    for column in columns {
+        names.push(column.name(alloc)?)?;
+    }
+    Ok(names)
+}
+
+fn log_values(
+    alloc: Global,
+    row: &Tracked,
+    columns: &[LogColumn],
+) -> Result<Items<Literal>, NoMemory>
+    requires { IsMoment row.now.date }
+    ensures { IfOk result (λ values. values ≡ map (log_value row.now) columns.now) }
+{
+    let mut values = Items::new(alloc);
+    for column in columns {
+        values.push(log_value(alloc, row, *column)?)?;
+    }
+    Ok(values)
+}
+
+fn log_sets(
+    alloc: Global,
+    row: &Tracked,
+    columns: &[LogColumn],
+) -> Result<Items<(Name, Literal)>, NoMemory>
+    requires { IsMoment row.now.date }
+    ensures { IfOk result (λ sets. sets ≡ map (λ c. (log_name c, log_value row.now c)) columns.now) }
+{
+    let mut sets = Items::new(alloc);
+    for column in columns {
+        let value = log_value(alloc, row, *column)?;
+        sets.push((column.name(alloc)?, value))?;
+    }
+    Ok(sets)
+}
