@@ -1,5 +1,6 @@
 pub mod Character
 pub mod Dialect
+pub mod Kind
 pub mod Name
 pub mod Number
 pub mod Reason

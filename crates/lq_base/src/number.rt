@@ -41,7 +41,7 @@ fn without_minus(text: &[u8]) -> &[u8]
 fn unsigned_number(negative: bool, text: &[u8]) -> Option<Literal>
     ensures { result ≡ unsigned_number negative text.now }
 {
-    let dot = dot_in(text);
+    let dot = place_of(text, b'.');
     if dot < text.len() {
         decimal_number(negative, &text[..dot], &text[dot + 1..])
     } else {
@@ -49,12 +49,13 @@ fn unsigned_number(negative: bool, text: &[u8]) -> Option<Literal>
     }
 }
 
-/// The place of the first dot, or the length where there is none.
-fn dot_in(text: &[u8]) -> usize
-    ensures { result ≡ position_or_len is_dot text.now }
+/// The place of the first such byte, or the length where there is none.
+pub fn place_of(text: &[u8], byte: u8) -> usize
+    ensures value { result ≡ position_or_len (λ b. b == byte) text.now }
+    ensures bound { result ≤ length text.now }
 {
     text.iter()
-        .position(|byte| *byte == b'.')
+        .position(|b| *b == byte)
         .unwrap_or(text.len())
 }
 
