@@ -8,8 +8,10 @@ mod column;
 mod constraint;
 mod fault;
 mod index;
+mod keeps_sound;
 mod query;
 mod statement;
+mod takes_back;
 mod test;
 
 pub use caller::{By, ByText, Room};
@@ -21,6 +23,11 @@ pub use column::{Column, ColumnDef};
 pub use constraint::{ForeignKey, Key, Unique};
 pub use fault::{AskFault, KindFault, ParseFault, StoreFault};
 pub use index::Index;
+pub use keeps_sound::{
+    create_table_keeps_sound, delete_keeps_sound, drop_table_keeps_sound, insert_keeps_sound,
+    update_keeps_sound,
+};
 pub use query::{Answered, Query, Wanted};
 pub use statement::Statement;
+pub use takes_back::drop_table_takes_back;
 pub use test::{Op, Operand, Test};

@@ -1,0 +1,106 @@
+-- What drops a key, a unique constraint, a foreign key or an index.
+use Rattle.std.specs.List.{filter, list_any}
+use Rattle.std.specs.Prelude.{Bool, List, None, Option, Some, [], cond, is_none, map, not, ◌&&◌, ◌||◌, ◌∷◌}
+use Rattle.lq_base.specs.Name.{is_named}
+use Rattle.lq_base.specs.declared.dialect.Dialect.{Dialect}
+use Rattle.lq_base.specs.declared.name.Name.{Name}
+use Rattle.lq_model.specs.Catalogue.{Catalogue, Table, table_of, the_table, with_table}
+use Rattle.lq_model.specs.Names.{is_in}
+use Rattle.lq_model.specs.Needs.{has_numbered}
+use Rattle.lq_model.specs.Plan.{Plan, unopposed}
+use Rattle.lq_model.specs.Reserved.{is_reserved}
+use Rattle.lq_model.specs.TableNames.{constraint_names, foreign_names, key_list}
+use Rattle.lq_model.specs.declared.caller.By.{By}
+use Rattle.lq_model.specs.declared.constraint.ForeignKey.{ForeignKey}
+use Rattle.lq_model.specs.declared.constraint.Key.{Key}
+use Rattle.lq_model.specs.declared.constraint.Unique.{Unique}
+
+abbrev pub without_key : Name → Option Key → Option Key
+without_key n None = None
+without_key n (Some k) = cond (is_named n k.name) None (Some k)
+
+abbrev pub uniques_without : Name → List Unique → List Unique
+uniques_without n us = filter (λ u. not (is_named n u.name)) us
+
+abbrev pub foreign_without : Name → List ForeignKey → List ForeignKey
+foreign_without n fs = filter (λ f. not (is_named n f.name)) fs
+
+-- the constraint of that name is gone, of whichever sort
+abbrev pub without_constraint : Name → Table → Table
+without_constraint n it = record it {
+  key = without_key n it.key;
+  uniques = uniques_without n it.uniques;
+  foreign = foreign_without n it.foreign;
+}
+
+-- the key of a table with a numbered column may not go
+abbrev pub drop_constraint : By → Dialect → Name → Name → Catalogue → Plan
+drop_constraint by d t n c =
+    let it = the_table c t in
+    record (unopposed c) {
+      reserved = is_reserved by (t ∷ n ∷ []);
+      missing = is_none (table_of c t) || not (is_in n (constraint_names it));
+      depends = list_any (λ k. is_named n k.name) (key_list it.key) && has_numbered it;
+      named = t ∷ [];
+      result = with_table c t (without_constraint n it);
+    }
+
+abbrev pub without_its_key : Table → Table
+without_its_key it = record it { key = None }
+
+abbrev pub drop_primary_key : By → Dialect → Name → Catalogue → Plan
+drop_primary_key by d t c =
+    let it = the_table c t in
+    record (unopposed c) {
+      reserved = is_reserved by (t ∷ []);
+      missing = is_none (table_of c t) || is_none it.key;
+      depends = has_numbered it;
+      named = t ∷ [];
+      result = with_table c t (without_its_key it);
+    }
+
+abbrev pub without_unique : Name → Table → Table
+without_unique n it = record it { uniques = uniques_without n it.uniques }
+
+abbrev pub drop_unique : By → Dialect → Name → Name → Catalogue → Plan
+drop_unique by d t n c =
+    let it = the_table c t in
+    record (unopposed c) {
+      reserved = is_reserved by (t ∷ n ∷ []);
+      missing = is_none (table_of c t) || not (is_in n (map (λ u. u.name) it.uniques));
+      named = t ∷ [];
+      result = with_table c t (without_unique n it);
+    }
+
+abbrev pub without_foreign : Name → Table → Table
+without_foreign n it = record it { foreign = foreign_without n it.foreign }
+
+abbrev pub drop_foreign_key : By → Dialect → Name → Name → Catalogue → Plan
+drop_foreign_key by d t n c =
+    let it = the_table c t in
+    record (unopposed c) {
+      reserved = is_reserved by (t ∷ n ∷ []);
+      missing = is_none (table_of c t) || not (is_in n (foreign_names it));
+      named = t ∷ [];
+      result = with_table c t (without_foreign n it);
+    }
+
+abbrev pub without_index : Name → Table → Table
+without_index n it = record it { indexes = filter (λ i. not (is_named n i.name)) it.indexes }
+
+abbrev pub has_index : Name → Table → Bool
+has_index n it = is_in n (map (λ i. i.name) it.indexes)
+
+-- without a table it is the index of that name, on whichever table
+abbrev pub drop_index : By → Dialect → Name → Option Name → Catalogue → Plan
+drop_index by d n None c = record (unopposed c) {
+  reserved = is_reserved by (n ∷ []);
+  missing = not (list_any (λ e. has_index n e.1) c.tables);
+  result = record c { tables = map (λ e. (e.0, without_index n e.1)) c.tables };
+}
+drop_index by d n (Some t) c = record (unopposed c) {
+  reserved = is_reserved by (t ∷ n ∷ []);
+  missing = is_none (table_of c t) || not (has_index n (the_table c t));
+  named = t ∷ [];
+  result = with_table c t (without_index n (the_table c t));
+}

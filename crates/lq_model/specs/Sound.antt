@@ -1,0 +1,117 @@
+-- What a sound catalogue is.
+use Rattle.std.specs.List.{list_all, list_any}
+use Rattle.std.specs.List.Sorted.{IsStrictlySortedBy}
+use Rattle.std.specs.Map.{keys_of}
+use Rattle.std.specs.Option.{unwrap_or}
+use Rattle.std.specs.Ordering.{int_eq}
+use Rattle.std.specs.Prelude.{Bool, List, Option, Some, [], false, is_none, is_some, not, pos, true, ◌&&◌, ◌||◌, ◌∷◌, ◌≡◌}
+use Rattle.lq_base.specs.Name.{is_named, name_cmp}
+use Rattle.lq_base.specs.declared.dialect.Dialect.{Dialect}
+use Rattle.lq_base.specs.declared.dialect.Dialect.TheVariants.{Mysql, Postgresql}
+use Rattle.lq_base.specs.declared.name.Name.{Name}
+use Rattle.lq_base.specs.declared.value.Value.TheVariants as value
+use Rattle.lq_model.specs.Catalogue.{Catalogue, Sequence, Table, View, table_of, the_table}
+use Rattle.lq_model.specs.Comparison.{compares_wrongly}
+use Rattle.lq_model.specs.IntoKind.{is_kind, is_value_of}
+use Rattle.lq_model.specs.Kinds.{is_number, kinds_differ}
+use Rattle.lq_model.specs.NameSpaces.{AreApart, AreApartWithin}
+use Rattle.lq_model.specs.Names.{is_empty, is_in, repeats, same_names}
+use Rattle.lq_model.specs.ResultTests.{has_null, has_orphans, has_twins, is_loose, is_overfull}
+use Rattle.lq_model.specs.Row.{row_fits}
+use Rattle.lq_model.specs.Spelled.{is_spelled}
+use Rattle.lq_model.specs.TableNames.{column_lists, column_names, key_list}
+use Rattle.lq_model.specs.Truth.{names_in}
+use Rattle.lq_model.specs.declared.column.Column.{Column}
+use Rattle.lq_model.specs.declared.constraint.Key.{Key}
+use Rattle.lq_model.specs.declared.query.Wanted.{Wanted}
+use Rattle.lq_model.specs.declared.query.Wanted.TheVariants as wanted
+
+abbrev pub default_fits : Column → Bool
+default_fits c = is_value_of c.kind (unwrap_or c.default value.Null)
+
+-- at least one of a table's columns, none twice
+abbrev pub are_columns : Table → List Name → Bool
+are_columns it ns = not (is_empty ns) && (not (repeats ns) && list_all (λ n. is_in n (column_names it)) ns)
+
+abbrev pub is_not_null : Table → Name → Bool
+is_not_null it n = list_all (λ c. not (is_named n c.name) || not c.nullable) it.columns
+
+-- the key is of that column alone
+abbrev pub is_key_of : Option Key → Name → Bool
+is_key_of key n = list_any (λ k. same_names k.columns (n ∷ [])) (key_list key)
+
+-- a numbered column is of a number's kind, has no default and is the only column of the key: so a table has at most one
+abbrev pub is_numbered_well : Table → Column → Bool
+is_numbered_well it c = not c.numbered || (is_number c.kind && (is_none c.default && is_key_of it.key c.name))
+
+-- PRIMARY
+abbrev pub primary : Name
+primary = 80 ∷ 82 ∷ 73 ∷ 77 ∷ 65 ∷ 82 ∷ 89 ∷ []
+
+-- under MySQL each key is named PRIMARY
+abbrev pub is_key_name : Dialect → Name → Bool
+is_key_name Postgresql n = true
+is_key_name Mysql n = is_named n primary
+
+pub record IsSoundTable (d : Dialect) (it : Table) : Type 0 where
+  -- at least one column
+  pub some : is_empty it.columns ≡ false
+  -- the columns' names differ
+  pub differ : repeats (column_names it) ≡ false
+  pub kinds : list_all (λ c. is_kind c.kind) it.columns ≡ true
+  -- each row has for each column null or a value of its kind
+  pub rows : list_all (row_fits it.columns) it.rows ≡ true
+  pub defaults : list_all default_fits it.columns ≡ true
+  -- the key, unique constraints, indexes and foreign keys name at least one column of it, none twice
+  pub lists : list_all (are_columns it) (column_lists it) ≡ true
+  pub foreign : list_all (λ f. are_columns it f.columns) it.foreign ≡ true
+  -- the columns of the key are NOT NULL
+  pub key : list_all (λ k. list_all (is_not_null it) k.columns) (key_list it.key) ≡ true
+  pub key_named : list_all (λ k. is_key_name d k.name) (key_list it.key) ≡ true
+  pub numbered : list_all (is_numbered_well it) it.columns ≡ true
+  -- the names of its constraints differ in their spaces
+  pub within : AreApartWithin d it
+
+abbrev pub wanted_names : Wanted → List Name
+wanted_names (wanted.Columns ns) = ns
+wanted_names _ = []
+
+-- a view lists, as its own columns, columns of a table that is there; its test can be written, names columns of the table and compares what may be compared
+abbrev pub is_view : Catalogue → View → Bool
+is_view c v =
+    let it = the_table c v.query.table in
+    is_some (table_of c v.query.table)
+    && (are_columns it v.columns
+    && (list_all (λ n. is_in n (column_names it)) (names_in v.query.test)
+    && (same_names (wanted_names v.query.wanted) v.columns
+    && (is_spelled v.query.test && not (compares_wrongly it.columns v.query.test)))))
+
+-- whether a foreign key and its targets differ in number or kinds
+abbrev pub is_unlike : Catalogue → Bool
+is_unlike c = list_any (λ e. list_any (kinds_differ c e.1) e.1.foreign) c.tables
+
+-- MySQL has no sequences
+abbrev pub may_have : Dialect → List (Name × Sequence) → Bool
+may_have Postgresql ss = true
+may_have Mysql ss = is_empty ss
+
+pub record IsSound (d : Dialect) (c : Catalogue) : Type 0 where
+  -- the maps are in the order of their names
+  pub ordered : IsStrictlySortedBy name_cmp (keys_of c.tables)
+  pub ordered_views : IsStrictlySortedBy name_cmp (keys_of c.views)
+  pub ordered_sequences : IsStrictlySortedBy name_cmp (keys_of c.sequences)
+  pub tables : (t : Name) (it : Table) → table_of c t ≡ Some it → IsSoundTable d it
+  pub views : list_all (λ e. is_view c e.1) c.views ≡ true
+  -- names differ in their spaces
+  pub apart : AreApart d c
+  -- no sequence has the step 0
+  pub steps : list_any (λ e. int_eq e.1.step (pos 0)) c.sequences ≡ false
+  pub sequences : may_have d c.sequences ≡ true
+  pub no_null : has_null c ≡ false
+  pub no_twins : has_twins c ≡ false
+  -- each foreign key's targets are the key or a unique constraint, with equal kinds, and each row has its parent
+  pub aimed : is_loose c ≡ false
+  pub alike : is_unlike c ≡ false
+  pub parents : has_orphans c ≡ false
+  -- at most 100,000 rows in a table
+  pub small : is_overfull c ≡ false

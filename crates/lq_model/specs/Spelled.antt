@@ -1,0 +1,46 @@
+-- What a text can spell of a literal and a test.
+use Rattle.std.specs.List.{list_all}
+use Rattle.std.specs.Prelude.{Bool, List, None, Option, Some, [], max, nat_le, nat_lt, negsuc, pos, true, ℕ, ℤ, ◌&&◌, ◌++◌, ◌+◌, ◌^◌, ◌∷◌}
+use Rattle.lq_base.specs.declared.literal.Literal.{Literal}
+use Rattle.lq_base.specs.declared.literal.Literal.TheVariants as literal
+use Rattle.lq_model.specs.IntoKind.{fits_bits}
+use Rattle.lq_model.specs.Truth.{Both, Either, Turned}
+use Rattle.lq_model.specs.declared.test.Operand.{Operand}
+use Rattle.lq_model.specs.declared.test.Operand.TheVariants as operand
+use Rattle.lq_model.specs.declared.test.Test.{Compare, IsNull, NotNull, Test}
+
+abbrev pub magnitude : ℤ → ℕ
+magnitude (pos n) = n
+magnitude (negsuc n) = n + 1
+
+-- a number within 128 signed bits, a decimal number with a digit after the point and at most 38 digits
+abbrev pub is_literal : Literal → Bool
+is_literal (literal.Int n) = fits_bits n (2 ^ 127)
+is_literal (literal.Fixed u s) = nat_le 1 s && (nat_le s 37 && nat_lt (magnitude u) (10 ^ 38))
+is_literal _ = true
+
+abbrev pub operand_literals : Operand → List Literal
+operand_literals (operand.Column n) = []
+operand_literals (operand.Literal l) = l ∷ []
+
+abbrev pub test_literals : Test → List Literal
+test_literals (Compare op x y) = operand_literals x ++ operand_literals y
+test_literals (IsNull x) = operand_literals x
+test_literals (NotNull x) = operand_literals x
+test_literals (Both a b) = test_literals a ++ test_literals b
+test_literals (Either a b) = test_literals a ++ test_literals b
+test_literals (Turned a) = test_literals a
+
+-- how deep AND, OR and NOT stand in one another
+abbrev pub levels : Test → ℕ
+levels (Compare op x y) = 0
+levels (IsNull x) = 0
+levels (NotNull x) = 0
+levels (Both a b) = max (levels a) (levels b) + 1
+levels (Either a b) = max (levels a) (levels b) + 1
+levels (Turned a) = levels a + 1
+
+-- at most 64 levels, and literals that can be written
+abbrev pub is_spelled : Option Test → Bool
+is_spelled None = true
+is_spelled (Some t) = nat_le (levels t) 64 && list_all is_literal (test_literals t)
