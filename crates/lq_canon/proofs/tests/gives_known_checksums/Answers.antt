@@ -1,0 +1,12 @@
+use Rattle.std.proofs.Common.{rules, List, [], ◌∷◌}
+use Rattle.std.specs.Prelude.{codes}
+use Rattle.lq_model.specs.Canon.{atom, CanonicalChange, decimal_digits, no_pairs, numeral, pair, text}
+use Rattle.lq_canon.proofs.tests.gives_known_checksums.Goals as goal
+
+-- the table `t` is dropped
+abbrev dropped : List CanonicalChange
+dropped = record { name = codes "dropTable"; pairs = pair (codes "tableName") (text (codes "t")) no_pairs } ∷ []
+
+pub checksum-requires-2 : goal.checksum-requires-2
+unfolding atom numeral decimal_digits
+checksum-requires-2 g c = record { changes = dropped; whole = search rules; closed = search rules }
