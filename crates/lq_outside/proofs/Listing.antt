@@ -4,7 +4,6 @@ use Rattle.std.proofs.Math.Seq.{take-suc, take-append_seam, drop-append_seam}
 use Rattle.std.proofs.lemmas.List.{take-append-drop}
 use Rattle.std.proofs.lemmas.List.Elements.{Contains-append_left, Contains-append_right, Contains-append_cases}
 use Rattle.std.proofs.lemmas.Slice.Eq.{bytes_eq-Decides}
-use Rattle.std.proofs.lemmas.Grind.{common_steps}
 use Rattle.std.specs.List.{slice_get, slice_index_or, Contains, IsDistinct, AllByRecursion}
 use Rattle.std.specs.Str.{bytes_eq}
 use Rattle.lq_outside.specs.Folder.{held_in, IsListing, IsUnder, Notes}
@@ -18,17 +17,19 @@ pub inside : (folder path front back : List ℕ) → front ≡ take (length fold
     → (IsTrue b → (rest : List ℕ) × (path ≡ folder ++ 47 ∷ rest)) × (((rest : List ℕ) × (path ≡ folder ++ 47 ∷ rest)) → IsTrue b)
 inside folder path front back front_is back_is same b rooted =
     let equal : front ≡ folder = (bytes_eq-Decides front folder).0 same in
-    let whole : path ≡ folder ++ back = cc (take-append-drop (length folder) path, front_is, back_is, equal) in
-    (λ holds. let rest = first back (rooted.0 holds) in (rest.0, whole ∙ ap (λ l. folder ++ l) rest.1),
-     λ rest. rooted.1 (subst (λ l. slice_get l 0 ≡ Some 47) (sym (back_is ∙ (ap (drop (length folder)) rest.1 ∙ drop-append_seam folder (47 ∷ rest.0)))) refl))
+    let whole : path ≡ folder ++ back = cc (take-append-drop (length folder) path, front_is, back_is, equal) in (
+      λ holds. let rest = first back (rooted.0 holds) in (rest.0, whole ∙ ap (λ l. folder ++ l) rest.1),
+      λ rest. rooted.1 (subst (λ l. slice_get l 0 ≡ Some 47) (sym (back_is ∙ (ap (drop (length folder)) rest.1 ∙ drop-append_seam folder (47 ∷ rest.0)))) refl),
+    )
 
 pub apart : (folder path front : List ℕ) → front ≡ take (length folder) path
     → (b : Bool) → b ≡ bytes_eq front folder → b ≡ false
     → (IsTrue b → (rest : List ℕ) × (path ≡ folder ++ 47 ∷ rest)) × (((rest : List ℕ) × (path ≡ folder ++ 47 ∷ rest)) → IsTrue b)
-apart folder path front front_is b is not =
-    (λ holds. absurd (cc (holds, not)),
-     λ rest. let equal : front ≡ folder = front_is ∙ (ap (take (length folder)) rest.1 ∙ take-append_seam folder (47 ∷ rest.0)) in
-        is ∙ (bytes_eq-Decides front folder).1 equal)
+apart folder path front front_is b is not = (
+  λ holds. absurd (cc (holds, not)),
+  λ rest. let equal : front ≡ folder = front_is ∙ (ap (take (length folder)) rest.1 ∙ take-append_seam folder (47 ∷ rest.0)) in
+      is ∙ (bytes_eq-Decides front folder).1 equal,
+)
 
 abbrev pub Exactly : Bool → List ℕ → List ℕ → Type 0
 Exactly b folder path = (IsTrue b → (rest : List ℕ) × (path ≡ folder ++ 47 ∷ rest)) × (((rest : List ℕ) × (path ≡ folder ++ 47 ∷ rest)) → IsTrue b)
@@ -83,9 +84,10 @@ all_snoc P (y ∷ ys) x all last = (all.0, all_snoc P ys x all.1 last)
 distinct_snoc : (xs : List (List ℕ)) (x : List ℕ) → IsDistinct bytes_eq xs → (Contains xs x → ⊥) → IsDistinct bytes_eq (xs ++ x ∷ [])
 unfolding IsDistinct
 distinct_snoc [] x distinct fresh = (tt, tt)
-distinct_snoc (y ∷ ys) x distinct fresh =
-    (all_snoc (λ z. bytes_eq y z ≡ false) ys x distinct.0 (not_true (bytes_eq y x) (λ same. fresh (subst (λ z. Contains (y ∷ ys) z) ((bytes_eq-Decides y x).0 same) (here y ys)))),
-     distinct_snoc ys x distinct.1 (λ among. fresh (Contains-append_right (y ∷ []) ys x among)))
+distinct_snoc (y ∷ ys) x distinct fresh = (
+  all_snoc (λ z. bytes_eq y z ≡ false) ys x distinct.0 (not_true (bytes_eq y x) (λ same. fresh (subst (λ z. Contains (y ∷ ys) z) ((bytes_eq-Decides y x).0 same) (here y ys)))),
+  distinct_snoc ys x distinct.1 (λ among. fresh (Contains-append_right (y ∷ []) ys x among)),
+)
 
 pub listing_none : (folder : List ℕ) (paths : List (List ℕ)) → paths ≡ [] → IsListing (held_in []) folder paths
 unfolding IsDistinct

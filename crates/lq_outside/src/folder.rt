@@ -7,11 +7,7 @@ use lq_base::{Items, NoMemory, Text};
 use std::alloc::{AllocError, Global};
 
 /// The first of the files at a path.
-pub fn find(
-    alloc: Global,
-    files: &[(Text, Items<u8>)],
-    path: &str,
-) -> Result<Found, AllocError>
+pub fn find(alloc: Global, files: &[(Text, Items<u8>)], path: &str) -> Result<Found, AllocError>
     ensures { IfOk result (IsFound (held_in files.now path.now)) }
 {
     let mut rest = files;
@@ -49,12 +45,7 @@ pub fn paths_under(
 }
 
 // Adds a path that is under the folder, unless it is there.
-fn note(
-    alloc: Global,
-    paths: &mut Items<Text>,
-    folder: &str,
-    path: &str,
-) -> Result<(), NoMemory>
+fn note(alloc: Global, paths: &mut Items<Text>, folder: &str, path: &str) -> Result<(), NoMemory>
     ensures { OnOk result (Notes folder.now path.now paths.old paths.new) }
 {
     if is_under(folder, path) && !is_among(paths.as_slice(), path) {

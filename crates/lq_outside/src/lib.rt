@@ -19,6 +19,8 @@ mod sink;
 mod sure_disk;
 mod sure_files;
 mod sure_sink;
+#[cfg(test)]
+mod tests;
 
 pub use clock::Clock;
 pub use disk::{Disk, DiskFailed};

@@ -1,4 +1,4 @@
-use Rattle.std.proofs.Common.{rules, ◌≡◌, subst}
+use Rattle.std.proofs.Common.{subst}
 use Rattle.lq_outside.specs.Folder.{Notes}
 use Rattle.lq_outside.proofs.Listing.{listing_none, listing_more}
 use Rattle.lq_outside.proofs.folder.paths_under.Goals as goal
