@@ -1,11 +1,10 @@
 -- The table DATABASECHANGELOG: its columns, and what a row of it holds in each.
 use Rattle.std.specs.Prelude.{ℕ, pos, List, [], ◌∷◌, Some, codes}
+use Rattle.lq_base.specs.Tracking.{exec_text}
 use Rattle.lq_base.specs.declared.identity.Identity.{Identity}
 use Rattle.lq_base.specs.declared.kind.Kind.TheVariants.{Varchar, Moment, Int}
 use Rattle.lq_base.specs.declared.literal.Literal.{Literal}
 use Rattle.lq_base.specs.declared.literal.Literal.TheVariants as literal
-use Rattle.lq_base.specs.declared.tracking.Exec.{Exec}
-use Rattle.lq_base.specs.declared.tracking.Exec.TheVariants.{Executed, Reran, MarkRan}
 use Rattle.lq_base.specs.declared.tracking.Tracked.{Tracked}
 use Rattle.lq_model.specs.declared.column.ColumnDef.{ColumnDef}
 use Rattle.lq_track.specs.Columns.{not_null, nullable, text_or_null}
@@ -43,11 +42,6 @@ again_order = DateExecuted ∷ OrderExecuted ∷ ExecType ∷ Md5Sum ∷ Deploym
 abbrev pub log_name : LogColumn → List ℕ
 log_name c = (log_column c).name
 
-unfoldable pub exec_text : Exec → List ℕ
-exec_text Executed = codes "EXECUTED"
-exec_text Reran = codes "RERAN"
-exec_text MarkRan = codes "MARK_RAN"
-
 -- what the row holds in the column
 unfoldable pub log_value : Tracked → LogColumn → Literal
 log_value row Id = literal.Text row.id
@@ -64,6 +58,10 @@ log_value row Liquibase = literal.Text row.tool
 log_value row Contexts = literal.Text row.contexts
 log_value row Labels = literal.Text row.labels
 log_value row DeploymentId = literal.Text row.deployment
+
+-- the column, and what it becomes
+abbrev pub log_set : Tracked → LogColumn → List ℕ × Literal
+log_set row c = (log_name c, log_value row c)
 
 -- whose row it is
 abbrev pub identity_of : Tracked → Identity

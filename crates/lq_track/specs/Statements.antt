@@ -13,7 +13,7 @@ use Rattle.lq_model.specs.declared.test.Operand.TheVariants as operand
 use Rattle.lq_model.specs.declared.test.Test.{Test}
 use Rattle.lq_model.specs.declared.test.Test.TheVariants.{Compare, And}
 use Rattle.lq_track.specs.Lock.{lock_table, lock_column, lock_order, lock_name, lock_key, lock_value, free, taken}
-use Rattle.lq_track.specs.Log.{log_table, log_column, log_order, log_name, log_value, again_order, identity_of}
+use Rattle.lq_track.specs.Log.{log_table, log_column, log_order, log_name, log_value, log_set, again_order, identity_of}
 use Rattle.lq_track.specs.declared.lock_column.LockColumn.{LockColumn}
 use Rattle.lq_track.specs.declared.lock_column.LockColumn.TheVariants as lock
 use Rattle.lq_track.specs.declared.log_column.LogColumn.{LogColumn}
@@ -47,7 +47,7 @@ row_inserted row = Insert log_table (map log_name log_order) (map (log_value row
 
 -- the row of a changeset that runs again
 abbrev pub row_again : Tracked → Statement
-row_again row = Update log_table (map (λ c. (log_name c, log_value row c)) again_order) (Some (row_test (identity_of row)))
+row_again row = Update log_table (map (log_set row) again_order) (Some (row_test (identity_of row)))
 
 abbrev pub row_deleted : Identity → Statement
 row_deleted of = Delete log_table (Some (row_test of))

@@ -1,14 +1,14 @@
 ghost use Rattle.std.specs.Prelude.{◌≡◌, ◌∷◌, [], map, IfOk, Some, ℕ, List};
 ghost use Rattle.lq_base.specs.declared.literal.Literal.TheVariants as literal;
 ghost use Rattle.lq_model.specs.declared.statement.Statement.TheVariants as statement;
-ghost use Rattle.lq_track.specs.Log.{log_column, log_name, log_table, log_value, exec_text};
+ghost use Rattle.lq_track.specs.Log.{log_column, log_name, log_table, log_value, log_set};
 ghost use Rattle.lq_track.specs.Moment.{IsMoment};
 ghost use Rattle.lq_track.specs.Statements.{log_holds, row_test, row_inserted, row_again, row_deleted, row_set, tag_set, sum_filled};
 
 use crate::literals::{holds, moment_literal, text_literal, text_or_null};
 use crate::log_column::LogColumn;
 use crate::name::fixed_name;
-use lq_base::{Boxed, Exec, Identity, Items, Literal, Name, NoMemory, Text, Tracked};
+use lq_base::{Boxed, Identity, Items, Literal, Name, NoMemory, Text, Tracked};
 use lq_model::{ColumnDef, Statement, Test};
 use std::alloc::Global;
 
@@ -103,17 +103,6 @@ pub fn log_table(alloc: Global) -> Result<Name, NoMemory>
     fixed_name(alloc, "DATABASECHANGELOG")
 }
 
-#[tactic(auto, unfolding(crate::specs::Log::exec_text))]
-fn exec_text(exec: Exec) -> &'static str
-    ensures { result.now ≡ exec_text exec }
-{
-    match exec {
-        Exec::Executed => "EXECUTED",
-        Exec::Reran => "RERAN",
-        Exec::MarkRan => "MARK_RAN",
-    }
-}
-
 #[tactic(auto, unfolding(crate::specs::Log::log_value))]
 fn log_value(alloc: Global, row: &Tracked, column: LogColumn) -> Result<Literal, NoMemory>
     requires { IsMoment row.now.date }
@@ -125,7 +114,7 @@ fn log_value(alloc: Global, row: &Tracked, column: LogColumn) -> Result<Literal,
         LogColumn::Filename => text_literal(alloc, &row.filename),
         LogColumn::DateExecuted => moment_literal(alloc, row.date),
         LogColumn::OrderExecuted => Ok(Literal::Int(row.order as i128)),
-        LogColumn::ExecType => Ok(Literal::Text(Text::new(alloc, exec_text(row.exec))?)),
+        LogColumn::ExecType => Ok(Literal::Text(Text::new(alloc, row.exec.text())?)),
         LogColumn::Md5Sum => text_or_null(alloc, &row.md5sum),
         LogColumn::Description => text_literal(alloc, &row.description),
         LogColumn::Comments => text_literal(alloc, &row.comments),
@@ -178,12 +167,19 @@ fn log_sets(
     columns: &[LogColumn],
 ) -> Result<Items<(Name, Literal)>, NoMemory>
     requires { IsMoment row.now.date }
-    ensures { IfOk result (λ sets. sets ≡ map (λ c. (log_name c, log_value row.now c)) columns.now) }
+    ensures { IfOk result (λ sets. sets ≡ map (log_set row.now) columns.now) }
 {
     let mut sets = Items::new(alloc);
     for column in columns {
-        let value = log_value(alloc, row, *column)?;
-        sets.push((column.name(alloc)?, value))?;
+        sets.push(log_set(alloc, row, *column)?)?;
     }
     Ok(sets)
+}
+
+fn log_set(alloc: Global, row: &Tracked, column: LogColumn) -> Result<(Name, Literal), NoMemory>
+    requires { IsMoment row.now.date }
+    ensures { IfOk result (λ set. set ≡ log_set row.now column) }
+{
+    let name = column.name(alloc)?;
+    Ok((name, log_value(alloc, row, column)?))
 }
