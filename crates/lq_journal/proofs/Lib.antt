@@ -1,0 +1,7 @@
+pub mod Appended
+pub mod Crash
+pub mod Frames
+pub mod Numbers
+pub mod Read
+pub mod Texts
+pub mod Written

@@ -1,0 +1,59 @@
+-- The texts of an entry as bytes, and back.
+use Rattle.std.specs.Prelude.{◌+◌, ◌==◌, ℕ, zero, suc, Bool, is_some, List, [], ◌∷◌, ◌++◌, length, take, drop, Option, None, Some, if◌then◌else◌, IsTrue}
+use Rattle.std.specs.Int.{w32, to_be_bytes, from_be_bytes}
+use Rattle.std.specs.Option.{option_map}
+use Rattle.std.specs.Str.{is_utf8}
+
+-- a length as four bytes, greatest first: the lowest 32 bits
+unfoldable pub number : ℕ → List ℕ
+number n = to_be_bytes w32 n
+
+-- the length that the first four bytes are
+unfoldable pub front_number : List ℕ → ℕ
+front_number bytes = from_be_bytes w32 (take 4 bytes)
+
+-- each text behind its length
+abbrev pub framed_texts : List (List ℕ) → List ℕ
+framed_texts [] = []
+framed_texts (text ∷ texts) = number (length text) ++ text ++ framed_texts texts
+
+-- the body of an entry: the byte `T`, then the texts
+abbrev pub body_of : List (List ℕ) → List ℕ
+body_of texts = 84 ∷ framed_texts texts
+
+-- an entry as it is written, with the closed gate behind it: the body's length, the body, 0
+abbrev pub entry_of : List (List ℕ) → List ℕ
+entry_of texts = number (length (body_of texts)) ++ body_of texts ++ 0 ∷ []
+
+-- how many bytes of a journal an entry takes
+abbrev pub size_of : List (List ℕ) → ℕ
+size_of texts = length (entry_of texts)
+
+-- Reading back. A text must be UTF-8.
+abbrev pub with_text : List ℕ → Option (List (List ℕ)) → Option (List (List ℕ))
+with_text text texts = if is_utf8 text then option_map (λ more. text ∷ more) texts else None
+
+-- The texts that fill these bytes, each behind its length. So many bytes are passed over first, up to a length.
+abbrev pub texts_from : ℕ → List ℕ → Option (List (List ℕ))
+texts_from zero [] = Some []
+texts_from (suc n) [] = None
+texts_from (suc n) (byte ∷ bytes) = texts_from n bytes
+texts_from zero (byte ∷ bytes) = with_text (take (front_number (byte ∷ bytes)) (drop 3 bytes)) (texts_from (3 + front_number (byte ∷ bytes)) bytes)
+
+-- an entry has at least one text
+abbrev pub if_any : Option (List (List ℕ)) → Option (List (List ℕ))
+if_any None = None
+if_any (Some []) = None
+if_any (Some (text ∷ texts)) = Some (text ∷ texts)
+
+-- the texts of a body, where its form is right
+unfoldable pub texts_of : List ℕ → Option (List (List ℕ))
+texts_of [] = None
+texts_of (tag ∷ bytes) = if tag == 84 then if_any (texts_from 0 bytes) else None
+
+abbrev pub is_body : List ℕ → Bool
+is_body body = is_some (texts_of body)
+
+abbrev pub AreTexts : List (List ℕ) → Type 0
+AreTexts [] = Unit {0}
+AreTexts (text ∷ texts) = IsTrue (is_utf8 text) × AreTexts texts

@@ -1,0 +1,6 @@
+pub mod Body
+pub mod Entry
+pub mod Frames
+pub mod Journal
+pub mod Reading
+pub mod State

@@ -1,0 +1,35 @@
+-- What reading the bytes of a journal gives.
+use Rattle.std.specs.Prelude.{◌≡◌, ◌+◌, ◌<◌, ℕ, List, ◌∷◌, ◌++◌, length, Ok, Err, Option, None, Some, IfSome}
+use Rattle.lq_base.specs.declared.dialect.Dialect.{Dialect}
+use Rattle.lq_journal.specs.declared.entry.Entry.{Entry}
+use Rattle.lq_journal.specs.declared.fault.LoadFault.{LoadFault}
+use Rattle.lq_journal.specs.declared.fault.LoadFault.TheVariants.{Disk, Damaged, OutOfMemory}
+use Rattle.lq_journal.specs.Frames.{entries_from, IsEntry}
+use Rattle.lq_journal.specs.Journal.{texts_in, journal_of}
+
+-- behind an open gate stands an entry, and after it the next gate
+pub record IsNext (at : ℕ) (bytes : List ℕ) (entry : Entry) (after : List ℕ) : Type 0 where
+  pub raw : List ℕ
+  pub is : bytes ≡ 1 ∷ (raw ++ after)
+  pub whole : IsEntry raw
+  pub entry_is : entry ≡ record { at = at + 1; texts = texts_in raw }
+  pub some : 0 < length after
+
+-- a closed gate
+pub record IsEnd (bytes : List ℕ) : Type 0 where
+  pub gate : ℕ
+  pub tail : List ℕ
+  pub is : bytes ≡ gate ∷ tail
+  pub closed : ¬ gate ≡ 1
+
+-- an entry of a wrong form stands behind an open gate, or want of memory
+abbrev pub IsStepFault : ℕ → List ℕ → LoadFault → Type 0
+IsStepFault at bytes (Damaged place) = (place ≡ at + 1) × ((from : ℕ) → entries_from from 0 bytes ≡ Err (from + 1))
+IsStepFault at bytes OutOfMemory = Unit {0}
+IsStepFault at bytes Disk = ⊥
+
+-- damage where the definition has it, or want of memory
+abbrev pub IsReadFault : Dialect → ℕ → List ℕ → LoadFault → Type 0
+IsReadFault dialect limit bytes (Damaged at) = journal_of dialect limit bytes ≡ Err at
+IsReadFault dialect limit bytes OutOfMemory = Unit {0}
+IsReadFault dialect limit bytes Disk = ⊥
