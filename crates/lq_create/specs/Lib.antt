@@ -1,0 +1,4 @@
+pub mod Changelog
+pub mod Distinct
+pub mod Parts
+pub mod Stubs
