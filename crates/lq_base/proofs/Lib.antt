@@ -1,2 +1,4 @@
+mod DayLemmas
 mod NumberLemmas
+mod PlainLemmas
 mod TextLemmas

@@ -1,6 +1,7 @@
 pub mod Character
 pub mod Dialect
 pub mod Kind
+pub mod Moment
 pub mod Name
 pub mod Number
 pub mod Reason

@@ -90,7 +90,8 @@ pub fn is_digits(text: &[u8]) -> bool
     !text.is_empty() && all_digits(text)
 }
 
-fn all_digits(text: &[u8]) -> bool
+/// Whether each byte of the text is a decimal digit.
+pub fn all_digits(text: &[u8]) -> bool
     ensures { result ≡ list_all is_ascii_digit text.now }
 {
     text.iter().all(|byte| byte.is_ascii_digit())
