@@ -1,15 +1,16 @@
 -- Powers of ten, and the values of digits.
-use Rattle.std.proofs.Common.{◌≡◌, ℕ, suc, ◌+◌, ◌-◌, ◌*◌, ◌/◌, ◌^◌, ◌<◌, ◌≤◌, Bool, true, ◌&&◌, nat_le, List, [], ◌∷◌, ◌++◌, length, take, drop, get_or, Option, Some, None, cond, ltb, unwrap_or, arith, rules, tests, refl, ap, ◌∙◌, sym, false, add-one}
+use Rattle.std.proofs.Common.{◌≡◌, ℕ, suc, ◌+◌, ◌-◌, ◌*◌, ◌/◌, ◌^◌, ◌<◌, ◌≤◌, Bool, true, ◌&&◌, nat_le, List, [], ◌∷◌, ◌++◌, length, take, drop, get_or, Option, Some, None, cond, ltb, unwrap_or, min, arith, rules, tests, refl, ap, ◌∙◌, sym, false, add-one}
 use Rattle.std.specs.List.{position_or_len, list_all}
 use Rattle.std.specs.Char.{is_ascii_digit, digit_value}
 use Rattle.std.specs.Int.{IsInRange}
 use Rattle.std.specs.Str.Parse.{digits_value_after}
-use Rattle.std.proofs.Math.Nat.{pow-succ', mul_assoc, pow-le-pow_right, one-le-pow, mul-le-mul_right, mul-le-mul_left, div-eq_of_lt}
+use Rattle.std.proofs.Math.Nat.{pow-succ', mul_assoc, pow-le-pow_right, one-le-pow, mul-le-mul, mul-le-mul_right, mul-le-mul_left, div-eq_of_lt}
 use Rattle.std.proofs.Math.Seq.{take-length}
 use Rattle.std.proofs.lemmas.List.{take_all}
 use Rattle.std.proofs.lemmas.List.Sums.{prefix_len-le-length}
 use Rattle.std.proofs.lemmas.Str.{digit_value_digit}
 use Rattle.std.proofs.lemmas.Nat.{pow-add}
+use Rattle.lq_base.specs.Value.{has_digits}
 
 -- what `position` gives, or the length
 pub place_from_position : {X : Type 0} (p : X → Bool) (xs : List X) (found : Option ℕ) (place : ℕ) → found ≡ cond (ltb (position_or_len p xs) (length xs)) (Some (position_or_len p xs)) None → place ≡ unwrap_or found (length xs) → place ≡ position_or_len p xs
@@ -78,3 +79,17 @@ digits_value_after-append radix v (x ∷ xs) ys = digits_value_after-append radi
 -- where three tests hold, the first of two is taken
 pub all_three : {A : Type 0} (a b c : Bool) (x y : A) → a ≡ true → b ≡ true → c ≡ true → x ≡ cond ((a && b) && c) x y
 all_three a b c x y p q r = rw (p, q, r) refl
+
+-- a number of 38 digits has more than a decimal may have, once it has another decimal
+pub too_many_digits : (m k digits : ℕ) → 1 ≤ k → 10 ^ 37 ≤ m → has_digits digits (m * 10 ^ k) ≡ false
+too_many_digits m k digits some large =
+    let most = ten_pow_le (min digits 38) 38 (omega arith) in
+    let scaled = mul-le-mul {n₁ = 10 ^ 37} {n₂ = m} large (ten_pow_le 1 k some) in
+    let beyond : 10 ^ min digits 38 ≤ m * 10 ^ k = omega (arith, most, scaled) in
+    search (rules, tests)
+
+-- one decimal, and then the others
+pub scaled_step : (m k : ℕ) → 1 ≤ k → m * 10 * 10 ^ (k - 1) ≡ m * 10 ^ k
+scaled_step m k some =
+    let more : suc (k - 1) ≡ k = omega arith in
+    mul_assoc m 10 (10 ^ (k - 1)) ∙ ap (λ p. m * p) (sym (pow-succ' 10 (k - 1)) ∙ ap (λ n. 10 ^ n) more)

@@ -1,5 +1,6 @@
 pub mod Character
 pub mod Dialect
+pub mod Into
 pub mod Kind
 pub mod Moment
 pub mod Name
@@ -7,3 +8,4 @@ pub mod Number
 pub mod Reason
 pub mod Text
 pub mod Tracking
+pub mod Value

@@ -130,7 +130,7 @@ impl Kind {
     }
 }
 
-fn is_word(text: &[u8], word: &str) -> bool
+pub fn is_word(text: &[u8], word: &str) -> bool
     ensures { result ≡ str_eq_ignore_ascii_case text.now word.now }
 {
     text.eq_ignore_ascii_case(word.as_bytes())

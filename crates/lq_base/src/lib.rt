@@ -3,6 +3,7 @@
 #![tactic(auto)]
 
 mod character;
+mod convert;
 mod dialect;
 mod duplicate;
 mod identity;
@@ -19,6 +20,7 @@ mod tracking;
 mod value;
 
 pub use character::{char_count, has_control};
+pub use convert::{IntoFault, into_kind};
 pub use dialect::Dialect;
 pub use duplicate::{Duplicate, Same};
 pub use identity::Identity;

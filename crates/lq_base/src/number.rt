@@ -110,7 +110,7 @@ pub fn value_after(value: u128, digits: &[u8]) -> u128
     }
 }
 
-fn signed(negative: bool, magnitude: u128) -> i128
+pub fn signed(negative: bool, magnitude: u128) -> i128
     requires { magnitude < 2 ^ 127 }
     ensures { result ≡ signed negative magnitude }
 {

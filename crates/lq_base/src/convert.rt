@@ -1,0 +1,198 @@
+ghost use Rattle.std.specs.Prelude.{◌≡◌, ◌*◌, ◌^◌, ◌<◌, ◌≤◌, min, if◌then◌else◌, Some, None, IfSome};
+ghost use Rattle.lq_base.specs.Into.{Goes};
+ghost use Rattle.lq_base.specs.Value.{has_digits, decimal_into, truth_of_number, int_into, fixed_into, spelled_into, truth_of_text, moment_value, text_into, bool_into, into_kind};
+
+use crate::character::char_count;
+use crate::kind::{Kind, is_word};
+use crate::literal::Literal;
+use crate::memory::NoMemory;
+use crate::moment::read_moment;
+use crate::number::{read_number, signed};
+use crate::text::Text;
+use crate::value::Value;
+use std::alloc::Global;
+use thiserror::Error;
+
+/// Why a literal did not become a value of a kind.
+#[derive(Clone, Copy, Debug, PartialEq, Eq, Error)]
+pub enum IntoFault {
+    /// Literals of this sort do not go into the kind.
+    #[error("wrong kind")]
+    WrongKind,
+    /// Out of range, or too many characters, digits or decimals.
+    #[error("too wide")]
+    TooWide,
+    #[error("out of memory")]
+    OutOfMemory,
+}
+
+impl From<NoMemory> for IntoFault {
+    ghost use Rattle.std.specs.Prelude.{◌≡◌};
+    ghost use Rattle.lq_base.specs.declared.convert.IntoFault.TheVariants.{OutOfMemory};
+
+    ghost from_gives = { λ _ e. e ≡ OutOfMemory };
+
+    fn from(_: NoMemory) -> IntoFault {
+        IntoFault::OutOfMemory
+    }
+}
+
+/// The value that the literal becomes in a column of the kind. Null goes into every kind. A number
+/// goes into the number kinds, and 0 and 1 into Boolean; a decimal number into Decimal alone. A
+/// text goes into Varchar and Text, into a number kind where it spells a number, into Boolean
+/// where it is `true`, `false`, `1` or `0`, and into Moment where it spells one. A truth value
+/// goes into Boolean. All else is WrongKind; what is out of range is TooWide.
+#[tactic(auto, unfolding(crate::specs::Value::into_kind))]
+pub fn into_kind(alloc: Global, literal: &Literal, kind: Kind) -> Result<Value, IntoFault>
+    ensures { Goes (into_kind literal.now kind) result }
+{
+    match literal {
+        Literal::Null => Ok(Value::Null),
+        Literal::Int(number) => int_into(*number, kind),
+        Literal::Fixed { units, scale } => fixed_into(*units, *scale, kind),
+        Literal::Text(text) => text_into(alloc, text.as_str(), kind),
+        Literal::Bool(truth) => bool_into(*truth, kind),
+    }
+}
+
+fn int_into(number: i128, kind: Kind) -> Result<Value, IntoFault>
+    ensures { Goes (int_into number kind) result }
+{
+    match kind {
+        Kind::Int => {
+            if number < -2_147_483_648 || number > 2_147_483_647 {
+                return Err(IntoFault::TooWide);
+            }
+            Ok(Value::Int(number as i64))
+        }
+        Kind::BigInt => {
+            if number < -9_223_372_036_854_775_808 || number > 9_223_372_036_854_775_807 {
+                return Err(IntoFault::TooWide);
+            }
+            Ok(Value::Int(number as i64))
+        }
+        Kind::Boolean => truth_of_number(number),
+        Kind::Decimal(digits, places) => decimal_into(number, 0, digits, places),
+        _ => Err(IntoFault::WrongKind),
+    }
+}
+
+fn truth_of_number(number: i128) -> Result<Value, IntoFault>
+    ensures { Goes (truth_of_number number) result }
+{
+    if number == 0 {
+        return Ok(Value::Bool(false));
+    }
+    if number == 1 {
+        return Ok(Value::Bool(true));
+    }
+    Err(IntoFault::WrongKind)
+}
+
+fn fixed_into(units: i128, scale: u8, kind: Kind) -> Result<Value, IntoFault>
+    ensures { Goes (fixed_into units scale kind) result }
+{
+    match kind {
+        Kind::Decimal(digits, places) => decimal_into(units, scale, digits, places),
+        _ => Err(IntoFault::WrongKind),
+    }
+}
+
+fn decimal_into(units: i128, scale: u8, digits: u8, places: u8) -> Result<Value, IntoFault>
+    ensures { Goes (decimal_into units scale digits places) result }
+{
+    if places < scale {
+        return Err(IntoFault::TooWide);
+    }
+    match scaled(units.unsigned_abs(), places - scale, digits) {
+        Some(magnitude) => Ok(Value::Fixed {
+            units: signed(units < 0, magnitude),
+            scale: places,
+        }),
+        None => Err(IntoFault::TooWide),
+    }
+}
+
+/// The number with so many more decimals, or None where it then has more digits than it may have.
+fn scaled(magnitude: u128, more: u8, digits: u8) -> Option<u128>
+    ensures value { result ≡ (if has_digits digits (magnitude * 10 ^ more) then Some (magnitude * 10 ^ more) else None) }
+    ensures bound { IfSome result (λ scaled. scaled < 10 ^ 38) }
+{
+    if more == 0 {
+        return within(magnitude, digits);
+    }
+    if magnitude >= 10_000_000_000_000_000_000_000_000_000_000_000_000 {
+        return None;
+    }
+    scaled(magnitude * 10, more - 1, digits)
+}
+
+fn within(magnitude: u128, digits: u8) -> Option<u128>
+    ensures value { result ≡ (if has_digits digits magnitude then Some magnitude else None) }
+    ensures bound { IfSome result (λ same. same < 10 ^ 38) }
+{
+    if magnitude < ten_to(digits) {
+        Some(magnitude)
+    } else {
+        None
+    }
+}
+
+fn ten_to(digits: u8) -> u128
+    ensures value { result ≡ 10 ^ min digits 38 }
+    ensures bound { result ≤ 10 ^ 38 }
+{
+    10u128.pow(u32::from(digits).min(38))
+}
+
+fn text_into(alloc: Global, text: &str, kind: Kind) -> Result<Value, IntoFault>
+    ensures { Goes (text_into text.now kind) result }
+{
+    match kind {
+        Kind::Text => Ok(Value::Text(Text::new(alloc, text)?)),
+        Kind::Varchar(most) => {
+            if char_count(text) > most as usize {
+                return Err(IntoFault::TooWide);
+            }
+            Ok(Value::Text(Text::new(alloc, text)?))
+        }
+        Kind::Boolean => truth_of_text(text),
+        Kind::Moment => match read_moment(text) {
+            Some(ms) => Ok(Value::Moment(ms)),
+            None => Err(IntoFault::WrongKind),
+        },
+        _ => spelled_into(read_number(text), kind),
+    }
+}
+
+fn truth_of_text(text: &str) -> Result<Value, IntoFault>
+    ensures { Goes (truth_of_text text.now) result }
+{
+    let bytes = text.as_bytes();
+    if is_word(bytes, "true") || is_word(bytes, "1") {
+        return Ok(Value::Bool(true));
+    }
+    if is_word(bytes, "false") || is_word(bytes, "0") {
+        return Ok(Value::Bool(false));
+    }
+    Err(IntoFault::WrongKind)
+}
+
+fn spelled_into(number: Option<Literal>, kind: Kind) -> Result<Value, IntoFault>
+    ensures { Goes (spelled_into number kind) result }
+{
+    match number {
+        Some(Literal::Int(number)) => int_into(number, kind),
+        Some(Literal::Fixed { units, scale }) => fixed_into(units, scale, kind),
+        _ => Err(IntoFault::WrongKind),
+    }
+}
+
+fn bool_into(truth: bool, kind: Kind) -> Result<Value, IntoFault>
+    ensures { Goes (bool_into truth kind) result }
+{
+    match kind {
+        Kind::Boolean => Ok(Value::Bool(truth)),
+        _ => Err(IntoFault::WrongKind),
+    }
+}
