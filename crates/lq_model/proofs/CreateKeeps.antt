@@ -67,6 +67,12 @@ apart_from ns ms n a b none = elim (is_in n ns) as (λ r. is_in n ns ≡ r → t
       | false ↦ λ p q. in_none n ns ms q (or_right (is_in x ms) _ none)
     ] refl h
 
+clash_first : (t : Name) (shared ns : List Name) → list_any (λ m. is_named t m || is_in m shared) ns ≡ false → is_in t ns ≡ false
+clash_first t shared ns h = any_less (is_named t) (λ m. is_named t m || is_in m shared) ns (λ m r. or_left (is_named t m) (is_in m shared) r) h
+
+clash_second : (t : Name) (shared ns : List Name) → list_any (λ m. is_named t m || is_in m shared) ns ≡ false → list_any (λ m. is_in m shared) ns ≡ false
+clash_second t shared ns h = any_less (λ m. is_in m shared) (λ m. is_named t m || is_in m shared) ns (λ m r. or_right (is_named t m) (is_in m shared) r) h
+
 -- lists that are not empty, have no column twice and lack none are lists of columns
 pub lists_fine : (it : Table) (ls : List (List Name)) → list_all (λ ns. not (is_empty ns)) ls ≡ true → list_any repeats ls ≡ false → list_any (column_missing it) ls ≡ false → list_all (are_columns it) ls ≡ true
 lists_fine it [] some differ there = refl
@@ -128,8 +134,8 @@ module _ (d : Dialect) (t : Name) (c : Catalogue) (it : Table) (sound : IsSound 
       let i = inner-insert inner_names n c.tables t it none in
       let p = times-append n (object_names after) (flat_map (λ (x : Name × Table). inner_names x.1) after.tables) in
       let q = times-append n (object_names c) (flat_map (λ (x : Name × Table). inner_names x.1) c.tables) in
-      let mine : is_in t (inner_names it) ≡ false = any_less (is_named t) (λ m. is_named t m || is_in m shared) (inner_names it) (λ m r. or_left (is_named t m) _ r) (or_right _ _ clash) in
-      let theirs : list_any (λ m. is_in m shared) (inner_names it) ≡ false = any_less (λ m. is_in m shared) (λ m. is_named t m || is_in m shared) (inner_names it) (λ m r. or_right (is_named t m) _ r) (or_right _ _ clash) in
+      let mine : is_in t (inner_names it) ≡ false = clash_first t shared (inner_names it) (or_right (repeats (constraint_names it)) _ clash) in
+      let theirs : list_any (λ m. is_in m shared) (inner_names it) ≡ false = clash_second t shared (inner_names it) (or_right (repeats (constraint_names it)) _ clash) in
       let both : times n (inner_names it) + times n shared ≤ 1 = apart_from (inner_names it) shared n (own n refl) (h n) theirs in
       elim (is_named n t) as (λ b. is_named n t ≡ b → times n (shared_names after) ≡ (times n shared + once b) + times n (inner_names it) → times n (shared_names after) ≤ 1) [
         | true ↦ λ r is.
@@ -142,7 +148,7 @@ module _ (d : Dialect) (t : Name) (c : Catalogue) (it : Table) (sound : IsSound 
     λ n. one_more n t (times n (object_names after)) (object_names c) free (h.0 n) (objects_more n),
     λ n.
         let i = inner-insert foreign_names n c.tables t it none in
-        let b : times n (foreign_names it) + times n (all_foreign_names c) ≤ 1 = apart_from (foreign_names it) (all_foreign_names c) n (once_if (foreign_names it) n (or_left _ _ (or_right _ _ clash))) (h.1 n) (or_right _ _ (or_right _ _ clash)) in
+        let b : times n (foreign_names it) + times n (all_foreign_names c) ≤ 1 = apart_from (foreign_names it) (all_foreign_names c) n (once_if (foreign_names it) n (or_left (repeats (foreign_names it)) _ (or_right (repeats (index_names it)) _ clash))) (h.1 n) (or_right (repeats (foreign_names it)) _ (or_right (repeats (index_names it)) _ clash)) in
         omega (arith, i, b),
   )
 

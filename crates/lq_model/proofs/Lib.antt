@@ -6,6 +6,8 @@ pub mod CreateDrop
 pub mod CreateKeeps
 pub mod Decide
 pub mod Dropped
+pub mod ExampleWorld
+pub mod Examples
 pub mod IntoKind
 pub mod Kept
 pub mod KeptKinds

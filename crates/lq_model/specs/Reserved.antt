@@ -1,6 +1,6 @@
 -- What a user's statement may not name: the tables that track what ran.
 use Rattle.std.specs.List.{list_any}
-use Rattle.std.specs.Prelude.{Bool, List, [], cond, false, map, nat_le, ℕ, ◌&&◌, ◌++◌, ◌+◌, ◌||◌, ◌∷◌}
+use Rattle.std.specs.Prelude.{Bool, List, codes, cond, false, map, nat_le, ℕ, ◌&&◌, ◌+◌, ◌||◌}
 use Rattle.lq_base.specs.Name.{is_named}
 use Rattle.lq_base.specs.declared.dialect.Dialect.{Dialect}
 use Rattle.lq_base.specs.declared.dialect.Dialect.TheVariants.{Mysql, Postgresql}
@@ -13,22 +13,17 @@ use Rattle.lq_model.specs.declared.caller.By.TheVariants.{Program, User}
 abbrev pub lower : ℕ → ℕ
 lower b = cond (nat_le 65 b && nat_le b 90) (b + 32) b
 
--- databasechangelog
-abbrev pub tracking : List ℕ
-tracking = 100 ∷ 97 ∷ 116 ∷ 97 ∷ 98 ∷ 97 ∷ 115 ∷ 101 ∷ 99 ∷ 104 ∷ 97 ∷ 110 ∷ 103 ∷ 101 ∷ 108 ∷ 111 ∷ 103 ∷ []
-
 -- databasechangelog or databasechangeloglock, in any case
 abbrev pub is_tracking : Name → Bool
-is_tracking n = is_named (map lower n) tracking || is_named (map lower n) (tracking ++ 108 ∷ 111 ∷ 99 ∷ 107 ∷ [])
+is_tracking n = is_named (map lower n) (codes "databasechangelog") || is_named (map lower n) (codes "databasechangeloglock")
 
 -- whether a user may not run what has these names as those of tables, views, sequences, indexes and constraints
 abbrev pub is_reserved : By → List Name → Bool
 is_reserved User ns = list_any is_tracking ns
 is_reserved Program ns = false
 
--- pk_DATABASECHANGELOGLOCK
 abbrev pub lock_key : Name
-lock_key = 112 ∷ 107 ∷ 95 ∷ 68 ∷ 65 ∷ 84 ∷ 65 ∷ 66 ∷ 65 ∷ 83 ∷ 69 ∷ 67 ∷ 72 ∷ 65 ∷ 78 ∷ 71 ∷ 69 ∷ 76 ∷ 79 ∷ 71 ∷ 76 ∷ 79 ∷ 67 ∷ 75 ∷ []
+lock_key = codes "pk_DATABASECHANGELOGLOCK"
 
 -- whether a user's statement makes, or takes away by a renaming, the name of the lock table's key in PostgreSQL's one space: for a user it is always taken
 abbrev pub takes_lock_key : By → Dialect → List Name → Bool

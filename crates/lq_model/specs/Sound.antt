@@ -4,7 +4,7 @@ use Rattle.std.specs.List.Sorted.{IsStrictlySortedBy}
 use Rattle.std.specs.Map.{keys_of}
 use Rattle.std.specs.Option.{unwrap_or}
 use Rattle.std.specs.Ordering.{int_eq}
-use Rattle.std.specs.Prelude.{Bool, List, Option, Some, [], false, is_none, is_some, not, pos, true, ◌&&◌, ◌||◌, ◌∷◌, ◌≡◌}
+use Rattle.std.specs.Prelude.{Bool, List, Option, Some, [], codes, false, is_none, is_some, not, pos, true, ◌&&◌, ◌||◌, ◌∷◌, ◌≡◌}
 use Rattle.lq_base.specs.Name.{is_named, name_cmp}
 use Rattle.lq_base.specs.declared.dialect.Dialect.{Dialect}
 use Rattle.lq_base.specs.declared.dialect.Dialect.TheVariants.{Mysql, Postgresql}
@@ -44,9 +44,8 @@ is_key_of key n = list_any (λ k. same_names k.columns (n ∷ [])) (key_list key
 abbrev pub is_numbered_well : Table → Column → Bool
 is_numbered_well it c = not c.numbered || (is_number c.kind && (is_none c.default && is_key_of it.key c.name))
 
--- PRIMARY
 abbrev pub primary : Name
-primary = 80 ∷ 82 ∷ 73 ∷ 77 ∷ 65 ∷ 82 ∷ 89 ∷ []
+primary = codes "PRIMARY"
 
 -- under MySQL each key is named PRIMARY
 abbrev pub is_key_name : Dialect → Name → Bool

@@ -1,6 +1,6 @@
 -- What a text can spell of a literal and a test.
 use Rattle.std.specs.List.{list_all}
-use Rattle.std.specs.Prelude.{Bool, List, None, Option, Some, [], max, nat_le, nat_lt, negsuc, pos, true, ℕ, ℤ, ◌&&◌, ◌++◌, ◌+◌, ◌^◌, ◌∷◌}
+use Rattle.std.specs.Prelude.{Bool, List, None, Option, Some, [], max, nat_le, nat_lt, true, unsigned_abs, ℕ, ◌&&◌, ◌++◌, ◌+◌, ◌^◌, ◌∷◌}
 use Rattle.lq_base.specs.declared.literal.Literal.{Literal}
 use Rattle.lq_base.specs.declared.literal.Literal.TheVariants as literal
 use Rattle.lq_model.specs.IntoKind.{fits_bits}
@@ -9,14 +9,10 @@ use Rattle.lq_model.specs.declared.test.Operand.{Operand}
 use Rattle.lq_model.specs.declared.test.Operand.TheVariants as operand
 use Rattle.lq_model.specs.declared.test.Test.{Compare, IsNull, NotNull, Test}
 
-abbrev pub magnitude : ℤ → ℕ
-magnitude (pos n) = n
-magnitude (negsuc n) = n + 1
-
 -- a number within 128 signed bits, a decimal number with a digit after the point and at most 38 digits
 abbrev pub is_literal : Literal → Bool
 is_literal (literal.Int n) = fits_bits n (2 ^ 127)
-is_literal (literal.Fixed u s) = nat_le 1 s && (nat_le s 37 && nat_lt (magnitude u) (10 ^ 38))
+is_literal (literal.Fixed u s) = nat_le 1 s && (nat_le s 37 && nat_lt (unsigned_abs u) (10 ^ 38))
 is_literal _ = true
 
 abbrev pub operand_literals : Operand → List Literal
