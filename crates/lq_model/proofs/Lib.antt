@@ -1,6 +1,8 @@
 pub mod CanonLemmas
 pub mod Numerals
 pub mod Absent
+pub mod AddColumnKeeps
+pub mod AddDropColumn
 pub mod Counts
 pub mod CreateDrop
 pub mod CreateKeeps

@@ -34,3 +34,4 @@ pub mod TakesBack
 pub mod Truth
 pub mod Update
 pub mod Views
+pub mod Widened
