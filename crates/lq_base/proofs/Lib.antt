@@ -2,3 +2,4 @@ mod DayLemmas
 mod NumberLemmas
 mod PlainLemmas
 mod TextLemmas
+pub mod ValueLemmas

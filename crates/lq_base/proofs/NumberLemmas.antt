@@ -40,7 +40,7 @@ next_digit_within v d k n small e =
 pub at_most_scaled : (v k : ℕ) → v ≤ v * 10 ^ k
 at_most_scaled v k = let h = mul-le-mul_left v (ten_pow_pos k) in omega (arith, h)
 
-both_true : (a b : Bool) → (a && b) ≡ true → (a ≡ true) × (b ≡ true)
+pub both_true : (a b : Bool) → (a && b) ≡ true → (a ≡ true) × (b ≡ true)
 both_true true b e = (refl, e)
 both_true false b e = absurd (search (rules, tests))
 

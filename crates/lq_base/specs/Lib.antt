@@ -2,6 +2,7 @@ pub mod Character
 pub mod Dialect
 pub mod Into
 pub mod Kind
+pub mod Laws
 pub mod Moment
 pub mod Name
 pub mod Number

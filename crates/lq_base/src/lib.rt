@@ -8,6 +8,7 @@ mod dialect;
 mod duplicate;
 mod identity;
 mod kind;
+pub mod laws;
 mod literal;
 mod memory;
 mod moment;
