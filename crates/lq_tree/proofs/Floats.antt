@@ -1,11 +1,10 @@
 -- A value has a tree exactly where none of its numbers is a float.
-use Rattle.std.proofs.Common.{◌≡◌, List, ◌∷◌, ◌&&◌, ◌||◌, Bool, true, false, not, true≢false, is_some, Option, Some, None, option_map, option_and_then, unwrap_or, ℕ, Result, Ok, Err, IfOk, IfErr, ◌⊎◌, inl, inr, refl, sym, ap, ◌∙◌}
-use Rattle.serde_json.specs.Data.{Num, unsigned, negative, float, Data, null, boolean, number, string, array, object, Items, no_items, item, Members, no_members, member}
-use Rattle.serde_json.specs.Find.{as_integer, is_float}
+use Rattle.std.proofs.Common.{◌≡◌, List, ◌∷◌, ◌&&◌, ◌||◌, Bool, true, false, not, is_some, Option, Some, None, option_map, option_and_then, ℕ, Result, Ok, Err, IfOk, IfErr, ◌⊎◌, inl, inr, refl, sym, ap, ◌∙◌}
+use Rattle.serde_json.specs.Data.{unsigned, negative, float, Data, null, boolean, number, string, array, object, Items, no_items, item, Members, no_members, member}
 use Rattle.serde_json.specs.Written.{has_float, items_have_float, members_have_float}
-use Rattle.lq_tree.specs.declared.node.Node.{Node, Whole, List as ListNode, Map as MapNode}
+use Rattle.lq_tree.specs.declared.node.Node.{Node, List as ListNode, Map as MapNode}
 use Rattle.lq_tree.specs.declared.node.TreeFault.{TreeFault}
-use Rattle.lq_tree.specs.declared.node.TreeFault.TheVariants.{NotJson, FloatNumber, OutOfMemory}
+use Rattle.lq_tree.specs.declared.node.TreeFault.TheVariants.{FloatNumber, OutOfMemory}
 use Rattle.lq_tree.specs.Json.{json_value, holds_float, tree_of, trees_of, entries_of}
 
 some_map : {X Y : Type 0} (f : X → Y) (o : Option X) → is_some (option_map f o) ≡ is_some o

@@ -1,5 +1,5 @@
 -- What `serde_json` reads has the keys of each object in order, and so has its tree.
-use Rattle.std.proofs.Common.{◌≡◌, ℕ, List, [], ◌∷◌, ◌&&◌, Bool, true, false, Option, Some, None, option_map, option_and_then, cond, map, refl, sym, ap, ◌∙◌, rules, IsTrue, Result, Ok, Err, IfOk, subst, Ordering, Less, Equal, Greater, nat_cmp}
+use Rattle.std.proofs.Common.{◌≡◌, ℕ, List, ◌∷◌, ◌&&◌, Bool, true, false, Option, Some, None, option_map, option_and_then, cond, map, refl, ap, ◌∙◌, rules, Result, Ok, Err, IfOk, subst, Ordering, Less, Equal, Greater, nat_cmp}
 use Rattle.std.proofs.lemmas.Cmp.{nat_list_cmp_total}
 use Rattle.std.specs.Cmp.Lexicographic.{slice_cmp}
 use Rattle.std.specs.List.{list_all}
@@ -9,10 +9,10 @@ use Rattle.std.specs.Ordering.{is_lt, match_ordering, ordering_reverse}
 use Rattle.std.specs.Str.{is_utf8}
 use Rattle.json.specs.Json as json
 use Rattle.json.specs.Lex.{tokens}
-use Rattle.serde_json.specs.Data.{Num, Data, null, boolean, number, string, array, object, Items, no_items, item, Members, no_members, member, put}
+use Rattle.serde_json.specs.Data.{Data, null, boolean, number, string, array, object, Items, no_items, item, Members, no_members, member, put}
 use Rattle.serde_json.specs.Find.{as_integer}
 use Rattle.serde_json.specs.Read.{number_of, of_json, of_items, of_members, read, max_depth}
-use Rattle.lq_tree.specs.declared.node.Node.{Node, Null, Truth, Whole, Text, List as ListNode, Map as MapNode, the_lemmas}
+use Rattle.lq_tree.specs.declared.node.Node.{Node, Whole, List as ListNode, Map as MapNode, the_lemmas}
 use Rattle.lq_tree.specs.declared.node.TreeFault.{TreeFault}
 use Rattle.lq_tree.specs.Json.{json_value, tree_of, trees_of, entries_of}
 use Rattle.lq_tree.specs.Tree.{rises, is_tree, IsTree}

@@ -31,6 +31,7 @@ impl Node {
         }
     }
 
+    /// A text, and no other scalar.
     pub fn as_text(&self) -> Option<&str>
         ensures { option_map (λ t. t.now) result ≡ text_of self.now }
     {
@@ -92,7 +93,7 @@ impl Node {
         }
     }
 
-    /// The first key of a map, by its bytes, that is none of the known ones.
+    /// The first key of a map, in the map's order, that is none of the known ones.
     pub fn unknown_key(&self, known: &[&str]) -> Option<&Text>
         ensures { option_copied result ≡ unknown_key (map (λ k. k.now) known.now) self.now }
     {

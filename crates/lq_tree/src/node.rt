@@ -5,7 +5,8 @@ use lq_base::{Items, NoMemory, Text};
 use std::alloc::{AllocError, AllocFailed};
 use thiserror::Error;
 
-/// A tree.
+/// What a file holds, whatever it is written in. The maps of a tree that was read have each key once,
+/// in the order of the keys' bytes (`IsTree`).
 #[derive(Debug, Drop)]
 pub enum Node {
     Text(Text),
@@ -16,11 +17,13 @@ pub enum Node {
     Map(Items<(Text, Node)>),
 }
 
-/// Why a text is no tree.
+/// Why bytes are no tree.
 #[derive(Clone, Copy, Debug, PartialEq, Eq, Error)]
 pub enum TreeFault {
+    /// No UTF-8, no JSON, or deeper than 127 levels.
     #[error("not JSON")]
     NotJson,
+    /// A number that neither an i64 nor a u64 holds.
     #[error("a number that is no whole number of 64 bits")]
     FloatNumber,
     #[error("out of memory")]

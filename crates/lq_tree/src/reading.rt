@@ -8,7 +8,9 @@ use lq_base::{Items, Text};
 use serde_json::{Map, Value};
 use std::alloc::Global;
 
-/// The tree of a JSON text.
+/// The tree of a JSON text (RFC 8259), as `serde_json` reads it: at most 127 levels of lists and maps,
+/// and of two equal keys the last one's value stays. A whole number is one that an i64 or a u64 holds;
+/// any other number that is left, as `1.0`, `1e2` and `-0`, is `FloatNumber`.
 pub fn read_json(alloc: Global, bytes: &[u8]) -> Result<Node, TreeFault>
     ensures tree { (result ≡ Err TreeFault.OutOfMemory) ⊎ (result ≡ json_tree bytes.now) }
     ensures order { IfOk result IsTree }

@@ -1,4 +1,5 @@
 use crate::{Node, TreeFault, read_json};
+use lq_base::NoMemory;
 use std::alloc::{AllocError, Global};
 use std::test::Fail;
 
@@ -146,47 +147,80 @@ fn json_nests(rt: HostRuntime) -> Result<(), Fail> {
     Ok(())
 }
 
+// The value at a key as it is printed, and as a truth value.
+fn told(alloc: Global, node: &Node, key: &str) -> Result<String, NoMemory> {
+    let Some(value) = node.value_at(key) else {
+        return Ok(String::from_str(alloc, "absent")?);
+    };
+    let mut out = String::new(alloc);
+    match value.printed(alloc)? {
+        Some(text) => out.push_str(text.as_str())?,
+        None => out.push_str("no scalar")?,
+    }
+    match value.as_truth() {
+        Some(true) => out.push_str(", true")?,
+        Some(false) => out.push_str(", false")?,
+        None => {}
+    }
+    Ok(out)
+}
+
+const KEYS: &str =
+    "{\"d\":[1],\"a\":\"true\",\"b\":-12,\"c\":{},\"e\":false,\"f\":\"True\",\"g\":null}";
+
 #[test]
-fn keys_are_looked_up(rt: HostRuntime) -> Result<(), Fail> {
-    let text = "{\"d\":[1],\"a\":\"true\",\"b\":-12,\"c\":{\"x\":null},\"e\":false}";
-    let node = read_json(rt.alloc(), text.as_bytes())?;
-    let printed = [
-        ("a", Some("true"), Some(true)),
-        ("b", Some("-12"), None),
-        ("c", None, None),
-        ("d", None, None),
-        ("e", Some("false"), Some(false)),
+fn values_are_told(rt: HostRuntime) -> Result<(), Fail> {
+    let node = read_json(rt.alloc(), KEYS.as_bytes())?;
+    let cases = [
+        ("a", "true, true"),
+        ("b", "-12"),
+        ("c", "no scalar"),
+        ("d", "no scalar"),
+        ("e", "false, false"),
+        ("f", "True"),
+        ("g", "no scalar"),
+        ("", "absent"),
+        ("aa", "absent"),
     ];
-    for (key, text, truth) in printed {
-        let value = node.value_at(key).ok_or("no key")?;
-        let printed = value.printed(rt.alloc())?;
-        assert_eq!(rt; printed.as_ref().map(|t| t.as_str()), text, "at {key}");
-        assert_eq!(rt; value.as_truth(), truth, "at {key}");
+    for (key, want) in cases {
+        let told = told(rt.alloc(), &node, key)?;
+        assert_eq!(rt; told.as_str(), want);
     }
-    let unknown = [
-        (["a", "b", "c", "d", "e"], None),
-        (["e", "b", "c", "d", "x"], Some("a")),
-        (["a", "", "B", "d", "e"], Some("b")),
-        (["a", "b", "c", "d", "ee"], Some("e")),
-    ];
-    for (known, want) in unknown {
-        assert_eq!(rt; node.unknown_key(&known).map(|t| t.as_str()), want);
-    }
-    assert!(rt; node.value_at("").is_none());
-    assert_eq!(rt;
-        node.value_at("d")
-            .and_then(|d| d.as_list())
-            .map(|d| d.len()),
-        Some(1)
-    );
-    assert_eq!(rt; node.value_at("b").and_then(|b| b.as_whole()), Some(-12));
-    assert_eq!(rt; node.value_at("a").and_then(|a| a.as_text()), Some("true"));
-    let inner = node.value_at("c").and_then(|c| c.as_map()).ok_or("no map")?;
-    assert_eq!(rt; inner.len(), 1);
-    assert!(rt; inner[0].1.is_null());
     let lowest = Node::Whole(i128::MIN)
         .printed(rt.alloc())?
         .ok_or("no text")?;
     assert_eq!(rt; lowest.as_str(), "-170141183460469231731687303715884105728");
+    Ok(())
+}
+
+#[test]
+fn unknown_keys_are_found(rt: HostRuntime) -> Result<(), Fail> {
+    let node = read_json(rt.alloc(), KEYS.as_bytes())?;
+    let cases = [
+        (["a", "b", "c", "d", "e", "f", "g"], ""),
+        (["g", "f", "e", "b", "c", "d", "x"], "a"),
+        (["a", "", "B", "d", "e", "f", "g"], "b"),
+        (["a", "b", "c", "d", "e", "f", "gg"], "g"),
+    ];
+    for (known, want) in cases {
+        let found = match node.unknown_key(&known) {
+            Some(key) => key.as_str(),
+            None => "",
+        };
+        assert_eq!(rt; found, want);
+    }
+    Ok(())
+}
+
+#[test]
+fn parts_are_lent(rt: HostRuntime) -> Result<(), Fail> {
+    let node = read_json(rt.alloc(), b"[{\"k\":\"v\"},7]")?;
+    let items = node.as_list().ok_or("no list")?;
+    assert_eq!(rt; items.len(), 2);
+    assert_eq!(rt; items[1].as_whole(), Some(7));
+    assert!(rt; !items[1].is_null());
+    let entries = items[0].as_map().ok_or("no map")?;
+    assert_eq!(rt; entries.len(), 1);
+    assert_eq!(rt; entries[0].1.as_text(), Some("v"));
     Ok(())
 }

@@ -1,4 +1,4 @@
-use Rattle.std.proofs.Common.{◌≡◌, ℕ, List, Bool, map, not, drop}
+use Rattle.std.proofs.Common.{◌≡◌, map, not, drop}
 use Rattle.std.specs.List.{list_any}
 use Rattle.std.specs.Map.{lookup_key}
 use Rattle.std.specs.Str.{bytes_eq}
