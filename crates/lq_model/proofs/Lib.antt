@@ -4,6 +4,8 @@ pub mod Absent
 pub mod AddColumnKeeps
 pub mod AddDropColumn
 pub mod Counts
+pub mod Between
+pub mod ChangeKeeps
 pub mod CreateDrop
 pub mod CreateKeeps
 pub mod Decide

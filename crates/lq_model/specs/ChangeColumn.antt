@@ -21,9 +21,13 @@ use Rattle.lq_model.specs.TableNames.{has_column}
 use Rattle.lq_model.specs.declared.caller.By.{By}
 use Rattle.lq_model.specs.declared.column.Column.{Column}
 
+-- the change of a column, where it has the name
+abbrev pub changed_at : Name → (Column → Column) → Column → Column
+changed_at n f c = cond (is_named n c.name) (f c) c
+
 -- the table with a change of the column of that name
 abbrev pub with_changed : Name → (Column → Column) → Table → Table
-with_changed n f it = record it { columns = map (λ c. cond (is_named n c.name) (f c) c) it.columns }
+with_changed n f it = record it { columns = map (changed_at n f) it.columns }
 
 abbrev pub made_nullable : Bool → Column → Column
 made_nullable b c = record c { nullable = b }
