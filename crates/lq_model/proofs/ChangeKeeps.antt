@@ -5,19 +5,18 @@ use Rattle.std.specs.Prelude.{Bool, List, None, Ok, Option, Some, [], cond, fals
 use Rattle.lq_base.specs.Name.{is_named}
 use Rattle.lq_base.specs.declared.dialect.Dialect.{Dialect}
 use Rattle.lq_base.specs.declared.dialect.Dialect.TheVariants.{Mysql, Postgresql}
-use Rattle.lq_base.specs.declared.kind.Kind.{Kind}
 use Rattle.lq_base.specs.declared.literal.Literal.{Literal}
 use Rattle.lq_base.specs.declared.name.Name.{Name}
 use Rattle.lq_base.specs.declared.value.Value.{Value}
 use Rattle.lq_model.specs.Catalogue.{Catalogue, Table, table_of, the_table, with_table}
-use Rattle.lq_model.specs.ChangeColumn.{changed_at, drop_default, drop_not_null, made_nullable, modified, set_default, set_not_null, with_changed, with_default}
+use Rattle.lq_model.specs.ChangeColumn.{changed_at, drop_default, drop_not_null, made_nullable, set_default, set_not_null, with_changed, with_default}
 use Rattle.lq_model.specs.IntoKind.{into_kind, is_kind, is_value_of}
 use Rattle.lq_model.specs.Kinds.{is_number, kind_in, kind_of}
 use Rattle.lq_model.specs.Literals.{value_in}
 use Rattle.lq_model.specs.NameSpaces.{AreApartWithin}
 use Rattle.lq_model.specs.Names.{is_empty, is_in, repeats}
 use Rattle.lq_model.specs.Needs.{is_in_key}
-use Rattle.lq_model.specs.Row.{by_name, row_fits}
+use Rattle.lq_model.specs.Row.{row_fits}
 use Rattle.lq_model.specs.Sound.{IsSound, IsSoundTable, are_columns, default_fits, is_key_of, is_not_null, is_numbered_well}
 use Rattle.lq_model.specs.Step.{step}
 use Rattle.lq_model.specs.TableNames.{column_lists, key_list}
@@ -206,24 +205,3 @@ drop_default_keeps by d t n c e k sound made =
       | true ↦ λ p. refl
       | false ↦ λ p. and_true _ _ (and_left (is_number x.kind) _ p) (and_right (is_none x.default) _ (and_right (is_number x.kind) _ p))
     ] h
-
--- MODIFY
-
-row_modified : (n : Name) (k : Kind) (b : Bool) (cs : List Column) (row : List Value) → repeats (map (λ x. x.name) cs) ≡ false → is_value_of k (by_name cs row n) ≡ true → row_fits cs row ≡ true → row_fits (map (changed_at n (modified k b)) cs) row ≡ true
-row_modified n k b [] row differ fit h = h
-row_modified n k b (c ∷ cs) [] differ fit h = true_false refl (sym h)
-row_modified n k b (c ∷ cs) (v ∷ row) differ fit h =
-    elim (is_named n c.name) as (λ x. is_named n c.name ≡ x → is_value_of k (cond x v (by_name cs row n)) ≡ true → row_fits (cond x (modified k b c) c ∷ map (changed_at n (modified k b)) cs) (v ∷ row) ≡ true) [
-      | true ↦ λ q g. and_true _ _ g (ap (λ xs. row_fits xs row) (unchanged n (modified k b) cs (ap (λ m. is_in m (map (λ x. x.name) cs)) (same_name n c.name q) ∙ or_left (is_in c.name (map (λ x. x.name) cs)) _ differ)) ∙ and_right (is_value_of c.kind v) _ h)
-      | false ↦ λ q g. and_true _ _ (and_left (is_value_of c.kind v) _ h) (row_modified n k b cs row (or_right (is_in c.name (map (λ x. x.name) cs)) _ differ) g (and_right (is_value_of c.kind v) _ h))
-    ] refl fit
-
--- columns of another name keep their kind
-other_kind : (n : Name) (f : Column → Column) (same : (c : Column) → (f c).name ≡ c.name) (m : Name) (cs : List Column) → is_named n m ≡ false → kind_of m (map (changed_at n f) cs) ≡ kind_of m cs
-other_kind n f same m [] apart = refl
-other_kind n f same m (c ∷ cs) apart =
-    ap (λ x. cond (is_named m x) (Some (changed_at n f c).kind) (kind_of m (map (changed_at n f) cs))) (name_kept n f same c)
-    ∙ elim (is_named m c.name) as (λ b. is_named m c.name ≡ b → cond b (Some (changed_at n f c).kind) (kind_of m (map (changed_at n f) cs)) ≡ cond b (Some c.kind) (kind_of m cs)) [
-      | true ↦ λ p. ap (λ b. Some (cond b (f c) c).kind) (ap (is_named n) (sym (same_name m c.name p)) ∙ apart)
-      | false ↦ λ p. other_kind n f same m cs apart
-    ] refl

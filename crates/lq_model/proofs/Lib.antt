@@ -10,6 +10,7 @@ pub mod CreateDrop
 pub mod CreateKeeps
 pub mod Decide
 pub mod Dropped
+pub mod EqualKinds
 pub mod ExampleWorld
 pub mod Examples
 pub mod IntoKind
@@ -18,6 +19,7 @@ pub mod KeptKinds
 pub mod Lists
 pub mod Mapped
 pub mod Maps
+pub mod ModifyKeeps
 pub mod Rows
 pub mod Shaped
 pub mod Times
