@@ -1,5 +1,5 @@
-pub mod Canon
 pub mod AddConstraint
+pub mod Canon
 pub mod Catalogue
 pub mod ChangeColumn
 pub mod Columns
@@ -16,8 +16,10 @@ pub mod Literals
 pub mod NameSpaces
 pub mod Names
 pub mod Needs
+pub mod Phrase
 pub mod Plan
 pub mod Query
+pub mod Quoting
 pub mod Reasons
 pub mod Rename
 pub mod RenameColumn
@@ -28,9 +30,11 @@ pub mod Sequences
 pub mod Sound
 pub mod Spelled
 pub mod Statement
+pub mod StatementText
 pub mod Step
 pub mod TableNames
 pub mod TakesBack
+pub mod TestText
 pub mod Truth
 pub mod Update
 pub mod Views

@@ -9,6 +9,7 @@ mod constraint;
 mod fault;
 mod index;
 mod keeps_sound;
+mod phrase;
 mod query;
 mod statement;
 mod takes_back;
@@ -27,6 +28,7 @@ pub use keeps_sound::{
     create_table_keeps_sound, delete_keeps_sound, drop_table_keeps_sound, insert_keeps_sound,
     update_keeps_sound,
 };
+pub use phrase::Phrase;
 pub use query::{Answered, Query, Wanted};
 pub use statement::Statement;
 pub use takes_back::drop_table_takes_back;

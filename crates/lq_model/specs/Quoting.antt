@@ -1,0 +1,32 @@
+-- How names and strings stand in a text: PostgreSQL's manual, 4.1, and MySQL's, 9.1.1 and 9.2.
+use Rattle.std.specs.Prelude.{ℕ, Bool, if◌then◌else◌, ◌==◌, ◌||◌, List, [], ◌∷◌, ◌++◌}
+use Rattle.lq_base.specs.declared.dialect.Dialect.{Dialect}
+use Rattle.lq_base.specs.declared.dialect.Dialect.TheVariants.{Postgresql, Mysql}
+use Rattle.lq_model.specs.Phrase.{words}
+use Rattle.lq_model.specs.declared.phrase.Phrase.TheVariants as phrase
+
+-- a text with each byte that passes the test twice
+abbrev pub doubled : (ℕ → Bool) → List ℕ → List ℕ
+doubled is_twice [] = []
+doubled is_twice (b ∷ bs) = if is_twice b then b ∷ b ∷ doubled is_twice bs else b ∷ doubled is_twice bs
+
+-- the quote of names: `"`, in mysql a grave accent
+abbrev pub is_name_quote : Dialect → ℕ → Bool
+is_name_quote Postgresql b = b == 34
+is_name_quote Mysql b = b == 96
+
+abbrev pub name_quote : Dialect → List ℕ
+name_quote Postgresql = words phrase.DoubleQuote
+name_quote Mysql = words phrase.GraveAccent
+
+-- a name in its quotes, which are doubled inside
+unfoldable pub name_text : Dialect → List ℕ → List ℕ
+name_text d name = name_quote d ++ doubled (is_name_quote d) name ++ name_quote d
+
+-- what a string has twice: `'`, in mysql also `\`
+abbrev pub is_string_mark : Dialect → ℕ → Bool
+is_string_mark Postgresql b = b == 39
+is_string_mark Mysql b = b == 39 || b == 92
+
+unfoldable pub string_text : Dialect → List ℕ → List ℕ
+string_text d text = words phrase.Apostrophe ++ doubled (is_string_mark d) text ++ words phrase.Apostrophe
