@@ -90,7 +90,7 @@ frames_are dialect limit entries used bytes holds =
 pub journal_is : (dialect : Dialect) (limit : ℕ) (entries : List (List ℕ)) (used : ℕ) (bytes : List ℕ) → Holds dialect limit entries used bytes → journal_of dialect limit bytes ≡ Ok (placed 17 entries)
 journal_is dialect limit entries used bytes holds = ap read_frames (frames_are dialect limit entries used bytes holds)
 
-placed-last : (at : ℕ) (entries : List (List ℕ)) (entry : List ℕ) → placed at (entries ++ entry ∷ []) ≡ placed at entries ++ record { at = at + length (frames entries); texts = texts_in entry } ∷ []
+pub placed-last : (at : ℕ) (entries : List (List ℕ)) (entry : List ℕ) → placed at (entries ++ entry ∷ []) ≡ placed at entries ++ record { at = at + length (frames entries); texts = texts_in entry } ∷ []
 placed-last at [] entry = let same : at ≡ at + 0 = omega arith in ap (λ (n : ℕ). record { at = n; texts = texts_in entry } ∷ []) same
 placed-last at (first ∷ entries) entry =
     let place : at + (length first + 1) + length (frames entries) ≡ at + length (frames (first ∷ entries)) = omega (arith, length-append first (frames entries)) in

@@ -1,5 +1,6 @@
 pub mod Appended
 pub mod Crash
+pub mod Entries
 pub mod Frames
 pub mod Numbers
 pub mod Read

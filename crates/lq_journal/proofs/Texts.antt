@@ -74,7 +74,7 @@ body_reads_back [] are some fits = absurd (omega (arith, some))
 body_reads_back (text ∷ texts) are some fits = ap if_any (texts_read_back (text ∷ texts) are (omega (arith, fits)))
 
 -- what is read fills the bytes
-some_is : {A : Type 0} (x y : A) → Some x ≡ Some y → x ≡ y
+pub some_is : {A : Type 0} (x y : A) → Some x ≡ Some y → x ≡ y
 some_is x y is = cc
 
 added : (text : List ℕ) (b : Bool) (more : Option (List (List ℕ))) (texts : List (List ℕ))

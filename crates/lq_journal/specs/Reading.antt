@@ -1,11 +1,13 @@
 -- What reading the bytes of a journal gives.
-use Rattle.std.specs.Prelude.{◌≡◌, ◌+◌, ◌<◌, ℕ, List, ◌∷◌, ◌++◌, length, Ok, Err, Option, None, Some, IfSome}
+use Rattle.std.specs.Prelude.{◌≡◌, ◌+◌, ◌<◌, ◌≤◌, ℕ, List, ◌∷◌, ◌++◌, length, Ok, Err, Option, None, Some, IfSome}
 use Rattle.lq_base.specs.declared.dialect.Dialect.{Dialect}
 use Rattle.lq_journal.specs.declared.entry.Entry.{Entry}
 use Rattle.lq_journal.specs.declared.fault.LoadFault.{LoadFault}
 use Rattle.lq_journal.specs.declared.fault.LoadFault.TheVariants.{Disk, Damaged, OutOfMemory}
 use Rattle.lq_journal.specs.Frames.{entries_from, IsEntry}
-use Rattle.lq_journal.specs.Journal.{texts_in, journal_of}
+use Rattle.lq_journal.specs.Journal.{texts_in, journal_of, used_by}
+use Rattle.lq_journal.specs.State.{Stands}
+use Rattle.lq_journal.specs.declared.reading.Found.{Found}
 
 -- behind an open gate stands an entry, and after it the next gate
 pub record IsNext (at : ℕ) (bytes : List ℕ) (entry : Entry) (after : List ℕ) : Type 0 where
@@ -33,3 +35,16 @@ abbrev pub IsReadFault : Dialect → ℕ → List ℕ → LoadFault → Type 0
 IsReadFault dialect limit bytes (Damaged at) = journal_of dialect limit bytes ≡ Err at
 IsReadFault dialect limit bytes OutOfMemory = Unit {0}
 IsReadFault dialect limit bytes Disk = ⊥
+
+-- what stands in a file that is not damaged
+pub record IsFound (dialect : Dialect) (limit : ℕ) (bytes : List ℕ) (found : Found) : Type 0 where
+  pub stands : Stands found.prepared dialect limit found.used bytes
+  pub entries_are : journal_of dialect limit bytes ≡ Ok found.entries
+  pub used_is : found.used ≡ used_by found.entries
+
+-- what was found in the bytes of a disk, which are those that it tells, if it does
+pub record FoundOn (dialect : Dialect) (limit : ℕ) (told : Option (List ℕ)) (found : Found) : Type 0 where
+  pub bytes : List ℕ
+  pub are : IfSome told (λ before. before ≡ bytes)
+  pub within : length bytes ≤ limit
+  pub found : IsFound dialect limit bytes found

@@ -48,3 +48,8 @@ pub record IsLoaded {D : Type 0} (told : Option (List ℕ)) (journal : Journal D
 pub record IsReady {D : Type 0} (told : Option (List ℕ)) (journal : Journal D) : Type 0 where
   pub loaded : IsLoaded told journal
   pub prepared : is_prepared journal ≡ true
+
+-- what no call changes
+pub record SameOpening {D : Type 0} (before after : Journal D) : Type 0 where
+  pub dialect_is : dialect_of after ≡ dialect_of before
+  pub limit_is : limit_of after ≡ limit_of before

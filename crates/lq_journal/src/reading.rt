@@ -1,9 +1,10 @@
-ghost use Rattle.std.specs.Prelude.{◌≡◌, ◌+◌, ◌≤◌, ◌<◌, ◌^◌, ◌∷◌, ◌++◌, List, length, take, IfOk, IfErr, IsNone, MatchOption, Some, None, Ok};
+ghost use Rattle.std.specs.Prelude.{◌≡◌, ◌+◌, ◌≤◌, ◌<◌, ◌^◌, ◌∷◌, ◌++◌, List, length, take, IfOk, IfErr, IsNone, MatchOption, Some, None, Ok, true, false};
 ghost use Rattle.std.specs.Option.{ForSome, option_map};
-ghost use Rattle.lq_journal.specs.Body.{front_number, texts_from, if_any, texts_of};
+ghost use Rattle.std.specs.Str.{is_utf8};
+ghost use Rattle.lq_journal.specs.Body.{front_number, with_text, texts_from, if_any, texts_of};
 ghost use Rattle.lq_journal.specs.Frames.{entry_len, header};
 ghost use Rattle.lq_journal.specs.Journal.{journal_of, used_by};
-ghost use Rattle.lq_journal.specs.Reading.{IsNext, IsEnd, IsStepFault, IsReadFault};
+ghost use Rattle.lq_journal.specs.Reading.{IsNext, IsEnd, IsStepFault, IsFound, IsReadFault};
 ghost use Rattle.lq_journal.specs.State.{Stands};
 
 use crate::entry::Entry;
@@ -41,11 +42,11 @@ fn front_number(bytes: &[u8]) -> Option<usize>
     }
 }
 
-// The text at the front, and what stands after it.
-#[tactic(auto, using(crate::proofs::Texts::texts_short, crate::proofs::Read::text_far, crate::proofs::Read::text_bad, crate::proofs::Read::text_found))]
-fn next_text(bytes: &[u8]) -> Option<(&str, &[u8])>
+// The bytes of the text at the front, and what stands after it.
+#[tactic(auto, using(crate::proofs::Texts::texts_short, crate::proofs::Read::text_far, crate::proofs::Read::text_there))]
+fn next_text(bytes: &[u8]) -> Option<(&[u8], &[u8])>
     requires { 0 < length bytes.now }
-    ensures { MatchOption result (texts_from 0 bytes.now ≡ None) (λ next. (texts_from 0 bytes.now ≡ option_map (λ more. next.0.now ∷ more) (texts_from 0 next.1.now)) × (length next.1.now < length bytes.now)) }
+    ensures { MatchOption result (texts_from 0 bytes.now ≡ None) (λ next. (texts_from 0 bytes.now ≡ with_text next.0.now (texts_from 0 next.1.now)) × (length next.1.now < length bytes.now)) }
 {
     let Some(len) = front_number(bytes) else {
         return None;
@@ -54,27 +55,39 @@ fn next_text(bytes: &[u8]) -> Option<(&str, &[u8])>
     if len > rest.len() {
         return None;
     }
-    let (bytes, after) = rest.split_at(len);
+    Some(rest.split_at(len))
+}
+
+// The bytes as a text, where they are UTF-8.
+#[tactic(auto, using(crate::proofs::Read::utf8_not, crate::proofs::Read::utf8_is))]
+fn read_text(alloc: Global, bytes: &[u8]) -> Result<Option<Text>, NoMemory>
+    ensures { IfOk result (λ text. MatchOption text (is_utf8 bytes.now ≡ false) (λ text. (text ≡ bytes.now) × (is_utf8 bytes.now ≡ true))) }
+{
     match str::from_utf8(bytes) {
-        Ok(text) => Some((text, after)),
-        Err(_) => None,
+        Ok(text) => match Text::new(alloc, text) {
+            Ok(text) => Ok(Some(text)),
+            Err(fault) => Err(fault),
+        },
+        Err(_) => Ok(None),
     }
 }
 
 // The texts that fill the bytes, each behind its length.
+#[tactic(auto, using(crate::proofs::Read::read_start, crate::proofs::Read::read_more, crate::proofs::Read::read_none, crate::proofs::Read::read_bad, crate::proofs::Read::read_all))]
 fn read_texts(alloc: Global, bytes: &[u8]) -> Result<Option<Items<Text>>, NoMemory>
     ensures { IfOk result (λ texts. texts ≡ texts_from 0 bytes.now) }
 {
     let mut texts = Items::new(alloc);
     let mut rest = bytes;
     while !rest.is_empty() {
-        match next_text(rest) {
-            Some((text, after)) => {
-                texts.push(Text::new(alloc, text)?)?;
-                rest = after;
-            }
-            None => return Ok(None),
-        }
+        let Some((text, after)) = next_text(rest) else {
+            return Ok(None);
+        };
+        let Some(text) = read_text(alloc, text)? else {
+            return Ok(None);
+        };
+        texts.push(text)?;
+        rest = after;
     }
     Ok(Some(texts))
 }
@@ -120,4 +133,93 @@ fn front_entry(bytes: &[u8]) -> Option<(&[u8], &[u8])>
     } else {
         None
     }
+}
+
+// What stands behind the gate, where it is open.
+#[tactic(auto, using(crate::proofs::Entries::gate_shut))]
+fn behind_gate(bytes: &[u8]) -> Option<&[u8]>
+    requires { 0 < length bytes.now }
+    ensures { MatchOption result (IsEnd bytes.now) (λ behind. bytes.now ≡ 1 ∷ behind.now) }
+{
+    match bytes {
+        [1, behind @ ..] => Some(behind),
+        _ => None,
+    }
+}
+
+// The entry behind an open gate and what stands after it, or none behind a closed one. The gate
+// stands at a place of the file.
+#[tactic(auto, using(crate::proofs::Entries::no_entry, crate::proofs::Entries::no_body))]
+fn next_entry(
+    alloc: Global,
+    at: u64,
+    bytes: &[u8],
+) -> Result<Option<(Entry, &[u8])>, LoadFault>
+    requires some { 0 < length bytes.now }
+    requires place { at + 1 < 2 ^ 64 }
+    ensures entry { IfOk result (λ next. ForSome next (λ parts. IsNext at bytes.now parts.0 parts.1.now)) }
+    ensures end { IfOk result (λ next. IsNone next → IsEnd bytes.now) }
+    ensures fault { IfErr result (λ fault. IsStepFault at bytes.now fault) }
+{
+    let Some(behind) = behind_gate(bytes) else {
+        return Ok(None);
+    };
+    let Some((entry, after)) = front_entry(behind) else {
+        return Err(LoadFault::Damaged { at: at + 1 });
+    };
+    match read_body(alloc, &entry[4..]) {
+        Ok(Some(texts)) => Ok(Some((Entry { at: at + 1, texts }, after))),
+        Ok(None) => Err(LoadFault::Damaged { at: at + 1 }),
+        Err(_) => Err(LoadFault::OutOfMemory),
+    }
+}
+
+// The entries of a file that is long enough to have one, and has the header.
+#[tactic(auto, using(crate::proofs::Entries::begins_read))]
+fn read_entries(alloc: Global, dialect: Dialect, limit: u64, bytes: &[u8]) -> Result<Found, LoadFault>
+    requires long { 17 < length bytes.now }
+    requires within { length bytes.now ≤ limit }
+    requires header { take 16 bytes.now ≡ header dialect }
+    ensures found { IfOk result (λ found. IsFound dialect limit bytes.now found) }
+    ensures fault { IfErr result (λ fault. IsReadFault dialect limit bytes.now fault) }
+{
+    let mut entries = Items::new(alloc);
+    let mut rest = &bytes[16..];
+    let mut at = 16;
+    loop {
+        match next_entry(alloc, at, rest) {
+            Ok(Some((entry, after))) => {
+                entries.push(entry)?;
+                at += (rest.len() - after.len()) as u64;
+                rest = after;
+            }
+            Ok(None) => break,
+            Err(fault) => return Err(fault),
+        }
+    }
+    Ok(Found {
+        entries,
+        used: at + 1,
+        prepared: true,
+    })
+}
+
+/// What stands in the bytes of a file.
+#[tactic(auto, using(crate::proofs::Entries::short, crate::proofs::Entries::unheaded))]
+pub fn read(alloc: Global, dialect: Dialect, limit: u64, bytes: &[u8]) -> Result<Found, LoadFault>
+    requires { length bytes.now ≤ limit }
+    ensures found { IfOk result (λ found. IsFound dialect limit bytes.now found) }
+    ensures fault { IfErr result (λ fault. IsReadFault dialect limit bytes.now fault) }
+{
+    if bytes.len() <= 17 {
+        return Ok(Found {
+            entries: Items::new(alloc),
+            used: 17,
+            prepared: false,
+        });
+    }
+    if &bytes[..16] != header(dialect) {
+        return Err(LoadFault::Damaged { at: 0 });
+    }
+    read_entries(alloc, dialect, limit, bytes)
 }
