@@ -2,6 +2,7 @@
 use Rattle.std.specs.List.{list_any}
 use Rattle.std.specs.Prelude.{ℕ, Bool, true, false, not, ◌&&◌, ◌||◌, List, [], ◌∷◌, ◌==◌, nat_le, length, Option, Some, None, map, option_map, option_and_then, if◌then◌else◌, codes}
 use Rattle.lq_base.specs.Character.{char_count, has_control}
+use Rattle.lq_base.specs.Kind.{kind_of as kind_named}
 use Rattle.lq_base.specs.Name.{is_name}
 use Rattle.lq_base.specs.Text.{is_text}
 use Rattle.lq_base.specs.declared.kind.Kind.{Kind}
@@ -10,7 +11,6 @@ use Rattle.lq_tree.specs.Look.{list_of as items_of, printed_of, truth_of, value_
 use Rattle.lq_tree.specs.declared.node.Node.{Node}
 use Rattle.lq_create.specs.Distinct.{created_tables, identities, are_reserved, repeats, is_same_identity, table_names}
 use Rattle.lq_create.specs.Parts.{each, only, size}
-use Rattle.lq_create.specs.Stubs.{kind_named}
 use Rattle.lq_create.specs.declared.changelog.ChangeSet.{ChangeSet}
 use Rattle.lq_create.specs.declared.changelog.CreatedColumn.{CreatedColumn}
 use Rattle.lq_create.specs.declared.changelog.CreatedTable.{CreatedTable}

@@ -1,4 +1,5 @@
+pub mod Canonical
 pub mod Changelog
 pub mod Distinct
 pub mod Parts
-pub mod Stubs
+pub mod Statements

@@ -3,7 +3,6 @@ ghost use Rattle.std.specs.Option.{option_copied};
 ghost use Rattle.lq_tree.specs.Look.{printed_of, truth_of, value_at};
 ghost use Rattle.lq_create.specs.Changelog.{is_label, kind_of, label_of, name_of, nullable_of};
 ghost use Rattle.lq_create.specs.Parts.{Reads, map_ok, only, size};
-ghost use Rattle.lq_create.specs.Stubs.{kind_named};
 
 use crate::unread::Unread;
 use lq_base::{Kind, Name, NameFault, Text, char_count, has_control};
@@ -94,20 +93,10 @@ pub fn kind_of(alloc: Global, node: &Node) -> Result<Kind, Unread>
     ensures { Reads (kind_of node.now) result }
 {
     let text = text_of(alloc, node)?;
-    kind_named(text.as_str())
-}
-
-// Stands for the reading of kinds.
-fn kind_named(text: &str) -> Result<Kind, Unread>
-    ensures { Reads (kind_named text.now) result }
-{
-    if text == "int" {
-        return Ok(Kind::Int);
+    match Kind::read(text.as_str()) {
+        Some(kind) => Ok(kind),
+        None => Err(Unread::Other),
     }
-    if text == "text" {
-        return Ok(Kind::Text);
-    }
-    Err(Unread::Other)
 }
 
 fn truth_of(node: &Node) -> Result<bool, Unread>
