@@ -1,4 +1,5 @@
 mod DayLemmas
+mod IntoLemmas
 mod NumberLemmas
 mod PlainLemmas
 mod TextLemmas

@@ -10,7 +10,7 @@ use Rattle.std.proofs.lemmas.List.{take_all}
 use Rattle.std.proofs.lemmas.List.Sums.{prefix_len-le-length}
 use Rattle.std.proofs.lemmas.Str.{digit_value_digit}
 use Rattle.std.proofs.lemmas.Nat.{pow-add}
-use Rattle.lq_base.specs.Value.{has_digits}
+use Rattle.lq_base.specs.Number.{has_digits}
 
 -- what `position` gives, or the length
 pub place_from_position : {X : Type 0} (p : X → Bool) (xs : List X) (found : Option ℕ) (place : ℕ) → found ≡ cond (ltb (position_or_len p xs) (length xs)) (Some (position_or_len p xs)) None → place ≡ unwrap_or found (length xs) → place ≡ position_or_len p xs

@@ -22,8 +22,8 @@ use Rattle.lq_base.specs.declared.reason.Reason.TheVariants.{WrongKind, TooWide}
 use Rattle.lq_base.specs.declared.value.Value.{Value}
 use Rattle.lq_base.specs.declared.value.Value.TheVariants as value
 use Rattle.lq_base.specs.Moment.{IsMoment, is_moment, digits_at, has_marks, day_number, day_of, clock_number, clock_of, moment_of}
-use Rattle.lq_base.specs.Number.{signed, number_of}
-use Rattle.lq_base.specs.Value.{is_int32, is_int64, has_digits, is_value_of, decimal_into, truth_of_number, int_into, fixed_into, spelled_into, truth_of_text, moment_value, text_into, bool_into, into_kind}
+use Rattle.lq_base.specs.Number.{has_digits, signed, number_of}
+use Rattle.lq_base.specs.Value.{is_int32, is_int64, is_value_of, decimal_into, truth_of_number, int_into, fixed_into, spelled_into, truth_of_text, moment_value, text_into, bool_into, into_kind}
 use Rattle.lq_base.proofs.DayLemmas.{first_day_le}
 use Rattle.lq_base.proofs.NumberLemmas.{both_true, next_digit_fits, ten_pow_le}
 

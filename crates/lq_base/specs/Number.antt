@@ -1,5 +1,5 @@
 -- Which texts spell a number, and how a number is written.
-use Rattle.std.specs.Prelude.{ℕ, zero, suc, ◌+◌, ◌/◌, ◌%◌, ◌^◌, ◌==◌, ◌&&◌, nat_lt, nat_le, Bool, if◌then◌else◌, ℤ, pos, negsuc, neg_ℤ, unsigned_abs, List, [], ◌∷◌, ◌++◌, length, drop, Option, Some, None}
+use Rattle.std.specs.Prelude.{ℕ, zero, suc, ◌+◌, ◌/◌, ◌%◌, ◌^◌, ◌==◌, ◌&&◌, nat_lt, nat_le, min, Bool, if◌then◌else◌, ℤ, pos, negsuc, neg_ℤ, unsigned_abs, List, [], ◌∷◌, ◌++◌, length, drop, Option, Some, None}
 use Rattle.std.specs.Int.{is_negative}
 use Rattle.std.specs.Char.{is_ascii_digit}
 use Rattle.std.specs.Fmt.{decimal, signed_decimal, sign_text}
@@ -11,6 +11,10 @@ use Rattle.lq_base.specs.declared.literal.Literal.TheVariants.{Int, Fixed}
 -- the number with this sign and magnitude
 abbrev pub signed : Bool → ℕ → ℤ
 signed negative magnitude = if negative then neg_ℤ (pos magnitude) else pos magnitude
+
+-- at most so many digits, and never more than 38
+abbrev pub has_digits : ℕ → ℕ → Bool
+has_digits digits magnitude = nat_lt magnitude (10 ^ min digits 38)
 
 -- one decimal digit or more, and nothing else
 abbrev pub is_digits : List ℕ → Bool

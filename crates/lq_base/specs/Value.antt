@@ -1,5 +1,5 @@
 -- Which values are of a kind, and what a literal becomes in one.
-use Rattle.std.specs.Prelude.{ℕ, ◌-◌, ◌*◌, ◌^◌, ◌==◌, ◌&&◌, ◌||◌, nat_lt, nat_le, min, Bool, true, false, if◌then◌else◌, ℤ, pos, neg_ℤ, int_le, unsigned_abs, List, codes, Option, Some, None, Result, Ok, Err}
+use Rattle.std.specs.Prelude.{ℕ, ◌-◌, ◌*◌, ◌^◌, ◌==◌, ◌&&◌, ◌||◌, nat_lt, nat_le, Bool, true, false, if◌then◌else◌, ℤ, pos, neg_ℤ, int_le, unsigned_abs, List, codes, Option, Some, None, Result, Ok, Err}
 use Rattle.std.specs.Int.{is_negative}
 use Rattle.std.specs.Ordering.{int_eq}
 use Rattle.std.specs.Str.{str_eq_ignore_ascii_case}
@@ -13,7 +13,7 @@ use Rattle.lq_base.specs.declared.value.Value.{Value}
 use Rattle.lq_base.specs.declared.value.Value.TheVariants as value
 use Rattle.lq_base.specs.Character.{char_count}
 use Rattle.lq_base.specs.Moment.{is_moment, moment_of}
-use Rattle.lq_base.specs.Number.{signed, number_of}
+use Rattle.lq_base.specs.Number.{has_digits, signed, number_of}
 
 -- whole numbers of 32 and of 64 bits
 abbrev pub is_int32 : ℤ → Bool
@@ -21,10 +21,6 @@ is_int32 n = int_le (neg_ℤ (pos 2_147_483_648)) n && int_le n (pos 2_147_483_6
 
 abbrev pub is_int64 : ℤ → Bool
 is_int64 n = int_le (neg_ℤ (pos 9_223_372_036_854_775_808)) n && int_le n (pos 9_223_372_036_854_775_807)
-
--- at most so many digits, and never more than 38
-abbrev pub has_digits : ℕ → ℕ → Bool
-has_digits digits magnitude = nat_lt magnitude (10 ^ min digits 38)
 
 -- null, or a value of the kind
 unfoldable pub is_value_of : Kind → Value → Bool

@@ -1,13 +1,14 @@
-ghost use Rattle.std.specs.Prelude.{◌≡◌, ◌*◌, ◌^◌, ◌<◌, ◌≤◌, min, if◌then◌else◌, Some, None, IfSome};
+ghost use Rattle.std.specs.Prelude.{◌≡◌, ◌*◌, ◌^◌, ◌<◌, ◌≤◌, if◌then◌else◌, Some, None, IfSome, IfOk, IsTrue};
 ghost use Rattle.lq_base.specs.Into.{Goes};
-ghost use Rattle.lq_base.specs.Value.{has_digits, decimal_into, truth_of_number, int_into, fixed_into, spelled_into, truth_of_text, moment_value, text_into, bool_into, into_kind};
+ghost use Rattle.lq_base.specs.Number.{has_digits};
+ghost use Rattle.lq_base.specs.Value.{decimal_into, truth_of_number, int_into, fixed_into, spelled_into, truth_of_text, moment_value, text_into, bool_into, into_kind, is_value_of};
 
 use crate::character::char_count;
 use crate::kind::{Kind, is_word};
 use crate::literal::Literal;
 use crate::memory::NoMemory;
 use crate::moment::read_moment;
-use crate::number::{read_number, signed};
+use crate::number::{has_digits, read_number, signed};
 use crate::text::Text;
 use crate::value::Value;
 use std::alloc::Global;
@@ -42,8 +43,15 @@ impl From<NoMemory> for IntoFault {
 /// text goes into Varchar and Text, into a number kind where it spells a number, into Boolean
 /// where it is `true`, `false`, `1` or `0`, and into Moment where it spells one. A truth value
 /// goes into Boolean. All else is WrongKind; what is out of range is TooWide.
-#[tactic(auto, unfolding(crate::specs::Value::into_kind))]
 pub fn into_kind(alloc: Global, literal: &Literal, kind: Kind) -> Result<Value, IntoFault>
+    ensures answer { Goes (into_kind literal.now kind) result }
+    ensures of_kind { IfOk result (λ value. IsTrue (is_value_of kind value)) }
+{
+    converted(alloc, literal, kind)
+}
+
+#[tactic(auto, unfolding(crate::specs::Value::into_kind))]
+fn converted(alloc: Global, literal: &Literal, kind: Kind) -> Result<Value, IntoFault>
     ensures { Goes (into_kind literal.now kind) result }
 {
     match literal {
@@ -131,18 +139,11 @@ fn within(magnitude: u128, digits: u8) -> Option<u128>
     ensures value { result ≡ (if has_digits digits magnitude then Some magnitude else None) }
     ensures bound { IfSome result (λ same. same < 10 ^ 38) }
 {
-    if magnitude < ten_to(digits) {
+    if has_digits(digits, magnitude) {
         Some(magnitude)
     } else {
         None
     }
-}
-
-fn ten_to(digits: u8) -> u128
-    ensures value { result ≡ 10 ^ min digits 38 }
-    ensures bound { result ≤ 10 ^ 38 }
-{
-    10u128.pow(u32::from(digits).min(38))
 }
 
 fn text_into(alloc: Global, text: &str, kind: Kind) -> Result<Value, IntoFault>

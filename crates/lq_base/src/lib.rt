@@ -28,9 +28,11 @@ pub use identity::Identity;
 pub use kind::{Kind, plain_number};
 pub use literal::Literal;
 pub use memory::NoMemory;
-pub use moment::{print_moment, read_moment};
+pub use moment::{is_moment, print_moment, read_moment};
 pub use name::{Name, NameFault};
-pub use number::{append_fixed, append_whole, is_digits, place_of, read_number, value_after};
+pub use number::{
+    all_digits, append_fixed, append_whole, has_digits, is_digits, place_of, read_number, value_after,
+};
 pub use reason::Reason;
 pub use run::{Did, Happened, Printed, Why};
 pub use sqlite_items::{Boxed, Items};

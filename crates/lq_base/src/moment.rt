@@ -1,6 +1,6 @@
 ghost use Rattle.std.specs.Prelude.{◌≡◌, ◌<◌, ◌≤◌, ◌+◌, ◌*◌, ◌^◌, ◌%◌, ◌-◌, ◌++◌, ◌+ℤ◌, ◌*ℤ◌, ◌<ℤ◌, ◌≤ℤ◌, ℤ, pos, negsuc, neg_ℤ, unsigned_abs, ◌∷◌, take, drop, length, OnOk, OnErr, IfSome, ◌==◌, Some, None};
 ghost use Rattle.jiff_core.specs.Date.{epoch_day};
-ghost use Rattle.lq_base.specs.Moment.{IsMoment, has_byte, has_day_marks, has_clock_marks, has_marks, digits_at, day_number, day_of, clock_number, clock_of, moment_by_parts, moment_of, moment_text, text_since, clock_text, day_text, day_after, day_of_date};
+ghost use Rattle.lq_base.specs.Moment.{IsMoment, is_moment, has_byte, has_day_marks, has_clock_marks, has_marks, digits_at, day_number, day_of, clock_number, clock_of, moment_by_parts, moment_of, moment_text, text_since, clock_text, day_text, day_after, day_of_date};
 ghost use Rattle.lq_base.specs.Number.{last_digits};
 
 use crate::memory::NoMemory;
@@ -147,6 +147,13 @@ fn part(start: usize, count: usize, text: &[u8]) -> &[u8]
         return rest;
     }
     &rest[..count]
+}
+
+/// Whether the milliseconds are a moment of the years 0001 to 9999.
+pub fn is_moment(ms: i64) -> bool
+    ensures { result ≡ is_moment ms }
+{
+    ms >= -62_135_596_800_000 && ms <= 253_402_300_799_999
 }
 
 /// Appends the moment's 23 bytes `YYYY-MM-DD HH:MM:SS.mmm`, or changes nothing where there is no

@@ -1,8 +1,9 @@
-ghost use Rattle.std.specs.Prelude.{◌≡◌, ◌+◌, ◌*◌, ◌/◌, ◌^◌, ◌<◌, ◌≤◌, ◌==◌, ◌++◌, true, length, OnOk, OnErr, string_bytes, unsigned_abs};
+ghost use Rattle.std.specs.Prelude.{◌≡◌, ◌+◌, ◌*◌, ◌/◌, ◌^◌, ◌<◌, ◌≤◌, ◌==◌, ◌++◌, true, length, min, OnOk, OnErr, string_bytes, unsigned_abs};
+ghost use Rattle.std.specs.Bool.{OnTrue};
 ghost use Rattle.std.specs.Char.{is_ascii_digit};
 ghost use Rattle.std.specs.List.{list_all, position_or_len};
 ghost use Rattle.std.specs.Str.Parse.{digits_value_after, starts_with_minus};
-ghost use Rattle.lq_base.specs.Number.{signed, is_digits, is_dot, without_minus, whole_number, decimal_number, unsigned_number, number_of, whole_text, last_digits, fixed_text};
+ghost use Rattle.lq_base.specs.Number.{signed, is_digits, is_dot, without_minus, whole_number, decimal_number, unsigned_number, number_of, has_digits, whole_text, last_digits, fixed_text};
 
 use crate::literal::Literal;
 use crate::memory::NoMemory;
@@ -165,4 +166,19 @@ fn without_last_digits(count: u8, number: u128) -> u128
         return 0;
     }
     number / 10u128.pow(count as u32)
+}
+
+/// Whether the number has at most so many digits, and at most 38.
+pub fn has_digits(digits: u8, magnitude: u128) -> bool
+    ensures value { result ≡ has_digits digits magnitude }
+    ensures bound { OnTrue result (magnitude < 10 ^ 38) }
+{
+    magnitude < ten_to(digits)
+}
+
+fn ten_to(digits: u8) -> u128
+    ensures value { result ≡ 10 ^ min digits 38 }
+    ensures bound { result ≤ 10 ^ 38 }
+{
+    10u128.pow(u32::from(digits).min(38))
 }

@@ -1,5 +1,13 @@
+ghost use Rattle.std.specs.Prelude.{◌≡◌};
+ghost use Rattle.lq_base.specs.Value.{is_value_of};
+ghost use Rattle.lq_base.specs.declared.value.Value.TheVariants.{Int};
+
+use crate::character::char_count;
 use crate::duplicate::{Duplicate, Same};
+use crate::kind::Kind;
 use crate::memory::NoMemory;
+use crate::moment::is_moment;
+use crate::number::has_digits;
 use crate::text::Text;
 use std::alloc::Global;
 
@@ -14,6 +22,46 @@ pub enum Value {
     Moment(i64),
     /// A decimal number: `units` divided by ten to the power `scale`.
     Fixed { units: i128, scale: u8 },
+}
+
+impl Value {
+    /// Whether the value is null or one of the kind.
+    #[tactic(auto, unfolding(crate::specs::Value::is_value_of))]
+    pub fn is_of(&self, kind: Kind) -> bool
+        ensures { result ≡ is_value_of kind self.now }
+    {
+        match self {
+            Value::Null => true,
+            Value::Int(number) => is_int_of(*number, kind),
+            Value::Text(text) => match kind {
+                Kind::Varchar(most) => char_count(text.as_str()) <= most as usize,
+                Kind::Text => true,
+                _ => false,
+            },
+            Value::Bool(_) => matches!(kind, Kind::Boolean),
+            Value::Moment(ms) => match kind {
+                Kind::Moment => is_moment(*ms),
+                _ => false,
+            },
+            Value::Fixed { units, scale } => match kind {
+                Kind::Decimal(digits, places) => {
+                    *scale == places && has_digits(digits, units.unsigned_abs())
+                }
+                _ => false,
+            },
+        }
+    }
+}
+
+#[tactic(auto, unfolding(crate::specs::Value::is_value_of))]
+fn is_int_of(number: i64, kind: Kind) -> bool
+    ensures { result ≡ is_value_of kind (Int number) }
+{
+    match kind {
+        Kind::Int => number >= -2_147_483_648 && number <= 2_147_483_647,
+        Kind::BigInt => true,
+        _ => false,
+    }
 }
 
 impl Duplicate for Value {
