@@ -60,9 +60,9 @@ date_is_day d count e =
     let is = day_after_is count in
     let a = day_after count in
     let within : a.year ≤ 9999 =
-        by_lt_z d.year (pos a.year)
-        (λ lt. absurd (omega (arith, signed_arith, e, is.number, days_from_civil-day_count, day_count-lt_year d.year d.month d.day (pos a.year) a.month a.day (civil d) is.day.0 lt)))
-        (λ ge. omega (arith, signed_arith, d.year_in)) in
+    by_lt_z d.year (pos a.year)
+    (λ lt. absurd (omega (arith, signed_arith, e, is.number, days_from_civil-day_count, day_count-lt_year d.year d.month d.day (pos a.year) a.month a.day (civil d) is.day.0 lt)))
+    (λ ge. omega (arith, signed_arith, d.year_in)) in
     let date : Date = record { year = pos a.year; month = a.month; day = a.day; year_in = (omega (arith, signed_arith), omega (arith, signed_arith)); month_in = is.month; day_in = is.day } in
     epoch_day_injective d date (omega (arith, signed_arith, e, is.number))
 

@@ -39,7 +39,7 @@ sized_kind word number =
 unfoldable pub decimal_kind : List ℕ → ℕ → ℕ → Option Kind
 decimal_kind word digits scale =
     if (str_eq_ignore_ascii_case word (codes "decimal") || str_eq_ignore_ascii_case word (codes "numeric"))
-        && is_kind (Decimal digits scale)
+    && is_kind (Decimal digits scale)
     then Some (Decimal digits scale) else None
 
 -- a number in decimal digits, at most 38, without a leading zero

@@ -5,7 +5,9 @@ ghost use Rattle.lq_base.specs.Character.{has_control, char_count};
 pub fn has_control(text: &str) -> bool
     ensures { result ≡ has_control text.now }
 {
-    text.as_bytes().iter().any(|byte| *byte < 32 || *byte == 127)
+    text.as_bytes()
+        .iter()
+        .any(|byte| *byte < 32 || *byte == 127)
 }
 
 /// The number of characters of the text, which are Unicode scalar values and not bytes.

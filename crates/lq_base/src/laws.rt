@@ -6,5 +6,4 @@ ghost use Rattle.lq_base.specs.Laws.{IntoIsValue};
 /// What a literal becomes in a kind is null or a value of the kind.
 pub fn into_is_value()
     ensures { IntoIsValue }
-{
-}
+{}

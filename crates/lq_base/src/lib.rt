@@ -16,6 +16,8 @@ mod name;
 mod number;
 mod reason;
 mod run;
+#[cfg(test)]
+mod tests;
 mod text;
 mod tracking;
 mod value;
@@ -31,7 +33,8 @@ pub use memory::NoMemory;
 pub use moment::{is_moment, print_moment, read_moment};
 pub use name::{Name, NameFault};
 pub use number::{
-    all_digits, append_fixed, append_whole, has_digits, is_digits, place_of, read_number, value_after,
+    all_digits, append_fixed, append_whole, has_digits, is_digits, place_of, read_number,
+    value_after,
 };
 pub use reason::Reason;
 pub use run::{Did, Happened, Printed, Why};

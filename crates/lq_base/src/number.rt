@@ -55,9 +55,7 @@ pub fn place_of(text: &[u8], byte: u8) -> usize
     ensures value { result ≡ position_or_len (λ b. b == byte) text.now }
     ensures bound { result ≤ length text.now }
 {
-    text.iter()
-        .position(|b| *b == byte)
-        .unwrap_or(text.len())
+    text.iter().position(|b| *b == byte).unwrap_or(text.len())
 }
 
 fn whole_number(negative: bool, digits: &[u8]) -> Option<Literal>

@@ -11,7 +11,7 @@ pub returns-clause-value : goal.returns-clause-value
 returns-clause-value c =
     let text = c.args.text.now in
     let place : c.position.result ≡ cond (ltb (position_or_len is_no_blank text) (length text)) (Some (position_or_len is_no_blank text)) None
-        = position_from_yields_List is_no_blank _ _ _ c.position.ensures.ran (YieldsList-from_slice text cc) (λ x b q k. search (rules, tests)) in
+    = position_from_yields_List is_no_blank _ _ _ c.position.ensures.ran (YieldsList-from_slice text cc) (λ x b q k. search (rules, tests)) in
     place_from_position is_no_blank text _ _ place (search rules)
 
 pub returns-clause-bound : goal.returns-clause-bound

@@ -23,7 +23,7 @@ returns c =
     let fits : FitsSigned w128 c.signed.result = search rules in
     let back : to_z w128 (of_z w128 c.signed.result) ≡ c.signed.result = to_z-of_z fits in
     let value : c.value_after-magnitude.result ≡ digits_value 10 (whole ++ fraction) =
-        c.value_after-magnitude.ensures.value ∙ ap (λ v. digits_value_after 10 v fraction) c.value_after.ensures.value ∙ sym (digits_value_after-append 10 0 whole fraction) in
+    c.value_after-magnitude.ensures.value ∙ ap (λ v. digits_value_after 10 v fraction) c.value_after.ensures.value ∙ sym (digits_value_after-append 10 0 whole fraction) in
     let units : c.signed.result ≡ signed c.args.negative (digits_value 10 (whole ++ fraction)) = c.signed.ensures ∙ ap (signed c.args.negative) value in
     let first : is_digits whole ≡ true = search rules in
     let second : is_digits fraction ≡ true = search rules in

@@ -10,7 +10,7 @@ pub returns-clause-value : goal.returns-clause-value
 returns-clause-value c =
     let text = c.args.text.now in
     let place : c.position.result ≡ cond (ltb (position_or_len (λ b. b == c.args.byte) text) (length text)) (Some (position_or_len (λ b. b == c.args.byte) text)) None
-        = position_from_yields_List (λ b. b == c.args.byte) _ _ _ c.position.ensures.ran (YieldsList-from_slice text cc) (λ x b q k. search (rules, tests)) in
+    = position_from_yields_List (λ b. b == c.args.byte) _ _ _ c.position.ensures.ran (YieldsList-from_slice text cc) (λ x b q k. search (rules, tests)) in
     place_from_position (λ b. b == c.args.byte) text _ _ place (search rules)
 
 pub returns-clause-bound : goal.returns-clause-bound
