@@ -1,10 +1,10 @@
 -- What a reader of keys finds in a tree.
 use Rattle.std.specs.Prelude.{ℕ, ℤ, Bool, true, false, not, cond, List, Option, Some, None, option_and_then}
-use Rattle.std.specs.Fmt.{signed_decimal}
 use Rattle.std.specs.List.{list_any}
 use Rattle.std.specs.Map.{lookup, lookup_key}
 use Rattle.std.specs.Str.{bytes_eq}
 use Rattle.std.specs.Str.Parse.{true_text, false_text}
+use Rattle.lq_base.specs.Number.{whole_text}
 use Rattle.lq_tree.specs.declared.node.Node.{Node, out-Node}
 use Rattle.lq_tree.specs.declared.node.Node.TheOpen.{Node-F}
 
@@ -39,7 +39,7 @@ null_in _ = false
 
 abbrev printed_in : Node-F Node → Option (List ℕ)
 printed_in (Node-F.Text t) = Some t
-printed_in (Node-F.Whole z) = Some (signed_decimal z)
+printed_in (Node-F.Whole z) = Some (whole_text z)
 printed_in (Node-F.Truth b) = Some (cond b true_text false_text)
 printed_in _ = None
 

@@ -1,13 +1,13 @@
 ghost use Rattle.std.specs.Prelude.{◌≡◌, IfOk, map, option_map, not, cond};
-ghost use Rattle.std.specs.Fmt.{signed_decimal};
 ghost use Rattle.std.specs.List.{list_any};
 ghost use Rattle.std.specs.Map.{lookup, lookup_key};
 ghost use Rattle.std.specs.Option.{option_copied};
 ghost use Rattle.std.specs.Str.{bytes_eq};
+ghost use Rattle.lq_base.specs.Number.{whole_text};
 ghost use Rattle.lq_tree.specs.Look.{map_of, list_of, text_of, whole_of, truth_of, is_null, printed_of, value_at, unknown_key, spelled_truth};
 
 use crate::node::Node;
-use lq_base::{NoMemory, Text};
+use lq_base::{NoMemory, Text, append_whole};
 use std::alloc::Global;
 
 impl Node {
@@ -115,10 +115,11 @@ fn spelled_truth(text: &str) -> Option<bool>
 }
 
 fn digits_of(alloc: Global, n: i128) -> Result<Text, NoMemory>
-    ensures { IfOk result (λ text. text ≡ signed_decimal n) }
+    ensures { IfOk result (λ text. text ≡ whole_text n) }
 {
-    let digits = format!(in alloc; "{n}")?;
-    Text::new(alloc, digits.as_str())
+    let mut text = Text::new(alloc, "")?;
+    append_whole(n, &mut text)?;
+    Ok(text)
 }
 
 fn value_in<'a>(entries: &'a [(Text, Node)], key: &str) -> Option<&'a Node>

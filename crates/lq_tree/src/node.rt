@@ -20,11 +20,11 @@ pub enum Node {
 /// Why bytes are no tree.
 #[derive(Clone, Copy, Debug, PartialEq, Eq, Error)]
 pub enum TreeFault {
-    /// No UTF-8, no JSON, or deeper than 127 levels.
+    /// No UTF-8, no JSON, deeper than 127 levels, or with a number too large for a float.
     #[error("not JSON")]
     NotJson,
     /// A number that neither an i64 nor a u64 holds.
-    #[error("a number that is no whole number of 64 bits")]
+    #[error("float number")]
     FloatNumber,
     #[error("out of memory")]
     OutOfMemory,
