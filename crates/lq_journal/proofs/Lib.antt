@@ -3,6 +3,7 @@ pub mod Crash
 pub mod Entries
 pub mod Frames
 pub mod Numbers
+pub mod Opened
 pub mod Read
 pub mod Texts
 pub mod Written

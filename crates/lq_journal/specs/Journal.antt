@@ -40,3 +40,6 @@ IsSameOrMore at texts before after = (after ≡ before) ⊎ (after ≡ option_ma
 -- bytes stand for these entries, or for these and one more
 abbrev pub StandsForSameOrMore : Dialect → ℕ → ℕ → List (List ℕ) → Result (List Entry) ℕ → List ℕ → Type 0
 StandsForSameOrMore dialect limit at texts entries bytes = (journal_of dialect limit bytes ≡ entries) ⊎ (journal_of dialect limit bytes ≡ with_last at texts entries)
+
+abbrev pub StandsForSame : Dialect → ℕ → Result (List Entry) ℕ → List ℕ → Type 0
+StandsForSame dialect limit entries bytes = journal_of dialect limit bytes ≡ entries

@@ -47,4 +47,4 @@ pub record FoundOn (dialect : Dialect) (limit : ℕ) (told : Option (List ℕ)) 
   pub bytes : List ℕ
   pub are : IfSome told (λ before. before ≡ bytes)
   pub within : length bytes ≤ limit
-  pub found : IsFound dialect limit bytes found
+  pub is : IsFound dialect limit bytes found

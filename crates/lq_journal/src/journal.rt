@@ -5,7 +5,7 @@ ghost use Rattle.lq_outside.specs.Bytes.{Writes, Tears, Torn};
 ghost use Rattle.lq_outside.specs.Crash.{Settled, LeavesOnly, Half};
 ghost use Rattle.lq_journal.specs.Body.{size_of};
 ghost use Rattle.lq_journal.specs.Frames.{header};
-ghost use Rattle.lq_journal.specs.Journal.{journal_of, used_by, with_last, IsSameOrMore, StandsForSameOrMore};
+ghost use Rattle.lq_journal.specs.Journal.{journal_of, used_by, with_last, IsSameOrMore, StandsForSame, StandsForSameOrMore};
 ghost use Rattle.lq_journal.specs.LoadFault.{IsLoadFault, IsSizeFault};
 ghost use Rattle.lq_journal.specs.AppendFault.{end_of, IsAppendFault, IsFull};
 ghost use Rattle.lq_journal.specs.Reading.{FoundOn};
@@ -114,4 +114,154 @@ fn exceeds(used: u64, next: u64, end: u64) -> bool
     ensures { IsTrue result ↔ (end < used + next) }
 {
     end < used || end - used < next
+}
+
+impl<D: Disk> Journal<D> {
+    ghost use Rattle.lq_journal.specs.State.{disk_of, dialect_of, limit_of, used_of, IsLoaded, IsReady, SameOpening};
+
+    /// Opens the journal on a disk and gives its entries, which are those of the definition, or the
+    /// place of damage. It begins with a sync. A refusal hands the disk back, and changes no byte.
+    ///
+    /// The limit is the greatest size of the file.
+    pub fn load(
+        alloc: Global,
+        mut disk: D,
+        dialect: Dialect,
+        limit: u64,
+    ) -> Result<(Journal<D>, Items<Entry>), LoadRefused<D, LoadFault>>
+        requires limit_least { 8192 ≤ limit }
+        requires limit_most { limit ≤ 268435456 }
+        ensures entries { IfOk result (λ loaded. IfSome (D.told disk) (λ bytes. journal_of dialect limit bytes ≡ Ok loaded.1)) }
+        ensures used { IfOk result (λ loaded. used_of loaded.0 ≡ used_by loaded.1) }
+        ensures dialect { IfOk result (λ loaded. dialect_of loaded.0 ≡ dialect) }
+        ensures limit { IfOk result (λ loaded. limit_of loaded.0 ≡ limit) }
+        ensures loaded { IfOk result (λ loaded. IsLoaded (D.told (disk_of loaded.0)) loaded.0) }
+        ensures told { MatchResult result (λ loaded. D.told (disk_of loaded.0) ≡ D.told disk) (λ refused. D.told refused.disk ≡ D.told disk) }
+
+        // Each fault has its cause.
+        ensures fault { IfErr result (λ refused. IsLoadFault dialect limit (D.told disk) (D.faults disk) (D.faults refused.disk) refused.fault) }
+        ensures later { MatchResult result (λ loaded. D.faults disk ≤ D.faults (disk_of loaded.0)) (λ refused. D.faults disk ≤ D.faults refused.disk) }
+
+        // After it a crash leaves what a read gives, and at each moment of it what one before it might have left.
+        ensures settled { IfOk result (λ loaded. Settled (D.told (disk_of loaded.0)) (D.crashes (disk_of loaded.0))) }
+        ensures any_moment { MatchResult result (λ loaded. LeavesOnly (D.crashes disk) (D.crashes (disk_of loaded.0)) (D.crashes disk).leaves) (λ refused. LeavesOnly (D.crashes disk) (D.crashes refused.disk) (D.crashes disk).leaves) }
+    {
+        match look(alloc, &mut disk, dialect, limit) {
+            Ok(found) => {
+                let Found {
+                    entries,
+                    used,
+                    prepared,
+                } = found;
+                let journal = Journal {
+                    disk,
+                    dialect,
+                    limit,
+                    used,
+                    prepared,
+                };
+                Ok((journal, entries))
+            }
+            Err(fault) => Err(LoadRefused { disk, fault }),
+        }
+    }
+
+    /// Writes the header and a closed gate, where the file has none yet. The entries stay what they
+    /// are, also where it fails.
+    pub fn prepare(&mut self) -> Result<(), DiskFailed>
+        requires loaded { IsLoaded (D.told (disk_of self.old)) self.old }
+        ensures ready { OnOk result (IsReady (D.told (disk_of self.new)) self.new) }
+        ensures opening { SameOpening self.old self.new }
+        ensures used { used_of self.new ≡ used_of self.old }
+        ensures same { option_map (journal_of (dialect_of self.old) (limit_of self.old)) (D.told (disk_of self.new)) ≡ option_map (journal_of (dialect_of self.old) (limit_of self.old)) (D.told (disk_of self.old)) }
+
+        // Where all is on the disk, a crash at any moment of the call leaves the entries, and after it all is.
+        ensures any_moment { Settled (D.told (disk_of self.old)) (D.crashes (disk_of self.old)) → IfSome (D.told (disk_of self.old)) (λ before.
+            LeavesOnly (D.crashes (disk_of self.old)) (D.crashes (disk_of self.new)) (StandsForSame (dialect_of self.old) (limit_of self.old) (journal_of (dialect_of self.old) (limit_of self.old) before))) }
+        ensures durable { OnOk result (Settled (D.told (disk_of self.old)) (D.crashes (disk_of self.old)) → Settled (D.told (disk_of self.new)) (D.crashes (disk_of self.new))) }
+        ensures faults { CountsFault result (D.faults (disk_of self.old)) (D.faults (disk_of self.new)) }
+    {
+        if self.prepared {
+            return Ok(());
+        }
+        write_synced(&mut self.disk, 0, fresh(self.dialect))?;
+        self.prepared = true;
+        Ok(())
+    }
+
+    // Writes an entry for which there is room behind the closed gate, and then opens the gate.
+    fn write_entry(&mut self, entry: &EncodedEntry) -> Result<(), DiskFailed>
+        requires ready { IsReady (D.told (disk_of self.old)) self.old }
+        requires fits { used_of self.old + size_of entry.now ≤ limit_of self.old }
+        ensures ready { OnOk result (IsReady (D.told (disk_of self.new)) self.new) }
+        ensures opening { SameOpening self.old self.new }
+        ensures used { OnOk result (used_of self.new ≡ used_of self.old + size_of entry.now) }
+        ensures added { OnOk result (option_map (journal_of (dialect_of self.old) (limit_of self.old)) (D.told (disk_of self.new))
+            ≡ option_map (with_last (used_of self.old) entry.now) (option_map (journal_of (dialect_of self.old) (limit_of self.old)) (D.told (disk_of self.old)))) }
+        ensures failed { OnErr result (IsSameOrMore (used_of self.old) entry.now (option_map (journal_of (dialect_of self.old) (limit_of self.old)) (D.told (disk_of self.old)))
+            (option_map (journal_of (dialect_of self.old) (limit_of self.old)) (D.told (disk_of self.new)))) }
+        ensures durable { OnOk result (Settled (D.told (disk_of self.new)) (D.crashes (disk_of self.new))) }
+        ensures any_moment { Settled (D.told (disk_of self.old)) (D.crashes (disk_of self.old)) → IfSome (D.told (disk_of self.old)) (λ before.
+            LeavesOnly (D.crashes (disk_of self.old)) (D.crashes (disk_of self.new)) (StandsForSameOrMore (dialect_of self.old) (limit_of self.old) (used_of self.old) entry.now (journal_of (dialect_of self.old) (limit_of self.old) before))) }
+        ensures faults { CountsFault result (D.faults (disk_of self.old)) (D.faults (disk_of self.new)) }
+    {
+        let gate = self.used - 1;
+        let written = entry.bytes();
+        write_synced(&mut self.disk, self.used, written)?;
+        write_synced(&mut self.disk, gate, &[1])?;
+        self.used += written.len() as u64;
+        Ok(())
+    }
+
+    /// Adds an entry. It takes no memory.
+    pub fn append(&mut self, entry: &EncodedEntry, room: Room) -> Result<(), AppendFault>
+        requires ready { IsReady (D.told (disk_of self.old)) self.old }
+        ensures ready { OnOk result (IsReady (D.told (disk_of self.new)) self.new) }
+        ensures opening { SameOpening self.old self.new }
+        ensures used { OnOk result (used_of self.new ≡ used_of self.old + size_of entry.now) }
+        ensures added { OnOk result (option_map (journal_of (dialect_of self.old) (limit_of self.old)) (D.told (disk_of self.new))
+            ≡ option_map (with_last (used_of self.old) entry.now) (option_map (journal_of (dialect_of self.old) (limit_of self.old)) (D.told (disk_of self.old)))) }
+
+        // It is full exactly where the entry goes past the end that the room sets, and then nothing is changed.
+        ensures full { (end_of room (limit_of self.old) < used_of self.old + size_of entry.now) ↔ (result ≡ Err (Full (used_of self.old) (size_of entry.now))) }
+        ensures unchanged { IfErr result (λ fault. IsFull fault → self.new ≡ self.old) }
+        ensures fault { IfErr result (λ fault. IsAppendFault (used_of self.old) (size_of entry.now) (D.faults (disk_of self.old)) (D.faults (disk_of self.new)) fault) }
+        ensures later { D.faults (disk_of self.old) ≤ D.faults (disk_of self.new) }
+
+        // One that fails leaves the entries before it, with the new one or without.
+        ensures failed { OnErr result (IsSameOrMore (used_of self.old) entry.now (option_map (journal_of (dialect_of self.old) (limit_of self.old)) (D.told (disk_of self.old)))
+            (option_map (journal_of (dialect_of self.old) (limit_of self.old)) (D.told (disk_of self.new)))) }
+
+        // After it a crash leaves what a read gives. Where that was so before, a crash at any moment of the
+        // call leaves the entries before it, with the new one or without.
+        ensures durable { OnOk result (Settled (D.told (disk_of self.new)) (D.crashes (disk_of self.new))) }
+        ensures any_moment { Settled (D.told (disk_of self.old)) (D.crashes (disk_of self.old)) → IfSome (D.told (disk_of self.old)) (λ before.
+            LeavesOnly (D.crashes (disk_of self.old)) (D.crashes (disk_of self.new)) (StandsForSameOrMore (dialect_of self.old) (limit_of self.old) (used_of self.old) entry.now (journal_of (dialect_of self.old) (limit_of self.old) before))) }
+    {
+        let next = entry.size();
+        if exceeds(self.used, next, end_of(room, self.limit)) {
+            return Err(AppendFault::Full {
+                used: self.used,
+                next,
+            });
+        }
+        match self.write_entry(entry) {
+            Ok(()) => Ok(()),
+            Err(_) => Err(AppendFault::Disk),
+        }
+    }
+
+    /// The place after the closed gate that ends the journal, where the next entry is written.
+    pub fn used(&self) -> u64
+        ensures { result ≡ used_of self.now }
+    {
+        self.used
+    }
+
+    /// The disk as it is.
+    pub fn into_disk(self) -> D
+        ensures { result ≡ disk_of self }
+    {
+        self.disk
+    }
 }
