@@ -1,4 +1,5 @@
 pub mod Columns
+pub mod Database
 pub mod Lock
 pub mod Log
 pub mod Moment
