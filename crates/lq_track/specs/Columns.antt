@@ -4,7 +4,7 @@ use Rattle.lq_base.specs.declared.kind.Kind.{Kind}
 use Rattle.lq_base.specs.declared.literal.Literal.{Literal}
 use Rattle.lq_base.specs.declared.literal.Literal.TheVariants as literal
 use Rattle.lq_model.specs.declared.column.ColumnDef.{ColumnDef}
-use Rattle.lq_track.specs.Moment.{moment_text}
+use Rattle.lq_base.specs.Moment.{moment_text}
 
 abbrev pub not_null : List ℕ → Kind → ColumnDef
 not_null name kind = record { name = name; kind = kind; nullable = false; default = None; numbered = false }

@@ -74,9 +74,20 @@ exec_in text =
 unfoldable pub row_in : List Value → Option Tracked
 row_in (Text id ∷ Text author ∷ Text filename ∷ Moment date ∷ Int order ∷ Text exec ∷ md5sum ∷ Text description ∷ Text comments ∷ tag ∷ Text tool ∷ Text contexts ∷ Text labels ∷ Text deployment ∷ []) =
     option_and_then (λ order. option_and_then (λ exec. option_and_then (λ md5sum. option_map (λ tag. record {
-      id = id; author = author; filename = filename; date = date; order = order; exec = exec; md5sum = md5sum;
-      description = description; comments = comments; tag = tag; tool = tool; contexts = contexts; labels = labels;
-      deployment = deployment
+      id = id;
+      author = author;
+      filename = filename;
+      date = date;
+      order = order;
+      exec = exec;
+      md5sum = md5sum;
+      description = description;
+      comments = comments;
+      tag = tag;
+      tool = tool;
+      contexts = contexts;
+      labels = labels;
+      deployment = deployment;
     }) (text_in tag)) (text_in md5sum)) (exec_in exec)) (order_in order)
 row_in _ = None
 
@@ -143,10 +154,13 @@ users_of c = without_table (without_table c log_table) lock_table
 -- the database that a catalogue is, or nothing where it holds tables of these names that are not the tracking tables
 abbrev pub database_of : Dialect → Catalogue → Option Database
 database_of d c = option_and_then (λ rows. option_map (λ lock. record {
-    users = users_of c; rows = rows; lock = lock;
-    has_log = is_some (table_of c log_table); has_lock = is_some (table_of c lock_table);
-    has_lock_row = has_rows (table_of c lock_table)
-  }) (lock_of d c)) (rows_of c)
+  users = users_of c;
+  rows = rows;
+  lock = lock;
+  has_log = is_some (table_of c log_table);
+  has_lock = is_some (table_of c lock_table);
+  has_lock_row = has_rows (table_of c lock_table);
+}) (lock_of d c)) (rows_of c)
 
 abbrev pub same_identity : Identity → Identity → Bool
 same_identity a b = is_named a.file b.file && (is_named a.id b.id && is_named a.author b.author)

@@ -8,7 +8,7 @@ use Rattle.lq_base.specs.declared.literal.Literal.TheVariants as literal
 use Rattle.lq_base.specs.declared.tracking.Tracked.{Tracked}
 use Rattle.lq_model.specs.declared.column.ColumnDef.{ColumnDef}
 use Rattle.lq_track.specs.Columns.{not_null, nullable, text_or_null}
-use Rattle.lq_track.specs.Moment.{moment_text}
+use Rattle.lq_base.specs.Moment.{moment_text}
 use Rattle.lq_track.specs.declared.log_column.LogColumn.{LogColumn}
 use Rattle.lq_track.specs.declared.log_column.LogColumn.TheVariants.{Id, Author, Filename, DateExecuted, OrderExecuted, ExecType, Md5Sum, Description, Comments, Tag, Liquibase, Contexts, Labels, DeploymentId}
 

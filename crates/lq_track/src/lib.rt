@@ -7,7 +7,6 @@ mod lock_column;
 mod lock_table;
 mod log_column;
 mod log_table;
-mod moment;
 mod name;
 mod row;
 mod tables;
@@ -18,3 +17,6 @@ pub use log_column::LogColumn;
 pub use log_table::{again_row, delete_row, fill_sum, insert_row, set_tag};
 pub use row::{Ran, row_of};
 pub use tables::make_tables;
+
+#[cfg(test)]
+mod tests;

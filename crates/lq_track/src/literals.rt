@@ -1,11 +1,10 @@
 ghost use Rattle.std.specs.Prelude.{◌≡◌, ℕ, List, IfOk};
 ghost use Rattle.lq_base.specs.declared.literal.Literal.TheVariants as literal;
 ghost use Rattle.lq_track.specs.Columns.{text_or_null};
-ghost use Rattle.lq_track.specs.Moment.{IsMoment, moment_text};
+ghost use Rattle.lq_base.specs.Moment.{IsMoment, moment_text};
 ghost use Rattle.lq_track.specs.Statements.{holds};
 
-use crate::moment::print_moment;
-use lq_base::{Literal, Name, NoMemory, Text};
+use lq_base::{Literal, Name, NoMemory, Text, print_moment};
 use lq_model::{Op, Operand, Test};
 use std::alloc::Global;
 

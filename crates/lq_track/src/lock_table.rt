@@ -2,7 +2,7 @@ ghost use Rattle.std.specs.Prelude.{◌≡◌, ◌∷◌, [], map, IfOk, Some};
 ghost use Rattle.lq_base.specs.declared.literal.Literal.TheVariants as literal;
 ghost use Rattle.lq_model.specs.declared.statement.Statement.TheVariants as statement;
 ghost use Rattle.lq_track.specs.Lock.{lock_column, lock_name, lock_table, lock_key, lock_key_name};
-ghost use Rattle.lq_track.specs.Moment.{IsMoment};
+ghost use Rattle.lq_base.specs.Moment.{IsMoment};
 ghost use Rattle.lq_track.specs.Statements.{lock_test, lock_taken, lock_freed, lock_marked};
 ghost use Rattle.lq_track.specs.declared.lock_column.LockColumn.TheVariants as lock;
 
