@@ -154,7 +154,7 @@ module _ (d : Dialect) (t : Name) (c : Catalogue) (it : Table) (sound : IsSound 
 
 -- the table that CREATE TABLE makes
 
-key_columns_named : (key : Option Key) (cs : List Column) → map (λ c. c.name) (map (key_column key) cs) ≡ map (λ c. c.name) cs
+pub key_columns_named : (key : Option Key) (cs : List Column) → map (λ c. c.name) (map (key_column key) cs) ≡ map (λ c. c.name) cs
 key_columns_named key [] = refl
 key_columns_named key (c ∷ cs) = ap (λ n. n ∷ map (λ c. c.name) (map (key_column key) cs)) (at (list_any (λ k. is_in c.name k.columns) (key_list key))) ∙ ap (λ ns. c.name ∷ ns) (key_columns_named key cs) where
   at : (b : Bool) → (cond b (record c { nullable = false }) c).name ≡ c.name
@@ -169,7 +169,7 @@ key_all f key (c ∷ cs) h = and_true _ _ (at (list_any (λ k. is_in c.name k.co
   at true = refl
   at false = refl
 
-some_columns : {A B : Type 0} (f : A → B) (xs : List A) → is_empty xs ≡ false → is_empty (map f xs) ≡ false
+pub some_columns : {A B : Type 0} (f : A → B) (xs : List A) → is_empty xs ≡ false → is_empty (map f xs) ≡ false
 some_columns f [] h = true_false refl h
 some_columns f (x ∷ xs) h = refl
 

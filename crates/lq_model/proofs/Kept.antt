@@ -78,7 +78,7 @@ module _ (d : Dialect) (c : Catalogue) (t : Name) (it : Table) (sound : IsShaped
     | false ↦ λ p none. ap (λ o. kinds_at (unwrap_or o no_table) f.targets) (lookup_other t f.table it c.tables p)
   ] refl out
 
-  differ_same : (x : Table) (f : ForeignKey) → aims q t f ≡ false → kinds_differ e' x f ≡ kinds_differ c x f
+  pub differ_same : (x : Table) (f : ForeignKey) → aims q t f ≡ false → kinds_differ e' x f ≡ kinds_differ c x f
   differ_same x f out = ap (λ ks. not (same_kinds (kinds_at x f.columns) ks)) (targets_same f out)
 
   others_alike : list_any (λ x. list_any (kinds_differ e' x.1) x.1.foreign) c.tables ≡ false
@@ -126,11 +126,11 @@ module _ (d : Dialect) (c : Catalogue) (t : Name) (it : Table) (sound : IsShaped
   pub kept_foreign : it.foreign ≡ (the_table c t).foreign → AreApart d e' → IsSoundTable d it → IsShaped d e'
   kept_foreign foreign apart fine = kept apart fine (ap (list_any (kinds_differ e' it)) foreign ∙ own_alike)
 
-never : {A : Type 0} (xs : List A) → list_any (λ x. false) xs ≡ false
+pub never : {A : Type 0} (xs : List A) → list_any (λ x. false) xs ≡ false
 never [] = refl
 never (x ∷ xs) = never xs
 
-and_never : (b : Bool) → (b && false) ≡ false
+pub and_never : (b : Bool) → (b && false) ≡ false
 and_never true = refl
 and_never false = refl
 
@@ -156,3 +156,13 @@ kept_more d c t it sound there more =
 pub kept_rows : (d : Dialect) (c : Catalogue) (t : Name) (it : Table) → IsShaped d c → table_of c t ≡ Some (the_table c t) → it.columns ≡ (the_table c t).columns → it.foreign ≡ (the_table c t).foreign → AreApart d (with_table c t it) → IsSoundTable d it → IsShaped d (with_table c t it)
 kept_rows d c t it shape there columns foreign =
     kept_foreign d c t it shape there (λ m. false) (λ m p. ap (kind_of m) columns) (nothing_touched c t) foreign
+
+-- a new table with the same columns, whose foreign keys are alike
+pub kept_columns : (d : Dialect) (c : Catalogue) (t : Name) (it : Table) → IsShaped d c → table_of c t ≡ Some (the_table c t) → ((m : Name) → kind_of m it.columns ≡ kind_of m (the_table c t).columns) → AreApart d (with_table c t it) → IsSoundTable d it → list_any (kinds_differ (with_table c t it) it) it.foreign ≡ false → IsShaped d (with_table c t it)
+kept_columns d c t it shape there same = kept d c t it shape there (λ m. false) (λ m p. same m) (nothing_touched c t)
+
+pub old_alike : (d : Dialect) (c : Catalogue) (t : Name) (it : Table) → IsShaped d c → table_of c t ≡ Some (the_table c t) → ((m : Name) → kind_of m it.columns ≡ kind_of m (the_table c t).columns) → list_any (kinds_differ (with_table c t it) it) (the_table c t).foreign ≡ false
+old_alike d c t it shape there same = own_alike d c t it shape there (λ m. false) (λ m p. same m) (nothing_touched c t)
+
+pub one_alike : (d : Dialect) (c : Catalogue) (t : Name) (it : Table) → IsShaped d c → table_of c t ≡ Some (the_table c t) → ((m : Name) → kind_of m it.columns ≡ kind_of m (the_table c t).columns) → (x : Table) (f : ForeignKey) → kinds_differ (with_table c t it) x f ≡ kinds_differ c x f
+one_alike d c t it shape there same x f = differ_same d c t it shape there (λ m. false) (λ m p. same m) (nothing_touched c t) x f (ap (λ b. is_named t f.table && b) (never f.targets) ∙ and_never (is_named t f.table))

@@ -3,12 +3,14 @@ pub mod Numerals
 pub mod Absent
 pub mod AddColumnKeeps
 pub mod AddDropColumn
+pub mod AddKeeps
 pub mod Counts
 pub mod Between
 pub mod ChangeKeeps
 pub mod CreateDrop
 pub mod CreateKeeps
 pub mod Decide
+pub mod DropKeeps
 pub mod Dropped
 pub mod EqualKinds
 pub mod ExampleWorld
@@ -20,6 +22,7 @@ pub mod Lists
 pub mod Mapped
 pub mod Maps
 pub mod ModifyKeeps
+pub mod NameCounts
 pub mod Rows
 pub mod Shaped
 pub mod Times

@@ -97,7 +97,7 @@ update_keeps by d t sets test c e k sound made =
 
 -- DELETE
 
-all_filtered : {A : Type 0} (p q : A → Bool) (xs : List A) → list_all p xs ≡ true → list_all p (filter q xs) ≡ true
+pub all_filtered : {A : Type 0} (p q : A → Bool) (xs : List A) → list_all p xs ≡ true → list_all p (filter q xs) ≡ true
 all_filtered p q [] h = refl
 all_filtered p q (x ∷ xs) h = elim (q x) as (λ b. list_all p (cond b (x ∷ filter q xs) (filter q xs)) ≡ true) [
   | true ↦ and_true _ _ (and_left (p x) _ h) (all_filtered p q xs (and_right (p x) _ h))
