@@ -7,7 +7,7 @@ use Rattle.lq_base.specs.declared.dialect.Dialect.{Dialect}
 use Rattle.lq_base.specs.declared.dialect.Dialect.TheVariants.{Mysql, Postgresql}
 use Rattle.lq_base.specs.declared.name.Name.{Name}
 use Rattle.lq_model.specs.Catalogue.{Catalogue, Table, table_of, the_table, with_table}
-use Rattle.lq_model.specs.DropConstraint.{drop_constraint, drop_foreign_key, drop_primary_key, drop_unique, uniques_without, without_constraint, without_foreign, without_index, without_its_key, without_key, without_unique}
+use Rattle.lq_model.specs.DropConstraint.{drop_constraint, drop_foreign_key, drop_index, drop_primary_key, drop_unique, uniques_without, without_constraint, without_foreign, without_index, without_its_key, without_key, without_unique}
 use Rattle.lq_model.specs.IntoKind.{is_kind}
 use Rattle.lq_model.specs.Kinds.{is_number, kind_of, kinds_differ}
 use Rattle.lq_model.specs.NameSpaces.{AreApartWithin}
@@ -16,17 +16,18 @@ use Rattle.lq_model.specs.Needs.{has_numbered}
 use Rattle.lq_model.specs.Row.{row_fits}
 use Rattle.lq_model.specs.Sound.{IsSound, IsSoundTable, are_columns, default_fits, is_key_name, is_key_of, is_not_null, is_numbered_well}
 use Rattle.lq_model.specs.Step.{step}
-use Rattle.lq_model.specs.TableNames.{column_lists, key_list}
+use Rattle.lq_model.specs.TableNames.{column_lists, inner_names, key_list}
 use Rattle.lq_model.specs.declared.caller.By.{By}
 use Rattle.lq_model.specs.declared.column.Column.{Column}
 use Rattle.lq_model.specs.declared.constraint.ForeignKey.{ForeignKey}
 use Rattle.lq_model.specs.declared.constraint.Key.{Key}
 use Rattle.lq_model.specs.declared.constraint.Unique.{Unique}
 use Rattle.lq_model.specs.declared.index.Index.{Index}
-use Rattle.lq_model.specs.declared.statement.Statement.TheVariants.{DropConstraint, DropForeignKey, DropPrimaryKey, DropUnique}
+use Rattle.lq_model.specs.declared.statement.Statement.TheVariants.{DropConstraint, DropForeignKey, DropIndex, DropPrimaryKey, DropUnique}
 use Rattle.lq_model.proofs.Decide.{accepted, here}
 use Rattle.lq_model.proofs.Kept.{kept_columns, old_alike}
 use Rattle.lq_model.proofs.Lists.{all-append, all-append_left, all-append_right, all-map, all_more, none_all, or_false, or_left, or_right}
+use Rattle.lq_model.proofs.MappedTables.{mapped_shaped}
 use Rattle.lq_model.proofs.NameCounts.{apart_less, constraint_sum, fewer_count, foreign_at, index_sum, indexes_at, inner_sum, keys_at, uniques_at}
 use Rattle.lq_model.proofs.Rows.{all_filtered}
 use Rattle.lq_model.proofs.Shaped.{IsShaped, keeps, shape_of}
@@ -217,3 +218,19 @@ index_less d n it fine =
       foreign = fine.foreign; key = fine.key; key_named = fine.key_named; numbered = fine.numbered;
       keys_fewer = λ m. omega arith; uniques_fewer = λ m. omega arith; indexes_fewer = λ m. fewer_count (λ (i : Index). i.name) _ m it.indexes; foreign_fewer = λ m. omega arith;
     }
+
+index_fewer : (n m : Name) (it : Table) → times m (inner_names (without_index n it)) ≤ times m (inner_names it)
+index_fewer n m it =
+    let x = inner_sum m it in
+    let y = inner_sum m (without_index n it) in
+    let a = fewer_count (λ (i : Index). i.name) (λ i. not (is_named n i.name)) m it.indexes in
+    omega (arith, x, y, a)
+
+pub drop_index_keeps : (by : By) (d : Dialect) (n : Name) (t : Option Name) (c e : Catalogue) (k : ℕ) → IsSound d c → step by d (DropIndex n t) c ≡ Ok (e, k) → IsSound d e
+drop_index_keeps by d n None c e k sound made =
+    keeps d (drop_index by d n None c) e k made (mapped_shaped d c (without_index n) (λ x. refl) (λ x. refl) (λ x fine. less_sound d x (without_index n x) fine (index_less d n x fine)) (λ m x. index_fewer n m x) (shape_of d c sound))
+drop_index_keeps by d n (Some t) c e k sound made =
+    let p = drop_index by d n (Some t) c in
+    let ok = accepted p e k made in
+    let there = here c t (or_left _ _ ok.missing) in
+    keeps d p e k made (less_shaped d c t (without_index n (the_table c t)) (shape_of d c sound) there (index_less d n (the_table c t) (sound.tables t (the_table c t) there)) (λ q h. h))

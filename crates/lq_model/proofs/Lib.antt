@@ -11,6 +11,7 @@ pub mod CreateDrop
 pub mod CreateKeeps
 pub mod Decide
 pub mod DropKeeps
+pub mod DropColumnKeeps
 pub mod Dropped
 pub mod EqualKinds
 pub mod ExampleWorld
@@ -20,6 +21,7 @@ pub mod Kept
 pub mod KeptKinds
 pub mod Lists
 pub mod Mapped
+pub mod MappedTables
 pub mod Maps
 pub mod ModifyKeeps
 pub mod NameCounts

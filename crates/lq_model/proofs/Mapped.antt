@@ -45,9 +45,9 @@ pub mapped_some : {X Y : Type 0} (f : X → Y) (o : Option X) (y : Y) → option
 mapped_some f None y h = not_some (sym h)
 mapped_some f (Some x) y h = (x, refl, some_same h)
 
-pub keys-values : {X : Type 0} (g : X → X) (es : List (Name × X)) → map (λ (e : Name × X). e.0) (map (λ e. (e.0, g e.1)) es) ≡ map (λ e. e.0) es
-keys-values g [] = refl
-keys-values g (e ∷ es) = ap (λ ks. e.0 ∷ ks) (keys-values g es)
+pub keys_of_values : {X : Type 0} (g : X → X) (es : List (Name × X)) → map (λ (e : Name × X). e.0) (map (λ e. (e.0, g e.1)) es) ≡ map (λ e. e.0) es
+keys_of_values g [] = refl
+keys_of_values g (e ∷ es) = ap (λ ks. e.0 ∷ ks) (keys_of_values g es)
 
 pub flat-values : {X : Type 0} (f : X → List Name) (g : X → X) (es : List (Name × X)) → ((x : X) → f (g x) ≡ f x) → flat_map (λ (e : Name × X). f e.1) (map (λ e. (e.0, g e.1)) es) ≡ flat_map (λ e. f e.1) es
 flat-values f g [] same = refl
@@ -56,10 +56,10 @@ flat-values {X = X} f g (e ∷ es) same = ap (λ ns. ns ++ flat_map (λ (x : Nam
 -- other tables whose names are the same
 pub mapped_apart : (d : Dialect) (c : Catalogue) (g : Table → Table) → ((x : Table) → inner_names (g x) ≡ inner_names x) → ((x : Table) → foreign_names (g x) ≡ foreign_names x) → AreApart d c → AreApart d (record c { tables = map (λ e. (e.0, g e.1)) c.tables })
 mapped_apart Postgresql c g inner foreign h = λ n. subst (λ ns. times n ns ≤ 1) (sym (
-    ap (λ ks. (ks ++ (map (λ e. e.0) c.views ++ map (λ e. e.0) c.sequences)) ++ flat_map (λ (e : Name × Table). inner_names e.1) (map (λ e. (e.0, g e.1)) c.tables)) (keys-values g c.tables)
+    ap (λ ks. (ks ++ (map (λ e. e.0) c.views ++ map (λ e. e.0) c.sequences)) ++ flat_map (λ (e : Name × Table). inner_names e.1) (map (λ e. (e.0, g e.1)) c.tables)) (keys_of_values g c.tables)
     ∙ ap (λ ns. object_names c ++ ns) (flat-values inner_names g c.tables inner))) (h n)
 mapped_apart Mysql c g inner foreign h = (
-  λ n. subst (λ ks. times n (ks ++ (map (λ e. e.0) c.views ++ map (λ e. e.0) c.sequences)) ≤ 1) (sym (keys-values g c.tables)) (h.0 n),
+  λ n. subst (λ ks. times n (ks ++ (map (λ e. e.0) c.views ++ map (λ e. e.0) c.sequences)) ≤ 1) (sym (keys_of_values g c.tables)) (h.0 n),
   λ n. subst (λ ns. times n ns ≤ 1) (sym (flat-values foreign_names g c.tables foreign)) (h.1 n),
 )
 
@@ -87,7 +87,7 @@ module _ (d : Dialect) (c : Catalogue) (r : Table → List (List Value)) (fit : 
 
   pub mapped_rows : IsShaped d c → IsShaped d e'
   mapped_rows shape = record {
-    ordered = subst (IsStrictlySortedBy name_cmp) (sym (keys-values g c.tables)) shape.ordered;
+    ordered = subst (IsStrictlySortedBy name_cmp) (sym (keys_of_values g c.tables)) shape.ordered;
     ordered_views = shape.ordered_views;
     ordered_sequences = shape.ordered_sequences;
     tables = λ t x is.
