@@ -1,5 +1,5 @@
 -- The table DATABASECHANGELOGLOCK: its columns, its key, and its one row.
-use Rattle.std.specs.Prelude.{ℕ, ℤ, true, false, pos, List, [], ◌∷◌, Option, Some, None, codes}
+use Rattle.std.specs.Prelude.{ℕ, ℤ, true, false, pos, List, [], ◌∷◌, Some, None, codes}
 use Rattle.lq_base.specs.declared.dialect.Dialect.{Dialect}
 use Rattle.lq_base.specs.declared.dialect.Dialect.TheVariants.{Postgresql, Mysql}
 use Rattle.lq_base.specs.declared.kind.Kind.TheVariants.{Int, Boolean, Moment, Text}

@@ -1,5 +1,5 @@
 -- The table DATABASECHANGELOG: its columns, and what a row of it holds in each.
-use Rattle.std.specs.Prelude.{ℕ, pos, List, [], ◌∷◌, Some, codes}
+use Rattle.std.specs.Prelude.{ℕ, pos, List, [], ◌∷◌, codes}
 use Rattle.lq_base.specs.Tracking.{exec_text}
 use Rattle.lq_base.specs.declared.identity.Identity.{Identity}
 use Rattle.lq_base.specs.declared.kind.Kind.TheVariants.{Varchar, Moment, Int}

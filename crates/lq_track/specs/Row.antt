@@ -1,5 +1,5 @@
 -- The row of a changeset that was run or marked.
-use Rattle.std.specs.Prelude.{ℕ, pos, Some, List, [], ◌∷◌, take, codes, encode_utf8_all}
+use Rattle.std.specs.Prelude.{ℕ, pos, Some, List, take, codes, encode_utf8_all}
 use Rattle.std.specs.Str.{chars}
 use Rattle.lq_base.specs.Number.{last_digits}
 use Rattle.lq_base.specs.declared.tracking.Tracked.{Tracked}

@@ -1,5 +1,5 @@
 -- The statements of the tracking tables.
-use Rattle.std.specs.Prelude.{ℕ, ℤ, Bool, true, false, pos, List, [], ◌∷◌, map, Option, Some, None}
+use Rattle.std.specs.Prelude.{ℕ, ℤ, pos, List, [], ◌∷◌, map, Some, None}
 use Rattle.lq_base.specs.declared.dialect.Dialect.{Dialect}
 use Rattle.lq_base.specs.declared.identity.Identity.{Identity}
 use Rattle.lq_base.specs.declared.literal.Literal.{Literal}

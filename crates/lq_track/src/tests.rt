@@ -1,8 +1,10 @@
+ghost use Rattle.std.specs.Prelude.{◌≤◌};
+
 use crate::{
-    LockColumn, LogColumn, Ran, again_row, delete_row, fill_sum, free_lock, insert_row,
-    make_tables, mark_lock, row_of, set_tag, take_lock,
+    Ran, again_row, delete_row, fill_sum, free_lock, insert_row, make_tables, mark_lock, row_of,
+    set_tag, take_lock,
 };
-use lq_base::{Dialect, Exec, Identity, Items, Kind, Literal, Name, Text, Tracked};
+use lq_base::{Dialect, Exec, Identity, Kind, Literal, Name, Text, Tracked};
 use lq_model::{ColumnDef, Key, Operand, Statement, Test};
 use std::alloc::{AllocError, Global};
 use std::test::Fail;
@@ -246,12 +248,61 @@ fn rows_and_the_lock_are_written(rt: HostRuntime) -> Result<(), Fail> {
     let again = row(alloc, Exec::Reran, "", 20_000_000_002_000)?;
     let marked = row(alloc, Exec::MarkRan, "", 253_402_300_799_999)?;
     let who = Text::new(alloc, "ci")?;
-    let cases = [(
-        insert_row(alloc, &first)?,
-        "INSERT INTO \"DATABASECHANGELOG\" (\"ID\", \"AUTHOR\", \"FILENAME\", \"DATEEXECUTED\", \"ORDEREXECUTED\", \"EXECTYPE\", \"MD5SUM\", \"DESCRIPTION\", \"COMMENTS\", \"TAG\", \"LIQUIBASE\", \"CONTEXTS\", \"LABELS\", \"DEPLOYMENT_ID\") VALUES ('1', 'ann', 'db/e.json', '1970-01-01 00:00:01.000', 1, 'EXECUTED', 'P1:d751713988987e9331980363e24189ce', '', '', NULL, 'profile-1', '', '', '0000001000')",
-    )];
+    let cases = [
+        (
+            insert_row(alloc, &first)?,
+            "INSERT INTO \"DATABASECHANGELOG\" (\"ID\", \"AUTHOR\", \"FILENAME\", \"DATEEXECUTED\", \"ORDEREXECUTED\", \"EXECTYPE\", \"MD5SUM\", \"DESCRIPTION\", \"COMMENTS\", \"TAG\", \"LIQUIBASE\", \"CONTEXTS\", \"LABELS\", \"DEPLOYMENT_ID\") VALUES ('1', 'ann', 'db/e.json', '1970-01-01 00:00:01.000', 1, 'EXECUTED', 'P1:d751713988987e9331980363e24189ce', '', '', NULL, 'profile-1', '', '', '0000001000')",
+        ),
+        (
+            again_row(alloc, &again)?,
+            "UPDATE \"DATABASECHANGELOG\" SET \"DATEEXECUTED\" = '2603-10-11 11:33:22.000', \"ORDEREXECUTED\" = 1, \"EXECTYPE\" = 'RERAN', \"MD5SUM\" = 'P1:d751713988987e9331980363e24189ce', \"DEPLOYMENT_ID\" = '0000002000' WHERE ((\"ID\" = '1' AND \"AUTHOR\" = 'ann') AND \"FILENAME\" = 'db/e.json')",
+        ),
+        (
+            again_row(alloc, &marked)?,
+            "UPDATE \"DATABASECHANGELOG\" SET \"DATEEXECUTED\" = '9999-12-31 23:59:59.999', \"ORDEREXECUTED\" = 1, \"EXECTYPE\" = 'MARK_RAN', \"MD5SUM\" = 'P1:d751713988987e9331980363e24189ce', \"DEPLOYMENT_ID\" = '2300799999' WHERE ((\"ID\" = '1' AND \"AUTHOR\" = 'ann') AND \"FILENAME\" = 'db/e.json')",
+        ),
+        (
+            delete_row(alloc, &of)?,
+            "DELETE FROM \"DATABASECHANGELOG\" WHERE ((\"ID\" = '1' AND \"AUTHOR\" = 'ann') AND \"FILENAME\" = 'db/e.json')",
+        ),
+        (
+            set_tag(alloc, &of, &text)?,
+            "UPDATE \"DATABASECHANGELOG\" SET \"TAG\" = 'v1' WHERE ((\"ID\" = '1' AND \"AUTHOR\" = 'ann') AND \"FILENAME\" = 'db/e.json')",
+        ),
+        (
+            fill_sum(alloc, &of, &text)?,
+            "UPDATE \"DATABASECHANGELOG\" SET \"MD5SUM\" = 'v1' WHERE ((\"ID\" = '1' AND \"AUTHOR\" = 'ann') AND \"FILENAME\" = 'db/e.json')",
+        ),
+        (
+            take_lock(alloc, 1000, &who)?,
+            "UPDATE \"DATABASECHANGELOGLOCK\" SET \"LOCKED\" = TRUE, \"LOCKGRANTED\" = '1970-01-01 00:00:01.000', \"LOCKEDBY\" = 'ci' WHERE \"ID\" = 1",
+        ),
+        (
+            mark_lock(alloc, &who)?,
+            "UPDATE \"DATABASECHANGELOGLOCK\" SET \"LOCKEDBY\" = 'ci' WHERE \"ID\" = 1",
+        ),
+        (
+            free_lock(alloc)?,
+            "UPDATE \"DATABASECHANGELOGLOCK\" SET \"LOCKED\" = FALSE, \"LOCKGRANTED\" = NULL, \"LOCKEDBY\" = NULL WHERE \"ID\" = 1",
+        ),
+    ];
     for (statement, want) in cases.iter() {
         assert_eq!(rt; written(alloc, statement)?.as_str(), *want);
+    }
+    Ok(())
+}
+
+#[test]
+fn long_comments_are_cut(rt: HostRuntime) -> Result<(), Fail> {
+    for (character, count, left) in [("a", 255, 255), ("a", 256, 255), ("\u{20ac}", 300, 765)] {
+        let mut comments = String::new(rt.alloc());
+        for _ in 0..count {
+            comments.push_str(character)?;
+        }
+        let row = row(rt.alloc(), Exec::Executed, comments.as_str(), 1000)?;
+        let kept = row.comments.as_str();
+        assert_eq!(rt; kept.len(), left);
+        assert!(rt; comments.as_str().starts_with(kept));
     }
     Ok(())
 }
