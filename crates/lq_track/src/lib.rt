@@ -1,5 +1,6 @@
-//! The two tables in which an update keeps what it ran: the statements that make them, write their
-//! rows and take and free the lock.
+//! The two tables in which an update keeps what it ran, as Liquibase has them (its documentation,
+//! "DATABASECHANGELOG table" and "DATABASECHANGELOGLOCK table"): the statements that make them,
+//! write their rows and take and free the lock.
 #![tactic(auto)]
 
 mod literals;

@@ -24,6 +24,7 @@ impl LockColumn {
         LockColumn::LockedBy,
     ];
 
+    /// Its name in the table.
     #[tactic(auto, unfolding(crate::specs::Lock::lock_column))]
     pub fn text(self) -> &'static str
         ensures { result.now ≡ lock_name self }
@@ -36,6 +37,7 @@ impl LockColumn {
         }
     }
 
+    /// The type that it is made with.
     #[tactic(auto, unfolding(crate::specs::Lock::lock_column))]
     pub fn kind(self) -> Kind
         ensures { result ≡ (lock_column self).kind }
@@ -48,6 +50,7 @@ impl LockColumn {
         }
     }
 
+    /// Whether it is made without NOT NULL.
     #[tactic(auto, unfolding(crate::specs::Lock::lock_column))]
     pub fn is_nullable(self) -> bool
         ensures { result ≡ (lock_column self).nullable }
@@ -55,6 +58,7 @@ impl LockColumn {
         matches!(self, LockColumn::LockGranted | LockColumn::LockedBy)
     }
 
+    /// Its name, as statements have it.
     #[tactic(auto, using(crate::proofs::Names::lock_name_is_name))]
     pub fn name(self, alloc: Global) -> Result<Name, NoMemory>
         ensures { IfOk result (λ name. name ≡ lock_name self) }
@@ -62,6 +66,7 @@ impl LockColumn {
         fixed_name(alloc, self.text())
     }
 
+    /// The column as the table is made with it.
     #[tactic(auto, unfolding(crate::specs::Lock::lock_column))]
     pub fn def(self, alloc: Global) -> Result<ColumnDef, NoMemory>
         ensures { IfOk result (λ def. def ≡ lock_column self) }

@@ -34,6 +34,7 @@ pub fn mark_lock(alloc: Global, by: &Text) -> Result<Statement, NoMemory>
     update_lock(alloc, sets)
 }
 
+/// Frees the lock: neither a moment nor a holder stays.
 #[tactic(auto, unfolding(crate::specs::Lock::lock_value))]
 pub fn free_lock(alloc: Global) -> Result<Statement, NoMemory>
     ensures { IfOk result (λ s. s ≡ lock_freed) }

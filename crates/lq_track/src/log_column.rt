@@ -53,6 +53,7 @@ impl LogColumn {
         LogColumn::DeploymentId,
     ];
 
+    /// Its name in the table.
     #[tactic(auto, unfolding(crate::specs::Log::log_column))]
     pub fn text(self) -> &'static str
         ensures { result.now ≡ log_name self }
@@ -75,6 +76,7 @@ impl LogColumn {
         }
     }
 
+    /// The type that it is made with.
     #[tactic(auto, unfolding(crate::specs::Log::log_column))]
     pub fn kind(self) -> Kind
         ensures { result ≡ (log_column self).kind }
@@ -89,6 +91,7 @@ impl LogColumn {
         }
     }
 
+    /// Whether it is made without NOT NULL.
     #[tactic(auto, unfolding(crate::specs::Log::log_column))]
     pub fn is_nullable(self) -> bool
         ensures { result ≡ (log_column self).nullable }
@@ -104,6 +107,7 @@ impl LogColumn {
         )
     }
 
+    /// Its name, as statements have it.
     #[tactic(auto, using(crate::proofs::Names::log_name_is_name))]
     pub fn name(self, alloc: Global) -> Result<Name, NoMemory>
         ensures { IfOk result (λ name. name ≡ log_name self) }
@@ -111,6 +115,7 @@ impl LogColumn {
         fixed_name(alloc, self.text())
     }
 
+    /// The column as the table is made with it.
     #[tactic(auto, unfolding(crate::specs::Log::log_column))]
     pub fn def(self, alloc: Global) -> Result<ColumnDef, NoMemory>
         ensures { IfOk result (λ def. def ≡ log_column self) }

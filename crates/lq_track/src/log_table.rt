@@ -38,6 +38,7 @@ pub fn again_row(alloc: Global, row: &Tracked) -> Result<Statement, NoMemory>
     })
 }
 
+/// Deletes the row of a changeset.
 pub fn delete_row(alloc: Global, of: &Identity) -> Result<Statement, NoMemory>
     ensures { IfOk result (λ s. s ≡ row_deleted of.now) }
 {
@@ -47,6 +48,7 @@ pub fn delete_row(alloc: Global, of: &Identity) -> Result<Statement, NoMemory>
     })
 }
 
+/// Writes the tag of a row.
 pub fn set_tag(alloc: Global, of: &Identity, tag: &Text) -> Result<Statement, NoMemory>
     ensures { IfOk result (λ s. s ≡ tag_set of.now tag.now) }
 {

@@ -23,7 +23,8 @@ pub struct Ran<'a> {
     pub labels: &'a Text,
 }
 
-/// The row of a changeset that was run or marked.
+/// The row of a changeset that was run or marked. Description, comments, contexts and labels are cut
+/// to the 255 characters that their columns take.
 pub fn row_of(alloc: Global, ran: Ran<'_>) -> Result<Tracked, NoMemory>
     requires { ran.reading ≤ 253402300799999 }
     ensures { IfOk result (λ row. row ≡ row_of ran.entry) }
