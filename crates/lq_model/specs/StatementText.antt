@@ -1,5 +1,5 @@
 -- The canonical text of each statement.
-use Rattle.std.specs.Prelude.{ℕ, Bool, true, false, List, [], ◌∷◌, ◌++◌, map, Option, Some, None, if◌then◌else◌}
+use Rattle.std.specs.Prelude.{ℕ, Bool, true, false, List, [], ◌∷◌, ◌++◌, map, Option, Some, None, if◌then◌else◌, not}
 use Rattle.lq_base.specs.declared.dialect.Dialect.{Dialect}
 use Rattle.lq_base.specs.declared.dialect.Dialect.TheVariants.{Postgresql, Mysql}
 use Rattle.lq_base.specs.declared.literal.Literal.{Literal}
@@ -31,13 +31,10 @@ abbrev pub default_text : Dialect → Option Literal → List ℕ
 default_text d None = []
 default_text d (Some l) = words phrase.Default ++ literal_text d l
 
-abbrev pub null_words : Bool → List ℕ
-null_words nullable = if nullable then [] else words phrase.NotNull
-
 unfoldable pub column_text : Dialect → ColumnDef → List ℕ
 column_text d c =
     name_text d c.name ++ words phrase.Blank ++ kind_text d c.kind
-    ++ words_if c.numbered (numbering d) ++ null_words c.nullable ++ default_text d c.default
+    ++ words_if c.numbered (numbering d) ++ words_if (not c.nullable) phrase.NotNull ++ default_text d c.default
 
 -- in mysql a primary key has no name of its own
 unfoldable pub key_text : Dialect → Key → List ℕ

@@ -1,0 +1,16 @@
+//! SQL text of both profiles.
+#![tactic(auto)]
+
+mod column;
+mod constraint;
+mod literal;
+mod name;
+mod printer;
+mod query;
+mod quoting;
+mod spell;
+mod statement;
+mod table;
+mod test;
+
+pub use printer::{print, print_query, print_test};
