@@ -51,9 +51,9 @@ more_columns it c n h = ap (is_in n) (map_append_one (λ x. x.name) it.columns c
 pub kind_more : (cs : List Column) (c : Column) (n : Name) → is_in n (map (λ x. x.name) cs) ≡ true → kind_of n (cs ++ c ∷ []) ≡ kind_of n cs
 kind_more [] c n h = true_false refl (sym h)
 kind_more (x ∷ cs) c n h = elim (is_named n x.name) as (λ b. (b || is_in n (map (λ x. x.name) cs)) ≡ true → cond b (Some x.kind) (kind_of n (cs ++ c ∷ [])) ≡ cond b (Some x.kind) (kind_of n cs)) [
-    | true ↦ λ p. refl
-    | false ↦ λ p. kind_more cs c n p
-  ] h
+  | true ↦ λ p. refl
+  | false ↦ λ p. kind_more cs c n p
+] h
 
 columns_more : (a b : Table) (ns : List Name) → ((n : Name) → has_column a n ≡ true → has_column b n ≡ true) → are_columns a ns ≡ true → are_columns b ns ≡ true
 columns_more a b ns more h =
@@ -105,4 +105,4 @@ add_column_keeps by d t def c e k known sound made =
     let there = here c t ok.missing in
     let new = with_column (column_of def) it in
     keeps d p e k made (kept_more d c t new sound there (kind_more it.columns (column_of def)) refl (same_apart d c t new there refl refl sound.apart)
-      (wider_sound d it (column_of def) (sound.tables t it there) ok.exists known (default_into def ok.wrong ok.wide) ok.depends))
+    (wider_sound d it (column_of def) (sound.tables t it there) ok.exists known (default_into def ok.wrong ok.wide) ok.depends))

@@ -90,20 +90,20 @@ drop_widened by d t n c e sound wide named =
     let free = nowhere d c t n sound there wide.new in
     ap (step by d (DropColumn t n)) wide.is
     ∙ accepts d (drop_column by d t n (with_table c t wider)) c sound
-      (ap (λ x. with_table (with_table c t wider) t (without_column n x)) now
-        ∙ with_table-with_table c t wider (without_column n wider)
-        ∙ ap (with_table c t) (table_back d n wide.column wide.values it fine wide.named wide.new)
-        ∙ with_table-itself c t there)
-      (record {
-        reserved = named;
-        missing = or_false _ _ (ap is_none (lookup-set_value (is_named t) c.tables it wider there)) (ap (λ x. not (has_column x n)) now ∙ not_true _ (has_new it wide.column wide.values n wide.named));
-        exists = refl;
-        depends = or_false _ _ free.shown (or_false _ _ (ap (λ x. is_bound x n) now ∙ nowhere_bound d c t n sound there wide.new) (or_false _ _
+    (ap (λ x. with_table (with_table c t wider) t (without_column n x)) now
+    ∙ with_table-with_table c t wider (without_column n wider)
+    ∙ ap (with_table c t) (table_back d n wide.column wide.values it fine wide.named wide.new)
+    ∙ with_table-itself c t there)
+    (record {
+      reserved = named;
+      missing = or_false _ _ (ap is_none (lookup-set_value (is_named t) c.tables it wider there)) (ap (λ x. not (has_column x n)) now ∙ not_true _ (has_new it wide.column wide.values n wide.named));
+      exists = refl;
+      depends = or_false _ _ free.shown (or_false _ _ (ap (λ x. is_bound x n) now ∙ nowhere_bound d c t n sound there wide.new) (or_false _ _
           (any-set_value (is_named t) (λ x. list_any (aims_at t n) x.1.foreign) c.tables it wider there (λ k. refl) ∙ free.aimed)
           (ap (λ x. is_only x.columns) now ∙ not_only it.columns wide.column fine.some)));
-        wrong = refl;
-        wide = refl;
-      })
+      wrong = refl;
+      wide = refl;
+    })
 
 rows_with-same : (rows : List (List Value)) (v : Value) → map (λ r. r ++ v ∷ []) rows ≡ rows_with rows (map (λ r. v) rows)
 rows_with-same [] v = refl

@@ -92,12 +92,21 @@ add_unique_keeps by d t u c e k valid sound made =
     let us = map (λ (x : Unique). x.columns) it.uniques in
     let targets = all-append_left (are_columns it) (target_lists it) _ fine.lists in
     keeps d p e k made (kept_rows d c t new (shape_of d c sound) there refl refl (unique_apart d c t u there free sound.apart)
-      (record { some = fine.some; differ = fine.differ; kinds = fine.kinds; rows = fine.rows; defaults = fine.defaults;
-        lists = all-append (are_columns it) (target_lists new) _ (all-append (are_columns it) keys _ (all-append_left (are_columns it) keys us targets)
+    (record {
+      some = fine.some;
+      differ = fine.differ;
+      kinds = fine.kinds;
+      rows = fine.rows;
+      defaults = fine.defaults;
+      lists = all-append (are_columns it) (target_lists new) _ (all-append (are_columns it) keys _ (all-append_left (are_columns it) keys us targets)
           (ap (list_all (are_columns it)) (map_append_one (λ (x : Unique). x.columns) it.uniques u) ∙ all_one_more (are_columns it) us u.columns (all-append_right (are_columns it) keys us targets) are))
           (all-append_right (are_columns it) (target_lists it) _ fine.lists);
-        foreign = fine.foreign; key = fine.key; key_named = fine.key_named; numbered = fine.numbered;
-        within = unique_within u it d c free fine.within }))
+      foreign = fine.foreign;
+      key = fine.key;
+      key_named = fine.key_named;
+      numbered = fine.numbered;
+      within = unique_within u it d c free fine.within;
+    }))
 
 -- CREATE INDEX
 
@@ -134,11 +143,20 @@ create_index_keeps by d t i c e k valid sound made =
     let are = columns_fine it i.columns (and_right (is_name i.name) _ valid) (or_right (takes_lock_key by d (i.name ∷ [])) _ (or_right (index_taken d it i.name c) _ ok.exists)) (or_right _ _ ok.missing) in
     let is = map (λ (x : Index). x.columns) it.indexes in
     keeps d p e k made (kept_rows d c t new (shape_of d c sound) there refl refl (index_apart d c t i there free sound.apart)
-      (record { some = fine.some; differ = fine.differ; kinds = fine.kinds; rows = fine.rows; defaults = fine.defaults;
-        lists = all-append (are_columns it) (target_lists it) _ (all-append_left (are_columns it) (target_lists it) is fine.lists)
+    (record {
+      some = fine.some;
+      differ = fine.differ;
+      kinds = fine.kinds;
+      rows = fine.rows;
+      defaults = fine.defaults;
+      lists = all-append (are_columns it) (target_lists it) _ (all-append_left (are_columns it) (target_lists it) is fine.lists)
           (ap (list_all (are_columns it)) (map_append_one (λ (x : Index). x.columns) it.indexes i) ∙ all_one_more (are_columns it) is i.columns (all-append_right (are_columns it) (target_lists it) is fine.lists) are);
-        foreign = fine.foreign; key = fine.key; key_named = fine.key_named; numbered = fine.numbered;
-        within = index_within i it d c free fine.within }))
+      foreign = fine.foreign;
+      key = fine.key;
+      key_named = fine.key_named;
+      numbered = fine.numbered;
+      within = index_within i it d c free fine.within;
+    }))
 
 -- ADD FOREIGN KEY
 
@@ -173,28 +191,37 @@ add_foreign_key_keeps by d t f c e k valid sound made =
     let are = columns_fine it f.columns (and_left (is_name_list f.columns) _ (and_right (is_name f.name) _ valid)) (or_left (repeats f.columns) _ (or_right (foreign_taken d it f.name c) _ ok.exists)) (or_left (column_missing it f.columns) _ missing) in
     let alike = any-append (kinds_differ (with_table c t new) new) it.foreign (f ∷ []) ∙ or_false _ _ (old_alike d c t new shape there (λ m. refl)) (or_false _ _ (one_alike d c t new shape there (λ m. refl) new f ∙ ok.wrong) refl) in
     keeps d p e k made (kept_columns d c t new shape there (λ m. refl) (foreign_apart d c t f there free sound.apart)
-      (record { some = fine.some; differ = fine.differ; kinds = fine.kinds; rows = fine.rows; defaults = fine.defaults; lists = fine.lists;
-        foreign = all_one_more (λ x. are_columns it x.columns) it.foreign f fine.foreign are;
-        key = fine.key; key_named = fine.key_named; numbered = fine.numbered;
-        within = foreign_within f it d c free fine.within }) alike)
+    (record {
+      some = fine.some;
+      differ = fine.differ;
+      kinds = fine.kinds;
+      rows = fine.rows;
+      defaults = fine.defaults;
+      lists = fine.lists;
+      foreign = all_one_more (λ x. are_columns it x.columns) it.foreign f fine.foreign are;
+      key = fine.key;
+      key_named = fine.key_named;
+      numbered = fine.numbered;
+      within = foreign_within f it d c free fine.within;
+    }) alike)
 
 -- ADD PRIMARY KEY
 
 key_kind : (key : Option Key) (m : Name) (cs : List Column) → kind_of m (map (key_column key) cs) ≡ kind_of m cs
 key_kind key m [] = refl
 key_kind key m (c ∷ cs) = elim (list_any (λ k. is_in c.name k.columns) (key_list key)) as (λ b. (let x = cond b (record c { nullable = false }) c in cond (is_named m x.name) (Some x.kind) (kind_of m (map (key_column key) cs))) ≡ kind_of m (c ∷ cs)) [
-    | true ↦ ap (cond (is_named m c.name) (Some c.kind)) (key_kind key m cs)
-    | false ↦ ap (cond (is_named m c.name) (Some c.kind)) (key_kind key m cs)
-  ]
+  | true ↦ ap (cond (is_named m c.name) (Some c.kind)) (key_kind key m cs)
+  | false ↦ ap (cond (is_named m c.name) (Some c.kind)) (key_kind key m cs)
+]
 
 key_rows : (key : Option Key) (cs : List Column) (row : List Value) → row_fits (map (key_column key) cs) row ≡ row_fits cs row
 key_rows key [] [] = refl
 key_rows key [] (v ∷ vs) = refl
 key_rows key (c ∷ cs) [] = refl
 key_rows key (c ∷ cs) (v ∷ vs) = elim (list_any (λ k. is_in c.name k.columns) (key_list key)) as (λ b. (is_value_of (cond b (record c { nullable = false }) c).kind v && row_fits (map (key_column key) cs) vs) ≡ row_fits (c ∷ cs) (v ∷ vs)) [
-    | true ↦ ap (λ b. is_value_of c.kind v && b) (key_rows key cs vs)
-    | false ↦ ap (λ b. is_value_of c.kind v && b) (key_rows key cs vs)
-  ]
+  | true ↦ ap (λ b. is_value_of c.kind v && b) (key_rows key cs vs)
+  | false ↦ ap (λ b. is_value_of c.kind v && b) (key_rows key cs vs)
+]
 
 pub no_number : (d : Dialect) (it : Table) → IsSoundTable d it → it.key ≡ None → list_any (λ c. c.numbered) it.columns ≡ false
 no_number d it fine none = any_none _ (is_numbered_well it) it.columns (λ c h. elim c.numbered as (λ b. (not b || (is_number c.kind && (is_none c.default && is_key_of it.key c.name))) ≡ true → b ≡ false) [
@@ -243,13 +270,16 @@ add_primary_key_keeps by d t k c e n valid sound made =
     let still : (ns : List Name) → are_columns it ns ≡ true → are_columns new ns ≡ true = λ ns h. ap (λ ms. not (is_empty ns) && (not (repeats ns) && list_all (λ m. is_in m ms) ns)) names ∙ h in
     let old = ap (λ o. list_all (are_columns it) ((map (λ (x : Key). x.columns) (key_list o) ++ map (λ (u : Unique). u.columns) it.uniques) ++ map (λ (i : Index). i.columns) it.indexes)) (sym none) ∙ fine.lists in
     keeps d p e n made (kept_foreign d c t new (shape_of d c sound) there (λ m. false) (λ m q. key_kind (Some k) m it.columns) (nothing_touched c t) refl (key_apart d c t k there none free sound.apart)
-      (record { some = some_columns (key_column (Some k)) it.columns fine.some; differ = ap repeats names ∙ fine.differ;
-        kinds = key_all (λ m x v u. is_kind x) (Some k) it.columns fine.kinds;
-        rows = all_more (row_fits it.columns) (row_fits new.columns) it.rows (λ r h. key_rows (Some k) it.columns r ∙ h) fine.rows;
-        defaults = key_all (λ m x v u. is_value_of x (unwrap_or v value.Null)) (Some k) it.columns fine.defaults;
-        lists = and_true _ _ (still k.columns are) (all_more (are_columns it) (are_columns new) (map (λ (u : Unique). u.columns) it.uniques ++ map (λ (i : Index). i.columns) it.indexes) still old);
-        foreign = all_more (λ f. are_columns it f.columns) _ it.foreign (λ f h. still f.columns h) fine.foreign;
-        key = key_not_null (Some k) new it.columns refl;
-        key_named = and_true _ _ (and_left (is_key_name d k.name) _ (and_right (is_name k.name) _ valid)) refl;
-        numbered = key_all (λ m x v u. not u || (is_number x && (is_none v && is_key_of (Some k) m))) (Some k) it.columns (all_more (λ x. not x.numbered) _ it.columns (λ x h. ap (λ b. b || (is_number x.kind && (is_none x.default && is_key_of (Some k) x.name))) h) (none_all (λ x. x.numbered) it.columns (no_number d it fine none)));
-        within = key_within k it none d c free fine.within }))
+    (record {
+      some = some_columns (key_column (Some k)) it.columns fine.some;
+      differ = ap repeats names ∙ fine.differ;
+      kinds = key_all (λ m x v u. is_kind x) (Some k) it.columns fine.kinds;
+      rows = all_more (row_fits it.columns) (row_fits new.columns) it.rows (λ r h. key_rows (Some k) it.columns r ∙ h) fine.rows;
+      defaults = key_all (λ m x v u. is_value_of x (unwrap_or v value.Null)) (Some k) it.columns fine.defaults;
+      lists = and_true _ _ (still k.columns are) (all_more (are_columns it) (are_columns new) (map (λ (u : Unique). u.columns) it.uniques ++ map (λ (i : Index). i.columns) it.indexes) still old);
+      foreign = all_more (λ f. are_columns it f.columns) _ it.foreign (λ f h. still f.columns h) fine.foreign;
+      key = key_not_null (Some k) new it.columns refl;
+      key_named = and_true _ _ (and_left (is_key_name d k.name) _ (and_right (is_name k.name) _ valid)) refl;
+      numbered = key_all (λ m x v u. not u || (is_number x && (is_none v && is_key_of (Some k) m))) (Some k) it.columns (all_more (λ x. not x.numbered) _ it.columns (λ x h. ap (λ b. b || (is_number x.kind && (is_none x.default && is_key_of (Some k) x.name))) h) (none_all (λ x. x.numbered) it.columns (no_number d it fine none)));
+      within = key_within k it none d c free fine.within;
+    }))

@@ -86,12 +86,13 @@ module _ (n : Name) (f : Column → Column) (same : (c : Column) → (f c).name 
         within = within_still d it fine.within;
       }
     where
-    some_still : (cs : List Column) → is_empty cs ≡ false → is_empty (map (changed_at n f) cs) ≡ false
-    some_still [] h = true_false refl h
-    some_still (c ∷ cs) h = refl
-    within_still : (d : Dialect) (it : Table) → AreApartWithin d it → AreApartWithin d (with_changed n f it)
-    within_still Postgresql it h = h
-    within_still Mysql it h = h
+      some_still : (cs : List Column) → is_empty cs ≡ false → is_empty (map (changed_at n f) cs) ≡ false
+      some_still [] h = true_false refl h
+      some_still (c ∷ cs) h = refl
+
+      within_still : (d : Dialect) (it : Table) → AreApartWithin d it → AreApartWithin d (with_changed n f it)
+      within_still Postgresql it h = h
+      within_still Mysql it h = h
 
 -- the key's columns stay NOT NULL
 pub key_stays_firm : (n : Name) (f : Column → Column) (same : (c : Column) → (f c).name ≡ c.name) (d : Dialect) (it : Table) → IsSoundTable d it → ((m : Name) → is_named n m ≡ true → is_in_key it m ≡ true → (c : Column) → not c.nullable ≡ true → not (f c).nullable ≡ true) → list_all (λ k. list_all (is_not_null (with_changed n f it)) k.columns) (key_list it.key) ≡ true
@@ -101,6 +102,7 @@ key_stays_firm n f same d it fine h = at it.key fine.key h where
   in_more (m ∷ ns) key sub h all = and_true _ _
       (firm_stays n f same m (λ p. h m p (sub m (ap (λ b. b || is_in m ns) (named_itself m)))) it.columns (and_left (is_not_null it m) _ all))
       (in_more ns key (λ x is. sub x (elim (is_named x m) as (λ b. (b || is_in x ns) ≡ true) [ true ↦ refl | false ↦ is ])) h (and_right (is_not_null it m) _ all))
+
   at : (o : Option Key) → list_all (λ k. list_all (is_not_null it) k.columns) (key_list o) ≡ true → ((m : Name) → is_named n m ≡ true → list_any (λ k. is_in m k.columns) (key_list o) ≡ true → (c : Column) → not c.nullable ≡ true → not (f c).nullable ≡ true) → list_all (λ k. list_all (is_not_null (with_changed n f it)) k.columns) (key_list o) ≡ true
   at None all h = refl
   at (Some k) all h = and_true _ _ (in_more k.columns k.columns (λ m is. is) (λ m p is. h m p (ap (λ b. b || false) is)) (and_left (list_all (is_not_null it) k.columns) _ all)) refl
@@ -142,9 +144,9 @@ set_not_null_keeps by d t n c e k sound made =
     let fine = sound.tables t it there in
     let f = made_nullable false in
     keeps d p e k made (change_keeps n f (λ x. refl) (λ x. refl) d c t sound there
-      (all_changed n f default_fits it.columns (λ x q h. h) fine.defaults)
-      (key_stays_firm n f (λ x. refl) d it fine (λ m q is x h. refl))
-      (all_changed n f (is_numbered_well it) it.columns (λ x q h. h) fine.numbered))
+    (all_changed n f default_fits it.columns (λ x q h. h) fine.defaults)
+    (key_stays_firm n f (λ x. refl) d it fine (λ m q is x h. refl))
+    (all_changed n f (is_numbered_well it) it.columns (λ x q h. h) fine.numbered))
 
 pub drop_not_null_keeps : (by : By) (d : Dialect) (t n : Name) (c e : Catalogue) (k : ℕ) → IsSound d c → step by d (DropNotNull t n) c ≡ Ok (e, k) → IsSound d e
 drop_not_null_keeps by d t n c e k sound made =
@@ -155,9 +157,9 @@ drop_not_null_keeps by d t n c e k sound made =
     let fine = sound.tables t it there in
     let f = made_nullable true in
     keeps d p e k made (change_keeps n f (λ x. refl) (λ x. refl) d c t sound there
-      (all_changed n f default_fits it.columns (λ x q h. h) fine.defaults)
-      (key_stays_firm n f (λ x. refl) d it fine (λ m q is x h. true_false is (ap (is_in_key it) (sym (same_name n m q)) ∙ ok.depends)))
-      (all_changed n f (is_numbered_well it) it.columns (λ x q h. h) fine.numbered))
+    (all_changed n f default_fits it.columns (λ x q h. h) fine.defaults)
+    (key_stays_firm n f (λ x. refl) d it fine (λ m q is x h. true_false is (ap (is_in_key it) (sym (same_name n m q)) ∙ ok.depends)))
+    (all_changed n f (is_numbered_well it) it.columns (λ x q h. h) fine.numbered))
 
 defaults_set : (n : Name) (v : Value) (cs : List Column) → repeats (map (λ x. x.name) cs) ≡ false → is_value_of (kind_in n cs) v ≡ true → list_all default_fits cs ≡ true → list_all default_fits (map (changed_at n (with_default (Some v))) cs) ≡ true
 defaults_set n v [] differ fit all = refl
@@ -178,14 +180,14 @@ set_default_keeps by d t n l c e k sound made =
     let f = with_default (Some v) in
     let q : Column → Bool = λ x. is_named n x.name && x.numbered in
     keeps d p e k made (change_keeps n f (λ x. refl) (λ x. refl) d c t sound there
-      (defaults_set n v it.columns fine.differ (into_fits l (kind_in n it.columns) ok.wrong ok.wide) fine.defaults)
-      (key_stays_firm n f (λ x. refl) d it fine (λ m r is x h. h))
-      (all_changed_to n f (λ x. is_numbered_well it x && not (q x)) (is_numbered_well (with_changed n f it)) it.columns
-        (λ x r h. plain x (ap (λ b. not (b && x.numbered)) (sym r) ∙ and_right (is_numbered_well it x) _ h)) (λ x h. and_left (is_numbered_well it x) _ h)
-        (all_both (is_numbered_well it) (λ x. not (q x)) it.columns fine.numbered (none_all q it.columns ok.depends))))
+    (defaults_set n v it.columns fine.differ (into_fits l (kind_in n it.columns) ok.wrong ok.wide) fine.defaults)
+    (key_stays_firm n f (λ x. refl) d it fine (λ m r is x h. h))
+    (all_changed_to n f (λ x. is_numbered_well it x && not (q x)) (is_numbered_well (with_changed n f it)) it.columns
+    (λ x r h. plain x (ap (λ b. not (b && x.numbered)) (sym r) ∙ and_right (is_numbered_well it x) _ h)) (λ x h. and_left (is_numbered_well it x) _ h)
+    (all_both (is_numbered_well it) (λ x. not (q x)) it.columns fine.numbered (none_all q it.columns ok.depends))))
   where
-  plain : (x : Column) → not x.numbered ≡ true → (not x.numbered || (is_number x.kind && false)) ≡ true
-  plain x h = ap (λ b. b || (is_number x.kind && false)) h
+    plain : (x : Column) → not x.numbered ≡ true → (not x.numbered || (is_number x.kind && false)) ≡ true
+    plain x h = ap (λ b. b || (is_number x.kind && false)) h
 
 pub drop_default_keeps : (by : By) (d : Dialect) (t n : Name) (c e : Catalogue) (k : ℕ) → IsSound d c → step by d (DropDefault t n) c ≡ Ok (e, k) → IsSound d e
 drop_default_keeps by d t n c e k sound made =
@@ -196,12 +198,12 @@ drop_default_keeps by d t n c e k sound made =
     let fine = sound.tables t it there in
     let f = with_default None in
     keeps d p e k made (change_keeps n f (λ x. refl) (λ x. refl) d c t sound there
-      (all_changed n f default_fits it.columns (λ x q h. refl) fine.defaults)
-      (key_stays_firm n f (λ x. refl) d it fine (λ m q is x h. h))
-      (all_changed n f (is_numbered_well it) it.columns (λ x q h. numbered_still x h) fine.numbered))
+    (all_changed n f default_fits it.columns (λ x q h. refl) fine.defaults)
+    (key_stays_firm n f (λ x. refl) d it fine (λ m q is x h. h))
+    (all_changed n f (is_numbered_well it) it.columns (λ x q h. numbered_still x h) fine.numbered))
   where
-  numbered_still : (x : Column) → (not x.numbered || (is_number x.kind && (is_none x.default && is_key_of (the_table c t).key x.name))) ≡ true → (not x.numbered || (is_number x.kind && is_key_of (the_table c t).key x.name)) ≡ true
-  numbered_still x h = elim (not x.numbered) as (λ b. (b || (is_number x.kind && (is_none x.default && is_key_of (the_table c t).key x.name))) ≡ true → (b || (is_number x.kind && is_key_of (the_table c t).key x.name)) ≡ true) [
+    numbered_still : (x : Column) → (not x.numbered || (is_number x.kind && (is_none x.default && is_key_of (the_table c t).key x.name))) ≡ true → (not x.numbered || (is_number x.kind && is_key_of (the_table c t).key x.name)) ≡ true
+    numbered_still x h = elim (not x.numbered) as (λ b. (b || (is_number x.kind && (is_none x.default && is_key_of (the_table c t).key x.name))) ≡ true → (b || (is_number x.kind && is_key_of (the_table c t).key x.name)) ≡ true) [
       | true ↦ λ p. refl
       | false ↦ λ p. and_true _ _ (and_left (is_number x.kind) _ p) (and_right (is_none x.default) _ (and_right (is_number x.kind) _ p))
     ] h

@@ -31,38 +31,38 @@ module _ (n : Name) where
   other_kinds : (cs : List Column) (m : Name) → is_named n m ≡ false → kind_of m (columns_without n cs) ≡ kind_of m cs
   other_kinds [] m apart = refl
   other_kinds (c ∷ cs) m apart = elim (is_named n c.name) as (λ b. is_named n c.name ≡ b → kind_of m (cond b cs (c ∷ columns_without n cs)) ≡ kind_of m (c ∷ cs)) [
-      | true ↦ λ p. sym (ap (λ b. cond b (Some c.kind) (kind_of m cs)) (ap (λ x. is_named m x) (sym (same_name n c.name p)) ∙ other_way n m apart))
-      | false ↦ λ p. ap (cond (is_named m c.name) (Some c.kind)) (other_kinds cs m apart)
-    ] refl
+    | true ↦ λ p. sym (ap (λ b. cond b (Some c.kind) (kind_of m cs)) (ap (λ x. is_named m x) (sym (same_name n c.name p)) ∙ other_way n m apart))
+    | false ↦ λ p. ap (cond (is_named m c.name) (Some c.kind)) (other_kinds cs m apart)
+  ] refl
 
   all_without : (p : Column → Bool) (cs : List Column) → list_all p cs ≡ true → list_all p (columns_without n cs) ≡ true
   all_without p [] h = refl
   all_without p (c ∷ cs) h = elim (is_named n c.name) as (λ b. list_all p (cond b cs (c ∷ columns_without n cs)) ≡ true) [
-      | true ↦ and_right (p c) _ h
-      | false ↦ and_true _ _ (and_left (p c) _ h) (all_without p cs (and_right (p c) _ h))
-    ]
+    | true ↦ and_right (p c) _ h
+    | false ↦ and_true _ _ (and_left (p c) _ h) (all_without p cs (and_right (p c) _ h))
+  ]
 
   in_without : (m : Name) (cs : List Column) → is_in m (map (λ c. c.name) cs) ≡ false → is_in m (map (λ c. c.name) (columns_without n cs)) ≡ false
   in_without m [] h = refl
   in_without m (c ∷ cs) h = elim (is_named n c.name) as (λ b. is_in m (map (λ c. c.name) (cond b cs (c ∷ columns_without n cs))) ≡ false) [
-      | true ↦ or_right (is_named m c.name) _ h
-      | false ↦ or_false _ _ (or_left (is_named m c.name) _ h) (in_without m cs (or_right (is_named m c.name) _ h))
-    ]
+    | true ↦ or_right (is_named m c.name) _ h
+    | false ↦ or_false _ _ (or_left (is_named m c.name) _ h) (in_without m cs (or_right (is_named m c.name) _ h))
+  ]
 
   differ_without : (cs : List Column) → repeats (map (λ c. c.name) cs) ≡ false → repeats (map (λ c. c.name) (columns_without n cs)) ≡ false
   differ_without [] h = refl
   differ_without (c ∷ cs) h = elim (is_named n c.name) as (λ b. repeats (map (λ c. c.name) (cond b cs (c ∷ columns_without n cs))) ≡ false) [
-      | true ↦ or_right (is_in c.name (map (λ c. c.name) cs)) _ h
-      | false ↦ or_false _ _ (in_without c.name cs (or_left (is_in c.name (map (λ c. c.name) cs)) _ h)) (differ_without cs (or_right (is_in c.name (map (λ c. c.name) cs)) _ h))
-    ]
+    | true ↦ or_right (is_in c.name (map (λ c. c.name) cs)) _ h
+    | false ↦ or_false _ _ (in_without c.name cs (or_left (is_in c.name (map (λ c. c.name) cs)) _ h)) (differ_without cs (or_right (is_in c.name (map (λ c. c.name) cs)) _ h))
+  ]
 
   row_less : (cs : List Column) (row : List Value) → row_fits cs row ≡ true → row_fits (columns_without n cs) (row_without n cs row) ≡ true
   row_less [] row h = h
   row_less (c ∷ cs) [] h = true_false h refl
   row_less (c ∷ cs) (v ∷ row) h = elim (is_named n c.name) as (λ b. row_fits (cond b cs (c ∷ columns_without n cs)) (cond b row (v ∷ row_without n cs row)) ≡ true) [
-      | true ↦ and_right (is_value_of c.kind v) _ h
-      | false ↦ and_true _ _ (and_left (is_value_of c.kind v) _ h) (row_less cs row (and_right (is_value_of c.kind v) _ h))
-    ]
+    | true ↦ and_right (is_value_of c.kind v) _ h
+    | false ↦ and_true _ _ (and_left (is_value_of c.kind v) _ h) (row_less cs row (and_right (is_value_of c.kind v) _ h))
+  ]
 
   some_left : (cs : List Column) → is_empty cs ≡ false → is_only cs ≡ false → is_empty (columns_without n cs) ≡ false
   some_left [] h only = true_false refl h
@@ -83,22 +83,22 @@ drop_column_keeps by d t n c e k sound made =
     let lists = or_left (list_any (is_in n) (column_lists it)) (is_in_foreign it n) bound in
     let foreign = or_right (list_any (is_in n) (column_lists it)) (is_in_foreign it n) bound in
     keeps d p e k made (kept_foreign d c t new (shape_of d c sound) there (is_named n) same
-      (record { shown = or_left (is_shown c t n) _ ok.depends; aimed = or_left (is_aimed c t n) _ rest; own = foreign })
-      refl (same_apart d c t new there refl refl sound.apart)
-      (record {
-        some = some_left n it.columns fine.some (or_right (is_aimed c t n) _ rest);
-        differ = differ_without n it.columns fine.differ;
-        kinds = all_without n (λ x. is_kind x.kind) it.columns fine.kinds;
-        rows = all-map (row_fits new.columns) (row_without n it.columns) it.rows ∙ all_more (row_fits it.columns) _ it.rows (λ r h. row_less n it.columns r h) fine.rows;
-        defaults = all_without n default_fits it.columns fine.defaults;
-        lists = all_kept (is_in n) (are_columns it) (are_columns new) (column_lists it) (λ ns out are. are_columns_still (is_named n) it new same ns out are) lists fine.lists;
-        foreign = all_kept (λ f. is_in n f.columns) (λ f. are_columns it f.columns) (λ f. are_columns new f.columns) it.foreign (λ f out are. are_columns_still (is_named n) it new same f.columns out are) foreign fine.foreign;
-        key = all_more (λ x. list_all (is_not_null it) x.columns) _ (key_list it.key) (λ x h. all_more (is_not_null it) (is_not_null new) x.columns (λ m g. all_without n (λ y. not (is_named m y.name) || not y.nullable) it.columns g) h) fine.key;
-        key_named = fine.key_named;
-        numbered = all_without n (is_numbered_well it) it.columns fine.numbered;
-        within = within_same d it n fine.within;
-      }))
+    (record { shown = or_left (is_shown c t n) _ ok.depends; aimed = or_left (is_aimed c t n) _ rest; own = foreign })
+    refl (same_apart d c t new there refl refl sound.apart)
+    (record {
+      some = some_left n it.columns fine.some (or_right (is_aimed c t n) _ rest);
+      differ = differ_without n it.columns fine.differ;
+      kinds = all_without n (λ x. is_kind x.kind) it.columns fine.kinds;
+      rows = all-map (row_fits new.columns) (row_without n it.columns) it.rows ∙ all_more (row_fits it.columns) _ it.rows (λ r h. row_less n it.columns r h) fine.rows;
+      defaults = all_without n default_fits it.columns fine.defaults;
+      lists = all_kept (is_in n) (are_columns it) (are_columns new) (column_lists it) (λ ns out are. are_columns_still (is_named n) it new same ns out are) lists fine.lists;
+      foreign = all_kept (λ f. is_in n f.columns) (λ f. are_columns it f.columns) (λ f. are_columns new f.columns) it.foreign (λ f out are. are_columns_still (is_named n) it new same f.columns out are) foreign fine.foreign;
+      key = all_more (λ x. list_all (is_not_null it) x.columns) _ (key_list it.key) (λ x h. all_more (is_not_null it) (is_not_null new) x.columns (λ m g. all_without n (λ y. not (is_named m y.name) || not y.nullable) it.columns g) h) fine.key;
+      key_named = fine.key_named;
+      numbered = all_without n (is_numbered_well it) it.columns fine.numbered;
+      within = within_same d it n fine.within;
+    }))
   where
-  within_same : (d : Dialect) (it : Table) (n : Name) → AreApartWithin d it → AreApartWithin d (without_column n it)
-  within_same Postgresql it n h = h
-  within_same Mysql it n h = h
+    within_same : (d : Dialect) (it : Table) (n : Name) → AreApartWithin d it → AreApartWithin d (without_column n it)
+    within_same Postgresql it n h = h
+    within_same Mysql it n h = h

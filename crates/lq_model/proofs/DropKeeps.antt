@@ -35,9 +35,9 @@ use Rattle.lq_model.proofs.Shaped.{IsShaped, keeps, shape_of}
 pub any_filtered : {A : Type 0} (p q : A → Bool) (xs : List A) → list_any p xs ≡ false → list_any p (filter q xs) ≡ false
 any_filtered p q [] h = refl
 any_filtered p q (x ∷ xs) h = elim (q x) as (λ b. list_any p (cond b (x ∷ filter q xs) (filter q xs)) ≡ false) [
-    | true ↦ or_false _ _ (or_left (p x) _ h) (any_filtered p q xs (or_right (p x) _ h))
-    | false ↦ any_filtered p q xs (or_right (p x) _ h)
-  ]
+  | true ↦ or_false _ _ (or_left (p x) _ h) (any_filtered p q xs (or_right (p x) _ h))
+  | false ↦ any_filtered p q xs (or_right (p x) _ h)
+]
 
 lists_filtered : {A : Type 0} (f : A → List Name) (p : List Name → Bool) (q : A → Bool) (xs : List A) → list_all p (map f xs) ≡ true → list_all p (map f (filter q xs)) ≡ true
 lists_filtered f p q xs h = all-map p f (filter q xs) ∙ all_filtered (λ x. p (f x)) q xs (sym (all-map p f xs) ∙ h)
@@ -94,12 +94,12 @@ less_shaped d c t less shape there is some =
     let same : (m : Name) → kind_of m less.columns ≡ kind_of m (the_table c t).columns = λ m. ap (kind_of m) is.columns in
     kept_columns d c t less shape there same
     (apart_less d c t less there (λ n.
-        let x = inner_sum n (the_table c t) in
-        let y = inner_sum n less in
-        let a = is.keys_fewer n in
-        let b = is.uniques_fewer n in
-        let e = is.indexes_fewer n in
-        omega (arith, x, y, a, b, e)) is.foreign_fewer shape.apart)
+    let x = inner_sum n (the_table c t) in
+    let y = inner_sum n less in
+    let a = is.keys_fewer n in
+    let b = is.uniques_fewer n in
+    let e = is.indexes_fewer n in
+    omega (arith, x, y, a, b, e)) is.foreign_fewer shape.apart)
     (less_sound d (the_table c t) less (shape.tables t (the_table c t) there) is)
     (some (kinds_differ (with_table c t less) less) (old_alike d c t less shape there same))
 
@@ -119,9 +119,9 @@ not_numbered key cs none = all_more (λ c. not c.numbered) _ cs (λ c h. ap (λ 
 numbered_without : (n : Name) (it : Table) (o : Option Key) → it.key ≡ o → list_all (is_numbered_well it) it.columns ≡ true → (list_any (λ k. is_named n k.name) (key_list o) && has_numbered it) ≡ false → list_all (λ c. not c.numbered || (is_number c.kind && (is_none c.default && is_key_of (without_key n o) c.name))) it.columns ≡ true
 numbered_without n it None is h free = ap (λ o. list_all (λ c. not c.numbered || (is_number c.kind && (is_none c.default && is_key_of o c.name))) it.columns) (sym is) ∙ h
 numbered_without n it (Some k) is h free = elim (is_named n k.name) as (λ b. ((b || false) && has_numbered it) ≡ false → list_all (λ c. not c.numbered || (is_number c.kind && (is_none c.default && is_key_of (cond b None (Some k)) c.name))) it.columns ≡ true) [
-    | true ↦ λ q. not_numbered None it.columns q
-    | false ↦ λ q. ap (λ o. list_all (λ c. not c.numbered || (is_number c.kind && (is_none c.default && is_key_of o c.name))) it.columns) (sym is) ∙ h
-  ] free
+  | true ↦ λ q. not_numbered None it.columns q
+  | false ↦ λ q. ap (λ o. list_all (λ c. not c.numbered || (is_number c.kind && (is_none c.default && is_key_of o c.name))) it.columns) (sym is) ∙ h
+] free
 
 -- the lists of a table, part by part
 parts : (it : Table) → list_all (are_columns it) (column_lists it) ≡ true → (list_all (are_columns it) (map (λ k. k.columns) (key_list it.key)) ≡ true) × (list_all (are_columns it) (map (λ u. u.columns) it.uniques) ≡ true) × (list_all (are_columns it) (map (λ i. i.columns) it.indexes) ≡ true)
@@ -138,10 +138,11 @@ constraint_less : (d : Dialect) (n : Name) (it : Table) → IsSoundTable d it �
 constraint_less d n it fine free =
     let ps = parts it fine.lists in
     record {
-      columns = refl; rows = refl;
+      columns = refl;
+      rows = refl;
       lists = lists_of (are_columns it) (map (λ (k : Key). k.columns) (key_list (without_key n it.key))) (map (λ (u : Unique). u.columns) (uniques_without n it.uniques)) _
-        (all-map (are_columns it) (λ (k : Key). k.columns) (key_list (without_key n it.key)) ∙ without_key_all n (λ k. are_columns it k.columns) it.key (sym (all-map (are_columns it) (λ (k : Key). k.columns) (key_list it.key)) ∙ ps.0))
-        (lists_filtered (λ (u : Unique). u.columns) (are_columns it) _ it.uniques ps.1) ps.2;
+          (all-map (are_columns it) (λ (k : Key). k.columns) (key_list (without_key n it.key)) ∙ without_key_all n (λ k. are_columns it k.columns) it.key (sym (all-map (are_columns it) (λ (k : Key). k.columns) (key_list it.key)) ∙ ps.0))
+          (lists_filtered (λ (u : Unique). u.columns) (are_columns it) _ it.uniques ps.1) ps.2;
       foreign = all_filtered (λ f. are_columns it f.columns) _ it.foreign fine.foreign;
       key = without_key_all n (λ k. list_all (is_not_null it) k.columns) it.key fine.key;
       key_named = without_key_all n (λ k. is_key_name d k.name) it.key fine.key_named;
@@ -163,11 +164,17 @@ key_less : (d : Dialect) (it : Table) → IsSoundTable d it → has_numbered it 
 key_less d it fine free =
     let ps = parts it fine.lists in
     record {
-      columns = refl; rows = refl;
+      columns = refl;
+      rows = refl;
       lists = lists_of (are_columns it) [] (map (λ (u : Unique). u.columns) it.uniques) _ refl ps.1 ps.2;
-      foreign = fine.foreign; key = refl; key_named = refl;
+      foreign = fine.foreign;
+      key = refl;
+      key_named = refl;
       numbered = not_numbered None it.columns free;
-      keys_fewer = λ m. omega arith; uniques_fewer = λ m. omega arith; indexes_fewer = λ m. omega arith; foreign_fewer = λ m. omega arith;
+      keys_fewer = λ m. omega arith;
+      uniques_fewer = λ m. omega arith;
+      indexes_fewer = λ m. omega arith;
+      foreign_fewer = λ m. omega arith;
     }
 
 pub drop_primary_key_keeps : (by : By) (d : Dialect) (t : Name) (c e : Catalogue) (k : ℕ) → IsSound d c → step by d (DropPrimaryKey t) c ≡ Ok (e, k) → IsSound d e
@@ -181,10 +188,17 @@ unique_less : (d : Dialect) (n : Name) (it : Table) → IsSoundTable d it → Is
 unique_less d n it fine =
     let ps = parts it fine.lists in
     record {
-      columns = refl; rows = refl;
+      columns = refl;
+      rows = refl;
       lists = lists_of (are_columns it) (map (λ (k : Key). k.columns) (key_list it.key)) (map (λ (u : Unique). u.columns) (uniques_without n it.uniques)) _ ps.0 (lists_filtered (λ (u : Unique). u.columns) (are_columns it) _ it.uniques ps.1) ps.2;
-      foreign = fine.foreign; key = fine.key; key_named = fine.key_named; numbered = fine.numbered;
-      keys_fewer = λ m. omega arith; uniques_fewer = λ m. fewer_count (λ (u : Unique). u.name) _ m it.uniques; indexes_fewer = λ m. omega arith; foreign_fewer = λ m. omega arith;
+      foreign = fine.foreign;
+      key = fine.key;
+      key_named = fine.key_named;
+      numbered = fine.numbered;
+      keys_fewer = λ m. omega arith;
+      uniques_fewer = λ m. fewer_count (λ (u : Unique). u.name) _ m it.uniques;
+      indexes_fewer = λ m. omega arith;
+      foreign_fewer = λ m. omega arith;
     }
 
 pub drop_unique_keeps : (by : By) (d : Dialect) (t n : Name) (c e : Catalogue) (k : ℕ) → IsSound d c → step by d (DropUnique t n) c ≡ Ok (e, k) → IsSound d e
@@ -196,10 +210,17 @@ drop_unique_keeps by d t n c e k sound made =
 
 foreign_less : (d : Dialect) (n : Name) (it : Table) → IsSoundTable d it → IsLess d it (without_foreign n it)
 foreign_less d n it fine = record {
-  columns = refl; rows = refl; lists = fine.lists;
+  columns = refl;
+  rows = refl;
+  lists = fine.lists;
   foreign = all_filtered (λ f. are_columns it f.columns) _ it.foreign fine.foreign;
-  key = fine.key; key_named = fine.key_named; numbered = fine.numbered;
-  keys_fewer = λ m. omega arith; uniques_fewer = λ m. omega arith; indexes_fewer = λ m. omega arith; foreign_fewer = λ m. fewer_count (λ (f : ForeignKey). f.name) _ m it.foreign;
+  key = fine.key;
+  key_named = fine.key_named;
+  numbered = fine.numbered;
+  keys_fewer = λ m. omega arith;
+  uniques_fewer = λ m. omega arith;
+  indexes_fewer = λ m. omega arith;
+  foreign_fewer = λ m. fewer_count (λ (f : ForeignKey). f.name) _ m it.foreign;
 }
 
 pub drop_foreign_key_keeps : (by : By) (d : Dialect) (t n : Name) (c e : Catalogue) (k : ℕ) → IsSound d c → step by d (DropForeignKey t n) c ≡ Ok (e, k) → IsSound d e
@@ -213,10 +234,17 @@ pub index_less : (d : Dialect) (n : Name) (it : Table) → IsSoundTable d it →
 index_less d n it fine =
     let ps = parts it fine.lists in
     record {
-      columns = refl; rows = refl;
+      columns = refl;
+      rows = refl;
       lists = lists_of (are_columns it) (map (λ (k : Key). k.columns) (key_list it.key)) (map (λ (u : Unique). u.columns) it.uniques) _ ps.0 ps.1 (lists_filtered (λ (i : Index). i.columns) (are_columns it) _ it.indexes ps.2);
-      foreign = fine.foreign; key = fine.key; key_named = fine.key_named; numbered = fine.numbered;
-      keys_fewer = λ m. omega arith; uniques_fewer = λ m. omega arith; indexes_fewer = λ m. fewer_count (λ (i : Index). i.name) _ m it.indexes; foreign_fewer = λ m. omega arith;
+      foreign = fine.foreign;
+      key = fine.key;
+      key_named = fine.key_named;
+      numbered = fine.numbered;
+      keys_fewer = λ m. omega arith;
+      uniques_fewer = λ m. omega arith;
+      indexes_fewer = λ m. fewer_count (λ (i : Index). i.name) _ m it.indexes;
+      foreign_fewer = λ m. omega arith;
     }
 
 index_fewer : (n m : Name) (it : Table) → times m (inner_names (without_index n it)) ≤ times m (inner_names it)

@@ -28,5 +28,10 @@ pub mod NameCounts
 pub mod Rows
 pub mod Shaped
 pub mod Times
+pub mod UndoChanges
+pub mod UndoConstraints
+pub mod UndoIndexes
+pub mod UndoModify
+pub mod UndoMysql
 pub mod Untouched
 pub mod ViewAt

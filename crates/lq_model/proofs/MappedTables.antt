@@ -66,8 +66,9 @@ module _ (d : Dialect) (c : Catalogue) (g : Table → Table) (columns : (x : Tab
       let m = h n in
       omega (arith, o, i, p, q, m)
   fewer_apart Mysql h = (
-      λ n. subst (λ ks. times n (ks ++ (map (λ e. e.0) c.views ++ map (λ e. e.0) c.sequences)) ≤ 1) (sym (keys_of_values g c.tables)) (h.0 n),
-      λ n. subst (λ ns. times n ns ≤ 1) (sym (flat-values foreign_names g c.tables (λ x. ap (λ fs. map (λ (f : ForeignKey). f.name) fs) (foreign x)))) (h.1 n))
+    λ n. subst (λ ks. times n (ks ++ (map (λ e. e.0) c.views ++ map (λ e. e.0) c.sequences)) ≤ 1) (sym (keys_of_values g c.tables)) (h.0 n),
+    λ n. subst (λ ns. times n ns ≤ 1) (sym (flat-values foreign_names g c.tables (λ x. ap (λ fs. map (λ (f : ForeignKey). f.name) fs) (foreign x)))) (h.1 n),
+  )
 
   pub mapped_shaped : IsShaped d c → IsShaped d e'
   mapped_shaped shape = record {

@@ -57,7 +57,7 @@ same_kind_stays n k b [] differ is m = refl
 same_kind_stays n k b (c ∷ cs) differ is m =
     elim (is_named n c.name) as (λ x. is_named n c.name ≡ x → cond x (Some c.kind) (kind_of n cs) ≡ Some k → kind_of m (cond x (modified k b c) c ∷ map (changed_at n (modified k b)) cs) ≡ kind_of m (c ∷ cs)) [
       | true ↦ λ q h. ap (λ z. cond (is_named m c.name) z (kind_of m (map (changed_at n (modified k b)) cs))) (sym h)
-        ∙ ap (λ xs. cond (is_named m c.name) (Some c.kind) (kind_of m xs)) (unchanged n (modified k b) cs (ap (λ y. is_in y (map (λ x. x.name) cs)) (same_name n c.name q) ∙ or_left (is_in c.name (map (λ x. x.name) cs)) _ differ))
+          ∙ ap (λ xs. cond (is_named m c.name) (Some c.kind) (kind_of m xs)) (unchanged n (modified k b) cs (ap (λ y. is_in y (map (λ x. x.name) cs)) (same_name n c.name q) ∙ or_left (is_in c.name (map (λ x. x.name) cs)) _ differ))
       | false ↦ λ q h. ap (cond (is_named m c.name) (Some c.kind)) (same_kind_stays n k b cs (or_right (is_in c.name (map (λ x. x.name) cs)) _ differ) h m)
     ] refl is
 
@@ -94,9 +94,9 @@ module _ (by : By) (d : Dialect) (t n : Name) (k : Kind) (b : Bool) (c e : Catal
   -- null is allowed in no column of the key
   no_null_in_key : (m : Name) → is_named n m ≡ true → is_in_key old m ≡ true → (x : Column) → not x.nullable ≡ true → not b ≡ true
   no_null_in_key m q is x h = elim b as (λ y. (y && is_in_key old n) ≡ false → not y ≡ true) [
-      | true ↦ λ p. true_false is (ap (is_in_key old) (sym (same_name n m q)) ∙ p)
-      | false ↦ λ p. refl
-    ] (or_left (b && is_in_key old n) (kind_needed c t n k) ok.depends)
+    | true ↦ λ p. true_false is (ap (is_in_key old) (sym (same_name n m q)) ∙ p)
+    | false ↦ λ p. refl
+  ] (or_left (b && is_in_key old n) (kind_needed c t n k) ok.depends)
 
   table_fine : IsSoundTable d new'
   table_fine = change_sound n f' (λ x. refl) d old fine
@@ -109,10 +109,10 @@ module _ (by : By) (d : Dialect) (t n : Name) (k : Kind) (b : Bool) (c e : Catal
   shaped_if free = whether (same_kind (kind_of n old.columns) (Some k))
       (λ same. kept_more d c t new' sound there (λ m h. same_kind_stays n k b old.columns fine.differ (same_kind_is (kind_of n old.columns) k same) m) refl (same_apart d c t new' there refl refl sound.apart) table_fine)
       (λ other.
-        let none = ap (λ x. not x && (is_shown c t n || (is_in_foreign old n || is_aimed c t n))) (sym other) ∙ free in
-        kept_foreign d c t new' (shape_of d c sound) there (is_named n) (λ m apart. other_kind n f' (λ x. refl) m old.columns apart)
-          (record { shown = or_left _ _ none; own = or_left _ _ (or_right _ _ none); aimed = or_right _ _ (or_right _ _ none) })
-          refl (same_apart d c t new' there refl refl sound.apart) table_fine)
+      let none = ap (λ x. not x && (is_shown c t n || (is_in_foreign old n || is_aimed c t n))) (sym other) ∙ free in
+      kept_foreign d c t new' (shape_of d c sound) there (is_named n) (λ m apart. other_kind n f' (λ x. refl) m old.columns apart)
+      (record { shown = or_left _ _ none; own = or_left _ _ (or_right _ _ none); aimed = or_right _ _ (or_right _ _ none) })
+      refl (same_apart d c t new' there refl refl sound.apart) table_fine)
 
   pub modify_keeps : IsSound d e
   modify_keeps = keeps d p' e count made (shaped_if (or_right (b && is_in_key old n) (kind_needed c t n k) ok.depends))

@@ -90,6 +90,6 @@ last_count f n xs x = ap (times n) (map_append_one f xs x) ∙ (let a = times-ap
 pub fewer_count : {A : Type 0} (f : A → Name) (q : A → Bool) (n : Name) (xs : List A) → times n (map f (filter q xs)) ≤ times n (map f xs)
 fewer_count f q n [] = omega arith
 fewer_count f q n (x ∷ xs) = elim (q x) as (λ b. times n (map f (cond b (x ∷ filter q xs) (filter q xs))) ≤ times n (map f (x ∷ xs))) [
-    | true ↦ let r = fewer_count f q n xs in omega (arith, r)
-    | false ↦ let r = fewer_count f q n xs in omega (arith, r)
-  ]
+  | true ↦ let r = fewer_count f q n xs in omega (arith, r)
+  | false ↦ let r = fewer_count f q n xs in omega (arith, r)
+]

@@ -31,5 +31,10 @@ pub use keeps_sound::{
 pub use phrase::Phrase;
 pub use query::{Answered, Query, Wanted};
 pub use statement::Statement;
-pub use takes_back::drop_table_takes_back;
+pub use takes_back::{
+    drop_column_takes_back, drop_constraint_takes_back_foreign_key, drop_constraint_takes_back_key,
+    drop_constraint_takes_back_unique, drop_default_takes_back, drop_foreign_key_takes_back,
+    drop_index_takes_back, drop_not_null_takes_back, drop_primary_key_takes_back,
+    drop_table_takes_back, drop_unique_takes_back, modify_takes_back, set_not_null_takes_back,
+};
 pub use test::{Op, Operand, Test};

@@ -1,7 +1,68 @@
 //! Laws: a statement that was accepted on a sound catalogue, and the statement that takes it back.
-ghost use Rattle.lq_model.specs.TakesBack.{DropTableTakesBack};
+ghost use Rattle.lq_model.specs.TakesBack.{DropTableTakesBack, DropColumnTakesBack, DropNotNullTakesBack, SetNotNullTakesBack, ModifyTakesBack, DropDefaultTakesBack, DropConstraintTakesBackUnique, DropConstraintTakesBackForeignKey, DropConstraintTakesBackKey, DropUniqueTakesBack, DropForeignKeyTakesBack, DropPrimaryKeyTakesBack, DropIndexTakesBack};
 
 /// DROP TABLE after a CREATE TABLE that was accepted is accepted, and gives the catalogue back.
 pub fn drop_table_takes_back()
     ensures { DropTableTakesBack }
+{}
+
+/// DROP COLUMN takes ADD COLUMN back.
+pub fn drop_column_takes_back()
+    ensures { DropColumnTakesBack }
+{}
+
+/// DROP NOT NULL takes SET NOT NULL back, where the column was nullable.
+pub fn drop_not_null_takes_back()
+    ensures { DropNotNullTakesBack }
+{}
+
+/// SET NOT NULL takes DROP NOT NULL back, where the column was NOT NULL.
+pub fn set_not_null_takes_back()
+    ensures { SetNotNullTakesBack }
+{}
+
+/// A MODIFY takes another one back, where the column was of the stated kind, without a default and
+/// not numbered, and the first changed whether null is allowed.
+pub fn modify_takes_back()
+    ensures { ModifyTakesBack }
+{}
+
+/// DROP DEFAULT takes SET DEFAULT back, where there was no default.
+pub fn drop_default_takes_back()
+    ensures { DropDefaultTakesBack }
+{}
+
+/// Under PostgreSQL DROP CONSTRAINT takes ADD UNIQUE back.
+pub fn drop_constraint_takes_back_unique()
+    ensures { DropConstraintTakesBackUnique }
+{}
+
+/// Under PostgreSQL DROP CONSTRAINT takes ADD FOREIGN KEY back.
+pub fn drop_constraint_takes_back_foreign_key()
+    ensures { DropConstraintTakesBackForeignKey }
+{}
+
+/// Under PostgreSQL DROP CONSTRAINT takes ADD PRIMARY KEY back, where none of its columns was nullable.
+pub fn drop_constraint_takes_back_key()
+    ensures { DropConstraintTakesBackKey }
+{}
+
+/// Under MySQL dropping a unique constraint takes its adding back.
+pub fn drop_unique_takes_back()
+    ensures { DropUniqueTakesBack }
+{}
+
+/// Under MySQL DROP FOREIGN KEY takes ADD FOREIGN KEY back.
+pub fn drop_foreign_key_takes_back()
+    ensures { DropForeignKeyTakesBack }
+{}
+
+/// Under MySQL DROP PRIMARY KEY takes ADD PRIMARY KEY back, where none of its columns was nullable.
+pub fn drop_primary_key_takes_back()
+    ensures { DropPrimaryKeyTakesBack }
+{}
+
+/// DROP INDEX takes CREATE INDEX back.
+pub fn drop_index_takes_back()
+    ensures { DropIndexTakesBack }
 {}
