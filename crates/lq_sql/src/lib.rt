@@ -12,5 +12,7 @@ mod spell;
 mod statement;
 mod table;
 mod test;
+#[cfg(test)]
+mod tests;
 
 pub use printer::{print, print_query, print_test};
