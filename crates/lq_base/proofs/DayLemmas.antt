@@ -6,7 +6,7 @@ use Rattle.jiff_core.specs.declared.civil.date.Date.{Date}
 use Rattle.jiff_core.specs.Calendar.{day_count, days_in_month, days_from_civil}
 use Rattle.jiff_core.specs.Date.{epoch_day}
 use Rattle.jiff_core.proofs.SignedLemmas.{signed_arith}
-use Rattle.jiff_core.proofs.DateLemmas.{civil, cases_date, epoch_day-lt, epoch_day_injective, epoch_day_same, days_from_civil-day, days_from_civil-next_month, days_from_civil-next_year}
+use Rattle.jiff_core.proofs.DateLemmas.{civil, cases_date, epoch_day-lt, epoch_day_injective, epoch_day_same, days_from_civil-day, days_from_civil-max, days_from_civil-next_month, days_from_civil-next_year}
 use Rattle.jiff_core.proofs.MarchLemmas.{day_count-early}
 use Rattle.jiff_core.proofs.CalendarLemmas.{days_from_civil-day_count, day_count-lt_year, days_in_month_bounds}
 use Rattle.lq_base.specs.Moment.{Day, next_day, day_after}
@@ -53,6 +53,15 @@ pub day_after_is : (count : ℕ) → IsDay (day_after count) count
 unfolding day_after
 day_after_is zero = record { year = omega arith; month = (omega arith, omega arith); day = (omega arith, omega arith); number = omega (arith, signed_arith, days_from_civil-year_1) }
 day_after_is (suc count) = next_by (day_after count) count _ _ refl refl (day_after_is count)
+
+-- the last is 9999-12-31
+pub day_after-year_le : (count : ℕ) → count ≤ 3_652_058 → (day_after count).year ≤ 9999
+day_after-year_le count h =
+    let is = day_after_is count in
+    let a = day_after count in
+    by_lt_z (pos 9999) (pos a.year)
+    (λ lt. absurd (omega (arith, signed_arith, is.number, days_from_civil-max, days_from_civil-day_count, day_count-lt_year (pos 9999) 12 31 (pos a.year) a.month a.day (search rules) is.day.0 lt)))
+    (λ ge. omega (arith, signed_arith))
 
 -- the date with this number is that day
 pub date_is_day : (d : Date) (count : ℕ) → epoch_day d +ℤ pos 719_162 ≡ pos count → (d.year ≡ pos (day_after count).year) × (d.month ≡ (day_after count).month) × (d.day ≡ (day_after count).day)

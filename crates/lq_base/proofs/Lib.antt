@@ -1,5 +1,7 @@
 mod DayLemmas
+mod DigitLemmas
 mod IntoLemmas
+pub mod MomentLemmas
 mod NumberLemmas
 mod PlainLemmas
 mod TextLemmas
