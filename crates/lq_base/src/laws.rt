@@ -11,5 +11,4 @@ pub fn into_is_value()
 /// A moment's printed text spells that moment.
 pub fn moment_reads_back()
     ensures { MomentReadsBack }
-{
-}
+{}
