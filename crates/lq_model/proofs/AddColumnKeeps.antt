@@ -2,14 +2,15 @@
 use Rattle.std.proofs.Common.{ap, sym, ◌∙◌}
 use Rattle.std.specs.List.{list_all}
 use Rattle.std.specs.Prelude.{List, Ok, Some, [], cond, false, is_none, map, not, refl, true, ℕ, ◌&&◌, ◌++◌, ◌||◌, ◌∷◌, ◌≡◌}
+use Rattle.lq_base.specs.Kind.{is_kind}
 use Rattle.lq_base.specs.Name.{is_named}
+use Rattle.lq_base.specs.Value.{is_value_of}
 use Rattle.lq_base.specs.declared.dialect.Dialect.{Dialect}
 use Rattle.lq_base.specs.declared.dialect.Dialect.TheVariants.{Mysql, Postgresql}
 use Rattle.lq_base.specs.declared.name.Name.{Name}
 use Rattle.lq_base.specs.declared.value.Value.{Value}
 use Rattle.lq_model.specs.Catalogue.{Catalogue, Table, the_table}
 use Rattle.lq_model.specs.Columns.{add_column, with_column}
-use Rattle.lq_model.specs.IntoKind.{is_kind, is_value_of}
 use Rattle.lq_model.specs.Kinds.{is_number, kind_of}
 use Rattle.lq_model.specs.Literals.{column_of, default_value}
 use Rattle.lq_model.specs.NameSpaces.{AreApartWithin}

@@ -3,13 +3,13 @@ use Rattle.std.proofs.Common.{ap, sym, ◌∙◌}
 use Rattle.std.specs.List.{list_all, list_any}
 use Rattle.std.specs.Prelude.{List, Ok, Some, [], cond, false, is_none, map, not, refl, true, ℕ, ◌++◌, ◌||◌, ◌∷◌, ◌≡◌}
 use Rattle.lq_base.specs.Name.{is_named}
+use Rattle.lq_base.specs.Value.{is_value_of}
 use Rattle.lq_base.specs.declared.dialect.Dialect.{Dialect}
 use Rattle.lq_base.specs.declared.name.Name.{Name}
 use Rattle.lq_base.specs.declared.value.Value.{Value}
 use Rattle.lq_base.specs.declared.value.Value.TheVariants as value
 use Rattle.lq_model.specs.Catalogue.{Catalogue, Table, table_of, the_table, with_table}
 use Rattle.lq_model.specs.Columns.{add_column, columns_without, drop_column, is_only, row_without, without_column}
-use Rattle.lq_model.specs.IntoKind.{is_value_of}
 use Rattle.lq_model.specs.Literals.{column_of, default_value}
 use Rattle.lq_model.specs.Names.{is_empty, is_in}
 use Rattle.lq_model.specs.Needs.{aims_at, is_bound}

@@ -3,7 +3,9 @@ use Rattle.std.proofs.Common.{ap, arith, sym, ◌∙◌}
 use Rattle.std.specs.List.{list_all, list_any}
 use Rattle.std.specs.Option.{unwrap_or}
 use Rattle.std.specs.Prelude.{List, None, Ok, Option, Some, [], cond, false, is_none, is_some, map, not, refl, true, ℕ, ◌&&◌, ◌++◌, ◌+◌, ◌||◌, ◌∷◌, ◌≡◌}
+use Rattle.lq_base.specs.Kind.{is_kind}
 use Rattle.lq_base.specs.Name.{is_name, is_named}
+use Rattle.lq_base.specs.Value.{is_value_of}
 use Rattle.lq_base.specs.declared.dialect.Dialect.{Dialect}
 use Rattle.lq_base.specs.declared.dialect.Dialect.TheVariants.{Mysql, Postgresql}
 use Rattle.lq_base.specs.declared.name.Name.{Name}
@@ -12,7 +14,6 @@ use Rattle.lq_base.specs.declared.value.Value.TheVariants as value
 use Rattle.lq_model.specs.AddConstraint.{add_foreign_key, add_primary_key, add_unique, create_index, with_foreign, with_index, with_key, with_unique}
 use Rattle.lq_model.specs.Catalogue.{Catalogue, Table, table_of, the_table, with_table}
 use Rattle.lq_model.specs.CreateTable.{key_column}
-use Rattle.lq_model.specs.IntoKind.{is_kind, is_value_of}
 use Rattle.lq_model.specs.Kinds.{is_number, kind_of, kinds_differ}
 use Rattle.lq_model.specs.NameSpaces.{AreApart, AreApartWithin, all_foreign_names, foreign_taken, index_taken, key_taken, shared_names, unique_taken}
 use Rattle.lq_model.specs.Names.{is_empty, is_in, repeats, times}

@@ -3,6 +3,7 @@ use Rattle.std.proofs.Common.{ap, sym, ◌∙◌}
 use Rattle.std.specs.List.{list_all}
 use Rattle.std.specs.Prelude.{Bool, List, Ok, Option, [], cond, false, map, refl, true, ℕ, ◌++◌, ◌∷◌, ◌≡◌}
 use Rattle.lq_base.specs.Name.{is_named}
+use Rattle.lq_base.specs.Value.{into_kind, is_value_of}
 use Rattle.lq_base.specs.declared.dialect.Dialect.{Dialect}
 use Rattle.lq_base.specs.declared.kind.Kind.{Kind}
 use Rattle.lq_base.specs.declared.literal.Literal.{Literal}
@@ -11,7 +12,6 @@ use Rattle.lq_base.specs.declared.value.Value.{Value}
 use Rattle.lq_base.specs.declared.value.Value.TheVariants as value
 use Rattle.lq_model.specs.Catalogue.{Catalogue, the_table, with_table}
 use Rattle.lq_model.specs.ChangeColumn.{changed_at, made_nullable, modified, modify, set_not_null, with_changed}
-use Rattle.lq_model.specs.IntoKind.{into_kind, is_value_of}
 use Rattle.lq_model.specs.Kinds.{kind_in}
 use Rattle.lq_model.specs.Literals.{value_in}
 use Rattle.lq_model.specs.Names.{is_in}

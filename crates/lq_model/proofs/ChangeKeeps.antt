@@ -2,7 +2,9 @@
 use Rattle.std.proofs.Common.{ap, sym, ◌∙◌}
 use Rattle.std.specs.List.{list_all, list_any}
 use Rattle.std.specs.Prelude.{Bool, List, None, Ok, Option, Some, [], cond, false, is_none, map, not, refl, true, ℕ, ◌&&◌, ◌||◌, ◌∷◌, ◌≡◌}
+use Rattle.lq_base.specs.Kind.{is_kind}
 use Rattle.lq_base.specs.Name.{is_named}
+use Rattle.lq_base.specs.Value.{into_kind, is_value_of}
 use Rattle.lq_base.specs.declared.dialect.Dialect.{Dialect}
 use Rattle.lq_base.specs.declared.dialect.Dialect.TheVariants.{Mysql, Postgresql}
 use Rattle.lq_base.specs.declared.literal.Literal.{Literal}
@@ -10,7 +12,6 @@ use Rattle.lq_base.specs.declared.name.Name.{Name}
 use Rattle.lq_base.specs.declared.value.Value.{Value}
 use Rattle.lq_model.specs.Catalogue.{Catalogue, Table, table_of, the_table, with_table}
 use Rattle.lq_model.specs.ChangeColumn.{changed_at, drop_default, drop_not_null, made_nullable, set_default, set_not_null, with_changed, with_default}
-use Rattle.lq_model.specs.IntoKind.{into_kind, is_kind, is_value_of}
 use Rattle.lq_model.specs.Kinds.{is_number, kind_in, kind_of}
 use Rattle.lq_model.specs.Literals.{value_in}
 use Rattle.lq_model.specs.NameSpaces.{AreApartWithin}
@@ -26,7 +27,7 @@ use Rattle.lq_model.specs.declared.constraint.Key.{Key}
 use Rattle.lq_model.specs.declared.statement.Statement.TheVariants.{DropDefault, DropNotNull, SetDefault, SetNotNull}
 use Rattle.lq_model.proofs.Between.{name_kept}
 use Rattle.lq_model.proofs.Decide.{accepted, here}
-use Rattle.lq_model.proofs.IntoKind.{into_fits}
+use Rattle.lq_model.proofs.IntoKind.{into_fits, null_fits}
 use Rattle.lq_model.proofs.Kept.{kept_more, same_apart}
 use Rattle.lq_model.proofs.Lists.{all_both, all_more, and_left, and_right, and_true, map-map, map_same, named_itself, none_all, or_left, or_right, same_name, true_false}
 use Rattle.lq_model.proofs.Shaped.{IsShaped, keeps}
@@ -198,7 +199,7 @@ drop_default_keeps by d t n c e k sound made =
     let fine = sound.tables t it there in
     let f = with_default None in
     keeps d p e k made (change_keeps n f (λ x. refl) (λ x. refl) d c t sound there
-    (all_changed n f default_fits it.columns (λ x q h. refl) fine.defaults)
+    (all_changed n f default_fits it.columns (λ x q h. null_fits x.kind) fine.defaults)
     (key_stays_firm n f (λ x. refl) d it fine (λ m q is x h. h))
     (all_changed n f (is_numbered_well it) it.columns (λ x q h. numbered_still x h) fine.numbered))
   where

@@ -4,7 +4,9 @@ use Rattle.std.proofs.Math.Path.{subst}
 use Rattle.std.specs.List.{flat_map, list_all, list_any}
 use Rattle.std.specs.Option.{option_map, unwrap_or}
 use Rattle.std.specs.Prelude.{Bool, List, None, Ok, Option, Some, [], cond, false, is_none, is_some, map, not, refl, true, ℕ, ◌&&◌, ◌++◌, ◌+◌, ◌||◌, ◌∷◌, ◌≡◌, ◌≤◌}
+use Rattle.lq_base.specs.Kind.{is_kind}
 use Rattle.lq_base.specs.Name.{is_name, is_named}
+use Rattle.lq_base.specs.Value.{into_kind, is_value_of}
 use Rattle.lq_base.specs.declared.dialect.Dialect.{Dialect}
 use Rattle.lq_base.specs.declared.dialect.Dialect.TheVariants.{Mysql, Postgresql}
 use Rattle.lq_base.specs.declared.kind.Kind.{Kind}
@@ -14,7 +16,6 @@ use Rattle.lq_base.specs.declared.value.Value.{Value}
 use Rattle.lq_base.specs.declared.value.Value.TheVariants as value
 use Rattle.lq_model.specs.Catalogue.{Catalogue, Sequence, Table, View, no_table, table_of, with_new}
 use Rattle.lq_model.specs.CreateTable.{create_table, depends_in, key_column, lacks_own, lists_twice, new_table, numbers_wrongly, repeats_number}
-use Rattle.lq_model.specs.IntoKind.{into_kind, is_kind, is_value_of}
 use Rattle.lq_model.specs.Kinds.{is_number, kinds_at, kinds_differ, same_kinds}
 use Rattle.lq_model.specs.Literals.{column_of, is_wide, is_wrong, literal_of, value_in}
 use Rattle.lq_model.specs.NameSpaces.{AreApart, AreApartWithin, all_foreign_names, are_clashing, is_taken, object_names, shared_names}

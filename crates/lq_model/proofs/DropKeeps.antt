@@ -2,13 +2,13 @@
 use Rattle.std.proofs.Common.{ap, arith, sym, ◌∙◌}
 use Rattle.std.specs.List.{filter, list_all, list_any}
 use Rattle.std.specs.Prelude.{Bool, List, None, Ok, Option, Some, [], cond, false, is_none, map, not, refl, true, ℕ, ◌&&◌, ◌++◌, ◌||◌, ◌∷◌, ◌≡◌, ◌≤◌}
+use Rattle.lq_base.specs.Kind.{is_kind}
 use Rattle.lq_base.specs.Name.{is_named}
 use Rattle.lq_base.specs.declared.dialect.Dialect.{Dialect}
 use Rattle.lq_base.specs.declared.dialect.Dialect.TheVariants.{Mysql, Postgresql}
 use Rattle.lq_base.specs.declared.name.Name.{Name}
 use Rattle.lq_model.specs.Catalogue.{Catalogue, Table, table_of, the_table, with_table}
 use Rattle.lq_model.specs.DropConstraint.{drop_constraint, drop_foreign_key, drop_index, drop_primary_key, drop_unique, uniques_without, without_constraint, without_foreign, without_index, without_its_key, without_key, without_unique}
-use Rattle.lq_model.specs.IntoKind.{is_kind}
 use Rattle.lq_model.specs.Kinds.{is_number, kind_of, kinds_differ}
 use Rattle.lq_model.specs.NameSpaces.{AreApartWithin}
 use Rattle.lq_model.specs.Names.{is_empty, is_in, repeats, times}

@@ -88,7 +88,7 @@ where_id n = Some (Compare Eq (operand.Column id) (operand.Literal (number n)))
 
 abbrev pub parents : List (List Value) → Table
 parents rows = record {
-  columns = column id kind.Int false None false ∷ column code (kind.Varchar 3) false (Some (value.Text (codes "a"))) false ∷ column at kind.Moment true None false ∷ [];
+  columns = column id kind.Int false None false ∷ column code kind.Text false (Some (value.Text (codes "a"))) false ∷ column at kind.Moment true None false ∷ [];
   key = Some (key_on (codes "pk_parent") (id ∷ []));
   uniques = unique_on (codes "uq_code") (code ∷ []) ∷ [];
   foreign = [];

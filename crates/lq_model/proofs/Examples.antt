@@ -1,10 +1,10 @@
 -- Worked examples: the first reason against a statement, each table computed from the definitions.
 use Rattle.std.specs.Prelude.{None, Ok, Some, [], codes, false, pos, refl, replicate, true, ◌∷◌, ◌≡◌}
+use Rattle.lq_base.specs.Value.{into_kind}
 use Rattle.lq_base.specs.declared.dialect.Dialect.TheVariants.{Mysql, Postgresql}
 use Rattle.lq_base.specs.declared.kind.Kind.TheVariants as kind
 use Rattle.lq_base.specs.declared.literal.Literal.TheVariants as literal
 use Rattle.lq_base.specs.declared.reason.Reason.TheVariants.{Depends, Duplicate, Exists, HasChildren, Missing, NoParent, NullFound, Reserved, TooWide, WrongKind}
-use Rattle.lq_model.specs.IntoKind.{into_kind}
 use Rattle.lq_model.specs.Plan.{decide}
 use Rattle.lq_model.specs.ResultTests.{is_full}
 use Rattle.lq_model.specs.Step.{step}
@@ -64,7 +64,7 @@ pub insert_refused : refusals User Postgresql world (
     ∷ Insert parent (id ∷ id ∷ []) (number (pos 1) ∷ number (pos 1) ∷ [])
     ∷ Insert parent (id ∷ code ∷ []) (number (pos 1) ∷ [])
     ∷ Insert parent (id ∷ []) (literal.Bool true ∷ [])
-    ∷ Insert parent (id ∷ code ∷ []) (number (pos 3) ∷ text (codes "long") ∷ [])
+    ∷ Insert parent (id ∷ code ∷ []) (number (pos 2147483648) ∷ text (codes "c") ∷ [])
     ∷ Insert parent (code ∷ []) (text (codes "c") ∷ [])
     ∷ Insert parent (id ∷ code ∷ []) (number (pos 3) ∷ text (codes "b") ∷ [])
     ∷ Insert child (up ∷ []) (number (pos 3) ∷ [])
@@ -91,7 +91,7 @@ pub update_refused : refusals User Postgresql world (
     ∷ Update parent ((id, number (pos 1)) ∷ (id, number (pos 1)) ∷ []) None
     ∷ Update parent ((id, literal.Bool true) ∷ []) (where_id (pos 9))
     ∷ Update parent ((id, number (pos 9)) ∷ []) (Some (Compare Eq (operand.Column id) (operand.Column code)))
-    ∷ Update parent ((code, text (codes "long")) ∷ []) (where_id (pos 9))
+    ∷ Update parent ((id, number (pos 2147483648)) ∷ []) (where_id (pos 9))
     ∷ Update parent ((code, literal.Null) ∷ []) (where_id (pos 1))
     ∷ Update parent ((code, text (codes "b")) ∷ []) (where_id (pos 1))
     ∷ Update child ((up, number (pos 3)) ∷ []) None

@@ -2,14 +2,15 @@
 use Rattle.std.proofs.Common.{ap, sym, ◌∙◌}
 use Rattle.std.specs.List.{list_all}
 use Rattle.std.specs.Prelude.{Bool, List, None, Ok, Option, Some, [], cond, false, map, not, refl, true, ℕ, ◌&&◌, ◌||◌, ◌∷◌, ◌≡◌}
+use Rattle.lq_base.specs.Kind.{is_kind}
 use Rattle.lq_base.specs.Name.{is_named}
+use Rattle.lq_base.specs.Value.{is_value_of}
 use Rattle.lq_base.specs.declared.dialect.Dialect.{Dialect}
 use Rattle.lq_base.specs.declared.kind.Kind.{Kind}
 use Rattle.lq_base.specs.declared.name.Name.{Name}
 use Rattle.lq_base.specs.declared.value.Value.{Value}
 use Rattle.lq_model.specs.Catalogue.{Catalogue, Table, table_of, the_table, with_table}
 use Rattle.lq_model.specs.ChangeColumn.{changed_at, kind_needed, modified, modify, with_changed}
-use Rattle.lq_model.specs.IntoKind.{is_kind, is_value_of}
 use Rattle.lq_model.specs.Kinds.{kind_of, same_kind}
 use Rattle.lq_model.specs.Names.{is_in, repeats}
 use Rattle.lq_model.specs.Needs.{is_aimed, is_in_foreign, is_in_key, is_shown}
@@ -24,6 +25,7 @@ use Rattle.lq_model.proofs.Between.{name_kept}
 use Rattle.lq_model.proofs.ChangeKeeps.{all_changed, change_sound, key_stays_firm, unchanged}
 use Rattle.lq_model.proofs.Decide.{IsAccepted, accepted, here}
 use Rattle.lq_model.proofs.EqualKinds.{equal_kind}
+use Rattle.lq_model.proofs.IntoKind.{null_fits}
 use Rattle.lq_model.proofs.Kept.{kept_foreign, kept_more, same_apart}
 use Rattle.lq_model.proofs.Lists.{all_both, all_more, all_none, and_left, and_right, and_true, or_left, or_right, same_name, true_false, whether}
 use Rattle.lq_model.proofs.Shaped.{IsShaped, keeps, shape_of}
@@ -101,7 +103,7 @@ module _ (by : By) (d : Dialect) (t n : Name) (k : Kind) (b : Bool) (c e : Catal
   table_fine : IsSoundTable d new'
   table_fine = change_sound n f' (λ x. refl) d old fine
       (all_changed n f' (λ x. is_kind x.kind) old.columns (λ x q h. known) fine.kinds) rows_fit
-      (all_changed n f' default_fits old.columns (λ x q h. refl) fine.defaults)
+      (all_changed n f' default_fits old.columns (λ x q h. null_fits k) fine.defaults)
       (key_stays_firm n f' (λ x. refl) d old fine no_null_in_key)
       (all_changed n f' (is_numbered_well old) old.columns (λ x q h. refl) fine.numbered)
 

@@ -3,6 +3,7 @@ use Rattle.std.proofs.Common.{◌∙◌}
 use Rattle.std.specs.List.{filter, list_all, list_any}
 use Rattle.std.specs.Prelude.{Bool, List, Ok, Option, [], cond, false, map, not, pos, refl, suc, true, zero, ℕ, ◌∷◌, ◌≡◌}
 use Rattle.lq_base.specs.Name.{is_named}
+use Rattle.lq_base.specs.Value.{into_kind, is_value_of}
 use Rattle.lq_base.specs.declared.dialect.Dialect.{Dialect}
 use Rattle.lq_base.specs.declared.literal.Literal.{Literal}
 use Rattle.lq_base.specs.declared.literal.Literal.TheVariants as literal
@@ -11,7 +12,6 @@ use Rattle.lq_base.specs.declared.value.Value.{Value}
 use Rattle.lq_model.specs.Catalogue.{Catalogue, the_table, with_table}
 use Rattle.lq_model.specs.Delete.{cascaded, delete, is_lost, row_count, without_lost, without_taken}
 use Rattle.lq_model.specs.Insert.{cell, insert, row_of, stated, with_row}
-use Rattle.lq_model.specs.IntoKind.{into_kind, is_value_of}
 use Rattle.lq_model.specs.Kinds.{kind_in}
 use Rattle.lq_model.specs.Literals.{default_value, is_wide, is_wrong, value_in}
 use Rattle.lq_model.specs.Row.{row_fits}

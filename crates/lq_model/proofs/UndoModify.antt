@@ -4,6 +4,7 @@ use Rattle.std.proofs.lemmas.Bool.{eq-eqb}
 use Rattle.std.specs.List.{list_any}
 use Rattle.std.specs.Prelude.{Bool, List, None, Ok, Option, Some, [], cond, false, is_none, map, not, refl, true, ℕ, ◌&&◌, ◌||◌, ◌∷◌, ◌≡◌}
 use Rattle.lq_base.specs.Name.{is_named}
+use Rattle.lq_base.specs.Value.{is_value_of}
 use Rattle.lq_base.specs.declared.dialect.Dialect.{Dialect}
 use Rattle.lq_base.specs.declared.kind.Kind.{Kind}
 use Rattle.lq_base.specs.declared.kind.Kind.TheVariants as kind
@@ -11,7 +12,6 @@ use Rattle.lq_base.specs.declared.name.Name.{Name}
 use Rattle.lq_base.specs.declared.value.Value.{Value}
 use Rattle.lq_model.specs.Catalogue.{Catalogue, Table, table_of, the_table}
 use Rattle.lq_model.specs.ChangeColumn.{changed_at, is_variant, modified, modify, with_changed}
-use Rattle.lq_model.specs.IntoKind.{is_value_of}
 use Rattle.lq_model.specs.Kinds.{equal_kinds, kind_of, same_kind}
 use Rattle.lq_model.specs.Names.{is_in}
 use Rattle.lq_model.specs.Needs.{is_aimed, is_in_foreign, is_in_key, is_shown}

@@ -2,6 +2,7 @@
 use Rattle.std.specs.List.{list_any}
 use Rattle.std.specs.Prelude.{Bool, None, Option, Some, [], cond, false, is_none, map, nat_eq, not, true, ◌&&◌, ◌||◌, ◌∷◌}
 use Rattle.lq_base.specs.Name.{is_named}
+use Rattle.lq_base.specs.Value.{into_kind, is_value_of}
 use Rattle.lq_base.specs.declared.dialect.Dialect.{Dialect}
 use Rattle.lq_base.specs.declared.kind.Kind.{Kind}
 use Rattle.lq_base.specs.declared.kind.Kind.TheVariants as kind
@@ -10,7 +11,6 @@ use Rattle.lq_base.specs.declared.name.Name.{Name}
 use Rattle.lq_base.specs.declared.value.Value.{Value}
 use Rattle.lq_base.specs.declared.value.Value.TheVariants as value
 use Rattle.lq_model.specs.Catalogue.{Catalogue, Table, table_of, the_table, with_table}
-use Rattle.lq_model.specs.IntoKind.{into_kind, is_value_of}
 use Rattle.lq_model.specs.Kinds.{kind_in, kind_of, same_kind}
 use Rattle.lq_model.specs.Literals.{is_wide, is_wrong, value_in}
 use Rattle.lq_model.specs.Needs.{is_aimed, is_in_foreign, is_in_key, is_shown}

@@ -1,11 +1,11 @@
 -- ADD COLUMN and DROP COLUMN.
 use Rattle.std.specs.Prelude.{Bool, List, [], cond, false, is_none, map, not, true, ◌++◌, ◌||◌, ◌∷◌}
 use Rattle.lq_base.specs.Name.{is_named}
+use Rattle.lq_base.specs.Value.{into_kind}
 use Rattle.lq_base.specs.declared.dialect.Dialect.{Dialect}
 use Rattle.lq_base.specs.declared.name.Name.{Name}
 use Rattle.lq_base.specs.declared.value.Value.{Value}
 use Rattle.lq_model.specs.Catalogue.{Catalogue, Table, table_of, the_table, with_table}
-use Rattle.lq_model.specs.IntoKind.{into_kind}
 use Rattle.lq_model.specs.Literals.{column_of, default_value, is_wide, is_wrong, literal_of}
 use Rattle.lq_model.specs.Needs.{is_aimed, is_bound, is_shown}
 use Rattle.lq_model.specs.Plan.{Plan, unopposed}

@@ -1,10 +1,10 @@
 -- What may be compared with what: numbers with numbers, texts with texts, truth values with truth values, moments with moments or with text literals that are moments, and a null literal with everything.
 use Rattle.std.specs.Prelude.{Bool, List, None, Option, Some, cond, false, is_ok, not, true, ◌&&◌}
+use Rattle.lq_base.specs.Value.{into_kind}
 use Rattle.lq_base.specs.declared.kind.Kind.{Kind}
 use Rattle.lq_base.specs.declared.kind.Kind.TheVariants as kind
 use Rattle.lq_base.specs.declared.literal.Literal.{Literal}
 use Rattle.lq_base.specs.declared.literal.Literal.TheVariants as literal
-use Rattle.lq_model.specs.IntoKind.{into_kind}
 use Rattle.lq_model.specs.Kinds.{kind_of}
 use Rattle.lq_model.specs.Truth.{Both, Either, Turned}
 use Rattle.lq_model.specs.declared.column.Column.{Column}

@@ -1,10 +1,10 @@
 -- CREATE TABLE.
 use Rattle.std.specs.List.{filter, list_any}
 use Rattle.std.specs.Prelude.{Bool, List, Option, [], cond, false, is_none, is_some, length, map, nat_le, not, ◌&&◌, ◌++◌, ◌||◌, ◌∷◌}
+use Rattle.lq_base.specs.Value.{into_kind}
 use Rattle.lq_base.specs.declared.dialect.Dialect.{Dialect}
 use Rattle.lq_base.specs.declared.name.Name.{Name}
 use Rattle.lq_model.specs.Catalogue.{Catalogue, Table, table_of, the_table, with_new}
-use Rattle.lq_model.specs.IntoKind.{into_kind}
 use Rattle.lq_model.specs.Kinds.{is_number, kinds_differ}
 use Rattle.lq_model.specs.Literals.{column_of, is_wide, is_wrong, literal_of}
 use Rattle.lq_model.specs.NameSpaces.{are_clashing, is_taken}

@@ -2,6 +2,7 @@
 use Rattle.std.specs.List.{list_any}
 use Rattle.std.specs.Prelude.{List, Ok, Result, [], cond, is_none, length, map, max, not, pos, ℕ, ◌++◌, ◌+◌, ◌==◌, ◌||◌, ◌∷◌}
 use Rattle.lq_base.specs.Name.{is_named}
+use Rattle.lq_base.specs.Value.{into_kind}
 use Rattle.lq_base.specs.declared.dialect.Dialect.{Dialect}
 use Rattle.lq_base.specs.declared.dialect.Dialect.TheVariants.{Mysql}
 use Rattle.lq_base.specs.declared.literal.Literal.{Literal}
@@ -11,7 +12,6 @@ use Rattle.lq_base.specs.declared.reason.Reason.{Reason}
 use Rattle.lq_base.specs.declared.value.Value.{Value}
 use Rattle.lq_base.specs.declared.value.Value.TheVariants as value
 use Rattle.lq_model.specs.Catalogue.{Catalogue, Table, table_of, the_table, with_table}
-use Rattle.lq_model.specs.IntoKind.{into_kind}
 use Rattle.lq_model.specs.Literals.{default_value, is_wide, is_wrong, value_in}
 use Rattle.lq_model.specs.Names.{is_empty, is_in, repeats}
 use Rattle.lq_model.specs.Plan.{Plan, unopposed}

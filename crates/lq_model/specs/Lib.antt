@@ -9,7 +9,6 @@ pub mod Delete
 pub mod DropConstraint
 pub mod DropTable
 pub mod Insert
-pub mod IntoKind
 pub mod KeepsSound
 pub mod Kinds
 pub mod Literals

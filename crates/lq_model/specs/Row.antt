@@ -3,10 +3,10 @@ use Rattle.std.specs.List.{list_any}
 use Rattle.std.specs.Ordering.{int_eq}
 use Rattle.std.specs.Prelude.{Bool, List, [], cond, false, map, nat_eq, not, true, ◌&&◌, ◌||◌, ◌∷◌}
 use Rattle.lq_base.specs.Name.{is_named}
+use Rattle.lq_base.specs.Value.{is_value_of}
 use Rattle.lq_base.specs.declared.name.Name.{Name}
 use Rattle.lq_base.specs.declared.value.Value.{Value}
 use Rattle.lq_base.specs.declared.value.Value.TheVariants as value
-use Rattle.lq_model.specs.IntoKind.{is_value_of}
 use Rattle.lq_model.specs.declared.column.Column.{Column}
 
 abbrev pub is_null : Value → Bool

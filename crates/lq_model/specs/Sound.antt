@@ -5,14 +5,15 @@ use Rattle.std.specs.Map.{keys_of}
 use Rattle.std.specs.Option.{unwrap_or}
 use Rattle.std.specs.Ordering.{int_eq}
 use Rattle.std.specs.Prelude.{Bool, List, Option, Some, [], codes, false, is_none, is_some, not, pos, true, ◌&&◌, ◌||◌, ◌∷◌, ◌≡◌}
+use Rattle.lq_base.specs.Kind.{is_kind}
 use Rattle.lq_base.specs.Name.{is_named, name_cmp}
+use Rattle.lq_base.specs.Value.{is_value_of}
 use Rattle.lq_base.specs.declared.dialect.Dialect.{Dialect}
 use Rattle.lq_base.specs.declared.dialect.Dialect.TheVariants.{Mysql, Postgresql}
 use Rattle.lq_base.specs.declared.name.Name.{Name}
 use Rattle.lq_base.specs.declared.value.Value.TheVariants as value
 use Rattle.lq_model.specs.Catalogue.{Catalogue, Sequence, Table, View, table_of, the_table}
 use Rattle.lq_model.specs.Comparison.{compares_wrongly}
-use Rattle.lq_model.specs.IntoKind.{is_kind, is_value_of}
 use Rattle.lq_model.specs.Kinds.{is_number, kinds_differ}
 use Rattle.lq_model.specs.NameSpaces.{AreApart, AreApartWithin}
 use Rattle.lq_model.specs.Names.{is_empty, is_in, repeats, same_names}

@@ -1,9 +1,9 @@
 -- What a text can spell of a literal and a test.
 use Rattle.std.specs.List.{list_all}
-use Rattle.std.specs.Prelude.{Bool, List, None, Option, Some, [], max, nat_le, nat_lt, true, unsigned_abs, ℕ, ◌&&◌, ◌++◌, ◌+◌, ◌^◌, ◌∷◌}
+use Rattle.std.specs.Prelude.{Bool, List, None, Option, Some, [], int_le, max, nat_le, neg_ℤ, pos, true, unsigned_abs, ℕ, ◌&&◌, ◌++◌, ◌+◌, ◌-◌, ◌^◌, ◌∷◌}
+use Rattle.lq_base.specs.Number.{has_digits}
 use Rattle.lq_base.specs.declared.literal.Literal.{Literal}
 use Rattle.lq_base.specs.declared.literal.Literal.TheVariants as literal
-use Rattle.lq_model.specs.IntoKind.{fits_bits}
 use Rattle.lq_model.specs.Truth.{Both, Either, Turned}
 use Rattle.lq_model.specs.declared.test.Operand.{Operand}
 use Rattle.lq_model.specs.declared.test.Operand.TheVariants as operand
@@ -11,8 +11,8 @@ use Rattle.lq_model.specs.declared.test.Test.{Compare, IsNull, NotNull, Test}
 
 -- a number within 128 signed bits, a decimal number with a digit after the point and at most 38 digits
 abbrev pub is_literal : Literal → Bool
-is_literal (literal.Int n) = fits_bits n (2 ^ 127)
-is_literal (literal.Fixed u s) = nat_le 1 s && (nat_le s 37 && nat_lt (unsigned_abs u) (10 ^ 38))
+is_literal (literal.Int n) = int_le (neg_ℤ (pos (2 ^ 127))) n && int_le n (pos (2 ^ 127 - 1))
+is_literal (literal.Fixed u s) = nat_le 1 s && (nat_le s 37 && has_digits 38 (unsigned_abs u))
 is_literal _ = true
 
 abbrev pub operand_literals : Operand → List Literal

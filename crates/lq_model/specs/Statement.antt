@@ -3,12 +3,12 @@ use Rattle.std.specs.List.{list_all}
 use Rattle.std.specs.Option.{unwrap_or}
 use Rattle.std.specs.Ordering.{int_eq}
 use Rattle.std.specs.Prelude.{Bool, List, Option, [], false, is_none, is_some, not, pos, true, ◌&&◌}
+use Rattle.lq_base.specs.Kind.{is_kind}
 use Rattle.lq_base.specs.Name.{is_name}
 use Rattle.lq_base.specs.declared.dialect.Dialect.{Dialect}
 use Rattle.lq_base.specs.declared.dialect.Dialect.TheVariants.{Mysql, Postgresql}
 use Rattle.lq_base.specs.declared.literal.Literal.TheVariants as literal
 use Rattle.lq_base.specs.declared.name.Name.{Name}
-use Rattle.lq_model.specs.IntoKind.{is_kind}
 use Rattle.lq_model.specs.Literals.{literal_of}
 use Rattle.lq_model.specs.Names.{is_empty}
 use Rattle.lq_model.specs.Sound.{is_key_name}

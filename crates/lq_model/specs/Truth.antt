@@ -4,6 +4,7 @@ use Rattle.std.specs.Ordering.{bool_cmp, int_cmp, is_eq, is_gt, is_lt, ordering_
 use Rattle.std.specs.Prelude.{Bool, List, None, Ok, Option, Result, Some, [], false, not, pos, refl, true, ℕ, ℤ, ◌*ℤ◌, ◌++◌, ◌^◌, ◌∷◌, ◌≡◌}
 use Rattle.std.specs.declared.cmp.Ordering.{Ordering}
 use Rattle.lq_base.specs.Name.{name_cmp}
+use Rattle.lq_base.specs.Value.{into_kind}
 use Rattle.lq_base.specs.declared.kind.Kind.TheVariants as kind
 use Rattle.lq_base.specs.declared.literal.Literal.{Literal}
 use Rattle.lq_base.specs.declared.literal.Literal.TheVariants as literal
@@ -11,7 +12,6 @@ use Rattle.lq_base.specs.declared.name.Name.{Name}
 use Rattle.lq_base.specs.declared.reason.Reason.{Reason}
 use Rattle.lq_base.specs.declared.value.Value.{Value}
 use Rattle.lq_base.specs.declared.value.Value.TheVariants as value
-use Rattle.lq_model.specs.IntoKind.{into_kind}
 use Rattle.lq_model.specs.Row.{by_name, is_null}
 use Rattle.lq_model.specs.declared.column.Column.{Column}
 use Rattle.lq_model.specs.declared.test.Op.{Op}

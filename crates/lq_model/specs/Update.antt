@@ -2,6 +2,7 @@
 use Rattle.std.specs.List.{filter, list_any}
 use Rattle.std.specs.Prelude.{List, Option, Result, [], cond, is_none, length, map, ◌||◌, ◌∷◌}
 use Rattle.lq_base.specs.Name.{is_named}
+use Rattle.lq_base.specs.Value.{into_kind}
 use Rattle.lq_base.specs.declared.dialect.Dialect.{Dialect}
 use Rattle.lq_base.specs.declared.literal.Literal.{Literal}
 use Rattle.lq_base.specs.declared.name.Name.{Name}
@@ -9,7 +10,6 @@ use Rattle.lq_base.specs.declared.reason.Reason.{Reason}
 use Rattle.lq_base.specs.declared.value.Value.{Value}
 use Rattle.lq_model.specs.Catalogue.{Catalogue, Table, table_of, the_table, with_table}
 use Rattle.lq_model.specs.Comparison.{compares_wrongly}
-use Rattle.lq_model.specs.IntoKind.{into_kind}
 use Rattle.lq_model.specs.Kinds.{kind_in}
 use Rattle.lq_model.specs.Literals.{is_wide, is_wrong, value_in}
 use Rattle.lq_model.specs.Names.{repeats}
