@@ -26,6 +26,7 @@ pub mod Maps
 pub mod ModifyKeeps
 pub mod MovedEntries
 pub mod NameCounts
+pub mod RenameTables
 pub mod Rows
 pub mod Sequences
 pub mod Shaped
