@@ -2,12 +2,12 @@
 use Rattle.std.proofs.Common.{◌≡◌, ◌+◌, ◌-◌, ◌<◌, ◌≤◌, ◌^◌, ◌⊎◌, inl, inr, ℕ, Bool, true, false, nat_le, nat_lt, is_some, List, [], ◌∷◌, ◌++◌, length, take, drop, Ok, Err, Option, None, Some, IfSome, unwrap_or, refl, sym, ◌∙◌, ap, subst, arith, length-append, length-drop, if◌then◌else◌, bytes_eq}
 use Rattle.std.specs.Option.{option_map}
 use Rattle.std.proofs.lemmas.Bool.Decides.{nat_tests}
-use Rattle.std.proofs.lemmas.List.{append_assoc, append-nil, take_at, drop_at}
+use Rattle.std.proofs.lemmas.List.{append_assoc, take_at, drop_at}
 use Rattle.lq_base.specs.declared.dialect.Dialect.{Dialect}
 use Rattle.lq_base.specs.declared.dialect.Dialect.TheVariants.{Postgresql, Mysql}
 use Rattle.lq_outside.specs.Bytes.{written}
 use Rattle.lq_journal.specs.declared.entry.Entry.{Entry}
-use Rattle.lq_journal.specs.Body.{number, front_number, body_of, entry_of, texts_of, is_body, AreTexts}
+use Rattle.lq_journal.specs.Body.{number, front_number, body_of, entry_of, texts_of, AreTexts}
 use Rattle.lq_journal.specs.Frames.{entries_from, header, frames_of, frames, IsEntry, AreEntries}
 use Rattle.lq_journal.specs.Journal.{texts_in, placed, read_frames, journal_of, with_last}
 use Rattle.lq_journal.specs.State.{Holds, Stands}
@@ -153,8 +153,19 @@ pub room : (dialect : Dialect) (limit : ℕ) (entries : List (List ℕ)) (used g
 room dialect limit entries used gate before bytes holds fits =
     let front = header dialect ++ frames entries in
     let within = holds.within in
-    omega (arith, fits, within, holds.place, header-length dialect, length-append (header dialect) (frames entries), ap length holds.is, length-append front (holds.gate ∷ holds.tail),
-      length-append front (gate ∷ (bytes ++ drop (length bytes) holds.tail)), length-append bytes (drop (length bytes) holds.tail), length-drop (length bytes) holds.tail)
+    omega (
+      arith,
+      fits,
+      within,
+      holds.place,
+      header-length dialect,
+      length-append (header dialect) (frames entries),
+      ap length holds.is,
+      length-append front (holds.gate ∷ holds.tail),
+      length-append front (gate ∷ (bytes ++ drop (length bytes) holds.tail)),
+      length-append bytes (drop (length bytes) holds.tail),
+      length-drop (length bytes) holds.tail,
+    )
 
 pub after : (dialect : Dialect) (limit : ℕ) (entries : List (List ℕ)) (used gate : ℕ) (before : List ℕ) (texts : List (List ℕ)) (bytes : List ℕ) → Holds dialect limit entries used before
     → (closed : Closed texts bytes) → gate ≡ used - 1 → used + length bytes ≤ limit
@@ -197,5 +208,5 @@ journal_after dialect limit None t4 used gate texts bytes ready closed gate_is f
 journal_after dialect limit (Some before) t4 used gate texts bytes ready closed gate_is fits is =
     ap (option_map (journal_of dialect limit)) is
     ∙ ap Some (journal_is dialect limit (ready.0 ++ closed.entry ∷ []) (used + length bytes) (written gate (1 ∷ []) (written used bytes before))
-      (after dialect limit ready.0 used gate before texts bytes ready.1 closed gate_is fits)
+    (after dialect limit ready.0 used gate before texts bytes ready.1 closed gate_is fits)
     ∙ sym (with_more dialect limit ready.0 used before texts bytes ready.1 closed))

@@ -1,5 +1,5 @@
 -- What a crash leaves while an entry is appended, and what a read gives after a failure.
-use Rattle.std.proofs.Common.{◌≡◌, ◌+◌, ◌-◌, ◌<◌, ◌≤◌, ◌⊎◌, inl, inr, ℕ, true, List, [], ◌∷◌, ◌++◌, length, take, drop, Ok, Err, Result, Option, None, Some, IfSome, OnErr, max, refl, sym, ◌∙◌, ap, subst, arith, length-append, length-drop, take-append-drop}
+use Rattle.std.proofs.Common.{◌≡◌, ◌+◌, ◌-◌, ◌<◌, ◌≤◌, inl, inr, ℕ, true, List, [], ◌∷◌, ◌++◌, length, take, drop, Ok, Err, Result, Option, None, Some, IfSome, OnErr, refl, sym, ◌∙◌, ap, subst, arith, length-append, length-drop, take-append-drop}
 use Rattle.std.specs.Option.{option_map}
 use Rattle.std.proofs.lemmas.Bool.{cases_eq}
 use Rattle.std.proofs.lemmas.List.{take_at, drop_at, drop-drop}
@@ -8,7 +8,7 @@ use Rattle.lq_outside.specs.Bytes.{written, Torn, Tears}
 use Rattle.lq_outside.specs.Crash.{Crashes, LeavesOnly, Half, Settled}
 use Rattle.lq_outside.proofs.Moments.{then, weaker}
 use Rattle.lq_journal.specs.Frames.{header, frames}
-use Rattle.lq_journal.specs.Journal.{journal_of, with_last, IsSameOrMore, StandsForSameOrMore}
+use Rattle.lq_journal.specs.Journal.{journal_of, IsSameOrMore, StandsForSameOrMore}
 use Rattle.lq_journal.specs.State.{Holds, Stands}
 use Rattle.lq_journal.proofs.Written.{ends_with}
 use Rattle.lq_journal.proofs.Appended.{Closed, header-length, journal_is, staged, room, open_holds, with_more}
@@ -60,12 +60,17 @@ opening dialect limit entries used gate before texts bytes c holds closed gate_i
     elim (cases_eq any.0 1) [
       | inl is_open ↦ inr (ap (journal_of dialect limit) (any.1 ∙ ap (λ (x : ℕ). front ++ x ∷ (bytes ++ rest)) is_open)
           ∙ journal_is dialect limit (entries ++ closed.entry ∷ []) (used + length bytes) (front ++ 1 ∷ (bytes ++ rest))
-            (open_holds dialect limit entries used texts bytes rest holds.whole holds.place closed (room dialect limit entries used 1 before bytes holds fits))
+          (open_holds dialect limit entries used texts bytes rest holds.whole holds.place closed (room dialect limit entries used 1 before bytes holds fits))
           ∙ sym (with_more dialect limit entries used before texts bytes holds closed))
       | inr shut ↦ inl (journal_is dialect limit entries used c record {
-          gate = any.0; tail = bytes ++ rest; is = any.1; closed = shut; place = holds.place; whole = holds.whole;
-          within = subst (λ (l : List ℕ). length l ≤ limit) (sym any.1) (room dialect limit entries used any.0 before bytes holds fits);
-        } ∙ sym (journal_is dialect limit entries used before holds))
+        gate = any.0;
+        tail = bytes ++ rest;
+        is = any.1;
+        closed = shut;
+        place = holds.place;
+        whole = holds.whole;
+        within = subst (λ (l : List ℕ). length l ≤ limit) (sym any.1) (room dialect limit entries used any.0 before bytes holds fits);
+      } ∙ sym (journal_is dialect limit entries used before holds))
     ]
 
 same_behind : (dialect : Dialect) (limit : ℕ) (entries : List (List ℕ)) (used n : ℕ) (before c : List ℕ) → Holds dialect limit entries used before → used + n ≤ limit → Torn used n before c

@@ -1,8 +1,8 @@
 -- Steps of reading entries, and their ends.
-use Rattle.std.proofs.Common.{◌≡◌, ◌+◌, ◌-◌, ◌<◌, ◌≤◌, ◌⊎◌, inl, inr, ℕ, Bool, true, false, nat_lt, ◌&&◌, is_some, List, [], ◌∷◌, ◌++◌, length, take, drop, Ok, Err, Option, None, Some, unwrap_or, refl, sym, ◌∙◌, ap, subst, arith, length-append, length-take, length-drop, take-append-drop, if◌then◌else◌, bytes_eq}
+use Rattle.std.proofs.Common.{◌≡◌, ◌+◌, ◌-◌, ◌<◌, ◌≤◌, ℕ, Bool, true, false, nat_lt, ◌&&◌, is_some, List, [], ◌∷◌, ◌++◌, length, take, drop, Ok, Err, Option, None, Some, unwrap_or, refl, sym, ◌∙◌, ap, arith, length-append, length-drop, take-append-drop, if◌then◌else◌, bytes_eq}
 use Rattle.std.specs.List.{sum_by}
 use Rattle.std.proofs.lemmas.Bool.Decides.{nat_tests}
-use Rattle.std.proofs.lemmas.List.{append_assoc, append-nil, take_at, drop_at, length-take-le}
+use Rattle.std.proofs.lemmas.List.{append_assoc, take_at}
 use Rattle.std.proofs.lemmas.List.Sums.{sum_by-cons}
 use Rattle.lq_base.specs.declared.dialect.Dialect.{Dialect}
 use Rattle.lq_journal.specs.declared.entry.Entry.{Entry}

@@ -1,7 +1,7 @@
 -- The state of a journal after it was loaded, and after its header was written.
-use Rattle.std.proofs.Common.{◌≡◌, ◌+◌, ◌-◌, ◌<◌, ◌≤◌, inl, ℕ, Bool, true, false, List, [], ◌∷◌, ◌++◌, length, take, drop, Ok, Option, None, Some, IfSome, max, refl, sym, ◌∙◌, ap, subst, arith, length-append, length-drop}
+use Rattle.std.proofs.Common.{◌≡◌, ◌+◌, ◌≤◌, inl, ℕ, Bool, true, false, List, [], ◌∷◌, ◌++◌, length, Ok, Option, None, Some, IfSome, refl, sym, ◌∙◌, ap, subst, arith, length-append}
 use Rattle.std.specs.Option.{option_map}
-use Rattle.std.proofs.lemmas.List.{append-nil, append_assoc, drop_all}
+use Rattle.std.proofs.lemmas.List.{append-nil, drop_all}
 use Rattle.lq_base.specs.declared.dialect.Dialect.{Dialect}
 use Rattle.lq_outside.specs.Bytes.{written, Torn, Tears}
 use Rattle.lq_outside.specs.Crash.{Crashes, IsSound, LeavesOnly, Half, Settled}
@@ -11,7 +11,7 @@ use Rattle.lq_journal.specs.declared.reading.Found.{Found}
 use Rattle.lq_journal.specs.Frames.{header, frames}
 use Rattle.lq_journal.specs.Journal.{journal_of, StandsForSame, StandsForSameOrMore}
 use Rattle.lq_journal.specs.Reading.{FoundOn}
-use Rattle.lq_journal.specs.State.{disk_of, dialect_of, limit_of, used_of, is_prepared, Holds, Stands, IsLoaded, IsReady}
+use Rattle.lq_journal.specs.State.{dialect_of, limit_of, used_of, is_prepared, Holds, Stands, IsLoaded, IsReady}
 use Rattle.lq_journal.proofs.Appended.{header-length}
 use Rattle.lq_journal.proofs.Entries.{short}
 

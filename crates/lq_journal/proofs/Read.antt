@@ -1,13 +1,11 @@
 -- Steps of reading a journal, and its ends.
-use Rattle.std.proofs.Common.{◌≡◌, ◌+◌, ◌-◌, ◌<◌, ◌≤◌, ℕ, Bool, true, false, nat_lt, ◌&&◌, List, [], ◌∷◌, ◌++◌, length, take, drop, Ok, Err, Option, None, Some, refl, sym, ◌∙◌, ap, subst, arith, length-append, length-take, length-drop, take-append-drop, if◌then◌else◌}
+use Rattle.std.proofs.Common.{◌≡◌, ◌<◌, ◌≤◌, ℕ, Bool, true, false, List, [], ◌∷◌, ◌++◌, length, take, drop, Option, None, Some, refl, sym, ◌∙◌, ap, arith, length-drop, take-append-drop, if◌then◌else◌}
 use Rattle.std.specs.Option.{option_map}
 use Rattle.std.specs.Str.{is_utf8, IsUtf8}
-use Rattle.std.proofs.lemmas.Bool.{cases_eq}
-use Rattle.std.proofs.lemmas.Bool.Decides.{nat_tests}
 use Rattle.std.proofs.lemmas.List.{append_assoc, append-nil, take_at, length-take-le}
 use Rattle.std.proofs.lemmas.Str.{IsUtf8-from_is_utf8, is_utf8-from_IsUtf8}
 use Rattle.lq_journal.specs.Body.{front_number, with_text, texts_from}
-use Rattle.lq_journal.proofs.Texts.{passes_text, texts_step, texts_past, texts_short, with_text-none, with_text-utf8}
+use Rattle.lq_journal.proofs.Texts.{passes_text, texts_step, texts_past, with_text-none, with_text-utf8}
 
 -- behind a length its text is read, and then what follows
 texts_at : (bytes : List ℕ) → 4 ≤ length bytes → texts_from 0 bytes ≡ with_text (take (front_number bytes) (drop 4 bytes)) (texts_from (front_number bytes) (drop 4 bytes))
@@ -80,8 +78,7 @@ pub text_cut : (bytes rest text after : List ℕ) (n : ℕ) → 4 ≤ length byt
     → (texts_from 0 bytes ≡ with_text text (texts_from 0 after)) × (length after < length bytes)
 text_cut bytes rest text after n size n_is rest_is text_is after_is fits =
     let whole : drop 4 bytes ≡ text ++ after =
-    sym rest_is ∙ sym (take-append-drop n rest) ∙ ap (λ (l : List ℕ). l ++ drop n rest) (sym text_is) ∙ ap (λ (l : List ℕ). text ++ l) (sym after_is) in
-    (
+    sym rest_is ∙ sym (take-append-drop n rest) ∙ ap (λ (l : List ℕ). l ++ drop n rest) (sym text_is) ∙ ap (λ (l : List ℕ). text ++ l) (sym after_is) in (
       text_there bytes text after n size n_is whole (ap length text_is ∙ length-take-le n rest fits),
       omega (arith, size, ap length after_is, length-drop n rest, ap length rest_is, length-drop 4 bytes),
     )

@@ -1,13 +1,11 @@
 -- The texts of a body read back, and their lengths add up.
-use Rattle.std.proofs.Common.{◌≡◌, ◌==◌, ◌+◌, ◌-◌, ◌<◌, ◌≤◌, ◌^◌, inl, inr, ℕ, zero, suc, Bool, true, false, IsTrue, List, [], ◌∷◌, ◌++◌, length, take, drop, map, Option, None, Some, is_some, refl, sym, ◌∙◌, ap, subst, arith, length-append, length-take, length-drop, if◌then◌else◌, unwrap_or}
+use Rattle.std.proofs.Common.{◌≡◌, ◌==◌, ◌+◌, ◌-◌, ◌<◌, ◌≤◌, ◌^◌, ℕ, zero, suc, Bool, true, false, IsTrue, List, [], ◌∷◌, ◌++◌, length, take, drop, map, Option, None, Some, is_some, refl, sym, ◌∙◌, ap, subst, arith, length-append, length-take, length-drop, if◌then◌else◌}
 use Rattle.std.specs.Option.{option_map}
 use Rattle.std.specs.Str.{is_utf8}
 use Rattle.std.proofs.lemmas.List.{append_assoc, append-nil, map-append, take_at, take_all, drop_at}
 use Rattle.lq_journal.specs.Body.{number, front_number, framed_texts, body_of, entry_of, size_of, with_text, texts_from, if_any, texts_of, is_body, AreTexts}
-use Rattle.lq_journal.specs.Frames.{entry_len, IsEntry}
-use Rattle.lq_journal.specs.Journal.{texts_in}
 use Rattle.lq_journal.specs.Entry.{texts_by, IsEncoded}
-use Rattle.lq_journal.proofs.Numbers.{number-length, front_number-append, front_number-number}
+use Rattle.lq_journal.proofs.Numbers.{number-length, front_number-number}
 
 pub passes_text : (over bytes : List ℕ) → texts_from (length over) (over ++ bytes) ≡ texts_from 0 bytes
 passes_text [] bytes = refl
@@ -193,8 +191,7 @@ pub pushed : (texts : List (List ℕ)) (text lens bytes more_lens more_bytes : L
     → IsEncoded (texts_by more_lens (drop 5 more_bytes)) more_lens more_bytes × (texts_by more_lens (drop 5 more_bytes) ≡ texts ++ text ∷ [])
 pushed texts text lens bytes more_lens more_bytes encoded lens_is bytes_is utf8 =
     let lens_are : more_lens ≡ map (λ text. length text) (texts ++ text ∷ []) =
-    lens_is ∙ ap (λ (ns : List ℕ). ns ++ length text ∷ []) encoded.lens_are ∙ sym (map-append (λ text. length text) texts (text ∷ [])) in
-    (
+    lens_is ∙ ap (λ (ns : List ℕ). ns ++ length text ∷ []) encoded.lens_are ∙ sym (map-append (λ text. length text) texts (text ∷ [])) in (
       is_encoded (texts ++ text ∷ []) more_lens more_bytes lens_are bytes_is (are_texts-last texts text encoded.are_texts utf8) (omega (arith, length-append texts (text ∷ []))),
       texts_by-entry (texts ++ text ∷ []) more_lens more_bytes lens_are bytes_is,
     )

@@ -1,5 +1,5 @@
 -- What reading the bytes of a journal gives.
-use Rattle.std.specs.Prelude.{◌≡◌, ◌+◌, ◌<◌, ◌≤◌, ℕ, List, ◌∷◌, ◌++◌, length, Ok, Err, Option, None, Some, IfSome}
+use Rattle.std.specs.Prelude.{◌≡◌, ◌+◌, ◌<◌, ◌≤◌, ℕ, List, ◌∷◌, ◌++◌, length, Ok, Err, Option, IfSome}
 use Rattle.lq_base.specs.declared.dialect.Dialect.{Dialect}
 use Rattle.lq_journal.specs.declared.entry.Entry.{Entry}
 use Rattle.lq_journal.specs.declared.fault.LoadFault.{LoadFault}

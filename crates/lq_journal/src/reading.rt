@@ -96,13 +96,7 @@ fn if_any(texts: Option<Items<Text>>) -> Option<Items<Text>>
     ensures { result ≡ if_any texts }
 {
     match texts {
-        Some(texts) => {
-            if texts.is_empty() {
-                None
-            } else {
-                Some(texts)
-            }
-        }
+        Some(texts) => { if texts.is_empty() { None } else { Some(texts) } }
         None => None,
     }
 }
@@ -150,11 +144,7 @@ fn behind_gate(bytes: &[u8]) -> Option<&[u8]>
 // The entry behind an open gate and what stands after it, or none behind a closed one. The gate
 // stands at a place of the file.
 #[tactic(auto, using(crate::proofs::Entries::no_entry, crate::proofs::Entries::no_body))]
-fn next_entry(
-    alloc: Global,
-    at: u64,
-    bytes: &[u8],
-) -> Result<Option<(Entry, &[u8])>, LoadFault>
+fn next_entry(alloc: Global, at: u64, bytes: &[u8]) -> Result<Option<(Entry, &[u8])>, LoadFault>
     requires some { 0 < length bytes.now }
     requires place { at + 1 < 2 ^ 64 }
     ensures entry { IfOk result (λ next. ForSome next (λ parts. IsNext at bytes.now parts.0 parts.1.now)) }
@@ -176,7 +166,12 @@ fn next_entry(
 
 // The entries of a file that is long enough to have one, and has the header.
 #[tactic(auto, using(crate::proofs::Entries::begins_read))]
-fn read_entries(alloc: Global, dialect: Dialect, limit: u64, bytes: &[u8]) -> Result<Found, LoadFault>
+fn read_entries(
+    alloc: Global,
+    dialect: Dialect,
+    limit: u64,
+    bytes: &[u8],
+) -> Result<Found, LoadFault>
     requires long { 17 < length bytes.now }
     requires within { length bytes.now ≤ limit }
     requires header { take 16 bytes.now ≡ header dialect }

@@ -1,5 +1,5 @@
-use Rattle.std.proofs.Common.{rules, ◌≡◌, ◌+◌, ◌-◌, ℕ, List, [], ◌∷◌, ◌++◌, length, take, drop, arith, ◌∙◌, ap, sym}
-use Rattle.lq_journal.specs.Body.{number, entry_of}
+use Rattle.std.proofs.Common.{rules, ◌≡◌, ◌+◌, ◌-◌, ℕ, List, [], ◌∷◌, ◌++◌, length, take, drop, arith, ◌∙◌, ap}
+use Rattle.lq_journal.specs.Body.{number}
 use Rattle.lq_journal.proofs.Numbers.{number-length}
 use Rattle.lq_journal.proofs.Texts.{entry_of-last}
 use Rattle.lq_journal.proofs.encoded.put_text.Goals as goal

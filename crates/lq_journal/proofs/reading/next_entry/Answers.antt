@@ -1,4 +1,4 @@
-use Rattle.std.proofs.Common.{rules, ◌≡◌, ◌+◌, ◌-◌, ◌∷◌, List, ℕ, Bor, length, take, drop, Some, subst, sym, ◌∙◌, ap}
+use Rattle.std.proofs.Common.{◌≡◌, ◌+◌, List, ℕ, Bor, drop, Some, subst, sym, ◌∙◌, ap}
 use Rattle.std.proofs.lemmas.List.{take_rest}
 use Rattle.lq_journal.specs.declared.entry.Entry.{Entry}
 use Rattle.lq_journal.specs.Body.{texts_of}
@@ -13,5 +13,5 @@ returns-in-Ok-Some-clause-entry c x same =
     let entry = c.in-Some-front_entry.entry.now in
     let read : Some c.in-Ok-Some.texts ≡ texts_of (drop 4 entry) = sym c.in-Ok-Some.field-0-is ∙ c.in-Ok-Some.ensures ∙ ap texts_of (take_rest entry 4) in
     let whole = is_next c.args.at bytes c.in-Some.behind.now entry c.in-Some-front_entry.after.now c.in-Ok-Some.texts c.in-Some.ensures
-      c.in-Some-front_entry.ensures.0 c.in-Some-front_entry.ensures.1 c.in-Some-front_entry.ensures.2 read in
+    c.in-Some-front_entry.ensures.0 c.in-Some-front_entry.ensures.1 c.in-Some-front_entry.ensures.2 read in
     subst (λ (parts : Entry × Bor (List ℕ)). IsNext c.args.at bytes parts.0 parts.1.now) (some_is (record { at = c.args.at + 1; texts = c.in-Ok-Some.texts }, c.in-Some-front_entry.after) x same) whole

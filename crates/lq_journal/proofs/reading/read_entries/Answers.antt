@@ -1,4 +1,4 @@
-use Rattle.std.proofs.Common.{rules, ◌≡◌, ◌+◌, ◌-◌, List, ℕ, [], length, take, drop, subst, sym, refl, ◌∙◌, ap, arith, length-append}
+use Rattle.std.proofs.Common.{rules, ◌-◌, length, take, drop, subst, sym, refl, ap, arith, length-append}
 use Rattle.std.proofs.lemmas.List.{take_rest}
 use Rattle.lq_journal.proofs.Entries.{ReadEntries, begins_read, goes_on, holds, read_is, used_read, read_fault}
 use Rattle.lq_journal.proofs.reading.read_entries.Goals as goal

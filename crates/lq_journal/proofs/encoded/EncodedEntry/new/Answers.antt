@@ -1,6 +1,6 @@
-use Rattle.std.proofs.Common.{rules, ◌≡◌, ◌+◌, ℕ, List, [], ◌∷◌, ◌++◌, length, arith}
+use Rattle.std.proofs.Common.{rules, ◌≡◌, ◌+◌, [], ◌∷◌, ◌++◌, length, arith}
 use Rattle.std.proofs.lemmas.Str.{is_utf8-from_IsUtf8}
-use Rattle.lq_journal.specs.Body.{number, entry_of}
+use Rattle.lq_journal.specs.Body.{number}
 use Rattle.lq_journal.proofs.Texts.{encoded_first, is_encoded, texts_by-entry}
 use Rattle.lq_journal.proofs.encoded.EncodedEntry.new.Goals as goal
 

@@ -1,4 +1,4 @@
-use Rattle.std.proofs.Common.{rules, ◌≡◌, ◌∙◌, ap, arith, List, [], ◌∷◌, ◌++◌, length, drop, sym}
+use Rattle.std.proofs.Common.{rules, ◌≡◌, ◌∙◌, ap, arith, [], ◌∷◌, ◌++◌, length, drop}
 use Rattle.std.proofs.lemmas.Str.{is_utf8-from_IsUtf8}
 use Rattle.lq_journal.specs.Body.{entry_of}
 use Rattle.lq_journal.specs.Entry.{texts_by}

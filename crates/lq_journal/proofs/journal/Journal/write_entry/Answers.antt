@@ -1,7 +1,7 @@
-use Rattle.std.proofs.Common.{rules, ◌≡◌, ◌+◌, ◌-◌, ◌<◌, ◌≤◌, ◌^◌, List, ℕ, [], ◌∷◌, ap, arith, length, refl, sym, subst, IfSome}
+use Rattle.std.proofs.Common.{◌+◌, ◌-◌, ◌≤◌, [], ◌∷◌, ap, arith, length, refl, sym, subst, IfSome}
 use Rattle.lq_outside.specs.Bytes.{written}
 use Rattle.lq_journal.specs.State.{Stands}
-use Rattle.lq_journal.proofs.Appended.{Closed, closed_entry, in_turn, ready_after, journal_after}
+use Rattle.lq_journal.proofs.Appended.{closed_entry, in_turn, ready_after, journal_after}
 use Rattle.lq_journal.proofs.Crash.{first_moment, second_moment, first_torn, second_torn, on_err}
 use Rattle.lq_journal.proofs.Opened.{ready_stands}
 use Rattle.lq_journal.proofs.journal.Journal.write_entry.Goals as goal
@@ -28,7 +28,7 @@ returns-in_err-write_synced-2-clause-failed g c =
     let most = c.requires.ready.loaded.limit_most in
     let closed = closed_entry c.args.entry.now bytes c.bytes-written.ensures.value c.bytes-written.ensures.are_texts c.bytes-written.ensures.some (omega (arith, fits, most)) in
     on_err _ (second_torn journal.dialect journal.limit _ _ _ journal.used (journal.used - 1) c.args.entry.now bytes (ready_stands _ journal c.requires.ready) closed refl fits
-      c.in_ok-write_synced.ensures.written c.write_synced-2.ensures.torn)
+    c.in_ok-write_synced.ensures.written c.write_synced-2.ensures.torn)
 
 pub returns-in_err-write_synced-2-clause-any_moment : goal.returns-in_err-write_synced-2-clause-any_moment
 returns-in_err-write_synced-2-clause-any_moment g c settled =
