@@ -126,34 +126,41 @@ module _ (d : Dialect) (a b : Name) (c : Catalogue) (sound : IsSound d c) (there
   named : IsNamed c e (λ n. once (is_named n a)) (λ n. once (is_named n b))
   named = record {
     objects = λ n.
-      let others = map (λ (x : Name × View). x.0) c.views ++ map (λ (x : Name × Sequence). x.0) c.sequences in
-      let k = keys_now n in
-      let p = times-append n (map (λ (x : Name × Table). x.0) e.tables) others in
-      let q = times-append n (map (λ (x : Name × Table). x.0) c.tables) others in
-      omega (arith, k, p, q);
+        let others = map (λ (x : Name × View). x.0) c.views ++ map (λ (x : Name × Sequence). x.0) c.sequences in
+        let k = keys_now n in
+        let p = times-append n (map (λ (x : Name × Table). x.0) e.tables) others in
+        let q = times-append n (map (λ (x : Name × Table). x.0) c.tables) others in
+        omega (arith, k, p, q);
     inner = values_now inner_names (λ x. refl);
     foreign = values_now foreign_names (λ x. map-map (λ (f : ForeignKey). f.name) (retarget a b) x.foreign);
   }
 
   pub renames_back : (by : By) → is_reserved by (b ∷ a ∷ []) ≡ false → takes_lock_key by d (b ∷ a ∷ []) ≡ false → step by d (RenameTable b a) e ≡ Ok (c, 0)
   renames_back by reserved lock = accepts d (rename_table by d b a e) c sound
-    (ap (λ o. cond (is_some o) (table_renamed b a e) (view_renamed b a e)) looked_b ∙ renamed_again)
-    (record {
-      reserved = reserved;
-      missing = ap (λ o. is_none o && is_none (view_of e b)) looked_b;
-      exists = or_false _ _ (old_free d c e a b apart named sound.apart) lock;
-      depends = unviewed d c b sound gone;
-      wrong = refl;
-      wide = refl;
-    })
+      (ap (λ o. cond (is_some o) (table_renamed b a e) (view_renamed b a e)) looked_b ∙ renamed_again)
+      (record {
+        reserved = reserved;
+        missing = ap (λ o. is_none o && is_none (view_of e b)) looked_b;
+        exists = or_false _ _ (old_free d c e a b apart named sound.apart) lock;
+        depends = unviewed d c b sound gone;
+        wrong = refl;
+        wide = refl;
+      })
 
   -- soundness
 
   fine_still : (x : Table) → IsSoundTable d x → IsSoundTable d (retargeted a b x)
   fine_still x fine = record {
-    some = fine.some; differ = fine.differ; kinds = fine.kinds; rows = fine.rows; defaults = fine.defaults; lists = fine.lists;
+    some = fine.some;
+    differ = fine.differ;
+    kinds = fine.kinds;
+    rows = fine.rows;
+    defaults = fine.defaults;
+    lists = fine.lists;
     foreign = all-map (λ f. are_columns x f.columns) (retarget a b) x.foreign ∙ fine.foreign;
-    key = fine.key; key_named = fine.key_named; numbered = fine.numbered;
+    key = fine.key;
+    key_named = fine.key_named;
+    numbered = fine.numbered;
     within = within_still d x fine.within;
   } where
     within_still : (k : Dialect) (x : Table) → AreApartWithin k x → AreApartWithin k (retargeted a b x)
@@ -189,9 +196,9 @@ module _ (d : Dialect) (a b : Name) (c : Catalogue) (sound : IsSound d c) (there
 
   target_still : (t : Name) (ns : List Name) → is_named b t ≡ false → kinds_at (the_table e (renamed a b t)) ns ≡ kinds_at (the_table c t) ns
   target_still t ns r = elim (is_named a t) as (λ y. is_named a t ≡ y → kinds_at (the_table e (cond y b t)) ns ≡ kinds_at (the_table c t) ns) [
-      | true ↦ λ p. ap (λ o. kinds_at (unwrap_or o no_table) ns) looked_b ∙ ap (λ n. kinds_at (the_table c n) ns) (same_name a t p)
-      | false ↦ λ p. ap (λ o. kinds_at (unwrap_or o no_table) ns) (looked_other t p r) ∙ same_kinds_in (table_of c t) ns
-    ] refl
+    | true ↦ λ p. ap (λ o. kinds_at (unwrap_or o no_table) ns) looked_b ∙ ap (λ n. kinds_at (the_table c n) ns) (same_name a t p)
+    | false ↦ λ p. ap (λ o. kinds_at (unwrap_or o no_table) ns) (looked_other t p r) ∙ same_kinds_in (table_of c t) ns
+  ] refl
 
   alike_in : (x : Table) → targets_table b x ≡ false → list_any (kinds_differ c x) x.foreign ≡ false → list_any (kinds_differ e (retargeted a b x)) (retargeted a b x).foreign ≡ false
   alike_in x free alike = any-map (kinds_differ e (retargeted a b x)) (retarget a b) x.foreign
@@ -204,7 +211,7 @@ module _ (d : Dialect) (a b : Name) (c : Catalogue) (sound : IsSound d c) (there
       let all = any_less_both (λ (x : Name × Table). targets_table b x.1) (λ (x : Name × Table). list_any (kinds_differ c x.1) x.1.foreign) (λ x. at x.1) c.tables (λ x p q. or_false _ _ p q) free sound.alike in
       any-map (λ (x : Name × Table). list_any (kinds_differ e x.1) x.1.foreign) (λ (x : Name × Table). (x.0, retargeted a b x.1)) (insert_entry name_cmp (remove_entry (is_named a) c.tables) b it)
       ∙ any_less _ (λ (x : Name × Table). at x.1) (insert_entry name_cmp (remove_entry (is_named a) c.tables) b it) (λ x h. alike_in x.1 (or_left (targets_table b x.1) _ h) (or_right (targets_table b x.1) _ h))
-        (any_none-insert_entry (λ (x : Name × Table). at x.1) (remove_entry (is_named a) c.tables) b it (λ n. refl) (at_lookup (is_named a) at c.tables it all there) (any_none-remove_entry (is_named a) (λ (x : Name × Table). at x.1) c.tables all))
+      (any_none-insert_entry (λ (x : Name × Table). at x.1) (remove_entry (is_named a) c.tables) b it (λ n. refl) (at_lookup (is_named a) at c.tables it all there) (any_none-remove_entry (is_named a) (λ (x : Name × Table). at x.1) c.tables all))
 
   pub table_shaped : is_taken d b c ≡ false → is_viewed c a ≡ false → IsShaped d e
   table_shaped free unseen = record {
@@ -213,8 +220,8 @@ module _ (d : Dialect) (a b : Name) (c : Catalogue) (sound : IsSound d c) (there
     ordered_sequences = sound.ordered_sequences;
     tables = table_fine;
     views = all_kept (λ (x : Name × View). is_named a x.1.query.table || is_named b x.1.query.table) (λ (x : Name × View). is_view c x.1) _ c.views
-      (λ x out is. view_same x.1 (or_left (is_named a x.1.query.table) _ out) (or_right (is_named a x.1.query.table) _ out) is)
-      (any_less_both (λ (x : Name × View). is_named a x.1.query.table) (λ (x : Name × View). is_named b x.1.query.table) _ c.views (λ x p q. or_false _ _ p q) unseen (unviewed d c b sound gone)) sound.views;
+        (λ x out is. view_same x.1 (or_left (is_named a x.1.query.table) _ out) (or_right (is_named a x.1.query.table) _ out) is)
+        (any_less_both (λ (x : Name × View). is_named a x.1.query.table) (λ (x : Name × View). is_named b x.1.query.table) _ c.views (λ x p q. or_false _ _ p q) unseen (unviewed d c b sound gone)) sound.views;
     apart = moved_apart d c e a b apart named free sound.apart;
     steps = sound.steps;
     sequences = sound.sequences;

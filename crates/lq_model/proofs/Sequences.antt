@@ -79,25 +79,28 @@ drop_sequence_after d s start size by c e k sound made =
     let none = free_sequence d s c (or_left (is_taken d s c) _ ok.exists) in
     ap (step by d (DropSequence s)) (sym ok.result)
     ∙ accepts d (drop_sequence by d s (with_sequence c s it)) c sound (ap (λ ss. record c { sequences = ss }) (remove_entry-insert_entry s it c.sequences none))
-      (record {
-        reserved = ok.reserved;
-        missing = ap is_none (lookup-insert_entry c.sequences s it s ∙ ap (λ b. cond b (Some it) (sequence_of c s)) (named_itself s));
-        exists = refl; depends = refl; wrong = refl; wide = refl;
-      })
+    (record {
+      reserved = ok.reserved;
+      missing = ap is_none (lookup-insert_entry c.sequences s it s ∙ ap (λ b. cond b (Some it) (sequence_of c s)) (named_itself s));
+      exists = refl;
+      depends = refl;
+      wrong = refl;
+      wide = refl;
+    })
 
 sequences_named : (c : Catalogue) (ss : List (Name × Sequence)) (less more : Name → ℕ) → ((n : Name) → times n (map (λ (x : Name × Sequence). x.0) ss) + less n ≡ times n (map (λ (x : Name × Sequence). x.0) c.sequences) + more n) → IsNamed c (record c { sequences = ss }) less more
 sequences_named c ss less more h = record {
   objects = λ n.
-    let tables = map (λ (x : Name × Table). x.0) c.tables in
-    let views = map (λ (x : Name × View). x.0) c.views in
-    let old = map (λ (x : Name × Sequence). x.0) c.sequences in
-    let new = map (λ (x : Name × Sequence). x.0) ss in
-    let a = times-append n tables (views ++ new) in
-    let b = times-append n views new in
-    let p = times-append n tables (views ++ old) in
-    let q = times-append n views old in
-    let x = h n in
-    omega (arith, a, b, p, q, x);
+      let tables = map (λ (x : Name × Table). x.0) c.tables in
+      let views = map (λ (x : Name × View). x.0) c.views in
+      let old = map (λ (x : Name × Sequence). x.0) c.sequences in
+      let new = map (λ (x : Name × Sequence). x.0) ss in
+      let a = times-append n tables (views ++ new) in
+      let b = times-append n views new in
+      let p = times-append n tables (views ++ old) in
+      let q = times-append n views old in
+      let x = h n in
+      omega (arith, a, b, p, q, x);
   inner = λ n. refl;
   foreign = λ n. refl;
 }
@@ -105,7 +108,15 @@ sequences_named c ss less more h = record {
 -- other sequences
 sequences_shaped : (d : Dialect) (c : Catalogue) (ss : List (Name × Sequence)) → IsShaped d c → IsStrictlySortedBy name_cmp (keys_of ss) → AreApart d (record c { sequences = ss }) → list_any (λ (x : Name × Sequence). int_eq x.1.step (pos 0)) ss ≡ false → may_have d ss ≡ true → IsShaped d (record c { sequences = ss })
 sequences_shaped d c ss shape rise apart steps may = record {
-  ordered = shape.ordered; ordered_views = shape.ordered_views; ordered_sequences = rise; tables = shape.tables; views = shape.views; apart = apart; steps = steps; sequences = may; alike = shape.alike;
+  ordered = shape.ordered;
+  ordered_views = shape.ordered_views;
+  ordered_sequences = rise;
+  tables = shape.tables;
+  views = shape.views;
+  apart = apart;
+  steps = steps;
+  sequences = may;
+  alike = shape.alike;
 }
 
 may_pg : (d : Dialect) (ss : List (Name × Sequence)) → is_pg d ≡ true → may_have d ss ≡ true
@@ -123,8 +134,8 @@ create_sequence_keeps by d s start size c e k valid sound made =
     let named = sequences_named c ss (λ n. 0) (λ n. once (is_named n s)) (λ n. let x = keys-insert (λ (y : Sequence). []) n c.sequences s it none in omega (arith, x)) in
     let nonzero = not_so_true _ (and_right (is_literal (literal.Int size)) _ (and_right (is_literal (literal.Int start)) _ (and_right (is_name s) _ (and_right (is_pg d) _ valid)))) in
     keeps d p e k made (sequences_shaped d c ss (shape_of d c sound) (sorted_keys ss (sorted-insert_entry c.sequences s it (sorted_entries c.sequences sound.ordered_sequences)))
-      (made_apart d c (with_sequence c s it) s named free sound.apart)
-      (any_none-insert_entry (λ (x : Name × Sequence). int_eq x.1.step (pos 0)) c.sequences s it (λ n. refl) nonzero sound.steps) (may_pg d ss (and_left (is_pg d) _ valid)))
+    (made_apart d c (with_sequence c s it) s named free sound.apart)
+    (any_none-insert_entry (λ (x : Name × Sequence). int_eq x.1.step (pos 0)) c.sequences s it (λ n. refl) nonzero sound.steps) (may_pg d ss (and_left (is_pg d) _ valid)))
 
 pub drop_sequence_keeps : (by : By) (d : Dialect) (s : Name) (c e : Catalogue) (k : ℕ) → is_statement d (DropSequence s) ≡ true → IsSound d c → step by d (DropSequence s) c ≡ Ok (e, k) → IsSound d e
 drop_sequence_keeps by d s c e k valid sound made =
@@ -134,8 +145,8 @@ drop_sequence_keeps by d s c e k valid sound made =
     let it = some_there (sequence_of c s) ok.missing in
     let named = sequences_named c ss (λ n. once (is_named n s)) (λ n. 0) (λ n. let x = keys-remove (λ (y : Sequence). []) n c.sequences s it.0 it.1 in omega (arith, x)) in
     keeps d p e k made (sequences_shaped d c ss (shape_of d c sound) (sorted_keys ss (sorted-remove_entry s c.sequences (sorted_entries c.sequences sound.ordered_sequences)))
-      (gone_apart d c (without_sequence c s) s named sound.apart)
-      (any_none-remove_entry (is_named s) (λ (x : Name × Sequence). int_eq x.1.step (pos 0)) c.sequences sound.steps) (may_pg d ss (and_left (is_pg d) _ valid)))
+    (gone_apart d c (without_sequence c s) s named sound.apart)
+    (any_none-remove_entry (is_named s) (λ (x : Name × Sequence). int_eq x.1.step (pos 0)) c.sequences sound.steps) (may_pg d ss (and_left (is_pg d) _ valid)))
 
 -- RENAME
 
@@ -158,14 +169,16 @@ module _ (d : Dialect) (a b : Name) (c : Catalogue) (sound : IsSound d c) (it : 
   pub sequence_back : (by : By) → is_reserved by (b ∷ a ∷ []) ≡ false → takes_lock_key by d (b ∷ a ∷ []) ≡ false → step by d (RenameSequence b a) (sequence_renamed a b c) ≡ Ok (c, 0)
   sequence_back by reserved lock = ap (step by d (RenameSequence b a)) renamed_is
       ∙ accepts d (rename_sequence by d b a after) c sound
-        (ap (λ o. elim o [ None ↦ after | Some s ↦ with_sequence (without_sequence after b) a s ]) (moved_there c.sequences a b it sound.ordered_sequences there none)
-          ∙ ap (λ ss. record c { sequences = ss }) (moved_back c.sequences a b it sound.ordered_sequences there none))
-        (record {
-          reserved = reserved;
-          missing = ap is_none (moved_there c.sequences a b it sound.ordered_sequences there none);
-          exists = or_false _ _ (old_free d c after a b apart named sound.apart) lock;
-          depends = refl; wrong = refl; wide = refl;
-        })
+      (ap (λ o. elim o [ None ↦ after | Some s ↦ with_sequence (without_sequence after b) a s ]) (moved_there c.sequences a b it sound.ordered_sequences there none)
+      ∙ ap (λ ss. record c { sequences = ss }) (moved_back c.sequences a b it sound.ordered_sequences there none))
+      (record {
+        reserved = reserved;
+        missing = ap is_none (moved_there c.sequences a b it sound.ordered_sequences there none);
+        exists = or_false _ _ (old_free d c after a b apart named sound.apart) lock;
+        depends = refl;
+        wrong = refl;
+        wide = refl;
+      })
 
   pub sequence_shaped : is_pg d ≡ true → IsShaped d (sequence_renamed a b c)
   sequence_shaped pg = subst (IsShaped d) (sym renamed_is) (sequences_shaped d c after.sequences (shape_of d c sound) (moved_rise c.sequences a b it sound.ordered_sequences there none)

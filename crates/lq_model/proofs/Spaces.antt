@@ -32,8 +32,9 @@ shared_named c e less more is n =
 pub made_apart : (d : Dialect) (c e : Catalogue) (b : Name) → IsNamed c e (λ n. 0) (λ n. once (is_named n b)) → is_taken d b c ≡ false → AreApart d c → AreApart d e
 made_apart Postgresql c e b is free h = λ n. one_more n b (times n (shared_names e)) (shared_names c) free (h n) (let s = shared_named c e (λ n. 0) (λ n. once (is_named n b)) is n in omega (arith, s))
 made_apart Mysql c e b is free h = (
-    λ n. one_more n b (times n (object_names e)) (object_names c) free (h.0 n) (let s = is.objects n in omega (arith, s)),
-    λ n. let f = is.foreign n in let x = h.1 n in omega (arith, f, x))
+  λ n. one_more n b (times n (object_names e)) (object_names c) free (h.0 n) (let s = is.objects n in omega (arith, s)),
+  λ n. let f = is.foreign n in let x = h.1 n in omega (arith, f, x),
+)
 
 -- one name less
 pub gone_apart : (d : Dialect) (c e : Catalogue) (a : Name) → IsNamed c e (λ n. once (is_named n a)) (λ n. 0) → AreApart d c → AreApart d e
@@ -44,8 +45,9 @@ gone_apart Mysql c e a is h = (λ n. let s = is.objects n in let x = h.0 n in om
 pub moved_apart : (d : Dialect) (c e : Catalogue) (a b : Name) → is_named a b ≡ false → IsNamed c e (λ n. once (is_named n a)) (λ n. once (is_named n b)) → is_taken d b c ≡ false → AreApart d c → AreApart d e
 moved_apart Postgresql c e a b apart is free h = λ n. swapped n a b (times n (shared_names c)) (times n (shared_names e)) (h n) apart (λ r. ap (λ m. times m (shared_names c)) (same_name n b r) ∙ times_none b (shared_names c) free) (shared_named c e (λ n. once (is_named n a)) (λ n. once (is_named n b)) is n)
 moved_apart Mysql c e a b apart is free h = (
-    λ n. swapped n a b (times n (object_names c)) (times n (object_names e)) (h.0 n) apart (λ r. ap (λ m. times m (object_names c)) (same_name n b r) ∙ times_none b (object_names c) free) (is.objects n),
-    λ n. let f = is.foreign n in let x = h.1 n in omega (arith, f, x))
+  λ n. swapped n a b (times n (object_names c)) (times n (object_names e)) (h.0 n) apart (λ r. ap (λ m. times m (object_names c)) (same_name n b r) ∙ times_none b (object_names c) free) (is.objects n),
+  λ n. let f = is.foreign n in let x = h.1 n in omega (arith, f, x),
+)
 
 -- and the old name is free
 pub old_free : (d : Dialect) (c e : Catalogue) (a b : Name) → is_named a b ≡ false → IsNamed c e (λ n. once (is_named n a)) (λ n. once (is_named n b)) → AreApart d c → is_taken d a e ≡ false

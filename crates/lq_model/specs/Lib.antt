@@ -25,6 +25,7 @@ pub mod RenameColumn
 pub mod Reserved
 pub mod ResultTests
 pub mod Row
+pub mod Script
 pub mod Sequences
 pub mod Sound
 pub mod Spelled
