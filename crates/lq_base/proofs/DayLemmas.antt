@@ -1,5 +1,5 @@
 -- The days counted from 0001-01-01 are the calendar's.
-use Rattle.std.proofs.Common.{◌≡◌, ℕ, zero, suc, ◌+◌, ◌-◌, ◌*◌, ◌<◌, ◌≤◌, Bool, true, false, nat_lt, cond, refl, sym, ap, ◌∙◌, arith, tests, rules, ℤ, pos, neg_ℤ, negsuc, ◌+ℤ◌, ◌*ℤ◌, ◌<ℤ◌, ◌≤ℤ◌, inl, inr, ltb}
+use Rattle.std.proofs.Common.{◌≡◌, ℕ, zero, suc, ◌+◌, ◌<◌, ◌≤◌, Bool, true, false, nat_lt, cond, refl, arith, tests, rules, ℤ, pos, neg_ℤ, ◌+ℤ◌, ◌≤ℤ◌, inl, inr}
 use Rattle.std.specs.Int.{IsInRange}
 use Rattle.std.proofs.lemmas.Int.{by_lt_z}
 use Rattle.jiff_core.specs.declared.civil.date.Date.{Date}
@@ -9,7 +9,7 @@ use Rattle.jiff_core.proofs.SignedLemmas.{signed_arith}
 use Rattle.jiff_core.proofs.DateLemmas.{civil, cases_date, epoch_day-lt, epoch_day_injective, epoch_day_same, days_from_civil-day, days_from_civil-max, days_from_civil-next_month, days_from_civil-next_year}
 use Rattle.jiff_core.proofs.MarchLemmas.{day_count-early}
 use Rattle.jiff_core.proofs.CalendarLemmas.{days_from_civil-day_count, day_count-lt_year, days_in_month_bounds}
-use Rattle.lq_base.specs.Moment.{Day, next_day, day_after}
+use Rattle.lq_base.specs.Moment.{Day, day_after}
 
 day_count-year_1 : day_count (pos 1) 1 1 ≡ 3_652_791
 day_count-year_1 = day_count-early _ 10000 1 1 refl (omega arith) (omega arith) (omega arith)

@@ -1,5 +1,5 @@
 -- An answer of `into_kind` with a value has one of the kind.
-use Rattle.std.proofs.Common.{◌≡◌, Bool, true, IsTrue, Result, Ok, Err}
+use Rattle.std.proofs.Common.{IsTrue, Result, Ok, Err}
 use Rattle.std.specs.Prelude.{IfOk}
 use Rattle.lq_base.specs.declared.kind.Kind.{Kind}
 use Rattle.lq_base.specs.declared.literal.Literal.{Literal}

@@ -1,13 +1,12 @@
 -- The text of a moment spells that moment.
-use Rattle.std.proofs.Common.{◌≡◌, ℕ, suc, ◌+◌, ◌-◌, ◌*◌, ◌/◌, ◌%◌, ◌^◌, ◌<◌, ◌≤◌, Bool, true, cond, ◌&&◌, nat_lt, nat_le, ℤ, pos, negsuc, neg_ℤ, ◌+ℤ◌, ◌*ℤ◌, ◌≤ℤ◌, unsigned_abs, List, [], ◌∷◌, ◌++◌, Option, Some, None, option_and_then, option_map, refl, sym, ap, ◌∙◌, arith, rules, tests}
+use Rattle.std.proofs.Common.{◌≡◌, ℕ, ◌/◌, ◌%◌, ◌<◌, ◌≤◌, Bool, true, cond, ◌&&◌, nat_lt, ℤ, pos, negsuc, neg_ℤ, ◌+ℤ◌, ◌*ℤ◌, ◌≤ℤ◌, unsigned_abs, ◌∷◌, ◌++◌, Option, Some, None, option_and_then, option_map, refl, ap, ◌∙◌, arith, rules, tests}
 use Rattle.std.specs.Int.{is_in_range, IsInRange}
-use Rattle.jiff_core.specs.Calendar.{days_in_month, days_from_civil}
+use Rattle.jiff_core.specs.Calendar.{days_in_month}
 use Rattle.jiff_core.proofs.CalendarLemmas.{days_in_month_bounds}
 use Rattle.jiff_core.proofs.SignedLemmas.{signed_arith}
-use Rattle.lq_base.specs.Moment.{IsMoment, Day, day_after, day_text, clock_text, text_since, has_marks, digits_at, day_number, day_of, clock_number, clock_of, moment_by_parts, moment_of, moment_text}
-use Rattle.lq_base.specs.Number.{last_digits}
-use Rattle.lq_base.proofs.DayLemmas.{day_after_is, day_after-year_le, IsDay}
-use Rattle.lq_base.proofs.DigitLemmas.{read_digits, read_digits-last_digits}
+use Rattle.lq_base.specs.Moment.{IsMoment, Day, day_after, day_text, clock_text, has_marks, day_number, day_of, clock_number, clock_of, moment_by_parts, moment_of, moment_text}
+use Rattle.lq_base.proofs.DayLemmas.{day_after_is, day_after-year_le}
+use Rattle.lq_base.proofs.DigitLemmas.{read_digits-last_digits}
 
 -- a first step that answers, and then the others
 then_some : {A B : Type 0} (f : A → Option B) (o : Option A) (x : A) (y : Option B) → o ≡ Some x → f x ≡ y → option_and_then f o ≡ y

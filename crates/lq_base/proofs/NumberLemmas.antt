@@ -1,11 +1,9 @@
 -- Powers of ten, and the values of digits.
-use Rattle.std.proofs.Common.{◌≡◌, ℕ, suc, ◌+◌, ◌-◌, ◌*◌, ◌/◌, ◌^◌, ◌<◌, ◌≤◌, Bool, true, ◌&&◌, nat_le, List, [], ◌∷◌, ◌++◌, length, take, drop, get_or, Option, Some, None, cond, ltb, unwrap_or, min, arith, rules, tests, refl, ap, ◌∙◌, sym, false, add-one}
+use Rattle.std.proofs.Common.{◌≡◌, ℕ, suc, ◌+◌, ◌-◌, ◌*◌, ◌^◌, ◌<◌, ◌≤◌, Bool, true, ◌&&◌, nat_le, List, [], ◌∷◌, ◌++◌, length, take, drop, get_or, Option, Some, None, cond, ltb, unwrap_or, min, arith, rules, tests, refl, ap, ◌∙◌, sym, false}
 use Rattle.std.specs.List.{position_or_len, list_all}
 use Rattle.std.specs.Char.{is_ascii_digit, digit_value}
-use Rattle.std.specs.Int.{IsInRange}
 use Rattle.std.specs.Str.Parse.{digits_value_after}
-use Rattle.std.proofs.Math.Nat.{pow-succ', mul_assoc, pow-le-pow_right, one-le-pow, mul-le-mul, mul-le-mul_right, mul-le-mul_left, div-eq_of_lt}
-use Rattle.std.proofs.Math.Seq.{take-length}
+use Rattle.std.proofs.Math.Nat.{pow-succ', mul_assoc, pow-le-pow_right, one-le-pow, mul-le-mul, mul-le-mul_right, mul-le-mul_left}
 use Rattle.std.proofs.lemmas.List.{take_all}
 use Rattle.std.proofs.lemmas.List.Sums.{prefix_len-le-length}
 use Rattle.std.proofs.lemmas.Str.{digit_value_digit}

@@ -1,5 +1,5 @@
 -- What a literal becomes in a kind is a value of the kind.
-use Rattle.std.proofs.Common.{◌≡◌, ℕ, zero, suc, ◌+◌, ◌-◌, ◌*◌, ◌^◌, ◌<◌, ◌≤◌, Bool, true, false, cond, ◌&&◌, nat_lt, nat_le, ◌==◌, refl, sym, ap, ◌∙◌, arith, tests, rules, ℤ, pos, negsuc, neg_ℤ, ◌+ℤ◌, ◌*ℤ◌, ◌≤ℤ◌, unsigned_abs, List, [], ◌∷◌, length, take, drop, Option, Some, None, Result, Ok, Err, option_and_then, option_map, min, subst, ◌⊎◌, inl, inr}
+use Rattle.std.proofs.Common.{◌≡◌, ℕ, zero, suc, ◌+◌, ◌-◌, ◌*◌, ◌^◌, ◌<◌, ◌≤◌, Bool, true, false, cond, ◌&&◌, nat_lt, nat_le, ◌==◌, refl, arith, tests, rules, ℤ, pos, neg_ℤ, ◌+ℤ◌, ◌*ℤ◌, ◌≤ℤ◌, unsigned_abs, List, [], ◌∷◌, length, take, drop, Option, Some, None, Result, Ok, Err, option_and_then, option_map, subst, ◌⊎◌, inl, inr}
 use Rattle.std.specs.Int.{is_negative, is_in_range, IsInRange}
 use Rattle.std.specs.Char.{is_ascii_digit, digit_value}
 use Rattle.std.specs.List.{list_all}
@@ -10,7 +10,6 @@ use Rattle.std.proofs.lemmas.List.{length-take}
 use Rattle.std.proofs.lemmas.Str.{digit_value_digit}
 use Rattle.jiff_core.specs.declared.civil.date.Date.{Date}
 use Rattle.jiff_core.specs.Calendar.{days_in_month}
-use Rattle.jiff_core.specs.Date.{epoch_day}
 use Rattle.jiff_core.proofs.SignedLemmas.{signed_arith}
 use Rattle.jiff_core.proofs.DateLemmas.{epoch_day_range}
 use Rattle.lq_base.specs.declared.kind.Kind.{Kind}

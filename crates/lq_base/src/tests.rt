@@ -93,10 +93,10 @@ fn kinds(rt: HostRuntime) {
     }
 }
 
-fn spelled(alloc: Global, kind: Kind, dialect: Dialect) -> Result<Text, Fail> {
+fn is_spelled(alloc: Global, kind: Kind, dialect: Dialect, want: &str) -> Result<bool, Fail> {
     let mut text = Text::new(alloc, "")?;
     kind.append_to(dialect, &mut text)?;
-    Ok(text)
+    Ok(text.as_str() == want)
 }
 
 #[test]
@@ -111,16 +111,18 @@ fn spelled_kinds(rt: HostRuntime) -> Result<(), Fail> {
         (Kind::Decimal(38, 0), "DECIMAL(38, 0)", "DECIMAL(38, 0)"),
     ];
     for (kind, postgresql, mysql) in cases {
-        let text = spelled(rt.alloc(), kind, Dialect::Postgresql)?;
-        assert_eq!(rt; text.as_str(), postgresql);
-        let text = spelled(rt.alloc(), kind, Dialect::Mysql)?;
-        assert_eq!(rt; text.as_str(), mysql);
-        let read = Kind::read(postgresql);
-        assert!(rt; read == Some(kind), "{postgresql}");
+        assert!(rt;
+            is_spelled(rt.alloc(), kind, Dialect::Postgresql, postgresql)?,
+            "{postgresql}"
+        );
+        assert!(rt;
+            is_spelled(rt.alloc(), kind, Dialect::Mysql, mysql)?,
+            "{mysql}"
+        );
+        assert_eq!(rt; Kind::read(postgresql), Some(kind), "{postgresql}");
         assert!(rt; kind.is_kind());
     }
-    assert!(rt; !Kind::Varchar(10_001).is_kind());
-    assert!(rt; !Kind::Decimal(3, 4).is_kind());
+    assert!(rt; !Kind::Varchar(10_001).is_kind() && !Kind::Decimal(3, 4).is_kind());
     Ok(())
 }
 

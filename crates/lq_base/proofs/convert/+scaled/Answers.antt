@@ -1,5 +1,4 @@
-use Rattle.std.proofs.Common.{◌≡◌, ◌-◌, ◌*◌, ◌^◌, ◌≤◌, Bool, false, Some, None, if◌then◌else◌, refl, arith}
-use Rattle.lq_base.specs.Number.{has_digits}
+use Rattle.std.proofs.Common.{refl, arith}
 use Rattle.lq_base.proofs.NumberLemmas.{too_many_digits, scaled_step}
 use Rattle.lq_base.proofs.convert.+scaled.Goals as goal
 

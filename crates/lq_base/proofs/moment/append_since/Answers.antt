@@ -1,5 +1,4 @@
 use Rattle.std.specs.Str.{IsUtf8}
-use Rattle.lq_base.specs.Moment.{text_since}
 use Rattle.lq_base.proofs.PlainLemmas.{IsUtf8-text_since}
 use Rattle.lq_base.proofs.moment.append_since.Goals as goal
 

@@ -1,4 +1,4 @@
-use Rattle.std.proofs.Common.{rules, ◌≡◌, ◌+◌, ◌-◌, ◌*◌, ◌^◌, ◌<◌, ◌≤◌, length, get_or, take, drop, arith, true}
+use Rattle.std.proofs.Common.{◌+◌, ◌-◌, ◌*◌, length, take, drop, arith}
 use Rattle.lq_base.proofs.NumberLemmas.{first_digit, next_digit_within, at_most_scaled}
 use Rattle.lq_base.proofs.number.+value_after.Goals as goal
 

@@ -1,4 +1,4 @@
-use Rattle.std.proofs.Common.{rules, ◌≡◌, ◌∙◌, ◌+◌, ◌*◌, ◌^◌, ◌≤◌, ◌++◌, length, arith, to_z, of_z, to_z-of_z, FitsSigned, true, nat_le, tests, sym, ap}
+use Rattle.std.proofs.Common.{rules, ◌≡◌, ◌∙◌, ◌+◌, ◌++◌, length, arith, to_z, of_z, to_z-of_z, FitsSigned, true, nat_le, tests, sym, ap}
 use mir.Syntax.{w128}
 use Rattle.std.specs.Str.Parse.{digits_value, digits_value_after}
 use Rattle.lq_base.specs.Number.{signed, is_digits}

@@ -1,4 +1,4 @@
-use Rattle.std.proofs.Common.{arith, sym, ◌≡◌, ◌<◌, ◌^◌}
+use Rattle.std.proofs.Common.{arith, sym}
 use Rattle.std.proofs.Math.Nat.{div-eq_of_lt}
 use Rattle.lq_base.proofs.NumberLemmas.{ten_pow_le, ten_pow_pos}
 use Rattle.lq_base.proofs.number.without_last_digits.Goals as goal
