@@ -40,3 +40,4 @@ pub mod UndoMysql
 pub mod UndoRenameColumn
 pub mod Untouched
 pub mod ViewAt
+pub mod Views

@@ -63,3 +63,8 @@ old_free Mysql c e a b apart is h =
     let p : once (is_named a a) ≡ 1 = ap once (named_itself a) in
     let q : once (is_named a b) ≡ 0 = ap once apart in
     none_times a (object_names e) (omega (arith, s, x, p, q))
+
+-- the same names
+pub moved_same : (d : Dialect) (c e : Catalogue) → IsNamed c e (λ n. 0) (λ n. 0) → AreApart d c → AreApart d e
+moved_same Postgresql c e is h = λ n. let s = shared_named c e (λ n. 0) (λ n. 0) is n in let x = h n in omega (arith, s, x)
+moved_same Mysql c e is h = (λ n. let s = is.objects n in let x = h.0 n in omega (arith, s, x), λ n. let f = is.foreign n in let x = h.1 n in omega (arith, f, x))
