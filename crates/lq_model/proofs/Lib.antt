@@ -17,6 +17,7 @@ pub mod EqualKinds
 pub mod ExampleWorld
 pub mod Examples
 pub mod IntoKind
+pub mod KeepsSound
 pub mod Kept
 pub mod KeptKinds
 pub mod Lists
@@ -26,6 +27,7 @@ pub mod Maps
 pub mod ModifyKeeps
 pub mod MovedEntries
 pub mod NameCounts
+pub mod RenameEither
 pub mod RenameTables
 pub mod Rows
 pub mod Sequences

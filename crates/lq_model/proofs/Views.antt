@@ -169,17 +169,17 @@ create_view_keeps by d v q replace c e k valid sound made =
 -- RENAME
 
 module _ (d : Dialect) (a b : Name) (c : Catalogue) (sound : IsSound d c) (it : View) (there : view_of c a ≡ Some it) (free : is_taken d b c ≡ false) where
-  none_yet : view_of c b ≡ None
+  pub none_yet : view_of c b ≡ None
   none_yet = free_view d b c free
 
   abbrev pub view_moved : Catalogue
   view_moved = record c { views = moved c.views a b it sound.ordered_views there (free_view d b c free) }
 
-  renamed_is : view_renamed a b c ≡ view_moved
-  renamed_is = ap (λ o. elim o [ None ↦ c | Some v ↦ with_view (without_view c a) b v ]) there
+  pub view_renamed_is : view_renamed a b c ≡ view_moved
+  view_renamed_is = ap (λ o. elim o [ None ↦ c | Some v ↦ with_view (without_view c a) b v ]) there
 
-  back_is : view_renamed b a view_moved ≡ c
-  back_is = ap (λ o. elim o [ None ↦ view_moved | Some v ↦ with_view (without_view view_moved b) a v ]) (moved_there c.views a b it sound.ordered_views there none_yet)
+  pub view_back_is : view_renamed b a view_moved ≡ c
+  view_back_is = ap (λ o. elim o [ None ↦ view_moved | Some v ↦ with_view (without_view view_moved b) a v ]) (moved_there c.views a b it sound.ordered_views there none_yet)
       ∙ ap (λ vs. record c { views = vs }) (moved_back c.views a b it sound.ordered_views there none_yet)
 
   names_apart_here : is_named a b ≡ false
@@ -188,12 +188,12 @@ module _ (d : Dialect) (a b : Name) (c : Catalogue) (sound : IsSound d c) (it : 
   named_here : IsNamed c view_moved (λ n. once (is_named n a)) (λ n. once (is_named n b))
   named_here = views_named c view_moved.views (λ n. once (is_named n a)) (λ n. once (is_named n b)) (moved_keys c.views a b it sound.ordered_views there none_yet)
 
-  old_name_free : is_taken d a view_moved ≡ false
+  pub old_name_free : is_taken d a view_moved ≡ false
   old_name_free = old_free d c view_moved a b names_apart_here named_here sound.apart
 
   pub view_back : (by : By) → is_reserved by (b ∷ a ∷ []) ≡ false → takes_lock_key by d (b ∷ a ∷ []) ≡ false → step by d (RenameView b a) (view_renamed a b c) ≡ Ok (c, 0)
-  view_back by reserved lock = ap (step by d (RenameView b a)) renamed_is
-      ∙ accepts d (rename_view by d b a view_moved) c sound back_is
+  view_back by reserved lock = ap (step by d (RenameView b a)) view_renamed_is
+      ∙ accepts d (rename_view by d b a view_moved) c sound view_back_is
       (record {
         reserved = reserved;
         missing = ap is_none (moved_there c.views a b it sound.ordered_views there none_yet);
@@ -204,7 +204,7 @@ module _ (d : Dialect) (a b : Name) (c : Catalogue) (sound : IsSound d c) (it : 
       })
 
   pub view_shaped : IsShaped d (view_renamed a b c)
-  view_shaped = subst (IsShaped d) (sym renamed_is) (views_shaped d c view_moved.views (shape_of d c sound) (moved_rise c.views a b it sound.ordered_views there none_yet)
+  view_shaped = subst (IsShaped d) (sym view_renamed_is) (views_shaped d c view_moved.views (shape_of d c sound) (moved_rise c.views a b it sound.ordered_views there none_yet)
       (moved_apart d c view_moved a b names_apart_here named_here free sound.apart)
       (moved_none c.views a b it sound.ordered_views there none_yet (λ v. not (is_view c v)) (at_lookup (is_named a) (λ v. not (is_view c v)) c.views it (no_bad d c sound) there) (no_bad d c sound)))
 

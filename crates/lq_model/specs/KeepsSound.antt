@@ -1,5 +1,5 @@
 -- That what a statement does keeps a catalogue sound.
-use Rattle.std.specs.Prelude.{List, Ok, Option, true, ℕ, ◌≡◌}
+use Rattle.std.specs.Prelude.{Bool, List, Ok, Option, false, true, ℕ, ◌≡◌}
 use Rattle.lq_base.specs.declared.dialect.Dialect.{Dialect}
 use Rattle.lq_base.specs.declared.literal.Literal.{Literal}
 use Rattle.lq_base.specs.declared.name.Name.{Name}
@@ -13,7 +13,7 @@ use Rattle.lq_model.specs.declared.constraint.ForeignKey.{ForeignKey}
 use Rattle.lq_model.specs.declared.constraint.Key.{Key}
 use Rattle.lq_model.specs.declared.constraint.Unique.{Unique}
 use Rattle.lq_model.specs.declared.statement.Statement.{Statement}
-use Rattle.lq_model.specs.declared.statement.Statement.TheVariants.{CreateTable, Delete, DropTable, Insert, Update}
+use Rattle.lq_model.specs.declared.statement.Statement.TheVariants.{CreateTable, Delete, DropTable, Insert, RenameColumn, Update}
 use Rattle.lq_model.specs.declared.test.Test.{Test}
 
 -- where s is a statement of the dialect and is accepted on a sound catalogue, the catalogue after it is sound
@@ -34,3 +34,11 @@ UpdateKeepsSound = (d : Dialect) (t : Name) (sets : List (Name × Literal)) (tes
 
 abbrev pub DeleteKeepsSound : Type 0
 DeleteKeepsSound = (d : Dialect) (t : Name) (test : Option Test) → KeepsSound d (Delete t test)
+
+abbrev pub renames_column : Statement → Bool
+renames_column (RenameColumn t n to) = true
+renames_column _ = false
+
+-- every statement but RENAME COLUMN
+abbrev pub StatementKeepsSound : Type 0
+StatementKeepsSound = (d : Dialect) (s : Statement) → renames_column s ≡ false → KeepsSound d s

@@ -1,5 +1,5 @@
 //! Laws: a statement of the dialect that is accepted keeps a sound catalogue sound.
-ghost use Rattle.lq_model.specs.KeepsSound.{CreateTableKeepsSound, DropTableKeepsSound, InsertKeepsSound, UpdateKeepsSound, DeleteKeepsSound};
+ghost use Rattle.lq_model.specs.KeepsSound.{CreateTableKeepsSound, DropTableKeepsSound, InsertKeepsSound, UpdateKeepsSound, DeleteKeepsSound, StatementKeepsSound};
 
 /// The catalogue after a CREATE TABLE is sound.
 pub fn create_table_keeps_sound()
@@ -24,4 +24,9 @@ pub fn update_keeps_sound()
 /// The catalogue after a DELETE, cascades among it, is sound.
 pub fn delete_keeps_sound()
     ensures { DeleteKeepsSound }
+{}
+
+/// The catalogue after any statement of the dialect but RENAME COLUMN is sound.
+pub fn statement_keeps_sound()
+    ensures { StatementKeepsSound }
 {}

@@ -1,5 +1,5 @@
 //! Laws: a statement that was accepted on a sound catalogue, and the statement that takes it back.
-ghost use Rattle.lq_model.specs.TakesBack.{DropTableTakesBack, DropColumnTakesBack, DropNotNullTakesBack, SetNotNullTakesBack, ModifyTakesBack, DropDefaultTakesBack, DropConstraintTakesBackUnique, DropConstraintTakesBackForeignKey, DropConstraintTakesBackKey, DropUniqueTakesBack, DropForeignKeyTakesBack, DropPrimaryKeyTakesBack, DropIndexTakesBack};
+ghost use Rattle.lq_model.specs.TakesBack.{DropTableTakesBack, DropColumnTakesBack, DropNotNullTakesBack, SetNotNullTakesBack, ModifyTakesBack, DropDefaultTakesBack, DropConstraintTakesBackUnique, DropConstraintTakesBackForeignKey, DropConstraintTakesBackKey, DropUniqueTakesBack, DropForeignKeyTakesBack, DropPrimaryKeyTakesBack, DropIndexTakesBack, DropViewTakesBack, DropSequenceTakesBack, RenameColumnTakesBack, RenameTableTakesBack, RenameViewTakesBack, RenameSequenceTakesBack};
 
 /// DROP TABLE after a CREATE TABLE that was accepted is accepted, and gives the catalogue back.
 pub fn drop_table_takes_back()
@@ -65,4 +65,34 @@ pub fn drop_primary_key_takes_back()
 /// DROP INDEX takes CREATE INDEX back.
 pub fn drop_index_takes_back()
     ensures { DropIndexTakesBack }
+{}
+
+/// DROP VIEW takes CREATE VIEW back, where no view of the name was there.
+pub fn drop_view_takes_back()
+    ensures { DropViewTakesBack }
+{}
+
+/// DROP SEQUENCE takes CREATE SEQUENCE back.
+pub fn drop_sequence_takes_back()
+    ensures { DropSequenceTakesBack }
+{}
+
+/// A renamed column gets its old name back.
+pub fn rename_column_takes_back()
+    ensures { RenameColumnTakesBack }
+{}
+
+/// A renamed table, or a view where the name is one's, gets its old name back.
+pub fn rename_table_takes_back()
+    ensures { RenameTableTakesBack }
+{}
+
+/// A renamed view gets its old name back.
+pub fn rename_view_takes_back()
+    ensures { RenameViewTakesBack }
+{}
+
+/// A renamed sequence gets its old name back.
+pub fn rename_sequence_takes_back()
+    ensures { RenameSequenceTakesBack }
 {}
