@@ -27,6 +27,7 @@ pub mod Maps
 pub mod ModifyKeeps
 pub mod MovedEntries
 pub mod NameCounts
+pub mod RenameColumnKeeps
 pub mod RenameEither
 pub mod RenameTables
 pub mod Rows

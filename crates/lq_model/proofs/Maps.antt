@@ -181,7 +181,7 @@ module _ {X : Type 0} where
       ∙ find-put name_cmp nat_list_cmp_total q k x es
       ∙ ap (cond (is_named q k) (Some x)) (find_is_lookup q es)
 
-  below_gone : (k : Name) (es : List (Name × X)) → T (below_all name_cmp k es) → lookup (is_named k) es ≡ None
+  pub below_gone : (k : Name) (es : List (Name × X)) → T (below_all name_cmp k es) → lookup (is_named k) es ≡ None
   below_gone k [] h = refl
   below_gone k (e ∷ es) h = ap (λ b. cond b (Some e.1) (lookup (is_named k) es)) (less_apart (name_cmp k e.0) (first _ _ h)) ∙ below_gone k es (second _ _ h)
 

@@ -41,7 +41,7 @@ turn f g None h = refl
 turn f g (Some x) h = ap Some (h x refl)
 
 -- a map whose values go by their names
-lookup-entries : {X : Type 0} (q : Name) (g : Name → X → X) (es : List (Name × X)) → lookup (is_named q) (map (λ e. (e.0, g e.0 e.1)) es) ≡ option_map (g q) (lookup (is_named q) es)
+pub lookup-entries : {X : Type 0} (q : Name) (g : Name → X → X) (es : List (Name × X)) → lookup (is_named q) (map (λ e. (e.0, g e.0 e.1)) es) ≡ option_map (g q) (lookup (is_named q) es)
 lookup-entries q g [] = refl
 lookup-entries q g (e ∷ es) =
     elim (is_named q e.0) as (λ b. is_named q e.0 ≡ b → cond b (Some (g e.0 e.1)) (lookup (is_named q) (map (λ x. (x.0, g x.0 x.1)) es)) ≡ option_map (g q) (cond b (Some e.1) (lookup (is_named q) es))) [
@@ -53,7 +53,7 @@ below-entries : {X : Type 0} (g : Name → X → X) (k : Name) (es : List (Name 
 below-entries g k [] = refl
 below-entries g k (e ∷ es) = ap (λ b. is_lt (name_cmp k e.0) && b) (below-entries g k es)
 
-sorted-entries : {X : Type 0} (g : Name → X → X) (es : List (Name × X)) → is_sorted name_cmp (map (λ e. (e.0, g e.0 e.1)) es) ≡ is_sorted name_cmp es
+pub sorted-entries : {X : Type 0} (g : Name → X → X) (es : List (Name × X)) → is_sorted name_cmp (map (λ e. (e.0, g e.0 e.1)) es) ≡ is_sorted name_cmp es
 sorted-entries g [] = refl
 sorted-entries g (e ∷ es) = ap (λ b. b && is_sorted name_cmp (map (λ x. (x.0, g x.0 x.1)) es)) (below-entries g e.0 es) ∙ ap (λ b. below_all name_cmp e.0 es && b) (sorted-entries g es)
 

@@ -1,6 +1,6 @@
 -- What takes a statement back.
 use Rattle.std.specs.List.{list_all}
-use Rattle.std.specs.Prelude.{Bool, List, None, Ok, Option, Some, false, is_none, not, true, ℕ, ℤ, ◌&&◌, ◌||◌, ◌≡◌}
+use Rattle.std.specs.Prelude.{Bool, List, None, Ok, Option, Some, [], false, is_none, not, true, ℕ, ℤ, ◌&&◌, ◌||◌, ◌∷◌, ◌≡◌}
 use Rattle.lq_base.specs.Name.{is_named}
 use Rattle.lq_base.specs.declared.dialect.Dialect.{Dialect}
 use Rattle.lq_base.specs.declared.dialect.Dialect.TheVariants.{Mysql, Postgresql}
@@ -10,8 +10,10 @@ use Rattle.lq_base.specs.declared.name.Name.{Name}
 use Rattle.lq_model.specs.Catalogue.{Catalogue, the_table, view_of}
 use Rattle.lq_model.specs.Kinds.{equal_kinds}
 use Rattle.lq_model.specs.Names.{is_in}
+use Rattle.lq_model.specs.Reserved.{is_reserved}
 use Rattle.lq_model.specs.Sound.{IsSound}
 use Rattle.lq_model.specs.Step.{step}
+use Rattle.lq_model.specs.Widened.{IsWidened}
 use Rattle.lq_model.specs.declared.caller.By.{By}
 use Rattle.lq_model.specs.declared.column.Column.{Column}
 use Rattle.lq_model.specs.declared.column.ColumnDef.{ColumnDef}
@@ -21,7 +23,8 @@ use Rattle.lq_model.specs.declared.constraint.Unique.{Unique}
 use Rattle.lq_model.specs.declared.index.Index.{Index}
 use Rattle.lq_model.specs.declared.query.Query.{Query}
 use Rattle.lq_model.specs.declared.statement.Statement.{Statement}
-use Rattle.lq_model.specs.declared.statement.Statement.TheVariants.{AddColumn, AddForeignKey, AddPrimaryKey, AddUnique, CreateIndex, CreateSequence, CreateTable, CreateView, DropColumn, DropConstraint, DropDefault, DropForeignKey, DropIndex, DropNotNull, DropPrimaryKey, DropSequence, DropTable, DropUnique, DropView, Modify, RenameColumn, RenameSequence, RenameTable, RenameView, SetDefault, SetNotNull}
+use Rattle.lq_model.specs.declared.statement.Statement.TheVariants.{AddColumn, AddForeignKey, AddPrimaryKey, AddUnique, CreateIndex, CreateSequence, CreateTable, CreateView, DropColumn, DropConstraint, DropDefault, DropForeignKey, DropIndex, DropNotNull, DropPrimaryKey, DropSequence, DropTable, DropUnique, DropView, Modify, RenameColumn, RenameSequence, RenameTable, RenameView, SetDefault, SetNotNull, Update}
+use Rattle.lq_model.specs.declared.test.Test.{Test}
 
 -- where s is accepted on a sound catalogue, u is accepted after it, by the same caller, and gives the catalogue back whole
 abbrev pub TakesBack : Dialect → Statement → Statement → Type 0
@@ -40,6 +43,18 @@ DropTableTakesBack = (d : Dialect) (t : Name) (defs : List ColumnDef) (key : Opt
 
 abbrev pub DropColumnTakesBack : Type 0
 DropColumnTakesBack = (d : Dialect) (t : Name) (def : ColumnDef) → TakesBack d (AddColumn t def) (DropColumn t def.name)
+
+-- where e is c with one more column n of t at the end, DROP COLUMN gives c back, whatever was set in the column and however it was changed since
+abbrev pub DropWidened : Type 0
+DropWidened = (d : Dialect) (t n : Name) (by : By) (c e : Catalogue) → IsSound d c → IsWidened t n c e → is_reserved by (t ∷ []) ≡ false → step by d (DropColumn t n) e ≡ Ok (c, 0)
+
+-- such a catalogue comes from ADD COLUMN, and stays one after an UPDATE of the column, SET NOT NULL and MODIFY
+abbrev pub StaysWidened : Type 0
+StaysWidened =
+    ((by : By) (d : Dialect) (t : Name) (def : ColumnDef) (c e : Catalogue) (k : ℕ) → step by d (AddColumn t def) c ≡ Ok (e, k) → IsWidened t def.name c e)
+    × ((by : By) (d : Dialect) (t n : Name) (l : Literal) (test : Option Test) (c e f : Catalogue) (k : ℕ) → IsSound d c → IsWidened t n c e → step by d (Update t ((n, l) ∷ []) test) e ≡ Ok (f, k) → IsWidened t n c f)
+    × ((by : By) (d : Dialect) (t n : Name) (c e f : Catalogue) (k : ℕ) → IsWidened t n c e → step by d (SetNotNull t n) e ≡ Ok (f, k) → IsWidened t n c f)
+    × ((by : By) (d : Dialect) (t n : Name) (kind : Kind) (nullable : Bool) (c e f : Catalogue) (k : ℕ) → IsWidened t n c e → step by d (Modify t n kind nullable) e ≡ Ok (f, k) → IsWidened t n c f)
 
 -- what each column of that name is like; true where there is none
 abbrev pub is_each : Name → Name → (Column → Bool) → Catalogue → Bool

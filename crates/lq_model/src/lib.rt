@@ -24,19 +24,17 @@ pub use column::{Column, ColumnDef};
 pub use constraint::{ForeignKey, Key, Unique};
 pub use fault::{AskFault, KindFault, ParseFault, StoreFault};
 pub use index::Index;
-pub use keeps_sound::{
-    create_table_keeps_sound, delete_keeps_sound, drop_table_keeps_sound, insert_keeps_sound,
-    statement_keeps_sound, update_keeps_sound,
-};
+pub use keeps_sound::statement_keeps_sound;
 pub use phrase::Phrase;
 pub use query::{Answered, Query, Wanted};
 pub use statement::Statement;
 pub use takes_back::{
-    drop_column_takes_back, drop_constraint_takes_back_foreign_key, drop_constraint_takes_back_key,
-    drop_constraint_takes_back_unique, drop_default_takes_back, drop_foreign_key_takes_back,
-    drop_index_takes_back, drop_not_null_takes_back, drop_primary_key_takes_back,
-    drop_sequence_takes_back, drop_table_takes_back, drop_unique_takes_back, drop_view_takes_back,
-    modify_takes_back, rename_column_takes_back, rename_sequence_takes_back,
-    rename_table_takes_back, rename_view_takes_back, set_not_null_takes_back,
+    drop_column_takes_back, drop_column_takes_back_widened, drop_constraint_takes_back_foreign_key,
+    drop_constraint_takes_back_key, drop_constraint_takes_back_unique, drop_default_takes_back,
+    drop_foreign_key_takes_back, drop_index_takes_back, drop_not_null_takes_back,
+    drop_primary_key_takes_back, drop_sequence_takes_back, drop_table_takes_back,
+    drop_unique_takes_back, drop_view_takes_back, modify_takes_back, rename_column_takes_back,
+    rename_sequence_takes_back, rename_table_takes_back, rename_view_takes_back,
+    set_not_null_takes_back, stays_widened,
 };
 pub use test::{Op, Operand, Test};

@@ -1,5 +1,5 @@
 //! Laws: a statement that was accepted on a sound catalogue, and the statement that takes it back.
-ghost use Rattle.lq_model.specs.TakesBack.{DropTableTakesBack, DropColumnTakesBack, DropNotNullTakesBack, SetNotNullTakesBack, ModifyTakesBack, DropDefaultTakesBack, DropConstraintTakesBackUnique, DropConstraintTakesBackForeignKey, DropConstraintTakesBackKey, DropUniqueTakesBack, DropForeignKeyTakesBack, DropPrimaryKeyTakesBack, DropIndexTakesBack, DropViewTakesBack, DropSequenceTakesBack, RenameColumnTakesBack, RenameTableTakesBack, RenameViewTakesBack, RenameSequenceTakesBack};
+ghost use Rattle.lq_model.specs.TakesBack.{DropTableTakesBack, DropColumnTakesBack, DropWidened, StaysWidened, DropNotNullTakesBack, SetNotNullTakesBack, ModifyTakesBack, DropDefaultTakesBack, DropConstraintTakesBackUnique, DropConstraintTakesBackForeignKey, DropConstraintTakesBackKey, DropUniqueTakesBack, DropForeignKeyTakesBack, DropPrimaryKeyTakesBack, DropIndexTakesBack, DropViewTakesBack, DropSequenceTakesBack, RenameColumnTakesBack, RenameTableTakesBack, RenameViewTakesBack, RenameSequenceTakesBack};
 
 /// DROP TABLE after a CREATE TABLE that was accepted is accepted, and gives the catalogue back.
 pub fn drop_table_takes_back()
@@ -9,6 +9,16 @@ pub fn drop_table_takes_back()
 /// DROP COLUMN takes ADD COLUMN back.
 pub fn drop_column_takes_back()
     ensures { DropColumnTakesBack }
+{}
+
+/// DROP COLUMN takes a new last column back, whatever its values and its kind have become.
+pub fn drop_column_takes_back_widened()
+    ensures { DropWidened }
+{}
+
+/// ADD COLUMN gives a new last column, and UPDATE, SET NOT NULL and MODIFY of it leave it one.
+pub fn stays_widened()
+    ensures { StaysWidened }
 {}
 
 /// DROP NOT NULL takes SET NOT NULL back, where the column was nullable.
