@@ -16,6 +16,7 @@ pub mod Dropped
 pub mod EqualKinds
 pub mod ExampleWorld
 pub mod Examples
+pub mod ExamplesAlter
 pub mod IntoKind
 pub mod KeepsSound
 pub mod Kept
