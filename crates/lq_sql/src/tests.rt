@@ -5,7 +5,6 @@ use lq_model::{
 };
 use std::alloc::Global;
 use std::process::Abort;
-use std::test::Fail;
 
 const PG: Dialect = Dialect::Postgresql;
 
@@ -16,65 +15,58 @@ fn printed(alloc: Global, dialect: Dialect, statement: Statement) -> Result<Text
     print(alloc, dialect, &statement)
 }
 
-fn prints(
-    rt: &impl Abort,
-    alloc: Global,
-    dialect: Dialect,
-    statement: Statement,
-    wanted: &str,
-) -> Result<(), Fail> {
-    let text = printed(alloc, dialect, statement)?;
+fn prints(rt: &impl Abort, alloc: Global, dialect: Dialect, statement: Statement, wanted: &str) {
+    let text = printed(alloc, dialect, statement).expect(rt, "memory");
     assert_eq!(rt; text.as_str(), wanted);
-    Ok(())
 }
 
-fn name(alloc: Global, text: &str) -> Result<Name, Fail> {
-    Ok(Name::new(alloc, text)?)
+fn name(rt: &impl Abort, alloc: Global, text: &str) -> Name {
+    Name::new(alloc, text).expect(rt, "a name")
 }
 
-fn one<T: Drop>(alloc: Global, it: T) -> Result<Items<T>, Fail> {
+fn one<T: Drop>(rt: &impl Abort, alloc: Global, it: T) -> Items<T> {
     let mut items = Items::new(alloc);
-    items.push(it)?;
-    Ok(items)
+    items.push(it).expect(rt, "memory");
+    items
 }
 
-fn one_name(alloc: Global, text: &str) -> Result<Items<Name>, Fail> {
-    one(alloc, name(alloc, text)?)
+fn one_name(rt: &impl Abort, alloc: Global, text: &str) -> Items<Name> {
+    one(rt, alloc, name(rt, alloc, text))
 }
 
-fn two_names(alloc: Global, first: &str, second: &str) -> Result<Items<Name>, Fail> {
-    let mut names = one_name(alloc, first)?;
-    names.push(name(alloc, second)?)?;
-    Ok(names)
+fn two_names(rt: &impl Abort, alloc: Global, first: &str, second: &str) -> Items<Name> {
+    let mut names = one_name(rt, alloc, first);
+    names.push(name(rt, alloc, second)).expect(rt, "memory");
+    names
 }
 
-fn text_of(alloc: Global, text: &str) -> Result<Literal, Fail> {
-    Ok(Literal::Text(Text::new(alloc, text)?))
+fn text_of(rt: &impl Abort, alloc: Global, text: &str) -> Literal {
+    Literal::Text(Text::new(alloc, text).expect(rt, "memory"))
 }
 
-fn column(alloc: Global, text: &str, kind: Kind, nullable: bool) -> Result<ColumnDef, Fail> {
-    Ok(ColumnDef {
-        name: name(alloc, text)?,
+fn column(rt: &impl Abort, alloc: Global, text: &str, kind: Kind, nullable: bool) -> ColumnDef {
+    ColumnDef {
+        name: name(rt, alloc, text),
         kind,
         nullable,
         default: None,
         numbered: false,
-    })
+    }
 }
 
-fn numbered(alloc: Global, text: &str) -> Result<ColumnDef, Fail> {
-    Ok(ColumnDef {
-        name: name(alloc, text)?,
+fn numbered(rt: &impl Abort, alloc: Global, text: &str) -> ColumnDef {
+    ColumnDef {
+        name: name(rt, alloc, text),
         kind: Kind::BigInt,
         nullable: false,
         default: None,
         numbered: true,
-    })
+    }
 }
 
-fn priced(alloc: Global, text: &str) -> Result<ColumnDef, Fail> {
-    Ok(ColumnDef {
-        name: name(alloc, text)?,
+fn priced(rt: &impl Abort, alloc: Global, text: &str) -> ColumnDef {
+    ColumnDef {
+        name: name(rt, alloc, text),
         kind: Kind::Decimal(5, 2),
         nullable: false,
         default: Some(Literal::Fixed {
@@ -82,589 +74,603 @@ fn priced(alloc: Global, text: &str) -> Result<ColumnDef, Fail> {
             scale: 2,
         }),
         numbered: false,
-    })
+    }
 }
 
-fn key(alloc: Global, text: &str, column: &str) -> Result<Key, Fail> {
-    Ok(Key {
-        name: name(alloc, text)?,
-        columns: one_name(alloc, column)?,
-    })
+fn key(rt: &impl Abort, alloc: Global, text: &str, column: &str) -> Key {
+    Key {
+        name: name(rt, alloc, text),
+        columns: one_name(rt, alloc, column),
+    }
 }
 
-fn unique(alloc: Global, text: &str, first: &str, second: &str) -> Result<Unique, Fail> {
-    Ok(Unique {
-        name: name(alloc, text)?,
-        columns: two_names(alloc, first, second)?,
-    })
+fn unique(rt: &impl Abort, alloc: Global, text: &str, first: &str, second: &str) -> Unique {
+    Unique {
+        name: name(rt, alloc, text),
+        columns: two_names(rt, alloc, first, second),
+    }
 }
 
-fn foreign(alloc: Global, text: &str, column: &str, cascade: bool) -> Result<ForeignKey, Fail> {
-    Ok(ForeignKey {
-        name: name(alloc, text)?,
-        columns: one_name(alloc, column)?,
-        table: name(alloc, "team")?,
-        targets: one_name(alloc, "id")?,
+fn foreign(rt: &impl Abort, alloc: Global, text: &str, column: &str, cascade: bool) -> ForeignKey {
+    ForeignKey {
+        name: name(rt, alloc, text),
+        columns: one_name(rt, alloc, column),
+        table: name(rt, alloc, "team"),
+        targets: one_name(rt, alloc, "id"),
         cascade,
-    })
+    }
 }
 
-fn team(alloc: Global) -> Result<Statement, Fail> {
-    let mut columns = one(alloc, column(alloc, "id", Kind::Int, false)?)?;
-    columns.push(column(alloc, "name", Kind::Varchar(40), false)?)?;
-    Ok(Statement::CreateTable {
-        table: name(alloc, "team")?,
+fn team(rt: &impl Abort, alloc: Global) -> Statement {
+    let mut columns = one(rt, alloc, column(rt, alloc, "id", Kind::Int, false));
+    columns
+        .push(column(rt, alloc, "name", Kind::Varchar(40), false))
+        .expect(rt, "memory");
+    Statement::CreateTable {
+        table: name(rt, alloc, "team"),
         columns,
-        key: Some(key(alloc, "pk_team", "id")?),
+        key: Some(key(rt, alloc, "pk_team", "id")),
         uniques: Items::new(alloc),
         foreign: Items::new(alloc),
-    })
+    }
 }
 
-fn full_table(alloc: Global) -> Result<Statement, Fail> {
-    let mut columns = one(alloc, numbered(alloc, "id")?)?;
-    columns.push(column(alloc, "when", Kind::Moment, true)?)?;
-    columns.push(priced(alloc, "price")?)?;
-    Ok(Statement::CreateTable {
-        table: name(alloc, "a\"b`c")?,
+fn full_table(rt: &impl Abort, alloc: Global) -> Statement {
+    let mut columns = one(rt, alloc, numbered(rt, alloc, "id"));
+    columns
+        .push(column(rt, alloc, "when", Kind::Moment, true))
+        .expect(rt, "memory");
+    columns
+        .push(priced(rt, alloc, "price"))
+        .expect(rt, "memory");
+    Statement::CreateTable {
+        table: name(rt, alloc, "a\"b`c"),
         columns,
-        key: Some(key(alloc, "pk", "id")?),
-        uniques: one(alloc, unique(alloc, "uq", "id", "price")?)?,
-        foreign: one(alloc, foreign(alloc, "fk", "id", true)?)?,
-    })
+        key: Some(key(rt, alloc, "pk", "id")),
+        uniques: one(rt, alloc, unique(rt, alloc, "uq", "id", "price")),
+        foreign: one(rt, alloc, foreign(rt, alloc, "fk", "id", true)),
+    }
 }
 
 #[test]
-fn prints_tables(rt: HostRuntime) -> Result<(), Fail> {
+fn prints_tables(rt: HostRuntime) {
     let alloc = rt.alloc();
+    let rt = &rt;
     prints(
-        &rt,
+        rt,
         alloc,
         PG,
-        team(alloc)?,
+        team(rt, alloc),
         "CREATE TABLE \"team\" (\"id\" INTEGER NOT NULL, \"name\" VARCHAR(40) NOT NULL, CONSTRAINT \"pk_team\" PRIMARY KEY (\"id\"))",
-    )?;
+    );
     prints(
-        &rt,
+        rt,
         alloc,
         MY,
-        team(alloc)?,
+        team(rt, alloc),
         "CREATE TABLE `team` (`id` INT NOT NULL, `name` VARCHAR(40) NOT NULL, PRIMARY KEY (`id`))",
-    )?;
+    );
     prints(
-        &rt,
+        rt,
         alloc,
         PG,
-        full_table(alloc)?,
+        full_table(rt, alloc),
         "CREATE TABLE \"a\"\"b`c\" (\"id\" BIGINT GENERATED BY DEFAULT AS IDENTITY NOT NULL, \"when\" TIMESTAMP, \"price\" DECIMAL(5, 2) NOT NULL DEFAULT -7.50, CONSTRAINT \"pk\" PRIMARY KEY (\"id\"), CONSTRAINT \"uq\" UNIQUE (\"id\", \"price\"), CONSTRAINT \"fk\" FOREIGN KEY (\"id\") REFERENCES \"team\" (\"id\") ON DELETE CASCADE)",
-    )?;
+    );
     prints(
-        &rt,
+        rt,
         alloc,
         MY,
-        full_table(alloc)?,
+        full_table(rt, alloc),
         "CREATE TABLE `a\"b``c` (`id` BIGINT AUTO_INCREMENT NOT NULL, `when` DATETIME(3), `price` DECIMAL(5, 2) NOT NULL DEFAULT -7.50, PRIMARY KEY (`id`), CONSTRAINT `uq` UNIQUE (`id`, `price`), CONSTRAINT `fk` FOREIGN KEY (`id`) REFERENCES `team` (`id`) ON DELETE CASCADE)",
     )
 }
 
 #[test]
-fn prints_changes_of_tables(rt: HostRuntime) -> Result<(), Fail> {
+fn prints_changes_of_tables(rt: HostRuntime) {
     let alloc = rt.alloc();
+    let rt = &rt;
     let table = "t";
-    for_columns(&rt, alloc, table)?;
-    for_constraints(&rt, alloc, table)?;
-    for_schemas(&rt, alloc, table)
+    for_columns(rt, alloc, table);
+    for_constraints(rt, alloc, table);
+    for_schemas(rt, alloc, table)
 }
 
-fn for_columns(rt: &impl Abort, alloc: Global, t: &str) -> Result<(), Fail> {
+fn for_columns(rt: &impl Abort, alloc: Global, t: &str) {
     prints(
         rt,
         alloc,
         PG,
         Statement::DropTable {
-            table: name(alloc, t)?,
+            table: name(rt, alloc, t),
         },
         "DROP TABLE \"t\"",
-    )?;
+    );
     prints(
         rt,
         alloc,
         PG,
         Statement::RenameTable {
-            table: name(alloc, t)?,
-            to: name(alloc, "u")?,
+            table: name(rt, alloc, t),
+            to: name(rt, alloc, "u"),
         },
         "ALTER TABLE \"t\" RENAME TO \"u\"",
-    )?;
+    );
     prints(
         rt,
         alloc,
         MY,
         Statement::RenameTable {
-            table: name(alloc, t)?,
-            to: name(alloc, "u")?,
+            table: name(rt, alloc, t),
+            to: name(rt, alloc, "u"),
         },
         "RENAME TABLE `t` TO `u`",
-    )?;
+    );
     prints(
         rt,
         alloc,
         PG,
         Statement::AddColumn {
-            table: name(alloc, t)?,
-            column: column(alloc, "c", Kind::Text, true)?,
+            table: name(rt, alloc, t),
+            column: column(rt, alloc, "c", Kind::Text, true),
         },
         "ALTER TABLE \"t\" ADD COLUMN \"c\" TEXT",
-    )?;
+    );
     prints(
         rt,
         alloc,
         PG,
         Statement::DropColumn {
-            table: name(alloc, t)?,
-            column: name(alloc, "c")?,
+            table: name(rt, alloc, t),
+            column: name(rt, alloc, "c"),
         },
         "ALTER TABLE \"t\" DROP COLUMN \"c\"",
-    )?;
+    );
     prints(
         rt,
         alloc,
         MY,
         Statement::RenameColumn {
-            table: name(alloc, t)?,
-            column: name(alloc, "c")?,
-            to: name(alloc, "d")?,
+            table: name(rt, alloc, t),
+            column: name(rt, alloc, "c"),
+            to: name(rt, alloc, "d"),
         },
         "ALTER TABLE `t` RENAME COLUMN `c` TO `d`",
-    )?;
+    );
     prints(
         rt,
         alloc,
         PG,
         Statement::SetNotNull {
-            table: name(alloc, t)?,
-            column: name(alloc, "c")?,
+            table: name(rt, alloc, t),
+            column: name(rt, alloc, "c"),
         },
         "ALTER TABLE \"t\" ALTER COLUMN \"c\" SET NOT NULL",
-    )?;
+    );
     prints(
         rt,
         alloc,
         PG,
         Statement::DropNotNull {
-            table: name(alloc, t)?,
-            column: name(alloc, "c")?,
+            table: name(rt, alloc, t),
+            column: name(rt, alloc, "c"),
         },
         "ALTER TABLE \"t\" ALTER COLUMN \"c\" DROP NOT NULL",
-    )?;
+    );
     prints(
         rt,
         alloc,
         MY,
         Statement::Modify {
-            table: name(alloc, t)?,
-            column: name(alloc, "c")?,
+            table: name(rt, alloc, t),
+            column: name(rt, alloc, "c"),
             kind: Kind::Boolean,
             nullable: false,
         },
         "ALTER TABLE `t` MODIFY `c` BOOLEAN NOT NULL",
-    )?;
+    );
     prints(
         rt,
         alloc,
         MY,
         Statement::Modify {
-            table: name(alloc, t)?,
-            column: name(alloc, "c")?,
+            table: name(rt, alloc, t),
+            column: name(rt, alloc, "c"),
             kind: Kind::Int,
             nullable: true,
         },
         "ALTER TABLE `t` MODIFY `c` INT NULL",
-    )?;
+    );
     prints(
         rt,
         alloc,
         MY,
         Statement::SetDefault {
-            table: name(alloc, t)?,
-            column: name(alloc, "c")?,
-            value: text_of(alloc, "it's \\")?,
+            table: name(rt, alloc, t),
+            column: name(rt, alloc, "c"),
+            value: text_of(rt, alloc, "it's \\"),
         },
         "ALTER TABLE `t` ALTER COLUMN `c` SET DEFAULT 'it''s \\\\'",
-    )?;
+    );
     prints(
         rt,
         alloc,
         PG,
         Statement::SetDefault {
-            table: name(alloc, t)?,
-            column: name(alloc, "c")?,
-            value: text_of(alloc, "it's \\")?,
+            table: name(rt, alloc, t),
+            column: name(rt, alloc, "c"),
+            value: text_of(rt, alloc, "it's \\"),
         },
         "ALTER TABLE \"t\" ALTER COLUMN \"c\" SET DEFAULT 'it''s \\'",
-    )?;
+    );
     prints(
         rt,
         alloc,
         PG,
         Statement::DropDefault {
-            table: name(alloc, t)?,
-            column: name(alloc, "c")?,
+            table: name(rt, alloc, t),
+            column: name(rt, alloc, "c"),
         },
         "ALTER TABLE \"t\" ALTER COLUMN \"c\" DROP DEFAULT",
     )
 }
 
-fn for_constraints(rt: &impl Abort, alloc: Global, t: &str) -> Result<(), Fail> {
+fn for_constraints(rt: &impl Abort, alloc: Global, t: &str) {
     prints(
         rt,
         alloc,
         PG,
         Statement::AddPrimaryKey {
-            table: name(alloc, t)?,
-            key: key(alloc, "pk_t", "id")?,
+            table: name(rt, alloc, t),
+            key: key(rt, alloc, "pk_t", "id"),
         },
         "ALTER TABLE \"t\" ADD CONSTRAINT \"pk_t\" PRIMARY KEY (\"id\")",
-    )?;
+    );
     prints(
         rt,
         alloc,
         MY,
         Statement::AddPrimaryKey {
-            table: name(alloc, t)?,
-            key: key(alloc, "PRIMARY", "id")?,
+            table: name(rt, alloc, t),
+            key: key(rt, alloc, "PRIMARY", "id"),
         },
         "ALTER TABLE `t` ADD PRIMARY KEY (`id`)",
-    )?;
+    );
     prints(
         rt,
         alloc,
         PG,
         Statement::AddUnique {
-            table: name(alloc, t)?,
-            unique: unique(alloc, "uq", "a", "b")?,
+            table: name(rt, alloc, t),
+            unique: unique(rt, alloc, "uq", "a", "b"),
         },
         "ALTER TABLE \"t\" ADD CONSTRAINT \"uq\" UNIQUE (\"a\", \"b\")",
-    )?;
+    );
     prints(
         rt,
         alloc,
         PG,
         Statement::AddForeignKey {
-            table: name(alloc, "player")?,
-            foreign: foreign(alloc, "fk_player_team", "team_id", false)?,
+            table: name(rt, alloc, "player"),
+            foreign: foreign(rt, alloc, "fk_player_team", "team_id", false),
         },
         "ALTER TABLE \"player\" ADD CONSTRAINT \"fk_player_team\" FOREIGN KEY (\"team_id\") REFERENCES \"team\" (\"id\")",
-    )?;
+    );
     prints(
         rt,
         alloc,
         MY,
         Statement::AddForeignKey {
-            table: name(alloc, t)?,
-            foreign: foreign(alloc, "fk", "c", true)?,
+            table: name(rt, alloc, t),
+            foreign: foreign(rt, alloc, "fk", "c", true),
         },
         "ALTER TABLE `t` ADD CONSTRAINT `fk` FOREIGN KEY (`c`) REFERENCES `team` (`id`) ON DELETE CASCADE",
-    )?;
+    );
     prints(
         rt,
         alloc,
         PG,
         Statement::DropConstraint {
-            table: name(alloc, "player")?,
-            name: name(alloc, "fk_player_team")?,
+            table: name(rt, alloc, "player"),
+            name: name(rt, alloc, "fk_player_team"),
         },
         "ALTER TABLE \"player\" DROP CONSTRAINT \"fk_player_team\"",
-    )?;
+    );
     prints(
         rt,
         alloc,
         MY,
         Statement::DropPrimaryKey {
-            table: name(alloc, t)?,
+            table: name(rt, alloc, t),
         },
         "ALTER TABLE `t` DROP PRIMARY KEY",
-    )?;
+    );
     prints(
         rt,
         alloc,
         MY,
         Statement::DropUnique {
-            table: name(alloc, t)?,
-            name: name(alloc, "uq")?,
+            table: name(rt, alloc, t),
+            name: name(rt, alloc, "uq"),
         },
         "ALTER TABLE `t` DROP INDEX `uq`",
-    )?;
+    );
     prints(
         rt,
         alloc,
         MY,
         Statement::DropForeignKey {
-            table: name(alloc, t)?,
-            name: name(alloc, "fk")?,
+            table: name(rt, alloc, t),
+            name: name(rt, alloc, "fk"),
         },
         "ALTER TABLE `t` DROP FOREIGN KEY `fk`",
     )
 }
 
-fn index(alloc: Global, text: &str, unique: bool) -> Result<Index, Fail> {
-    Ok(Index {
-        name: name(alloc, text)?,
-        columns: one_name(alloc, "team_id")?,
+fn index(rt: &impl Abort, alloc: Global, text: &str, unique: bool) -> Index {
+    Index {
+        name: name(rt, alloc, text),
+        columns: one_name(rt, alloc, "team_id"),
         unique,
-    })
+    }
 }
 
-fn for_schemas(rt: &impl Abort, alloc: Global, t: &str) -> Result<(), Fail> {
+fn for_schemas(rt: &impl Abort, alloc: Global, t: &str) {
     prints(
         rt,
         alloc,
         PG,
         Statement::CreateIndex {
-            table: name(alloc, "player")?,
-            index: index(alloc, "ix_player_team", false)?,
+            table: name(rt, alloc, "player"),
+            index: index(rt, alloc, "ix_player_team", false),
         },
         "CREATE INDEX \"ix_player_team\" ON \"player\" (\"team_id\")",
-    )?;
+    );
     prints(
         rt,
         alloc,
         MY,
         Statement::CreateIndex {
-            table: name(alloc, t)?,
-            index: index(alloc, "ix", true)?,
+            table: name(rt, alloc, t),
+            index: index(rt, alloc, "ix", true),
         },
         "CREATE UNIQUE INDEX `ix` ON `t` (`team_id`)",
-    )?;
+    );
     prints(
         rt,
         alloc,
         PG,
         Statement::DropIndex {
-            name: name(alloc, "ix_player_team")?,
+            name: name(rt, alloc, "ix_player_team"),
             table: None,
         },
         "DROP INDEX \"ix_player_team\"",
-    )?;
+    );
     prints(
         rt,
         alloc,
         MY,
         Statement::DropIndex {
-            name: name(alloc, "ix")?,
-            table: Some(name(alloc, t)?),
+            name: name(rt, alloc, "ix"),
+            table: Some(name(rt, alloc, t)),
         },
         "DROP INDEX `ix` ON `t`",
-    )?;
+    );
     prints(
         rt,
         alloc,
         PG,
         Statement::CreateView {
-            view: name(alloc, "v")?,
-            query: names_of_teams(alloc)?,
+            view: name(rt, alloc, "v"),
+            query: names_of_teams(rt, alloc),
             replace: false,
         },
         "CREATE VIEW \"v\" AS SELECT \"id\" FROM \"team\"",
-    )?;
+    );
     prints(
         rt,
         alloc,
         MY,
         Statement::CreateView {
-            view: name(alloc, "v")?,
-            query: names_of_teams(alloc)?,
+            view: name(rt, alloc, "v"),
+            query: names_of_teams(rt, alloc),
             replace: true,
         },
         "CREATE OR REPLACE VIEW `v` AS SELECT `id` FROM `team`",
-    )?;
+    );
     prints(
         rt,
         alloc,
         PG,
         Statement::DropView {
-            view: name(alloc, "v")?,
+            view: name(rt, alloc, "v"),
         },
         "DROP VIEW \"v\"",
-    )?;
+    );
     prints(
         rt,
         alloc,
         PG,
         Statement::RenameView {
-            view: name(alloc, "v")?,
-            to: name(alloc, "w")?,
+            view: name(rt, alloc, "v"),
+            to: name(rt, alloc, "w"),
         },
         "ALTER VIEW \"v\" RENAME TO \"w\"",
-    )?;
+    );
     prints(
         rt,
         alloc,
         PG,
         Statement::CreateSequence {
-            name: name(alloc, "s")?,
+            name: name(rt, alloc, "s"),
             start: 10,
             step: -2,
         },
         "CREATE SEQUENCE \"s\" START WITH 10 INCREMENT BY -2",
-    )?;
+    );
     prints(
         rt,
         alloc,
         PG,
         Statement::DropSequence {
-            name: name(alloc, "s")?,
+            name: name(rt, alloc, "s"),
         },
         "DROP SEQUENCE \"s\"",
-    )?;
+    );
     prints(
         rt,
         alloc,
         PG,
         Statement::RenameSequence {
-            name: name(alloc, "s")?,
-            to: name(alloc, "r")?,
+            name: name(rt, alloc, "s"),
+            to: name(rt, alloc, "r"),
         },
         "ALTER SEQUENCE \"s\" RENAME TO \"r\"",
     )
 }
 
-fn names_of_teams(alloc: Global) -> Result<Query, Fail> {
-    Ok(Query {
-        wanted: Wanted::Columns(one_name(alloc, "id")?),
-        table: name(alloc, "team")?,
+fn names_of_teams(rt: &impl Abort, alloc: Global) -> Query {
+    Query {
+        wanted: Wanted::Columns(one_name(rt, alloc, "id")),
+        table: name(rt, alloc, "team"),
         test: None,
-    })
+    }
 }
 
 // `column = 'text'`
-fn holds(alloc: Global, text: &str, value: &str) -> Result<Test, Fail> {
-    Ok(Test::Compare {
+fn holds(rt: &impl Abort, alloc: Global, text: &str, value: &str) -> Test {
+    Test::Compare {
         op: Op::Eq,
-        x: Operand::Column(name(alloc, text)?),
-        y: Operand::Literal(text_of(alloc, value)?),
-    })
+        x: Operand::Column(name(rt, alloc, text)),
+        y: Operand::Literal(text_of(rt, alloc, value)),
+    }
 }
 
-fn compares(alloc: Global, op: Op) -> Result<Test, Fail> {
-    Ok(Test::Compare {
+fn compares(rt: &impl Abort, alloc: Global, op: Op) -> Test {
+    Test::Compare {
         op,
-        x: Operand::Column(name(alloc, "n")?),
+        x: Operand::Column(name(rt, alloc, "n")),
         y: Operand::Literal(Literal::Int(-170141183460469231731687303715884105728)),
-    })
+    }
 }
 
-fn both(alloc: Global, a: Test, b: Test) -> Result<Test, Fail> {
-    let a = Boxed::new(alloc, a)?;
-    let b = Boxed::new(alloc, b)?;
-    Ok(Test::And(a, b))
+fn both(rt: &impl Abort, alloc: Global, a: Test, b: Test) -> Test {
+    let a = Boxed::new(alloc, a).expect(rt, "memory");
+    let b = Boxed::new(alloc, b).expect(rt, "memory");
+    Test::And(a, b)
 }
 
-fn either(alloc: Global, a: Test, b: Test) -> Result<Test, Fail> {
-    let a = Boxed::new(alloc, a)?;
-    let b = Boxed::new(alloc, b)?;
-    Ok(Test::Or(a, b))
+fn either(rt: &impl Abort, alloc: Global, a: Test, b: Test) -> Test {
+    let a = Boxed::new(alloc, a).expect(rt, "memory");
+    let b = Boxed::new(alloc, b).expect(rt, "memory");
+    Test::Or(a, b)
 }
 
-fn turned(alloc: Global, a: Test) -> Result<Test, Fail> {
-    Ok(Test::Not(Boxed::new(alloc, a)?))
+fn turned(rt: &impl Abort, alloc: Global, a: Test) -> Test {
+    Test::Not(Boxed::new(alloc, a).expect(rt, "memory"))
 }
 
-fn row_of(alloc: Global) -> Result<Test, Fail> {
+fn row_of(rt: &impl Abort, alloc: Global) -> Test {
     let run = both(
+        rt,
         alloc,
-        holds(alloc, "ID", "1")?,
-        holds(alloc, "AUTHOR", "ann")?,
-    )?;
-    both(alloc, run, holds(alloc, "FILENAME", "db/r1.json")?)
+        holds(rt, alloc, "ID", "1"),
+        holds(rt, alloc, "AUTHOR", "ann"),
+    );
+    both(rt, alloc, run, holds(rt, alloc, "FILENAME", "db/r1.json"))
 }
 
-fn lock_columns(alloc: Global) -> Result<Items<Name>, Fail> {
-    let mut names = two_names(alloc, "ID", "LOCKED")?;
-    names.push(name(alloc, "LOCKGRANTED")?)?;
-    names.push(name(alloc, "LOCKEDBY")?)?;
-    Ok(names)
+fn lock_columns(rt: &impl Abort, alloc: Global) -> Items<Name> {
+    let mut names = two_names(rt, alloc, "ID", "LOCKED");
+    names
+        .push(name(rt, alloc, "LOCKGRANTED"))
+        .expect(rt, "memory");
+    names.push(name(rt, alloc, "LOCKEDBY")).expect(rt, "memory");
+    names
 }
 
-fn free_values(alloc: Global) -> Result<Items<Literal>, Fail> {
-    let mut values = one(alloc, Literal::Int(1))?;
-    values.push(Literal::Bool(false))?;
-    values.push(Literal::Null)?;
-    values.push(Literal::Null)?;
-    Ok(values)
+fn free_values(rt: &impl Abort, alloc: Global) -> Items<Literal> {
+    let mut values = one(rt, alloc, Literal::Int(1));
+    values.push(Literal::Bool(false)).expect(rt, "memory");
+    values.push(Literal::Null).expect(rt, "memory");
+    values.push(Literal::Null).expect(rt, "memory");
+    values
 }
 
-fn taken(alloc: Global) -> Result<Items<(Name, Literal)>, Fail> {
-    let mut sets = one(alloc, (name(alloc, "LOCKED")?, Literal::Bool(true)))?;
+fn taken(rt: &impl Abort, alloc: Global) -> Items<(Name, Literal)> {
+    let mut sets = one(rt, alloc, (name(rt, alloc, "LOCKED"), Literal::Bool(true)));
     sets.push((
-        name(alloc, "LOCKGRANTED")?,
-        text_of(alloc, "1970-01-01 00:00:01.000")?,
-    ))?;
-    sets.push((name(alloc, "LOCKEDBY")?, text_of(alloc, "ci")?))?;
-    Ok(sets)
+        name(rt, alloc, "LOCKGRANTED"),
+        text_of(rt, alloc, "1970-01-01 00:00:01.000"),
+    ))
+    .expect(rt, "memory");
+    sets.push((name(rt, alloc, "LOCKEDBY"), text_of(rt, alloc, "ci")))
+        .expect(rt, "memory");
+    sets
 }
 
-fn first_row(alloc: Global) -> Result<Test, Fail> {
-    Ok(Test::Compare {
+fn first_row(rt: &impl Abort, alloc: Global) -> Test {
+    Test::Compare {
         op: Op::Eq,
-        x: Operand::Column(name(alloc, "ID")?),
+        x: Operand::Column(name(rt, alloc, "ID")),
         y: Operand::Literal(Literal::Int(1)),
-    })
+    }
 }
 
 #[test]
-fn prints_rows(rt: HostRuntime) -> Result<(), Fail> {
+fn prints_rows(rt: HostRuntime) {
     let alloc = rt.alloc();
+    let rt = &rt;
     let lock = "DATABASECHANGELOGLOCK";
     prints(
-        &rt,
+        rt,
         alloc,
         PG,
         Statement::Insert {
-            table: name(alloc, lock)?,
-            columns: lock_columns(alloc)?,
-            values: free_values(alloc)?,
+            table: name(rt, alloc, lock),
+            columns: lock_columns(rt, alloc),
+            values: free_values(rt, alloc),
         },
         "INSERT INTO \"DATABASECHANGELOGLOCK\" (\"ID\", \"LOCKED\", \"LOCKGRANTED\", \"LOCKEDBY\") VALUES (1, FALSE, NULL, NULL)",
-    )?;
+    );
     prints(
-        &rt,
+        rt,
         alloc,
         MY,
         Statement::Insert {
-            table: name(alloc, "t")?,
+            table: name(rt, alloc, "t"),
             columns: Items::new(alloc),
-            values: free_values(alloc)?,
+            values: free_values(rt, alloc),
         },
         "INSERT INTO `t` VALUES (1, FALSE, NULL, NULL)",
-    )?;
+    );
     prints(
-        &rt,
+        rt,
         alloc,
         PG,
         Statement::Update {
-            table: name(alloc, lock)?,
-            sets: taken(alloc)?,
-            test: Some(first_row(alloc)?),
+            table: name(rt, alloc, lock),
+            sets: taken(rt, alloc),
+            test: Some(first_row(rt, alloc)),
         },
         "UPDATE \"DATABASECHANGELOGLOCK\" SET \"LOCKED\" = TRUE, \"LOCKGRANTED\" = '1970-01-01 00:00:01.000', \"LOCKEDBY\" = 'ci' WHERE \"ID\" = 1",
-    )?;
+    );
     prints(
-        &rt,
+        rt,
         alloc,
         PG,
         Statement::Delete {
-            table: name(alloc, "DATABASECHANGELOG")?,
-            test: Some(row_of(alloc)?),
+            table: name(rt, alloc, "DATABASECHANGELOG"),
+            test: Some(row_of(rt, alloc)),
         },
         "DELETE FROM \"DATABASECHANGELOG\" WHERE ((\"ID\" = '1' AND \"AUTHOR\" = 'ann') AND \"FILENAME\" = 'db/r1.json')",
-    )?;
+    );
     prints(
-        &rt,
+        rt,
         alloc,
         MY,
         Statement::Delete {
-            table: name(alloc, "t")?,
+            table: name(rt, alloc, "t"),
             test: None,
         },
         "DELETE FROM `t`",
@@ -679,47 +685,84 @@ fn printed_test(alloc: Global, dialect: Dialect, test: Test) -> Result<Text, NoM
     print_test(alloc, dialect, &test)
 }
 
-fn counted(alloc: Global, test: Test) -> Result<Query, Fail> {
-    Ok(Query {
+fn counted(rt: &impl Abort, alloc: Global, test: Test) -> Query {
+    Query {
         wanted: Wanted::Count,
-        table: name(alloc, "t")?,
+        table: name(rt, alloc, "t"),
         test: Some(test),
-    })
+    }
 }
 
-fn all_of(alloc: Global) -> Result<Query, Fail> {
-    Ok(Query {
+fn all_of(rt: &impl Abort, alloc: Global) -> Query {
+    Query {
         wanted: Wanted::All,
-        table: name(alloc, "t")?,
+        table: name(rt, alloc, "t"),
         test: None,
-    })
+    }
 }
 
 #[test]
-fn prints_queries_and_tests(rt: HostRuntime) -> Result<(), Fail> {
+fn prints_queries_and_tests(rt: HostRuntime) {
     let alloc = rt.alloc();
-    let all = printed_query(alloc, MY, all_of(alloc)?)?;
-    assert_eq!(rt; all.as_str(), "SELECT * FROM `t`");
-    let null = turned(alloc, Test::IsNull(Operand::Column(name(alloc, "a")?)))?;
-    let count = printed_query(alloc, PG, counted(alloc, null)?)?;
-    assert_eq!(rt;
-        count.as_str(),
-        "SELECT COUNT(*) FROM \"t\" WHERE (NOT \"a\" IS NULL)"
+    let rt = &rt;
+    shows_query(rt, alloc, MY, all_of(rt, alloc), "SELECT * FROM `t`");
+    let null = turned(
+        rt,
+        alloc,
+        Test::IsNull(Operand::Column(name(rt, alloc, "a"))),
     );
-    let some = Test::NotNull(Operand::Literal(text_of(alloc, "größer")?));
-    let text = printed_test(alloc, PG, either(alloc, some, compares(alloc, Op::Ne)?)?)?;
-    assert_eq!(rt;
-        text.as_str(),
-        "('größer' IS NOT NULL OR \"n\" <> -170141183460469231731687303715884105728)"
+    shows_query(
+        rt,
+        alloc,
+        PG,
+        counted(rt, alloc, null),
+        "SELECT COUNT(*) FROM \"t\" WHERE (NOT \"a\" IS NULL)",
     );
-    for (op, wanted) in [
-        (Op::Lt, "`n` < -170141183460469231731687303715884105728"),
-        (Op::Le, "`n` <= -170141183460469231731687303715884105728"),
-        (Op::Gt, "`n` > -170141183460469231731687303715884105728"),
-        (Op::Ge, "`n` >= -170141183460469231731687303715884105728"),
-    ] {
-        let text = printed_test(alloc, MY, compares(alloc, op)?)?;
-        assert_eq!(rt; text.as_str(), wanted);
-    }
-    Ok(())
+    let some = Test::NotNull(Operand::Literal(text_of(rt, alloc, "größer")));
+    let other = compares(rt, alloc, Op::Ne);
+    shows_test(
+        rt,
+        alloc,
+        PG,
+        either(rt, alloc, some, other),
+        "('größer' IS NOT NULL OR \"n\" <> -170141183460469231731687303715884105728)",
+    );
+    shows_test(
+        rt,
+        alloc,
+        MY,
+        compares(rt, alloc, Op::Lt),
+        "`n` < -170141183460469231731687303715884105728",
+    );
+    shows_test(
+        rt,
+        alloc,
+        MY,
+        compares(rt, alloc, Op::Le),
+        "`n` <= -170141183460469231731687303715884105728",
+    );
+    shows_test(
+        rt,
+        alloc,
+        MY,
+        compares(rt, alloc, Op::Gt),
+        "`n` > -170141183460469231731687303715884105728",
+    );
+    shows_test(
+        rt,
+        alloc,
+        MY,
+        compares(rt, alloc, Op::Ge),
+        "`n` >= -170141183460469231731687303715884105728",
+    );
+}
+
+fn shows_query(rt: &impl Abort, alloc: Global, dialect: Dialect, query: Query, wanted: &str) {
+    let text = printed_query(alloc, dialect, query).expect(rt, "memory");
+    assert_eq!(rt; text.as_str(), wanted);
+}
+
+fn shows_test(rt: &impl Abort, alloc: Global, dialect: Dialect, test: Test, wanted: &str) {
+    let text = printed_test(alloc, dialect, test).expect(rt, "memory");
+    assert_eq!(rt; text.as_str(), wanted);
 }
