@@ -1,2 +1,6 @@
+pub mod Described
 pub mod Each
+pub mod Entries
+pub mod Moments
+pub mod RowMade
 pub mod Seen

@@ -5,13 +5,24 @@
 mod canonical;
 mod changelog;
 mod distinct;
+mod output;
 mod parts;
 mod reading;
 mod reserved;
+mod row;
+mod script;
+mod stamp;
 mod statements;
 mod unread;
 
 pub use canonical::{canonical_text, sum_of};
 pub use changelog::{ChangeSet, CreatedColumn, CreatedTable};
+pub use output::{rollback_text, update_text};
 pub use reading::read_changelog;
 pub use statements::{statement_of, statements_of, undo_statements};
+pub use row::{identity_of, row_after};
+pub use script::{Entry, greatest, rollback_entries, update_entries};
+pub use stamp::Stamp;
+
+#[cfg(test)]
+mod tests;
