@@ -1,3 +1,4 @@
+pub mod TablesMade
 pub mod Described
 pub mod Each
 pub mod Entries

@@ -50,8 +50,8 @@ column_with kind nullable name = option_and_then (λ k. option_map (λ b. record
 
 abbrev pub column_in : Node → Option CreatedColumn
 column_in n = if size n == keys_with (value_at (codes "constraints") n)
-  then option_and_then (column_with (option_and_then kind_of (value_at (codes "type") n)) (nullable_of (value_at (codes "constraints") n))) (option_and_then name_of (value_at (codes "name") n))
-  else None
+    then option_and_then (column_with (option_and_then kind_of (value_at (codes "type") n)) (nullable_of (value_at (codes "constraints") n))) (option_and_then name_of (value_at (codes "name") n))
+    else None
 
 abbrev pub unwrapped : Node → Option Node → Node
 unwrapped n None = n
@@ -71,8 +71,8 @@ columns_of n = option_and_then (if_so are_columns) (list_of column_of n)
 
 abbrev pub table_in : Node → Option CreatedTable
 table_in n = if size n == 2
-  then option_and_then (λ t. option_map (λ cs. record { name = t; columns = cs }) (option_and_then columns_of (value_at (codes "columns") n))) (option_and_then name_of (value_at (codes "tableName") n))
-  else None
+    then option_and_then (λ t. option_map (λ cs. record { name = t; columns = cs }) (option_and_then columns_of (value_at (codes "columns") n))) (option_and_then name_of (value_at (codes "tableName") n))
+    else None
 
 unfoldable pub table_of : Node → Option CreatedTable
 table_of n = option_and_then table_in (only (codes "createTable") n)
@@ -89,8 +89,8 @@ set_with author tables i = option_and_then (λ a. option_map (λ ts. record { id
 
 abbrev pub set_in : Node → Option ChangeSet
 set_in n = if size n == 3
-  then option_and_then (set_with (option_and_then label_of (value_at (codes "author") n)) (option_and_then tables_of (value_at (codes "changes") n))) (option_and_then label_of (value_at (codes "id") n))
-  else None
+    then option_and_then (set_with (option_and_then label_of (value_at (codes "author") n)) (option_and_then tables_of (value_at (codes "changes") n))) (option_and_then label_of (value_at (codes "id") n))
+    else None
 
 unfoldable pub set_of : Node → Option ChangeSet
 set_of n = option_and_then set_in (only (codes "changeSet") n)

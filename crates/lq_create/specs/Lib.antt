@@ -1,5 +1,6 @@
 pub mod Canonical
 pub mod Changelog
+pub mod Created
 pub mod Distinct
 pub mod Output
 pub mod Parts

@@ -79,10 +79,7 @@ pub fn repeats_identity(alloc: Global, sets: &[ChangeSet]) -> Result<bool, NoMem
     repeats_pair(alloc, identities.as_slice())
 }
 
-fn push_names<'a>(
-    names: &mut Items<&'a str>,
-    tables: &'a [CreatedTable],
-) -> Result<(), NoMemory>
+fn push_names<'a>(names: &mut Items<&'a str>, tables: &'a [CreatedTable]) -> Result<(), NoMemory>
     ensures { OnOk result (map (λ n. n.now) names.new ≡ map (λ n. n.now) names.old ++ map (λ t. t.name) tables.now) }
 {
     let mut rest = tables;

@@ -4,6 +4,7 @@
 
 mod canonical;
 mod changelog;
+mod creates;
 mod distinct;
 mod output;
 mod parts;
@@ -17,12 +18,13 @@ mod unread;
 
 pub use canonical::{canonical_text, sum_of};
 pub use changelog::{ChangeSet, CreatedColumn, CreatedTable};
+pub use creates::creates_tables;
 pub use output::{rollback_text, update_text};
 pub use reading::read_changelog;
-pub use statements::{statement_of, statements_of, undo_statements};
 pub use row::{identity_of, row_after};
 pub use script::{Entry, greatest, rollback_entries, update_entries};
 pub use stamp::Stamp;
+pub use statements::{statement_of, statements_of, undo_statements};
 
 #[cfg(test)]
 mod tests;

@@ -5,12 +5,7 @@ use crate::changelog::ChangeSet;
 use lq_base::{NoMemory, Text};
 use std::alloc::Global;
 
-fn push_lines(
-    to: &mut Text,
-    what: &str,
-    path: &str,
-    sets: &[&ChangeSet],
-) -> Result<(), NoMemory>
+fn push_lines(to: &mut Text, what: &str, path: &str, sets: &[&ChangeSet]) -> Result<(), NoMemory>
     ensures { OnOk result (to.new ≡ to.old ++ lines what.now path.now (map (λ s. s.now) sets.now)) }
 {
     let mut rest = sets;

@@ -43,10 +43,7 @@ pub fn statement_of(alloc: Global, table: &CreatedTable) -> Result<Statement, No
 }
 
 /// The statements that create the tables, in order.
-pub fn statements_of(
-    alloc: Global,
-    tables: &[CreatedTable],
-) -> Result<Items<Statement>, NoMemory>
+pub fn statements_of(alloc: Global, tables: &[CreatedTable]) -> Result<Items<Statement>, NoMemory>
     ensures { IfOk result (λ statements. statements ≡ map created tables.now) }
 {
     let mut statements = Items::new(alloc);
@@ -65,10 +62,7 @@ fn undo_of(alloc: Global, table: &CreatedTable) -> Result<Statement, NoMemory>
 }
 
 /// The statements that take the tables away again, the last one first.
-pub fn undo_statements(
-    alloc: Global,
-    tables: &[CreatedTable],
-) -> Result<Items<Statement>, NoMemory>
+pub fn undo_statements(alloc: Global, tables: &[CreatedTable]) -> Result<Items<Statement>, NoMemory>
     ensures { IfOk result (λ statements. statements ≡ undoing tables.now) }
 {
     let mut statements = Items::new(alloc);

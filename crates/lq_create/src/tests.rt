@@ -1,4 +1,6 @@
-use crate::{ChangeSet, Stamp, read_changelog, rollback_entries, rollback_text, update_entries, update_text};
+use crate::{
+    ChangeSet, Stamp, read_changelog, rollback_entries, rollback_text, update_entries, update_text,
+};
 use lq_base::{Items, Literal, NoMemory, Text};
 use lq_model::{ColumnDef, Statement};
 use lq_tree::read_json;
@@ -78,6 +80,7 @@ fn two_changesets_and_back(rt: HostRuntime) -> Result<(), Fail> {
     for set in sets.as_slice() {
         refs.push(set)?;
     }
+    assert_eq!(rt; refs.len(), 2);
     let entries = update_entries(alloc, false, &stamp, &path, 1, refs.as_slice())?;
     let mut shown = String::new(alloc);
     for entry in entries.as_slice() {
@@ -86,7 +89,9 @@ fn two_changesets_and_back(rt: HostRuntime) -> Result<(), Fail> {
     for entry in entries.as_slice().iter().skip(1) {
         show(&mut shown, entry)?;
     }
-    assert_eq!(rt; shown.as_str(), "4 statements
+    assert_eq!(rt;
+        shown.as_str(),
+        "4 statements
 3 statements
 3 statements
 1 statements
@@ -97,36 +102,52 @@ create t id Int
 create u id BigInt
 insert DATABASECHANGELOG '2' 'bob' 'db/two.json' '1970-01-01 00:00:01.000' 2 'EXECUTED' 'P1:6549970fb93fce5d4204c6abb8fcee4e' 'createTable, createTable' '' NULL 'profile-1' '' '' '0000001000'
 update DATABASECHANGELOGLOCK
-");
-    assert_eq!(rt; update_text(alloc, "db/two.json", refs.as_slice())?.as_str(), "ran db/two.json::1::ann
+"
+    );
+    assert_eq!(rt;
+        update_text(alloc, "db/two.json", refs.as_slice())?.as_str(),
+        "ran db/two.json::1::ann
 ran db/two.json::2::bob
 update: 2 ran, 0 ran again, 0 marked, 0 skipped, 0 not fresh
-");
+"
+    );
     let mut back = String::new(alloc);
     for entry in rollback_entries(alloc, &stamp, &path, &refs.as_slice()[1..])?.as_slice() {
         show(&mut back, entry)?;
     }
-    assert_eq!(rt; back.as_str(), "update DATABASECHANGELOGLOCK
+    assert_eq!(rt;
+        back.as_str(),
+        "update DATABASECHANGELOGLOCK
 drop u
 drop t
 delete DATABASECHANGELOG
 update DATABASECHANGELOGLOCK
-");
-    assert_eq!(rt; rollback_text(alloc, "db/two.json", &refs.as_slice()[1..])?.as_str(), "rolled back db/two.json::2::bob
+"
+    );
+    assert_eq!(rt;
+        rollback_text(alloc, "db/two.json", &refs.as_slice()[1..])?.as_str(),
+        "rolled back db/two.json::2::bob
 rollback: 1 rolled back
-");
+"
+    );
     Ok(())
 }
 
 // How many changesets there are in a changelog whose one changeset has this inside, 0 where it is none.
 fn count_in(alloc: Global, inside: &str) -> Result<usize, NoMemory> {
     let text = format!(in alloc; "{{\"databaseChangeLog\":[{{\"changeSet\":{{{inside}}}}}]}}")?;
-    Ok(read(alloc, text.as_str())?.unwrap_or(Items::new(alloc)).len())
+    Ok(
+        read(alloc, text.as_str())?
+            .unwrap_or(Items::new(alloc))
+            .len(),
+    )
 }
 
 // And whose one changeset creates one table, with this inside.
 fn count_with(alloc: Global, inside: &str) -> Result<usize, NoMemory> {
-    let text = format!(in alloc; "\"id\":\"1\",\"author\":\"a\",\"changes\":[{{\"createTable\":{{{inside}}}}}]")?;
+    let text = format!(in alloc;
+        "\"id\":\"1\",\"author\":\"a\",\"changes\":[{{\"createTable\":{{{inside}}}}}]"
+    )?;
     count_in(alloc, text.as_str())
 }
 
