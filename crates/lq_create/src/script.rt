@@ -56,6 +56,13 @@ fn closing(alloc: Global) -> Result<Entry, NoMemory>
     Ok(entry)
 }
 
+fn push_closing(to: &mut Items<Entry>, alloc: Global) -> Result<(), NoMemory>
+    ensures { OnOk result (to.new ≡ to.old ++ closing ∷ []) }
+{
+    to.push(closing(alloc)?)?;
+    Ok(())
+}
+
 #[tactic(auto, using(crate::proofs::Moments::row_moment))]
 fn row_inserted(
     alloc: Global,
@@ -130,7 +137,7 @@ pub fn update_entries(
     let mut all = Items::new(alloc);
     all.push(opening(alloc, made, stamp)?)?;
     push_updates(&mut all, alloc, stamp, path, order, sets)?;
-    all.push(closing(alloc)?)?;
+    push_closing(&mut all, alloc)?;
     Ok(all)
 }
 
@@ -176,6 +183,6 @@ pub fn rollback_entries(
     let mut undone = Items::new(alloc);
     undone.push(opening(alloc, true, stamp)?)?;
     push_rollbacks(&mut undone, alloc, path, sets)?;
-    undone.push(closing(alloc)?)?;
+    push_closing(&mut undone, alloc)?;
     Ok(undone)
 }
