@@ -1,6 +1,6 @@
 -- Items read one after another.
-use Rattle.std.proofs.Common.{◌≡◌, ◌∙◌, List, [], ◌∷◌, ◌++◌, Option, Some, None, option_map, option_and_then, refl, sym, ap}
-use Rattle.std.proofs.lemmas.List.{append_assoc, append-nil}
+use Rattle.std.proofs.Common.{◌≡◌, ◌∙◌, List, [], ◌∷◌, ◌++◌, Option, Some, None, option_map, refl, sym, ap}
+use Rattle.std.proofs.lemmas.List.{append_assoc}
 use Rattle.lq_tree.specs.declared.node.Node.{Node}
 use Rattle.lq_create.specs.Parts.{each}
 

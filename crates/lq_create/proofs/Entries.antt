@@ -2,7 +2,7 @@
 use Rattle.std.proofs.Common.{ℕ, ◌≤◌, ◌+◌, Bor, length, arith, ◌≡◌, ◌∙◌, ◌++◌, Bool, true, false, List, [], ◌∷◌, map, refl, sym, ap}
 use Rattle.std.proofs.lemmas.List.{append_assoc, append-nil}
 use Rattle.std.specs.List.{flat_map}
-use Rattle.lq_model.specs.Script.{Call, Made, alone, begin, commit, commits_after, entries, execute, if_any, statements_in}
+use Rattle.lq_model.specs.Script.{Call, Made, alone, commit, commits_after, entries, execute, if_any, statements_in}
 use Rattle.lq_model.specs.declared.caller.By.{By}
 use Rattle.lq_model.specs.declared.caller.By.TheVariants.{Program, User}
 use Rattle.lq_model.specs.declared.caller.Room.TheVariants.{Release}

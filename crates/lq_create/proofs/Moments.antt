@@ -1,7 +1,6 @@
 -- A reading that is in range is a moment.
-use Rattle.std.proofs.Common.{◌≡◌, ◌≤◌, ℕ, ℤ, pos, arith, refl, List}
+use Rattle.std.proofs.Common.{◌≤◌, ℕ, pos, arith, List}
 use Rattle.std.proofs.lemmas.Int.{ints}
-use Rattle.std.specs.Prelude.{◌≤ℤ◌}
 use Rattle.lq_base.specs.Moment.{IsMoment}
 use Rattle.lq_create.specs.Row.{row_after}
 use Rattle.lq_create.specs.declared.changelog.ChangeSet.{ChangeSet}

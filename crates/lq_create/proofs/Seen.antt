@@ -1,7 +1,7 @@
 -- A set that grows by each key tells the first that stands there twice.
-use Rattle.std.proofs.Common.{◌<◌, ◌+◌, suc, add-one, length, drop, get_or, ◌≡◌, ◌∙◌, ◌||◌, ◌&&◌, Bool, true, false, cond, List, [], ◌∷◌, refl, sym, ap, Bor}
+use Rattle.std.proofs.Common.{◌<◌, ◌+◌, suc, add-one, length, drop, get_or, ◌≡◌, ◌∙◌, ◌||◌, ◌&&◌, Bool, true, false, cond, List, [], ◌∷◌, refl, Bor}
 use Rattle.std.proofs.Math.Seq.{drop-cons}
-use Rattle.std.specs.BTreeSet.{BTreeSet, contains, Updates, insert_key}
+use Rattle.std.specs.BTreeSet.{BTreeSet, contains, Updates}
 use Rattle.std.specs.BTreeMap.{is_at}
 use Rattle.std.specs.List.{list_any}
 use Rattle.std.specs.Ordering.{eq_by_cmp, is_eq, nat_cmp, ordering_then}

@@ -3,9 +3,9 @@ use Rattle.std.proofs.Common.{Err, None, ap, ℕ, true≢false, refl, sym, ◌�
 use Rattle.std.proofs.Math.Path.{subst}
 use Rattle.std.proofs.lemmas.List.Folds.{list_any-append}
 use Rattle.std.specs.BTreeMap.{insert_entry}
-use Rattle.std.specs.List.{filter, flat_map, list_all, list_any}
+use Rattle.std.specs.List.{flat_map, list_all, list_any}
 use Rattle.std.specs.Ordering.{match_ordering}
-use Rattle.std.specs.Prelude.{Bool, List, Ok, [], false, length, map, nat_le, not, true, ◌&&◌, ◌++◌, ◌||◌, ◌∷◌, ◌≡◌, Result}
+use Rattle.std.specs.Prelude.{Bool, List, Ok, [], false, map, not, true, ◌&&◌, ◌++◌, ◌||◌, ◌∷◌, ◌≡◌, Result}
 use Rattle.std.specs.declared.cmp.Ordering.TheVariants.{Equal, Greater, Less}
 use Rattle.lq_base.specs.Name.{is_named, name_cmp}
 use Rattle.lq_base.specs.Text.{is_text}
@@ -18,11 +18,11 @@ use Rattle.lq_model.proofs.Lists.{and_left, and_right, and_true, any_none, or_fa
 use Rattle.lq_model.specs.Catalogue.{Catalogue, Table, with_new}
 use Rattle.lq_model.specs.CreateTable.{create_table, depends_in, key_column, numbers_wrongly, repeats_number}
 use Rattle.lq_model.specs.Literals.{column_of, is_wide, is_wrong, literal_of}
-use Rattle.lq_model.specs.NameSpaces.{is_taken, object_names, shared_names}
+use Rattle.lq_model.specs.NameSpaces.{is_taken, object_names}
 use Rattle.lq_model.specs.Names.{is_empty, is_in, repeats as repeats_name}
 use Rattle.lq_model.specs.Plan.{Plan}
 use Rattle.lq_model.specs.Reserved.{is_reserved, takes_lock_key}
-use Rattle.lq_model.specs.ResultTests.{has_null, has_orphan, has_orphans, has_twins, is_full, is_loose, is_overfull, misses_target, table_has_null, table_has_twins}
+use Rattle.lq_model.specs.ResultTests.{has_orphan, is_full, misses_target, table_has_null, table_has_twins}
 use Rattle.lq_model.specs.Step.{run, step}
 use Rattle.lq_model.specs.TableNames.{inner_names}
 use Rattle.lq_model.specs.declared.caller.By.{By}
@@ -30,7 +30,7 @@ use Rattle.lq_model.specs.declared.column.Column.{Column}
 use Rattle.lq_model.specs.declared.column.ColumnDef.{ColumnDef}
 use Rattle.lq_model.specs.declared.statement.Statement.{Statement}
 use Rattle.lq_create.specs.Changelog.{are_columns}
-use Rattle.lq_create.specs.Created.{CreatesTables, is_plain, is_plain_table, is_unfree, made_column, made_table, with_tables}
+use Rattle.lq_create.specs.Created.{CreatesTables, is_plain, is_plain_table, is_unfree, made_column, made_table}
 use Rattle.lq_create.specs.Distinct.{repeats}
 use Rattle.lq_create.specs.Statements.{created, def_of}
 use Rattle.lq_create.specs.declared.changelog.CreatedColumn.{CreatedColumn}

@@ -1,5 +1,5 @@
 -- The canonical text of a changeset of createTables, and its checksum.
-use Rattle.std.specs.Prelude.{ℕ, Bool, List, [], ◌∷◌, ◌++◌, Option, Some, None, map, codes}
+use Rattle.std.specs.Prelude.{ℕ, Bool, List, [], ◌∷◌, Option, Some, None, map, codes}
 use Rattle.lq_base.specs.Kind.{kind_text}
 use Rattle.lq_base.specs.declared.dialect.Dialect.TheVariants.{Postgresql}
 use Rattle.lq_canon.specs.Checksum.{checksum_of}

@@ -1,6 +1,5 @@
 -- The changesets of a tree, where it is a changelog of createTables.
-use Rattle.std.specs.List.{list_any}
-use Rattle.std.specs.Prelude.{ℕ, Bool, true, false, not, ◌&&◌, ◌||◌, List, [], ◌∷◌, ◌==◌, nat_le, length, Option, Some, None, map, option_map, option_and_then, if◌then◌else◌, codes}
+use Rattle.std.specs.Prelude.{ℕ, Bool, true, false, not, ◌&&◌, List, [], ◌∷◌, ◌==◌, nat_le, length, Option, Some, None, map, option_map, option_and_then, if◌then◌else◌, codes}
 use Rattle.lq_base.specs.Character.{char_count, has_control}
 use Rattle.lq_base.specs.Kind.{kind_of as kind_named}
 use Rattle.lq_base.specs.Name.{is_name}
@@ -9,7 +8,7 @@ use Rattle.lq_base.specs.declared.kind.Kind.{Kind}
 use Rattle.lq_base.specs.declared.name.Name.{Name}
 use Rattle.lq_tree.specs.Look.{list_of as items_of, printed_of, truth_of, value_at}
 use Rattle.lq_tree.specs.declared.node.Node.{Node}
-use Rattle.lq_create.specs.Distinct.{created_tables, identities, are_reserved, repeats, is_same_identity, table_names}
+use Rattle.lq_create.specs.Distinct.{identities, are_reserved, repeats, is_same_identity, table_names}
 use Rattle.lq_create.specs.Parts.{each, only, size}
 use Rattle.lq_create.specs.declared.changelog.ChangeSet.{ChangeSet}
 use Rattle.lq_create.specs.declared.changelog.CreatedColumn.{CreatedColumn}

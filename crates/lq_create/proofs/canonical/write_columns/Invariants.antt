@@ -1,4 +1,4 @@
-use Rattle.std.proofs.Common.{◌≡◌, ◌++◌, length, map}
+use Rattle.std.proofs.Common.{◌≡◌, ◌++◌, length}
 use Rattle.lq_model.specs.Canon.{canonical_values}
 use Rattle.lq_create.specs.Canonical.{column_values}
 use Rattle.lq_create.proofs.canonical.write_columns.Given as goal

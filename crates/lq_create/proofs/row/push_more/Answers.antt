@@ -1,5 +1,4 @@
-use Rattle.std.proofs.Common.{arith, ◌∙◌, ◌++◌, ap}
-use Rattle.lq_create.specs.Row.{described_more}
+use Rattle.std.proofs.Common.{arith}
 use Rattle.lq_create.proofs.Described.{described_step}
 use Rattle.lq_create.proofs.row.push_more.Goals as goal
 

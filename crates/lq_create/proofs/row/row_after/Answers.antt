@@ -1,4 +1,3 @@
-use Rattle.std.proofs.Common.{refl}
 use Rattle.lq_create.proofs.RowMade.{row_made}
 use Rattle.lq_create.proofs.row.row_after.Goals as goal
 

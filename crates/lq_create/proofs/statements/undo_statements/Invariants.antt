@@ -1,4 +1,4 @@
-use Rattle.std.proofs.Common.{◌≡◌, ◌++◌, length, map}
+use Rattle.std.proofs.Common.{◌≡◌, ◌++◌, length}
 use Rattle.lq_create.specs.Statements.{undoing}
 use Rattle.lq_create.proofs.statements.undo_statements.Given as goal
 
