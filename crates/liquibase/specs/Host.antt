@@ -1,0 +1,14 @@
+-- Of a real disk nothing is known: neither its bytes nor what a crash leaves of them.
+use Rattle.std.specs.Prelude.{false, None}
+use Rattle.lq_outside.specs.Crash.{Crashes, IsSound}
+
+abbrev pub unknown : Crashes
+unknown = record { is_honest = false; moment = 0; leaves = λ _. ⊥; left_since = λ _ _. ⊥; synced = λ _. ⊥ }
+
+pub unknown_sound : IsSound None unknown
+unknown_sound = record {
+  stays = λ _. tt;
+  counts_now = λ _ t c _ now. absurd now;
+  past_syncs = λ _ t synced. absurd synced;
+  only_now = λ _ c left. absurd left;
+}

@@ -1,0 +1,10 @@
+pub mod Fault
+pub mod Journal
+pub mod Left
+pub mod Opened
+pub mod Reading
+pub mod Run
+pub mod Status
+pub mod Update
+pub mod Who
+pub mod Words

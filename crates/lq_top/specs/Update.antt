@@ -1,0 +1,51 @@
+-- What an update is to do.
+use Rattle.std.specs.Prelude.{◌≡◌, ◌<◌, false, ℕ, List, [], ◌∷◌, map, min, length, Option, Some, None, IfSome, option_and_then, if◌then◌else◌, nat_lt, Result, Ok, Err}
+use Rattle.lq_base.specs.declared.dialect.Dialect.TheVariants.{Postgresql}
+use Rattle.lq_model.specs.Script.{entries}
+use Rattle.lq_model.specs.StatementText.{text_of}
+use Rattle.lq_model.specs.declared.statement.Statement.{Statement}
+use Rattle.lq_tree.specs.Json.{json_tree}
+use Rattle.lq_tree.specs.declared.node.Node.{Node}
+use Rattle.lq_tree.specs.declared.node.TreeFault.{TreeFault}
+use Rattle.lq_create.specs.Changelog.{changelog_of, is_label}
+use Rattle.lq_create.specs.Script.{update_script}
+use Rattle.lq_create.specs.declared.changelog.ChangeSet.{ChangeSet}
+use Rattle.lq_create.specs.declared.stamp.Stamp.{Stamp}
+use Rattle.lq_top.specs.Who.{clean}
+use Rattle.lq_top.specs.Words.{Asked, asked}
+
+abbrev pub sets_in : Result Node TreeFault → Option (List ChangeSet)
+sets_in (Ok tree) = changelog_of tree
+sets_in (Err fault) = None
+
+-- the changesets that a file of at most 16 MiB gives, where it is a changelog of createTables
+abbrev pub sets_of : List ℕ → Option (List ChangeSet)
+sets_of bytes = if nat_lt 16777216 (length bytes) then None else sets_in (json_tree bytes)
+
+-- those of the file at a path, which has 1 to 255 characters and no control character
+abbrev pub given : (List ℕ → Option (List ℕ)) → List ℕ → Option (List ChangeSet)
+given files path = if is_label path then option_and_then sets_of (files path) else None
+
+-- what all rows of a command carry; a later reading counts as the last one of the year 9999
+abbrev pub stamp_of : List ℕ → ℕ → Stamp
+stamp_of who reading = record { who = clean who; reading = min reading 253402300799999 }
+
+-- the update that the words ask for, of the changesets that the files give
+pub record Update (words : List (List ℕ)) (files : Option (List ℕ → Option (List ℕ))) : Type 0 where
+  pub asks : Asked
+  pub sets : List ChangeSet
+  pub asked_is : asked words ≡ Some asks
+  pub given_is : IfSome files (λ held. given held asks.path ≡ Some sets)
+
+-- its statements, entry by entry, on a database without tables
+abbrev pub statements_of : Stamp → List ℕ → List ChangeSet → List (List Statement)
+statements_of stamp path sets = entries (update_script false stamp path 1 sets)
+
+-- the texts of entries
+abbrev pub texts : List (List Statement) → List (List (List ℕ))
+texts statements = map (map (text_of Postgresql)) statements
+
+-- no list of statements is empty
+abbrev pub AreSome : List (List Statement) → Type 0
+AreSome [] = Unit {0}
+AreSome (statements ∷ all) = (0 < length statements) × AreSome all

@@ -1,0 +1,264 @@
+use crate::{Status, run};
+use lq_base::{Dialect, Items, Text};
+use lq_journal::{Entry, Journal};
+use lq_outside::{MemDisk, MemFiles, MemSink, SetClock};
+use std::alloc::Global;
+use std::process::Abort;
+
+const ONE: &str =
+    r#"{"databaseChangeLog":[{"changeSet":{"id":"1","author":"ann","changes":[{"createTable":{"tableName":"t","columns":[{"column":{"name":"id","type":"int"}}]}}]}}]}"#;
+
+const TWO: &str = r#"{"databaseChangeLog":[
+{"changeSet":{"id":"1","author":"ann","changes":[
+ {"createTable":{"tableName":"a","columns":[{"column":{"name":"id","type":"int","constraints":{"nullable":false}}},{"column":{"name":"n","type":"varchar(40)"}}]}},
+ {"createTable":{"tableName":"b","columns":[{"column":{"name":"m","type":"datetime"}}]}}]}},
+{"changeSet":{"id":"it's","author":"bob","changes":[
+ {"createTable":{"tableName":"c","columns":[{"column":{"name":"d","type":"decimal(10,2)","constraints":{"nullable":true}}}]}},
+ {"createTable":{"tableName":"d\"e","columns":[{"column":{"name":"x","type":"clob"}}]}}]}}]}"#;
+
+const TABLES: [&str; 3] = [
+    r#"CREATE TABLE "DATABASECHANGELOG" ("ID" VARCHAR(255) NOT NULL, "AUTHOR" VARCHAR(255) NOT NULL, "FILENAME" VARCHAR(255) NOT NULL, "DATEEXECUTED" TIMESTAMP NOT NULL, "ORDEREXECUTED" INTEGER NOT NULL, "EXECTYPE" VARCHAR(10) NOT NULL, "MD5SUM" VARCHAR(35), "DESCRIPTION" VARCHAR(255), "COMMENTS" VARCHAR(255), "TAG" VARCHAR(255), "LIQUIBASE" VARCHAR(20), "CONTEXTS" VARCHAR(255), "LABELS" VARCHAR(255), "DEPLOYMENT_ID" VARCHAR(10))"#,
+    r#"CREATE TABLE "DATABASECHANGELOGLOCK" ("ID" INTEGER NOT NULL, "LOCKED" BOOLEAN NOT NULL, "LOCKGRANTED" TIMESTAMP, "LOCKEDBY" TEXT, CONSTRAINT "pk_DATABASECHANGELOGLOCK" PRIMARY KEY ("ID"))"#,
+    r#"INSERT INTO "DATABASECHANGELOGLOCK" ("ID", "LOCKED", "LOCKGRANTED", "LOCKEDBY") VALUES (1, FALSE, NULL, NULL)"#,
+];
+
+const TAKEN: &str =
+    r#"UPDATE "DATABASECHANGELOGLOCK" SET "LOCKED" = TRUE, "LOCKGRANTED" = '1970-01-01 00:00:01.000', "LOCKEDBY" = 'c_i' WHERE "ID" = 1"#;
+
+const FREED: &str =
+    r#"UPDATE "DATABASECHANGELOGLOCK" SET "LOCKED" = FALSE, "LOCKGRANTED" = NULL, "LOCKEDBY" = NULL WHERE "ID" = 1"#;
+
+const ROW_OF_ONE: &str =
+    r#"INSERT INTO "DATABASECHANGELOG" ("ID", "AUTHOR", "FILENAME", "DATEEXECUTED", "ORDEREXECUTED", "EXECTYPE", "MD5SUM", "DESCRIPTION", "COMMENTS", "TAG", "LIQUIBASE", "CONTEXTS", "LABELS", "DEPLOYMENT_ID") VALUES ('1', 'ann', 'db/r1.json', '1970-01-01 00:00:01.000', 1, 'EXECUTED', 'P1:3a4d4e81c6ab1e1c3e57d4a8bdba3bc1', 'createTable', '', NULL, 'profile-1', '', '', '0000001000')"#;
+
+const ROWS_OF_TWO: [&str; 2] = [
+    r#"INSERT INTO "DATABASECHANGELOG" ("ID", "AUTHOR", "FILENAME", "DATEEXECUTED", "ORDEREXECUTED", "EXECTYPE", "MD5SUM", "DESCRIPTION", "COMMENTS", "TAG", "LIQUIBASE", "CONTEXTS", "LABELS", "DEPLOYMENT_ID") VALUES ('1', 'ann', 'db/r1.json', '1970-01-01 00:00:01.000', 1, 'EXECUTED', 'P1:57d23c7fbe0075536f182d5b4960cf52', 'createTable, createTable', '', NULL, 'profile-1', '', '', '0000001000')"#,
+    r#"INSERT INTO "DATABASECHANGELOG" ("ID", "AUTHOR", "FILENAME", "DATEEXECUTED", "ORDEREXECUTED", "EXECTYPE", "MD5SUM", "DESCRIPTION", "COMMENTS", "TAG", "LIQUIBASE", "CONTEXTS", "LABELS", "DEPLOYMENT_ID") VALUES ('it''s', 'bob', 'db/r1.json', '1970-01-01 00:00:01.000', 2, 'EXECUTED', 'P1:523b4522d9155c48ac5b766135b5b916', 'createTable, createTable', '', NULL, 'profile-1', '', '', '0000001000')"#,
+];
+
+/// Which call of each is to fail, counted from 1; 0 for none.
+#[derive(Clone, Copy)]
+struct Failing {
+    files: u64,
+    disk: u64,
+    out: u64,
+    log: u64,
+}
+
+const NONE: Failing = Failing {
+    files: 0,
+    disk: 0,
+    out: 0,
+    log: 0,
+};
+
+/// What a run left.
+#[derive(Drop)]
+struct Ran {
+    status: Status,
+    bytes: Vec<u8>,
+    out: Vec<u8>,
+    log: Vec<u8>,
+}
+
+fn one_call(rt: &impl Abort, alloc: Global, number: u64) -> Vec<u64> {
+    let mut calls = Vec::new(alloc);
+    if number > 0 {
+        calls.push(number).expect(rt, "memory");
+    }
+    calls
+}
+
+fn copied(rt: &impl Abort, alloc: Global, bytes: &[u8]) -> Vec<u8> {
+    Vec::from_slice(alloc, bytes).expect(rt, "memory")
+}
+
+fn files_of(rt: &impl Abort, alloc: Global, changelog: &str, failing: u64) -> MemFiles {
+    let mut held = Items::new(alloc);
+    let path = Text::new(alloc, "db/r1.json").expect(rt, "memory");
+    let bytes = Items::from_slice(alloc, changelog.as_bytes()).expect(rt, "memory");
+    held.push((path, bytes)).expect(rt, "memory");
+    MemFiles::new(alloc, held, one_call(rt, alloc, failing))
+}
+
+fn words_of(rt: &impl Abort, alloc: Global, given: &[&str]) -> Vec<String> {
+    let mut words = Vec::new(alloc);
+    for word in given {
+        let word = String::from_str(alloc, word).expect(rt, "memory");
+        words.push(word).expect(rt, "memory");
+    }
+    words
+}
+
+// Runs a command over a changelog at `db/r1.json` and a database file of these bytes.
+fn run_over(
+    rt: &impl Abort,
+    alloc: Global,
+    words: &[&str],
+    changelog: &str,
+    bytes: &[u8],
+    failing: Failing,
+) -> Ran {
+    let words = words_of(rt, alloc, words);
+    let mut files = files_of(rt, alloc, changelog, failing.files);
+    let disk = MemDisk::new(copied(rt, alloc, bytes), one_call(rt, alloc, failing.disk));
+    let readings = Vec::from_slice(alloc, &[1000]).expect(rt, "memory");
+    let mut clock = SetClock::new(readings);
+    let mut out = MemSink::new(alloc, one_call(rt, alloc, failing.out));
+    let mut log = MemSink::new(alloc, one_call(rt, alloc, failing.log));
+    let ended = run(
+        alloc, &words, "c|i", &mut files, disk, &mut clock, &mut out, &mut log,
+    );
+    Ran {
+        status: ended.status,
+        bytes: copied(rt, alloc, ended.disk.bytes()),
+        out: copied(rt, alloc, out.bytes()),
+        log: copied(rt, alloc, log.bytes()),
+    }
+}
+
+const UPDATE: [&str; 3] = [
+    "update",
+    "--url=postgresql:db",
+    "--changelog-file=db/r1.json",
+];
+
+fn entries_of(rt: &impl Abort, alloc: Global, bytes: &[u8]) -> Items<Entry> {
+    let disk = MemDisk::new(copied(rt, alloc, bytes), Vec::new(alloc));
+    let loaded = Journal::load(alloc, disk, Dialect::Postgresql, 268_435_456);
+    match loaded {
+        Ok((_, entries)) => entries,
+        Err(_) => {
+            assert!(rt; false, "a journal");
+            Items::new(alloc)
+        }
+    }
+}
+
+fn assert_texts(rt: &impl Abort, entry: &Entry, wanted: &[&str]) {
+    assert_eq!(rt; entry.texts.len(), wanted.len());
+    for (text, wanted) in entry.texts.as_slice().iter().zip(wanted) {
+        assert_eq!(rt; text.as_str(), *wanted);
+    }
+}
+
+#[test]
+fn one_table(rt: HostRuntime) {
+    let ran = run_over(&rt, rt.alloc(), &UPDATE, ONE, b"", NONE);
+    assert!(rt; ran.status == Status::Done);
+    let wanted =
+        "ran db/r1.json::1::ann\nupdate: 1 ran, 0 ran again, 0 marked, 0 skipped, 0 not fresh\n";
+    assert!(rt; ran.out.as_slice() == wanted.as_bytes());
+    assert!(rt; ran.log.is_empty());
+    let entries = entries_of(&rt, rt.alloc(), &ran.bytes);
+    let [opening, turn, closing] = entries.as_slice() else {
+        assert!(rt; false, "three entries");
+        return;
+    };
+    assert_texts(&rt, opening, &[TABLES[0], TABLES[1], TABLES[2], TAKEN]);
+    assert_texts(
+        &rt,
+        turn,
+        &[r#"CREATE TABLE "t" ("id" INTEGER)"#, ROW_OF_ONE],
+    );
+    assert_texts(&rt, closing, &[FREED]);
+}
+
+#[test]
+fn two_changesets(rt: HostRuntime) {
+    let ran = run_over(&rt, rt.alloc(), &UPDATE, TWO, b"ten bytes.", NONE);
+    assert!(rt; ran.status == Status::Done);
+    let wanted =
+        "ran db/r1.json::1::ann\nran db/r1.json::it's::bob\nupdate: 2 ran, 0 ran again, 0 marked, 0 skipped, 0 not fresh\n";
+    assert!(rt; ran.out.as_slice() == wanted.as_bytes());
+    let entries = entries_of(&rt, rt.alloc(), &ran.bytes);
+    let [_, first, second, _] = entries.as_slice() else {
+        assert!(rt; false, "four entries");
+        return;
+    };
+    let tables = [
+        r#"CREATE TABLE "a" ("id" INTEGER NOT NULL, "n" VARCHAR(40))"#,
+        r#"CREATE TABLE "b" ("m" TIMESTAMP)"#,
+        r#"CREATE TABLE "c" ("d" DECIMAL(10, 2))"#,
+        r#"CREATE TABLE "d""e" ("x" TEXT)"#,
+    ];
+    assert_texts(&rt, first, &[tables[0], tables[1], ROWS_OF_TWO[0]]);
+    assert_texts(&rt, second, &[tables[2], tables[3], ROWS_OF_TWO[1]]);
+}
+
+#[test]
+fn endings(rt: HostRuntime) {
+    let usage = "liquibase: usage: liquibase COMMAND --url=DIALECT:FILE [options]\n";
+    let not_built = "liquibase: not built yet\n";
+    let absent = [
+        "update",
+        "--url=postgresql:db",
+        "--changelog-file=db/n.json",
+    ];
+    let mysql = ["update", "--url=mysql:db", "--changelog-file=db/r1.json"];
+    let no_file = ["update", "--url=postgresql:", "--changelog-file=db/r1.json"];
+    let cases = [
+        (
+            UPDATE,
+            ONE,
+            "12345678901234567".as_bytes(),
+            Status::Done,
+            "",
+        ),
+        (
+            UPDATE,
+            ONE,
+            "123456789012345678".as_bytes(),
+            Status::NotBuilt,
+            not_built,
+        ),
+        (UPDATE, "{", b"".as_slice(), Status::NotBuilt, not_built),
+        (absent, ONE, b"".as_slice(), Status::NotBuilt, not_built),
+        (mysql, ONE, b"".as_slice(), Status::Usage, usage),
+        (no_file, ONE, b"".as_slice(), Status::Usage, usage),
+    ];
+    for (words, changelog, bytes, status, log) in cases {
+        let ran = run_over(&rt, rt.alloc(), &words, changelog, bytes, NONE);
+        assert!(rt; ran.status == status);
+        assert!(rt; ran.log.as_slice() == log.as_bytes());
+        let done = status == Status::Done;
+        assert!(rt; done || ran.bytes.as_slice() == bytes);
+        assert!(rt; done || ran.out.is_empty());
+    }
+}
+
+#[test]
+fn nothing_to_do(rt: HostRuntime) {
+    let empty = r#"{"databaseChangeLog":[]}"#;
+    let ran = run_over(&rt, rt.alloc(), &UPDATE, empty, b"", NONE);
+    assert!(rt; ran.status == Status::Done);
+    let wanted = "update: 0 ran, 0 ran again, 0 marked, 0 skipped, 0 not fresh\n";
+    assert!(rt; ran.out.as_slice() == wanted.as_bytes());
+    assert!(rt; ran.bytes.is_empty());
+}
+
+fn status_with(rt: &impl Abort, alloc: Global, failing: Failing) -> Status {
+    run_over(rt, alloc, &UPDATE, ONE, b"", failing).status
+}
+
+#[test]
+fn failing_calls(rt: HostRuntime) {
+    let failing = Failing { files: 1, ..NONE };
+    assert!(rt; status_with(&rt, rt.alloc(), failing) == Status::ReadFault);
+    let failing = Failing { out: 1, ..NONE };
+    assert!(rt; status_with(&rt, rt.alloc(), failing) == Status::WriteFault);
+    let failing = Failing { log: 1, ..NONE };
+    assert!(rt; status_with(&rt, rt.alloc(), failing) == Status::Done);
+    let mut stopped = 0;
+    for number in 1..30u64 {
+        let failing = Failing {
+            disk: number,
+            ..NONE
+        };
+        if status_with(&rt, rt.alloc(), failing) == Status::DiskFault {
+            stopped = number;
+        }
+    }
+    // size, sync, size, read; header, sync; and for each of three entries two writes and two syncs.
+    assert_eq!(rt; stopped, 18);
+}
