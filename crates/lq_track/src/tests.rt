@@ -1,4 +1,5 @@
-ghost use Rattle.std.specs.Prelude.{◌≤◌};
+ghost use Rattle.std.specs.Prelude.{◌≤◌, IfOk};
+ghost use Rattle.lq_base.specs.Moment.{IsMoment};
 
 use crate::{
     Ran, again_row, delete_row, fill_sum, free_lock, insert_row, make_tables, mark_lock, row_of,
@@ -7,6 +8,7 @@ use crate::{
 use lq_base::{Dialect, Exec, Identity, Kind, Literal, Name, Text, Tracked};
 use lq_model::{ColumnDef, Key, Operand, Statement, Test};
 use std::alloc::{AllocError, Global};
+use std::process::Abort;
 use std::test::Fail;
 
 // The statements that these tests meet, as PostgreSQL writes them.
@@ -196,8 +198,10 @@ fn identity(alloc: Global) -> Result<Identity, Fail> {
 }
 
 // The row of a changeset without changes, of which an update at the reading 1000 makes the first row.
+#[tactic(auto, using(crate::proofs::Dates::is_moment))]
 fn row(alloc: Global, exec: Exec, comments: &str, reading: u64) -> Result<Tracked, Fail>
     requires { reading ≤ 253402300799999 }
+    ensures { IfOk result (λ row. IsMoment row.date) }
 {
     let identity = identity(alloc)?;
     let checksum = Text::new(alloc, "P1:d751713988987e9331980363e24189ce")?;
@@ -239,56 +243,106 @@ fn the_tables_are_made(rt: HostRuntime) -> Result<(), Fail> {
     Ok(())
 }
 
+fn assert_written(rt: &impl Abort, alloc: Global, statement: &Statement, want: &str) {
+    let text = written(alloc, statement).expect(rt, "memory");
+    assert_eq!(rt; text.as_str(), want);
+}
+
+fn inserted(alloc: Global, reading: u64) -> Result<Statement, Fail>
+    requires { reading ≤ 253402300799999 }
+{
+    let row = row(alloc, Exec::Executed, "", reading)?;
+    Ok(insert_row(alloc, &row)?)
+}
+
+fn written_again(alloc: Global, exec: Exec, reading: u64) -> Result<Statement, Fail>
+    requires { reading ≤ 253402300799999 }
+{
+    let row = row(alloc, exec, "", reading)?;
+    Ok(again_row(alloc, &row)?)
+}
+
 #[test]
-fn rows_and_the_lock_are_written(rt: HostRuntime) -> Result<(), Fail> {
+fn rows_are_written(rt: HostRuntime) -> Result<(), Fail> {
+    let alloc = rt.alloc();
+    let first = inserted(alloc, 1000)?;
+    assert_written(
+        &rt,
+        alloc,
+        &first,
+        "INSERT INTO \"DATABASECHANGELOG\" (\"ID\", \"AUTHOR\", \"FILENAME\", \"DATEEXECUTED\", \"ORDEREXECUTED\", \"EXECTYPE\", \"MD5SUM\", \"DESCRIPTION\", \"COMMENTS\", \"TAG\", \"LIQUIBASE\", \"CONTEXTS\", \"LABELS\", \"DEPLOYMENT_ID\") VALUES ('1', 'ann', 'db/e.json', '1970-01-01 00:00:01.000', 1, 'EXECUTED', 'P1:d751713988987e9331980363e24189ce', '', '', NULL, 'profile-1', '', '', '0000001000')",
+    );
+    let again = written_again(alloc, Exec::Reran, 20_000_000_002_000)?;
+    assert_written(
+        &rt,
+        alloc,
+        &again,
+        "UPDATE \"DATABASECHANGELOG\" SET \"DATEEXECUTED\" = '2603-10-11 11:33:22.000', \"ORDEREXECUTED\" = 1, \"EXECTYPE\" = 'RERAN', \"MD5SUM\" = 'P1:d751713988987e9331980363e24189ce', \"DEPLOYMENT_ID\" = '0000002000' WHERE ((\"ID\" = '1' AND \"AUTHOR\" = 'ann') AND \"FILENAME\" = 'db/e.json')",
+    );
+    let marked = written_again(alloc, Exec::MarkRan, 253_402_300_799_999)?;
+    assert_written(
+        &rt,
+        alloc,
+        &marked,
+        "UPDATE \"DATABASECHANGELOG\" SET \"DATEEXECUTED\" = '9999-12-31 23:59:59.999', \"ORDEREXECUTED\" = 1, \"EXECTYPE\" = 'MARK_RAN', \"MD5SUM\" = 'P1:d751713988987e9331980363e24189ce', \"DEPLOYMENT_ID\" = '2300799999' WHERE ((\"ID\" = '1' AND \"AUTHOR\" = 'ann') AND \"FILENAME\" = 'db/e.json')",
+    );
+    Ok(())
+}
+
+#[test]
+fn rows_are_named(rt: HostRuntime) -> Result<(), Fail> {
     let alloc = rt.alloc();
     let of = identity(alloc)?;
     let text = Text::new(alloc, "v1")?;
-    let first = row(alloc, Exec::Executed, "", 1000)?;
-    let again = row(alloc, Exec::Reran, "", 20_000_000_002_000)?;
-    let marked = row(alloc, Exec::MarkRan, "", 253_402_300_799_999)?;
+    let deleted = delete_row(alloc, &of)?;
+    assert_written(
+        &rt,
+        alloc,
+        &deleted,
+        "DELETE FROM \"DATABASECHANGELOG\" WHERE ((\"ID\" = '1' AND \"AUTHOR\" = 'ann') AND \"FILENAME\" = 'db/e.json')",
+    );
+    let tagged = set_tag(alloc, &of, &text)?;
+    assert_written(
+        &rt,
+        alloc,
+        &tagged,
+        "UPDATE \"DATABASECHANGELOG\" SET \"TAG\" = 'v1' WHERE ((\"ID\" = '1' AND \"AUTHOR\" = 'ann') AND \"FILENAME\" = 'db/e.json')",
+    );
+    let filled = fill_sum(alloc, &of, &text)?;
+    assert_written(
+        &rt,
+        alloc,
+        &filled,
+        "UPDATE \"DATABASECHANGELOG\" SET \"MD5SUM\" = 'v1' WHERE ((\"ID\" = '1' AND \"AUTHOR\" = 'ann') AND \"FILENAME\" = 'db/e.json')",
+    );
+    Ok(())
+}
+
+#[test]
+fn the_lock_is_written(rt: HostRuntime) -> Result<(), Fail> {
+    let alloc = rt.alloc();
     let who = Text::new(alloc, "ci")?;
-    let cases = [
-        (
-            insert_row(alloc, &first)?,
-            "INSERT INTO \"DATABASECHANGELOG\" (\"ID\", \"AUTHOR\", \"FILENAME\", \"DATEEXECUTED\", \"ORDEREXECUTED\", \"EXECTYPE\", \"MD5SUM\", \"DESCRIPTION\", \"COMMENTS\", \"TAG\", \"LIQUIBASE\", \"CONTEXTS\", \"LABELS\", \"DEPLOYMENT_ID\") VALUES ('1', 'ann', 'db/e.json', '1970-01-01 00:00:01.000', 1, 'EXECUTED', 'P1:d751713988987e9331980363e24189ce', '', '', NULL, 'profile-1', '', '', '0000001000')",
-        ),
-        (
-            again_row(alloc, &again)?,
-            "UPDATE \"DATABASECHANGELOG\" SET \"DATEEXECUTED\" = '2603-10-11 11:33:22.000', \"ORDEREXECUTED\" = 1, \"EXECTYPE\" = 'RERAN', \"MD5SUM\" = 'P1:d751713988987e9331980363e24189ce', \"DEPLOYMENT_ID\" = '0000002000' WHERE ((\"ID\" = '1' AND \"AUTHOR\" = 'ann') AND \"FILENAME\" = 'db/e.json')",
-        ),
-        (
-            again_row(alloc, &marked)?,
-            "UPDATE \"DATABASECHANGELOG\" SET \"DATEEXECUTED\" = '9999-12-31 23:59:59.999', \"ORDEREXECUTED\" = 1, \"EXECTYPE\" = 'MARK_RAN', \"MD5SUM\" = 'P1:d751713988987e9331980363e24189ce', \"DEPLOYMENT_ID\" = '2300799999' WHERE ((\"ID\" = '1' AND \"AUTHOR\" = 'ann') AND \"FILENAME\" = 'db/e.json')",
-        ),
-        (
-            delete_row(alloc, &of)?,
-            "DELETE FROM \"DATABASECHANGELOG\" WHERE ((\"ID\" = '1' AND \"AUTHOR\" = 'ann') AND \"FILENAME\" = 'db/e.json')",
-        ),
-        (
-            set_tag(alloc, &of, &text)?,
-            "UPDATE \"DATABASECHANGELOG\" SET \"TAG\" = 'v1' WHERE ((\"ID\" = '1' AND \"AUTHOR\" = 'ann') AND \"FILENAME\" = 'db/e.json')",
-        ),
-        (
-            fill_sum(alloc, &of, &text)?,
-            "UPDATE \"DATABASECHANGELOG\" SET \"MD5SUM\" = 'v1' WHERE ((\"ID\" = '1' AND \"AUTHOR\" = 'ann') AND \"FILENAME\" = 'db/e.json')",
-        ),
-        (
-            take_lock(alloc, 1000, &who)?,
-            "UPDATE \"DATABASECHANGELOGLOCK\" SET \"LOCKED\" = TRUE, \"LOCKGRANTED\" = '1970-01-01 00:00:01.000', \"LOCKEDBY\" = 'ci' WHERE \"ID\" = 1",
-        ),
-        (
-            mark_lock(alloc, &who)?,
-            "UPDATE \"DATABASECHANGELOGLOCK\" SET \"LOCKEDBY\" = 'ci' WHERE \"ID\" = 1",
-        ),
-        (
-            free_lock(alloc)?,
-            "UPDATE \"DATABASECHANGELOGLOCK\" SET \"LOCKED\" = FALSE, \"LOCKGRANTED\" = NULL, \"LOCKEDBY\" = NULL WHERE \"ID\" = 1",
-        ),
-    ];
-    for (statement, want) in cases.iter() {
-        assert_eq!(rt; written(alloc, statement)?.as_str(), *want);
-    }
+    let taken = take_lock(alloc, 1000, &who)?;
+    assert_written(
+        &rt,
+        alloc,
+        &taken,
+        "UPDATE \"DATABASECHANGELOGLOCK\" SET \"LOCKED\" = TRUE, \"LOCKGRANTED\" = '1970-01-01 00:00:01.000', \"LOCKEDBY\" = 'ci' WHERE \"ID\" = 1",
+    );
+    let marked = mark_lock(alloc, &who)?;
+    assert_written(
+        &rt,
+        alloc,
+        &marked,
+        "UPDATE \"DATABASECHANGELOGLOCK\" SET \"LOCKEDBY\" = 'ci' WHERE \"ID\" = 1",
+    );
+    let freed = free_lock(alloc)?;
+    assert_written(
+        &rt,
+        alloc,
+        &freed,
+        "UPDATE \"DATABASECHANGELOGLOCK\" SET \"LOCKED\" = FALSE, \"LOCKGRANTED\" = NULL, \"LOCKEDBY\" = NULL WHERE \"ID\" = 1",
+    );
     Ok(())
 }
 
