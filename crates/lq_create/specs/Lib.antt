@@ -5,5 +5,6 @@ pub mod Distinct
 pub mod Output
 pub mod Parts
 pub mod Row
+pub mod Rows
 pub mod Script
 pub mod Statements

@@ -16,7 +16,7 @@ use Rattle.lq_create.specs.declared.stamp.Stamp.{Stamp}
 
 -- the row is the changeset's
 abbrev pub is_row_of : List ℕ → ChangeSet → Tracked → Bool
-is_row_of path set row = is_text row.filename path && (is_text row.id set.id && is_text row.author set.author)
+is_row_of path set row = (is_text row.filename path && is_text row.id set.id) && is_text row.author set.author
 
 abbrev pub has_row : List ℕ → List Tracked → ChangeSet → Bool
 has_row path rows set = list_any (is_row_of path set) rows

@@ -10,9 +10,9 @@ use lq_base::{Items, NoMemory};
 use std::alloc::Global;
 use std::collections::BTreeSet;
 
-// Whether the set had the key, which it has afterwards.
+/// Whether the set had the key, which it has afterwards.
 #[tactic(auto, using(crate::proofs::Seen::has_also))]
-fn was_seen<K: Ord + Copy>(seen: &mut BTreeSet<K>, key: &K) -> Result<bool, NoMemory>
+pub fn was_seen<K: Ord + Copy>(seen: &mut BTreeSet<K>, key: &K) -> Result<bool, NoMemory>
     ensures before { IfOk result (λ was. was ≡ contains K.cmp seen.old key.now) }
     ensures after { OnOk result (HasAlso K.cmp seen.old seen.new key.now) }
 {

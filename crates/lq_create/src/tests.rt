@@ -1,5 +1,6 @@
 use crate::{
-    ChangeSet, Stamp, read_changelog, rollback_entries, rollback_text, update_entries, update_text,
+    ChangeSet, Stamp, greatest, new_sets, read_changelog, rollback_entries, rollback_text,
+    row_after, update_entries, update_text,
 };
 use lq_base::{Items, Literal, NoMemory, Text};
 use lq_model::{ColumnDef, Statement};
@@ -76,10 +77,7 @@ fn two_changesets_and_back(rt: HostRuntime) -> Result<(), Fail> {
         reading: 1000,
     };
     let path = Text::new(alloc, "db/two.json")?;
-    let mut refs = Items::new(alloc);
-    for set in sets.as_slice() {
-        refs.push(set)?;
-    }
+    let refs = new_sets(alloc, path.as_str(), &[], sets.as_slice())?;
     assert_eq!(rt; refs.len(), 2);
     let entries = update_entries(alloc, false, &stamp, &path, 1, refs.as_slice())?;
     let mut shown = String::new(alloc);
@@ -110,6 +108,15 @@ update DATABASECHANGELOGLOCK
 ran db/two.json::2::bob
 update: 2 ran, 0 ran again, 0 marked, 0 skipped, 0 not fresh
 "
+    );
+    let rows = [row_after(alloc, &stamp, &path, 7, refs.as_slice()[0])?];
+    assert_eq!(rt; greatest(&rows), 7);
+    let pending = new_sets(alloc, path.as_str(), &rows, sets.as_slice())?;
+    assert_eq!(rt; pending.len(), 1);
+    assert_eq!(rt; pending.as_slice()[0].id.as_str(), "2");
+    assert_eq!(rt;
+        new_sets(alloc, "db/other.json", &rows, sets.as_slice())?.len(),
+        2
     );
     let mut back = String::new(alloc);
     for entry in rollback_entries(alloc, &stamp, &path, &refs.as_slice()[1..])?.as_slice() {
