@@ -9,12 +9,13 @@ trap 'rm -rf "$folder"' EXIT
 awk -v count="$count" 'BEGIN {
     printf "{\"databaseChangeLog\":["
     for (i = 1; i <= count; i++) {
-        printf "%s{\"changeSet\":{\"id\":\"%d\",\"author\":\"bench\",\"changes\":[{\"createTable\":{\"tableName\":\"t%d\",\"columns\":[", i > 1 ? "," : "", i, i
+        printf "%s{\"changeSet\":{\"id\":\"%d\",\"author\":\"bench\",\"changes\":[{\"createTable\":{\"tableName\":\"t%d\",\"columns\":[", (i > 1 ? "," : ""), i, i
         printf "{\"column\":{\"name\":\"id\",\"type\":\"int\",\"constraints\":{\"nullable\":false}}},{\"column\":{\"name\":\"a\",\"type\":\"varchar(20)\"}}]}}]}}"
     }
     printf "]}\n"
 }' >"$folder/changelog.json"
 cd "$folder" || exit 1
 /usr/bin/time -f '%e seconds, %M KiB' "$top/run-liquibase" update --url=postgresql:bench.db \
-    --changelog-file=changelog.json | tail -n 1
+    --changelog-file=changelog.json >output.txt
+tail -n 1 output.txt
 echo "database file: $(wc -c <bench.db) bytes"
