@@ -24,7 +24,6 @@ use Rattle.lq_model.specs.declared.column.Column.{Column}
 use Rattle.lq_model.specs.declared.column.ColumnDef.{ColumnDef}
 use Rattle.lq_model.specs.declared.statement.Statement.TheVariants.{AddColumn, DropColumn}
 use Rattle.lq_model.proofs.Decide.{accepted, accepts, here}
-use Rattle.lq_model.proofs.ExampleWorld.{column}
 use Rattle.lq_model.proofs.Kept.{the_table-with_table, with_table-itself, with_table-with_table}
 use Rattle.lq_model.proofs.Lists.{and_left, and_right, any-map, named_itself, not_true, or_false, or_left, or_right, same_name, true_false}
 use Rattle.lq_model.proofs.Maps.{any-set_value, lookup-set_value}

@@ -26,7 +26,6 @@ use Rattle.lq_model.specs.declared.column.Column.{Column}
 use Rattle.lq_model.specs.declared.statement.Statement.TheVariants.{Modify, SetNotNull, Update}
 use Rattle.lq_model.specs.declared.test.Test.{Test}
 use Rattle.lq_model.proofs.Decide.{accepted, here}
-use Rattle.lq_model.proofs.ExampleWorld.{column}
 use Rattle.lq_model.proofs.Kept.{the_table-with_table, with_table-with_table}
 use Rattle.lq_model.proofs.Lists.{and_left, and_right, named_itself, or_left, or_right, true_false}
 

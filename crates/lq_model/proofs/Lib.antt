@@ -17,6 +17,7 @@ pub mod EqualKinds
 pub mod ExampleWorld
 pub mod Examples
 pub mod ExamplesAlter
+pub mod ExamplesReasons
 pub mod IntoKind
 pub mod KeepsSound
 pub mod Kept
@@ -43,5 +44,6 @@ pub mod UndoModify
 pub mod UndoMysql
 pub mod UndoRenameColumn
 pub mod Untouched
+pub mod ViewAnswers
 pub mod ViewAt
 pub mod Views

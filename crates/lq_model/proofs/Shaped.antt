@@ -13,7 +13,6 @@ use Rattle.lq_model.specs.NameSpaces.{AreApart}
 use Rattle.lq_model.specs.Plan.{Plan, decide}
 use Rattle.lq_model.specs.Sound.{IsSound, IsSoundTable, is_unlike, is_view, may_have}
 use Rattle.lq_model.proofs.Decide.{IsSettled, accepted, settled}
-use Rattle.lq_model.proofs.ExampleWorld.{parents}
 
 pub record IsShaped (d : Dialect) (c : Catalogue) : Type 0 where
   pub ordered : IsStrictlySortedBy name_cmp (keys_of c.tables)

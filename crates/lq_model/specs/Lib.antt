@@ -38,4 +38,5 @@ pub mod TestText
 pub mod Truth
 pub mod Update
 pub mod Views
+pub mod ViewsAnswer
 pub mod Widened

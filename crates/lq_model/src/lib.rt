@@ -14,6 +14,7 @@ mod query;
 mod statement;
 mod takes_back;
 mod test;
+mod view_queries;
 
 pub use caller::{By, ByText, Room};
 pub use canon::{Begun, Canon};
@@ -38,3 +39,4 @@ pub use takes_back::{
     set_not_null_takes_back, stays_widened,
 };
 pub use test::{Op, Operand, Test};
+pub use view_queries::views_answer;

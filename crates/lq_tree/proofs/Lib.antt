@@ -1,3 +1,4 @@
 pub mod Prefix
 pub mod Order
 pub mod Floats
+pub mod Least

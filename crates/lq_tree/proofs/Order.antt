@@ -119,10 +119,10 @@ both a b ha hb = rw (ha, hb) refl
 list_is : (ns : List Node) → is_tree (ListNode ns) ≡ list_all (λ b. b) (map is_tree ns)
 list_is ns = search (rules, the_lemmas)
 
-abbrev judged : List (List ℕ × Node) → List (List ℕ × Bool)
+abbrev pub judged : List (List ℕ × Node) → List (List ℕ × Bool)
 judged es = map (λ e. (e.0, is_tree e.1)) es
 
-map_is : (es : List (List ℕ × Node)) → is_tree (MapNode es) ≡ (rises (keys_of (judged es)) && list_all (λ b. b) (values_of (judged es)))
+pub map_is : (es : List (List ℕ × Node)) → is_tree (MapNode es) ≡ (rises (keys_of (judged es)) && list_all (λ b. b) (values_of (judged es)))
 map_is es = search (rules, the_lemmas)
 
 abbrev AreTrees : List Node → Type 0

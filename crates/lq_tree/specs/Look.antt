@@ -1,7 +1,9 @@
 -- What a reader of keys finds in a tree.
-use Rattle.std.specs.Prelude.{ℕ, ℤ, Bool, true, false, not, cond, List, Option, Some, None, option_and_then}
-use Rattle.std.specs.List.{list_any}
-use Rattle.std.specs.Map.{lookup, lookup_key}
+use Rattle.std.specs.Prelude.{◌≡◌, ◌||◌, ℕ, ℤ, Bool, true, false, not, cond, List, Option, Some, None, IfSome, option_and_then}
+use Rattle.std.specs.Cmp.Lexicographic.{slice_cmp}
+use Rattle.std.specs.List.{list_all, list_any}
+use Rattle.std.specs.Map.{keys_of, lookup, lookup_key}
+use Rattle.std.specs.Ordering.{nat_cmp, is_lt}
 use Rattle.std.specs.Str.{bytes_eq}
 use Rattle.std.specs.Str.Parse.{true_text, false_text}
 use Rattle.lq_base.specs.Number.{whole_text}
@@ -75,6 +77,15 @@ printed_of n = printed_in (out-Node n)
 abbrev pub value_at : List ℕ → Node → Option Node
 value_at key n = option_and_then (lookup (bytes_eq key)) (map_of n)
 
+-- the key is one of these
+abbrev pub is_among : List (List ℕ) → List ℕ → Bool
+is_among known key = list_any (bytes_eq key) known
+
 -- the first key of a map that is none of the known ones
 abbrev pub unknown_key : List (List ℕ) → Node → Option (List ℕ)
-unknown_key known n = option_and_then (lookup_key (λ key. not (list_any (bytes_eq key) known))) (map_of n)
+unknown_key known n = option_and_then (lookup_key (λ key. not (is_among known key))) (map_of n)
+
+-- each key of the map that is below this one, by its bytes, is known
+abbrev pub IsLeastUnknown : List (List ℕ) → Node → List ℕ → Type 0
+IsLeastUnknown known n key =
+    IfSome (map_of n) (λ es. list_all (λ k. is_among known k || not (is_lt (slice_cmp nat_cmp k key))) (keys_of es) ≡ true)

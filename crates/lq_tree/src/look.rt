@@ -1,10 +1,10 @@
-ghost use Rattle.std.specs.Prelude.{◌≡◌, IfOk, map, option_map, not, cond};
-ghost use Rattle.std.specs.List.{list_any};
+ghost use Rattle.std.specs.Prelude.{◌≡◌, IfOk, IfSome, map, option_map, not, cond};
 ghost use Rattle.std.specs.Map.{lookup, lookup_key};
 ghost use Rattle.std.specs.Option.{option_copied};
 ghost use Rattle.std.specs.Str.{bytes_eq};
 ghost use Rattle.lq_base.specs.Number.{whole_text};
-ghost use Rattle.lq_tree.specs.Look.{map_of, list_of, text_of, whole_of, truth_of, is_null, printed_of, value_at, unknown_key, spelled_truth};
+ghost use Rattle.lq_tree.specs.Look.{map_of, list_of, text_of, whole_of, truth_of, is_null, printed_of, value_at, unknown_key, is_among, IsLeastUnknown, spelled_truth};
+ghost use Rattle.lq_tree.specs.Tree.{IsTree};
 
 use crate::node::Node;
 use lq_base::{NoMemory, Text, append_whole};
@@ -93,9 +93,11 @@ impl Node {
         }
     }
 
-    /// The first key of a map, in the map's order, that is none of the known ones.
+    /// The first key of a map, in the map's order, that is none of the known ones. In a tree that was
+    /// read it is the least such key by its bytes.
     pub fn unknown_key(&self, known: &[&str]) -> Option<&Text>
-        ensures { option_copied result ≡ unknown_key (map (λ k. k.now) known.now) self.now }
+        ensures first { option_copied result ≡ unknown_key (map (λ k. k.now) known.now) self.now }
+        ensures least { IsTree self.now → IfSome (option_copied result) (IsLeastUnknown (map (λ k. k.now) known.now) self.now) }
     {
         match self {
             Node::Map(entries) => unknown_in(entries.as_slice(), known),
@@ -135,7 +137,7 @@ fn value_in<'a>(entries: &'a [(Text, Node)], key: &str) -> Option<&'a Node>
 
 fn unknown_in<'a>(entries: &'a [(Text, Node)], known: &[&str]) -> Option<&'a Text>
     ensures { option_copied result
-        ≡ lookup_key (λ key. not (list_any (bytes_eq key) (map (λ k. k.now) known.now))) entries.now }
+        ≡ lookup_key (λ key. not (is_among (map (λ k. k.now) known.now) key)) entries.now }
 {
     for entry in entries {
         if !is_among(entry.0.as_str(), known) {
@@ -146,7 +148,7 @@ fn unknown_in<'a>(entries: &'a [(Text, Node)], known: &[&str]) -> Option<&'a Tex
 }
 
 fn is_among(key: &str, known: &[&str]) -> bool
-    ensures { result ≡ list_any (bytes_eq key.now) (map (λ k. k.now) known.now) }
+    ensures { result ≡ is_among (map (λ k. k.now) known.now) key.now }
 {
     for name in known {
         if key == *name {
