@@ -40,3 +40,5 @@ pub mod Update
 pub mod Views
 pub mod ViewsAnswer
 pub mod Widened
+pub mod Look
+pub mod Changes

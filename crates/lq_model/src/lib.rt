@@ -4,11 +4,13 @@
 mod caller;
 mod canon;
 mod canon_laws;
+mod change;
 mod column;
 mod constraint;
 mod fault;
 mod index;
 mod keeps_sound;
+mod look;
 mod phrase;
 mod query;
 mod statement;
@@ -21,11 +23,13 @@ pub use canon::{Begun, Canon};
 pub use canon_laws::{
     atoms_are_read_one_way, text_tells_change, text_tells_changes, text_tells_value,
 };
+pub use change::{Change, Undo};
 pub use column::{Column, ColumnDef};
 pub use constraint::{ForeignKey, Key, Unique};
 pub use fault::{AskFault, KindFault, ParseFault, StoreFault};
 pub use index::Index;
 pub use keeps_sound::statement_keeps_sound;
+pub use look::Look;
 pub use phrase::Phrase;
 pub use query::{Answered, Query, Wanted};
 pub use statement::Statement;
