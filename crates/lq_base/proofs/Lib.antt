@@ -1,8 +1,12 @@
 mod DayLemmas
 mod DigitLemmas
 mod IntoLemmas
+pub mod KindSpelled
 pub mod MomentLemmas
 mod NumberLemmas
+pub mod NumberSpelled
 mod PlainLemmas
+mod SpacedLemmas
+mod SplitLemmas
 mod TextLemmas
 pub mod ValueLemmas

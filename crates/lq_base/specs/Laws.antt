@@ -1,9 +1,12 @@
 -- What holds of the definitions.
-use Rattle.std.specs.Prelude.{◌≡◌, true, Ok, Some, ℤ}
+use Rattle.std.specs.Prelude.{◌≡◌, true, Ok, Some, ℕ, ℤ, List}
 use Rattle.lq_base.specs.declared.kind.Kind.{Kind}
 use Rattle.lq_base.specs.declared.literal.Literal.{Literal}
 use Rattle.lq_base.specs.declared.value.Value.{Value}
+use Rattle.lq_base.specs.Kind.{kind_of}
 use Rattle.lq_base.specs.Moment.{IsMoment, moment_of, moment_text}
+use Rattle.lq_base.specs.Number.{number_of}
+use Rattle.lq_base.specs.Spells.{SpellsNumber, SpellsMoment, NamesKind}
 use Rattle.lq_base.specs.Value.{is_value_of, into_kind}
 
 -- what a literal becomes in a kind is a value of the kind
@@ -13,3 +16,26 @@ IntoIsValue = (literal : Literal) (kind : Kind) (value : Value) → into_kind li
 -- a moment's text spells that moment
 abbrev pub MomentReadsBack : Type 0
 MomentReadsBack = (ms : ℤ) → IsMoment ms → moment_of (moment_text ms) ≡ Some ms
+
+-- the number that is read from a text is one that the text spells
+abbrev pub NumberOfSpells : Type 0
+NumberOfSpells = (text : List ℕ) (number : Literal) → number_of text ≡ Some number → SpellsNumber text number
+
+-- a number that a text spells is the one that is read from it
+abbrev pub SpellsNumberOf : Type 0
+SpellsNumberOf = (text : List ℕ) (number : Literal) → SpellsNumber text number → number_of text ≡ Some number
+
+-- the same of moments
+abbrev pub MomentOfSpells : Type 0
+MomentOfSpells = (text : List ℕ) (ms : ℤ) → moment_of text ≡ Some ms → SpellsMoment text ms
+
+abbrev pub SpellsMomentOf : Type 0
+SpellsMomentOf = (text : List ℕ) (ms : ℤ) → SpellsMoment text ms → moment_of text ≡ Some ms
+
+-- the kind that is read from a text is one that the text names
+abbrev pub KindOfNames : Type 0
+KindOfNames = (text : List ℕ) (kind : Kind) → kind_of text ≡ Some kind → NamesKind text kind
+
+-- a kind that a text names is the one that is read from it
+abbrev pub NamesKindOf : Type 0
+NamesKindOf = (text : List ℕ) (kind : Kind) → NamesKind text kind → kind_of text ≡ Some kind

@@ -7,6 +7,7 @@ pub mod Moment
 pub mod Name
 pub mod Number
 pub mod Reason
+pub mod Spells
 pub mod Text
 pub mod Tracking
 pub mod Value
