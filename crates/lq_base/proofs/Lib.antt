@@ -3,6 +3,7 @@ mod DigitLemmas
 mod IntoLemmas
 pub mod KindSpelled
 pub mod MomentLemmas
+pub mod MomentSpelled
 mod NumberLemmas
 pub mod NumberSpelled
 mod PlainLemmas

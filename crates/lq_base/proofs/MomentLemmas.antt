@@ -60,7 +60,7 @@ moment_by_parts-text d clock number first second =
     then_some (λ day. option_map (λ c. (day *ℤ pos 86_400_000) +ℤ pos c) (clock_of text)) (day_of text) number _ first
     (ap (option_map (λ c. (number *ℤ pos 86_400_000) +ℤ pos c)) second)
 
-abs-nonnegative : (z : ℤ) → pos 0 ≤ℤ z → pos (unsigned_abs z) ≡ z
+pub abs-nonnegative : (z : ℤ) → pos 0 ≤ℤ z → pos (unsigned_abs z) ≡ z
 abs-nonnegative (pos n) h = refl
 abs-nonnegative (negsuc n) h = absurd (omega (arith, signed_arith))
 

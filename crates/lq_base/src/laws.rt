@@ -32,3 +32,13 @@ pub fn kind_of_names()
 pub fn names_kind_of()
     ensures { NamesKindOf }
 {}
+
+/// The moment that is read from a text is one that the text spells.
+pub fn moment_of_spells()
+    ensures { MomentOfSpells }
+{}
+
+/// A moment that a text spells is the one that is read from it, so it spells no other.
+pub fn spells_moment_of()
+    ensures { SpellsMomentOf }
+{}
