@@ -27,7 +27,7 @@ is_digit-below_ten d h =
 list_all-last : (xs : List ℕ) (x : ℕ) → list_all is_ascii_digit xs ≡ true → is_ascii_digit x ≡ true → list_all is_ascii_digit (xs ++ x ∷ []) ≡ true
 list_all-last xs x h e = list_all-append is_ascii_digit xs (x ∷ []) ∙ rw (h, e) refl
 
-last_digits-digits : (count n : ℕ) → list_all is_ascii_digit (last_digits count n) ≡ true
+pub last_digits-digits : (count n : ℕ) → list_all is_ascii_digit (last_digits count n) ≡ true
 last_digits-digits zero n = refl
 last_digits-digits (suc count) n = list_all-last (last_digits count (n / 10)) (48 + n % 10) (last_digits-digits count (n / 10)) (is_digit-below_ten (n % 10) (omega arith))
 

@@ -1,18 +1,21 @@
 -- The kind that is read is the one that the text names.
-use Rattle.std.proofs.Common.{◌≡◌, ◌⊎◌, inl, inr, ℕ, suc, ◌+◌, ◌-◌, ◌^◌, ◌<◌, ◌≤◌, Bool, true, false, not, cond, ◌&&◌, ◌||◌, ltb, leb, eqb, List, [], ◌∷◌, ◌++◌, length, take, drop, get_or, map, codes, Option, Some, None, option_and_then, refl, ap, ◌∙◌, sym, subst, append_assoc, bytes_eq, arith, rules, tests, true≢false}
+use Rattle.std.proofs.Common.{◌≡◌, inl, inr, ℕ, ◌-◌, ◌^◌, ◌<◌, Bool, true, false, cond, ◌&&◌, ◌||◌, ltb, leb, eqb, List, [], ◌∷◌, ◌++◌, length, take, get_or, map, codes, Option, Some, None, option_and_then, refl, ap, ◌∙◌, sym, subst, append_assoc, append-nil, bytes_eq, arith, rules, tests, true≢false}
 use Rattle.std.specs.Char.{is_ascii_digit, to_ascii_lowercase}
 use Rattle.std.specs.Fmt.{decimal}
-use Rattle.std.specs.List.{list_all, list_any, position_or_len, before_first, after_first}
+use Rattle.std.specs.List.{list_all, list_any, before_first, after_first}
 use Rattle.std.specs.Map.{lookup}
 use Rattle.std.specs.Str.{str_eq_ignore_ascii_case, str_to_ascii_lowercase}
-use Rattle.std.proofs.lemmas.Bool.{and_parts, and_from, or_left, or_right, or_from, or_parts, eqb-true, eq-eqb, leb-true, le-leb, ltb-true, cond-true, cond-false}
+use Rattle.std.proofs.lemmas.Bool.{and_parts, and_from, or_left, or_right, or_from, or_parts, eqb-true, eq-eqb, leb-true, ltb-true, cond-true, cond-false}
 use Rattle.std.proofs.lemmas.Option.{cond_some, option_and_then_some, same_Some, none-some}
 use Rattle.std.proofs.lemmas.Slice.Eq.{bytes_eq-Decides}
+use Rattle.std.proofs.lemmas.Fmt.{decimal_digit}
+use Rattle.lq_base.specs.declared.dialect.Dialect.{Dialect}
+use Rattle.lq_base.specs.declared.dialect.Dialect.TheVariants.{Postgresql, Mysql}
 use Rattle.lq_base.specs.declared.kind.Kind.{Kind}
 use Rattle.lq_base.specs.declared.kind.Kind.TheVariants.{Int, BigInt, Boolean, Varchar, Text, Moment, Decimal}
-use Rattle.lq_base.specs.Kind.{is_kind, kind_words, plain_kind, sized_kind, decimal_kind, is_blank, is_comma, is_open, spaced_number, kind_with, kind_after_open, kind_by_parts, kind_of}
+use Rattle.lq_base.specs.Kind.{is_kind, kind_words, plain_kind, sized_kind, decimal_kind, is_blank, is_comma, is_open, spaced_number, kind_with, kind_after_open, kind_of, kind_text}
 use Rattle.lq_base.specs.Spells.{is_word_of, IsSpaced, IsSized, IsSizedTwice, NamesKind}
-use Rattle.lq_base.proofs.SplitLemmas.{Lacks, place, lacks_from_all, lacks-append, split_found, split_before, split_after, split_none, split_place, at_split, at_last, last_is}
+use Rattle.lq_base.proofs.SplitLemmas.{Lacks, place, lacks_from_all, lacks-append, split_none, split_place, at_split, at_last, last_is}
 use Rattle.lq_base.proofs.SpacedLemmas.{decimal_digits, spaced_number-from, spaced_number-gives}
 
 -- what is said of a text without regard to case holds of each word that it is
@@ -158,9 +161,22 @@ found-names text kind (entry ∷ es) h e = by (found-names text kind es h.1) (st
 plain-names : (text : List ℕ) (kind : Kind) → plain_kind text ≡ Some kind → NamesKind text kind
 unfolding plain_kind
 plain-names text kind e =
-    found-names text kind kind_words
-    (λ h. or_left _ _ h, (λ h. or_right _ _ (or_left _ _ h), (λ h. or_left _ _ h, (λ h. or_left _ _ h, (λ h. or_right _ _ (or_left _ _ h),
-    (λ h. or_left _ _ h, (λ h. or_right _ _ (or_left _ _ h), (λ h. inl (or_left _ _ h), (λ h. inl (or_right _ _ (or_left _ _ h)), tt)))))))))
+    found-names text kind kind_words (
+      λ h. or_left _ _ h,
+      (
+        λ h. or_right _ _ (or_left _ _ h),
+        (
+          λ h. or_left _ _ h,
+          (
+            λ h. or_left _ _ h,
+            (
+              λ h. or_right _ _ (or_left _ _ h),
+              (λ h. or_left _ _ h, (λ h. or_right _ _ (or_left _ _ h), (λ h. inl (or_left _ _ h), (λ h. inl (or_right _ _ (or_left _ _ h)), tt)))),
+            ),
+          ),
+        ),
+      ),
+    )
     e
 
 sized-names : (text word inside : List ℕ) (n : ℕ) (kind : Kind) → text ≡ word ++ 40 ∷ (inside ++ 41 ∷ []) → spaced_number inside ≡ Some n → sized_kind word n ≡ Some kind → NamesKind text kind
@@ -183,12 +199,17 @@ decimal-names text word first second n m kind is one two e =
     let parts = cond_some ((str_eq_ignore_ascii_case word (codes "decimal") || str_eq_ignore_ascii_case word (codes "numeric")) && is_kind (Decimal n m)) (Decimal n m) kind e in
     let both = and_parts (str_eq_ignore_ascii_case word (codes "decimal") || str_eq_ignore_ascii_case word (codes "numeric")) (is_kind (Decimal n m)) parts.0 in
     let few = decimal_small n m both.1 in
-    subst (NamesKind text) parts.1 (both.1, record {
-      word = word; first = first; second = second;
-      is = is ∙ sym (append_assoc word (40 ∷ (first ++ 44 ∷ second)) (41 ∷ [])) ∙ ap (λ t. t ++ 41 ∷ []) (sym (append_assoc word (40 ∷ first) (44 ∷ second)));
-      is_word = either _ _ both.0;
-      numbers = (spaced_number-gives first n few.0 one, spaced_number-gives second m few.1 two);
-    })
+    subst (NamesKind text) parts.1 (
+      both.1,
+      record {
+        word = word;
+        first = first;
+        second = second;
+        is = is ∙ sym (append_assoc word (40 ∷ (first ++ 44 ∷ second)) (41 ∷ [])) ∙ ap (λ t. t ++ 41 ∷ []) (sym (append_assoc word (40 ∷ first) (44 ∷ second)));
+        is_word = either _ _ both.0;
+        numbers = (spaced_number-gives first n few.0 one, spaced_number-gives second m few.1 two);
+      },
+    )
 
 with-names : (text word inside : List ℕ) (kind : Kind) → text ≡ word ++ 40 ∷ (inside ++ 41 ∷ []) → kind_with word inside ≡ Some kind → NamesKind text kind
 with-names text word inside kind is = by (ltb (place 44 inside) (length inside)) refl
@@ -212,3 +233,28 @@ kind_of-names text kind = by (ltb (place 40 text) (length text)) refl
     by : (found : Bool) → ltb (place 40 text) (length text) ≡ found → cond found (kind_after_open (before_first is_open text) (after_first is_open text)) (plain_kind text) ≡ Some kind → NamesKind text kind
     by true f e = after_open-names text (before_first is_open text) (after_first is_open text) kind (split_place 40 text (ltb-true _ _ f)) e
     by false f e = plain-names text kind e
+
+-- a kind's spelling
+
+alone : (n : ℕ) → IsSpaced (decimal n) n
+alone n = record { before = []; after = []; is = sym (append-nil (decimal n)); blanks = (refl, refl) }
+
+after_blank : (n : ℕ) → IsSpaced (32 ∷ decimal n) n
+after_blank n = record { before = 32 ∷ []; after = []; is = ap (λ t. 32 ∷ t) (sym (append-nil (decimal n))); blanks = (refl, refl) }
+
+kind_text-names : (dialect : Dialect) (kind : Kind) → is_kind kind ≡ true → NamesKind (kind_text dialect kind) kind
+kind_text-names Postgresql Int h = refl
+kind_text-names Mysql Int h = refl
+kind_text-names dialect BigInt h = refl
+kind_text-names dialect Boolean h = refl
+kind_text-names dialect (Varchar most) h = (h, record { word = codes "VARCHAR"; inside = decimal most; is = refl; is_word = refl; number = alone most })
+kind_text-names dialect Text h = refl
+kind_text-names Postgresql Moment h = inl refl
+kind_text-names Mysql Moment h = inr (record { word = codes "DATETIME"; inside = codes "3"; is = refl; is_word = refl; number = record { before = []; after = []; is = three; blanks = (refl, refl) } })
+  where
+    three : codes "3" ≡ [] ++ decimal 3 ++ []
+    three = sym (append-nil (decimal 3) ∙ decimal_digit 3 (omega arith))
+kind_text-names dialect (Decimal n m) h = (h, record { word = codes "DECIMAL"; first = decimal n; second = 32 ∷ decimal m; is = ap (λ t. t ++ 41 ∷ []) (append_assoc (codes "DECIMAL(" ++ decimal n) (codes ", ") (decimal m)); is_word = refl; numbers = (alone n, after_blank m) })
+
+pub kind_of-kind_text : (dialect : Dialect) (kind : Kind) → is_kind kind ≡ true → kind_of (kind_text dialect kind) ≡ Some kind
+kind_of-kind_text dialect kind h = names-kind_of (kind_text dialect kind) kind (kind_text-names dialect kind h)

@@ -5,6 +5,7 @@ pub mod KindSpelled
 pub mod MomentLemmas
 pub mod MomentSpelled
 mod NumberLemmas
+pub mod NumberPrinted
 pub mod NumberSpelled
 mod PlainLemmas
 mod SpacedLemmas

@@ -1,15 +1,14 @@
 -- The moment that is read is the one that the text spells.
-use Rattle.std.proofs.Common.{◌≡◌, ◌⊎◌, inl, inr, ℕ, zero, suc, ◌+◌, ◌*◌, ◌/◌, ◌%◌, ◌^◌, ◌<◌, ◌≤◌, Bool, true, false, cond, ◌&&◌, ◌||◌, eqb, nat_lt, nat_le, ℤ, pos, neg_ℤ, ◌+ℤ◌, ◌*ℤ◌, ◌≤ℤ◌, unsigned_abs, List, [], ◌∷◌, ◌++◌, length, take, drop, get_or, codes, Option, Some, None, option_and_then, option_map, refl, ap, ap₂, ◌∙◌, sym, subst, arith, rules, tests}
+use Rattle.std.proofs.Common.{◌≡◌, ◌⊎◌, inl, inr, ℕ, zero, suc, ◌+◌, ◌*◌, ◌/◌, ◌%◌, ◌^◌, ◌<◌, ◌≤◌, Bool, true, false, cond, ◌&&◌, ◌||◌, eqb, nat_lt, nat_le, ℤ, pos, neg_ℤ, ◌+ℤ◌, ◌*ℤ◌, unsigned_abs, List, [], ◌∷◌, ◌++◌, length, take, drop, get_or, codes, Option, Some, None, option_and_then, option_map, refl, ap, ap₂, ◌∙◌, sym, subst, arith, rules, tests}
 use Rattle.std.specs.Char.{is_ascii_digit}
 use Rattle.std.specs.Int.{is_in_range, IsInRange}
 use Rattle.std.specs.List.{list_all}
 use Rattle.std.specs.Str.Parse.{digits_value}
-use Rattle.std.proofs.lemmas.Bool.{and_parts, eqb-true, eq-eqb, leb-true, ltb-true, cond-true, cond-false}
+use Rattle.std.proofs.lemmas.Bool.{and_parts, eqb-true, leb-true, ltb-true, cond-false}
 use Rattle.std.proofs.lemmas.Option.{cond_some, option_and_then_some, same_Some, none-some}
 use Rattle.std.proofs.lemmas.List.{length-take-le, length-drop}
 use Rattle.jiff_core.specs.declared.civil.date.Date.{Date}
 use Rattle.jiff_core.specs.Calendar.{days_in_month, days_from_civil}
-use Rattle.jiff_core.specs.Date.{epoch_day}
 use Rattle.jiff_core.proofs.DateLemmas.{epoch_day_range}
 use Rattle.jiff_core.proofs.SignedLemmas.{signed_arith}
 use Rattle.lq_base.specs.Moment.{IsMoment, Day, day_after, day_text, clock_text, text_since, has_marks, has_day_marks, has_clock_marks, digits_at, day_number, day_of, clock_number, clock_of, moment_by_parts, moment_of, moment_text}
@@ -193,7 +192,9 @@ day_of-gives text number long e =
   where
     by : (y m d : ℕ) → IsDayNumber y m d number → last_digits 4 y ≡ take 4 (drop 0 text) → last_digits 2 m ≡ take 2 (drop 5 text) → last_digits 2 d ≡ take 2 (drop 8 text) → LongDay text number
     by y m d day py pm pd = record {
-      count = day.count; few = day.few; is = day.is;
+      count = day.count;
+      few = day.few;
+      is = day.is;
       written = day_parts (day_after day.count) _ _ _ (ap (last_digits 4) (sym day.same.0) ∙ py) (ap (last_digits 2) (sym day.same.1) ∙ pm) (ap (last_digits 2) (sym day.same.2) ∙ pd);
     }
 

@@ -1,16 +1,15 @@
 -- The number that is read is the one that the text spells.
-use Rattle.std.proofs.Common.{◌≡◌, ◌≢◌, ℕ, zero, suc, ◌+◌, ◌<◌, ◌≤◌, Bool, true, false, not, cond, ◌&&◌, ltb, leb, eqb, ℤ, List, [], ◌∷◌, ◌++◌, length, take, drop, get_or, Option, Some, None, refl, ap, ◌∙◌, sym, subst, append_assoc, append-nil, arith, rules, tests}
+use Rattle.std.proofs.Common.{◌≡◌, ◌≢◌, ℕ, ◌+◌, ◌≤◌, Bool, true, false, cond, ◌&&◌, ltb, leb, eqb, List, [], ◌∷◌, ◌++◌, length, drop, get_or, Some, refl, ap, ◌∙◌, sym, subst, append_assoc, append-nil, arith, rules, tests}
 use Rattle.std.specs.Char.{is_ascii_digit}
 use Rattle.std.specs.Fmt.{sign_text}
 use Rattle.std.specs.List.{list_all, position_or_len, before_first, after_first}
 use Rattle.std.specs.Str.Parse.{digits_value, starts_with_minus}
-use Rattle.std.proofs.lemmas.Bool.{and_parts, and_from, eqb-true, leb-true, le-leb, ltb-true, ltb-false, cond-true, cond-false}
-use Rattle.std.proofs.lemmas.List.Sums.{split_at_first}
-use Rattle.std.proofs.lemmas.Option.{cond_some, none-some, same_Some}
+use Rattle.std.proofs.lemmas.Bool.{and_parts, and_from, eqb-true, leb-true, le-leb, ltb-true, cond-true, cond-false}
+use Rattle.std.proofs.lemmas.Option.{cond_some}
 use Rattle.lq_base.specs.declared.literal.Literal.{Literal}
 use Rattle.lq_base.specs.declared.literal.Literal.TheVariants.{Null, Int, Fixed, Text, Bool as Truth}
 use Rattle.lq_base.specs.Number.{is_digits, is_dot, signed, without_minus, whole_number, decimal_number, unsigned_number, number_of}
-use Rattle.lq_base.specs.Spells.{IsWhole, IsPointed, SpellsNumber}
+use Rattle.lq_base.specs.Spells.{SpellsNumber}
 use Rattle.lq_base.proofs.SplitLemmas.{Lacks, lacks_from_all, split_found, split_before, split_after, split_place, split_none}
 
 -- what stands before the digits

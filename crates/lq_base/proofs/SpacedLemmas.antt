@@ -1,18 +1,18 @@
 -- A number with blanks around it.
-use Rattle.std.proofs.Common.{◌≡◌, ◌≢◌, ℕ, suc, ◌+◌, ◌^◌, ◌<◌, ◌≤◌, Bool, true, false, not, cond, ◌&&◌, ◌||◌, ltb, leb, eqb, List, [], ◌∷◌, ◌++◌, length, take, drop, get_or, Option, Some, None, refl, ap, ◌∙◌, sym, append_assoc, append-nil, take-append-drop, arith, rules, tests}
+use Rattle.std.proofs.Common.{◌≡◌, ℕ, ◌^◌, ◌<◌, Bool, true, false, not, cond, ◌&&◌, ◌||◌, ltb, leb, eqb, List, [], ◌∷◌, ◌++◌, length, take, drop, get_or, Option, Some, None, refl, ap, ◌∙◌, sym, append_assoc, append-nil, take-append-drop, arith, rules, tests}
 use Rattle.std.specs.Char.{is_ascii_digit}
 use Rattle.std.specs.Fmt.{decimal}
-use Rattle.std.specs.List.{list_all, list_any, position_or_len}
+use Rattle.std.specs.List.{list_all, position_or_len}
 use Rattle.std.specs.Str.Parse.{digits_value}
 use Rattle.std.proofs.Math.Seq.{take-append_seam, drop-append_seam}
-use Rattle.std.proofs.lemmas.Bool.{and_parts, and_from, or_left, or_right, eqb-true, eqb-false, eq-eqb, ne_eqb, leb-true, le-leb, lt-ltb, ltb-true, cond-true, cond-false, not_from_false, not_from_true, cases_Bool}
+use Rattle.std.proofs.lemmas.Bool.{and_parts, and_from, or_left, or_right, eqb-true, eq-eqb, ne_eqb, leb-true, le-leb, lt-ltb, ltb-true, cond-true, not_from_false}
 use Rattle.std.proofs.lemmas.Fmt.{decimal_is_IsNumeral, decimal_nonempty, length-decimal-le, first_decimal, decimal-digits_value}
 use Rattle.std.proofs.lemmas.Option.{cond_some}
 use Rattle.std.proofs.lemmas.Str.Parse.{IsDigitsTest, IsNumeralModel, numerals_by_value}
 use Rattle.lq_base.specs.Kind.{plain_number, is_blank, is_no_blank, is_no_digit, number_before_blanks, spaced_number}
 use Rattle.lq_base.specs.Number.{is_digits}
 use Rattle.lq_base.specs.Spells.{IsSpaced}
-use Rattle.lq_base.proofs.SplitLemmas.{place-append, place-none, none_from_all, all_before, lacks_from_all}
+use Rattle.lq_base.proofs.SplitLemmas.{place-append, place-none, none_from_all, all_before}
 
 tells_list_all : IsDigitsTest (λ ds. list_all is_ascii_digit ds ≡ true)
 tells_list_all = record {

@@ -92,7 +92,7 @@ kind_by_parts text =
     if nat_lt (position_or_len is_open text) (length text)
     then kind_after_open (before_first is_open text) (after_first is_open text) else plain_kind text
 
--- the kind that a text names, or none
+-- the kind that a text names (`NamesKind` of Spells.antt), or none
 unfoldable pub kind_of : List ℕ → Option Kind
 kind_of text = kind_by_parts text
 

@@ -1,11 +1,13 @@
 -- What holds of the definitions.
-use Rattle.std.specs.Prelude.{◌≡◌, true, Ok, Some, ℕ, ℤ, List}
+use Rattle.std.specs.Prelude.{◌≡◌, ◌^◌, ◌<◌, true, IsTrue, Ok, Some, ℕ, ℤ, unsigned_abs, List}
+use Rattle.lq_base.specs.declared.dialect.Dialect.{Dialect}
 use Rattle.lq_base.specs.declared.kind.Kind.{Kind}
 use Rattle.lq_base.specs.declared.literal.Literal.{Literal}
+use Rattle.lq_base.specs.declared.literal.Literal.TheVariants.{Int, Fixed}
 use Rattle.lq_base.specs.declared.value.Value.{Value}
-use Rattle.lq_base.specs.Kind.{kind_of}
+use Rattle.lq_base.specs.Kind.{is_kind, kind_of, kind_text}
 use Rattle.lq_base.specs.Moment.{IsMoment, moment_of, moment_text}
-use Rattle.lq_base.specs.Number.{number_of}
+use Rattle.lq_base.specs.Number.{number_of, whole_text, fixed_text}
 use Rattle.lq_base.specs.Spells.{SpellsNumber, SpellsMoment, NamesKind}
 use Rattle.lq_base.specs.Value.{is_value_of, into_kind}
 
@@ -22,20 +24,32 @@ abbrev pub NumberOfSpells : Type 0
 NumberOfSpells = (text : List ℕ) (number : Literal) → number_of text ≡ Some number → SpellsNumber text number
 
 -- a number that a text spells is the one that is read from it
-abbrev pub SpellsNumberOf : Type 0
-SpellsNumberOf = (text : List ℕ) (number : Literal) → SpellsNumber text number → number_of text ≡ Some number
+abbrev pub SpellsGivesNumberOf : Type 0
+SpellsGivesNumberOf = (text : List ℕ) (number : Literal) → SpellsNumber text number → number_of text ≡ Some number
 
 -- the same of moments
 abbrev pub MomentOfSpells : Type 0
 MomentOfSpells = (text : List ℕ) (ms : ℤ) → moment_of text ≡ Some ms → SpellsMoment text ms
 
-abbrev pub SpellsMomentOf : Type 0
-SpellsMomentOf = (text : List ℕ) (ms : ℤ) → SpellsMoment text ms → moment_of text ≡ Some ms
+abbrev pub SpellsGivesMomentOf : Type 0
+SpellsGivesMomentOf = (text : List ℕ) (ms : ℤ) → SpellsMoment text ms → moment_of text ≡ Some ms
 
 -- the kind that is read from a text is one that the text names
 abbrev pub KindOfNames : Type 0
 KindOfNames = (text : List ℕ) (kind : Kind) → kind_of text ≡ Some kind → NamesKind text kind
 
 -- a kind that a text names is the one that is read from it
-abbrev pub NamesKindOf : Type 0
-NamesKindOf = (text : List ℕ) (kind : Kind) → NamesKind text kind → kind_of text ≡ Some kind
+abbrev pub NamesGiveKindOf : Type 0
+NamesGiveKindOf = (text : List ℕ) (kind : Kind) → NamesKind text kind → kind_of text ≡ Some kind
+
+-- how either dialect spells a kind that can be named names that kind
+abbrev pub KindReadsBack : Type 0
+KindReadsBack = (dialect : Dialect) (kind : Kind) → IsTrue (is_kind kind) → kind_of (kind_text dialect kind) ≡ Some kind
+
+-- a whole number of at most 38 digits is read from its text
+abbrev pub WholeReadsBack : Type 0
+WholeReadsBack = (n : ℤ) → unsigned_abs n < 10 ^ 38 → number_of (whole_text n) ≡ Some (Int n)
+
+-- so is a decimal number of at most 38 digits, where one digit at least is left before its dot
+abbrev pub FixedReadsBack : Type 0
+FixedReadsBack = (units : ℤ) (scale : ℕ) → unsigned_abs units < 10 ^ 38 → 0 < scale → scale < 38 → number_of (fixed_text units scale) ≡ Some (Fixed units scale)

@@ -103,6 +103,6 @@ moment_by_parts text =
     then option_and_then (λ day. option_map (λ clock. (day *ℤ pos 86_400_000) +ℤ pos clock) (clock_of text)) (day_of text)
     else None
 
--- the moment that a text spells, or none
+-- the moment that a text spells (`SpellsMoment` of Spells.antt), or none
 unfoldable pub moment_of : List ℕ → Option ℤ
 moment_of text = moment_by_parts text

@@ -45,7 +45,7 @@ unsigned_number negative text =
     then decimal_number negative (before_first is_dot text) (after_first is_dot text)
     else whole_number negative text
 
--- the number that a text spells, or none
+-- the number that a text spells (`SpellsNumber` of Spells.antt), or none
 unfoldable pub number_of : List ℕ → Option Literal
 number_of text = unsigned_number (starts_with_minus text) (without_minus text)
 

@@ -12,7 +12,7 @@ use Rattle.lq_base.specs.Kind.{is_kind, is_blank}
 use Rattle.lq_base.specs.Moment.{IsMoment, moment_text}
 use Rattle.lq_base.specs.Number.{is_digits, signed}
 
--- `-` or nothing, and then 1 to 38 digits, which write the number without its sign
+-- `-` or nothing, and then 1 to 38 digits, which write the magnitude
 pub record IsWhole (text : List ℕ) (n : ℤ) : Type 0 where
   pub negative : Bool
   pub digits : List ℕ
@@ -21,7 +21,7 @@ pub record IsWhole (text : List ℕ) (n : ℤ) : Type 0 where
   pub few : length digits ≤ 38
   pub value : n ≡ signed negative (digits_value 10 digits)
 
--- the same with a dot between two of the digits, of which `scale` stand after it
+-- the same with a dot between digits: `scale` digits after it, at most 38 in all
 pub record IsPointed (text : List ℕ) (units : ℤ) (scale : ℕ) : Type 0 where
   pub negative : Bool
   pub whole : List ℕ
@@ -42,7 +42,8 @@ SpellsNumber text other = ⊥
 abbrev pub without_t : List ℕ → List ℕ
 without_t text = if slice_index text 10 == 84 then take 10 text ++ 32 ∷ drop 11 text else text
 
--- the text is a date, one with a time of day, or one with milliseconds too: with what it leaves out it is the moment's text
+-- the text is a date, or one with a time of day, or with milliseconds too, and together with what it leaves out of
+-- ` 00:00:00.000` it is the moment's text of 23 bytes
 pub record SpellsMoment (text : List ℕ) (ms : ℤ) : Type 0 where
   pub is_moment : IsMoment ms
   pub parts : (length text ≡ 10) ⊎ ((length text ≡ 19) ⊎ (length text ≡ 23))
@@ -59,7 +60,7 @@ pub record IsSpaced (text : List ℕ) (n : ℕ) : Type 0 where
   pub is : text ≡ before ++ decimal n ++ after
   pub blanks : IsTrue (list_all is_blank before) × IsTrue (list_all is_blank after)
 
--- `word(n)`
+-- `word(n)`, the word in any ASCII case, and blanks around the number
 pub record IsSized (words : List (List ℕ)) (text : List ℕ) (n : ℕ) : Type 0 where
   pub word : List ℕ
   pub inside : List ℕ
@@ -67,7 +68,7 @@ pub record IsSized (words : List (List ℕ)) (text : List ℕ) (n : ℕ) : Type 
   pub is_word : IsTrue (is_word_of words word)
   pub number : IsSpaced inside n
 
--- `word(n, m)`
+-- `word(n, m)` likewise
 pub record IsSizedTwice (words : List (List ℕ)) (text : List ℕ) (n m : ℕ) : Type 0 where
   pub word : List ℕ
   pub first : List ℕ
@@ -76,7 +77,7 @@ pub record IsSizedTwice (words : List (List ℕ)) (text : List ℕ) (n m : ℕ) 
   pub is_word : IsTrue (is_word_of words word)
   pub numbers : IsSpaced first n × IsSpaced second m
 
--- the text names the kind
+-- the text names the kind: the table of the kinds' names
 abbrev pub NamesKind : List ℕ → Kind → Type 0
 NamesKind text kind.Int = IsTrue (is_word_of (codes "int" ∷ codes "integer" ∷ []) text)
 NamesKind text kind.BigInt = IsTrue (is_word_of (codes "bigint" ∷ []) text)

@@ -1,7 +1,7 @@
 //! What holds of the definitions that the contracts cite. Each function is empty: its contract is
 //! the law.
 
-ghost use Rattle.lq_base.specs.Laws.{IntoIsValue, MomentReadsBack, NumberOfSpells, SpellsNumberOf, MomentOfSpells, SpellsMomentOf, KindOfNames, NamesKindOf};
+ghost use Rattle.lq_base.specs.Laws.{IntoIsValue, MomentReadsBack, NumberOfSpells, SpellsGivesNumberOf, MomentOfSpells, SpellsGivesMomentOf, KindOfNames, NamesGiveKindOf, KindReadsBack, WholeReadsBack, FixedReadsBack};
 
 /// What a literal becomes in a kind is null or a value of the kind.
 pub fn into_is_value()
@@ -19,8 +19,8 @@ pub fn number_of_spells()
 {}
 
 /// A number that a text spells is the one that is read from it, so it spells no other.
-pub fn spells_number_of()
-    ensures { SpellsNumberOf }
+pub fn spells_gives_number_of()
+    ensures { SpellsGivesNumberOf }
 {}
 
 /// The kind that is read from a text is one that the text names.
@@ -29,8 +29,8 @@ pub fn kind_of_names()
 {}
 
 /// A kind that a text names is the one that is read from it, so it names no other.
-pub fn names_kind_of()
-    ensures { NamesKindOf }
+pub fn names_give_kind_of()
+    ensures { NamesGiveKindOf }
 {}
 
 /// The moment that is read from a text is one that the text spells.
@@ -39,6 +39,22 @@ pub fn moment_of_spells()
 {}
 
 /// A moment that a text spells is the one that is read from it, so it spells no other.
-pub fn spells_moment_of()
-    ensures { SpellsMomentOf }
+pub fn spells_gives_moment_of()
+    ensures { SpellsGivesMomentOf }
+{}
+
+/// A kind's spelling in either dialect names that kind.
+pub fn kind_reads_back()
+    ensures { KindReadsBack }
+{}
+
+/// A whole number of at most 38 digits is read from its printed text.
+pub fn whole_reads_back()
+    ensures { WholeReadsBack }
+{}
+
+/// A decimal number of at most 38 digits with 1 to 37 of them after the dot is read from its
+/// printed text. (38 after it and the 0 before it would be 39.)
+pub fn fixed_reads_back()
+    ensures { FixedReadsBack }
 {}

@@ -1,5 +1,5 @@
 use Rattle.lq_base.proofs.NumberSpelled.{spells-number_of}
-use Rattle.lq_base.proofs.laws.spells_number_of.Goals as goal
+use Rattle.lq_base.proofs.laws.spells_gives_number_of.Goals as goal
 
 pub returns : goal.returns
 returns c = spells-number_of
