@@ -15,6 +15,7 @@ use Rattle.lq_base.specs.declared.kind.Kind.{Kind}
 use Rattle.lq_base.specs.declared.kind.Kind.TheVariants.{Int, BigInt, Boolean, Varchar, Text, Moment, Decimal}
 use Rattle.lq_base.specs.Kind.{is_kind, kind_words, plain_kind, sized_kind, decimal_kind, is_blank, is_comma, is_open, spaced_number, kind_with, kind_after_open, kind_of, kind_text}
 use Rattle.lq_base.specs.Spells.{is_word_of, IsSpaced, IsSized, IsSizedTwice, NamesKind}
+use Rattle.lq_base.proofs.NumberLemmas.{both_some}
 use Rattle.lq_base.proofs.SplitLemmas.{Lacks, place, lacks_from_all, lacks-append, split_none, split_place, at_split, at_last, last_is}
 use Rattle.lq_base.proofs.SpacedLemmas.{decimal_digits, spaced_number-from, spaced_number-gives}
 
@@ -136,10 +137,6 @@ names-kind_of text Moment (inl h) = plain_named text (codes "timestamp" ∷ code
 names-kind_of text Moment (inr h) = sized_named (codes "datetime" ∷ []) text 3 Moment (omega arith) (refl, tt) datetime_word h
 
 -- from what is read to what the text is made of
-
-both_some : {A : Type 0} (b : Bool) (o : Option A) (x : A) → cond b o None ≡ Some x → (b ≡ true) × (o ≡ Some x)
-both_some true o x e = (refl, e)
-both_some false o x e = absurd (none-some x e)
 
 either : (a b : Bool) → (a || b) ≡ true → (a || (b || false)) ≡ true
 either true b e = refl

@@ -1,5 +1,5 @@
 -- The moment that is read is the one that the text spells.
-use Rattle.std.proofs.Common.{◌≡◌, ◌⊎◌, inl, inr, ℕ, zero, suc, ◌+◌, ◌*◌, ◌/◌, ◌%◌, ◌^◌, ◌<◌, ◌≤◌, Bool, true, false, cond, ◌&&◌, ◌||◌, eqb, nat_lt, nat_le, ℤ, pos, neg_ℤ, ◌+ℤ◌, ◌*ℤ◌, unsigned_abs, List, [], ◌∷◌, ◌++◌, length, take, drop, get_or, codes, Option, Some, None, option_and_then, option_map, refl, ap, ap₂, ◌∙◌, sym, subst, arith, rules, tests}
+use Rattle.std.proofs.Common.{◌≡◌, ◌⊎◌, inl, inr, ℕ, zero, suc, ◌+◌, ◌*◌, ◌/◌, ◌%◌, ◌^◌, ◌<◌, ◌≤◌, Bool, true, false, ◌&&◌, ◌||◌, eqb, nat_lt, nat_le, ℤ, pos, neg_ℤ, ◌+ℤ◌, ◌*ℤ◌, unsigned_abs, List, [], ◌∷◌, ◌++◌, length, take, drop, get_or, codes, Option, Some, None, option_and_then, option_map, refl, ap, ap₂, ◌∙◌, sym, subst, arith, rules, tests}
 use Rattle.std.specs.Char.{is_ascii_digit}
 use Rattle.std.specs.Int.{is_in_range, IsInRange}
 use Rattle.std.specs.List.{list_all}
@@ -16,6 +16,7 @@ use Rattle.lq_base.specs.Number.{last_digits}
 use Rattle.lq_base.specs.Spells.{without_t, SpellsMoment}
 use Rattle.lq_base.proofs.DayLemmas.{date_is_day, first_day_le}
 use Rattle.lq_base.proofs.DigitLemmas.{last_digits-written, digits-bound}
+use Rattle.lq_base.proofs.NumberLemmas.{both_some}
 use Rattle.lq_base.proofs.MomentLemmas.{abs-nonnegative, moment_of-moment_text}
 
 -- a property of each list of so many bytes, byte by byte
@@ -218,10 +219,6 @@ clock_of-gives text clock long e =
 map_some : {A B P : Type 0} (f : A → B) (o : Option A) (y : B) → option_map f o ≡ Some y → ((x : A) → o ≡ Some x → f x ≡ y → P) → P
 map_some f None y e k = absurd (none-some y e)
 map_some f (Some x) y e k = k x refl (same_Some _ _ e)
-
-both_some : {A : Type 0} (b : Bool) (o : Option A) (x : A) → cond b o None ≡ Some x → (b ≡ true) × (o ≡ Some x)
-both_some true o x e = (refl, e)
-both_some false o x e = absurd (none-some x e)
 
 -- a text of 23 bytes that is read is the moment's text
 long_is : (text : List ℕ) (ms : ℤ) → length text ≡ 23 → get_or text 10 0 ≡ 32 → moment_by_parts text ≡ Some ms → IsMoment ms × (text ≡ moment_text ms)

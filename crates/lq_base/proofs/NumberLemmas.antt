@@ -8,6 +8,7 @@ use Rattle.std.proofs.lemmas.List.{take_all}
 use Rattle.std.proofs.lemmas.List.Sums.{prefix_len-le-length}
 use Rattle.std.proofs.lemmas.Str.{digit_value_digit}
 use Rattle.std.proofs.lemmas.Nat.{pow-add}
+use Rattle.std.proofs.lemmas.Option.{none-some}
 use Rattle.lq_base.specs.Number.{has_digits}
 
 -- what `position` gives, or the length
@@ -91,3 +92,8 @@ pub scaled_step : (m k : ℕ) → 1 ≤ k → m * 10 * 10 ^ (k - 1) ≡ m * 10 ^
 scaled_step m k some =
     let more : suc (k - 1) ≡ k = omega arith in
     mul_assoc m 10 (10 ^ (k - 1)) ∙ ap (λ p. m * p) (sym (pow-succ' 10 (k - 1)) ∙ ap (λ n. 10 ^ n) more)
+
+-- a test and what it guards
+pub both_some : {A : Type 0} (b : Bool) (o : Option A) (x : A) → cond b o None ≡ Some x → (b ≡ true) × (o ≡ Some x)
+both_some true o x e = (refl, e)
+both_some false o x e = absurd (none-some x e)

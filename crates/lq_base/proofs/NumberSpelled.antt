@@ -10,7 +10,7 @@ use Rattle.lq_base.specs.declared.literal.Literal.{Literal}
 use Rattle.lq_base.specs.declared.literal.Literal.TheVariants.{Null, Int, Fixed, Text, Bool as Truth}
 use Rattle.lq_base.specs.Number.{is_digits, is_dot, signed, without_minus, whole_number, decimal_number, unsigned_number, number_of}
 use Rattle.lq_base.specs.Spells.{SpellsNumber}
-use Rattle.lq_base.proofs.SplitLemmas.{Lacks, lacks_from_all, split_found, split_before, split_after, split_place, split_none}
+use Rattle.lq_base.proofs.SplitLemmas.{Lacks, at_split, lacks_from_all, split_none, split_place}
 
 -- what stands before the digits
 sign_and_rest : (text : List ℕ) → text ≡ sign_text (starts_with_minus text) ++ without_minus text
@@ -74,10 +74,7 @@ whole_is_number digits negative all few =
 decimal_is_number : (whole fraction : List ℕ) (negative : Bool) → is_digits whole ≡ true → is_digits fraction ≡ true → length whole + length fraction ≤ 38
     → unsigned_number negative (whole ++ 46 ∷ fraction) ≡ Some (Fixed (signed negative (digits_value 10 (whole ++ fraction))) (length fraction))
 decimal_is_number whole fraction negative first second few =
-    let lacks = digits_lack_dot whole first in
-    cond-true _ _ _ (split_found 46 whole fraction lacks)
-    ∙ ap (λ w. decimal_number negative w (after_first is_dot (whole ++ 46 ∷ fraction))) (split_before 46 whole fraction lacks)
-    ∙ ap (decimal_number negative whole) (split_after 46 whole fraction lacks)
+    at_split (decimal_number negative) (whole_number negative (whole ++ 46 ∷ fraction)) 46 whole fraction (digits_lack_dot whole first)
     ∙ cond-true _ _ _ (and_from (is_digits whole && is_digits fraction) (leb (length whole + length fraction) 38) (and_from (is_digits whole) (is_digits fraction) first second) (le-leb _ _ few))
 
 pub spells-number_of : (text : List ℕ) (number : Literal) → SpellsNumber text number → number_of text ≡ Some number

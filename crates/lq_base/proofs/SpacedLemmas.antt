@@ -1,5 +1,5 @@
 -- A number with blanks around it.
-use Rattle.std.proofs.Common.{◌≡◌, ℕ, ◌^◌, ◌<◌, Bool, true, false, not, cond, ◌&&◌, ◌||◌, ltb, leb, eqb, List, [], ◌∷◌, ◌++◌, length, take, drop, get_or, Option, Some, None, refl, ap, ◌∙◌, sym, append_assoc, append-nil, take-append-drop, arith, rules, tests}
+use Rattle.std.proofs.Common.{◌≡◌, ℕ, ◌^◌, ◌<◌, Bool, true, false, not, ◌&&◌, ◌||◌, ltb, leb, eqb, List, [], ◌∷◌, ◌++◌, length, take, drop, get_or, Some, refl, ap, ◌∙◌, sym, append_assoc, append-nil, take-append-drop, arith, rules, tests}
 use Rattle.std.specs.Char.{is_ascii_digit}
 use Rattle.std.specs.Fmt.{decimal}
 use Rattle.std.specs.List.{list_all, position_or_len}
@@ -12,6 +12,7 @@ use Rattle.std.proofs.lemmas.Str.Parse.{IsDigitsTest, IsNumeralModel, numerals_b
 use Rattle.lq_base.specs.Kind.{plain_number, is_blank, is_no_blank, is_no_digit, number_before_blanks, spaced_number}
 use Rattle.lq_base.specs.Number.{is_digits}
 use Rattle.lq_base.specs.Spells.{IsSpaced}
+use Rattle.lq_base.proofs.NumberLemmas.{both_some}
 use Rattle.lq_base.proofs.SplitLemmas.{place-append, place-none, none_from_all, all_before}
 
 tells_list_all : IsDigitsTest (λ ds. list_all is_ascii_digit ds ≡ true)
@@ -55,34 +56,22 @@ before_blanks digits after all blanks =
     let front : take (position_or_len is_no_digit (digits ++ after)) (digits ++ after) ≡ digits = ap (λ n. take n (digits ++ after)) count ∙ take-append_seam digits after in
     cond-true _ _ _ (ap (list_all is_blank) rest ∙ blanks) ∙ ap plain_number front
   where
-    not_not : (xs : List ℕ) → list_all is_ascii_digit xs ≡ true → list_all (λ x. not (is_no_digit x)) xs ≡ true
-    not_not [] h = refl
-    not_not (x ∷ xs) h =
-        let parts = and_parts (is_ascii_digit x) (list_all is_ascii_digit xs) h in
-        and_from _ _ (ap (λ b. not (not b)) parts.0) (not_not xs parts.1)
-
     no_digit_blank : (b : ℕ) → is_blank b ≡ true → is_no_digit b ≡ true
     no_digit_blank b h = grind (arith, tests)
 
     digits_end : (digits after : List ℕ) → list_all is_ascii_digit digits ≡ true → list_all is_blank after ≡ true → position_or_len is_no_digit (digits ++ after) ≡ length digits
-    digits_end digits [] h k = ap (position_or_len is_no_digit) (append-nil digits) ∙ place-none is_no_digit digits (none_from_all is_no_digit digits (not_not digits h))
-    digits_end digits (b ∷ after) h k = place-append is_no_digit digits b after (none_from_all is_no_digit digits (not_not digits h)) (no_digit_blank b (and_parts (is_blank b) (list_all is_blank after) k).0)
+    digits_end digits [] h k = ap (position_or_len is_no_digit) (append-nil digits) ∙ place-none is_no_digit digits (none_from_all is_ascii_digit digits h)
+    digits_end digits (b ∷ after) h k = place-append is_no_digit digits b after (none_from_all is_ascii_digit digits h) (no_digit_blank b (and_parts (is_blank b) (list_all is_blank after) k).0)
 
 -- blanks, digits, and blanks
 spaced_digits : (before digits after : List ℕ) → list_all is_blank before ≡ true → is_digits digits ≡ true → list_all is_blank after ≡ true → spaced_number (before ++ (digits ++ after)) ≡ plain_number digits
 spaced_digits before [] after b all a = absurd (search (rules, tests))
 spaced_digits before (d ∷ digits) after b all a =
     let digit = and_parts (is_ascii_digit d) (list_all is_ascii_digit digits) (and_parts (ltb 0 (length (d ∷ digits))) (list_all is_ascii_digit (d ∷ digits)) all).1 in
-    let start = place-append is_no_blank before d (digits ++ after) (none_from_all is_no_blank before (not_not before b)) (no_blank_digit d digit.0) in
+    let start = place-append is_no_blank before d (digits ++ after) (none_from_all is_blank before b) (no_blank_digit d digit.0) in
     ap number_before_blanks (ap (λ n. drop n (before ++ (d ∷ digits ++ after))) start ∙ drop-append_seam before (d ∷ digits ++ after))
     ∙ before_blanks (d ∷ digits) after all a
   where
-    not_not : (xs : List ℕ) → list_all is_blank xs ≡ true → list_all (λ x. not (is_no_blank x)) xs ≡ true
-    not_not [] h = refl
-    not_not (x ∷ xs) h =
-        let parts = and_parts (is_blank x) (list_all is_blank xs) h in
-        and_from _ _ (ap (λ b. not (not b)) parts.0) (not_not xs parts.1)
-
     no_blank_digit : (b : ℕ) → is_ascii_digit b ≡ true → is_no_blank b ≡ true
     no_blank_digit b h = grind (arith, tests)
 
@@ -110,7 +99,7 @@ spaced_number-gives text n small e =
     let start = position_or_len is_no_blank text in
     let rest = drop start text in
     let count = position_or_len is_no_digit rest in
-    let parts = cond_some_of (list_all is_blank (drop count rest)) (plain_number (take count rest)) n e in
+    let parts = both_some (list_all is_blank (drop count rest)) (plain_number (take count rest)) n e in
     let number = plain_number-is (take count rest) n small parts.1 in
     record {
       before = take start text;
@@ -118,7 +107,3 @@ spaced_number-gives text n small e =
       is = sym (take-append-drop start text) ∙ ap (λ r. take start text ++ r) (sym (take-append-drop count rest) ∙ ap (λ d. d ++ drop count rest) number) ∙ sym (append_assoc (take start text) (decimal n) (drop count rest));
       blanks = (all_before is_blank text, parts.0);
     }
-  where
-    cond_some_of : (b : Bool) (o : Option ℕ) (n : ℕ) → cond b o None ≡ Some n → (b ≡ true) × (o ≡ Some n)
-    cond_some_of true o n h = (refl, h)
-    cond_some_of false o n h = absurd (search (rules, tests))

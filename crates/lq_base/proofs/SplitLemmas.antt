@@ -2,7 +2,7 @@
 use Rattle.std.proofs.Common.{◌≡◌, ℕ, ◌+◌, ◌-◌, ◌<◌, Bool, true, false, not, cond, ltb, eqb, List, [], ◌∷◌, ◌++◌, length, take, drop, get_or, refl, ap, ap₂, ◌∙◌, sym, arith, rules, tests, true≢false, one-add}
 use Rattle.std.specs.List.{list_all, list_any, position_or_len, before_first, after_first}
 use Rattle.std.proofs.Math.Seq.{take-append_seam, drop-append-add, get_or-append_seam}
-use Rattle.std.proofs.lemmas.Bool.{and_parts, or_parts, or_from, eqb-true, eq-eqb, lt-ltb, not-true, cond-true}
+use Rattle.std.proofs.lemmas.Bool.{and_parts, or_parts, or_from, eqb-true, eq-eqb, lt-ltb, cond-true}
 use Rattle.std.proofs.lemmas.List.{length-append, take_all}
 use Rattle.std.proofs.lemmas.Grind.{take_at_read}
 use Rattle.std.proofs.lemmas.List.Folds.{list_any-append}
@@ -43,12 +43,12 @@ place-none p (x ∷ xs) h =
     let parts = or_parts (p x) (list_any p xs) h in
     rw parts.0 (omega (arith, place-none p xs parts.1))
 
--- where each fails, none passes
-pub none_from_all : {X : Type 0} (p : X → Bool) (xs : List X) → list_all (λ x. not (p x)) xs ≡ true → list_any p xs ≡ false
-none_from_all p [] h = refl
-none_from_all p (x ∷ xs) h =
-    let parts = and_parts (not (p x)) (list_all (λ x. not (p x)) xs) h in
-    or_from (p x) (list_any p xs) (not-true (p x) parts.0) (none_from_all p xs parts.1)
+-- where each passes, none fails
+pub none_from_all : {X : Type 0} (q : X → Bool) (xs : List X) → list_all q xs ≡ true → list_any (λ x. not (q x)) xs ≡ false
+none_from_all q [] h = refl
+none_from_all q (x ∷ xs) h =
+    let parts = and_parts (q x) (list_all q xs) h in
+    or_from (not (q x)) (list_any (λ x. not (q x)) xs) (ap not parts.0) (none_from_all q xs parts.1)
 
 -- those before the first that fails all pass
 pub all_before : {X : Type 0} (q : X → Bool) (xs : List X) → list_all q (take (position_or_len (λ x. not (q x)) xs) xs) ≡ true
