@@ -1,0 +1,2 @@
+mod DoneLemmas
+pub mod HistoryLemmas
