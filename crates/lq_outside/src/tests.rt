@@ -1,8 +1,8 @@
 ghost use Rattle.std.specs.Prelude.{◌≡◌, ◌+◌, Some};
 
 use crate::{
-    Clock, Disk, Files, FilesFault, Found, Fuse, MemDisk, MemFiles, MemSink, SetClock, Sink,
-    SinkFailed, SureDisk, SureFiles, SureSink, write_all,
+    Clock, Disk, DiskFailed, Files, FilesFault, Found, Fuse, MemDisk, MemFiles, MemSink, SetClock,
+    Sink, SinkFailed, SureDisk, SureFiles, SureSink, write_all,
 };
 use lq_base::{Items, Text};
 use std::alloc::Global;
@@ -132,6 +132,89 @@ fn a_disk_keeps_what_is_written(rt: HostRuntime) -> Result<(), Fail> {
     assert_eq!(rt; disk.bytes().len(), 8);
     disk.read(3, &mut two)?;
     assert_eq!(rt; two, *b"dE");
+    Ok(())
+}
+
+// A disk whose first write fails in its middle: the first half of its bytes is on the disk.
+#[derive(Drop)]
+struct TornDisk {
+    disk: SureDisk,
+    torn: bool,
+    refused: u64,
+}
+
+impl Disk for TornDisk {
+    ghost use Rattle.lq_outside.specs.Record.{sound};
+
+    ghost told = { λ d. ⟦<SureDisk as Disk>⟧.told d.disk };
+
+    ghost faults = { λ d. ⟦<SureDisk as Disk>⟧.faults d.disk + d.refused };
+
+    ghost crashes = { λ d. ⟦<SureDisk as Disk>⟧.crashes d.disk };
+
+    ghost sound = { λ d. sound d.disk.calls.items d.disk.bytes.items };
+
+    fn size(&mut self) -> Result<u64, DiskFailed> {
+        self.disk.size()
+    }
+
+    fn read(&mut self, at: u64, into: &mut [u8]) -> Result<(), DiskFailed> {
+        self.disk.read(at, into)
+    }
+
+    fn write_at(&mut self, at: u64, bytes: &[u8]) -> Result<(), DiskFailed> {
+        if self.torn {
+            return self.disk.write_at(at, bytes);
+        }
+        let _ = self.disk.write_at(at, &bytes[..bytes.len() / 2]);
+        self.torn = true;
+        self.refused = self.refused.saturating_add(1);
+        Err(DiskFailed)
+    }
+
+    fn sync(&mut self) -> Result<(), DiskFailed> {
+        self.disk.sync()
+    }
+}
+
+// Whether the disk has these bytes, at most 8, by its size and a read.
+fn reads<D: Disk>(disk: &mut D, want: &[u8]) -> bool {
+    let mut bytes = [0; 8];
+    if want.len() > 8 || disk.size() != Ok(want.len() as u64) {
+        return false;
+    }
+    let into = &mut bytes[..want.len()];
+    disk.read(0, into).is_ok() && &*into == want
+}
+
+// Writes where the place is on the disk, and says whether that succeeded.
+fn writes<D: Disk>(disk: &mut D, at: u64, bytes: &[u8]) -> bool {
+    match disk.size() {
+        Ok(size) => at <= size && disk.write_at(at, bytes).is_ok(),
+        Err(DiskFailed) => false,
+    }
+}
+
+#[test]
+fn a_torn_write_is_read_back(rt: HostRuntime) -> Result<(), Fail> {
+    // A place, what is written there, what the failed write leaves and what the next one does.
+    for (at, bytes, torn, whole) in [
+        (0, "WXYZ", "WXcd", "WXYZ"),
+        (2, "YZ", "abYd", "abYZ"),
+        (2, "WXYZ", "abWX", "abWXYZ"),
+        (4, "WXYZ", "abcdWX", "abcdWXYZ"),
+        (1, "X", "abcd", "aXcd"),
+    ] {
+        let mut disk = TornDisk {
+            disk: SureDisk::new(Vec::from_slice(rt.alloc(), b"abcd")?),
+            torn: false,
+            refused: 0,
+        };
+        assert!(rt; !writes(&mut disk, at, bytes.as_bytes()), "{torn}");
+        assert!(rt; reads(&mut disk, torn.as_bytes()), "{torn}");
+        assert!(rt; writes(&mut disk, at, bytes.as_bytes()), "{whole}");
+        assert!(rt; reads(&mut disk, whole.as_bytes()), "{whole}");
+    }
     Ok(())
 }
 
