@@ -1,0 +1,3 @@
+pub mod Lexeme
+pub mod Pieces
+pub mod Units

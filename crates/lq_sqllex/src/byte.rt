@@ -1,0 +1,60 @@
+ghost use Rattle.std.specs.Prelude.{◌≡◌, slice_index, drop};
+ghost use Rattle.lq_sqllex.specs.Lexeme.{begins, is_blank, is_word_byte, is_number_byte, is_text_quote, is_name_quote};
+
+use lq_base::Dialect;
+
+pub(crate) fn begins(mark: &[u8], text: &[u8]) -> bool
+    ensures { result ≡ begins mark.now text.now }
+{
+    text.starts_with(mark)
+}
+
+// The byte there, or 0 past the end.
+pub(crate) fn byte_at(text: &[u8], at: usize) -> u8
+    ensures { result ≡ slice_index text.now at }
+{
+    text.get(at).copied().unwrap_or(0)
+}
+
+// What stands from there on, or nothing past the end.
+pub(crate) fn from(text: &[u8], at: usize) -> &[u8]
+    ensures { result.now ≡ drop at text.now }
+{
+    text.get(at..).unwrap_or(&[])
+}
+
+pub(crate) fn is_blank(byte: u8) -> bool
+    ensures { result ≡ is_blank byte }
+{
+    byte == b' ' || byte == b'\t' || byte == b'\r' || byte == b'\n'
+}
+
+pub(crate) fn is_word_byte(byte: u8) -> bool
+    ensures { result ≡ is_word_byte byte }
+{
+    byte.is_ascii_alphanumeric() || byte == b'_'
+}
+
+pub(crate) fn is_number_byte(byte: u8) -> bool
+    ensures { result ≡ is_number_byte byte }
+{
+    is_word_byte(byte) || byte == b'.'
+}
+
+pub(crate) fn is_text_quote(dialect: Dialect, byte: u8) -> bool
+    ensures { result ≡ is_text_quote dialect byte }
+{
+    match dialect {
+        Dialect::Postgresql => byte == b'\'',
+        Dialect::Mysql => byte == b'\'' || byte == b'"',
+    }
+}
+
+pub(crate) fn is_name_quote(dialect: Dialect, byte: u8) -> bool
+    ensures { result ≡ is_name_quote dialect byte }
+{
+    match dialect {
+        Dialect::Postgresql => byte == b'"',
+        Dialect::Mysql => byte == b'`',
+    }
+}
