@@ -1,1 +1,5 @@
-pub mod Ends
+pub mod Boundary
+pub mod EndSteps
+pub mod PieceSteps
+pub mod TriviaSteps
+pub mod UnitSteps

@@ -16,16 +16,16 @@ lexeme_at d text = option_map (λ n. (sort_at d text, n)) (length_at d text)
 abbrev pub lexemes : Dialect → List ℕ → Option (List (Sort × List ℕ))
 lexemes d text = units (lexeme_at d) 0 text
 
--- blanks and comments
-abbrev pub is_void_sort : Sort → Bool
-is_void_sort Blank = true
-is_void_sort LineComment = true
-is_void_sort BlockComment = true
-is_void_sort _ = false
+-- what stands between words: blanks and comments
+abbrev pub is_trivia_sort : Sort → Bool
+is_trivia_sort Blank = true
+is_trivia_sort LineComment = true
+is_trivia_sort BlockComment = true
+is_trivia_sort _ = false
 
 -- a text of blanks and comments alone, or of nothing
-unfoldable pub is_void : Dialect → List ℕ → Bool
-is_void d text = option_map_or (list_all (λ lexeme. is_void_sort lexeme.0)) (lexemes d text) false
+unfoldable pub is_trivia : Dialect → List ℕ → Bool
+is_trivia d text = option_map_or (list_all (λ lexeme. is_trivia_sort lexeme.0)) (lexemes d text) false
 
 -- the sorts in which no delimiter counts
 abbrev pub is_enclosed : Sort → Bool
@@ -60,7 +60,7 @@ cut d text delimiter = option_map between (units (unit_at d delimiter) 0 text)
 
 -- the pieces that are not of blanks and comments alone
 abbrev pub kept : Dialect → List (List ℕ) → List (List ℕ)
-kept d = filter (λ piece. not (is_void d piece))
+kept d = filter (λ piece. not (is_trivia d piece))
 
 unfoldable pub pieces : Dialect → List ℕ → List ℕ → Option (List (List ℕ))
 pieces d text delimiter = option_map (kept d) (cut d text delimiter)

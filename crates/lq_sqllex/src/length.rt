@@ -12,7 +12,7 @@ fn is_pair(escaping: bool, quote: u8, first: u8, second: u8) -> bool
     (first == quote && second == quote) || (escaping && first == b'\\')
 }
 
-#[tactic(auto, using(crate::proofs::Ends::after_more, crate::proofs::Ends::quoted_two))]
+#[tactic(auto, using(crate::proofs::EndSteps::after_more, crate::proofs::EndSteps::quoted_two))]
 fn quoted_end(escaping: bool, quote: u8, text: &[u8]) -> Option<usize>
     ensures value { result ≡ quoted_end escaping quote text.now }
     ensures bound { IfSome result (λ end. end ≤ length text.now) }
@@ -49,7 +49,7 @@ fn opens(nesting: bool, first: u8, second: u8) -> bool
     nesting && (first == b'/' && second == b'*')
 }
 
-#[tactic(auto, using(crate::proofs::Ends::after_more, crate::proofs::Ends::comment_two))]
+#[tactic(auto, using(crate::proofs::EndSteps::after_more, crate::proofs::EndSteps::comment_two))]
 fn comment_end(nesting: bool, text: &[u8]) -> Option<usize>
     ensures value { result ≡ comment_end nesting 1 text.now }
     ensures bound { IfSome result (λ end. end ≤ length text.now) }

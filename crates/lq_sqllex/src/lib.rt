@@ -1,11 +1,17 @@
-//! The lexemes of SQL in both dialects, and a text cut into its statements.
+//! The lexemes of SQL in both dialects, and a text cut into its pieces.
 #![tactic(auto)]
 
 mod byte;
+mod fault;
 mod length;
 mod lexeme;
+mod pieces;
 mod sort;
+mod trivia;
 
+pub use fault::SplitFault;
 pub use length::length_at;
 pub use lexeme::{Lexeme, lexeme_at};
+pub use pieces::split;
 pub use sort::{Sort, sort_at};
+pub use trivia::is_trivia;

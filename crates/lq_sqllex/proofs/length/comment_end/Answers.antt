@@ -1,7 +1,7 @@
 use Rattle.std.proofs.Common.{◌≡◌, ◌+◌, ◌-◌, suc, ◌∙◌, ap, sym, arith, length, length-drop, subst}
 use Rattle.std.proofs.lemmas.List.{take_rest}
 use Rattle.lq_sqllex.specs.Lexeme.{comment_end}
-use Rattle.lq_sqllex.proofs.Ends.{comment_closed, comment_opened, comment_on}
+use Rattle.lq_sqllex.proofs.EndSteps.{comment_closed, comment_opened, comment_on}
 use Rattle.lq_sqllex.proofs.length.comment_end.Goals as goal
 
 pub loop-rest-preserved-then-closes : goal.loop-rest-preserved-then-closes

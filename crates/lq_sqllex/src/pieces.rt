@@ -1,0 +1,95 @@
+ghost use Rattle.std.specs.Prelude.{◌≡◌, ◌++◌, ◌+◌, ◌<◌, ◌≤◌, [], ◌∷◌, length, drop, Some, None, Err, IfOk, IfSome, OnOk};
+ghost use Rattle.lq_sqllex.specs.Lexeme.{begins};
+ghost use Rattle.lq_sqllex.specs.Pieces.{is_enclosed, together, kept, pieces};
+
+use crate::byte::{begins, from};
+use crate::fault::SplitFault;
+use crate::length::length_at;
+use crate::sort::{Sort, sort_at};
+use crate::trivia::is_trivia;
+use lq_base::{Dialect, Items, NoMemory, Text};
+use std::alloc::Global;
+
+fn is_enclosed(sort: Sort) -> bool
+    ensures { result ≡ is_enclosed sort }
+{
+    match sort {
+        Sort::LineComment | Sort::BlockComment | Sort::Name | Sort::Text => true,
+        _ => false,
+    }
+}
+
+fn begins_at(delimiter: &str, text: &str, place: usize) -> bool
+    ensures { result ≡ begins delimiter.now (drop place text.now) }
+{
+    begins(delimiter.as_bytes(), from(text.as_bytes(), place))
+}
+
+fn together(dialect: Dialect, text: &[u8]) -> Option<usize>
+    requires { 0 < length text.now }
+    ensures value { result ≡ together dialect text.now }
+    ensures bound { IfSome result (λ n. n ≤ length text.now) }
+    ensures some { IfSome result (λ n. 0 < n) }
+{
+    if is_enclosed(sort_at(dialect, text)) {
+        length_at(dialect, text)
+    } else {
+        Some(1)
+    }
+}
+
+fn together_at(dialect: Dialect, text: &str, place: usize) -> Option<usize>
+    requires { place < length text.now }
+    ensures value { result ≡ together dialect (drop place text.now) }
+    ensures bound { IfSome result (λ n. place + n ≤ length text.now) }
+    ensures some { IfSome result (λ n. 0 < n) }
+{
+    together(dialect, from(text.as_bytes(), place))
+}
+
+fn keep(
+    alloc: Global,
+    dialect: Dialect,
+    piece: &str,
+    found: &mut Items<Text>,
+) -> Result<(), NoMemory>
+    ensures { OnOk result (found.new ≡ found.old ++ kept dialect (piece.now ∷ [])) }
+{
+    if !is_trivia(dialect, piece.as_bytes()) {
+        found.push(Text::new(alloc, piece)?)?;
+    }
+    Ok(())
+}
+
+/// The pieces of a text, which end at the delimiter where it stands outside strings, quoted names
+/// and comments; without those of blanks and comments alone. A piece has all bytes that stand between
+/// two delimiters. At each place the delimiter is looked for before a string, quoted name or comment,
+/// and it may stand inside a word. `Unclosed` exactly where one of those is not closed.
+pub fn split(
+    alloc: Global,
+    dialect: Dialect,
+    text: &str,
+    delimiter: &str,
+) -> Result<Items<Text>, SplitFault>
+    requires { 0 < length delimiter.now }
+    ensures pieces { IfOk result (λ found. pieces dialect text.now delimiter.now ≡ Some found) }
+    ensures unclosed { result ≡ Err SplitFault.Unclosed → pieces dialect text.now delimiter.now ≡ None }
+{
+    let mut found = Items::new(alloc);
+    let mut start = 0;
+    let mut place = 0;
+    while place < text.len() {
+        if begins_at(delimiter, text, place) {
+            keep(alloc, dialect, &text[start..place], &mut found)?;
+            place += delimiter.len();
+            start = place;
+        } else {
+            let Some(count) = together_at(dialect, text, place) else {
+                return Err(SplitFault::Unclosed);
+            };
+            place += count;
+        }
+    }
+    keep(alloc, dialect, &text[start..], &mut found)?;
+    Ok(found)
+}
