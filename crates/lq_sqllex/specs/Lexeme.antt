@@ -1,59 +1,15 @@
--- The lexemes of SQL: what stands at the front of a text, by its first bytes, and how far it goes.
-use Rattle.std.specs.Prelude.{ℕ, zero, suc, ◌+◌, ◌==◌, ◌&&◌, ◌||◌, not, Bool, true, false, if◌then◌else◌, List, [], ◌∷◌, drop, slice_index, Option, Some, None, option_map, codes}
-use Rattle.std.specs.Char.{is_ascii_digit, is_ascii_alphanumeric}
-use Rattle.std.specs.List.{prefix_len, starts_with}
+-- The lexemes of SQL: what stands at the front of a text, told by its first bytes, and how far it goes.
+use Rattle.std.specs.Prelude.{ℕ, ◌+◌, ◌==◌, ◌&&◌, ◌||◌, not, Bool, true, false, if◌then◌else◌, List, drop, slice_index, Option, Some, option_map, codes}
+use Rattle.std.specs.Char.{is_ascii_digit}
+use Rattle.std.specs.List.{prefix_len, list_all}
+use Rattle.std.specs.Option.{option_map_or}
 use Rattle.lq_base.specs.declared.dialect.Dialect.{Dialect}
-use Rattle.lq_base.specs.declared.dialect.Dialect.TheVariants.{Postgresql, Mysql}
 use Rattle.lq_sqllex.specs.declared.sort.Sort.{Sort}
 use Rattle.lq_sqllex.specs.declared.sort.Sort.TheVariants.{Blank, LineComment, BlockComment, Name, Text, Number, Word, Mark}
-
--- space, tab, carriage return or line feed
-abbrev pub is_blank : ℕ → Bool
-is_blank byte = (byte == 32 || byte == 9) || (byte == 13 || byte == 10)
-
-abbrev pub is_line_feed : ℕ → Bool
-is_line_feed byte = byte == 10
-
--- an ASCII letter, a digit or `_`
-abbrev pub is_word_byte : ℕ → Bool
-is_word_byte byte = is_ascii_alphanumeric byte || byte == 95
-
--- what may stand in a number after its first byte: the bytes of words, and `.`
-abbrev pub is_number_byte : ℕ → Bool
-is_number_byte byte = is_word_byte byte || byte == 46
-
--- a string stands in `'`, in mysql also in `"`
-abbrev pub is_text_quote : Dialect → ℕ → Bool
-is_text_quote Postgresql byte = byte == 39
-is_text_quote Mysql byte = byte == 39 || byte == 34
-
--- a quoted name stands in `"`, in mysql in a grave accent
-abbrev pub is_name_quote : Dialect → ℕ → Bool
-is_name_quote Postgresql byte = byte == 34
-is_name_quote Mysql byte = byte == 96
-
--- in mysql a backslash in a string stands before a byte of it, whatever that is
-abbrev pub escapes : Dialect → Bool
-escapes Postgresql = false
-escapes Mysql = true
-
--- in postgresql comments stand in comments
-abbrev pub nests : Dialect → Bool
-nests Postgresql = true
-nests Mysql = false
-
-abbrev pub begins : List ℕ → List ℕ → Bool
-begins mark text = starts_with ◌==◌ text mark
-
--- `--`; in mysql `--` before a blank, and `#`
-abbrev pub begins_line_comment : Dialect → List ℕ → Bool
-begins_line_comment Postgresql text = begins (codes "--") text
-begins_line_comment Mysql text = (begins (codes "--") text && is_blank (slice_index text 2)) || begins (codes "#") text
-
--- `/*`; in mysql not `/*!`, whose inside is SQL there
-abbrev pub begins_block_comment : Dialect → List ℕ → Bool
-begins_block_comment Postgresql text = begins (codes "/*") text
-begins_block_comment Mysql text = begins (codes "/*") text && not (begins (codes "/*!") text)
+use Rattle.lq_sqllex.specs.Byte.{begins, is_blank, is_line_feed, is_word_byte, is_number_byte, is_text_quote, is_name_quote, escapes, nests}
+use Rattle.lq_sqllex.specs.Comment.{begins_line_comment, begins_block_comment, comment_length}
+use Rattle.lq_sqllex.specs.Quoted.{quoted_length}
+use Rattle.lq_sqllex.specs.Units.{units}
 
 -- a digit, or `-` directly before one
 abbrev pub begins_number : ℕ → ℕ → Bool
@@ -72,45 +28,12 @@ sort_at d text =
     if begins_line_comment d text then LineComment else (if begins_block_comment d text then BlockComment
     else plain_sort d (slice_index text 0) (slice_index text 1))
 
-abbrev pub after : ℕ → Option ℕ → Option ℕ
-after count more = option_map (λ n. count + n) more
-
--- two bytes inside a quoted part of which neither ends it: a doubled quote, or a backslash, where it escapes, and the byte after it
-abbrev pub is_pair : Bool → ℕ → ℕ → ℕ → Bool
-is_pair escaping quote first second = (first == quote && second == quote) || (escaping && first == 92)
-
--- How many bytes a string or quoted name has after its opening quote: it ends with the first quote that is in no such pair.
-abbrev pub quoted_end : Bool → ℕ → List ℕ → Option ℕ
-quoted_end escaping quote [] = None
-quoted_end escaping quote (b ∷ []) = if b == quote then Some 1 else None
-quoted_end escaping quote (b ∷ c ∷ rest) =
-    if is_pair escaping quote b c then after 2 (quoted_end escaping quote rest)
-    else (if b == quote then Some 1 else after 1 (quoted_end escaping quote (c ∷ rest)))
-
--- `*/`
-abbrev pub closes : ℕ → ℕ → Bool
-closes first second = first == 42 && second == 47
-
--- `/*`, where comments nest
-abbrev pub opens : Bool → ℕ → ℕ → Bool
-opens nesting first second = nesting && (first == 47 && second == 42)
-
--- How many bytes a comment of which so many levels are open still has: each `*/` closes a level, and each `/*` opens one, where they nest.
-abbrev pub comment_end : Bool → ℕ → List ℕ → Option ℕ
-comment_end nesting zero text = Some 0
-comment_end nesting (suc levels) [] = None
-comment_end nesting (suc levels) (b ∷ []) = None
-comment_end nesting (suc levels) (b ∷ c ∷ rest) =
-    if closes b c then after 2 (comment_end nesting levels rest)
-    else (if opens nesting b c then after 2 (comment_end nesting (suc (suc levels)) rest)
-    else after 1 (comment_end nesting (suc levels) (c ∷ rest)))
-
 -- a mark of two bytes, or else of one
 abbrev pub mark_length : List ℕ → ℕ
 mark_length text =
     if (begins (codes "<=") text || begins (codes ">=") text) || (begins (codes "<>") text || begins (codes "!=") text) then 2 else 1
 
--- whether a lexeme that is a run of bytes goes on with this byte
+-- the byte belongs to a lexeme of this sort that has begun, the others being told by more than a byte
 abbrev pub goes_on : Sort → ℕ → Bool
 goes_on Blank byte = is_blank byte
 goes_on LineComment byte = not (is_line_feed byte)
@@ -118,14 +41,7 @@ goes_on Number byte = is_number_byte byte
 goes_on Word byte = is_word_byte byte
 goes_on _ byte = false
 
--- of a text that begins with a quote, and of one that begins with `/*`
-abbrev pub quoted_length : Bool → List ℕ → Option ℕ
-quoted_length escaping text = after 1 (quoted_end escaping (slice_index text 0) (drop 1 text))
-
-abbrev pub comment_length : Bool → List ℕ → Option ℕ
-comment_length nesting text = after 2 (comment_end nesting 1 (drop 2 text))
-
--- How many bytes the lexeme of this sort at the front of a text has; none where it is not closed.
+-- how many bytes the lexeme of this sort at the front of a text has; none where it is not closed
 abbrev pub length_of : Dialect → Sort → List ℕ → Option ℕ
 length_of d BlockComment text = comment_length (nests d) text
 length_of d Name text = quoted_length false text
@@ -135,3 +51,22 @@ length_of d sort text = Some (1 + prefix_len (goes_on sort) (drop 1 text))
 
 unfoldable pub length_at : Dialect → List ℕ → Option ℕ
 length_at d text = length_of d (sort_at d text) text
+
+-- the lexeme at the front of a text: its sort and its number of bytes
+abbrev pub lexeme_at : Dialect → List ℕ → Option (Sort × ℕ)
+lexeme_at d text = option_map (λ n. (sort_at d text, n)) (length_at d text)
+
+-- the lexemes of a text; none where a string, quoted name or comment is not closed
+unfoldable pub lexemes : Dialect → List ℕ → Option (List (Sort × List ℕ))
+lexemes d text = units (lexeme_at d) 0 text
+
+-- what stands between words: blanks and comments
+abbrev pub is_trivia_sort : Sort → Bool
+is_trivia_sort Blank = true
+is_trivia_sort LineComment = true
+is_trivia_sort BlockComment = true
+is_trivia_sort _ = false
+
+-- a text of blanks and comments alone, or of nothing
+unfoldable pub is_trivia : Dialect → List ℕ → Bool
+is_trivia d text = option_map_or (list_all (λ lexeme. is_trivia_sort lexeme.0)) (lexemes d text) false

@@ -1,33 +1,13 @@
 -- A text cut into pieces at a delimiter.
-use Rattle.std.specs.Prelude.{ℕ, ◌||◌, not, Bool, true, false, if◌then◌else◌, List, [], ◌∷◌, ◌++◌, length, filter, Option, Some, None, option_map}
-use Rattle.std.specs.List.{list_all}
-use Rattle.std.specs.Option.{option_map_or}
+use Rattle.std.specs.Prelude.{ℕ, not, Bool, true, false, if◌then◌else◌, List, [], ◌∷◌, ◌++◌, length, filter, Option, Some, option_map}
 use Rattle.lq_base.specs.declared.dialect.Dialect.{Dialect}
 use Rattle.lq_sqllex.specs.declared.sort.Sort.{Sort}
-use Rattle.lq_sqllex.specs.declared.sort.Sort.TheVariants.{Blank, LineComment, BlockComment, Name, Text, Number, Word, Mark}
-use Rattle.lq_sqllex.specs.Lexeme.{begins, sort_at, length_at}
+use Rattle.lq_sqllex.specs.declared.sort.Sort.TheVariants.{LineComment, BlockComment, Name, Text}
+use Rattle.lq_sqllex.specs.Byte.{begins}
+use Rattle.lq_sqllex.specs.Lexeme.{sort_at, length_at, is_trivia}
 use Rattle.lq_sqllex.specs.Units.{units}
 
--- the lexeme at the front of a text: its sort and its number of bytes
-abbrev pub lexeme_at : Dialect → List ℕ → Option (Sort × ℕ)
-lexeme_at d text = option_map (λ n. (sort_at d text, n)) (length_at d text)
-
--- the lexemes of a text; none where one of them is not closed
-abbrev pub lexemes : Dialect → List ℕ → Option (List (Sort × List ℕ))
-lexemes d text = units (lexeme_at d) 0 text
-
--- what stands between words: blanks and comments
-abbrev pub is_trivia_sort : Sort → Bool
-is_trivia_sort Blank = true
-is_trivia_sort LineComment = true
-is_trivia_sort BlockComment = true
-is_trivia_sort _ = false
-
--- a text of blanks and comments alone, or of nothing
-unfoldable pub is_trivia : Dialect → List ℕ → Bool
-is_trivia d text = option_map_or (list_all (λ lexeme. is_trivia_sort lexeme.0)) (lexemes d text) false
-
--- the sorts in which no delimiter counts
+-- strings, quoted names and comments, in which no delimiter counts
 abbrev pub is_enclosed : Sort → Bool
 is_enclosed LineComment = true
 is_enclosed BlockComment = true
@@ -35,7 +15,7 @@ is_enclosed Name = true
 is_enclosed Text = true
 is_enclosed _ = false
 
--- How many bytes at the front of a text stand together, where no delimiter is: a whole string, quoted name or comment, or else one byte.
+-- how many bytes at the front of a text stand together, where no delimiter is: a whole string, quoted name or comment, or else one byte
 abbrev pub together : Dialect → List ℕ → Option ℕ
 together d text = if is_enclosed (sort_at d text) then length_at d text else Some 1
 
@@ -58,9 +38,9 @@ between (unit ∷ more) = if unit.0 then [] ∷ between more else onto unit.1 (b
 unfoldable pub cut : Dialect → List ℕ → List ℕ → Option (List (List ℕ))
 cut d text delimiter = option_map between (units (unit_at d delimiter) 0 text)
 
--- the pieces that are not of blanks and comments alone
+-- those that are not of blanks and comments alone
 abbrev pub kept : Dialect → List (List ℕ) → List (List ℕ)
-kept d = filter (λ piece. not (is_trivia d piece))
+kept d pieces = filter (λ piece. not (is_trivia d piece)) pieces
 
 unfoldable pub pieces : Dialect → List ℕ → List ℕ → Option (List (List ℕ))
 pieces d text delimiter = option_map (kept d) (cut d text delimiter)

@@ -1,5 +1,5 @@
 ghost use Rattle.std.specs.Prelude.{◌≡◌, slice_index, drop};
-ghost use Rattle.lq_sqllex.specs.Lexeme.{begins, is_blank, is_word_byte, is_number_byte, is_text_quote, is_name_quote};
+ghost use Rattle.lq_sqllex.specs.Byte.{begins, is_blank, is_word_byte, is_number_byte, is_text_quote, is_name_quote, escapes, nests};
 
 use lq_base::Dialect;
 
@@ -56,5 +56,23 @@ pub(crate) fn is_name_quote(dialect: Dialect, byte: u8) -> bool
     match dialect {
         Dialect::Postgresql => byte == b'"',
         Dialect::Mysql => byte == b'`',
+    }
+}
+
+pub(crate) fn escapes(dialect: Dialect) -> bool
+    ensures { result ≡ escapes dialect }
+{
+    match dialect {
+        Dialect::Postgresql => false,
+        Dialect::Mysql => true,
+    }
+}
+
+pub(crate) fn nests(dialect: Dialect) -> bool
+    ensures { result ≡ nests dialect }
+{
+    match dialect {
+        Dialect::Postgresql => true,
+        Dialect::Mysql => false,
     }
 }

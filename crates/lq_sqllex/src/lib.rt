@@ -2,10 +2,12 @@
 #![tactic(auto)]
 
 mod byte;
+mod comment;
 mod fault;
 mod length;
 mod lexeme;
 mod pieces;
+mod quoted;
 mod sort;
 mod trivia;
 

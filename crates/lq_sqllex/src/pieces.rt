@@ -1,5 +1,5 @@
 ghost use Rattle.std.specs.Prelude.{◌≡◌, ◌++◌, ◌+◌, ◌<◌, ◌≤◌, [], ◌∷◌, length, drop, Some, None, Err, IfOk, IfSome, OnOk};
-ghost use Rattle.lq_sqllex.specs.Lexeme.{begins};
+ghost use Rattle.lq_sqllex.specs.Byte.{begins};
 ghost use Rattle.lq_sqllex.specs.Pieces.{is_enclosed, together, kept, pieces};
 
 use crate::byte::{begins, from};

@@ -1,7 +1,8 @@
 ghost use Rattle.std.specs.Prelude.{◌≡◌, slice_index};
-ghost use Rattle.lq_sqllex.specs.Lexeme.{begins_line_comment, begins_block_comment, begins_number, plain_sort, sort_at};
+ghost use Rattle.lq_sqllex.specs.Lexeme.{begins_number, plain_sort, sort_at};
 
-use crate::byte::{begins, byte_at, is_blank, is_name_quote, is_text_quote, is_word_byte};
+use crate::byte::{byte_at, is_blank, is_name_quote, is_text_quote, is_word_byte};
+use crate::comment::{begins_block_comment, begins_line_comment};
 use lq_base::Dialect;
 
 /// What a lexeme of SQL is.
@@ -23,24 +24,6 @@ pub enum Sort {
     Word,
     /// `<=`, `>=`, `<>`, `!=`, or any other single byte.
     Mark,
-}
-
-fn begins_line_comment(dialect: Dialect, text: &[u8]) -> bool
-    ensures { result ≡ begins_line_comment dialect text.now }
-{
-    match dialect {
-        Dialect::Postgresql => begins(b"--", text),
-        Dialect::Mysql => (begins(b"--", text) && is_blank(byte_at(text, 2))) || begins(b"#", text),
-    }
-}
-
-fn begins_block_comment(dialect: Dialect, text: &[u8]) -> bool
-    ensures { result ≡ begins_block_comment dialect text.now }
-{
-    match dialect {
-        Dialect::Postgresql => begins(b"/*", text),
-        Dialect::Mysql => begins(b"/*", text) && !begins(b"/*!", text),
-    }
 }
 
 fn begins_number(first: u8, second: u8) -> bool

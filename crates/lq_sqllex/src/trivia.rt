@@ -1,5 +1,5 @@
 ghost use Rattle.std.specs.Prelude.{◌≡◌};
-ghost use Rattle.lq_sqllex.specs.Pieces.{is_trivia_sort, is_trivia};
+ghost use Rattle.lq_sqllex.specs.Lexeme.{is_trivia_sort, is_trivia};
 
 use crate::lexeme::lexeme_at;
 use crate::sort::Sort;

@@ -1,6 +1,7 @@
 use Rattle.std.proofs.Common.{◌≡◌, ◌∙◌, ap, sym, Bool}
 use Rattle.lq_sqllex.specs.declared.sort.Sort.{Sort}
-use Rattle.lq_sqllex.specs.Lexeme.{quoted_length, length_of}
+use Rattle.lq_sqllex.specs.Lexeme.{length_of}
+use Rattle.lq_sqllex.specs.Quoted.{quoted_length}
 use Rattle.lq_sqllex.proofs.length.length_of.Goals as goal
 
 pub returns-in-Text-clause-value : goal.returns-in-Text-clause-value

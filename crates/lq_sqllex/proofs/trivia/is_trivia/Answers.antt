@@ -1,5 +1,5 @@
 use Rattle.std.proofs.Common.{◌≡◌, ◌∙◌, ap, sym, rules, refl, Bool, true, false}
-use Rattle.lq_sqllex.specs.Pieces.{is_trivia_sort}
+use Rattle.lq_sqllex.specs.Lexeme.{is_trivia_sort}
 use Rattle.lq_sqllex.proofs.TriviaSteps.{trivia_open, trivia_on, trivia_other, trivia_empty}
 use Rattle.lq_sqllex.proofs.trivia.is_trivia.Goals as goal
 

@@ -2,7 +2,7 @@ use Rattle.std.proofs.Common.{◌∙◌, ap, sym, arith, length, length-drop}
 use Rattle.std.proofs.lemmas.Bool.{ne_eqb}
 use Rattle.std.proofs.lemmas.List.{take_rest}
 use Rattle.lq_sqllex.proofs.EndSteps.{quoted_on}
-use Rattle.lq_sqllex.proofs.length.quoted_end.Goals as goal
+use Rattle.lq_sqllex.proofs.quoted.quoted_end.Goals as goal
 
 pub loop-rest-preserved : goal.loop-rest-preserved
 loop-rest-preserved c =

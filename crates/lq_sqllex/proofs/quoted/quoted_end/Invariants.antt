@@ -1,6 +1,6 @@
 use Rattle.std.proofs.Common.{◌≡◌, ◌+◌, length}
-use Rattle.lq_sqllex.specs.Lexeme.{after, quoted_end}
-use Rattle.lq_sqllex.proofs.length.quoted_end.Given as goal
+use Rattle.lq_sqllex.specs.Quoted.{after, quoted_end}
+use Rattle.lq_sqllex.proofs.quoted.quoted_end.Given as goal
 
 abbrev pub invariant-loop-rest : goal.invariant-loop-rest
 invariant-loop-rest l = record {

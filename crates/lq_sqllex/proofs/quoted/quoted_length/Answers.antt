@@ -1,6 +1,6 @@
 use Rattle.std.proofs.Common.{◌≡◌, ◌∙◌, ap, ℕ, List, slice_index}
-use Rattle.lq_sqllex.specs.Lexeme.{after, quoted_end}
-use Rattle.lq_sqllex.proofs.length.quoted_length.Goals as goal
+use Rattle.lq_sqllex.specs.Quoted.{after, quoted_end}
+use Rattle.lq_sqllex.proofs.quoted.quoted_length.Goals as goal
 
 pub returns-clause-value : goal.returns-clause-value
 returns-clause-value c =

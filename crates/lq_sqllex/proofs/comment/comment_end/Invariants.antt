@@ -1,6 +1,7 @@
 use Rattle.std.proofs.Common.{◌≡◌, ◌≤◌, ◌+◌, suc, length}
-use Rattle.lq_sqllex.specs.Lexeme.{after, comment_end}
-use Rattle.lq_sqllex.proofs.length.comment_end.Given as goal
+use Rattle.lq_sqllex.specs.Comment.{comment_end}
+use Rattle.lq_sqllex.specs.Quoted.{after}
+use Rattle.lq_sqllex.proofs.comment.comment_end.Given as goal
 
 abbrev pub invariant-loop-rest : goal.invariant-loop-rest
 invariant-loop-rest l = record {
