@@ -1,5 +1,5 @@
-ghost use Rattle.std.specs.Prelude.{◌≡◌, ◌++◌, ◌<◌, length, None, Some, IfSome};
-ghost use Rattle.lq_sqllex.specs.Lexeme.{sort_at, length_at};
+ghost use Rattle.std.specs.Prelude.{◌≡◌, ◌∷◌, ◌++◌, ◌<◌, length, None, Some, IfSome, option_map};
+ghost use Rattle.lq_sqllex.specs.Lexeme.{sort_at, length_at, lexemes};
 
 use crate::length::length_at;
 use crate::sort::{Sort, sort_at};
@@ -14,14 +14,17 @@ pub struct Lexeme<'a> {
 }
 
 /// The lexeme at the front of a text: None where it is a string, quoted name or comment that is not
-/// closed.
+/// closed. The lexemes of the text are this one and those of what follows.
+#[tactic(auto, using(crate::proofs::LexemeSteps::lexemes_open))]
 pub fn lexeme_at<'a>(dialect: Dialect, text: &'a [u8]) -> Option<Lexeme<'a>>
     requires { 0 < length text.now }
     ensures sort { IfSome result (λ it. it.sort ≡ sort_at dialect text.now) }
     ensures length { IfSome result (λ it. length_at dialect text.now ≡ Some (length it.bytes.now)) }
     ensures some { IfSome result (λ it. 0 < length it.bytes.now) }
     ensures whole { IfSome result (λ it. text.now ≡ it.bytes.now ++ it.rest.now) }
+    ensures more { IfSome result (λ it. lexemes dialect text.now ≡ option_map (λ more. (it.sort, it.bytes.now) ∷ more) (lexemes dialect it.rest.now)) }
     ensures unclosed { result ≡ None → length_at dialect text.now ≡ None }
+    ensures none { result ≡ None → lexemes dialect text.now ≡ None }
 {
     match length_at(dialect, text) {
         Some(count) => {

@@ -4,11 +4,14 @@
 mod byte;
 mod comment;
 mod fault;
+pub mod laws;
 mod length;
 mod lexeme;
 mod pieces;
 mod quoted;
 mod sort;
+#[cfg(test)]
+mod tests;
 mod trivia;
 
 pub use fault::SplitFault;

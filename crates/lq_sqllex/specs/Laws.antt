@@ -1,0 +1,45 @@
+-- What holds of the definitions.
+use Rattle.std.specs.Prelude.{◌≡◌, ◌<◌, ℕ, ◌==◌, ◌&&◌, ◌||◌, Bool, true, false, if◌then◌else◌, List, [], ◌∷◌, ◌++◌, length, slice_index, Some}
+use Rattle.std.specs.List.{flat_map}
+use Rattle.lq_base.specs.declared.dialect.Dialect.{Dialect}
+use Rattle.lq_sqllex.specs.declared.sort.Sort.{Sort}
+use Rattle.lq_sqllex.specs.declared.sort.Sort.TheVariants.{Name, Text}
+use Rattle.lq_sqllex.specs.Byte.{is_text_quote, is_name_quote, escapes}
+use Rattle.lq_sqllex.specs.Lexeme.{sort_at, length_at, lexemes}
+use Rattle.lq_sqllex.specs.Pieces.{cut}
+
+-- the lexemes of a text, one after the other, are the text
+abbrev pub LexemesAreTheText : Type 0
+LexemesAreTheText = (d : Dialect) (text : List ℕ) (found : List (Sort × List ℕ)) → lexemes d text ≡ Some found → flat_map (λ lexeme. lexeme.1) found ≡ text
+
+-- the pieces with a delimiter between each two
+abbrev pub joined : List ℕ → List (List ℕ) → List ℕ
+joined delimiter [] = []
+joined delimiter (piece ∷ []) = piece
+joined delimiter (piece ∷ next ∷ more) = piece ++ (delimiter ++ joined delimiter (next ∷ more))
+
+-- all pieces of a text, with the delimiters between them, are the text
+abbrev pub PiecesAreTheText : Type 0
+PiecesAreTheText = (d : Dialect) (text delimiter : List ℕ) (found : List (List ℕ)) → 0 < length delimiter → cut d text delimiter ≡ Some found → joined delimiter found ≡ text
+
+-- a text with each quote twice and, where it escapes, each backslash
+abbrev pub doubled : Bool → ℕ → List ℕ → List ℕ
+doubled escaping quote [] = []
+doubled escaping quote (b ∷ rest) =
+    if b == quote || (escaping && b == 92) then b ∷ b ∷ doubled escaping quote rest else b ∷ doubled escaping quote rest
+
+-- that in its quotes
+abbrev pub in_quotes : Bool → ℕ → List ℕ → List ℕ
+in_quotes escaping quote text = quote ∷ (doubled escaping quote text ++ quote ∷ [])
+
+-- such a lexeme is read whole, whatever else than its quote comes after it
+abbrev pub IsRead : Dialect → Sort → ℕ → List ℕ → Type 0
+IsRead d sort quote lexeme =
+    (rest : List ℕ) → (slice_index rest 0 == quote) ≡ false → (sort_at d (lexeme ++ rest) ≡ sort) × (length_at d (lexeme ++ rest) ≡ Some (length lexeme))
+
+-- each text can be written as a string, and as a quoted name
+abbrev pub TextsAreRead : Type 0
+TextsAreRead = (d : Dialect) (quote : ℕ) (text : List ℕ) → is_text_quote d quote ≡ true → IsRead d Text quote (in_quotes (escapes d) quote text)
+
+abbrev pub NamesAreRead : Type 0
+NamesAreRead = (d : Dialect) (quote : ℕ) (text : List ℕ) → is_name_quote d quote ≡ true → IsRead d Name quote (in_quotes false quote text)

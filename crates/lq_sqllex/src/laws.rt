@@ -1,0 +1,24 @@
+//! What holds of the definitions that the contracts cite. Each function is empty: its contract is
+//! the law.
+
+ghost use Rattle.lq_sqllex.specs.Laws.{LexemesAreTheText, PiecesAreTheText, TextsAreRead, NamesAreRead};
+
+/// The lexemes of a text, one after the other, are the text.
+pub fn lexemes_are_the_text()
+    ensures { LexemesAreTheText }
+{}
+
+/// All pieces of a text, with the delimiters between them, are the text.
+pub fn pieces_are_the_text()
+    ensures { PiecesAreTheText }
+{}
+
+/// Each text in quotes, its quotes doubled and in mysql its backslashes, is read as one string.
+pub fn texts_are_read()
+    ensures { TextsAreRead }
+{}
+
+/// Each text in the quotes of names, which are doubled inside, is read as one quoted name.
+pub fn names_are_read()
+    ensures { NamesAreRead }
+{}
