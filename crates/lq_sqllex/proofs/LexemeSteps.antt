@@ -1,9 +1,8 @@
 -- The lexemes of a text by its first one.
-use Rattle.std.proofs.Common.{◌≡◌, ◌<◌, ◌≤◌, List, ℕ, ◌∷◌, ◌++◌, length, take, drop, Option, Some, None, ◌∙◌, ap, refl, arith, length-append}
+use Rattle.std.proofs.Common.{◌≡◌, ◌<◌, ◌≤◌, List, ℕ, ◌∷◌, ◌++◌, length, take, drop, Some, None, ◌∙◌, ap, refl, arith, length-append}
 use Rattle.std.specs.Prelude.{option_map}
 use Rattle.std.proofs.lemmas.List.{take_at, drop_at}
 use Rattle.lq_base.specs.declared.dialect.Dialect.{Dialect}
-use Rattle.lq_sqllex.specs.declared.sort.Sort.{Sort}
 use Rattle.lq_sqllex.specs.Lexeme.{sort_at, length_at, lexeme_at, lexemes}
 use Rattle.lq_sqllex.specs.Units.{units}
 use Rattle.lq_sqllex.proofs.UnitSteps.{units_front, units_open}

@@ -1,6 +1,7 @@
 pub mod Boundary
 pub mod EndSteps
 pub mod LexemeSteps
+pub mod NestedComment
 pub mod PieceSteps
 pub mod QuotedText
 pub mod TriviaSteps

@@ -8,7 +8,6 @@ use Rattle.lq_sqllex.specs.declared.sort.Sort.TheVariants.{Name, Text}
 use Rattle.lq_sqllex.specs.Laws.{doubled, in_quotes, IsRead, TextsAreRead, NamesAreRead}
 use Rattle.lq_sqllex.specs.Lexeme.{sort_at, length_of, length_at}
 use Rattle.lq_sqllex.specs.Quoted.{after, is_pair, quoted_end, quoted_length}
-use Rattle.lq_sqllex.proofs.EndSteps.{after_more}
 
 -- the closing quote
 closed : (escaping : Bool) (quote : ℕ) (rest : List ℕ) → (escaping && quote == 92) ≡ false → (slice_index rest 0 == quote) ≡ false → quoted_end escaping quote (quote ∷ rest) ≡ Some 1

@@ -1,18 +1,18 @@
 -- What a text is taken apart into is the text.
-use Rattle.std.proofs.Common.{◌≡◌, ◌<◌, ℕ, zero, suc, ◌+◌, ◌-◌, Bool, true, false, if◌then◌else◌, List, [], ◌∷◌, ◌++◌, length, take, drop, Option, Some, None, ◌∙◌, ap, sym, subst, refl, arith, append_assoc}
-use Rattle.std.specs.Prelude.{option_map, option_and_then}
+use Rattle.std.proofs.Common.{◌≡◌, ◌<◌, ℕ, zero, suc, ◌+◌, ◌-◌, Bool, true, false, if◌then◌else◌, List, [], ◌∷◌, ◌++◌, length, take, drop, get_or, Option, Some, None, ◌∙◌, ap, sym, subst, refl, arith, append_assoc}
+use Rattle.std.specs.Prelude.{option_map, not, All}
 use Rattle.std.specs.List.{flat_map}
-use Rattle.std.specs.Option.{option_map_or}
 use Rattle.std.proofs.lemmas.List.{append-nil, take-append-drop, take_at}
 use Rattle.std.proofs.lemmas.List.Concat.{flat_map-cons}
+use Rattle.std.proofs.lemmas.List.Elements.{filter_passes}
 use Rattle.std.proofs.lemmas.Option.{option_and_then_some}
 use Rattle.lq_base.specs.declared.dialect.Dialect.{Dialect}
 use Rattle.lq_sqllex.specs.declared.sort.Sort.{Sort}
 use Rattle.lq_sqllex.specs.declared.sort.Sort.TheVariants.{Blank, LineComment, BlockComment, Name, Text, Number, Word, Mark}
 use Rattle.lq_sqllex.specs.Byte.{begins}
-use Rattle.lq_sqllex.specs.Laws.{LexemesAreTheText, PiecesAreTheText, joined}
-use Rattle.lq_sqllex.specs.Lexeme.{sort_at, length_of, length_at, lexeme_at, lexemes}
-use Rattle.lq_sqllex.specs.Pieces.{is_enclosed, together, unit_at, onto, between, cut}
+use Rattle.lq_sqllex.specs.Laws.{LexemesAreTheText, PiecesAreTheText, PiecesHaveWords, joined}
+use Rattle.lq_sqllex.specs.Lexeme.{sort_at, length_of, length_at, lexeme_at, lexemes, is_trivia}
+use Rattle.lq_sqllex.specs.Pieces.{is_enclosed, together, unit_at, onto, between, cut, kept, pieces}
 use Rattle.lq_sqllex.specs.Quoted.{after}
 use Rattle.lq_sqllex.specs.Units.{units}
 use Rattle.lq_sqllex.proofs.PieceSteps.{begins_with}
@@ -134,3 +134,16 @@ pub pieces_whole : PiecesAreTheText
 unfolding cut
 pieces_whole d text delimiter found some e =
     map_some between (units (unit_at d delimiter) 0 text) found e (λ us is same. ap (joined delimiter) (sym same) ∙ cut_whole d delimiter some 0 text us is)
+
+not_true : (b : Bool) → not b ≡ true → b ≡ false
+not_true true e = absurd (cc)
+not_true false e = refl
+
+all_words : (d : Dialect) (ps : List (List ℕ)) → All (λ piece. not (is_trivia d piece) ≡ true) ps → All (λ piece. is_trivia d piece ≡ false) ps
+all_words d ps all = λ k piece here. not_true (is_trivia d (get_or ps k piece)) (all k piece here)
+
+pub words_kept : PiecesHaveWords
+unfolding pieces
+words_kept d text delimiter found e =
+    map_some (kept d) (cut d text delimiter) found e (λ ps is same.
+    subst (All (λ piece. is_trivia d piece ≡ false)) same (all_words d (kept d ps) (filter_passes (λ piece. not (is_trivia d piece)) ps)))

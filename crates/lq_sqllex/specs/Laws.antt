@@ -1,12 +1,14 @@
 -- What holds of the definitions.
-use Rattle.std.specs.Prelude.{◌≡◌, ◌<◌, ℕ, ◌==◌, ◌&&◌, ◌||◌, Bool, true, false, if◌then◌else◌, List, [], ◌∷◌, ◌++◌, length, slice_index, Some}
+use Rattle.std.specs.Prelude.{◌≡◌, ◌<◌, ℕ, suc, ◌==◌, ◌&&◌, ◌||◌, Bool, true, false, if◌then◌else◌, List, [], ◌∷◌, ◌++◌, length, slice_index, Some, All, codes}
 use Rattle.std.specs.List.{flat_map}
 use Rattle.lq_base.specs.declared.dialect.Dialect.{Dialect}
 use Rattle.lq_sqllex.specs.declared.sort.Sort.{Sort}
 use Rattle.lq_sqllex.specs.declared.sort.Sort.TheVariants.{Name, Text}
-use Rattle.lq_sqllex.specs.Byte.{is_text_quote, is_name_quote, escapes}
-use Rattle.lq_sqllex.specs.Lexeme.{sort_at, length_at, lexemes}
-use Rattle.lq_sqllex.specs.Pieces.{cut}
+use Rattle.lq_sqllex.specs.Byte.{begins, is_text_quote, is_name_quote, escapes}
+use Rattle.lq_sqllex.specs.Comment.{comment_end, comment_length}
+use Rattle.lq_sqllex.specs.Lexeme.{sort_at, length_at, lexemes, is_trivia}
+use Rattle.lq_sqllex.specs.Pieces.{cut, pieces}
+use Rattle.lq_sqllex.specs.Quoted.{after}
 
 -- the lexemes of a text, one after the other, are the text
 abbrev pub LexemesAreTheText : Type 0
@@ -43,3 +45,12 @@ TextsAreRead = (d : Dialect) (quote : ℕ) (text : List ℕ) → is_text_quote d
 
 abbrev pub NamesAreRead : Type 0
 NamesAreRead = (d : Dialect) (quote : ℕ) (text : List ℕ) → is_name_quote d quote ≡ true → IsRead d Name quote (in_quotes false quote text)
+
+-- in postgresql a whole comment inside another is passed over, however many are open
+abbrev pub CommentsNest : Type 0
+CommentsNest = (open_levels : ℕ) (inner rest : List ℕ) → begins (codes "/*") inner ≡ true → comment_length true inner ≡ Some (length inner)
+    → comment_end true (suc open_levels) (inner ++ rest) ≡ after (length inner) (comment_end true (suc open_levels) rest)
+
+-- a piece that is kept is not of blanks and comments alone
+abbrev pub PiecesHaveWords : Type 0
+PiecesHaveWords = (d : Dialect) (text delimiter : List ℕ) (found : List (List ℕ)) → pieces d text delimiter ≡ Some found → All (λ piece. is_trivia d piece ≡ false) found

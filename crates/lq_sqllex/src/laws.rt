@@ -1,7 +1,7 @@
 //! What holds of the definitions that the contracts cite. Each function is empty: its contract is
 //! the law.
 
-ghost use Rattle.lq_sqllex.specs.Laws.{LexemesAreTheText, PiecesAreTheText, TextsAreRead, NamesAreRead};
+ghost use Rattle.lq_sqllex.specs.Laws.{LexemesAreTheText, PiecesAreTheText, TextsAreRead, NamesAreRead, CommentsNest, PiecesHaveWords};
 
 /// The lexemes of a text, one after the other, are the text.
 pub fn lexemes_are_the_text()
@@ -21,4 +21,14 @@ pub fn texts_are_read()
 /// Each text in the quotes of names, which are doubled inside, is read as one quoted name.
 pub fn names_are_read()
     ensures { NamesAreRead }
+{}
+
+/// In postgresql a whole comment inside another is passed over.
+pub fn comments_nest()
+    ensures { CommentsNest }
+{}
+
+/// No piece that is kept is of blanks and comments alone.
+pub fn pieces_have_words()
+    ensures { PiecesHaveWords }
 {}

@@ -1,6 +1,5 @@
-use Rattle.std.proofs.Common.{◌≡◌, ◌+◌, ◌-◌, suc, ◌∙◌, ap, sym, arith, length, length-drop, subst}
+use Rattle.std.proofs.Common.{◌≡◌, ◌+◌, ◌-◌, suc, ◌∙◌, ap, sym, arith, length, length-drop}
 use Rattle.std.proofs.lemmas.List.{take_rest}
-use Rattle.lq_sqllex.specs.Comment.{comment_end}
 use Rattle.lq_sqllex.proofs.EndSteps.{comment_closed, comment_opened, comment_on}
 use Rattle.lq_sqllex.proofs.comment.comment_end.Goals as goal
 

@@ -1,4 +1,4 @@
-use Rattle.std.proofs.Common.{◌≡◌, ◌∙◌, ap, sym, Bool}
+use Rattle.std.proofs.Common.{◌∙◌, ap, sym, Bool}
 use Rattle.lq_sqllex.specs.declared.sort.Sort.{Sort}
 use Rattle.lq_sqllex.specs.Lexeme.{length_of}
 use Rattle.lq_sqllex.specs.Quoted.{quoted_length}

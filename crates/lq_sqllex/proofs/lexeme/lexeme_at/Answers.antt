@@ -1,4 +1,4 @@
-use Rattle.std.proofs.Common.{◌≡◌, ◌∙◌, ◌<◌, ◌∷◌, ◌++◌, List, ℕ, length, take, drop, Some, ap, sym, rules, arith}
+use Rattle.std.proofs.Common.{◌≡◌, ◌∙◌, ◌<◌, ◌∷◌, ◌++◌, length, Some, ap, sym, rules}
 use Rattle.std.specs.Prelude.{option_map}
 use Rattle.lq_sqllex.specs.declared.sort.Sort.{Sort}
 use Rattle.lq_sqllex.specs.Lexeme.{length_at, lexemes}

@@ -1,4 +1,4 @@
-use Rattle.std.proofs.Common.{◌≡◌, ◌∙◌, ◌-◌, ◌+◌, List, ℕ, [], ◌∷◌, ◌++◌, ap, sym, take, drop, length, arith}
+use Rattle.std.proofs.Common.{◌∙◌, ◌-◌, List, ℕ, [], ◌∷◌, ◌++◌, ap, sym, take, drop, arith}
 use Rattle.std.proofs.lemmas.Str.{IsCharBoundary-start}
 use Rattle.lq_sqllex.specs.Pieces.{kept}
 use Rattle.lq_sqllex.proofs.Boundary.{boundary_before, boundary_after}

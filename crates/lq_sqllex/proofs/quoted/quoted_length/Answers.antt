@@ -1,4 +1,4 @@
-use Rattle.std.proofs.Common.{◌≡◌, ◌∙◌, ap, ℕ, List, slice_index}
+use Rattle.std.proofs.Common.{◌∙◌, ap, ℕ, List, slice_index}
 use Rattle.lq_sqllex.specs.Quoted.{after, quoted_end}
 use Rattle.lq_sqllex.proofs.quoted.quoted_length.Goals as goal
 

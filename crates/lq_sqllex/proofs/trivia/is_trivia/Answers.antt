@@ -1,4 +1,4 @@
-use Rattle.std.proofs.Common.{◌≡◌, ◌∙◌, sym, rules, refl}
+use Rattle.std.proofs.Common.{◌∙◌, sym, rules, refl}
 use Rattle.lq_sqllex.proofs.TriviaSteps.{trivia_open, trivia_on, trivia_other, trivia_empty}
 use Rattle.lq_sqllex.proofs.trivia.is_trivia.Goals as goal
 
