@@ -1,7 +1,9 @@
 pub mod Boundary
 pub mod EndSteps
+pub mod InsidePlaces
 pub mod LexemeSteps
 pub mod NestedComment
+pub mod PieceOrder
 pub mod PieceSteps
 pub mod QuotedText
 pub mod TriviaSteps

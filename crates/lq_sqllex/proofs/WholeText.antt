@@ -1,5 +1,5 @@
 -- What a text is taken apart into is the text.
-use Rattle.std.proofs.Common.{◌≡◌, ◌<◌, ℕ, zero, suc, ◌+◌, ◌-◌, Bool, true, false, if◌then◌else◌, List, [], ◌∷◌, ◌++◌, length, take, drop, get_or, Option, Some, None, ◌∙◌, ap, sym, subst, refl, arith, append_assoc}
+use Rattle.std.proofs.Common.{◌≡◌, ◌≤◌, length-append, ◌<◌, ℕ, zero, suc, ◌+◌, ◌-◌, Bool, true, false, if◌then◌else◌, List, [], ◌∷◌, ◌++◌, length, take, drop, get_or, Option, Some, None, ◌∙◌, ap, sym, subst, refl, arith, append_assoc}
 use Rattle.std.specs.Prelude.{option_map, not, All}
 use Rattle.std.specs.List.{flat_map}
 use Rattle.std.proofs.lemmas.List.{append-nil, take-append-drop, take_at}
@@ -17,7 +17,7 @@ use Rattle.lq_sqllex.specs.Quoted.{after}
 use Rattle.lq_sqllex.specs.Units.{units}
 use Rattle.lq_sqllex.proofs.PieceSteps.{begins_with}
 
-map_some : {A B P : Type 0} (f : A → B) (o : Option A) (y : B) → option_map f o ≡ Some y → ((x : A) → o ≡ Some x → f x ≡ y → P) → P
+pub map_some : {A B P : Type 0} (f : A → B) (o : Option A) (y : B) → option_map f o ≡ Some y → ((x : A) → o ≡ Some x → f x ≡ y → P) → P
 map_some f None y e go = absurd (cc)
 map_some f (Some x) y e go = go x refl cc
 
@@ -101,19 +101,33 @@ together_some d text n e =
       | false ↦ λ one. (let same : 1 ≡ n = cc in omega arith)
     ] e
 
--- what a unit is: of one byte at least, and a delimiter where it is told to be one
-record IsUnit (delimiter text : List ℕ) (unit : Bool × ℕ) : Type 0 where
-  some : 0 < unit.1
-  bytes : (if unit.0 then delimiter else take unit.1 text) ≡ take unit.1 text
+-- what a unit is: of one byte at least; a delimiter where it is told to be one, and else what stands together
+pub record IsUnit (d : Dialect) (delimiter text : List ℕ) (unit : Bool × ℕ) : Type 0 where
+  pub some : 0 < unit.1
+  pub bytes : (if unit.0 then delimiter else take unit.1 text) ≡ take unit.1 text
+  pub told : unit.0 ≡ true → (unit.1 ≡ length delimiter) × (length delimiter ≤ length text)
+  pub other : unit.0 ≡ false → (begins delimiter text ≡ false) × (together d text ≡ Some unit.1)
 
-unit_is : (d : Dialect) (delimiter text : List ℕ) (unit : Bool × ℕ) → 0 < length delimiter → unit_at d delimiter text ≡ Some unit → IsUnit delimiter text unit
+delimiter_is : (d : Dialect) (delimiter text : List ℕ) → 0 < length delimiter → begins delimiter text ≡ true → IsUnit d delimiter text (true, length delimiter)
+delimiter_is d delimiter text some there =
+    let whole = begins_with delimiter text there in
+    record {
+      some = some;
+      bytes = sym (ap (take (length delimiter)) whole ∙ take_at delimiter _ _ refl);
+      told = λ _. (refl, omega (arith, ap length whole, length-append delimiter (drop (length delimiter) text)));
+      other = λ e. absurd (cc);
+    }
+
+part_is : (d : Dialect) (delimiter text : List ℕ) (count : ℕ) → begins delimiter text ≡ false → together d text ≡ Some count → IsUnit d delimiter text (false, count)
+part_is d delimiter text count other closed =
+    record { some = together_some d text count closed; bytes = refl; told = λ e. absurd (cc); other = λ _. (other, closed) }
+
+pub unit_is : (d : Dialect) (delimiter text : List ℕ) (unit : Bool × ℕ) → 0 < length delimiter → unit_at d delimiter text ≡ Some unit → IsUnit d delimiter text unit
 unit_is d delimiter text unit some e =
     elim (begins delimiter text) as (λ there. begins delimiter text ≡ there
-    → (if there then Some (true, length delimiter) else option_map (λ n. (false, n)) (together d text)) ≡ Some unit → IsUnit delimiter text unit) [
-      | true ↦ λ there is. (let same : (true, length delimiter) ≡ unit = cc in
-          subst (IsUnit delimiter text) same (record { some = some; bytes = sym (ap (take (length delimiter)) (begins_with delimiter text there) ∙ take_at delimiter _ _ refl) }))
-      | false ↦ λ other is. map_some (λ n. (false, n)) (together d text) unit is (λ n closed same.
-          subst (IsUnit delimiter text) same (record { some = together_some d text n closed; bytes = refl }))
+    → (if there then Some (true, length delimiter) else option_map (λ n. (false, n)) (together d text)) ≡ Some unit → IsUnit d delimiter text unit) [
+      | true ↦ λ there is. (let same : (true, length delimiter) ≡ unit = cc in subst (IsUnit d delimiter text) same (delimiter_is d delimiter text some there))
+      | false ↦ λ other is. map_some (λ n. (false, n)) (together d text) unit is (λ n closed same. subst (IsUnit d delimiter text) same (part_is d delimiter text n other closed))
     ] refl e
 
 cut_whole : (d : Dialect) (delimiter : List ℕ) → 0 < length delimiter → (begun : ℕ) (text : List ℕ) (found : List (Bool × List ℕ))
@@ -123,7 +137,7 @@ cut_whole d delimiter some (suc begun) (b ∷ rest) found e = cut_whole d delimi
 cut_whole d delimiter some zero (b ∷ rest) found e =
     option_and_then_some _ (unit_at d delimiter (b ∷ rest)) found e (λ unit here e2.
     map_some _ (units (unit_at d delimiter) (unit.1 - 1) rest) found e2 (λ more left same.
-    let is : IsUnit delimiter (b ∷ rest) unit = unit_is d delimiter (b ∷ rest) unit some here in
+    let is : IsUnit d delimiter (b ∷ rest) unit = unit_is d delimiter (b ∷ rest) unit some here in
     ap (λ us. joined delimiter (between us)) (sym same)
     ∙ joined_unit delimiter unit.0 (take unit.1 (b ∷ rest)) more
     ∙ ap (λ z. z ++ joined delimiter (between more)) is.bytes

@@ -1,5 +1,5 @@
 -- What holds of the definitions.
-use Rattle.std.specs.Prelude.{◌≡◌, ◌<◌, ℕ, suc, ◌==◌, ◌&&◌, ◌||◌, Bool, true, false, if◌then◌else◌, List, [], ◌∷◌, ◌++◌, length, slice_index, Some, All, codes}
+use Rattle.std.specs.Prelude.{◌≡◌, ◌<◌, ℕ, suc, ◌+◌, ◌==◌, ◌&&◌, ◌||◌, Bool, true, false, if◌then◌else◌, List, [], ◌∷◌, ◌++◌, length, drop, slice_index, Some, All, codes}
 use Rattle.std.specs.List.{flat_map}
 use Rattle.lq_base.specs.declared.dialect.Dialect.{Dialect}
 use Rattle.lq_sqllex.specs.declared.sort.Sort.{Sort}
@@ -7,7 +7,7 @@ use Rattle.lq_sqllex.specs.declared.sort.Sort.TheVariants.{Name, Text}
 use Rattle.lq_sqllex.specs.Byte.{begins, is_text_quote, is_name_quote, escapes}
 use Rattle.lq_sqllex.specs.Comment.{comment_end, comment_length}
 use Rattle.lq_sqllex.specs.Lexeme.{sort_at, length_at, lexemes, is_trivia}
-use Rattle.lq_sqllex.specs.Pieces.{cut, pieces}
+use Rattle.lq_sqllex.specs.Pieces.{is_enclosed, cut, pieces}
 use Rattle.lq_sqllex.specs.Quoted.{after}
 
 -- the lexemes of a text, one after the other, are the text
@@ -54,3 +54,22 @@ CommentsNest = (open_levels : ℕ) (inner rest : List ℕ) → begins (codes "/*
 -- a piece that is kept is not of blanks and comments alone
 abbrev pub PiecesHaveWords : Type 0
 PiecesHaveWords = (d : Dialect) (text delimiter : List ℕ) (found : List (List ℕ)) → pieces d text delimiter ≡ Some found → All (λ piece. is_trivia d piece ≡ false) found
+
+-- after a piece and its delimiter the reading begins anew
+abbrev pub PiecesGoOn : Type 0
+PiecesGoOn = (d : Dialect) (text delimiter piece next : List ℕ) (more : List (List ℕ)) → 0 < length delimiter → cut d text delimiter ≡ Some (piece ∷ next ∷ more)
+    → cut d (drop (length piece + length delimiter) text) delimiter ≡ Some (next ∷ more)
+
+-- the place stands inside a string, quoted name or comment of the text
+pub record IsInside (d : Dialect) (text : List ℕ) (place : ℕ) : Type 0 where
+  pub begin : ℕ
+  pub count : ℕ
+  pub enclosed : is_enclosed (sort_at d (drop begin text)) ≡ true
+  pub closed : length_at d (drop begin text) ≡ Some count
+  pub after_begin : begin < place
+  pub before_end : place < begin + count
+
+-- where a delimiter stands in the first piece, it stands inside a string, quoted name or comment
+abbrev pub DelimitersAreInside : Type 0
+DelimitersAreInside = (d : Dialect) (text delimiter piece : List ℕ) (more : List (List ℕ)) (place : ℕ) → 0 < length delimiter → cut d text delimiter ≡ Some (piece ∷ more)
+    → place < length piece → begins delimiter (drop place text) ≡ true → IsInside d text place

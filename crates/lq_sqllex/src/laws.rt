@@ -1,7 +1,7 @@
 //! What holds of the definitions that the contracts cite. Each function is empty: its contract is
 //! the law.
 
-ghost use Rattle.lq_sqllex.specs.Laws.{LexemesAreTheText, PiecesAreTheText, TextsAreRead, NamesAreRead, CommentsNest, PiecesHaveWords};
+ghost use Rattle.lq_sqllex.specs.Laws.{LexemesAreTheText, PiecesAreTheText, TextsAreRead, NamesAreRead, CommentsNest, PiecesHaveWords, PiecesGoOn, DelimitersAreInside};
 
 /// The lexemes of a text, one after the other, are the text.
 pub fn lexemes_are_the_text()
@@ -31,4 +31,14 @@ pub fn comments_nest()
 /// No piece that is kept is of blanks and comments alone.
 pub fn pieces_have_words()
     ensures { PiecesHaveWords }
+{}
+
+/// After a piece and its delimiter the reading begins anew.
+pub fn pieces_go_on()
+    ensures { PiecesGoOn }
+{}
+
+/// Where a delimiter stands in the first piece, it stands inside a string, quoted name or comment.
+pub fn delimiters_are_inside()
+    ensures { DelimitersAreInside }
 {}
