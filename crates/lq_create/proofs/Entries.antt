@@ -2,7 +2,7 @@
 use Rattle.std.proofs.Common.{ℕ, ◌≤◌, ◌+◌, Bor, length, arith, ◌≡◌, ◌∙◌, ◌++◌, Bool, true, false, List, [], ◌∷◌, map, refl, sym, ap}
 use Rattle.std.proofs.lemmas.List.{append_assoc, append-nil}
 use Rattle.std.specs.List.{flat_map}
-use Rattle.lq_model.specs.Script.{Call, Made, alone, commit, commits_after, entries, execute, if_any, statements_in}
+use Rattle.lq_model.specs.Script.{Call, Made, alone, commit, commits, commits_after, entries, execute, if_any, statements_in}
 use Rattle.lq_model.specs.declared.caller.By.{By}
 use Rattle.lq_model.specs.declared.caller.By.TheVariants.{Program, User}
 use Rattle.lq_model.specs.declared.caller.Room.TheVariants.{Release}
@@ -11,10 +11,10 @@ use Rattle.lq_create.specs.Script.{Turn, by_program, calls_of, closing, entry_of
 use Rattle.lq_create.specs.declared.changelog.ChangeSet.{ChangeSet}
 use Rattle.lq_create.specs.declared.stamp.Stamp.{Stamp}
 
-by_user : List Statement → List Made
+unfoldable pub by_user : List Statement → List Made
 by_user statements = map (λ (s : Statement). (User, s)) statements
 
-commit_of : Turn → List Made
+unfoldable pub commit_of : Turn → List Made
 commit_of turn = by_user turn.0 ++ (Program, turn.1) ∷ []
 
 executed : (begun : List Made) (ss : List Statement) (more : List Call) → commits_after begun (map (execute User) ss ++ more) ≡ commits_after (begun ++ by_user ss) more
@@ -60,16 +60,21 @@ opened : (made : Bool) (stamp : Stamp) → if_any (by_program (opening made stam
 opened true stamp = refl
 opened false stamp = refl
 
--- the opening, an entry for each turn, the closing
-pub script_entries : (made : Bool) (stamp : Stamp) (t : Turn) (ts : List Turn) → entries (script made stamp (t ∷ ts)) ≡ opening made stamp ∷ map entry_of (t ∷ ts) ++ closing ∷ []
-script_entries made stamp t ts =
-    ap (λ es. map statements_in (es ++ commits_after [] (flat_map calls_of (t ∷ ts) ++ last))) (opened made stamp)
-    ∙ ap (λ es. statements_in (by_program (opening made stamp)) ∷ map statements_in es) (turns (t ∷ ts) last)
-    ∙ ap (λ ss. ss ∷ map statements_in (map commit_of (t ∷ ts) ++ commits_after [] last)) (by_same Program (opening made stamp))
-    ∙ ap (λ es. opening made stamp ∷ es) (entries_same (t ∷ ts) (commits_after [] last))
+-- the opening, a commit for each turn, the closing
+pub script_commits : (made : Bool) (stamp : Stamp) (t : Turn) (ts : List Turn) → commits (script made stamp (t ∷ ts)) ≡ by_program (opening made stamp) ∷ map commit_of (t ∷ ts) ++ by_program closing ∷ []
+script_commits made stamp t ts =
+    ap (λ es. es ++ commits_after [] (flat_map calls_of (t ∷ ts) ++ last)) (opened made stamp)
+    ∙ ap (λ es. by_program (opening made stamp) ∷ es) (turns (t ∷ ts) last)
   where
     last : List Call
     last = alone (by_program closing) Release ∷ []
+
+-- the same as entries
+pub script_entries : (made : Bool) (stamp : Stamp) (t : Turn) (ts : List Turn) → entries (script made stamp (t ∷ ts)) ≡ opening made stamp ∷ map entry_of (t ∷ ts) ++ closing ∷ []
+script_entries made stamp t ts =
+    ap (map statements_in) (script_commits made stamp t ts)
+    ∙ ap (λ ss. ss ∷ map statements_in (map commit_of (t ∷ ts) ++ by_program closing ∷ [])) (by_same Program (opening made stamp))
+    ∙ ap (λ es. opening made stamp ∷ es) (entries_same (t ∷ ts) (by_program closing ∷ []))
 
 abbrev values : List (Bor ChangeSet) → List ChangeSet
 values sets = map (λ (s : Bor ChangeSet). s.now) sets

@@ -38,7 +38,7 @@ use Rattle.lq_create.specs.declared.changelog.CreatedTable.{CreatedTable}
 
 -- a plain catalogue stays so with a plain table
 
-all_insert : (p : Table → Bool) (es : List (Name × Table)) (t : Name) (it : Table) → list_all (λ (e : Name × Table). p e.1) es ≡ true → p it ≡ true
+pub all_insert : (p : Table → Bool) (es : List (Name × Table)) (t : Name) (it : Table) → list_all (λ (e : Name × Table). p e.1) es ≡ true → p it ≡ true
     → list_all (λ (e : Name × Table). p e.1) (insert_entry name_cmp es t it) ≡ true
 all_insert p [] t it all new = and_true _ _ new refl
 all_insert p (e ∷ es) t it all new =
@@ -77,7 +77,7 @@ module _ (it : Table) (plain : is_plain_table it ≡ true) where
   small : is_full it ≡ false
   small = turned _ (and_right (not (table_has_twins it)) _ others)
 
-plain_settled : (c : Catalogue) → is_plain c ≡ true → IsSettled c
+pub plain_settled : (c : Catalogue) → is_plain c ≡ true → IsSettled c
 plain_settled c plain = record {
   aimed = any_none (λ (e : Name × Table). list_any (misses_target c) e.1.foreign) (λ e. is_plain_table e.1) c.tables (λ e h. no_foreign (misses_target c) e.1.foreign (no_keys e.1 h)) plain;
   no_null = any_none (λ (e : Name × Table). table_has_null e.1) (λ e. is_plain_table e.1) c.tables (λ e h. firm e.1 h) plain;
@@ -214,7 +214,7 @@ module _ (by : By) (c : Catalogue) (t : CreatedTable) where
     accepted_one = settles the_plan (subst IsSettled (sym result_same) (plain_settled _ plain_after)) nothing_against ∙ ap (λ e. Ok (e, 0)) result_same
 
 -- what is free stays so beside a table of another name
-unfree_after : (by : By) (c : Catalogue) (t : CreatedTable) (ts : List CreatedTable) → list_any (is_text t.name) (map (λ (x : CreatedTable). x.name) ts) ≡ false
+pub unfree_after : (by : By) (c : Catalogue) (t : CreatedTable) (ts : List CreatedTable) → list_any (is_text t.name) (map (λ (x : CreatedTable). x.name) ts) ≡ false
     → list_any (is_unfree by c) ts ≡ false → list_any (is_unfree by (with_new c t.name (made_table t))) ts ≡ false
 unfree_after by c t [] other free = refl
 unfree_after by c t (x ∷ xs) other free =

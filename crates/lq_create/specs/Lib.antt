@@ -1,5 +1,6 @@
 pub mod Canonical
 pub mod Changelog
+pub mod Committed
 pub mod Created
 pub mod Distinct
 pub mod Output
@@ -8,3 +9,4 @@ pub mod Row
 pub mod Rows
 pub mod Script
 pub mod Statements
+pub mod Updated

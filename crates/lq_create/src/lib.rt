@@ -16,6 +16,7 @@ mod script;
 mod stamp;
 mod statements;
 mod unread;
+mod updated;
 
 pub use canonical::{canonical_text, sum_of};
 pub use changelog::{ChangeSet, CreatedColumn, CreatedTable};
@@ -27,6 +28,7 @@ pub use rows::new_sets;
 pub use script::{Entry, greatest, rollback_entries, update_entries};
 pub use stamp::Stamp;
 pub use statements::{statement_of, statements_of, undo_statements};
+pub use updated::update_leaves;
 
 #[cfg(test)]
 mod tests;
