@@ -1,0 +1,4 @@
+pub mod Levels
+pub mod Measure
+pub mod Parts
+pub mod Runs

@@ -1,0 +1,88 @@
+-- The expression that words spell: the words are split at their loosest operator outside parentheses.
+use Rattle.std.specs.Prelude.{ℕ, zero, suc, ◌-◌, Bool, true, false, ◌&&◌, ◌==◌, List, [], ◌∷◌, Option, Some, None, option_map, option_and_then, Result, Ok, Err, codes, nat_eq, if◌then◌else◌}
+use Rattle.std.specs.List.{starts_with}
+use Rattle.lq_expr.specs.declared.expr.Expr.{Expr}
+use Rattle.lq_expr.specs.declared.expr.Expr.TheVariants as expr
+use Rattle.lq_expr.specs.declared.expr.ExprFault.{ExprFault}
+use Rattle.lq_expr.specs.declared.expr.ExprFault.TheVariants.{NotExpr}
+use Rattle.lq_expr.specs.declared.operator.Operator.{Operator}
+use Rattle.lq_expr.specs.declared.operator.Operator.TheVariants.{Comma, Or, And}
+use Rattle.lq_expr.specs.declared.word.Word.{Word}
+use Rattle.lq_expr.specs.declared.word.Word.TheVariants as word
+use Rattle.lq_expr.specs.Words.{words, longer}
+
+abbrev pub is_operator : Operator → Word → Bool
+is_operator Comma word.Comma = true
+is_operator Or word.Or = true
+is_operator And word.And = true
+is_operator _ _ = false
+
+-- how many parentheses are open behind a word
+abbrev pub depth_after : Word → ℕ → ℕ
+depth_after word.Open depth = suc depth
+depth_after word.Close depth = depth - 1
+depth_after _ depth = depth
+
+-- an operator outside parentheses
+abbrev pub is_cut : Operator → ℕ → Word → Bool
+is_cut operator depth w = depth == 0 && is_operator operator w
+
+-- the words cut at each such operator outside parentheses, where so many are open before them
+unfoldable pub cut : Operator → ℕ → List Word → List (List Word)
+cut operator depth [] = [] ∷ []
+cut operator depth (w ∷ ws) =
+    if is_cut operator depth w then [] ∷ cut operator 0 ws else longer w (cut operator (depth_after w depth) ws)
+
+-- each one, if each is there
+abbrev pub each : {A B : Type 0} → (A → Option B) → List A → Option (List B)
+each f [] = Some []
+each f (a ∷ as_) = option_and_then (λ b. option_map (λ more. b ∷ more) (each f as_)) (f a)
+
+-- one part is itself; `,` and `or` want any of the parts, `and` wants all
+abbrev pub join : Operator → List Expr → Expr
+join operator (e ∷ []) = e
+join And es = expr.All es
+join _ es = expr.Any es
+
+-- the parts between such operators, joined
+abbrev pub joined : Operator → (List Word → Option Expr) → List Word → Option Expr
+joined operator part ws = option_map (join operator) (each part (cut operator 0 ws))
+
+-- what stands between such operators, from the loosest to the tightest
+abbrev pub tighter : Operator → (List Word → Option Expr) → List Word → Option Expr
+tighter And factor = factor
+tighter Or factor = joined And factor
+tighter Comma factor = joined Or (joined And factor)
+
+-- words split at `,`, the parts at `or`, theirs at `and`
+abbrev pub expression : (List Word → Option Expr) → List Word → Option Expr
+expression factor = joined Comma (tighter Comma factor)
+
+-- the words before a `)` at the end
+abbrev pub inside : List Word → Option (List Word)
+inside [] = None
+inside (word.Close ∷ []) = Some []
+inside (w ∷ ws) = option_map (λ more. w ∷ more) (inside ws)
+
+abbrev pub named : List ℕ → Option Expr
+named n = if starts_with nat_eq n (codes "@") then None else Some (expr.Name n)
+
+-- a word that is a name and does not begin with `@`
+abbrev pub name : List Word → Option Expr
+name (word.Name n ∷ []) = named n
+name _ = None
+
+-- a name, a negation or an expression in parentheses, with so many levels at most
+unfoldable pub factor : ℕ → List Word → Option Expr
+factor zero ws = name ws
+factor (suc levels) (word.Not ∷ ws) = option_map expr.Not (factor levels ws)
+factor (suc levels) (word.Open ∷ ws) = option_and_then (expression (factor levels)) (inside ws)
+factor (suc levels) ws = name ws
+
+abbrev pub or_fault : Option Expr → Result Expr ExprFault
+or_fault (Some e) = Ok e
+or_fault None = Err NotExpr
+
+-- what a text is read as, were there memory enough
+abbrev pub parsed : List ℕ → Result Expr ExprFault
+parsed text = or_fault (expression (factor 64) (words text))

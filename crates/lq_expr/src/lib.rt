@@ -1,0 +1,13 @@
+//! Expressions over names: the contexts of a changeset and the filters by label.
+#![tactic(auto)]
+
+mod expr;
+mod operator;
+mod reading;
+#[cfg(test)]
+mod tests;
+mod word;
+mod words;
+
+pub use expr::{Expr, ExprFault};
+pub use reading::parse;

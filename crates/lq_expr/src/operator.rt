@@ -1,0 +1,25 @@
+ghost use Rattle.std.specs.Prelude.{◌≡◌};
+ghost use Rattle.lq_expr.specs.Grammar.{is_operator};
+
+use crate::word::Word;
+
+/// What joins the parts of an expression, from the loosest to the tightest.
+#[derive(Clone, Copy, Debug, PartialEq, Eq)]
+pub enum Operator {
+    Comma,
+    Or,
+    And,
+}
+
+impl Operator {
+    pub fn is_word(self, word: &Word) -> bool
+        ensures { result ≡ is_operator self word.now }
+    {
+        match (self, word) {
+            (Operator::Comma, Word::Comma) => true,
+            (Operator::Or, Word::Or) => true,
+            (Operator::And, Word::And) => true,
+            _ => false,
+        }
+    }
+}
