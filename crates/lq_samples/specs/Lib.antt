@@ -1,0 +1,2 @@
+pub mod NewSequence
+pub mod NewSequenceLaws

@@ -1,0 +1,33 @@
+-- What a change that makes a sequence says.
+use Rattle.std.specs.Prelude.{Bool, List, Option, Result, Some, [], codes, false, pos, true, ◌&&◌, ◌∷◌}
+use Rattle.lq_base.specs.Name.{is_name}
+use Rattle.lq_base.specs.declared.dialect.Dialect.{Dialect}
+use Rattle.lq_base.specs.declared.name.Name.{Name}
+use Rattle.lq_base.specs.declared.reason.Reason.{Reason}
+use Rattle.lq_model.specs.Canon.{CanonicalChange, no_pairs, pair, text}
+use Rattle.lq_model.specs.Catalogue.{Catalogue}
+use Rattle.lq_model.specs.Statement.{is_pg}
+use Rattle.lq_model.specs.Step.{run}
+use Rattle.lq_model.specs.declared.caller.By.TheVariants.{User}
+use Rattle.lq_model.specs.declared.statement.Statement.{Statement}
+use Rattle.lq_model.specs.declared.statement.Statement.TheVariants.{CreateSequence, DropSequence}
+
+-- PostgreSQL alone has sequences
+abbrev pub is_for : Dialect → Name → Bool
+is_for d name = is_pg d && is_name name
+
+abbrev pub gives : Dialect → Name → List Statement
+gives d name = CreateSequence name (pos 1) (pos 1) ∷ []
+
+abbrev pub effect : Dialect → Name → Catalogue → Result Catalogue Reason
+effect d name c = run User d (gives d name) c
+
+-- a sequence that is made was not there, so nothing is lost when it is dropped
+abbrev pub is_fresh : Dialect → Name → Catalogue → Bool
+is_fresh d name c = true
+
+abbrev pub inverse : Dialect → Name → Option (List Statement)
+inverse d name = Some (DropSequence name ∷ [])
+
+abbrev pub canonical_of : Name → CanonicalChange
+canonical_of name = record { name = codes "createSequence"; pairs = pair (codes "sequenceName") (text name) no_pairs }
