@@ -11,3 +11,8 @@ pub mod Spells
 pub mod Text
 pub mod Tracking
 pub mod Value
+pub mod SqlByte
+pub mod SqlQuoted
+pub mod SqlComment
+pub mod SqlLexeme
+pub mod Units

@@ -3,11 +3,11 @@ use Rattle.std.proofs.Common.{◌≡◌, ◌<◌, inl, inr, eq-eqb, ℕ, ◌+◌
 use Rattle.std.proofs.lemmas.Bool.{eqb-true, or_cases}
 use Rattle.lq_base.specs.declared.dialect.Dialect.{Dialect}
 use Rattle.lq_base.specs.declared.dialect.Dialect.TheVariants.{Postgresql, Mysql}
-use Rattle.lq_sqllex.specs.declared.sort.Sort.{Sort}
-use Rattle.lq_sqllex.specs.declared.sort.Sort.TheVariants.{Name, Text}
+use Rattle.lq_base.specs.declared.lexeme.LexemeSort.{LexemeSort}
+use Rattle.lq_base.specs.declared.lexeme.LexemeSort.TheVariants.{Name, Text}
 use Rattle.lq_sqllex.specs.Laws.{doubled, in_quotes, IsRead, TextsAreRead, NamesAreRead}
-use Rattle.lq_sqllex.specs.Lexeme.{sort_at, length_of, length_at}
-use Rattle.lq_sqllex.specs.Quoted.{after, is_pair, quoted_end, quoted_length}
+use Rattle.lq_base.specs.SqlLexeme.{sort_at, length_of, length_at}
+use Rattle.lq_base.specs.SqlQuoted.{after, is_pair, quoted_end, quoted_length}
 
 -- the closing quote
 closed : (escaping : Bool) (quote : ℕ) (rest : List ℕ) → (escaping && quote == 92) ≡ false → (slice_index rest 0 == quote) ≡ false → quoted_end escaping quote (quote ∷ rest) ≡ Some 1
@@ -58,7 +58,7 @@ quotes_read escaping quote text rest plain apart =
     ap (λ z. after 1 (quoted_end escaping quote z)) (inside escaping quote text rest) ∙ ap (after 1) (doubled_read escaping quote text rest plain apart)
     ∙ ap (λ n. Some n) (let more = length-append (doubled escaping quote text) (quote ∷ []) in omega arith)
 
-read_as : (d : Dialect) (sort : Sort) (escaping : Bool) (quote : ℕ) → ((more : List ℕ) → sort_at d (quote ∷ more) ≡ sort)
+read_as : (d : Dialect) (sort : LexemeSort) (escaping : Bool) (quote : ℕ) → ((more : List ℕ) → sort_at d (quote ∷ more) ≡ sort)
     → ((whole : List ℕ) → length_of d sort whole ≡ quoted_length escaping whole) → (escaping && quote == 92) ≡ false
     → (text : List ℕ) → IsRead d sort quote (in_quotes escaping quote text)
 unfolding length_at

@@ -4,18 +4,18 @@ use Rattle.std.specs.Prelude.{option_map}
 use Rattle.std.specs.List.{list_all}
 use Rattle.std.specs.Option.{option_map_or}
 use Rattle.lq_base.specs.declared.dialect.Dialect.{Dialect}
-use Rattle.lq_sqllex.specs.declared.sort.Sort.{Sort}
-use Rattle.lq_sqllex.specs.Lexeme.{lexemes, is_trivia_sort, is_trivia}
+use Rattle.lq_base.specs.declared.lexeme.LexemeSort.{LexemeSort}
+use Rattle.lq_base.specs.SqlLexeme.{lexemes, is_trivia_sort, is_trivia}
 
-abbrev all_trivia : Option (List (Sort × List ℕ)) → Bool
+abbrev all_trivia : Option (List (LexemeSort × List ℕ)) → Bool
 all_trivia found = option_map_or (list_all (λ lexeme. is_trivia_sort lexeme.0)) found false
 
-none_trivia : (sort : Sort) (bytes : List ℕ) (found : Option (List (Sort × List ℕ))) → is_trivia_sort sort ≡ false
+none_trivia : (sort : LexemeSort) (bytes : List ℕ) (found : Option (List (LexemeSort × List ℕ))) → is_trivia_sort sort ≡ false
     → all_trivia (option_map (λ more. (sort, bytes) ∷ more) found) ≡ false
 none_trivia sort bytes None other = refl
 none_trivia sort bytes (Some more) other = rw other refl
 
-with_trivia : (sort : Sort) (bytes : List ℕ) (found : Option (List (Sort × List ℕ))) → is_trivia_sort sort ≡ true
+with_trivia : (sort : LexemeSort) (bytes : List ℕ) (found : Option (List (LexemeSort × List ℕ))) → is_trivia_sort sort ≡ true
     → all_trivia (option_map (λ more. (sort, bytes) ∷ more) found) ≡ all_trivia found
 with_trivia sort bytes None one = refl
 with_trivia sort bytes (Some more) one = rw one refl
@@ -24,12 +24,12 @@ pub trivia_open : (d : Dialect) (text : List ℕ) → lexemes d text ≡ None �
 unfolding is_trivia
 trivia_open d text unclosed = ap all_trivia unclosed
 
-pub trivia_on : (d : Dialect) (text : List ℕ) (sort : Sort) (bytes rest : List ℕ) → lexemes d text ≡ option_map (λ more. (sort, bytes) ∷ more) (lexemes d rest)
+pub trivia_on : (d : Dialect) (text : List ℕ) (sort : LexemeSort) (bytes rest : List ℕ) → lexemes d text ≡ option_map (λ more. (sort, bytes) ∷ more) (lexemes d rest)
     → is_trivia_sort sort ≡ true → is_trivia d text ≡ is_trivia d rest
 unfolding is_trivia
 trivia_on d text sort bytes rest found one = ap all_trivia found ∙ with_trivia sort bytes (lexemes d rest) one
 
-pub trivia_other : (d : Dialect) (text : List ℕ) (sort : Sort) (bytes rest : List ℕ) → lexemes d text ≡ option_map (λ more. (sort, bytes) ∷ more) (lexemes d rest)
+pub trivia_other : (d : Dialect) (text : List ℕ) (sort : LexemeSort) (bytes rest : List ℕ) → lexemes d text ≡ option_map (λ more. (sort, bytes) ∷ more) (lexemes d rest)
     → is_trivia_sort sort ≡ false → is_trivia d text ≡ false
 unfolding is_trivia
 trivia_other d text sort bytes rest found other = ap all_trivia found ∙ none_trivia sort bytes (lexemes d rest) other

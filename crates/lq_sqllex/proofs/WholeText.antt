@@ -7,14 +7,14 @@ use Rattle.std.proofs.lemmas.List.Concat.{flat_map-cons}
 use Rattle.std.proofs.lemmas.List.Elements.{filter_passes}
 use Rattle.std.proofs.lemmas.Option.{option_and_then_some}
 use Rattle.lq_base.specs.declared.dialect.Dialect.{Dialect}
-use Rattle.lq_sqllex.specs.declared.sort.Sort.{Sort}
-use Rattle.lq_sqllex.specs.declared.sort.Sort.TheVariants.{Blank, LineComment, BlockComment, Name, Text, Number, Word, Mark}
-use Rattle.lq_sqllex.specs.Byte.{begins}
+use Rattle.lq_base.specs.declared.lexeme.LexemeSort.{LexemeSort}
+use Rattle.lq_base.specs.declared.lexeme.LexemeSort.TheVariants.{Blank, LineComment, BlockComment, Name, Text, Number, Word, Mark}
+use Rattle.lq_base.specs.SqlByte.{begins}
 use Rattle.lq_sqllex.specs.Laws.{LexemesAreTheText, PiecesAreTheText, PiecesHaveWords, joined}
-use Rattle.lq_sqllex.specs.Lexeme.{sort_at, length_of, length_at, lexeme_at, lexemes, is_trivia}
+use Rattle.lq_base.specs.SqlLexeme.{sort_at, length_of, length_at, lexeme_at, lexemes, is_trivia}
 use Rattle.lq_sqllex.specs.Pieces.{is_enclosed, together, unit_at, onto, between, cut, kept, pieces}
-use Rattle.lq_sqllex.specs.Quoted.{after}
-use Rattle.lq_sqllex.specs.Units.{units}
+use Rattle.lq_base.specs.SqlQuoted.{after}
+use Rattle.lq_base.specs.Units.{units}
 use Rattle.lq_sqllex.proofs.PieceSteps.{begins_with}
 
 pub map_some : {A B P : Type 0} (f : A → B) (o : Option A) (y : B) → option_map f o ≡ Some y → ((x : A) → o ≡ Some x → f x ≡ y → P) → P
@@ -43,7 +43,7 @@ one_or_two : (is_two : Bool) (n : ℕ) → Some (if is_two then 2 else 1) ≡ So
 one_or_two true n e = let same : 2 ≡ n = cc in omega arith
 one_or_two false n e = let same : 1 ≡ n = cc in omega arith
 
-length_some : (d : Dialect) (sort : Sort) (text : List ℕ) (n : ℕ) → length_of d sort text ≡ Some n → 0 < n
+length_some : (d : Dialect) (sort : LexemeSort) (text : List ℕ) (n : ℕ) → length_of d sort text ≡ Some n → 0 < n
 length_some d Blank text n e = one_more _ n e
 length_some d LineComment text n e = one_more _ n e
 length_some d BlockComment text n e = after_some 2 _ n (omega arith) e

@@ -2,17 +2,17 @@
 use Rattle.std.specs.Prelude.{◌≡◌, ◌<◌, ℕ, suc, ◌+◌, ◌==◌, ◌&&◌, ◌||◌, Bool, true, false, if◌then◌else◌, List, [], ◌∷◌, ◌++◌, length, drop, slice_index, Some, All, codes}
 use Rattle.std.specs.List.{flat_map}
 use Rattle.lq_base.specs.declared.dialect.Dialect.{Dialect}
-use Rattle.lq_sqllex.specs.declared.sort.Sort.{Sort}
-use Rattle.lq_sqllex.specs.declared.sort.Sort.TheVariants.{Name, Text}
-use Rattle.lq_sqllex.specs.Byte.{begins, is_text_quote, is_name_quote, escapes}
-use Rattle.lq_sqllex.specs.Comment.{comment_end, comment_length}
-use Rattle.lq_sqllex.specs.Lexeme.{sort_at, length_at, lexemes, is_trivia}
+use Rattle.lq_base.specs.declared.lexeme.LexemeSort.{LexemeSort}
+use Rattle.lq_base.specs.declared.lexeme.LexemeSort.TheVariants.{Name, Text}
+use Rattle.lq_base.specs.SqlByte.{begins, is_text_quote, is_name_quote, escapes}
+use Rattle.lq_base.specs.SqlComment.{comment_end, comment_length}
+use Rattle.lq_base.specs.SqlLexeme.{sort_at, length_at, lexemes, is_trivia}
 use Rattle.lq_sqllex.specs.Pieces.{is_enclosed, cut, pieces}
-use Rattle.lq_sqllex.specs.Quoted.{after}
+use Rattle.lq_base.specs.SqlQuoted.{after}
 
 -- the lexemes of a text, one after the other, are the text
 abbrev pub LexemesAreTheText : Type 0
-LexemesAreTheText = (d : Dialect) (text : List ℕ) (found : List (Sort × List ℕ)) → lexemes d text ≡ Some found → flat_map (λ lexeme. lexeme.1) found ≡ text
+LexemesAreTheText = (d : Dialect) (text : List ℕ) (found : List (LexemeSort × List ℕ)) → lexemes d text ≡ Some found → flat_map (λ lexeme. lexeme.1) found ≡ text
 
 -- the pieces with a delimiter between each two
 abbrev pub joined : List ℕ → List (List ℕ) → List ℕ
@@ -35,7 +35,7 @@ abbrev pub in_quotes : Bool → ℕ → List ℕ → List ℕ
 in_quotes escaping quote text = quote ∷ (doubled escaping quote text ++ quote ∷ [])
 
 -- such a lexeme is read whole, whatever else than its quote comes after it
-abbrev pub IsRead : Dialect → Sort → ℕ → List ℕ → Type 0
+abbrev pub IsRead : Dialect → LexemeSort → ℕ → List ℕ → Type 0
 IsRead d sort quote lexeme =
     (rest : List ℕ) → (slice_index rest 0 == quote) ≡ false → (sort_at d (lexeme ++ rest) ≡ sort) × (length_at d (lexeme ++ rest) ≡ Some (length lexeme))
 

@@ -1,14 +1,14 @@
 -- A text cut into pieces at a delimiter.
 use Rattle.std.specs.Prelude.{ℕ, not, Bool, true, false, if◌then◌else◌, List, [], ◌∷◌, ◌++◌, length, filter, Option, Some, option_map}
 use Rattle.lq_base.specs.declared.dialect.Dialect.{Dialect}
-use Rattle.lq_sqllex.specs.declared.sort.Sort.{Sort}
-use Rattle.lq_sqllex.specs.declared.sort.Sort.TheVariants.{LineComment, BlockComment, Name, Text}
-use Rattle.lq_sqllex.specs.Byte.{begins}
-use Rattle.lq_sqllex.specs.Lexeme.{sort_at, length_at, is_trivia}
-use Rattle.lq_sqllex.specs.Units.{units}
+use Rattle.lq_base.specs.declared.lexeme.LexemeSort.{LexemeSort}
+use Rattle.lq_base.specs.declared.lexeme.LexemeSort.TheVariants.{LineComment, BlockComment, Name, Text}
+use Rattle.lq_base.specs.SqlByte.{begins}
+use Rattle.lq_base.specs.SqlLexeme.{sort_at, length_at, is_trivia}
+use Rattle.lq_base.specs.Units.{units}
 
 -- strings, quoted names and comments, in which no delimiter counts
-abbrev pub is_enclosed : Sort → Bool
+abbrev pub is_enclosed : LexemeSort → Bool
 is_enclosed LineComment = true
 is_enclosed BlockComment = true
 is_enclosed Name = true

@@ -1,14 +1,14 @@
 ghost use Rattle.std.specs.Prelude.{◌≡◌, ◌∷◌, ◌++◌, ◌<◌, length, None, Some, IfSome, option_map};
-ghost use Rattle.lq_sqllex.specs.Lexeme.{sort_at, length_at, lexemes};
+ghost use Rattle.lq_base.specs.SqlLexeme.{sort_at, length_at, lexemes};
 
 use crate::length::length_at;
-use crate::sort::{Sort, sort_at};
-use lq_base::Dialect;
+use crate::sort::sort_at;
+use lq_base::{Dialect, LexemeSort};
 
 /// A lexeme at the front of a text, and what follows it there.
 #[derive(Clone, Copy, Debug)]
 pub struct Lexeme<'a> {
-    pub sort: Sort,
+    pub sort: LexemeSort,
     pub bytes: &'a [u8],
     pub rest: &'a [u8],
 }

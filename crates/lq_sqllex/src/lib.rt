@@ -18,5 +18,5 @@ pub use fault::SplitFault;
 pub use length::length_at;
 pub use lexeme::{Lexeme, lexeme_at};
 pub use pieces::split;
-pub use sort::{Sort, sort_at};
+pub use sort::sort_at;
 pub use trivia::is_trivia;

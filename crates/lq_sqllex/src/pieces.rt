@@ -1,20 +1,20 @@
 ghost use Rattle.std.specs.Prelude.{◌≡◌, ◌++◌, ◌+◌, ◌<◌, ◌≤◌, [], ◌∷◌, length, drop, Some, None, Err, IfOk, IfSome, OnOk};
-ghost use Rattle.lq_sqllex.specs.Byte.{begins};
+ghost use Rattle.lq_base.specs.SqlByte.{begins};
 ghost use Rattle.lq_sqllex.specs.Pieces.{is_enclosed, together, kept, pieces};
 
 use crate::byte::{begins, from};
 use crate::fault::SplitFault;
 use crate::length::length_at;
-use crate::sort::{Sort, sort_at};
+use crate::sort::sort_at;
 use crate::trivia::is_trivia;
-use lq_base::{Dialect, Items, NoMemory, Text};
+use lq_base::{Dialect, Items, LexemeSort, NoMemory, Text};
 use std::alloc::Global;
 
-fn is_enclosed(sort: Sort) -> bool
+fn is_enclosed(sort: LexemeSort) -> bool
     ensures { result ≡ is_enclosed sort }
 {
     match sort {
-        Sort::LineComment | Sort::BlockComment | Sort::Name | Sort::Text => true,
+        LexemeSort::LineComment | LexemeSort::BlockComment | LexemeSort::Name | LexemeSort::Text => true,
         _ => false,
     }
 }

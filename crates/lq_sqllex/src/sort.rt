@@ -1,30 +1,9 @@
 ghost use Rattle.std.specs.Prelude.{◌≡◌, slice_index};
-ghost use Rattle.lq_sqllex.specs.Lexeme.{begins_number, plain_sort, sort_at};
+ghost use Rattle.lq_base.specs.SqlLexeme.{begins_number, plain_sort, sort_at};
 
 use crate::byte::{byte_at, is_blank, is_name_quote, is_text_quote, is_word_byte};
 use crate::comment::{begins_block_comment, begins_line_comment};
-use lq_base::Dialect;
-
-/// What a lexeme of SQL is.
-#[derive(Clone, Copy, Debug, PartialEq, Eq)]
-pub enum Sort {
-    /// A run of spaces, tabs, carriage returns and line feeds.
-    Blank,
-    /// A comment to the end of its line; the line feed is no part of it.
-    LineComment,
-    /// A comment from `/*` to its `*/`.
-    BlockComment,
-    /// A quoted name, with its quotes.
-    Name,
-    /// A string, with its quotes.
-    Text,
-    /// What begins with a digit, or with `-` directly before one, whether or not it spells a number.
-    Number,
-    /// Letters, digits and `_`, not beginning with a digit.
-    Word,
-    /// `<=`, `>=`, `<>`, `!=`, or any other single byte.
-    Mark,
-}
+use lq_base::{Dialect, LexemeSort};
 
 fn begins_number(first: u8, second: u8) -> bool
     ensures { result ≡ begins_number first second }
@@ -32,32 +11,32 @@ fn begins_number(first: u8, second: u8) -> bool
     first.is_ascii_digit() || (first == b'-' && second.is_ascii_digit())
 }
 
-fn plain_sort(dialect: Dialect, first: u8, second: u8) -> Sort
+fn plain_sort(dialect: Dialect, first: u8, second: u8) -> LexemeSort
     ensures { result ≡ plain_sort dialect first second }
 {
     if is_text_quote(dialect, first) {
-        Sort::Text
+        LexemeSort::Text
     } else if is_name_quote(dialect, first) {
-        Sort::Name
+        LexemeSort::Name
     } else if is_blank(first) {
-        Sort::Blank
+        LexemeSort::Blank
     } else if begins_number(first, second) {
-        Sort::Number
+        LexemeSort::Number
     } else if is_word_byte(first) {
-        Sort::Word
+        LexemeSort::Word
     } else {
-        Sort::Mark
+        LexemeSort::Mark
     }
 }
 
 /// The sort of the lexeme at the front of a text, by its first bytes. Of an empty text it is a mark.
-pub fn sort_at(dialect: Dialect, text: &[u8]) -> Sort
+pub fn sort_at(dialect: Dialect, text: &[u8]) -> LexemeSort
     ensures { result ≡ sort_at dialect text.now }
 {
     if begins_line_comment(dialect, text) {
-        Sort::LineComment
+        LexemeSort::LineComment
     } else if begins_block_comment(dialect, text) {
-        Sort::BlockComment
+        LexemeSort::BlockComment
     } else {
         plain_sort(dialect, byte_at(text, 0), byte_at(text, 1))
     }

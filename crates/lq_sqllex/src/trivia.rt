@@ -1,15 +1,14 @@
 ghost use Rattle.std.specs.Prelude.{◌≡◌};
-ghost use Rattle.lq_sqllex.specs.Lexeme.{is_trivia_sort, is_trivia};
+ghost use Rattle.lq_base.specs.SqlLexeme.{is_trivia_sort, is_trivia};
 
 use crate::lexeme::lexeme_at;
-use crate::sort::Sort;
-use lq_base::Dialect;
+use lq_base::{Dialect, LexemeSort};
 
-fn is_trivia_sort(sort: Sort) -> bool
+fn is_trivia_sort(sort: LexemeSort) -> bool
     ensures { result ≡ is_trivia_sort sort }
 {
     match sort {
-        Sort::Blank | Sort::LineComment | Sort::BlockComment => true,
+        LexemeSort::Blank | LexemeSort::LineComment | LexemeSort::BlockComment => true,
         _ => false,
     }
 }

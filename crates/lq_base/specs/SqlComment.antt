@@ -2,8 +2,8 @@
 use Rattle.std.specs.Prelude.{ℕ, zero, suc, ◌==◌, ◌&&◌, ◌||◌, not, Bool, if◌then◌else◌, List, [], ◌∷◌, drop, slice_index, Option, Some, None, codes}
 use Rattle.lq_base.specs.declared.dialect.Dialect.{Dialect}
 use Rattle.lq_base.specs.declared.dialect.Dialect.TheVariants.{Postgresql, Mysql}
-use Rattle.lq_sqllex.specs.Byte.{begins, is_blank}
-use Rattle.lq_sqllex.specs.Quoted.{after}
+use Rattle.lq_base.specs.SqlByte.{begins, is_blank}
+use Rattle.lq_base.specs.SqlQuoted.{after}
 
 -- `--`; in mysql `--` before a blank, and `#`
 abbrev pub begins_line_comment : Dialect → List ℕ → Bool
