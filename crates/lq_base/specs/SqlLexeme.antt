@@ -33,7 +33,7 @@ abbrev pub mark_length : List ℕ → ℕ
 mark_length text =
     if (begins (codes "<=") text || begins (codes ">=") text) || (begins (codes "<>") text || begins (codes "!=") text) then 2 else 1
 
--- the byte belongs to a lexeme of this sort that has begun, the others being told by more than a byte
+-- a lexeme of this sort is a run of bytes and goes on with this one; those of the other sorts are no runs
 abbrev pub goes_on : LexemeSort → ℕ → Bool
 goes_on Blank byte = is_blank byte
 goes_on LineComment byte = not (is_line_feed byte)

@@ -25,6 +25,7 @@ fn begins_at(delimiter: &str, text: &str, place: usize) -> bool
     begins(delimiter.as_bytes(), from(text.as_bytes(), place))
 }
 
+// How many bytes at the front of a text stand together, where no delimiter is.
 fn together(dialect: Dialect, text: &[u8]) -> Option<usize>
     requires { 0 < length text.now }
     ensures value { result ≡ together dialect text.now }
@@ -47,6 +48,7 @@ fn together_at(dialect: Dialect, text: &str, place: usize) -> Option<usize>
     together(dialect, from(text.as_bytes(), place))
 }
 
+// Puts the piece behind those found, unless it is of blanks and comments alone.
 fn keep(
     alloc: Global,
     dialect: Dialect,
@@ -61,10 +63,11 @@ fn keep(
     Ok(())
 }
 
-/// The pieces of a text, which end at the delimiter where it stands outside strings, quoted names
-/// and comments; without those of blanks and comments alone. A piece has all bytes that stand between
-/// two delimiters. At each place the delimiter is looked for before a string, quoted name or comment,
-/// and it may stand inside a word. `Unclosed` exactly where one of those is not closed.
+/// The pieces of a text, without those of blanks and comments alone (Liquibase's `splitStatements`
+/// and `endDelimiter`). A piece ends at the delimiter where it stands outside strings, quoted names
+/// and comments, or at the end of the text, and has all bytes up to there. The delimiter is compared
+/// byte for byte, also inside a word, and at each place before a string, quoted name or comment is
+/// looked for. `Unclosed` exactly where one of these is not closed.
 pub fn split(
     alloc: Global,
     dialect: Dialect,
