@@ -50,7 +50,12 @@ pub trait Change {
     ghost canonical: { Key → CanonicalChange };
 
     /// Appends its statements.
-    fn statements(&self, alloc: Global, dialect: Dialect, to: &mut Items<Statement>) -> Result<(), NoMemory>
+    fn statements(
+        &self,
+        alloc: Global,
+        dialect: Dialect,
+        to: &mut Items<Statement>,
+    ) -> Result<(), NoMemory>
         requires { is_for dialect (key self.now) ≡ true }
         ensures { OnOk result (to.new ≡ to.old ++ gives dialect (key self.now)) };
 

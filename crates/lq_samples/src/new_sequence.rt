@@ -44,7 +44,12 @@ impl Change for NewSequence {
 
     ghost canonical = { canonical_of };
 
-    fn statements(&self, alloc: Global, _dialect: Dialect, to: &mut Items<Statement>) -> Result<(), NoMemory> {
+    fn statements(
+        &self,
+        alloc: Global,
+        _dialect: Dialect,
+        to: &mut Items<Statement>,
+    ) -> Result<(), NoMemory> {
         to.push(Statement::CreateSequence {
             name: self.name.duplicate(alloc)?,
             start: 1,

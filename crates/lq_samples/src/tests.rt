@@ -31,7 +31,9 @@ fn is_refused(alloc: Global, by: By, query: &Query, reason: Reason) -> bool {
 
 fn makes_one(statements: &Items<Statement>) -> bool {
     match statements.as_slice() {
-        [Statement::CreateSequence { name, start, step }] => name.as_key() == "s" && *start == 1 && *step == 1,
+        [Statement::CreateSequence { name, start, step }] => name.as_key() == "s"
+            && *start == 1
+            && *step == 1,
         _ => false,
     }
 }
@@ -77,6 +79,9 @@ fn a_change_is_told(rt: HostRuntime) -> Result<(), Fail> {
     let change = new_sequence(alloc)?;
     let mut canon = Canon::new(alloc);
     change.canon(&mut canon)?;
-    assert_eq!(rt; canon.written(), b"14:createSequence{12:sequenceNamet1:s}".as_slice());
+    assert_eq!(rt;
+        canon.written(),
+        b"14:createSequence{12:sequenceNamet1:s}".as_slice()
+    );
     Ok(())
 }

@@ -63,7 +63,9 @@ fn length_of(dialect: Dialect, sort: LexemeSort, text: &[u8]) -> Option<usize>
         LexemeSort::Name => quoted_length(false, text),
         LexemeSort::Text => quoted_length(escapes(dialect), text),
         LexemeSort::Mark => Some(mark_length(text)),
-        LexemeSort::Blank | LexemeSort::LineComment | LexemeSort::Number | LexemeSort::Word => Some(run_length(sort, text)),
+        LexemeSort::Blank | LexemeSort::LineComment | LexemeSort::Number | LexemeSort::Word => Some(
+            run_length(sort, text),
+        ),
     }
 }
 

@@ -14,7 +14,8 @@ fn is_enclosed(sort: LexemeSort) -> bool
     ensures { result ≡ is_enclosed sort }
 {
     match sort {
-        LexemeSort::LineComment | LexemeSort::BlockComment | LexemeSort::Name | LexemeSort::Text => true,
+        LexemeSort::LineComment | LexemeSort::BlockComment | LexemeSort::Name | LexemeSort::Text =>
+            true,
         _ => false,
     }
 }
