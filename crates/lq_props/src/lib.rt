@@ -1,0 +1,12 @@
+//! Properties of a changelog: their values by scope, and texts with the values put in.
+#![tactic(auto)]
+
+mod props;
+mod replacing;
+mod scope;
+#[cfg(test)]
+mod tests;
+mod values;
+
+pub use props::Props;
+pub use scope::Scope;
