@@ -50,7 +50,7 @@ inside_one : (w : Word) → inside (w ∷ []) ≡ cond (is_close w) (let none : 
 inside_one word.Close = refl
 inside_one w = refl
 
-inside_more : (w v : Word) (vs : List Word) → inside (w ∷ v ∷ vs) ≡ option_map (λ more. w ∷ more) (inside (v ∷ vs))
+pub inside_more : (w v : Word) (vs : List Word) → inside (w ∷ v ∷ vs) ≡ option_map (λ more. w ∷ more) (inside (v ∷ vs))
 inside_more word.Close v vs = refl
 inside_more w v vs = refl
 

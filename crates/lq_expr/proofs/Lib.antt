@@ -1,4 +1,6 @@
 pub mod Levels
 pub mod Measure
 pub mod Parts
+pub mod ReadLemmas
 pub mod Runs
+pub mod SpelledLemmas

@@ -1,5 +1,6 @@
 pub mod Cuts
 pub mod Gives
 pub mod Grammar
+pub mod Spelled
 pub mod Value
 pub mod Words
