@@ -6,9 +6,8 @@ use Rattle.lq_journal.specs.Journal.{journal_of}
 use Rattle.lq_journal.specs.declared.fault.AppendFault.{AppendFault}
 use Rattle.lq_journal.specs.declared.fault.AppendFault.TheVariants as append
 use Rattle.lq_top.specs.Fault.{fault_of_append}
-use Rattle.lq_top.specs.Journal.{Gains, journal, most, texts_of}
-use Rattle.lq_top.specs.Left.{IsCut, IsFull, IsLeftFull, IsUnfinished, freeing}
-use Rattle.lq_top.specs.declared.fault.Fault.TheVariants as fault
+use Rattle.lq_top.specs.Journal.{Gains, most, texts_of}
+use Rattle.lq_top.specs.Left.{IsCut, IsLeftFull, IsUnfinished, freeing}
 use Rattle.lq_top.proofs.Entries.{as_texts, gains_more, gains_none}
 
 abbrev T : Type 0

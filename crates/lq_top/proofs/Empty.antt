@@ -1,6 +1,5 @@
 -- A file of at most 17 bytes is an empty journal.
-use native.Mathlib.Omega.{arith}
-use Rattle.std.proofs.Common.{◌≡◌, ◌≤◌, ◌<◌, ℕ, List, [], ◌∷◌, length, Result, Ok, Err, Option, Some, None, IfSome, refl, rules, sym, ◌∙◌}
+use Rattle.std.proofs.Common.{◌≡◌, ◌≤◌, ◌<◌, ℕ, List, [], length, Result, Ok, Err, Option, Some, None, IfSome, rules, sym, ◌∙◌}
 use Rattle.lq_base.specs.declared.dialect.Dialect.TheVariants.{Postgresql}
 use Rattle.lq_journal.specs.Journal.{journal_of}
 use Rattle.lq_journal.specs.declared.entry.Entry.{Entry}

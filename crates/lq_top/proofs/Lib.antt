@@ -1,6 +1,8 @@
 pub mod Begun
 pub mod Empty
 pub mod Entries
+pub mod Held
+pub mod Room
 pub mod Runs
 pub mod Sets
 pub mod Starts

@@ -1,9 +1,8 @@
 -- The entries of an update: none, or one that takes the lock, one for each changeset, and the one that frees it.
-use Rattle.std.proofs.Common.{◌≡◌, ◌∙◌, ℕ, false, List, [], ◌∷◌, ◌++◌, map, refl, sym, ap, subst}
+use Rattle.std.proofs.Common.{◌≡◌, ℕ, false, List, [], ◌∷◌, ◌++◌, map, sym, subst}
 use Rattle.std.proofs.lemmas.List.{map-append}
 use Rattle.lq_base.specs.declared.dialect.Dialect.TheVariants.{Postgresql}
 use Rattle.lq_model.specs.StatementText.{text_of}
-use Rattle.lq_model.specs.declared.statement.Statement.{Statement}
 use Rattle.lq_create.proofs.Entries.{script_entries}
 use Rattle.lq_create.specs.Script.{closing, entry_of, update_turn, update_turns}
 use Rattle.lq_create.specs.declared.changelog.ChangeSet.{ChangeSet}

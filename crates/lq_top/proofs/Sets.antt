@@ -1,14 +1,13 @@
 -- Changesets that were read, and the lists of statements of their update.
 use native.Mathlib.Omega.{arith}
-use Rattle.std.proofs.Common.{◌≡◌, ◌<◌, ◌≤◌, ℕ, Bool, true, false, ◌&&◌, nat_le, List, [], ◌∷◌, ◌++◌, map, length, Result, Ok, Err, Option, Some, None, option_and_then, codes, cond, refl, rules, ap, subst}
+use Rattle.std.proofs.Common.{◌≡◌, ◌≤◌, true, false, List, [], ◌∷◌, ◌++◌, map, length, Result, Ok, Err, Option, Some, None, option_and_then, codes, cond, refl, rules, subst}
 use Rattle.lq_model.specs.Script.{Call, Made, alone, begin, execute, commit, abort, commits_after, entries, if_any, statements_in}
-use Rattle.lq_model.specs.declared.statement.Statement.{Statement}
 use Rattle.lq_tree.specs.declared.node.Node.{Node}
 use Rattle.lq_tree.specs.declared.node.TreeFault.{TreeFault}
 use Rattle.lq_create.specs.Changelog.{are_sets, changelog_of, if_so, list_of, set_of}
 use Rattle.lq_create.specs.Parts.{only}
 use Rattle.lq_create.specs.declared.changelog.ChangeSet.{ChangeSet}
-use Rattle.lq_top.specs.Update.{AreSome, sets_in}
+use Rattle.lq_top.specs.Update.{AreRead, AreSome, sets_in}
 
 none_some : {A : Type 0} (x : A) → (let o : Option A = None in o) ≡ Some x → ⊥
 none_some x e = Prim.cc
@@ -34,6 +33,10 @@ few_of n sets e = few_if_so (option_and_then (list_of set_of) (only (codes "data
 pub few_sets : (r : Result Node TreeFault) (sets : List ChangeSet) → sets_in r ≡ Some sets → length sets ≤ 10000
 few_sets (Ok n) sets e = few_of n sets e
 few_sets (Err fault) sets e = absurd (none_some sets e)
+
+pub read_sets : (r : Result Node TreeFault) (sets : List ChangeSet) → sets_in r ≡ Some sets → AreRead sets
+read_sets (Ok n) sets e = record { tree = n; is = e }
+read_sets (Err fault) sets e = absurd (none_some sets e)
 
 some_append : (made : List Made) (more : List (List Made)) → AreSome (map statements_in more) → AreSome (map statements_in (if_any made ++ more))
 some_append [] more h = h

@@ -1,5 +1,5 @@
 -- From a fault to the status.
-use Rattle.std.proofs.Common.{◌≡◌, ◌⊎◌, ℕ, List, Result, Err, Option, inl, inr, refl, sym, subst, ◌∙◌, ap}
+use Rattle.std.proofs.Common.{◌≡◌, ◌⊎◌, ℕ, List, Result, Err, Option, inl, inr, sym, subst, ◌∙◌}
 use Rattle.lq_top.specs.Fault.{status_of}
 use Rattle.lq_top.specs.Run.{WasLeft, WasNotDone}
 use Rattle.lq_top.specs.Status.{IsFixed}

@@ -1,9 +1,8 @@
 -- What a command leaves on the disk.
-use Rattle.std.specs.Prelude.{◌≡◌, ◌+◌, ◌<◌, ◌≤◌, ◌⊎◌, ℕ, List, [], ◌∷◌, ◌++◌, map, length, Option, Some, None, IfSome}
+use Rattle.std.specs.Prelude.{◌≡◌, ◌+◌, ◌<◌, ◌≤◌, ◌⊎◌, ℕ, List, [], ◌∷◌, ◌++◌, map, length, Option, IfSome}
 use Rattle.lq_base.specs.declared.dialect.Dialect.TheVariants.{Postgresql}
 use Rattle.lq_model.specs.StatementText.{text_of}
 use Rattle.lq_journal.specs.Body.{size_of}
-use Rattle.lq_outside.specs.Count.{Rose}
 use Rattle.lq_create.specs.Script.{closing}
 use Rattle.lq_top.specs.Journal.{Gains, most, ordinary, room_of}
 use Rattle.lq_top.specs.declared.fault.Fault.{Fault}
@@ -28,6 +27,10 @@ pub record IsCut (entries : List (List (List ℕ))) (before after : Option (List
 abbrev pub end_before : List (List (List ℕ)) → ℕ
 end_before [] = most
 end_before (entry ∷ rest) = ordinary
+
+-- there is room for each of the entries
+pub record HasRoom (entries : List (List (List ℕ))) : Type 0 where
+  pub fits : (made rest : List (List (List ℕ))) (next : List (List ℕ)) → entries ≡ made ++ next ∷ rest → 17 + room_of made + size_of next ≤ end_before rest
 
 -- What the journal got before an entry for which there is no room: nothing where that is the first. Otherwise the lock is freed, exactly where there is room for that.
 abbrev pub IsLeftFull : List (List (List ℕ)) → ℕ → Option (List ℕ) → Option (List ℕ) → Type 0

@@ -1,4 +1,5 @@
 pub mod Fault
+pub mod Held
 pub mod Journal
 pub mod Left
 pub mod Opened

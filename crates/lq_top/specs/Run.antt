@@ -1,10 +1,11 @@
 -- How a command ends.
 use Rattle.std.specs.Prelude.{◌≡◌, ◌<◌, ◌⊎◌, ℕ, List, length, Option, None, Some, IfSome}
 use Rattle.lq_create.specs.Output.{update_text}
+use Rattle.lq_create.specs.Updated.{updated}
 use Rattle.lq_create.specs.declared.changelog.ChangeSet.{ChangeSet}
-use Rattle.lq_outside.specs.Count.{Rose}
+use Rattle.lq_track.specs.Database.{Database}
 use Rattle.lq_top.specs.Journal.{Gains}
-use Rattle.lq_top.specs.Left.{IsCut, IsEmpty, IsFull}
+use Rattle.lq_top.specs.Left.{HasRoom, IsCut, IsEmpty, IsFull}
 use Rattle.lq_top.specs.Update.{Update, given, stamp_of, statements_of, texts}
 use Rattle.lq_top.specs.Words.{Asked, asked}
 use Rattle.lq_top.specs.declared.fault.Fault.{Fault}
@@ -16,10 +17,11 @@ use Rattle.lq_top.specs.declared.status.Status.TheVariants as status
 abbrev pub entries_for : List ℕ → ℕ → List ℕ → List ChangeSet → List (List (List ℕ))
 entries_for who reading path sets = texts (statements_of (stamp_of who reading) path sets)
 
--- an empty journal became that of these entries
+-- an empty journal became that of these entries, for each of which there was room
 pub record IsDone (entries : List (List (List ℕ))) (before after : Option (List ℕ)) : Type 0 where
   pub empty : IsEmpty before
   pub now : Gains entries before after
+  pub room : HasRoom entries
 
 -- what stands on the disk where the update of these entries was not done, by the fault
 abbrev pub IsUndone : Fault → List (List (List ℕ)) → Option (List ℕ) → Option (List ℕ) → Type 0
@@ -37,6 +39,10 @@ module _ (words : List (List ℕ)) (who : List ℕ) (files : Option (List ℕ �
 
   abbrev pub output_of : Update words files → List ℕ
   output_of u = update_text u.asks.path u.sets
+
+  -- the database that its changelog describes
+  abbrev pub database_of : Update words files → Database
+  database_of u = updated (stamp_of who reading) u.asks.path u.sets
 
   -- the changelog or the database is none that is built yet
   abbrev pub IsNotBuilt : Option (List ℕ) → Type 0
@@ -69,6 +75,17 @@ IsRefusal status.Done = ⊥
 IsRefusal status.DiskFault = ⊥
 IsRefusal (status.Full used next) = ⊥
 IsRefusal status.WriteFault = ⊥
+
+-- the command did its work, if not all of its text was printed
+abbrev pub IsWorked : Status → Type 0
+IsWorked status.Done = Unit {0}
+IsWorked status.WriteFault = Unit {0}
+IsWorked status.Usage = ⊥
+IsWorked status.ReadFault = ⊥
+IsWorked status.NotBuilt = ⊥
+IsWorked status.OutOfMemory = ⊥
+IsWorked status.DiskFault = ⊥
+IsWorked (status.Full used next) = ⊥
 
 -- the command writes nothing to the output
 abbrev pub IsSilent : Status → Type 0

@@ -1,5 +1,5 @@
 -- What an update is to do.
-use Rattle.std.specs.Prelude.{◌≡◌, ◌<◌, false, ℕ, List, [], ◌∷◌, map, min, length, Option, Some, None, IfSome, option_and_then, if◌then◌else◌, nat_lt, Result, Ok, Err}
+use Rattle.std.specs.Prelude.{◌≡◌, ◌<◌, false, true, ℕ, List, [], ◌∷◌, map, min, length, Option, Some, None, IfSome, option_and_then, if◌then◌else◌, nat_lt, Result, Ok, Err}
 use Rattle.lq_base.specs.declared.dialect.Dialect.TheVariants.{Postgresql}
 use Rattle.lq_model.specs.Script.{entries}
 use Rattle.lq_model.specs.StatementText.{text_of}
@@ -30,12 +30,19 @@ given files path = if is_label path then option_and_then sets_of (files path) el
 abbrev pub stamp_of : List ℕ → ℕ → Stamp
 stamp_of who reading = record { who = clean who; reading = min reading 253402300799999 }
 
+-- the changesets of some tree
+pub record AreRead (sets : List ChangeSet) : Type 0 where
+  pub tree : Node
+  pub is : changelog_of tree ≡ Some sets
+
 -- the update that the words ask for, of the changesets that the files give
 pub record Update (words : List (List ℕ)) (files : Option (List ℕ → Option (List ℕ))) : Type 0 where
   pub asks : Asked
   pub sets : List ChangeSet
   pub asked_is : asked words ≡ Some asks
   pub given_is : IfSome files (λ held. given held asks.path ≡ Some sets)
+  pub path_is : is_label asks.path ≡ true
+  pub sets_are : AreRead sets
 
 -- its statements, entry by entry, on a database without tables
 abbrev pub statements_of : Stamp → List ℕ → List ChangeSet → List (List Statement)

@@ -3,7 +3,7 @@ ghost use Rattle.lq_journal.specs.State.{disk_of, used_of};
 ghost use Rattle.lq_outside.specs.Count.{Rose};
 ghost use Rattle.lq_top.specs.Fault.{fault_of_append};
 ghost use Rattle.lq_top.specs.Journal.{Gains, IsOpen};
-ghost use Rattle.lq_top.specs.Left.{IsRun, IsUnfinished, freeing};
+ghost use Rattle.lq_top.specs.Left.{HasRoom, IsRun, IsUnfinished, freeing};
 ghost use Rattle.lq_top.specs.Opened.{IsFresh};
 
 use crate::writing::append_run;
@@ -65,6 +65,7 @@ fn carry_out<D: Disk>(
     requires fresh { IsFresh (D.told (disk_of to.old)) to.old }
     requires freeing { last.now ≡ freeing }
     ensures gains { OnOk result (Gains (opening.now ∷ turns.now ++ last.now ∷ []) (D.told (disk_of to.old)) (D.told (disk_of to.new))) }
+    ensures room { OnOk result (HasRoom (opening.now ∷ turns.now ++ last.now ∷ [])) }
     ensures unfinished { IfErr result (λ fault. IsUnfinished (fault_of_append fault) (opening.now ∷ turns.now ++ last.now ∷ []) (D.told (disk_of to.old)) (D.told (disk_of to.new))) }
     ensures later { D.faults (disk_of to.old) ≤ D.faults (disk_of to.new) }
     ensures disk { result ≡ Err AppendFault.Disk → Rose (D.faults (disk_of to.old)) (D.faults (disk_of to.new)) }
@@ -86,11 +87,12 @@ pub struct Written<D: Disk> {
 }
 
 /// Writes these entries on an empty file: nothing where there is none.
-#[tactic(auto, using(crate::proofs::Begun::nothing))]
+#[tactic(auto, using(crate::proofs::Begun::nothing, crate::proofs::Room::room_for_none))]
 pub fn write<D: Disk>(journal: Journal<D>, entries: &[EncodedEntry]) -> Written<D>
     requires fresh { IsFresh (D.told (disk_of journal)) journal }
     requires run { IsRun entries.now }
     ensures gains { OnOk result.done (Gains entries.now (D.told (disk_of journal)) (D.told result.disk)) }
+    ensures room { OnOk result.done (HasRoom entries.now) }
     ensures unfinished { IfErr result.done (λ fault. IsUnfinished (fault_of_append fault) entries.now (D.told (disk_of journal)) (D.told result.disk)) }
     ensures later { D.faults (disk_of journal) ≤ D.faults result.disk }
     ensures disk { result.done ≡ Err AppendFault.Disk → Rose (D.faults (disk_of journal)) (D.faults result.disk) }

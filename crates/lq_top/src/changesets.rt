@@ -1,8 +1,8 @@
-ghost use Rattle.std.specs.Prelude.{◌≡◌, ◌≤◌, length, Some, IfOk, IfErr, IfSome};
+ghost use Rattle.std.specs.Prelude.{◌≡◌, ◌≤◌, length, true, Some, IfOk, IfErr, IfSome, OnOk};
 ghost use Rattle.lq_tree.specs.Json.{json_tree};
 ghost use Rattle.lq_create.specs.Changelog.{is_label};
 ghost use Rattle.lq_top.specs.Reading.{IsNoChangelog, IsUnread};
-ghost use Rattle.lq_top.specs.Update.{given, sets_in};
+ghost use Rattle.lq_top.specs.Update.{AreRead, given, sets_in};
 
 use crate::fault::Fault;
 use lq_base::{Items, char_count, has_control};
@@ -35,6 +35,7 @@ fn tree_of(alloc: Global, bytes: &[u8]) -> Result<Node, Fault>
 fn sets_in(alloc: Global, bytes: &[u8]) -> Result<Items<ChangeSet>, Fault>
     ensures ok { IfOk result (λ sets. sets_in (json_tree bytes.now) ≡ Some sets) }
     ensures few { IfOk result (λ sets. length sets ≤ 10000) }
+    ensures read { IfOk result AreRead }
     ensures err { IfErr result (λ fault. IsNoChangelog fault (sets_in (json_tree bytes.now))) }
 {
     let tree = tree_of(alloc, bytes)?;
@@ -52,6 +53,8 @@ pub fn read_sets<F: Files>(
 ) -> Result<Items<ChangeSet>, Fault>
     ensures sets { IfSome (F.told files.old) (λ held. IfOk result (λ sets. given held path.now ≡ Some sets)) }
     ensures few { IfOk result (λ sets. length sets ≤ 10000) }
+    ensures read { IfOk result AreRead }
+    ensures path { OnOk result (is_label path.now ≡ true) }
     ensures told { F.told files.new ≡ F.told files.old }
     ensures later { F.faults files.old ≤ F.faults files.new }
     ensures err { IfErr result (λ fault. IsUnread fault (F.told files.old) path.now (F.faults files.old) (F.faults files.new)) }

@@ -3,7 +3,8 @@ ghost use Rattle.std.specs.Option.{option_map};
 ghost use Rattle.lq_outside.specs.Count.{Rose};
 ghost use Rattle.lq_outside.specs.Sink.{IsPart};
 ghost use Rattle.lq_top.specs.Fault.{status_of};
-ghost use Rattle.lq_top.specs.Run.{IsDone, IsNotBuilt, IsRefusal, IsSilent, WasNotDone, WasLeft, entries_of, output_of};
+ghost use Rattle.lq_top.specs.Held.{ComesToHold};
+ghost use Rattle.lq_top.specs.Run.{IsDone, IsNotBuilt, IsRefusal, IsSilent, IsWorked, WasNotDone, WasLeft, database_of, entries_of, output_of};
 ghost use Rattle.lq_top.specs.Status.{IsFixed, log_text};
 ghost use Rattle.lq_top.specs.Update.{Update};
 ghost use Rattle.lq_top.specs.Words.{asked};
@@ -106,6 +107,10 @@ pub fn run<F: Files, D: Disk, C: Clock, O: Sink, L: Sink>(
     ensures printed_part { result.status ≡ Status.WriteFault → (u : Update (map (λ word. string_bytes word) words.now) (F.told files.old))
         × (IsDone (entries_of (map (λ word. string_bytes word) words.now) who.now (F.told files.old) (C.last clock.new) u) (D.told disk) (D.told result.disk)
         × IsPart (output_of (map (λ word. string_bytes word) words.now) who.now (F.told files.old) (C.last clock.new) u) (O.told out.old) (O.told out.new)) }
+
+    // The journal's statements, run from nothing on, leave the database that the changelog describes.
+    ensures database { IsWorked result.status → (u : Update (map (λ word. string_bytes word) words.now) (F.told files.old))
+        × ComesToHold (database_of (map (λ word. string_bytes word) words.now) who.now (F.told files.old) (C.last clock.new) u) (D.told disk) (D.told result.disk) }
 
     // Otherwise the journal is what it was, or has a front of the update's entries, and then possibly the one that frees the lock.
     ensures left { WasLeft (map (λ word. string_bytes word) words.now) who.now (F.told files.old) (C.last clock.new) result.status (D.told disk) (D.told result.disk) }

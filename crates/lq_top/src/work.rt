@@ -1,8 +1,8 @@
-ghost use Rattle.std.specs.Prelude.{◌≡◌, ◌≤◌, IfOk, IfErr, Err, None, length, map, min, string_bytes};
+ghost use Rattle.std.specs.Prelude.{◌≡◌, ◌≤◌, IfOk, IfErr, OnOk, Err, None, length, map, min, string_bytes};
 ghost use Rattle.lq_create.specs.Output.{update_text};
 ghost use Rattle.lq_journal.specs.State.{disk_of};
 ghost use Rattle.lq_outside.specs.Count.{Rose};
-ghost use Rattle.lq_top.specs.Left.{IsUnfinished};
+ghost use Rattle.lq_top.specs.Left.{HasRoom, IsUnfinished};
 ghost use Rattle.lq_top.specs.Journal.{Gains};
 ghost use Rattle.lq_top.specs.Opened.{IsFresh};
 ghost use Rattle.lq_top.specs.Run.{IsDone, IsUndone, WasNotDone, entries_for, entries_of, output_of};
@@ -54,6 +54,7 @@ fn update<D: Disk>(
     requires reading { stamp.now.reading ≤ 253402300799999 }
     requires few { length sets.now ≤ 10000 }
     ensures done { IfOk result.done (λ text. Gains (texts (statements_of stamp.now path.now sets.now)) (D.told (disk_of journal)) (D.told result.disk) × (text ≡ update_text path.now sets.now)) }
+    ensures room { OnOk result.done (HasRoom (texts (statements_of stamp.now path.now sets.now))) }
     ensures unfinished { IfErr result.done (λ fault. IsUnfinished fault (texts (statements_of stamp.now path.now sets.now)) (D.told (disk_of journal)) (D.told result.disk)) }
     ensures later { D.faults (disk_of journal) ≤ D.faults result.disk }
     ensures disk { result.done ≡ Err Fault.Disk → Rose (D.faults (disk_of journal)) (D.faults result.disk) }
@@ -91,6 +92,7 @@ fn stamped<D: Disk>(
     requires fresh { IsFresh (D.told (disk_of journal)) journal }
     requires few { length sets.now ≤ 10000 }
     ensures done { IfOk result.done (λ text. Gains (entries_for who.now reading path.now sets.now) (D.told (disk_of journal)) (D.told result.disk) × (text ≡ update_text path.now sets.now)) }
+    ensures room { OnOk result.done (HasRoom (entries_for who.now reading path.now sets.now)) }
     ensures unfinished { IfErr result.done (λ fault. IsUnfinished fault (entries_for who.now reading path.now sets.now) (D.told (disk_of journal)) (D.told result.disk)) }
     ensures later { D.faults (disk_of journal) ≤ D.faults result.disk }
     ensures disk { result.done ≡ Err Fault.Disk → Rose (D.faults (disk_of journal)) (D.faults result.disk) }

@@ -5,7 +5,7 @@ ghost use Rattle.lq_journal.specs.Body.{size_of};
 ghost use Rattle.lq_journal.specs.State.{disk_of, used_of};
 ghost use Rattle.lq_top.specs.Fault.{fault_of_append};
 ghost use Rattle.lq_top.specs.Journal.{Gains, IsFreed, IsOpen, IsPlace, Stops, StoppedBy, Wrote, most, ordinary, room_of};
-ghost use Rattle.lq_top.specs.Left.{freeing, IsUnfinished};
+ghost use Rattle.lq_top.specs.Left.{freeing, HasRoom, IsUnfinished};
 
 use lq_journal::{AppendFault, EncodedEntry, Journal};
 use lq_model::Room;
@@ -113,8 +113,7 @@ pub fn append_run<D: Disk>(
     requires start { used_of to.old ≡ 17 }
     requires freeing { last.now ≡ freeing }
     ensures gains { OnOk result (Gains (opening.now ∷ turns.now ++ last.now ∷ []) (D.told (disk_of to.old)) (D.told (disk_of to.new))) }
-    ensures turns_fit { OnOk result (17 + room_of (opening.now ∷ turns.now) ≤ ordinary) }
-    ensures last_fits { OnOk result (17 + room_of (opening.now ∷ turns.now ++ last.now ∷ []) ≤ most) }
+    ensures room { OnOk result (HasRoom (opening.now ∷ turns.now ++ last.now ∷ [])) }
     ensures unfinished { IfErr result (λ fault. IsUnfinished (fault_of_append fault) (opening.now ∷ turns.now ++ last.now ∷ []) (D.told (disk_of to.old)) (D.told (disk_of to.new))) }
     ensures later { D.faults (disk_of to.old) ≤ D.faults (disk_of to.new) }
     ensures disk { result ≡ Err AppendFault.Disk → Rose (D.faults (disk_of to.old)) (D.faults (disk_of to.new)) }

@@ -1,4 +1,3 @@
-use Rattle.std.proofs.Common.{rules, []}
 use Rattle.lq_journal.specs.State.{disk_of}
 use Rattle.lq_top.proofs.Begun.{gains_after}
 use Rattle.lq_top.proofs.carrying.carry_out.Goals as goal

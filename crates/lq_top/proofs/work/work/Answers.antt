@@ -1,5 +1,5 @@
-use Rattle.std.proofs.Common.{map, string_bytes, sym, rules}
-use Rattle.lq_top.proofs.Worked.{done_of, given_same, undone_of}
+use Rattle.std.proofs.Common.{map, string_bytes, sym}
+use Rattle.lq_top.proofs.Worked.{done_of, read_same, undone_of}
 use Rattle.lq_top.specs.Words.{Asked}
 use Rattle.lq_top.proofs.work.work.Goals as goal
 
@@ -8,11 +8,11 @@ returns-in-Ok-clause-done g c =
     let asks : Asked = record { file = c.in-Some.line.file.now; path = c.in-Some.line.path.now } in
     done_of (map (λ word. string_bytes word) c.args.words.now) c.args.who.now (g.F.Files.told c.args.files.now) (g.C.Clock.last c.on_disk.new.clock) (g.D.Disk.told c.args.disk) (g.D.Disk.told c.on_disk.result.disk)
     asks (sym c.in-Some.ensures) c.on_disk.result.done c.as_slice.result.now
-    (given_same (g.F.Files.told c.args.files.now) c.in-Some.line.path.now c.in-Ok.sets c.as_slice.result.now c.as_slice.ensures c.in-Ok.ensures.sets) c.on_disk.ensures.done
+    (read_same (g.F.Files.told c.args.files.now) c.in-Some.line.path.now c.in-Ok.sets c.as_slice.result.now c.as_slice.ensures c.in-Ok.ensures.sets c.in-Ok.ensures.path c.in-Ok.ensures.read) c.on_disk.ensures.done
 
 pub returns-in-Ok-clause-undone : goal.returns-in-Ok-clause-undone
 returns-in-Ok-clause-undone g c =
     let asks : Asked = record { file = c.in-Some.line.file.now; path = c.in-Some.line.path.now } in
     undone_of (map (λ word. string_bytes word) c.args.words.now) c.args.who.now (g.F.Files.told c.args.files.now) (g.C.Clock.last c.on_disk.new.clock) (g.D.Disk.told c.args.disk) (g.D.Disk.told c.on_disk.result.disk)
     asks (sym c.in-Some.ensures) c.on_disk.result.done c.as_slice.result.now
-    (given_same (g.F.Files.told c.args.files.now) c.in-Some.line.path.now c.in-Ok.sets c.as_slice.result.now c.as_slice.ensures c.in-Ok.ensures.sets) c.on_disk.ensures.undone
+    (read_same (g.F.Files.told c.args.files.now) c.in-Some.line.path.now c.in-Ok.sets c.as_slice.result.now c.as_slice.ensures c.in-Ok.ensures.sets c.in-Ok.ensures.path c.in-Ok.ensures.read) c.on_disk.ensures.undone

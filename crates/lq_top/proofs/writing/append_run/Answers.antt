@@ -1,17 +1,17 @@
+use Rattle.std.proofs.Common.{◌∷◌}
 use Rattle.lq_top.proofs.Entries.{run_done, opening_fits, turns_fit, last_fits, last_stopped, turns_cut, turns_full, freeing_cut}
+use Rattle.lq_top.proofs.Room.{room_for_each}
 use Rattle.lq_top.proofs.writing.append_run.Goals as goal
 
 pub returns-in-Ok-append_one-clause-gains : goal.returns-in-Ok-append_one-clause-gains
 returns-in-Ok-append_one-clause-gains g c = run_done _ _ _ _ _ _ _ c.in_ok-append_one.ensures.gains c.in-Ok.ensures.gains c.in-Ok-append_one.ensures.gains
 
-pub returns-in-Ok-append_one-clause-turns_fit : goal.returns-in-Ok-append_one-clause-turns_fit
-returns-in-Ok-append_one-clause-turns_fit g c =
+pub returns-in-Ok-append_one-clause-room : goal.returns-in-Ok-append_one-clause-room
+returns-in-Ok-append_one-clause-room g c =
     let opened_fits = opening_fits _ _ _ c.in_ok-append_one.ensures.used c.in_ok-append_one.ensures.fits in
-    turns_fit c.args.opening.now c.args.turns.now _ _ _ c.requires.start c.in_ok-append_one.ensures.used c.in-Ok.ensures.used (c.in-Ok.ensures.within opened_fits)
-
-pub returns-in-Ok-append_one-clause-last_fits : goal.returns-in-Ok-append_one-clause-last_fits
-returns-in-Ok-append_one-clause-last_fits g c =
-    last_fits c.args.opening.now c.args.last.now c.args.turns.now _ _ _ c.requires.start c.in_ok-append_one.ensures.used c.in-Ok.ensures.used c.in-Ok-append_one.ensures.fits
+    let turns = turns_fit c.args.opening.now c.args.turns.now _ _ _ c.requires.start c.in_ok-append_one.ensures.used c.in-Ok.ensures.used (c.in-Ok.ensures.within opened_fits) in
+    let all = last_fits c.args.opening.now c.args.last.now c.args.turns.now _ _ _ c.requires.start c.in_ok-append_one.ensures.used c.in-Ok.ensures.used c.in-Ok-append_one.ensures.fits in
+    room_for_each (c.args.opening.now ∷ c.args.turns.now) c.args.last.now turns all
 
 pub returns-in-Err-clause-unfinished : goal.returns-in-Err-clause-unfinished
 returns-in-Err-clause-unfinished g c =
