@@ -1,0 +1,5 @@
+use Rattle.lq_yaml.proofs.Sound.{one_tree}
+use Rattle.lq_yaml.proofs.laws.one_tree.Goals as goal
+
+pub returns : goal.returns
+returns c = one_tree

@@ -1,0 +1,22 @@
+use lq_base::Text;
+use lq_tree::Node;
+
+/// What begins an entry of a collection.
+#[derive(Debug, Drop)]
+pub enum Head {
+    Dash,
+    Key(Text),
+}
+
+/// A part of a line. Its rank says how deep it stands: of two parts the one of greater rank is inside.
+/// At column `c` a key, or a value in a line of its own, has rank `2c + 1`, and a dash `2c + 2`.
+#[derive(Debug, Drop)]
+pub enum Token {
+    Begin(u32, Head),
+    /// A scalar, `[]` or `{}`.
+    Value(u32, Node),
+    /// The header of a literal block, and whether its last line ends with a line feed.
+    Bar(u32, bool),
+    /// A line of a literal block, without its indent.
+    Raw(Text),
+}
