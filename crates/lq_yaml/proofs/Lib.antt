@@ -1,3 +1,10 @@
 pub mod Parts
 pub mod Complete
 pub mod Sound
+pub mod Fronts
+pub mod Trim
+pub mod Digits
+pub mod Pushed
+pub mod Views
+pub mod Runs
+pub mod Files

@@ -273,12 +273,11 @@ sound toks s n is end =
     let k = settles 0 s.cell s.frames toks (sound_run toks start s [] at_start is) in
     ended _ _ toks n k.stands k.below end
 
--- what was taken is laid out, or there is nothing yet
-pub lies : (toks : List Token) (s : Place) → run toks start ≡ Some s → (o : Option Node) → finish s ≡ o → (toks ≡ []) ⊎ ((t : Tree) × Layout toks t)
-lies toks s is (Some n) end = let k = sound toks s n is end in inr (k.tree, k.lays)
-lies toks s is None end =
+-- where there is no node at the end, there was nothing
+pub nothing_yet : (toks : List Token) (s : Place) → run toks start ≡ Some s → finish s ≡ None → toks ≡ []
+nothing_yet toks s is end =
     let k = settles 0 s.cell s.frames toks (sound_run toks start s [] at_start is) in
-    inl (nothing _ _ toks k.stands k.below end)
+    nothing _ _ toks k.stands k.below end
 
 pub one_tree : (toks : List Token) (t u : Tree) → Layout toks t → Layout toks u → node_of t ≡ node_of u
 one_tree toks t u a b =

@@ -7,6 +7,7 @@ use Rattle.lq_yaml.specs.declared.token.Head.{Head}
 use Rattle.lq_yaml.specs.declared.token.Head.TheVariants.{Dash, Key}
 use Rattle.lq_yaml.specs.declared.token.Token.{Token}
 use Rattle.lq_yaml.specs.declared.token.Token.TheVariants.{Begin, Value, Bar, Raw}
+use Rattle.lq_yaml.specs.Chars.{is_nil, without_last}
 use Rattle.lq_yaml.specs.Tree.{Tree, leaf, empty, group, Entries, no_entries, entry}
 
 -- whether two heads may stand in one collection: two dashes, or two keys that differ
@@ -18,24 +19,18 @@ goes_with _ _ = false
 abbrev pub goes_with_all : Head → List Head → Bool
 goes_with_all h hs = list_all (goes_with h) hs
 
-abbrev front_trimmed : List ℕ → List (List ℕ) → List (List ℕ)
-front_trimmed [] [] = []
-front_trimmed l ls = l ∷ ls
+-- what stands after a line with those lines after it: the last line ends with a line feed only where `keep` says so
+abbrev pub line_end : Bool → List (List ℕ) → List ℕ
+line_end keep [] = cond keep (10 ∷ []) []
+line_end keep (l ∷ ls) = 10 ∷ []
 
--- the lines without the empty ones at their end
-abbrev pub without_last_empty : List (List ℕ) → List (List ℕ)
-without_last_empty [] = []
-without_last_empty (l ∷ ls) = front_trimmed l (without_last_empty ls)
-
--- lines with a line feed after each, after the last one only where `keep` says so
 abbrev pub lines_text : Bool → List (List ℕ) → List ℕ
 lines_text keep [] = []
-lines_text keep (l ∷ []) = l ++ cond keep (10 ∷ []) []
-lines_text keep (l ∷ m ∷ ls) = l ++ 10 ∷ lines_text keep (m ∷ ls)
+lines_text keep (l ∷ ls) = l ++ (line_end keep ls ++ lines_text keep ls)
 
--- the text of a literal block
+-- the text of a literal block: the empty lines at its end are dropped
 abbrev pub block_text : Bool → List (List ℕ) → List ℕ
-block_text keep ls = lines_text keep (without_last_empty ls)
+block_text keep ls = lines_text keep (without_last is_nil ls)
 
 abbrev pub raws : List (List ℕ) → List Token
 raws [] = []

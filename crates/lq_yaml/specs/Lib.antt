@@ -1,3 +1,12 @@
+pub mod Chars
+pub mod Deep
+pub mod DeepView
+pub mod File
+pub mod Follows
 pub mod Layout
+pub mod Line
+pub mod LineMachine
 pub mod Machine
+pub mod Scalar
 pub mod Tree
+pub mod View

@@ -1,8 +1,24 @@
 //! YAML: the tree that a file's lines lay out.
 #![tactic(auto)]
 
+mod block;
+mod builder;
+mod chars;
+mod entry;
+mod fault;
+mod front;
 mod laws;
+mod line;
+mod mode;
+mod part;
+mod place;
+mod plain;
+mod quoted;
+mod reading;
+#[cfg(test)]
+mod tests;
 mod token;
 
+pub use fault::YamlFault;
 pub use laws::one_tree;
-pub use token::{Head, Token};
+pub use reading::read_yaml;

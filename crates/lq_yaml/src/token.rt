@@ -12,11 +12,11 @@ pub enum Head {
 /// At column `c` a key, or a value in a line of its own, has rank `2c + 1`, and a dash `2c + 2`.
 #[derive(Debug, Drop)]
 pub enum Token {
-    Begin(u32, Head),
+    Begin(usize, Head),
     /// A scalar, `[]` or `{}`.
-    Value(u32, Node),
+    Value(usize, Node),
     /// The header of a literal block, and whether its last line ends with a line feed.
-    Bar(u32, bool),
+    Bar(usize, bool),
     /// A line of a literal block, without its indent.
     Raw(Text),
 }

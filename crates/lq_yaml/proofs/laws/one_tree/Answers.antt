@@ -1,4 +1,4 @@
-use Rattle.lq_yaml.proofs.Sound.{one_tree}
+use Rattle.lq_yaml.proofs.Files.{one_tree}
 use Rattle.lq_yaml.proofs.laws.one_tree.Goals as goal
 
 pub returns : goal.returns

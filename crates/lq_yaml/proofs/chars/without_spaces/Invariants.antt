@@ -1,0 +1,9 @@
+use Rattle.std.proofs.Common.{◌≡◌, ◌≤◌, length}
+use Rattle.lq_yaml.specs.Chars.{without_spaces}
+use Rattle.lq_yaml.proofs.chars.without_spaces.Given as goal
+
+abbrev pub invariant-loop-rest : goal.invariant-loop-rest
+invariant-loop-rest l = (without_spaces l.from ≡ without_spaces l.rest) × (length l.rest ≤ length l.from)
+
+abbrev pub decreases-loop-rest : goal.decreases-loop-rest
+decreases-loop-rest l = length l.rest

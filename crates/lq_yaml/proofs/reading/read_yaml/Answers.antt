@@ -1,0 +1,16 @@
+use Rattle.std.proofs.Common.{rules, ◌≡◌, refl, IfErr}
+use Rattle.std.specs.Str.{IsUtf8}
+use Rattle.lq_yaml.specs.File.{lines_of, Blames}
+use Rattle.lq_yaml.proofs.Files.{utf8}
+use Rattle.lq_yaml.proofs.reading.read_yaml.Goals as goal
+
+pub returns-in-Ok-clause-not_utf8 : goal.returns-in-Ok-clause-not_utf8
+returns-in-Ok-clause-not_utf8 c =
+    let is : IsUtf8 c.args.bytes.now = search rules in
+    let err : IfErr c.read_text.result (λ fault. Blames (lines_of c.args.bytes.now) fault) = search rules in
+    utf8 c.args.bytes.now (lines_of c.args.bytes.now) c.read_text.result is err
+
+pub returns-in-Err-clause-not_utf8 : goal.returns-in-Err-clause-not_utf8
+returns-in-Err-clause-not_utf8 c =
+    let bad : ¬ IsUtf8 c.args.bytes.now = search rules in
+    (λ e. bad, λ e. refl)

@@ -1,0 +1,145 @@
+-- The tokens of a line, and of all lines of a file.
+use Rattle.std.specs.Prelude.{ℕ, ◌+◌, ◌-◌, ◌*◌, ◌/◌, ◌==◌, ◌&&◌, nat_lt, nat_le, Bool, true, false, cond, if◌then◌else◌, List, [], ◌∷◌, ◌++◌, drop, Option, Some, None, option_map, option_and_then, encode_utf8_all}
+use Rattle.lq_tree.specs.declared.node.Node.{Node, List as ListNode, Map as MapNode}
+use Rattle.lq_yaml.specs.declared.token.Head.TheVariants.{Dash, Key}
+use Rattle.lq_yaml.specs.declared.token.Token.{Token}
+use Rattle.lq_yaml.specs.declared.token.Token.TheVariants.{Begin, Value, Bar, Raw}
+use Rattle.lq_yaml.specs.declared.mode.Mode.{Mode}
+use Rattle.lq_yaml.specs.declared.mode.Mode.TheVariants.{Fresh, Between, Headed, Within}
+use Rattle.lq_yaml.specs.Chars.{is_blank, spaces, without_spaces, without_blanks, trimmed, begins_with, is_nil, is_word_end}
+use Rattle.lq_yaml.specs.Scalar.{front, scalar_node}
+
+-- ---- within a line
+
+-- nothing but a comment follows, after a blank
+abbrev pub is_end : List ℕ → Bool
+is_end [] = true
+is_end (c ∷ cs) = is_blank c && begins_with 35 (without_blanks cs)
+
+abbrev pub colon : List ℕ → Option (List ℕ)
+colon [] = None
+colon (c ∷ cs) = cond (c == 58 && is_word_end cs) (Some cs) None
+
+abbrev pub value_if : ℕ → Node → List ℕ → Option Token
+value_if q v rest = cond (is_end rest) (Some (Value q v)) None
+
+abbrev pub scalar_token : ℕ → List ℕ → Option Token
+scalar_token q cs = option_and_then (λ f. value_if q (scalar_node f) f.rest) (front cs)
+
+-- what follows two signs
+abbrev pub behind_pair : ℕ → ℕ → List ℕ → Option (List ℕ)
+behind_pair first second (c ∷ d ∷ cs) = cond (c == first && d == second) (Some cs) None
+behind_pair first second _ = None
+
+-- the header of a block, `|` or `|-`, and whether the last line feed is kept
+abbrev pub header : List ℕ → Option Bool
+header (c ∷ []) = cond (c == 124) (Some true) None
+header (c ∷ d ∷ []) = cond (c == 124 && d == 45) (Some false) None
+header _ = None
+
+abbrev pub value_by : ℕ → List ℕ → Option (List ℕ) → Option (List ℕ) → Option Bool → Option Token
+value_by q cs (Some rest) _ _ = value_if q (ListNode []) rest
+value_by q cs None (Some rest) _ = value_if q (MapNode []) rest
+value_by q cs None None (Some keep) = Some (Bar q keep)
+value_by q cs None None None = scalar_token q cs
+
+-- a value in its line: `[]`, `{}`, the header of a block, or a scalar
+abbrev pub value_token : ℕ → List ℕ → Option Token
+value_token q cs = value_by q cs (behind_pair 91 93 cs) (behind_pair 123 125 cs) (header cs)
+
+abbrev pub value_tokens : ℕ → List ℕ → Option (List Token)
+value_tokens q cs = option_map (λ t. t ∷ []) (value_token q cs)
+
+-- a scalar before a `:` is a key: its characters, and what follows
+abbrev pub key : List ℕ → Option (List ℕ × List ℕ)
+key cs = option_and_then (λ f. option_map (λ rest. (f.chars, rest)) (colon (without_blanks f.rest))) (front cs)
+
+-- what follows a key
+abbrev pub behind_key : ℕ → List ℕ → Option (List Token)
+behind_key q [] = Some []
+behind_key q (c ∷ cs) = value_tokens q (c ∷ cs)
+
+abbrev pub entry_by : ℕ → List ℕ → Option (List ℕ × List ℕ) → Option (List Token)
+entry_by column cs (Some k) = option_map (λ ts. Begin (2 * column + 1) (Key (encode_utf8_all k.0)) ∷ ts) (behind_key (2 * column + 2) (without_spaces k.1))
+entry_by column cs None = value_tokens (2 * column + 1) cs
+
+-- `KEY:`, `KEY: VALUE` or a value
+abbrev pub entry_tokens : ℕ → List ℕ → Option (List Token)
+entry_tokens column cs = entry_by column cs (key cs)
+
+-- a dash that ends a word
+abbrev pub is_dash : ℕ → List ℕ → Bool
+is_dash c cs = c == 45 && is_word_end cs
+
+-- what begins at a column: spaces are passed over, and a dash begins an item
+abbrev pub tokens_at : ℕ → List ℕ → Option (List Token)
+tokens_at column [] = Some []
+tokens_at column (c ∷ cs) =
+    cond (c == 32) (tokens_at (column + 1) cs)
+    (cond (is_dash c cs) (option_map (λ ts. Begin (2 * column + 2) Dash ∷ ts) (tokens_at (column + 1) cs))
+    (entry_tokens column (c ∷ cs)))
+
+-- ---- from line to line
+
+-- how far the lines of the block that stands open are indented, if a line of that indent is one of them
+abbrev pub base_of : Mode → ℕ → Option ℕ
+base_of (Headed parent) indent = cond (nat_lt parent indent) (Some indent) None
+base_of (Within parent base) indent = cond (nat_lt parent indent && nat_le base indent) (Some base) None
+base_of _ indent = None
+
+-- the column of the innermost collection
+abbrev pub parent_of : Mode → ℕ
+parent_of Fresh = 0
+parent_of (Between parent) = parent
+parent_of (Headed parent) = parent
+parent_of (Within parent base) = parent
+
+-- no block is open
+abbrev pub without_block : Mode → Mode
+without_block Fresh = Fresh
+without_block m = Between (parent_of m)
+
+-- a blank line is an empty line of an open block, and else none
+abbrev pub blank_tokens : Mode → List Token
+blank_tokens (Headed parent) = Raw [] ∷ []
+blank_tokens (Within parent base) = Raw [] ∷ []
+blank_tokens _ = []
+
+-- `---`, before all others
+abbrev pub is_marker : Mode → ℕ → List ℕ → Bool
+is_marker Fresh column (a ∷ b ∷ c ∷ []) = column == 0 && (a == 45 && (b == 45 && c == 45))
+is_marker _ _ _ = false
+
+-- after these tokens, of which a header is the last
+abbrev pub mode_after : ℕ → List Token → Mode
+mode_after parent [] = Between parent
+mode_after parent (Begin rank h ∷ ts) = mode_after ((rank - 1) / 2) ts
+mode_after parent (Bar rank keep ∷ ts) = Headed parent
+mode_after parent (t ∷ ts) = mode_after parent ts
+
+abbrev pub Lexed : Type 0
+Lexed = List Token × Mode
+
+abbrev pub content_tokens : Mode → ℕ → List ℕ → Option Lexed
+content_tokens m column cs =
+    if is_marker m column cs then Some ([], Between 0)
+    else option_map (λ ts. (ts, mode_after (parent_of m) ts)) (tokens_at column cs)
+
+-- a tab in the indent
+abbrev pub has_tab : List ℕ → Bool
+has_tab cs = begins_with 9 (without_spaces cs)
+
+abbrev pub line_by : Mode → List ℕ → Option ℕ → Option Lexed
+line_by m cs (Some base) = if has_tab cs then None else Some (Raw (encode_utf8_all (drop base cs)) ∷ [], Within (parent_of m) base)
+line_by m cs None =
+    if begins_with 35 (without_blanks cs) then Some ([], without_block m)
+    else (if has_tab cs then None else content_tokens (without_block m) (spaces cs) (trimmed (without_spaces cs)))
+
+-- the tokens of a line, and the mode after it
+abbrev pub line_tokens : Mode → List ℕ → Option Lexed
+line_tokens m cs = if is_nil (without_blanks cs) then Some (blank_tokens m, m) else line_by m cs (base_of m (spaces cs))
+
+-- the tokens of all lines
+abbrev pub tokens_of : Mode → List (List ℕ) → Option (List Token)
+tokens_of m [] = Some []
+tokens_of m (l ∷ ls) = option_and_then (λ x. option_map (λ ts. x.0 ++ ts) (tokens_of x.1 ls)) (line_tokens m l)

@@ -1,0 +1,11 @@
+/// What a line stands after. A column is that of the innermost collection's heads.
+#[derive(Clone, Copy, Debug, PartialEq, Eq)]
+pub enum Mode {
+    /// No line yet that isn't skipped.
+    Fresh,
+    Between(usize),
+    /// The header of a literal block, without a line yet that isn't blank.
+    Headed(usize),
+    /// A literal block, and the indent of its lines.
+    Within(usize, usize),
+}

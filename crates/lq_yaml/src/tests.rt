@@ -1,0 +1,229 @@
+use crate::{YamlFault, read_yaml};
+use lq_tree::Node;
+use std::alloc::{AllocError, Global};
+use std::test::Fail;
+
+// The tree as one text: a text in quotes, a list in brackets, a map in braces.
+fn show(out: &mut String, node: &Node) -> Result<(), AllocError> {
+    match node {
+        Node::Text(text) => {
+            out.push_str("'")?;
+            out.push_str(text.as_str())?;
+            out.push_str("'")?;
+        }
+        Node::Whole(n) => write!(out, "{n}")?,
+        Node::Truth(b) => write!(out, "{b}")?,
+        Node::Null => out.push_str("null")?,
+        Node::List(items) => {
+            out.push_str("[")?;
+            for item in items.as_slice() {
+                show(out, item)?;
+                out.push_str(" ")?;
+            }
+            out.push_str("]")?;
+        }
+        Node::Map(entries) => {
+            out.push_str("{")?;
+            for entry in entries.as_slice() {
+                out.push_str(entry.0.as_str())?;
+                out.push_str(":")?;
+                show(out, &entry.1)?;
+                out.push_str(" ")?;
+            }
+            out.push_str("}")?;
+        }
+    }
+    Ok(())
+}
+
+#[test]
+fn scalars_are_read(rt: HostRuntime) -> Result<(), Fail> {
+    let cases = [
+        (
+            "- 0\n- -12\n- 007\n- 1.10\n- +1\n- -0\n",
+            "[0 -12 '007' '1.10' '+1' '-0' ]",
+        ),
+        (
+            "- 170141183460469231731687303715884105727\n- 170141183460469231731687303715884105728",
+            "[170141183460469231731687303715884105727 '170141183460469231731687303715884105728' ]",
+        ),
+        (
+            "- -170141183460469231731687303715884105728\n- -170141183460469231731687303715884105729",
+            "[-170141183460469231731687303715884105728 '-170141183460469231731687303715884105729' ]",
+        ),
+        (
+            "- true\n- False\n- false\n- null\n- ~\n- Null\n-\n",
+            "[true 'False' false null null 'Null' null ]",
+        ),
+        (
+            "- 'it''s'\n- ''\n- '1'\n- \"1\"\n- 'a # b: c'\n",
+            "['it's' '' '1' '1' 'a # b: c' ]",
+        ),
+        (
+            "- \"\\\\\\\"\\/\\n\\t\\r\\0\\u00e9\\uFFFF\"",
+            "['\\\"/\n\t\r\0\u{e9}\u{ffff}' ]",
+        ),
+        ("- []\n- {}\n- [] # c\n- {}  # c", "[[] {} [] {} ]"),
+        (
+            "- http://x\n- x#y\n- ?x\n- -x\n- :x\n- a  b  ",
+            "['http://x' 'x#y' '?x' '-x' ':x' 'a  b' ]",
+        ),
+    ];
+    for (text, want) in cases {
+        let node = read_yaml(rt.alloc(), text.as_bytes())?;
+        let mut shown = String::new(rt.alloc());
+        show(&mut shown, &node)?;
+        assert_eq!(rt; shown.as_str(), want);
+    }
+    Ok(())
+}
+
+#[test]
+fn collections_are_read(rt: HostRuntime) -> Result<(), Fail> {
+    let cases = [
+        ("a: 1", "{a:1 }"),
+        ("b: 1\r\na: 2\r\n", "{a:2 b:1 }"),
+        ("a:\nb:\n", "{a:null b:null }"),
+        ("a:\n  b:\n    c: 1\n  d: 2\n", "{a:{b:{c:1 } d:2 } }"),
+        ("a:\n- 1\n- 2\nb:\n  - 3\n", "{a:[1 2 ] b:[3 ] }"),
+        ("- a: 1\n  b: 2\n- - 1\n  - 2\n", "[{a:1 b:2 } [1 2 ] ]"),
+        ("- a:\n  - 1\n  b: 2\n", "[{a:[1 ] b:2 } ]"),
+        ("-\n  a: 1\n-\n  - 2\n", "[{a:1 } [2 ] ]"),
+        ("a:\n  x\nb:\n  []\nc:\n  'q'\n", "{a:'x' b:[] c:'q' }"),
+        (
+            "# c\n\n---\n# d\na: 1 # e\n\t# f\n \t\nb: 2\n",
+            "{a:1 b:2 }",
+        ),
+        ("--- \n  a :  x  \n  'b' : 1\n", "{a:'x' b:1 }"),
+        (
+            "null: 1\n1: 2\n\"\": 3\n\u{feff}: 4\n",
+            "{:3 1:2 null:1 \u{feff}:4 }",
+        ),
+    ];
+    for (text, want) in cases {
+        let node = read_yaml(rt.alloc(), text.as_bytes())?;
+        let mut shown = String::new(rt.alloc());
+        show(&mut shown, &node)?;
+        assert_eq!(rt; shown.as_str(), want);
+    }
+    Ok(())
+}
+
+#[test]
+fn blocks_are_read(rt: HostRuntime) -> Result<(), Fail> {
+    let cases = [
+        ("a: |\n  a\n  b\n", "{a:'a\nb\n' }"),
+        ("a: |-\r\n  a\r\n  b\r\n", "{a:'a\nb' }"),
+        (
+            "a: |\n\n  x\n   y \n \n  z\n\n\nb: 1\n",
+            "{a:'\nx\n y \n\nz\n' b:1 }",
+        ),
+        ("a: |\nb: |-\n", "{a:'' b:'' }"),
+        ("a: |\n  # x\n  k: v\n# c\nb: 1\n", "{a:'# x\nk: v\n' b:1 }"),
+        ("- |\n  x\n- - |-\n   y\n", "['x\n' ['y' ] ]"),
+        ("a:\n  |\n  x\n", "{a:'x\n' }"),
+    ];
+    for (text, want) in cases {
+        let node = read_yaml(rt.alloc(), text.as_bytes())?;
+        let mut shown = String::new(rt.alloc());
+        show(&mut shown, &node)?;
+        assert_eq!(rt; shown.as_str(), want);
+    }
+    Ok(())
+}
+
+#[test]
+fn wrong_lines_are_told(rt: HostRuntime) -> Result<(), Fail> {
+    let cases = [
+        ("", 1),
+        ("\n", 2),
+        ("# a\n# b\n", 3),
+        ("---\n", 2),
+        ("a: 1\nb: 2\n\tc: 3\n", 3),
+        ("a: 1\nb: 2\na: 3\n", 3),
+        ("a: 1\n'a': 2\n", 2),
+        ("1: a\n\"1\": b\n", 2),
+        ("a: b: c", 1),
+        ("a: x:", 1),
+        ("a:\tb", 1),
+        ("a: 1\nb: 'x\n", 2),
+        ("a: 'x''", 1),
+        ("a: \"\\x\"", 1),
+        ("a: \"\\ud800\"", 1),
+        ("a: \"\\u12\"", 1),
+        ("a: \"x\" y", 1),
+        ("a: 'x'#c", 1),
+        ("- - a\n - b\n", 2),
+        ("- a\n  - b\n", 2),
+        ("a:\n    b: 1\n  c: 2\n", 3),
+        ("a: 1\n- b\n", 2),
+        ("- a\nb: 1\n", 2),
+        ("a: 1\n  b\n", 2),
+        ("a: |\n   x\n  y\n", 3),
+        ("a: |\n  x\n  \ty\n", 3),
+        ("a: |\n  x\n # c\n  y\n", 4),
+        ("x", 1),
+        ("[]", 1),
+        ("|\n", 1),
+        ("a: [1]", 1),
+        ("a: &x 1", 1),
+        ("a: >\n", 1),
+        ("a: - b", 1),
+        ("a: # c", 1),
+        ("- # c", 1),
+        ("a: | # c", 1),
+        (" ---\n", 1),
+        ("a: 1\n---\n", 2),
+    ];
+    for (text, line) in cases {
+        let fault = read_yaml(rt.alloc(), text.as_bytes()).err();
+        assert_eq!(rt; fault, Some(YamlFault::Line(line)), "{text}");
+    }
+    let fault = read_yaml(rt.alloc(), b"a\tb\xff").err();
+    assert_eq!(rt; fault, Some(YamlFault::NotUtf8));
+    Ok(())
+}
+
+// Sequences one in the other, each in a line of its own and two columns deeper.
+fn steps(alloc: Global, levels: usize) -> Result<String, AllocError> {
+    let mut text = String::new(alloc);
+    for level in 0..levels {
+        for _ in 0..level {
+            text.push_str("  ")?;
+        }
+        text.push_str("-\n")?;
+    }
+    Ok(text)
+}
+
+// Sequences one in the other in one line, and what the innermost holds.
+fn dashes(alloc: Global, levels: usize, inside: &str) -> Result<String, AllocError> {
+    let mut text = String::new(alloc);
+    for _ in 0..levels {
+        text.push_str("- ")?;
+    }
+    text.push_str(inside)?;
+    Ok(text)
+}
+
+#[test]
+fn levels_are_counted(rt: HostRuntime) -> Result<(), Fail> {
+    for (levels, want) in [(64, None), (65, Some(YamlFault::TooDeep))] {
+        let text = steps(rt.alloc(), levels)?;
+        let fault = read_yaml(rt.alloc(), text.as_bytes()).err();
+        assert_eq!(rt; fault, want, "{levels}");
+    }
+    let cases = [
+        (64, "x", None),
+        (63, "{}", None),
+        (64, "{}", Some(YamlFault::TooDeep)),
+        (64, "k: 1", Some(YamlFault::TooDeep)),
+        (70, "'", Some(YamlFault::Line(1))),
+    ];
+    for (levels, inside, want) in cases {
+        let text = dashes(rt.alloc(), levels, inside)?;
+        let fault = read_yaml(rt.alloc(), text.as_bytes()).err();
+        assert_eq!(rt; fault, want, "{levels} {inside}");
+    }
+    Ok(())
+}
