@@ -1,14 +1,14 @@
 -- Where a tree is laid out, the machine reads it.
-use Rattle.std.proofs.Common.{◌≡◌, ℕ, ◌<◌, ◌≤◌, ◌+◌, max, Bool, true, false, cond, nat_lt, List, [], ◌∷◌, ◌++◌, length, Option, Some, None, option_and_then, refl, sym, ap, subst, ◌∙◌, append_assoc, arith, ◌⊎◌, inl, inr, suc}
+use Rattle.std.proofs.Common.{◌≡◌, ℕ, ◌<◌, ◌≤◌, ◌+◌, max, Bool, true, false, cond, nat_lt, List, [], ◌∷◌, ◌++◌, length, Option, Some, None, option_and_then, refl, sym, ap, subst, ◌∙◌, append_assoc, arith, inl, inr, suc}
 use Rattle.std.proofs.lemmas.List.{append-nil}
 use Rattle.std.proofs.lemmas.Bool.Decides.{nat_tests}
-use Rattle.lq_tree.specs.declared.node.Node.{Node, Null, Text as TextNode, the_lemmas}
+use Rattle.lq_tree.specs.declared.node.Node.{Node, Text as TextNode, the_lemmas}
 use Rattle.lq_yaml.specs.declared.token.Head.{Head}
 use Rattle.lq_yaml.specs.declared.token.Token.{Token}
-use Rattle.lq_yaml.specs.declared.token.Token.TheVariants.{Begin, Value, Bar, Raw}
+use Rattle.lq_yaml.specs.declared.token.Token.TheVariants.{Begin, Value, Bar}
 use Rattle.lq_yaml.specs.Tree.{Tree, leaf, empty, group, Entries, no_entries, entry, node_of, group_node, levels, entry_levels, value_levels}
-use Rattle.lq_yaml.specs.Layout.{goes_with_all, IsFull, Inside, Group, Layout, IsLeaf, block_text, raws}
-use Rattle.lq_yaml.specs.Machine.{Part, Frame, Place, Cell, none, done, block, place, start, cell_node, begun, fits, filled, next, frame, settled, put, open_more, add_line, made, begin, step, run, finish, level_at, reach, reach_by}
+use Rattle.lq_yaml.specs.Layout.{IsFull, Inside, Group, Layout, IsLeaf, block_text, raws}
+use Rattle.lq_yaml.specs.Machine.{Frame, Place, Cell, none, done, block, place, start, cell_node, begun, fits, filled, next, frame, settled, made, begin, step, run, finish, level_at, reach, reach_by}
 use Rattle.lq_yaml.proofs.Parts.{Tells, tells_begun, tells_next, collected, collected_none, collected_begun, collected_next}
 
 pub above : (q r : ℕ) → q < r → nat_lt q r ≡ true

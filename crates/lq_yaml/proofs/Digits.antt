@@ -1,10 +1,10 @@
 -- What `parse` says of a text that the pattern of whole numbers takes.
-use Rattle.std.proofs.Common.{◌≡◌, ℕ, ℤ, ◌<◌, ◌≤◌, ◌+◌, Bool, true, false, cond, ◌&&◌, ◌||◌, ◌==◌, nat_le, List, [], ◌∷◌, drop, length, Result, Ok, Err, ◌-◌, ◌^◌, nat_lt, FitsSigned, Option, Some, None, refl, sym, ap, subst, ◌∙◌, arith, rules}
+use Rattle.std.proofs.Common.{◌≡◌, ℕ, ℤ, ◌<◌, ◌≤◌, Bool, true, false, cond, ◌&&◌, ◌||◌, ◌==◌, nat_le, List, [], ◌∷◌, drop, Result, Ok, Err, ◌-◌, ◌^◌, FitsSigned, Option, Some, None, refl, ◌∙◌, arith, rules}
 use Rattle.std.proofs.lemmas.Bool.Decides.{nat_tests}
 use Rattle.std.proofs.lemmas.Bool.{leb-true, eqb-true, ne_eqb}
 use Rattle.std.specs.List.{list_all}
 use Rattle.std.specs.Int.{IsInRange, w128}
-use Rattle.std.specs.Result.{OkIff, result_ok}
+use Rattle.std.specs.Result.{result_ok}
 use lib.IntN.{pos, negsuc}
 use Rattle.std.specs.Str.Parse.{AllDigits, IsNumeral, ParsesSigned, without_leading_sign, signed_digits_value}
 use Rattle.std.proofs.lemmas.Str.Parse.{tells_digits}

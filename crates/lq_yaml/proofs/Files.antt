@@ -1,5 +1,5 @@
 -- What is read is laid out, and the line at which the reader stops is the least.
-use Rattle.std.proofs.Common.{◌≡◌, ℕ, ◌<◌, ◌≤◌, ◌+◌, ◌-◌, max, Bool, true, false, cond, ◌&&◌, nat_lt, nat_le, length, take, get_or, arith, List, [], ◌∷◌, ◌++◌, Option, Some, None, option_and_then, option_map, refl, sym, ap, subst, ◌∙◌, chars, map, ◌==◌, Result, Ok, Err, IfErr, ◌↔◌}
+use Rattle.std.proofs.Common.{◌≡◌, ℕ, ◌<◌, ◌≤◌, ◌+◌, ◌-◌, max, Bool, true, false, cond, length, take, get_or, arith, List, [], ◌∷◌, ◌++◌, Option, Some, None, option_and_then, option_map, refl, sym, ap, subst, ◌∙◌, chars, map, ◌==◌, Result, Ok, Err, IfErr, ◌↔◌}
 use Rattle.std.proofs.lemmas.List.{append-nil, take_more, map-append, take-map, length-map}
 use Rattle.std.proofs.Math.Seq.{take-length}
 use Rattle.std.proofs.lemmas.List.Splits.{length-slice_split}
@@ -18,15 +18,14 @@ use Rattle.lq_yaml.specs.declared.token.Token.{Token}
 use Rattle.lq_yaml.specs.declared.token.Token.TheVariants.{Begin}
 use Rattle.lq_yaml.specs.Deep.{Deep, deep, deep_start, deep_run}
 use Rattle.lq_yaml.specs.DeepView.{shown_lines}
-use Rattle.lq_yaml.specs.File.{lines_of, Blames, IsLaidOut, most_levels, Begins, BeginsDeep, IsLeast, IsWrong, IsTooDeep, IsRead, LinesLayOutOne}
-use Rattle.lq_yaml.specs.Layout.{Layout}
-use Rattle.lq_yaml.specs.Line.{Lexed, line_tokens, tokens_of}
+use Rattle.lq_yaml.specs.File.{lines_of, Blames, IsLaidOut, Begins, BeginsDeep, IsLeast, IsWrong, IsTooDeep, IsRead, LinesLayOutOne}
+use Rattle.lq_yaml.specs.Line.{Lexed, line_tokens}
 use Rattle.lq_yaml.specs.LineMachine.{State, state, file_start, line_step, run_lines}
-use Rattle.lq_yaml.specs.Machine.{Place, start, run, finish, reach}
+use Rattle.lq_yaml.specs.Machine.{start, finish, reach}
 use Rattle.lq_yaml.specs.Tree.{Tree, levels, node_of}
 use Rattle.lq_yaml.proofs.Complete.{complete, not_above}
 use Rattle.lq_yaml.proofs.Sound as sound
-use Rattle.lq_yaml.proofs.Runs.{Leads, leads, leads_back, Tokens, tokens, State_of, back, mono, lines_dead, lines_append, deeps}
+use Rattle.lq_yaml.proofs.Runs.{leads, leads_back, tokens, back, mono, lines_dead, lines_append}
 
 -- ---- sound and complete
 

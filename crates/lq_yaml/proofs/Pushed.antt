@@ -1,5 +1,5 @@
 -- One token more in front of what is still to be read.
-use Rattle.std.proofs.Common.{◌≡◌, ℕ, ◌+◌, ◌*◌, ◌-◌, ◌≤◌, ◌==◌, Bool, true, false, List, [], ◌∷◌, ◌++◌, Option, Some, None, option_map, refl, sym, ap, ◌∙◌, append_assoc, encode_utf8_all, length, take, drop, get_or, arith, suc}
+use Rattle.std.proofs.Common.{◌≡◌, ℕ, ◌+◌, ◌*◌, ◌-◌, ◌≤◌, ◌==◌, true, false, List, [], ◌∷◌, ◌++◌, Option, Some, None, option_map, refl, sym, ap, ◌∙◌, append_assoc, encode_utf8_all, length, take, drop, get_or, arith, suc}
 use Rattle.std.proofs.Math.Seq.{take-length}
 use Rattle.lq_yaml.specs.declared.token.Head.TheVariants.{Dash, Key}
 use Rattle.lq_yaml.specs.declared.token.Token.{Token}

@@ -1,13 +1,12 @@
 -- The machine with its deepest level, over tokens and over lines.
-use Rattle.std.proofs.Common.{◌≡◌, ℕ, ◌≤◌, ◌+◌, max, length, arith, List, [], ◌∷◌, ◌++◌, Option, Some, None, option_and_then, option_map, refl, sym, ap, subst, ◌∙◌}
+use Rattle.std.proofs.Common.{◌≡◌, ℕ, ◌≤◌, ◌+◌, max, length, arith, List, [], ◌∷◌, ◌++◌, Option, Some, None, option_and_then, option_map, refl, sym, ap, ◌∙◌}
 use Rattle.lq_yaml.specs.declared.mode.Mode.{Mode}
 use Rattle.lq_yaml.specs.declared.token.Token.{Token}
 use Rattle.lq_yaml.specs.declared.token.Token.TheVariants.{Begin, Value, Bar, Raw}
-use Rattle.lq_yaml.specs.Deep.{Deep, deep, deep_start, own_levels, deeper, deep_step, deep_run}
+use Rattle.lq_yaml.specs.Deep.{Deep, deep, own_levels, deeper, deep_step, deep_run}
 use Rattle.lq_yaml.specs.Line.{Lexed, line_tokens, tokens_of}
-use Rattle.lq_yaml.specs.LineMachine.{State, state, file_start, line_step, run_lines}
-use Rattle.lq_yaml.specs.Machine.{Place, start, step, run, level_at, reach, reach_by}
-use Rattle.lq_yaml.specs.Tree.{value_levels}
+use Rattle.lq_yaml.specs.LineMachine.{State, state, line_step, run_lines}
+use Rattle.lq_yaml.specs.Machine.{Place, step, run, level_at, reach, reach_by}
 
 -- ---- over tokens
 

@@ -1,17 +1,15 @@
 -- What the machine has read is laid out.
-use Rattle.std.proofs.Common.{◌≡◌, ℕ, ◌<◌, ◌≤◌, ◌+◌, Bool, true, false, cond, nat_lt, List, [], ◌∷◌, ◌++◌, Option, Some, None, option_and_then, refl, sym, ap, subst, ◌∙◌, append_assoc, arith, suc, ltb-true, ltb-false, ◌⊎◌, inl, inr}
-use Rattle.std.proofs.lemmas.Bool.Decides.{nat_tests}
+use Rattle.std.proofs.Common.{◌≡◌, ℕ, ◌<◌, ◌≤◌, Bool, true, false, cond, nat_lt, List, [], ◌∷◌, ◌++◌, Option, Some, None, option_and_then, refl, sym, ap, subst, ◌∙◌, append_assoc, arith, ltb-true, ltb-false, inl, inr}
 use Rattle.std.proofs.lemmas.List.{append-nil}
-use Rattle.lq_tree.specs.declared.node.Node.{Node, Null, Text as TextNode}
+use Rattle.lq_tree.specs.declared.node.Node.{Node, Text as TextNode}
 use Rattle.lq_yaml.specs.declared.token.Head.{Head}
-use Rattle.lq_yaml.specs.declared.token.Head.TheVariants.{Dash, Key}
 use Rattle.lq_yaml.specs.declared.token.Token.{Token}
 use Rattle.lq_yaml.specs.declared.token.Token.TheVariants.{Begin, Value, Bar, Raw}
-use Rattle.lq_yaml.specs.Tree.{Tree, leaf, empty, group, Entries, no_entries, entry, node_of, group_node, levels}
-use Rattle.lq_yaml.specs.Layout.{goes_with_all, IsFull, Inside, Group, IsGroup, Layout, IsLeaf, block_text, raws}
-use Rattle.lq_yaml.specs.Machine.{Part, Frame, Place, Cell, none, done, block, place, start, cell_node, begun, fits, filled, next, frame, top, again, settled, put, open_more, add_line, made, begin, step, run, finish, reach}
+use Rattle.lq_yaml.specs.Tree.{Tree, leaf, empty, group, Entries, no_entries, entry, node_of, group_node}
+use Rattle.lq_yaml.specs.Layout.{goes_with_all, IsFull, Inside, Group, IsGroup, Layout, block_text, raws}
+use Rattle.lq_yaml.specs.Machine.{Frame, Place, Cell, none, done, block, place, start, cell_node, begun, fits, filled, next, frame, top, again, settled, put, open_more, add_line, made, step, run, finish}
 use Rattle.lq_yaml.proofs.Parts.{Tells, tells_begun, tells_next, collected, collected_none, collected_begun, collected_next}
-use Rattle.lq_yaml.proofs.Complete.{Reads, complete, dead}
+use Rattle.lq_yaml.proofs.Complete.{complete}
 
 -- a whole collection on these tokens
 pub record Whole (q : ℕ) (toks : List Token) (node : Node) : Type 0 where

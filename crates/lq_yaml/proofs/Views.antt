@@ -1,11 +1,11 @@
 -- What the builder's values stand for, as collections open and close.
-use Rattle.std.proofs.Common.{◌≡◌, ℕ, ◌<◌, ◌≤◌, length, arith, List, [], ◌∷◌, ◌++◌, map, reverse, refl, sym, ap, subst, ◌∙◌}
+use Rattle.std.proofs.Common.{◌≡◌, ℕ, ◌<◌, ◌≤◌, length, arith, List, [], ◌∷◌, ◌++◌, map, refl, sym, ap, subst, ◌∙◌}
 use Rattle.std.proofs.lemmas.List.{map-append, reverse-append}
 use Rattle.lq_tree.specs.declared.node.Node.{Node}
 use Rattle.lq_yaml.specs.declared.place.Frame as code_frame
 use Rattle.lq_yaml.specs.declared.place.Cell as code_cell
 use Rattle.lq_yaml.specs.declared.place.Cell.TheVariants as code_cells
-use Rattle.lq_yaml.specs.Machine.{Frame, Place, Cell, done, top, settled, place, cell_node, filled}
+use Rattle.lq_yaml.specs.Machine.{Frame, Cell, done, top, settled, place, cell_node, filled}
 use Rattle.lq_yaml.specs.View.{part_of, frame_of, cell_of, stack, place_by, settled_place}
 use Rattle.lq_yaml.proofs.Complete.{settled_more, settled_here}
 

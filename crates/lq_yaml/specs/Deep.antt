@@ -1,7 +1,7 @@
 -- The machine with the deepest level on its way.
 use Rattle.std.specs.Prelude.{ℕ, ◌+◌, max, List, [], ◌∷◌, length, Option, Some, None, option_map, option_and_then}
 use Rattle.lq_yaml.specs.declared.token.Token.{Token}
-use Rattle.lq_yaml.specs.declared.token.Token.TheVariants.{Begin, Value, Bar, Raw}
+use Rattle.lq_yaml.specs.declared.token.Token.TheVariants.{Begin, Value}
 use Rattle.lq_yaml.specs.Machine.{Place, start, step}
 use Rattle.lq_yaml.specs.Tree.{value_levels}
 

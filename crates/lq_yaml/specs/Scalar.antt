@@ -1,10 +1,10 @@
 -- Scalars in a line's characters.
-use Rattle.std.specs.Prelude.{◌≡◌, ℕ, ◌+◌, ◌-◌, ◌*◌, ◌^◌, ◌==◌, ◌&&◌, ◌||◌, not, nat_le, Bool, true, false, cond, if◌then◌else◌, ℤ, pos, neg_ℤ, int_le, List, [], ◌∷◌, ◌++◌, length, take, drop, slice_index, Option, Some, None, option_map, option_and_then, codes, bytes_eq, encode_utf8_all}
+use Rattle.std.specs.Prelude.{ℕ, ◌+◌, ◌-◌, ◌*◌, ◌^◌, ◌==◌, ◌&&◌, ◌||◌, not, nat_le, Bool, true, false, cond, if◌then◌else◌, ℤ, pos, neg_ℤ, int_le, List, [], ◌∷◌, ◌++◌, length, take, drop, slice_index, Option, Some, None, option_map, option_and_then, codes, bytes_eq, encode_utf8_all}
 use Rattle.std.specs.List.{list_all, list_any}
 use Rattle.std.specs.Str.Parse.{signed_digits_value}
 use lib.Utf8.{scalar}
 use Rattle.lq_tree.specs.declared.node.Node.{Node, Null, Truth, Whole, Text as TextNode}
-use Rattle.lq_yaml.specs.Chars.{is_blank, without_blanks, trimmed, begins_with, is_nil, is_word_end}
+use Rattle.lq_yaml.specs.Chars.{trimmed, begins_with, is_nil, is_word_end}
 
 -- ---- quoted
 

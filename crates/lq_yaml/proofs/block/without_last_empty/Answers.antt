@@ -1,4 +1,4 @@
-use Rattle.std.proofs.Common.{rules, arith, ◌≡◌, ◌≤◌, ◌<◌, ◌∙◌, sym, ap, refl, ℕ, ◌-◌, List, length, take, true, false}
+use Rattle.std.proofs.Common.{rules, arith, ◌≡◌, ◌∙◌, sym, true, false}
 use Rattle.lq_yaml.specs.Chars.{is_nil}
 use Rattle.lq_yaml.proofs.Trim.{one_less, no_less, none_left}
 use Rattle.lq_yaml.proofs.block.without_last_empty.Goals as goal

@@ -1,4 +1,4 @@
-use Rattle.std.proofs.Common.{rules, arith, ◌≡◌, ℕ, ◌+◌, ◌-◌, ◌==◌, List, ◌∷◌, length, take, drop, Bool, true, false}
+use Rattle.std.proofs.Common.{rules, ◌≡◌, ◌-◌, ◌==◌, ◌∷◌, length, take, drop, true, false}
 use Rattle.lq_yaml.specs.Line.{is_dash}
 use Rattle.lq_yaml.proofs.Pushed.{dash_step, first_and}
 use Rattle.lq_yaml.proofs.entry.tokens_at.Goals as goal

@@ -1,6 +1,6 @@
-use Rattle.std.proofs.Common.{rules, ◌≡◌, ℕ, ◌+◌, ◌*◌, IfOk, List, [], ◌∷◌, ◌++◌, Option, Some, None, option_map, subst}
+use Rattle.std.proofs.Common.{rules, ◌≡◌, IfOk, List, ◌++◌, Option, Some, None, option_map, subst}
 use Rattle.lq_yaml.specs.declared.token.Token.{Token}
-use Rattle.lq_yaml.specs.Line.{key, entry_tokens}
+use Rattle.lq_yaml.specs.Line.{key}
 use Rattle.lq_yaml.proofs.Pushed.{entry_none, entry_some}
 use Rattle.lq_yaml.proofs.entry.with_entry.Goals as goal
 

@@ -1,4 +1,4 @@
-use Rattle.std.proofs.Common.{rules, ◌≡◌, List, ℕ, [], ◌∷◌, ◌++◌, Option, Some, None, option_map, ap, ◌∙◌, sym}
+use Rattle.std.proofs.Common.{rules, ◌≡◌, [], ◌∷◌, Some, None, option_map, ap, ◌∙◌}
 use Rattle.lq_yaml.specs.Scalar.{double, with_front}
 use Rattle.lq_yaml.specs.Follows.{one}
 use Rattle.lq_yaml.proofs.Fronts.{front_more, double_one, after}

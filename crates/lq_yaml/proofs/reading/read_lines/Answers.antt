@@ -1,4 +1,4 @@
-use Rattle.std.proofs.Common.{rules, arith, ◌≡◌, ◌≤◌, ◌<◌, ◌∙◌, ℕ, List, length, Some, None, true, false, take}
+use Rattle.std.proofs.Common.{rules, arith, ◌≡◌, ◌∙◌, length, Some, None}
 use Rattle.lq_yaml.specs.DeepView.{state_of, shown_lines}
 use Rattle.lq_yaml.specs.Machine.{finish}
 use Rattle.lq_yaml.proofs.Files.{one_line, wrong, deep_line, all_lines, is_read, wrong_end}

@@ -1,8 +1,6 @@
-use Rattle.std.proofs.Common.{rules, arith, ◌≡◌, ◌≤◌, ◌<◌, ◌+◌, ◌^◌, ◌∙◌, ℕ, List, map, length, subst, sym, IfOk, IfErr}
+use Rattle.std.proofs.Common.{rules, arith, ◌≡◌, ℕ, List, map, subst, IfOk, IfErr}
 use Rattle.std.specs.Str.Lines.{lines}
-use denote.Ref.{Bor}
-use Rattle.lq_yaml.specs.DeepView.{shown_lines}
-use Rattle.lq_yaml.specs.File.{lines_of, IsRead, Blames}
+use Rattle.lq_yaml.specs.File.{IsRead, Blames}
 use Rattle.lq_yaml.proofs.Files.{few_lines, shown}
 use Rattle.lq_yaml.proofs.reading.read_text.Goals as goal
 

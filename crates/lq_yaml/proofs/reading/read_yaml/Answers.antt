@@ -1,4 +1,4 @@
-use Rattle.std.proofs.Common.{rules, ◌≡◌, refl, IfErr}
+use Rattle.std.proofs.Common.{rules, refl, IfErr}
 use Rattle.std.specs.Str.{IsUtf8}
 use Rattle.lq_yaml.specs.File.{lines_of, Blames}
 use Rattle.lq_yaml.proofs.Files.{utf8}
