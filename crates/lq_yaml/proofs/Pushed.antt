@@ -4,7 +4,7 @@ use Rattle.std.proofs.Math.Seq.{take-length}
 use Rattle.lq_yaml.specs.declared.token.Head.TheVariants.{Dash, Key}
 use Rattle.lq_yaml.specs.declared.token.Token.{Token}
 use Rattle.lq_yaml.specs.declared.token.Token.TheVariants.{Begin}
-use Rattle.lq_yaml.specs.Chars.{without_spaces}
+use Rattle.lq_yaml.specs.Chars.{without_blanks}
 use Rattle.lq_yaml.specs.Line.{key, behind_key, value_tokens, entry_tokens, is_dash, tokens_at}
 
 pub pushed : (before : List Token) (t : Token) (o : Option (List Token)) → option_map (λ ts. before ++ ts) (option_map (λ ts. t ∷ ts) o) ≡ option_map (λ ts. (before ++ t ∷ []) ++ ts) o
@@ -14,11 +14,11 @@ pushed before t (Some ts) = ap (λ (l : List Token). Some l) (sym (append_assoc 
 pub entry_none : (column : ℕ) (cs : List ℕ) → key cs ≡ None → value_tokens (2 * column + 1) cs ≡ entry_tokens column cs
 entry_none column cs is = rw is refl
 
-pub entry_some : (column : ℕ) (cs k rest more name : List ℕ) (before after : List Token) → key cs ≡ Some (k, rest) → name ≡ encode_utf8_all k → more ≡ without_spaces rest
+pub entry_some : (column : ℕ) (cs k rest more name : List ℕ) (before after : List Token) → key cs ≡ Some (k, rest) → name ≡ encode_utf8_all k → more ≡ without_blanks rest
     → after ≡ before ++ Begin (2 * column + 1) (Key name) ∷ []
     → option_map (λ ts. after ++ ts) (behind_key (2 * column + 2) more) ≡ option_map (λ ts. before ++ ts) (entry_tokens column cs)
 entry_some column cs k rest more name before after is named spaced so =
-    rw (is, spaced, so, named) (sym (pushed before (Begin (2 * column + 1) (Key (encode_utf8_all k))) (behind_key (2 * column + 2) (without_spaces rest))))
+    rw (is, spaced, so, named) (sym (pushed before (Begin (2 * column + 1) (Key (encode_utf8_all k))) (behind_key (2 * column + 2) (without_blanks rest))))
 
 dash_is : (column c : ℕ) (more : List ℕ) → (c == 32) ≡ false → is_dash c more ≡ true → tokens_at column (c ∷ more) ≡ option_map (λ ts. Begin (2 * column + 2) Dash ∷ ts) (tokens_at (column + 1) more)
 dash_is column c more other is = rw (other, is) refl

@@ -60,7 +60,7 @@ behind_key q [] = Some []
 behind_key q (c ∷ cs) = value_tokens q (c ∷ cs)
 
 abbrev pub entry_by : ℕ → List ℕ → Option (List ℕ × List ℕ) → Option (List Token)
-entry_by column cs (Some k) = option_map (λ ts. Begin (2 * column + 1) (Key (encode_utf8_all k.0)) ∷ ts) (behind_key (2 * column + 2) (without_spaces k.1))
+entry_by column cs (Some k) = option_map (λ ts. Begin (2 * column + 1) (Key (encode_utf8_all k.0)) ∷ ts) (behind_key (2 * column + 2) (without_blanks k.1))
 entry_by column cs None = value_tokens (2 * column + 1) cs
 
 -- `KEY:`, `KEY: VALUE` or a value

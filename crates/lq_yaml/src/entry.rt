@@ -2,7 +2,7 @@ ghost use Rattle.std.specs.Prelude.{◌≡◌, ℕ, ◌+◌, ◌*◌, ◌<◌, �
 ghost use Rattle.lq_yaml.specs.Line.{is_end, colon, value_if, scalar_token, behind_pair, header, value_token, value_tokens, key, behind_key, entry_tokens, is_dash, tokens_at};
 ghost use Rattle.lq_yaml.specs.Follows.{Gives};
 
-use crate::chars::{begins_with, is_blank, is_word_end, text_of, without_blanks, without_spaces};
+use crate::chars::{begins_with, is_blank, is_word_end, text_of, without_blanks};
 use crate::front::front_of;
 use crate::token::{Head, Token};
 use lq_base::{Items, NoMemory};
@@ -151,7 +151,7 @@ fn with_entry(
         Some((chars, rest)) => {
             let key = text_of(alloc, chars.as_slice())?;
             tokens.push(Token::Begin(2 * column + 1, Head::Key(key)))?;
-            with_rest(alloc, 2 * column + 2, without_spaces(rest), tokens)
+            with_rest(alloc, 2 * column + 2, without_blanks(rest), tokens)
         }
         None => with_value(alloc, 2 * column + 1, from, tokens),
     }

@@ -98,6 +98,7 @@ fn collections_are_read(rt: HostRuntime) -> Result<(), Fail> {
         ("- a:\n  - 1\n  b: 2\n", "[{a:[1 ] b:2 } ]"),
         ("-\n  a: 1\n-\n  - 2\n", "[{a:1 } [2 ] ]"),
         ("a:\n  x\nb:\n  []\nc:\n  'q'\n", "{a:'x' b:[] c:'q' }"),
+        ("a: \tx\t\nb: \t[]\n", "{a:'x' b:[] }"),
         (
             "# c\n\n---\n# d\na: 1 # e\n\t# f\n \t\nb: 2\n",
             "{a:1 b:2 }",

@@ -8,7 +8,7 @@ pub returns-in_ok-push-in-Some : goal.returns-in_ok-push-in-Some
 returns-in_ok-push-in-Some c =
     let some : key c.args.from.now ≡ Some (c.in-Some.chars.items, c.in-Some.rest.now) = search rules in
     subst (λ (o : Option (List Token)). IfOk c.with_rest.result (λ v. option_map (λ v. v.items) v ≡ o))
-    (entry_some c.args.column c.args.from.now _ c.in-Some.rest.now _ c.in_ok-key-in-Some.key c.args.tokens.items _ some (search rules) c.without_spaces.ensures.rest c.in_ok-push-in-Some.ensures.items)
+    (entry_some c.args.column c.args.from.now _ c.in-Some.rest.now _ c.in_ok-key-in-Some.key c.args.tokens.items _ some (search rules) c.without_blanks.ensures.rest c.in_ok-push-in-Some.ensures.items)
     c.with_rest.ensures
 
 pub returns-in-None : goal.returns-in-None
