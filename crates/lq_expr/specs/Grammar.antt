@@ -64,10 +64,11 @@ inside [] = None
 inside (word.Close ∷ []) = Some []
 inside (w ∷ ws) = option_map (λ more. w ∷ more) (inside ws)
 
+-- the name, unless it begins with `@`
 abbrev pub named : List ℕ → Option Expr
 named n = if starts_with nat_eq n (codes "@") then None else Some (expr.Name n)
 
--- a word that is a name and does not begin with `@`
+-- one word that is a name
 abbrev pub name : List Word → Option Expr
 name (word.Name n ∷ []) = named n
 name _ = None
@@ -79,6 +80,7 @@ factor (suc levels) (word.Not ∷ ws) = option_map expr.Not (factor levels ws)
 factor (suc levels) (word.Open ∷ ws) = option_and_then (expression (factor levels)) (inside ws)
 factor (suc levels) ws = name ws
 
+-- `NotExpr` where there is none
 abbrev pub or_fault : Option Expr → Result Expr ExprFault
 or_fault (Some e) = Ok e
 or_fault None = Err NotExpr
