@@ -8,3 +8,4 @@ pub mod Pushed
 pub mod Views
 pub mod Runs
 pub mod Files
+pub mod Trees

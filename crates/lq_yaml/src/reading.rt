@@ -1,6 +1,7 @@
 ghost use Rattle.std.specs.Prelude.{◌≡◌, ◌↔◌, ℕ, ◌<◌, ◌≤◌, ◌^◌, IfOk, IfErr, Err, length, map, chars};
 ghost use Rattle.std.specs.Str.Lines.{lines};
 ghost use Rattle.std.specs.Str.{IsUtf8};
+ghost use Rattle.lq_tree.specs.Tree.{IsTree};
 ghost use Rattle.lq_yaml.specs.declared.fault.YamlFault.TheVariants.{NotUtf8, Line, TooDeep};
 ghost use Rattle.lq_yaml.specs.DeepView.{state_of, shown_lines};
 ghost use Rattle.lq_yaml.specs.File.{lines_of, IsRead, IsWrong, IsTooDeep, Blames};
@@ -90,6 +91,7 @@ fn read_text(alloc: Global, text: &str) -> Result<Node, YamlFault>
 pub fn read_yaml(alloc: Global, bytes: &[u8]) -> Result<Node, YamlFault>
     requires { length bytes.now ≤ 16_777_216 }
     ensures tree { IfOk result (λ node. IsRead (lines_of bytes.now) node) }
+    ensures order { IfOk result IsTree }
     ensures not_utf8 { (result ≡ Err NotUtf8) ↔ ¬ (IsUtf8 bytes.now) }
     ensures line { (n : ℕ) → result ≡ Err (Line n) → IsWrong (lines_of bytes.now) n }
     ensures deep { result ≡ Err TooDeep → IsTooDeep (lines_of bytes.now) }

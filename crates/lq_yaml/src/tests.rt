@@ -103,7 +103,7 @@ fn collections_are_read(rt: HostRuntime) -> Result<(), Fail> {
             "# c\n\n---\n# d\na: 1 # e\n\t# f\n \t\nb: 2\n",
             "{a:1 b:2 }",
         ),
-        ("--- \n  a :  x  \n  'b' : 1\n", "{a:'x' b:1 }"),
+        ("--- \n  a : \t x  \n  'b' : 1\t\n", "{a:'x' b:1 }"),
         (
             "null: 1\n1: 2\n\"\": 3\n\u{feff}: 4\n",
             "{:3 1:2 null:1 \u{feff}:4 }",

@@ -1,7 +1,8 @@
-use Rattle.std.proofs.Common.{rules, refl, IfErr}
+use Rattle.std.proofs.Common.{rules, refl, IfErr, IfOk}
 use Rattle.std.specs.Str.{IsUtf8}
-use Rattle.lq_yaml.specs.File.{lines_of, Blames}
+use Rattle.lq_yaml.specs.File.{lines_of, Blames, IsRead}
 use Rattle.lq_yaml.proofs.Files.{utf8}
+use Rattle.lq_yaml.proofs.Trees.{ordered}
 use Rattle.lq_yaml.proofs.reading.read_yaml.Goals as goal
 
 pub returns-in-Ok-clause-not_utf8 : goal.returns-in-Ok-clause-not_utf8
@@ -14,3 +15,8 @@ pub returns-in-Err-clause-not_utf8 : goal.returns-in-Err-clause-not_utf8
 returns-in-Err-clause-not_utf8 c =
     let bad : ¬ IsUtf8 c.args.bytes.now = search rules in
     (λ e. bad, λ e. refl)
+
+pub returns-in-Ok-clause-order : goal.returns-in-Ok-clause-order
+returns-in-Ok-clause-order c =
+    let ok : IfOk c.read_text.result (λ node. IsRead (lines_of c.args.bytes.now) node) = search rules in
+    ordered (lines_of c.args.bytes.now) c.read_text.result ok
