@@ -1,6 +1,7 @@
 -- What is read is laid out, and the line at which the reader stops is the least.
-use Rattle.std.proofs.Common.{◌≡◌, ℕ, ◌<◌, ◌≤◌, ◌+◌, ◌-◌, max, Bool, true, false, cond, length, take, get_or, arith, List, [], ◌∷◌, ◌++◌, Option, Some, None, option_and_then, option_map, refl, sym, ap, subst, ◌∙◌, chars, map, ◌==◌, Result, Ok, Err, IfErr, ◌↔◌}
-use Rattle.std.proofs.lemmas.List.{append-nil, take_more, map-append, take-map, length-map}
+use Rattle.std.proofs.Common.{◌≡◌, ℕ, ◌<◌, ◌≤◌, ◌+◌, ◌-◌, max, Bool, true, false, cond, length, take, get_or, arith, List, [], ◌∷◌, ◌++◌, Option, Some, None, option_and_then, option_map, refl, sym, ap, subst, ◌∙◌, chars, map, ◌==◌, nat_le, Result, Ok, Err, IfOk, IfErr, ◌↔◌, drop, ◌⊎◌, inl, inr}
+use Rattle.std.proofs.lemmas.Bool.{leb-true, leb-false}
+use Rattle.std.proofs.lemmas.List.{append-nil, take_more, map-append, take-map, length-map, take-append-drop}
 use Rattle.std.proofs.Math.Seq.{take-length}
 use Rattle.std.proofs.lemmas.List.Splits.{length-slice_split}
 use Rattle.std.proofs.lemmas.List.Sums.{count_by-le-length}
@@ -267,3 +268,23 @@ utf8 bytes ls (Err NotUtf8) is h = absurd h
 utf8 bytes ls (Err (Line n)) is h = (λ e. absurd cc, λ bad. absurd (bad is))
 utf8 bytes ls (Err TooDeep) is h = (λ e. absurd cc, λ bad. absurd (bad is))
 utf8 bytes ls (Err OutOfMemory) is h = (λ e. absurd cc, λ bad. absurd (bad is))
+
+-- ---- what is laid out is read
+
+all_of : (n : ℕ) (ls : List (List ℕ)) (node : Node) → IsRead ls node → Begins (take n ls)
+all_of n ls node r = (drop n ls, r.0, r.2, subst (λ (l : List (List ℕ)). IsLaidOut l r.0) (sym (take-append-drop n ls)) r.1)
+
+not_least_by : (ls : List (List ℕ)) (n : ℕ) (node : Node) (b : Bool) → nat_le n (length ls) ≡ b → IsLeast ls n → IsRead ls node → ⊥
+not_least_by ls n node true is l r = l.none (leb-true n (length ls) is) (all_of n ls node r)
+not_least_by ls n node false is l r = l.end (leb-false n (length ls) is) r.0 r.2 r.1
+
+not_least : (ls : List (List ℕ)) (n : ℕ) (node : Node) → IsLeast ls n → IsRead ls node → ⊥
+not_least ls n node = not_least_by ls n node (nat_le n (length ls)) refl
+
+-- where lines lay out a node, it is the answer, or memory ran out
+pub whole : (ls : List (List ℕ)) (r : Result Node YamlFault) (node : Node) → IfOk r (λ found. IsRead ls found) → IfErr r (Blames ls) → IsRead ls node → (r ≡ Ok node) ⊎ (r ≡ Err OutOfMemory)
+whole ls (Ok found) node ok err r = inl (ap Ok (sym ok.3 ∙ one_tree ls ok.0 r.0 ok.1 r.1 ∙ r.3))
+whole ls (Err NotUtf8) node ok err r = absurd err
+whole ls (Err (Line n)) node ok err r = absurd (not_least ls n node err.least r)
+whole ls (Err TooDeep) node ok err r = absurd (not_least ls err.line node err.least r)
+whole ls (Err OutOfMemory) node ok err r = inr refl

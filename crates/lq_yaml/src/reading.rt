@@ -1,8 +1,9 @@
-ghost use Rattle.std.specs.Prelude.{◌≡◌, ◌↔◌, ℕ, ◌<◌, ◌≤◌, ◌^◌, IfOk, IfErr, Err, length, map, chars};
+ghost use Rattle.std.specs.Prelude.{◌≡◌, ◌↔◌, ◌⊎◌, ℕ, ◌<◌, ◌≤◌, ◌^◌, IfOk, IfErr, Ok, Err, length, map, chars};
 ghost use Rattle.std.specs.Str.Lines.{lines};
 ghost use Rattle.std.specs.Str.{IsUtf8};
 ghost use Rattle.lq_tree.specs.Tree.{IsTree};
-ghost use Rattle.lq_yaml.specs.declared.fault.YamlFault.TheVariants.{NotUtf8, Line, TooDeep};
+ghost use Rattle.lq_tree.specs.declared.node.Node.{Node};
+ghost use Rattle.lq_yaml.specs.declared.fault.YamlFault.TheVariants.{NotUtf8, Line, TooDeep, OutOfMemory};
 ghost use Rattle.lq_yaml.specs.DeepView.{state_of, shown_lines};
 ghost use Rattle.lq_yaml.specs.File.{lines_of, IsRead, IsWrong, IsTooDeep, Blames};
 ghost use Rattle.lq_yaml.specs.LineMachine.{line_step, file_start};
@@ -91,6 +92,7 @@ fn read_text(alloc: Global, text: &str) -> Result<Node, YamlFault>
 pub fn read_yaml(alloc: Global, bytes: &[u8]) -> Result<Node, YamlFault>
     requires { length bytes.now ≤ 16_777_216 }
     ensures tree { IfOk result (λ node. IsRead (lines_of bytes.now) node) }
+    ensures whole { (node : Node) → IsUtf8 bytes.now → IsRead (lines_of bytes.now) node → (result ≡ Ok node) ⊎ (result ≡ Err OutOfMemory) }
     ensures order { IfOk result IsTree }
     ensures not_utf8 { (result ≡ Err NotUtf8) ↔ ¬ (IsUtf8 bytes.now) }
     ensures line { (n : ℕ) → result ≡ Err (Line n) → IsWrong (lines_of bytes.now) n }

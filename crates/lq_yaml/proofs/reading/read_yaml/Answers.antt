@@ -1,7 +1,7 @@
 use Rattle.std.proofs.Common.{rules, refl, IfErr, IfOk}
 use Rattle.std.specs.Str.{IsUtf8}
 use Rattle.lq_yaml.specs.File.{lines_of, Blames, IsRead}
-use Rattle.lq_yaml.proofs.Files.{utf8}
+use Rattle.lq_yaml.proofs.Files.{utf8, whole}
 use Rattle.lq_yaml.proofs.Trees.{ordered}
 use Rattle.lq_yaml.proofs.reading.read_yaml.Goals as goal
 
@@ -20,3 +20,14 @@ pub returns-in-Ok-clause-order : goal.returns-in-Ok-clause-order
 returns-in-Ok-clause-order c =
     let ok : IfOk c.read_text.result (λ node. IsRead (lines_of c.args.bytes.now) node) = search rules in
     ordered (lines_of c.args.bytes.now) c.read_text.result ok
+
+pub returns-in-Ok-clause-whole : goal.returns-in-Ok-clause-whole
+returns-in-Ok-clause-whole c node utf r =
+    let ok : IfOk c.read_text.result (λ node. IsRead (lines_of c.args.bytes.now) node) = search rules in
+    let err : IfErr c.read_text.result (λ fault. Blames (lines_of c.args.bytes.now) fault) = search rules in
+    whole (lines_of c.args.bytes.now) c.read_text.result node ok err r
+
+pub returns-in-Err-clause-whole : goal.returns-in-Err-clause-whole
+returns-in-Err-clause-whole c node utf r =
+    let bad : ¬ IsUtf8 c.args.bytes.now = search rules in
+    absurd (bad utf)
