@@ -2,11 +2,13 @@
 use Rattle.std.proofs.Common.{ℕ, ◌≤◌, ◌+◌, Bor, length, arith, ◌≡◌, ◌∙◌, ◌++◌, Bool, true, false, List, [], ◌∷◌, map, refl, sym, ap}
 use Rattle.std.proofs.lemmas.List.{append_assoc, append-nil}
 use Rattle.std.specs.List.{flat_map}
+use Rattle.lq_model.proofs.Lists.{true_false}
 use Rattle.lq_model.specs.Script.{Call, Made, alone, commit, commits, commits_after, entries, execute, if_any, statements_in}
 use Rattle.lq_model.specs.declared.caller.By.{By}
 use Rattle.lq_model.specs.declared.caller.By.TheVariants.{Program, User}
 use Rattle.lq_model.specs.declared.caller.Room.TheVariants.{Release}
 use Rattle.lq_model.specs.declared.statement.Statement.{Statement}
+use Rattle.lq_create.specs.Changelog.{is_some_list}
 use Rattle.lq_create.specs.Script.{Turn, by_program, calls_of, closing, entry_of, opening, rollback_script, rollback_turn, script, update_script, update_turn, update_turns}
 use Rattle.lq_create.specs.declared.changelog.ChangeSet.{ChangeSet}
 use Rattle.lq_create.specs.declared.stamp.Stamp.{Stamp}
@@ -68,6 +70,10 @@ script_commits made stamp t ts =
   where
     last : List Call
     last = alone (by_program closing) Release ∷ []
+
+pub commits_of : (made : Bool) (stamp : Stamp) (turns : List Turn) → is_some_list turns ≡ true → commits (script made stamp turns) ≡ by_program (opening made stamp) ∷ map commit_of turns ++ by_program closing ∷ []
+commits_of made stamp [] some = true_false some refl
+commits_of made stamp (t ∷ ts) some = script_commits made stamp t ts
 
 -- the same as entries
 pub script_entries : (made : Bool) (stamp : Stamp) (t : Turn) (ts : List Turn) → entries (script made stamp (t ∷ ts)) ≡ opening made stamp ∷ map entry_of (t ∷ ts) ++ closing ∷ []

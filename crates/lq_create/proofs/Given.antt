@@ -15,14 +15,14 @@ use Rattle.lq_create.specs.Parts.{each, only}
 use Rattle.lq_create.specs.declared.changelog.ChangeSet.{ChangeSet}
 use Rattle.lq_create.specs.declared.changelog.CreatedTable.{CreatedTable}
 
-some_same : {A : Type 0} {x y : A} → (let o : Option A = Some x in o) ≡ Some y → x ≡ y
+pub some_same : {A : Type 0} {x y : A} → (let o : Option A = Some x in o) ≡ Some y → x ≡ y
 some_same e = Prim.cc
 
-map_some : {A B : Type 0} (f : A → B) (o : Option A) (y : B) → option_map f o ≡ Some y → (x : A) × (o ≡ Some x) × (f x ≡ y)
+pub map_some : {A B : Type 0} (f : A → B) (o : Option A) (y : B) → option_map f o ≡ Some y → (x : A) × (o ≡ Some x) × (f x ≡ y)
 map_some f None y e = absurd Prim.cc
 map_some f (Some x) y e = (x, refl, some_same e)
 
-if_some : {A : Type 0} (test : Bool) (o : Option A) (y : A) → cond test o None ≡ Some y → (test ≡ true) × (o ≡ Some y)
+pub if_some : {A : Type 0} (test : Bool) (o : Option A) (y : A) → cond test o None ≡ Some y → (test ≡ true) × (o ≡ Some y)
 if_some true o y e = (refl, e)
 if_some false o y e = absurd Prim.cc
 
@@ -106,6 +106,7 @@ pub record AreGiven (sets : List ChangeSet) : Type 0 where
   pub few : nat_le (length sets) 10000 ≡ true
   pub labels : list_all has_labels sets ≡ true
   pub columns : list_all has_columns (created_tables sets) ≡ true
+  pub apart : repeats is_same_identity (identities sets) ≡ false
   pub differ : repeats is_text (table_names sets) ≡ false
   pub unreserved : list_any is_named_reserved (created_tables sets) ≡ false
 
@@ -127,6 +128,7 @@ given n sets e =
       few = and_left (nat_le (length sets) 10000) _ good;
       labels = all_labels sets each_good;
       columns = all_tables sets each_good;
+      apart = turned _ (and_left (not (repeats is_same_identity (identities sets))) _ after);
       differ = turned _ (and_left (not (repeats is_text (table_names sets))) _ names);
       unreserved = none_reserved sets (turned _ (and_right (not (repeats is_text (table_names sets))) _ names));
     }

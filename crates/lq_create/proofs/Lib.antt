@@ -1,5 +1,4 @@
 pub mod TablesMade
-pub mod CanMake
 pub mod Described
 pub mod Each
 pub mod Entries
@@ -18,3 +17,10 @@ pub mod Seen
 pub mod TrackedTables
 pub mod Unreserved
 pub mod UpdateRun
+pub mod Firm
+pub mod TablesRead
+pub mod RunOrder
+pub mod RowDeleted
+pub mod Holds
+pub mod TablesHeld
+pub mod NewSets

@@ -30,8 +30,7 @@ use Rattle.lq_track.specs.Columns.{text_or_null}
 use Rattle.lq_track.specs.Log.{log_column, log_name, log_order, log_table, log_value}
 use Rattle.lq_track.specs.declared.log_column.LogColumn.TheVariants as log
 use Rattle.lq_track.specs.Statements.{row_inserted}
-use Rattle.lq_create.proofs.TablesMade.{plain_settled}
-use Rattle.lq_create.proofs.TrackedTables.{Tracks, log_changed}
+use Rattle.lq_create.proofs.TrackedTables.{Tracks, log_changed, settled}
 use Rattle.lq_create.specs.Created.{is_plain_table}
 
 -- the table with these rows, and the values of a row
@@ -39,8 +38,8 @@ use Rattle.lq_create.specs.Created.{is_plain_table}
 abbrev pub log_columns : List Column
 log_columns = map column_of (map log_column log_order)
 
-abbrev pub log_of : List (List Value) → Table
-log_of rows = record { columns = log_columns; key = None; uniques = []; foreign = []; indexes = []; next = 1; rows = rows }
+abbrev pub log_at : ℕ → List (List Value) → Table
+log_at next rows = record { columns = log_columns; key = None; uniques = []; foreign = []; indexes = []; next = next; rows = rows }
 
 abbrev pub text_value : Option (List ℕ) → Value
 text_value None = value.Null
@@ -81,24 +80,24 @@ names = map log_name log_order
 abbrev literals : Tracked → List Literal
 literals row = map (log_value row) log_order
 
-module _ (row : Tracked) (rows : List (List Value)) where
-  values : GoesIn row → row_of names (literals row) (log_of rows) ≡ map (λ (w : Value). Ok w) (log_row row)
+module _ (row : Tracked) (next : ℕ) (rows : List (List Value)) where
+  values : GoesIn row → row_of names (literals row) (log_at next rows) ≡ map (λ (w : Value). Ok w) (log_row row)
   unfolding log_column log_order log_value
   values fits =
       goes fits.id (goes fits.author (goes fits.filename (goes fits.date (goes fits.order (goes fits.exec (goes fits.md5sum
       (goes fits.description (goes fits.comments (goes fits.tag (goes fits.tool (goes fits.contexts (goes fits.labels (goes fits.deployment refl)))))))))))))
 
-  added : GoesIn row → with_row Postgresql names (literals row) (log_of rows) ≡ log_of (rows ++ log_row row ∷ [])
+  added : GoesIn row → with_row Postgresql names (literals row) (log_at next rows) ≡ log_at next (rows ++ log_row row ∷ [])
   unfolding log_column log_order log_value
-  added fits = ap (λ vs. log_of (rows ++ map value_in vs ∷ [])) (values fits)
+  added fits = ap (λ vs. log_at next (rows ++ map value_in vs ∷ [])) (values fits)
 
-  none_wrong : GoesIn row → list_any is_wrong (row_of names (literals row) (log_of rows)) ≡ false
+  none_wrong : GoesIn row → list_any is_wrong (row_of names (literals row) (log_at next rows)) ≡ false
   none_wrong fits = ap (list_any is_wrong) (values fits)
 
-  none_wide : GoesIn row → list_any is_wide (row_of names (literals row) (log_of rows)) ≡ false
+  none_wide : GoesIn row → list_any is_wide (row_of names (literals row) (log_at next rows)) ≡ false
   none_wide fits = ap (list_any is_wide) (values fits)
 
-  columns_there : column_missing (log_of rows) names ≡ false
+  columns_there : column_missing (log_at next rows) names ≡ false
   unfolding log_column log_order
   columns_there = refl
 
@@ -111,39 +110,39 @@ no_bad_nulls : (rows : List Tracked) → list_any (has_bad_null log_columns) (lo
 no_bad_nulls [] = refl
 no_bad_nulls (row ∷ rows) = or_false _ _ (no_bad_null row) (no_bad_nulls rows)
 
-pub log_plain : (rows : List Tracked) → nat_le (length (log_rows rows)) 100000 ≡ true → is_plain_table (log_of (log_rows rows)) ≡ true
-log_plain rows few = and_true _ _ (ap not (no_bad_nulls rows)) (ap (λ b. not (not b)) few)
+pub log_plain : (next : ℕ) (rows : List Tracked) → nat_le (length (log_rows rows)) 100000 ≡ true → is_plain_table (log_at next (log_rows rows)) ≡ true
+log_plain next rows few = and_true _ _ (ap not (no_bad_nulls rows)) (ap (λ b. not (not b)) few)
 
-module _ (row : Tracked) (rows : List Tracked) (c users : Catalogue) (lock : Table) (so : Tracks c users (log_of (log_rows rows)) lock) (fits : GoesIn row) (few : nat_le (length (log_rows (rows ++ row ∷ []))) 100000 ≡ true) where
+module _ (row : Tracked) (next : ℕ) (rows : List Tracked) (c users : Catalogue) (lock : Table) (so : Tracks c users (log_at next (log_rows rows)) lock) (fits : GoesIn row) (few : nat_le (length (log_rows (rows ++ row ∷ []))) 100000 ≡ true) where
   abbrev pub after : Catalogue
-  after = with_table c log_table (log_of (log_rows (rows ++ row ∷ [])))
+  after = with_table c log_table (log_at next (log_rows (rows ++ row ∷ [])))
 
-  pub tracks_after : Tracks after users (log_of (log_rows (rows ++ row ∷ []))) lock
-  tracks_after = log_changed c users (log_of (log_rows rows)) (log_of (log_rows (rows ++ row ∷ []))) lock so (log_plain (rows ++ row ∷ []) few)
+  pub tracks_after : Tracks after users (log_at next (log_rows (rows ++ row ∷ []))) lock
+  tracks_after = log_changed c users (log_at next (log_rows rows)) (log_at next (log_rows (rows ++ row ∷ []))) lock so (log_plain next (rows ++ row ∷ []) few)
 
   the_plan : Plan
   the_plan = insert Program Postgresql log_table names (literals row) c
 
-  the_is : the_table c log_table ≡ log_of (log_rows rows)
+  the_is : the_table c log_table ≡ log_at next (log_rows rows)
   the_is = ap (λ o. unwrap_or o no_table) so.log_is
 
   result_same : the_plan.result ≡ after
   unfolding the_plan log_column log_order
   result_same =
       ap (λ (it : Table). with_table c log_table (with_row Postgresql names (literals row) it)) the_is
-      ∙ ap (with_table c log_table) (added row (log_rows rows) fits ∙ ap log_of (sym (map_append_one log_row rows row)))
+      ∙ ap (with_table c log_table) (added row next (log_rows rows) fits ∙ ap (log_at next) (sym (map_append_one log_row rows row)))
 
   nothing_against : IsFree the_plan
   unfolding the_plan log_column log_order log_value
   nothing_against = record {
     reserved = refl;
-    missing = or_false _ _ (ap is_none so.log_is) (ap (λ (it : Table). column_missing it names) the_is ∙ columns_there row (log_rows rows));
+    missing = or_false _ _ (ap is_none so.log_is) (ap (λ (it : Table). column_missing it names) the_is ∙ columns_there row next (log_rows rows));
     exists = refl;
     depends = refl;
-    wrong = ap (λ (it : Table). list_any is_wrong (row_of names (literals row) it)) the_is ∙ none_wrong row (log_rows rows) fits;
-    wide = ap (λ (it : Table). list_any is_wide (row_of names (literals row) it)) the_is ∙ none_wide row (log_rows rows) fits;
+    wrong = ap (λ (it : Table). list_any is_wrong (row_of names (literals row) it)) the_is ∙ none_wrong row next (log_rows rows) fits;
+    wide = ap (λ (it : Table). list_any is_wide (row_of names (literals row) it)) the_is ∙ none_wide row next (log_rows rows) fits;
   }
 
   pub row_accepted : step Program Postgresql (row_inserted row) c ≡ Ok (after, 1)
   unfolding the_plan
-  row_accepted = settles the_plan (subst IsSettled (sym result_same) (plain_settled after tracks_after.plain)) nothing_against ∙ ap (λ e. Ok (e, 1)) result_same
+  row_accepted = settles the_plan (subst IsSettled (sym result_same) (settled after users (log_at next (log_rows (rows ++ row ∷ []))) lock tracks_after)) nothing_against ∙ ap (λ e. Ok (e, 1)) result_same

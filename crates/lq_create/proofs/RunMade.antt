@@ -10,10 +10,10 @@ use Rattle.lq_model.specs.declared.caller.By.{By}
 use Rattle.lq_model.specs.declared.statement.Statement.{Statement}
 use Rattle.lq_create.specs.Committed.{run_commits, run_made}
 
-ok_same : {x y : Catalogue} → (let r : Result Catalogue Reason = Ok x in r) ≡ Ok y → x ≡ y
+pub ok_same : {x y : Catalogue} → (let r : Result Catalogue Reason = Ok x in r) ≡ Ok y → x ≡ y
 ok_same e = Prim.cc
 
-not_ok : {r : Reason} {y : Catalogue} → (let z : Result Catalogue Reason = Err r in z) ≡ Ok y → ⊥
+pub not_ok : {r : Reason} {y : Catalogue} → (let z : Result Catalogue Reason = Err r in z) ≡ Ok y → ⊥
 not_ok e = Prim.cc
 
 module _ (d : Dialect) where

@@ -30,7 +30,7 @@ use Rattle.lq_model.specs.declared.column.Column.{Column}
 use Rattle.lq_model.specs.declared.column.ColumnDef.{ColumnDef}
 use Rattle.lq_model.specs.declared.statement.Statement.{Statement}
 use Rattle.lq_create.specs.Changelog.{are_columns}
-use Rattle.lq_create.specs.Created.{CreatesTables, is_plain, is_plain_table, is_unfree, made_column, made_table}
+use Rattle.lq_create.specs.Created.{CreatesTables, is_plain, is_plain_table, is_unfree, made_column, made_table, with_tables}
 use Rattle.lq_create.specs.Distinct.{repeats}
 use Rattle.lq_create.specs.Statements.{created, def_of}
 use Rattle.lq_create.specs.declared.changelog.CreatedColumn.{CreatedColumn}
@@ -50,7 +50,7 @@ all_insert p (e ∷ es) t it all new =
 
 -- a plain catalogue passes the tests of a result
 
-no_foreign : {A : Type 0} (q : A → Bool) (xs : List A) → is_empty xs ≡ true → list_any q xs ≡ false
+pub no_foreign : {A : Type 0} (q : A → Bool) (xs : List A) → is_empty xs ≡ true → list_any q xs ≡ false
 no_foreign q [] h = refl
 no_foreign q (x ∷ xs) h = absurd (true≢false (sym h))
 
@@ -59,29 +59,29 @@ turned true h = sym h
 turned false h = refl
 
 module _ (it : Table) (plain : is_plain_table it ≡ true) where
-  no_keys : is_empty it.foreign ≡ true
+  pub no_keys : is_empty it.foreign ≡ true
   no_keys = and_left (is_empty it.foreign) _ plain
 
   rest : (not (table_has_null it) && (not (table_has_twins it) && not (is_full it))) ≡ true
   rest = and_right (is_empty it.foreign) _ plain
 
-  firm : table_has_null it ≡ false
-  firm = turned _ (and_left (not (table_has_null it)) _ rest)
+  pub no_nulls : table_has_null it ≡ false
+  no_nulls = turned _ (and_left (not (table_has_null it)) _ rest)
 
   others : (not (table_has_twins it) && not (is_full it)) ≡ true
   others = and_right (not (table_has_null it)) _ rest
 
-  apart : table_has_twins it ≡ false
-  apart = turned _ (and_left (not (table_has_twins it)) _ others)
+  pub no_equals : table_has_twins it ≡ false
+  no_equals = turned _ (and_left (not (table_has_twins it)) _ others)
 
-  small : is_full it ≡ false
+  pub small : is_full it ≡ false
   small = turned _ (and_right (not (table_has_twins it)) _ others)
 
 pub plain_settled : (c : Catalogue) → is_plain c ≡ true → IsSettled c
 plain_settled c plain = record {
   aimed = any_none (λ (e : Name × Table). list_any (misses_target c) e.1.foreign) (λ e. is_plain_table e.1) c.tables (λ e h. no_foreign (misses_target c) e.1.foreign (no_keys e.1 h)) plain;
-  no_null = any_none (λ (e : Name × Table). table_has_null e.1) (λ e. is_plain_table e.1) c.tables (λ e h. firm e.1 h) plain;
-  no_twins = any_none (λ (e : Name × Table). table_has_twins e.1) (λ e. is_plain_table e.1) c.tables (λ e h. apart e.1 h) plain;
+  no_null = any_none (λ (e : Name × Table). table_has_null e.1) (λ e. is_plain_table e.1) c.tables (λ e h. no_nulls e.1 h) plain;
+  no_twins = any_none (λ (e : Name × Table). table_has_twins e.1) (λ e. is_plain_table e.1) c.tables (λ e h. no_equals e.1 h) plain;
   parents = any_none (λ (e : Name × Table). has_orphan c e.1) (λ e. is_plain_table e.1) c.tables (λ e h. no_foreign _ e.1.foreign (no_keys e.1 h)) plain;
   small = any_none (λ (e : Name × Table). is_full e.1) (λ e. is_plain_table e.1) c.tables (λ e h. small e.1 h) plain;
 }
@@ -188,14 +188,14 @@ module _ (by : By) (c : Catalogue) (t : CreatedTable) where
   named_once : are_columns t.columns ≡ true → repeats_name (map (λ (d : Column). d.name) (map (key_column None) (map column_of (map def_of t.columns)))) ≡ false
   named_once h = ap (λ cs. repeats_name (map (λ (d : Column). d.name) cs)) (stated_columns t.columns) ∙ differing t.columns h
 
+  pub stated_result : (create_table by Postgresql t.name (map def_of t.columns) None [] [] c).result ≡ with_new c t.name (made_table t)
+  stated_result = ap (λ cs. with_new c t.name (bare cs)) (stated_columns t.columns)
+
   result_same : the_plan.result ≡ with_new c t.name (made_table t)
   unfolding the_plan
-  result_same = ap (λ cs. with_new c t.name (bare cs)) (stated_columns t.columns)
+  result_same = stated_result
 
-  module _ (plain : is_plain c ≡ true) (free : is_unfree by c t ≡ false) (columns : are_columns t.columns ≡ true) where
-    plain_after : is_plain (with_new c t.name (made_table t)) ≡ true
-    plain_after = all_insert is_plain_table c.tables t.name (made_table t) plain refl
-
+  module _ (free : is_unfree by c t ≡ false) (columns : are_columns t.columns ≡ true) where
     nothing_against : IsFree the_plan
     unfolding the_plan
     nothing_against = record {
@@ -209,9 +209,12 @@ module _ (by : By) (c : Catalogue) (t : CreatedTable) where
       wide = not_wide;
     }
 
-    accepted_one : step by Postgresql (created t) c ≡ Ok (with_new c t.name (made_table t), 0)
+    pub accepted_one : IsSettled (with_new c t.name (made_table t)) → step by Postgresql (created t) c ≡ Ok (with_new c t.name (made_table t), 0)
     unfolding the_plan
-    accepted_one = settles the_plan (subst IsSettled (sym result_same) (plain_settled _ plain_after)) nothing_against ∙ ap (λ e. Ok (e, 0)) result_same
+    accepted_one tested = settles the_plan (subst IsSettled (sym result_same) tested) nothing_against ∙ ap (λ e. Ok (e, 0)) result_same
+
+  plain_after : is_plain c ≡ true → is_plain (with_new c t.name (made_table t)) ≡ true
+  plain_after plain = all_insert is_plain_table c.tables t.name (made_table t) plain refl
 
 -- what is free stays so beside a table of another name
 pub unfree_after : (by : By) (c : Catalogue) (t : CreatedTable) (ts : List CreatedTable) → list_any (is_text t.name) (map (λ (x : CreatedTable). x.name) ts) ≡ false
@@ -226,16 +229,25 @@ unfree_after by c t (x ∷ xs) other free =
     (still_free x.name t.name (made_table t) c (other_way t.name x.name (or_left (is_named t.name x.name) _ other)) refl (or_right (takes_lock_key by Postgresql (x.name ∷ [])) _ taken))))
     (unfree_after by c t xs (or_right (is_named t.name x.name) _ other) (or_right (is_unfree by c x) _ free))
 
-run_next : (by : By) (s : Statement) (ss : List Statement) (c e : Catalogue) (n : ℕ) → step by Postgresql s c ≡ Ok (e, n) → run by Postgresql (s ∷ ss) c ≡ run by Postgresql ss e
+pub run_next : (by : By) (s : Statement) (ss : List Statement) (c e : Catalogue) (n : ℕ) → step by Postgresql s c ≡ Ok (e, n) → run by Postgresql (s ∷ ss) c ≡ run by Postgresql ss e
 run_next by s ss c e n is = ap (λ (r : Result (Catalogue × ℕ) Reason). elim r [ Ok x ↦ run by Postgresql ss x.0 | Err x ↦ Err x ]) is
 
+-- where a catalogue passes the tests of a result, and does so with a table more
+module _ (by : By) (P : Catalogue → Type 0) (tested : (c : Catalogue) → P c → IsSettled c) (kept : (c : Catalogue) (t : CreatedTable) → P c → is_unfree by c t ≡ false → P (with_new c t.name (made_table t))) where
+  pub creates_in : (tables : List CreatedTable) (c : Catalogue) → P c → list_any (is_unfree by c) tables ≡ false
+      → repeats is_text (map (λ (t : CreatedTable). t.name) tables) ≡ false → list_all (λ (t : CreatedTable). are_columns t.columns) tables ≡ true
+      → (run by Postgresql (map created tables) c ≡ Ok (with_tables tables c)) × P (with_tables tables c)
+  creates_in [] c fine free differ columns = (refl, fine)
+  creates_in (t ∷ ts) c fine free differ columns =
+      let next = with_new c t.name (made_table t) in
+      let mine = or_left (is_unfree by c t) _ free in
+      let still = kept c t fine mine in
+      let one = accepted_one by c t mine (and_left (are_columns t.columns) _ columns) (tested next still) in
+      let more = creates_in ts next still
+      (unfree_after by c t ts (or_left (list_any (is_text t.name) (map (λ (x : CreatedTable). x.name) ts)) _ differ) (or_right (is_unfree by c t) _ free))
+      (or_right (list_any (is_text t.name) (map (λ (x : CreatedTable). x.name) ts)) _ differ)
+      (and_right (are_columns t.columns) _ columns) in
+      (run_next by (created t) (map created ts) c next 0 one ∙ more.0, more.1)
+
 pub creates : CreatesTables
-creates by [] c plain free differ columns = (refl, plain)
-creates by (t ∷ ts) c plain free differ columns =
-    let one = accepted_one by c t plain (or_left (is_unfree by c t) _ free) (and_left (are_columns t.columns) _ columns) in
-    let more = creates by ts (with_new c t.name (made_table t))
-    (plain_after by c t plain (or_left (is_unfree by c t) _ free) (and_left (are_columns t.columns) _ columns))
-    (unfree_after by c t ts (or_left (list_any (is_text t.name) (map (λ (x : CreatedTable). x.name) ts)) _ differ) (or_right (is_unfree by c t) _ free))
-    (or_right (list_any (is_text t.name) (map (λ (x : CreatedTable). x.name) ts)) _ differ)
-    (and_right (are_columns t.columns) _ columns) in
-    (run_next by (created t) (map created ts) c (with_new c t.name (made_table t)) 0 one ∙ more.0, more.1)
+creates by tables c plain = creates_in by (λ e. is_plain e ≡ true) plain_settled (λ e t h free. plain_after by e t h) tables c plain

@@ -1,32 +1,40 @@
 -- A catalogue with both tracking tables.
 use Rattle.std.proofs.Common.{ap, sym, ◌∙◌}
-use Rattle.std.proofs.lemmas.Map.{keys-set_value}
 use Rattle.std.specs.BTreeMap.{insert_entry}
 use Rattle.std.specs.FinMap.Entries.{below_all, is_sorted}
-use Rattle.std.specs.List.{flat_map, list_all, list_any}
+use Rattle.std.specs.List.{list_any}
 use Rattle.std.specs.Map.{lookup, remove_entry, set_value}
+use Rattle.std.specs.Option.{unwrap_or}
 use Rattle.std.specs.Ordering.{is_lt}
-use Rattle.std.specs.Prelude.{Bool, List, None, Option, Some, T, [], cond, false, map, refl, true, ◌&&◌, ◌++◌, ◌||◌, ◌∷◌, ◌≡◌}
+use Rattle.std.specs.Prelude.{Bool, List, None, Option, Some, T, [], cond, false, is_some, map, not, refl, true, ◌&&◌, ◌++◌, ◌∷◌, ◌≡◌}
 use Rattle.lq_base.specs.Name.{is_named, name_cmp}
 use Rattle.lq_base.specs.declared.dialect.Dialect.TheVariants.{Postgresql}
 use Rattle.lq_base.specs.declared.name.Name.{Name}
+use Rattle.lq_model.proofs.Absent.{any-flat_map}
+use Rattle.lq_model.proofs.CreateDrop.{remove_entry-insert_entry}
+use Rattle.lq_model.proofs.Decide.{IsSettled}
 use Rattle.lq_model.proofs.Kept.{lookup_other}
-use Rattle.lq_model.proofs.Lists.{and_left, and_right, and_true, or_left, or_right, other_way, same_name}
-use Rattle.lq_model.proofs.Maps.{lookup-insert_entry, lookup-remove_entry, lookup-set_value, same_maps, some_same, sorted-insert_entry, sorted-remove_entry}
-use Rattle.lq_model.specs.Catalogue.{Catalogue, Table, table_of, with_new, with_table}
+use Rattle.lq_model.proofs.Lists.{any-append, or_false, or_left, or_right, other_way, same_name, true_false}
+use Rattle.lq_model.proofs.Maps.{found, lookup-insert_entry, lookup-remove_entry, lookup-set_value, same_maps, some_same, sorted-insert_entry, sorted-remove_entry}
+use Rattle.lq_model.specs.Catalogue.{Catalogue, Table, no_table, table_of, the_table, with_new, with_table, without_table}
 use Rattle.lq_model.specs.NameSpaces.{is_taken, object_names}
-use Rattle.lq_model.specs.Names.{is_in}
-use Rattle.lq_model.specs.TableNames.{inner_names}
+use Rattle.lq_model.specs.Names.{is_in, same_names}
+use Rattle.lq_model.specs.ResultTests.{has_orphan, is_full, misses_target, table_has_null, table_has_twins}
+use Rattle.lq_model.specs.TableNames.{inner_names, target_lists}
+use Rattle.lq_model.specs.declared.constraint.ForeignKey.{ForeignKey}
 use Rattle.lq_track.specs.Database.{users_of}
 use Rattle.lq_track.specs.Lock.{lock_table}
 use Rattle.lq_track.specs.Log.{log_table}
-use Rattle.lq_create.proofs.TablesMade.{all_insert}
-use Rattle.lq_create.specs.Created.{is_plain, is_plain_table, made_table, with_tables}
-use Rattle.lq_create.specs.declared.changelog.CreatedTable.{CreatedTable}
+use Rattle.lq_create.proofs.Firm.{aimed_in, parents_in}
+use Rattle.lq_create.proofs.TablesMade.{no_equals, no_foreign, no_keys, no_nulls, small}
+use Rattle.lq_create.specs.Created.{is_plain_table}
+use Rattle.lq_create.specs.Started.{IsFirm}
 
 -- what the tracking tables are, and what the users' objects are
 pub record Tracks (c users : Catalogue) (log lock : Table) : Type 0 where
-  pub plain : is_plain c ≡ true
+  pub firm : IsFirm users
+  pub log_plain : is_plain_table log ≡ true
+  pub lock_plain : is_plain_table lock ≡ true
   pub ordered : T (is_sorted name_cmp c.tables)
   pub log_is : table_of c log_table ≡ Some log
   pub lock_is : table_of c lock_table ≡ Some lock
@@ -44,6 +52,51 @@ lookup_without : (es : Entries) (q : Name) → T (is_sorted name_cmp es) → loo
 lookup_without es q h =
     lookup-remove_entry lock_table (remove_entry (is_named log_table) es) q (sorted-remove_entry log_table es h)
     ∙ ap (cond (is_named lock_table q) None) (lookup-remove_entry log_table es q h)
+
+-- a test that fails for all but what is taken out, and for that
+none_restored : {K X : Type 0} (test : K → Bool) (p : K × X → Bool) (es : List (K × X)) → ((k : K) (x : X) → lookup test es ≡ Some x → p (k, x) ≡ false) → list_any p (remove_entry test es) ≡ false → list_any p es ≡ false
+none_restored test p [] taken none = refl
+none_restored test p (e ∷ es) taken none =
+    elim (test e.0) as (λ b. ((k : _) (x : _) → cond b (Some e.1) (lookup test es) ≡ Some x → p (k, x) ≡ false) → list_any p (cond b es (e ∷ remove_entry test es)) ≡ false → list_any p (e ∷ es) ≡ false) [
+      | true ↦ λ t n. or_false _ _ (t e.0 e.1 refl) n
+      | false ↦ λ t n. or_false _ _ (or_left (p e) _ n) (none_restored test p es t (or_right (p e) _ n))
+    ] taken none
+
+module _ (c users : Catalogue) (log lock : Table) (so : Tracks c users log lock) where
+  pub users_at : (q : Name) → table_of users q ≡ cond (is_named lock_table q) None (cond (is_named log_table q) None (table_of c q))
+  users_at q = ap (λ (u : Catalogue). table_of u q) (sym so.users_are) ∙ lookup_without c.tables q so.ordered
+
+  -- what none of the users' tables, and neither tracking table has
+  pub none_has : (p : Name × Table → Bool) → ((k : Name) → p (k, log) ≡ false) → ((k : Name) → p (k, lock) ≡ false) → list_any p users.tables ≡ false → list_any p c.tables ≡ false
+  unfolding log_table lock_table
+  none_has p on_log on_lock none =
+      none_restored (is_named log_table) p c.tables (λ k x is. ap (λ y. p (k, y)) (some_same (sym is ∙ so.log_is)) ∙ on_log k)
+      (none_restored (is_named lock_table) p (remove_entry (is_named log_table) c.tables)
+      (λ k x is. ap (λ y. p (k, y)) (some_same (sym is ∙ lookup-remove_entry log_table c.tables lock_table so.ordered ∙ so.lock_is)) ∙ on_lock k)
+      (ap (λ (u : Catalogue). list_any p u.tables) so.users_are ∙ none))
+
+  hits_at : (f : ForeignKey) (a b : Bool) (o : Option Table) → not (list_any (same_names f.targets) (target_lists (unwrap_or (cond a None (cond b None o)) no_table))) ≡ false → cond a None (cond b None o) ≡ o
+  hits_at f true b o h = true_false refl h
+  hits_at f false true o h = true_false refl h
+  hits_at f false false o h = refl
+
+  targets_same : (f : ForeignKey) → misses_target users f ≡ false → the_table c f.table ≡ the_table users f.table
+  targets_same f hits = ap (λ o. unwrap_or o no_table) (sym (users_at f.table
+      ∙ hits_at f (is_named lock_table f.table) (is_named log_table f.table) (table_of c f.table) (ap (λ o. not (list_any (same_names f.targets) (target_lists (unwrap_or o no_table)))) (sym (users_at f.table)) ∙ hits)))
+
+  abbrev keyless : (it : Table) → is_plain_table it ≡ true → (q : ForeignKey → Bool) → list_any q it.foreign ≡ false
+  keyless it plain q = no_foreign q it.foreign (no_keys it plain)
+
+  pub settled : IsSettled c
+  settled = record {
+    aimed = none_has (λ (e : Name × Table). list_any (misses_target c) e.1.foreign) (λ k. keyless log so.log_plain (misses_target c)) (λ k. keyless lock so.lock_plain (misses_target c))
+        (aimed_in users c targets_same users.tables so.firm.aimed);
+    no_null = none_has (λ (e : Name × Table). table_has_null e.1) (λ k. no_nulls log so.log_plain) (λ k. no_nulls lock so.lock_plain) so.firm.no_null;
+    no_twins = none_has (λ (e : Name × Table). table_has_twins e.1) (λ k. no_equals log so.log_plain) (λ k. no_equals lock so.lock_plain) so.firm.no_twins;
+    parents = none_has (λ (e : Name × Table). has_orphan c e.1) (λ k. keyless log so.log_plain _) (λ k. keyless lock so.lock_plain _)
+        (parents_in users c targets_same users.tables so.firm.aimed so.firm.parents);
+    small = none_has (λ (e : Name × Table). is_full e.1) (λ k. small log so.log_plain) (λ k. small lock so.lock_plain) so.firm.small;
+  }
 
 -- one that is found under its name is found where neither of the others is
 passed_by : (a b t : Bool) (found : Option Table) (x : Option Table) → (t ≡ true → (a ≡ false) × (b ≡ false)) → cond a None (cond b None (cond t found x)) ≡ cond t found (cond a None (cond b None x))
@@ -68,25 +121,50 @@ module _ (t : Name) (it : Table) (not_log : is_named t log_table ≡ false) (not
       ∙ ap (cond (is_named q t) (Some it)) (sym (lookup_without es q h))
       ∙ sym (lookup-insert_entry (without es) t it q))
 
-  pub beside : (c users : Catalogue) (log lock : Table) → Tracks c users log lock → is_plain_table it ≡ true → Tracks (with_new c t it) (with_new users t it) log lock
-  beside c users log lock so plain = record {
-    plain = all_insert is_plain_table c.tables t it so.plain plain;
+  pub beside : (c users : Catalogue) (log lock : Table) → Tracks c users log lock → IsFirm (with_new users t it) → Tracks (with_new c t it) (with_new users t it) log lock
+  beside c users log lock so firm = record {
+    firm = firm;
+    log_plain = so.log_plain;
+    lock_plain = so.lock_plain;
     ordered = sorted-insert_entry c.tables t it so.ordered;
     log_is = lookup-insert_entry c.tables t it log_table ∙ ap (λ b. cond b (Some it) (table_of c log_table)) (other_way t log_table not_log) ∙ so.log_is;
     lock_is = lookup-insert_entry c.tables t it lock_table ∙ ap (λ b. cond b (Some it) (table_of c lock_table)) (other_way t lock_table not_lock) ∙ so.lock_is;
     users_are = ap (λ es. record c { tables = es }) (without_insert c.tables so.ordered) ∙ ap (λ (u : Catalogue). with_new u t it) so.users_are;
   }
 
--- neither table's name
-abbrev pub is_apart : CreatedTable → Bool
-is_apart t = is_named t.name log_table || is_named t.name lock_table
+  -- and without it again
 
-pub all_beside : (ts : List CreatedTable) (c users : Catalogue) (log lock : Table) → list_any is_apart ts ≡ false → Tracks c users log lock → Tracks (with_tables ts c) (with_tables ts users) log lock
-all_beside [] c users log lock apart so = so
-all_beside (t ∷ ts) c users log lock apart so =
-    let mine = or_left (is_apart t) _ apart in
-    all_beside ts (with_new c t.name (made_table t)) (with_new users t.name (made_table t)) log lock (or_right (is_apart t) _ apart)
-    (beside t.name (made_table t) (or_left (is_named t.name log_table) _ mine) (or_right (is_named t.name log_table) _ mine) c users log lock so refl)
+  swapped : (a b t : Bool) (x : Option Table) → cond a None (cond b None (cond t None x)) ≡ cond t None (cond a None (cond b None x))
+  swapped true b true x = refl
+  swapped false true true x = refl
+  swapped false false true x = refl
+  swapped a b false x = refl
+
+  without_remove : (es : Entries) → T (is_sorted name_cmp es) → without (remove_entry (is_named t) es) ≡ remove_entry (is_named t) (without es)
+  without_remove es h =
+      let after = sorted-remove_entry t es h in
+      let left = sorted-remove_entry lock_table (remove_entry (is_named log_table) es) (sorted-remove_entry log_table es h) in
+      same_maps (without (remove_entry (is_named t) es)) (remove_entry (is_named t) (without es))
+      (sorted-remove_entry lock_table _ (sorted-remove_entry log_table _ after))
+      (sorted-remove_entry t (without es) left)
+      (λ q.
+      lookup_without (remove_entry (is_named t) es) q after
+      ∙ ap (λ x. cond (is_named lock_table q) None (cond (is_named log_table q) None x)) (lookup-remove_entry t es q h)
+      ∙ swapped (is_named lock_table q) (is_named log_table q) (is_named t q) (lookup (is_named q) es)
+      ∙ ap (cond (is_named t q) None) (sym (lookup_without es q h))
+      ∙ sym (lookup-remove_entry t (without es) q left))
+
+  pub without_it : (c users : Catalogue) (log lock : Table) → Tracks c (with_new users t it) log lock → IsFirm users → table_of users t ≡ None → Tracks (without_table c t) users log lock
+  without_it c users log lock so firm none = record {
+    firm = firm;
+    log_plain = so.log_plain;
+    lock_plain = so.lock_plain;
+    ordered = sorted-remove_entry t c.tables so.ordered;
+    log_is = lookup-remove_entry t c.tables log_table so.ordered ∙ ap (λ b. cond b None (table_of c log_table)) not_log ∙ so.log_is;
+    lock_is = lookup-remove_entry t c.tables lock_table so.ordered ∙ ap (λ b. cond b None (table_of c lock_table)) not_lock ∙ so.lock_is;
+    users_are = ap (λ es. record c { tables = es }) (without_remove c.tables so.ordered) ∙ ap (λ (u : Catalogue). without_table u t) so.users_are
+        ∙ ap (λ es. record users { tables = es }) (remove_entry-insert_entry t it users.tables none);
+  }
 
 -- another table in the place of one of them
 
@@ -143,19 +221,13 @@ module _ {X : Type 0} (t k : Name) (y : X) (apart : is_named t k ≡ false) wher
         ]
       ] refl
 
-all_set : {X : Type 0} (t : Name) (p : X → Bool) (es : List (Name × X)) (y : X) → list_all (λ (e : Name × X). p e.1) es ≡ true → p y ≡ true → list_all (λ (e : Name × X). p e.1) (set_value (is_named t) es y) ≡ true
-all_set t p [] y all new = refl
-all_set {X = X} t p (e ∷ es) y all new =
-    elim (is_named t e.0) as (λ b. list_all (λ (z : Name × X). p z.1) (cond b ((e.0, y) ∷ es) (e ∷ set_value (is_named t) es y)) ≡ true) [
-      | true ↦ and_true _ _ new (and_right (p e.1) _ all)
-      | false ↦ and_true _ _ (and_left (p e.1) _ all) (all_set t p es y (and_right (p e.1) _ all) new)
-    ]
-
 -- DATABASECHANGELOG is another table now
 pub log_changed : (c users : Catalogue) (log other lock : Table) → Tracks c users log lock → is_plain_table other ≡ true → Tracks (with_table c log_table other) users other lock
 unfolding log_table lock_table
 log_changed c users log other lock so plain = record {
-  plain = all_set log_table is_plain_table c.tables other so.plain plain;
+  firm = so.firm;
+  log_plain = plain;
+  lock_plain = so.lock_plain;
   ordered = sorted_set log_table other c.tables so.ordered;
   log_is = lookup-set_value (is_named log_table) c.tables log other so.log_is;
   lock_is = lookup_other log_table lock_table other c.tables refl ∙ so.lock_is;
@@ -166,7 +238,9 @@ log_changed c users log other lock so plain = record {
 pub lock_changed : (c users : Catalogue) (log lock other : Table) → Tracks c users log lock → is_plain_table other ≡ true → Tracks (with_table c lock_table other) users log other
 unfolding log_table lock_table
 lock_changed c users log lock other so plain = record {
-  plain = all_set lock_table is_plain_table c.tables other so.plain plain;
+  firm = so.firm;
+  log_plain = so.log_plain;
+  lock_plain = plain;
   ordered = sorted_set lock_table other c.tables so.ordered;
   log_is = lookup_other lock_table log_table other c.tables refl ∙ so.log_is;
   lock_is = lookup-set_value (is_named lock_table) c.tables lock other so.lock_is;
@@ -174,16 +248,20 @@ lock_changed c users log lock other so plain = record {
       ∙ ap (λ es. record c { tables = es }) (removed_set lock_table other (remove_entry (is_named log_table) c.tables)) ∙ so.users_are;
 }
 
-flat_set : {K X : Type 0} (test : K → Bool) (f : X → List Name) (es : List (K × X)) (x y : X) → lookup test es ≡ Some x → f y ≡ f x → flat_map (λ e. f e.1) (set_value test es y) ≡ flat_map (λ e. f e.1) es
-flat_set test f [] x y h same = refl
-flat_set test f (e ∷ es) x y h same =
-    elim (test e.0) as (λ b. cond b (Some e.1) (lookup test es) ≡ Some x → flat_map (λ z. f z.1) (cond b ((e.0, y) ∷ es) (e ∷ set_value test es y)) ≡ flat_map (λ z. f z.1) (e ∷ es)) [
-      | true ↦ λ q. ap (λ ns. ns ++ flat_map (λ z. f z.1) es) (same ∙ ap f (some_same (sym q)))
-      | false ↦ λ q. ap (λ ns. f e.1 ++ ns) (flat_set test f es x y q same)
-    ] h
+-- a name that is free among the users' is free here, but for the tracking tables' own
+module _ (c users : Catalogue) (log lock : Table) (so : Tracks c users log lock) (n : Name) (not_log : is_named n log_table ≡ false) (not_lock : is_named n lock_table ≡ false) where
+  pub table_same : table_of users n ≡ table_of c n
+  table_same = users_at c users log lock so n ∙ rw (other_way n lock_table not_lock, other_way n log_table not_log) refl
 
--- the free names stay
-pub taken_same : (c : Catalogue) (t n : Name) (it other : Table) → table_of c t ≡ Some it → inner_names other ≡ inner_names it → is_taken Postgresql n (with_table c t other) ≡ is_taken Postgresql n c
-taken_same c t n it other there same =
-    ap (λ ks. is_in n ((ks ++ (map (λ e. e.0) c.views ++ map (λ e. e.0) c.sequences)) ++ flat_map (λ e. inner_names e.1) (with_table c t other).tables)) (keys-set_value (is_named t) c.tables other)
-    ∙ ap (λ ns. is_in n (object_names c ++ ns)) (flat_set (is_named t) inner_names c.tables it other there same)
+  pub free_here : is_in n (inner_names log) ≡ false → is_in n (inner_names lock) ≡ false → is_taken Postgresql n users ≡ false → is_taken Postgresql n c ≡ false
+  free_here on_log on_lock free =
+      let objects = or_left (is_in n (object_names users)) _ (sym (any-append (is_named n) (object_names users) _) ∙ free) in
+      let inner = or_right (is_in n (object_names users)) _ (sym (any-append (is_named n) (object_names users) _) ∙ free) in
+      let split = sym (any-append (is_named n) (map (λ (e : Name × Table). e.0) users.tables) _) ∙ objects in
+      any-append (is_named n) (object_names c) _
+      ∙ or_false _ _
+      (any-append (is_named n) (map (λ (e : Name × Table). e.0) c.tables) _
+      ∙ or_false _ _ (found n c.tables ∙ ap (λ o. is_some o) (sym table_same) ∙ sym (found n users.tables) ∙ or_left (is_in n (map (λ (e : Name × Table). e.0) users.tables)) _ split)
+      (ap (λ (u : Catalogue). is_in n (map (λ e. e.0) u.views ++ map (λ e. e.0) u.sequences)) so.users_are ∙ or_right (is_in n (map (λ (e : Name × Table). e.0) users.tables)) _ split))
+      (any-flat_map (is_named n) (λ (e : Name × Table). inner_names e.1) c.tables
+      ∙ none_has c users log lock so (λ (e : Name × Table). is_in n (inner_names e.1)) (λ k. on_log) (λ k. on_lock) (sym (any-flat_map (is_named n) (λ (e : Name × Table). inner_names e.1) users.tables) ∙ inner))

@@ -25,6 +25,16 @@ all_lower (b ∷ bytes) = ap (λ x. x ∷ str_to_ascii_lowercase bytes) (lower_s
 other_name : (a b : List ℕ) → bytes_eq a b ≡ false → is_named a b ≡ false
 other_name a b h = whether (is_named a b) (λ p. true_false ((bytes_eq-Decides a b).1 (same_name a b p)) h) (λ p. p)
 
+-- a name that is no tracking table's in any case is not the table's own
+
+pub apart_from_log : (n : Name) → is_tracking n ≡ false → is_named n log_table ≡ false
+unfolding log_table
+apart_from_log n free = whether (is_named n log_table) (λ p. true_false (ap is_tracking (same_name n log_table p)) free) (λ p. p)
+
+pub apart_from_lock : (n : Name) → is_tracking n ≡ false → is_named n lock_table ≡ false
+unfolding lock_table
+apart_from_lock n free = whether (is_named n lock_table) (λ p. true_false (ap is_tracking (same_name n lock_table p)) free) (λ p. p)
+
 module _ (n : Name) (free : is_reserved n ≡ false) where
   no_log : bytes_eq (str_to_ascii_lowercase n) (codes "databasechangelog") ≡ false
   no_log = or_left (bytes_eq (str_to_ascii_lowercase n) (codes "databasechangelog")) _ free
@@ -49,15 +59,3 @@ module _ (n : Name) (free : is_reserved n ≡ false) where
 
   pub leaves_key : takes_lock_key User Postgresql (n ∷ []) ≡ false
   leaves_key = or_false _ _ (other_way n lock_key not_key) refl
-
-  pub no_name_of_key : is_named n (codes "pk_DATABASECHANGELOGLOCK") ≡ false
-  no_name_of_key = not_key
-
-  -- a name that is no tracking table's in any case is not the table's own
-  pub not_log : is_named n log_table ≡ false
-  unfolding log_table
-  not_log = whether (is_named n log_table) (λ p. true_false (ap is_tracking (same_name n log_table p)) not_tracking) (λ p. p)
-
-  pub not_lock : is_named n lock_table ≡ false
-  unfolding lock_table
-  not_lock = whether (is_named n lock_table) (λ p. true_false (ap is_tracking (same_name n lock_table p)) not_tracking) (λ p. p)

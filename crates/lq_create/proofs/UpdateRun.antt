@@ -1,177 +1,281 @@
--- All commits of an update are accepted, and leave the database that its changelog describes.
+-- All commits of an update are accepted, and leave the database that its changesets describe.
 use Rattle.std.proofs.Common.{ap, sym, ◌∙◌, arith, rules, tests, length-append}
 use Rattle.std.proofs.Math.Path.{subst}
-use Rattle.std.proofs.lemmas.List.{append-nil, append_assoc, length-map}
+use Rattle.std.proofs.lemmas.List.{append-nil, append_assoc}
 use Rattle.std.specs.List.{list_all, list_any}
-use Rattle.std.specs.Prelude.{Bool, List, Ok, Option, Some, [], false, is_some, length, map, nat_le, option_and_then, option_map, pos, refl, true, ℕ, ◌&&◌, ◌+◌, ◌++◌, ◌∷◌, ◌≡◌, ◌≤◌}
+use Rattle.std.specs.List.Sorted.{IsStrictlySortedBy}
+use Rattle.std.specs.Map.{lookup, remove_entry}
+use Rattle.std.specs.Prelude.{Bool, List, None, Ok, Some, [], cond, false, length, map, nat_le, nat_lt, pos, refl, true, ℕ, ◌&&◌, ◌+◌, ◌++◌, ◌||◌, ◌∷◌, ◌≡◌, ◌≤◌}
+use Rattle.lq_base.proofs.ValueLemmas.{and_then_some}
+use Rattle.lq_base.specs.Name.{is_named}
 use Rattle.lq_base.specs.declared.dialect.Dialect.TheVariants.{Postgresql}
+use Rattle.lq_base.specs.declared.tracking.Lock.{Lock}
 use Rattle.lq_base.specs.declared.tracking.Tracked.{Tracked}
-use Rattle.lq_model.proofs.Lists.{and_left, and_right, or_false, or_left, or_right}
-use Rattle.lq_model.specs.Catalogue.{Catalogue, Table, no_objects, table_of, with_table}
+use Rattle.lq_model.proofs.Absent.{free_of}
+use Rattle.lq_model.proofs.Kept.{never}
+use Rattle.lq_model.proofs.Lists.{all_more, all_one_more, and_left, and_right, and_true, or_false, or_left, or_right}
+use Rattle.lq_model.proofs.Maps.{none_if, not_some}
+use Rattle.lq_model.specs.Catalogue.{Catalogue, no_objects, table_of}
+use Rattle.lq_model.specs.Reserved.{is_reserved, takes_lock_key}
 use Rattle.lq_model.specs.Script.{Made}
+use Rattle.lq_model.specs.Step.{run}
 use Rattle.lq_model.specs.declared.caller.By.TheVariants.{Program, User}
-use Rattle.lq_track.specs.Database.{Database, database_of, has_rows, lock_from, lock_in, rows_from, users_of}
-use Rattle.lq_track.specs.Lock.{free, lock_column, lock_key_name, lock_order, lock_table, taken}
+use Rattle.lq_track.specs.Database.{Database, lock_of, rows_of}
+use Rattle.lq_track.specs.Lock.{free, lock_table, taken}
 use Rattle.lq_track.specs.Log.{log_table}
 use Rattle.lq_track.specs.Statements.{row_inserted}
-use Rattle.lq_create.proofs.CanMake.{CanMake, first_made, rest_made, still_made}
-use Rattle.lq_create.proofs.Entries.{by_user, commit_of, script_commits}
-use Rattle.lq_create.proofs.Given.{given, is_named_reserved}
-use Rattle.lq_create.proofs.LockChanged.{lock_of}
-use Rattle.lq_create.proofs.Opened.{closed_run, closed_tracks, free_at_first, locked, opened_run, opened_tracks}
-use Rattle.lq_create.proofs.RowAdded.{GoesIn, log_of, log_row, log_rows, row_accepted, tracks_after}
+use Rattle.lq_create.proofs.Entries.{by_user, commit_of, commits_of}
+use Rattle.lq_create.proofs.Firm.{firm_new, settled_firm}
+use Rattle.lq_create.proofs.Given.{AreGiven, given, is_named_reserved, map_some}
+use Rattle.lq_create.proofs.Holds.{Holds, database as database_with, is_placed, read, row_holds, row_run, stood, with_one}
+use Rattle.lq_create.proofs.Opened.{closes, nothing_firm, opens, opens_first}
 use Rattle.lq_create.proofs.RowFits.{row_fits}
-use Rattle.lq_create.proofs.RowsRead.{rows_read}
-use Rattle.lq_create.proofs.RunMade.{commit_run, run_by, run_on, run_one}
-use Rattle.lq_create.proofs.TablesMade.{creates}
-use Rattle.lq_create.proofs.TrackedTables.{Tracks, all_beside, is_apart}
-use Rattle.lq_create.proofs.Unreserved.{leaves_key, not_lock, not_log, unreserved}
-use Rattle.lq_create.specs.Changelog.{is_label}
+use Rattle.lq_create.proofs.RunMade.{commit_run, ok_same, run_one}
+use Rattle.lq_create.proofs.TablesHeld.{run_tables, tables_forth}
+use Rattle.lq_create.proofs.TablesMade.{creates_in}
+use Rattle.lq_create.proofs.Unreserved.{leaves_key, unreserved}
+use Rattle.lq_create.specs.Changelog.{is_label, is_some_list}
 use Rattle.lq_create.specs.Committed.{run_commits, run_made}
 use Rattle.lq_create.specs.Created.{is_unfree, with_tables}
 use Rattle.lq_create.specs.Distinct.{created_tables}
 use Rattle.lq_create.specs.Row.{row_after}
-use Rattle.lq_create.specs.Script.{by_program, closing, opening, update_turn, update_turns}
+use Rattle.lq_create.specs.Script.{by_program, closing, greatest, opening, update_script, update_turn, update_turns}
+use Rattle.lq_create.specs.Started.{IsFirm, IsReady, LeadsTo, StandsFor, Starts, no_database}
 use Rattle.lq_create.specs.Statements.{created}
-use Rattle.lq_create.specs.Updated.{UpdateLeaves, rows_after}
+use Rattle.lq_create.specs.Updated.{AreNew, UpdateLeads, UpdateLeaves, rows_after, updated_from}
 use Rattle.lq_create.specs.declared.changelog.ChangeSet.{ChangeSet}
 use Rattle.lq_create.specs.declared.changelog.CreatedTable.{CreatedTable}
 use Rattle.lq_create.specs.declared.stamp.Stamp.{Stamp}
 
--- one changeset after another
-
 abbrev has_labels : ChangeSet → Bool
 has_labels s = is_label s.id && is_label s.author
 
-tables_append : (ts rest : List CreatedTable) (c : Catalogue) → with_tables (ts ++ rest) c ≡ with_tables rest (with_tables ts c)
-tables_append [] rest c = refl
-tables_append (t ∷ ts) rest c = tables_append ts rest _
+-- places in run order
 
-few_rows : (done : List Tracked) (row : Tracked) → length done + 1 ≤ 10000 → nat_le (length (log_rows (done ++ row ∷ []))) 100000 ≡ true
-few_rows done row h =
-    let all : length (log_rows (done ++ row ∷ [])) ≤ 100000 = omega (arith, h, length-map (done ++ row ∷ []) log_row, length-append done (row ∷ [])) in
-    search (rules, tests)
+later : (order : ℕ) → nat_lt order (order + 1) ≡ true
+later order = search (rules, tests)
 
-module _ (stamp : Stamp) (path : List ℕ) (reading : stamp.reading ≤ 253402300799999) (label : is_label path ≡ true) (lock : Table) where
-  module _ (order : ℕ) (set : ChangeSet) (rest : List CreatedTable) (done : List Tracked) (c users : Catalogue)
-      (so : Tracks c users (log_of (log_rows done)) lock) (can : CanMake c (set.tables ++ rest)) (labels : has_labels set ≡ true) (early : order ≤ 10000) (few : length done + 1 ≤ 10000) where
+later_too : (n order : ℕ) → nat_lt n order ≡ true → nat_lt n (order + 1) ≡ true
+later_too n order h = search (rules, tests)
+
+placed_at : (order : ℕ) → 1 ≤ order → nat_lt 0 order ≡ true
+placed_at order h = search (rules, tests)
+
+pub below : (rows : List Tracked) (n : ℕ) → greatest rows ≤ n → list_all (λ r. nat_lt r.order (n + 1)) rows ≡ true
+below [] n h = refl
+below (row ∷ rows) n h =
+    let one : row.order ≤ n = omega (arith, h) in
+    let first : nat_lt row.order (n + 1) ≡ true = search (rules, tests) in
+    and_true _ _ first (below rows n (omega (arith, h)))
+
+pub rows_length : (stamp : Stamp) (path : List ℕ) (order : ℕ) (sets : List ChangeSet) → length (rows_after stamp path order sets) ≡ length sets
+rows_length stamp path order [] = refl
+rows_length stamp path order (set ∷ sets) = let more = rows_length stamp path (order + 1) sets in omega (arith, more)
+
+order_is : (stamp : Stamp) (path : List ℕ) (order : ℕ) (set : ChangeSet) → (row_after stamp path order set).order ≡ order
+unfolding row_after
+order_is stamp path order set = refl
+
+-- one changeset after another
+
+module _ (stamp : Stamp) (path : List ℕ) (reading : stamp.reading ≤ 253402300799999) (label : is_label path ≡ true) (l : Lock) where
+  module _ (order : ℕ) (set : ChangeSet) (c users e : Catalogue) (rows : List Tracked) (so : Holds c users rows l) (ran : run User Postgresql (map created set.tables) users ≡ Ok e)
+      (labels : has_labels set ≡ true) (last : list_all (λ r. nat_lt r.order order) rows ≡ true) (positive : 1 ≤ order) (early : order ≤ 2147483647) (room : length rows + 1 ≤ 100000) where
     abbrev row : Tracked
     row = row_after stamp path order set
 
-    abbrev made : Catalogue
-    made = with_tables set.tables c
+    forth : (after : Catalogue) × (run_made Postgresql (by_user (map created set.tables) ++ (Program, row_inserted row) ∷ []) c ≡ run_made Postgresql ((Program, row_inserted row) ∷ []) after) × Holds after e rows l
+    forth = tables_forth set.tables c users e rows l ((Program, row_inserted row) ∷ []) so ran
 
-    abbrev after : Catalogue
-    after = with_table made log_table (log_of (log_rows (done ++ row ∷ [])))
+    last_of_all : list_all (λ r. nat_lt r.order row.order) rows ≡ true
+    last_of_all = ap (λ n. list_all (λ (r : Tracked). nat_lt r.order n) rows) (order_is stamp path order set) ∙ last
 
-    can_first : CanMake c set.tables
-    can_first = first_made c set.tables rest can
+    placed : is_placed row ≡ true
+    placed = ap (nat_lt 0) (order_is stamp path order set) ∙ placed_at order positive
 
-    made_tracks : Tracks made (with_tables set.tables users) (log_of (log_rows done)) lock
-    made_tracks = all_beside set.tables c users (log_of (log_rows done)) lock can_first.apart so
+    turn_forth : (after : Catalogue) × (run_made Postgresql (commit_of (update_turn stamp path order set)) c ≡ Ok after) × Holds after e (rows ++ row ∷ []) l
+    unfolding commit_of
+    turn_forth =
+        let made = forth in
+        let fits = row_fits stamp path order set reading label labels early in
+        let end = with_one made.0 e rows l made.2 row fits last_of_all placed room in (
+          end,
+          made.1 ∙ run_one Postgresql Program (row_inserted row) [] made.0 end 1 (row_run made.0 e rows l made.2 row fits last_of_all placed room),
+          row_holds made.0 e rows l made.2 row fits last_of_all placed room,
+        )
 
-    fits : GoesIn row
-    fits = row_fits stamp path order set reading label labels (omega (arith, early))
-
-    turn_tracks : Tracks after (with_tables set.tables users) (log_of (log_rows (done ++ row ∷ []))) lock
-    turn_tracks = tracks_after row done made (with_tables set.tables users) lock made_tracks fits (few_rows done row few)
-
-    turn_run : run_made Postgresql (commit_of (update_turn stamp path order set)) c ≡ Ok after
-    unfolding commit_of by_user
-    turn_run =
-        run_on Postgresql (by_user (map created set.tables)) ((Program, row_inserted row) ∷ []) c made
-        (run_by Postgresql User (map created set.tables) c ∙ (creates User set.tables c so.plain can_first.free can_first.differ can_first.columns).0)
-        ∙ run_one Postgresql Program (row_inserted row) [] made after 1 (row_accepted row done made (with_tables set.tables users) lock made_tracks fits (few_rows done row few))
-
-    turn_can : CanMake after rest
-    turn_can = still_made made log_table (log_of (log_rows done)) (log_of (log_rows (done ++ row ∷ []))) rest made_tracks.log_is refl (rest_made c set.tables rest can)
-
-  turns_run : (order : ℕ) (sets : List ChangeSet) (done : List Tracked) (c users : Catalogue) (more : List (List Made)) → Tracks c users (log_of (log_rows done)) lock → CanMake c (created_tables sets)
-      → list_all has_labels sets ≡ true → order ≡ length done + 1 → length done + length sets ≤ 10000
-      → (e : Catalogue) × (run_commits Postgresql (map commit_of (update_turns stamp path order sets) ++ more) c ≡ run_commits Postgresql more e)
-      × Tracks e (with_tables (created_tables sets) users) (log_of (log_rows (done ++ rows_after stamp path order sets))) lock
-  turns_run order [] done c users more so can labels at few = (c, refl, subst (λ rows. Tracks c users (log_of (log_rows rows)) lock) (sym (append-nil done)) so)
-  turns_run order (set ∷ sets) done c users more so can labels at few =
-      let rest = created_tables sets in
-      let mine = and_left (has_labels set) _ labels in
-      let early : order ≤ 10000 = omega (arith, at, few) in
-      let room : length done + 1 ≤ 10000 = omega (arith, few) in
+  sets_forth : (order : ℕ) (sets : List ChangeSet) (c users e : Catalogue) (rows : List Tracked) (more : List (List Made)) → Holds c users rows l → run User Postgresql (map created (created_tables sets)) users ≡ Ok e
+      → list_all has_labels sets ≡ true → list_all (λ r. nat_lt r.order order) rows ≡ true → 1 ≤ order → order + length sets ≤ 2147483648 → length rows + length sets ≤ 100000
+      → (after : Catalogue) × (run_commits Postgresql (map commit_of (update_turns stamp path order sets) ++ more) c ≡ run_commits Postgresql more after) × Holds after e (rows ++ rows_after stamp path order sets) l
+  sets_forth order [] c users e rows more so ran labels last positive early room =
+      (c, refl, subst (λ u. Holds c u (rows ++ []) l) (ok_same ran) (subst (λ rs. Holds c users rs l) (sym (append-nil rows)) so))
+  sets_forth order (set ∷ sets) c users e rows more so ran labels last positive early room =
+      let parts = run_tables set.tables (created_tables sets) users e ran in
       let row = row_after stamp path order set in
-      let after = with_table (with_tables set.tables c) log_table (log_of (log_rows (done ++ row ∷ []))) in
-      let here = turn_run order set rest done c users so can mine early room in
-      let then = turns_run (order + 1) sets (done ++ row ∷ []) after (with_tables set.tables users) more
-      (turn_tracks order set rest done c users so can mine early room) (turn_can order set rest done c users so can mine early room)
-      (and_right (has_labels set) _ labels) (omega (arith, at, length-append done (row ∷ []))) (omega (arith, few, length-append done (row ∷ []))) in (
+      let one = turn_forth order set c users parts.0 rows so parts.1 (and_left (has_labels set) _ labels) last positive (omega (arith, early)) (omega (arith, room)) in
+      let last_after = all_one_more (λ (r : Tracked). nat_lt r.order (order + 1)) rows row (all_more (λ (r : Tracked). nat_lt r.order order) _ rows (λ r h. later_too r.order order h) last) (ap (λ n. nat_lt n (order + 1)) (order_is stamp path order set) ∙ later order) in
+      let then = sets_forth (order + 1) sets one.0 parts.0 e (rows ++ row ∷ []) more one.2 parts.2 (and_right (has_labels set) _ labels) last_after (omega arith) (omega (arith, early)) (omega (arith, room, length-append rows (row ∷ []))) in (
         then.0,
-        commit_run Postgresql (commit_of (update_turn stamp path order set)) (map commit_of (update_turns stamp path (order + 1) sets) ++ more) c after here ∙ then.1,
-        subst (λ u. Tracks then.0 u (log_of (log_rows (done ++ rows_after stamp path order (set ∷ sets)))) lock) (sym (tables_append set.tables rest users))
-            (subst (λ rows. Tracks then.0 (with_tables rest (with_tables set.tables users)) (log_of (log_rows rows)) lock) (append_assoc done (row ∷ []) (rows_after stamp path (order + 1) sets)) then.2),
+        commit_run Postgresql (commit_of (update_turn stamp path order set)) (map commit_of (update_turns stamp path (order + 1) sets) ++ more) c one.0 one.1 ∙ then.1,
+        subst (λ rs. Holds then.0 e rs l) (append_assoc rows (row ∷ []) (rows_after stamp path (order + 1) sets)) then.2,
       )
 
--- what is read back
+-- the tables are accepted among the users' objects
 
-abbrev with_parts : Option Table → Option Table → Catalogue → Option Database
-with_parts log lock users = option_and_then (λ rows. option_map (λ l. record {
-  users = users;
-  rows = rows;
-  lock = l;
-  has_log = is_some log;
-  has_lock = is_some lock;
-  has_lock_row = has_rows lock;
-}) (lock_from Postgresql lock)) (rows_from log)
+pub made_there : (path : List ℕ) (sets : List ChangeSet) (database : Database) → IsFirm database.users → AreNew path sets database
+    → (run User Postgresql (map created (created_tables sets)) database.users ≡ Ok (with_tables (created_tables sets) database.users)) × IsFirm (with_tables (created_tables sets) database.users)
+made_there path sets database firm new =
+    creates_in User IsFirm settled_firm (λ e t fine free. firm_new e fine t (free_of Postgresql t.name e (or_right (takes_lock_key User Postgresql (t.name ∷ [])) _ (or_right (is_reserved User (t.name ∷ [])) _ free))))
+    (created_tables sets) database.users firm new.free new.names new.columns
 
-abbrev database : Catalogue → List Tracked → Database
-database users rows = record { users = users; rows = rows; lock = free; has_log = true; has_lock = true; has_lock_row = true }
+-- with the opening and the closing
 
-lock_read : lock_from Postgresql (Some (lock_of free)) ≡ Some free
-unfolding lock_column lock_order lock_key_name lock_in
-lock_read = refl
+module _ (stamp : Stamp) (path : List ℕ) (reading : stamp.reading ≤ 253402300799999) (label : is_label path ≡ true) where
+  abbrev holder : Lock
+  holder = taken (pos stamp.reading) stamp.who
 
-database_read : (c users : Catalogue) (rows : List Tracked) → Tracks c users (log_of (log_rows rows)) (lock_of free) → rows_from (Some (log_of (log_rows rows))) ≡ Some rows → database_of Postgresql c ≡ Some (database users rows)
-database_read c users rows so read =
-    ap (λ log. with_parts log (table_of c lock_table) (users_of c)) so.log_is
-    ∙ ap (λ lock. with_parts (Some (log_of (log_rows rows))) lock (users_of c)) so.lock_is
-    ∙ ap (with_parts (Some (log_of (log_rows rows))) (Some (lock_of free))) so.users_are
-    ∙ ap (λ found. option_and_then (λ rs. option_map (λ l. record { users = users; rows = rs; lock = l; has_log = true; has_lock = true; has_lock_row = true }) (lock_from Postgresql (Some (lock_of free)))) found) read
-    ∙ ap (option_map (λ l. record { users = users; rows = rows; lock = l; has_log = true; has_lock = true; has_lock_row = true })) lock_read
+  all_run : (made : Bool) (set : ChangeSet) (sets : List ChangeSet) (database : Database) (c opened : Catalogue) → IsFirm database.users → AreNew path (set ∷ sets) database
+      → run_made Postgresql (by_program (opening made stamp)) c ≡ Ok opened → Holds opened database.users database.rows holder
+      → LeadsTo c (update_script made stamp path (greatest database.rows + 1) (set ∷ sets)) (database_with (with_tables (created_tables (set ∷ sets)) database.users) (database.rows ++ rows_after stamp path (greatest database.rows + 1) (set ∷ sets)) free)
+  all_run made set sets database c opened firm new is so =
+      let all = set ∷ sets in
+      let order = greatest database.rows + 1 in
+      let end = by_program closing ∷ [] in
+      let users = with_tables (created_tables all) database.users in
+      let rows = database.rows ++ rows_after stamp path order all in
+      let ran = sets_forth stamp path reading label holder order all opened database.users users database.rows end so (made_there path all database firm new).0 new.labels
+      (below database.rows (greatest database.rows) (omega arith)) (omega arith) (omega (arith, new.early)) new.few in
+      let closed = closes ran.0 users rows holder ran.2 in
+      record {
+        catalogue = closed.0;
+        accepted =
+            ap (λ cs. run_commits Postgresql cs c) (commits_of made stamp (update_turns stamp path order all) refl)
+            ∙ commit_run Postgresql (by_program (opening made stamp)) (map commit_of (update_turns stamp path order all) ++ end) c opened is
+            ∙ ran.1
+            ∙ commit_run Postgresql (by_program closing) [] ran.0 closed.0 closed.1;
+        left = stood closed.0 users rows free closed.2;
+      }
 
--- from nothing on
+  -- where the tracking tables are there
 
-module _ (stamp : Stamp) (reading : stamp.reading ≤ 253402300799999) where
-  free_all : (ts : List CreatedTable) → list_any is_named_reserved ts ≡ false → list_any (is_unfree User (locked stamp reading)) ts ≡ false
-  free_all [] h = refl
-  free_all (t ∷ ts) h =
-      let mine = or_left (is_named_reserved t) _ h in
-      or_false _ _ (or_false _ _ (unreserved t.name mine) (or_false _ _ (leaves_key t.name mine) (free_at_first stamp reading t.name mine))) (free_all ts (or_right (is_named_reserved t) _ h))
+  abbrev parts : List ChangeSet → Database → Lock → Bool → Bool → Bool → Database
+  parts sets database l log lock row = record {
+    users = with_tables (created_tables sets) database.users;
+    rows = database.rows ++ rows_after stamp path (greatest database.rows + 1) sets;
+    lock = l;
+    has_log = log;
+    has_lock = lock;
+    has_lock_row = row;
+  }
 
-apart_all : (ts : List CreatedTable) → list_any is_named_reserved ts ≡ false → list_any is_apart ts ≡ false
-apart_all [] h = refl
-apart_all (t ∷ ts) h =
+  still_true : (b c : Bool) → b ≡ true → true ≡ (b || c)
+  still_true b c h = sym (ap (λ x. x || c) h)
+
+  parts_same : (sets : List ChangeSet) (database : Database) → IsReady database → parts sets database free true true true ≡ updated_from stamp path sets database
+  parts_same sets database ready =
+      let some = is_some_list sets in
+      ap (λ l. parts sets database l true true true) (sym ready.unlocked)
+      ∙ ap (λ b. parts sets database database.lock b true true) (still_true database.has_log some ready.log)
+      ∙ ap (λ b. parts sets database database.lock (database.has_log || some) b true) (still_true database.has_lock some ready.lock)
+      ∙ ap (λ b. parts sets database database.lock (database.has_log || some) (database.has_lock || some) b) (still_true database.has_lock_row some ready.lock_row)
+
+  nothing_new : (database : Database) → IsReady database → updated_from stamp path [] database ≡ database
+  nothing_new database ready =
+      sym (parts_same [] database ready)
+      ∙ ap (λ rs. database_with database.users rs free) (append-nil database.rows)
+      ∙ ap (λ l. record (database_with database.users database.rows free) { lock = l }) (sym ready.unlocked)
+      ∙ ap (λ b. record (database_with database.users database.rows database.lock) { has_log = b }) (sym ready.log)
+      ∙ ap (λ b. record database { has_lock = b; has_lock_row = true }) (sym ready.lock)
+      ∙ ap (λ b. record database { has_lock_row = b }) (sym ready.lock_row)
+
+  still_ready : (sets : List ChangeSet) (database : Database) → IsReady database → AreNew path sets database → IsReady (updated_from stamp path sets database)
+  still_ready sets database ready new = record {
+    users = (made_there path sets database ready.users new).1;
+    log = sym (still_true database.has_log (is_some_list sets) ready.log);
+    lock = sym (still_true database.has_lock (is_some_list sets) ready.lock);
+    lock_row = sym (still_true database.has_lock_row (is_some_list sets) ready.lock_row);
+    few = omega (arith, new.few, length-append database.rows (rows_after stamp path (greatest database.rows + 1) sets), rows_length stamp path (greatest database.rows + 1) sets);
+    unlocked = ready.unlocked;
+  }
+
+  leads_on : (sets : List ChangeSet) (database : Database) (c : Catalogue) → IsReady database → StandsFor c database → AreNew path sets database
+      → LeadsTo c (update_script true stamp path (greatest database.rows + 1) sets) (updated_from stamp path sets database)
+  leads_on [] database c ready stands new = record { catalogue = c; accepted = refl; left = subst (StandsFor c) (sym (nothing_new database ready)) stands }
+  leads_on (set ∷ sets) database c ready stands new =
+      let opened = opens stamp reading c database.users database.rows database.lock (read c database stands ready) in
+      subst (LeadsTo c (update_script true stamp path (greatest database.rows + 1) (set ∷ sets))) (parts_same (set ∷ sets) database ready)
+      (all_run true set sets database c opened.0 ready.users new opened.1 opened.2)
+
+  -- where nothing is there
+
+  leads_first : (sets : List ChangeSet) → AreNew path sets no_database → LeadsTo no_objects (update_script false stamp path 1 sets) (updated_from stamp path sets no_database)
+  unfolding IsStrictlySortedBy
+  leads_first [] new = record { catalogue = no_objects; accepted = refl; left = record { ordered = tt; is = refl } }
+  leads_first (set ∷ sets) new =
+      let opened = opens_first stamp reading in
+      all_run false set sets no_database no_objects opened.0 nothing_firm new opened.1 opened.2
+
+  first_ready : (sets : List ChangeSet) → AreNew path sets no_database → Starts (is_some_list sets) (updated_from stamp path sets no_database)
+  first_ready [] new = refl
+  first_ready (set ∷ sets) new = record {
+    users = (made_there path (set ∷ sets) no_database nothing_firm new).1;
+    log = refl;
+    lock = refl;
+    lock_row = refl;
+    few = omega (arith, new.few, rows_length stamp path 1 (set ∷ sets));
+    unlocked = refl;
+  }
+
+removed_none : {K X : Type 0} (test : K → Bool) (es : List (K × X)) → lookup test es ≡ None → remove_entry test es ≡ es
+removed_none test [] h = refl
+removed_none test (e ∷ es) h = at (test e.0) refl h (λ none. removed_none test es none) where
+  at : (b : Bool) → test e.0 ≡ b → cond b (Some e.1) (lookup test es) ≡ None → (lookup test es ≡ None → remove_entry test es ≡ es) → cond b es (e ∷ remove_entry test es) ≡ e ∷ es
+  at true is q more = not_some q
+  at false is q more = ap (λ fs. e ∷ fs) (more q)
+
+-- the empty catalogue alone is the database with nothing
+nothing_there : (c : Catalogue) → StandsFor c no_database → c ≡ no_objects
+nothing_there c stands =
+    let rows = and_then_some _ (rows_of c) no_database stands.is in
+    let l = map_some _ (lock_of Postgresql c) no_database rows.2 in
+    let no_log = none_if (table_of c log_table) (ap (λ (x : Database). x.has_log) l.2) in
+    let no_lock = none_if (table_of c lock_table) (ap (λ (x : Database). x.has_lock) l.2) in
+    let same = removed_none (is_named log_table) c.tables no_log in
+    ap (λ es. record c { tables = es }) (sym (removed_none (is_named lock_table) (remove_entry (is_named log_table) c.tables) (ap (lookup (is_named lock_table)) same ∙ no_lock) ∙ same))
+    ∙ ap (λ (x : Database). x.users) l.2
+
+pub leads : UpdateLeads
+leads true stamp path sets database c reading label ready stands new = (leads_on stamp path reading label sets database c ready stands new, still_ready stamp path reading label sets database ready new)
+leads false stamp path sets database c reading label start stands new =
+    let first = subst (AreNew path sets) start new in
+    let here = nothing_there c (subst (StandsFor c) start stands) in
+    subst (λ db. LeadsTo c (update_script false stamp path (greatest db.rows + 1) sets) (updated_from stamp path sets db) × Starts (is_some_list sets) (updated_from stamp path sets db)) (sym start)
+    (subst (λ e. LeadsTo e (update_script false stamp path 1 sets) (updated_from stamp path sets no_database)) (sym here) (leads_first stamp path reading label sets first), first_ready stamp path reading label sets first)
+
+-- a changelog's changesets are new where nothing is
+
+free_all : (ts : List CreatedTable) → list_any is_named_reserved ts ≡ false → list_any (is_unfree User no_objects) ts ≡ false
+free_all [] h = refl
+free_all (t ∷ ts) h =
     let mine = or_left (is_named_reserved t) _ h in
-    or_false _ _ (or_false _ _ (not_log t.name mine) (not_lock t.name mine)) (apart_all ts (or_right (is_named_reserved t) _ h))
+    or_false _ _ (or_false _ _ (unreserved t.name mine) (or_false _ _ (leaves_key t.name mine) refl)) (free_all ts (or_right (is_named_reserved t) _ h))
 
 at_most : (n : ℕ) → nat_le n 10000 ≡ true → n ≤ 10000
 at_most n h = search (rules, tests)
 
+pub all_new : (path : List ℕ) (sets : List ChangeSet) → AreGiven sets → AreNew path sets no_database
+all_new path sets holds = record {
+  differ = holds.apart;
+  new = never sets;
+  names = holds.differ;
+  free = free_all (created_tables sets) holds.unreserved;
+  columns = holds.columns;
+  labels = holds.labels;
+  few = omega (arith, at_most (length sets) holds.few);
+  early = omega (arith, at_most (length sets) holds.few);
+}
+
 pub leaves : UpdateLeaves
-leaves stamp path tree [] reading label e = record { catalogue = no_objects; accepted = refl; left = refl }
-leaves stamp path tree (set ∷ sets) reading label e =
-    let all = set ∷ sets in
-    let holds = given tree all e in
-    let holder = taken (pos stamp.reading) stamp.who in
-    let start = locked stamp reading in
-    let can : CanMake start (created_tables all) = record { free = free_all stamp reading (created_tables all) holds.unreserved; differ = holds.differ; apart = apart_all (created_tables all) holds.unreserved; columns = holds.columns } in
-    let end = by_program closing ∷ [] in
-    let users = with_tables (created_tables all) no_objects in
-    let rows = rows_after stamp path 1 all in
-    let few : 0 + length all ≤ 10000 = omega (arith, at_most (length all) holds.few) in
-    let ran = turns_run stamp path reading label (lock_of holder) 1 all [] start no_objects end (opened_tracks stamp reading) can holds.labels refl few in
-    record {
-      catalogue = with_table ran.0 lock_table (lock_of free);
-      accepted =
-          ap (λ cs. run_commits Postgresql cs no_objects) (script_commits false stamp (update_turn stamp path 1 set) (update_turns stamp path 2 sets))
-          ∙ commit_run Postgresql (by_program (opening false stamp)) (map commit_of (update_turns stamp path 1 all) ++ end) no_objects start (opened_run stamp reading)
-          ∙ ran.1
-          ∙ commit_run Postgresql (by_program closing) [] ran.0 (with_table ran.0 lock_table (lock_of free)) (closed_run ran.0 users (log_of (log_rows rows)) holder ran.2);
-      left = database_read (with_table ran.0 lock_table (lock_of free)) users rows (closed_tracks ran.0 users (log_of (log_rows rows)) holder ran.2) (rows_read stamp path all);
-    }
+leaves stamp path tree sets reading label e =
+    let first = leads_first stamp path reading label sets (all_new path sets (given tree sets e)) in
+    record { catalogue = first.catalogue; accepted = first.accepted; left = first.left.is }

@@ -8,5 +8,6 @@ pub mod Parts
 pub mod Row
 pub mod Rows
 pub mod Script
+pub mod Started
 pub mod Statements
 pub mod Updated

@@ -1,5 +1,6 @@
 //! Changelogs whose changes are createTable alone: how a tree is read as one, the statements that an
-//! update runs and the row that each changeset gets, and what the update leaves.
+//! update runs and the row that each changeset gets, what the update leaves, and that a rollback
+//! restores what stood before.
 #![tactic(auto)]
 
 mod canonical;
@@ -28,7 +29,7 @@ pub use rows::new_sets;
 pub use script::{Entry, greatest, rollback_entries, update_entries};
 pub use stamp::Stamp;
 pub use statements::{statement_of, statements_of, undo_statements};
-pub use updated::update_leaves;
+pub use updated::{new_sets_are_new, sound_is_firm, update_leads, update_leaves};
 
 #[cfg(test)]
 mod tests;
