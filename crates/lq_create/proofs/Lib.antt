@@ -23,4 +23,6 @@ pub mod RunOrder
 pub mod RowDeleted
 pub mod Holds
 pub mod TablesHeld
+pub mod BackRun
+pub mod SinceLaws
 pub mod NewSets

@@ -8,6 +8,7 @@ pub mod Parts
 pub mod Row
 pub mod Rows
 pub mod Script
+pub mod Since
 pub mod Started
 pub mod Statements
 pub mod Updated
