@@ -1,5 +1,5 @@
 -- The kind that is read is the one that the text names.
-use Rattle.std.proofs.Common.{◌≡◌, inl, inr, ℕ, ◌-◌, ◌^◌, ◌<◌, Bool, true, false, cond, ◌&&◌, ◌||◌, ltb, leb, eqb, List, [], ◌∷◌, ◌++◌, length, take, get_or, map, codes, Option, Some, None, option_and_then, refl, ap, ◌∙◌, sym, subst, append_assoc, append-nil, bytes_eq, arith, rules, tests, true≢false}
+use Rattle.std.proofs.Common.{◌≡◌, ◌↔◌, inl, inr, ℕ, ◌-◌, ◌^◌, ◌<◌, Bool, true, false, cond, ◌&&◌, ◌||◌, ltb, leb, eqb, List, [], ◌∷◌, ◌++◌, length, take, get_or, map, codes, Option, Some, None, option_and_then, refl, ap, ◌∙◌, sym, subst, append_assoc, append-nil, bytes_eq, arith, rules, tests, true≢false}
 use Rattle.std.specs.Char.{is_ascii_digit, to_ascii_lowercase}
 use Rattle.std.specs.Fmt.{decimal}
 use Rattle.std.specs.List.{list_all, list_any, before_first, after_first}
@@ -16,6 +16,7 @@ use Rattle.lq_base.specs.declared.kind.Kind.TheVariants.{Int, BigInt, Boolean, V
 use Rattle.lq_base.specs.Kind.{is_kind, kind_words, plain_kind, sized_kind, decimal_kind, is_blank, is_comma, is_open, spaced_number, kind_with, kind_after_open, kind_of, kind_text}
 use Rattle.lq_base.specs.Spells.{is_word_of, IsSpaced, IsSized, IsSizedTwice, NamesKind}
 use Rattle.lq_base.proofs.NumberLemmas.{both_some}
+use Rattle.lq_base.proofs.ReadLemmas.{read_is_steps}
 use Rattle.lq_base.proofs.SplitLemmas.{Lacks, place, lacks_from_all, lacks-append, split_none, split_place, at_split, at_last, last_is}
 use Rattle.lq_base.proofs.SpacedLemmas.{decimal_digits, spaced_number-from, spaced_number-gives}
 
@@ -239,7 +240,7 @@ alone n = record { before = []; after = []; is = sym (append-nil (decimal n)); b
 after_blank : (n : ℕ) → IsSpaced (32 ∷ decimal n) n
 after_blank n = record { before = 32 ∷ []; after = []; is = ap (λ t. 32 ∷ t) (sym (append-nil (decimal n))); blanks = (refl, refl) }
 
-kind_text-names : (dialect : Dialect) (kind : Kind) → is_kind kind ≡ true → NamesKind (kind_text dialect kind) kind
+pub kind_text-names : (dialect : Dialect) (kind : Kind) → is_kind kind ≡ true → NamesKind (kind_text dialect kind) kind
 kind_text-names Postgresql Int h = refl
 kind_text-names Mysql Int h = refl
 kind_text-names dialect BigInt h = refl
@@ -253,5 +254,6 @@ kind_text-names Mysql Moment h = inr (record { word = codes "DATETIME"; inside =
     three = sym (append-nil (decimal 3) ∙ decimal_digit 3 (omega arith))
 kind_text-names dialect (Decimal n m) h = (h, record { word = codes "DECIMAL"; first = decimal n; second = 32 ∷ decimal m; is = ap (λ t. t ++ 41 ∷ []) (append_assoc (codes "DECIMAL(" ++ decimal n) (codes ", ") (decimal m)); is_word = refl; numbers = (alone n, after_blank m) })
 
-pub kind_of-kind_text : (dialect : Dialect) (kind : Kind) → is_kind kind ≡ true → kind_of (kind_text dialect kind) ≡ Some kind
-kind_of-kind_text dialect kind h = names-kind_of (kind_text dialect kind) kind (kind_text-names dialect kind h)
+-- an answer that is the kind which the text names is what the steps give
+pub read_is_kind_of : (text : List ℕ) (answer : Option Kind) → ((kind : Kind) → (answer ≡ Some kind) ↔ NamesKind text kind) → answer ≡ kind_of text
+read_is_kind_of text = read_is_steps (NamesKind text) (kind_of text) (kind_of-names text) (names-kind_of text)

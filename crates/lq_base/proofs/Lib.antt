@@ -8,6 +8,7 @@ mod NumberLemmas
 pub mod NumberPrinted
 pub mod NumberSpelled
 mod PlainLemmas
+pub mod ReadLemmas
 mod SpacedLemmas
 mod SplitLemmas
 mod TextLemmas

@@ -17,7 +17,7 @@ IntoIsValue = (literal : Literal) (kind : Kind) (value : Value) → into_kind li
 
 -- a moment's text spells that moment
 abbrev pub MomentReadsBack : Type 0
-MomentReadsBack = (ms : ℤ) → IsMoment ms → moment_of (moment_text ms) ≡ Some ms
+MomentReadsBack = (ms : ℤ) → IsMoment ms → SpellsMoment (moment_text ms) ms
 
 -- the number that is read from a text is one that the text spells
 abbrev pub NumberOfSpells : Type 0
@@ -44,12 +44,12 @@ NamesGiveKindOf = (text : List ℕ) (kind : Kind) → NamesKind text kind → ki
 
 -- how either dialect spells a kind that can be named names that kind
 abbrev pub KindReadsBack : Type 0
-KindReadsBack = (dialect : Dialect) (kind : Kind) → IsTrue (is_kind kind) → kind_of (kind_text dialect kind) ≡ Some kind
+KindReadsBack = (dialect : Dialect) (kind : Kind) → IsTrue (is_kind kind) → NamesKind (kind_text dialect kind) kind
 
--- a whole number of at most 38 digits is read from its text
+-- the text of a whole number of at most 38 digits spells it
 abbrev pub WholeReadsBack : Type 0
-WholeReadsBack = (n : ℤ) → unsigned_abs n < 10 ^ 38 → number_of (whole_text n) ≡ Some (Int n)
+WholeReadsBack = (n : ℤ) → unsigned_abs n < 10 ^ 38 → SpellsNumber (whole_text n) (Int n)
 
--- so is a decimal number of at most 38 digits, where one digit at least is left before its dot
+-- so does that of a decimal number of at most 38 digits, where one digit at least is left before its dot
 abbrev pub FixedReadsBack : Type 0
-FixedReadsBack = (units : ℤ) (scale : ℕ) → unsigned_abs units < 10 ^ 38 → 0 < scale → scale < 38 → number_of (fixed_text units scale) ≡ Some (Fixed units scale)
+FixedReadsBack = (units : ℤ) (scale : ℕ) → unsigned_abs units < 10 ^ 38 → 0 < scale → scale < 38 → SpellsNumber (fixed_text units scale) (Fixed units scale)

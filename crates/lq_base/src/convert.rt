@@ -1,14 +1,15 @@
-ghost use Rattle.std.specs.Prelude.{◌≡◌, ◌*◌, ◌^◌, ◌<◌, ◌≤◌, if◌then◌else◌, Some, None, IfSome, IfOk, IsTrue};
-ghost use Rattle.lq_base.specs.Into.{Goes};
+ghost use Rattle.std.specs.Prelude.{◌≡◌, List, ℕ, Ok, ◌*◌, ◌^◌, ◌<◌, ◌≤◌, if◌then◌else◌, Some, None, IfSome, IfOk, IsTrue};
+ghost use Rattle.lq_base.specs.Into.{Goes, GoesAs, is_number_kind};
 ghost use Rattle.lq_base.specs.Number.{has_digits};
+ghost use Rattle.lq_base.specs.Spells.{SpellsMoment, SpellsNumber};
 ghost use Rattle.lq_base.specs.Value.{decimal_into, truth_of_number, int_into, fixed_into, spelled_into, truth_of_text, moment_value, text_into, bool_into, into_kind, is_value_of};
 
 use crate::character::char_count;
 use crate::kind::{Kind, is_word};
 use crate::literal::Literal;
 use crate::memory::NoMemory;
-use crate::moment::read_moment;
-use crate::number::{has_digits, read_number, signed};
+use crate::moment::moment_of;
+use crate::number::{has_digits, number_of, signed};
 use crate::text::Text;
 use crate::value::Value;
 use std::alloc::Global;
@@ -45,6 +46,12 @@ impl From<NoMemory> for IntoFault {
 /// goes into Boolean. All else is WrongKind; what is out of range is TooWide.
 pub fn into_kind(alloc: Global, literal: &Literal, kind: Kind) -> Result<Value, IntoFault>
     ensures answer { Goes (into_kind literal.now kind) result }
+    ensures text_as_number { (text : List ℕ) → literal.now ≡ Literal.Text text
+        → IsTrue (is_number_kind kind)
+        → GoesAs (SpellsNumber text) (λ number. into_kind number kind) result }
+    ensures text_as_moment { (text : List ℕ) → literal.now ≡ Literal.Text text
+        → kind ≡ Kind.Moment
+        → GoesAs (SpellsMoment text) (λ ms. Ok (Value.Moment ms)) result }
     ensures of_kind { IfOk result (λ value. IsTrue (is_value_of kind value)) }
 {
     converted(alloc, literal, kind)
@@ -158,11 +165,11 @@ fn text_into(alloc: Global, text: &str, kind: Kind) -> Result<Value, IntoFault>
             Ok(Value::Text(Text::new(alloc, text)?))
         }
         Kind::Boolean => truth_of_text(text),
-        Kind::Moment => match read_moment(text) {
+        Kind::Moment => match moment_of(text.as_bytes()) {
             Some(ms) => Ok(Value::Moment(ms)),
             None => Err(IntoFault::WrongKind),
         },
-        _ => spelled_into(read_number(text), kind),
+        _ => spelled_into(number_of(text.as_bytes()), kind),
     }
 }
 

@@ -1,7 +1,9 @@
-ghost use Rattle.std.specs.Prelude.{◌≡◌, ◌++◌, ◌≤◌, length, OnOk, OnErr};
+ghost use Rattle.std.specs.Prelude.{◌≡◌, ◌↔◌, ◌++◌, ◌≤◌, length, Some, None, OnOk, OnErr};
 ghost use Rattle.std.specs.List.{list_all, position_or_len};
 ghost use Rattle.std.specs.Str.{str_eq_ignore_ascii_case};
-ghost use Rattle.lq_base.specs.Kind.{is_kind, plain_kind, sized_kind, decimal_kind, plain_number, is_blank, is_no_blank, is_no_digit, number_before_blanks, spaced_number, kind_with, kind_after_open, kind_by_parts, kind_of, kind_text};
+ghost use Rattle.lq_base.specs.Kind.{is_kind, plain_kind, sized_kind, decimal_kind, plain_number, is_blank, is_no_blank, is_no_digit, number_before_blanks, spaced_number, kind_with, kind_after_open, kind_of, kind_text};
+ghost use Rattle.lq_base.specs.Spells.{NamesKind};
+ghost use Rattle.lq_base.specs.declared.kind.Kind.{Kind};
 
 use crate::dialect::Dialect;
 use crate::memory::NoMemory;
@@ -29,11 +31,11 @@ pub enum Kind {
 impl Kind {
     /// The kind that a changelog's text names, in any ASCII case; blanks around the numbers in
     /// parentheses are free. None where it names none.
-    #[tactic(auto, unfolding(crate::specs::Kind::kind_of))]
     pub fn read(text: &str) -> Option<Kind>
-        ensures { result ≡ kind_of text.now }
+        ensures named { (kind : Kind) → (result ≡ Some kind) ↔ NamesKind text.now kind }
+        ensures none { (result ≡ None) ↔ ((kind : Kind) → ¬ (NamesKind text.now kind)) }
     {
-        kind_by_parts(text.as_bytes())
+        kind_of(text.as_bytes())
     }
 
     /// The kind that one word names, in any ASCII case.
@@ -136,8 +138,9 @@ pub fn is_word(text: &[u8], word: &str) -> bool
     text.eq_ignore_ascii_case(word.as_bytes())
 }
 
-fn kind_by_parts(text: &[u8]) -> Option<Kind>
-    ensures { result ≡ kind_by_parts text.now }
+#[tactic(auto, unfolding(crate::specs::Kind::kind_of))]
+fn kind_of(text: &[u8]) -> Option<Kind>
+    ensures { result ≡ kind_of text.now }
 {
     let open = place_of(text, b'(');
     if open < text.len() {

@@ -48,13 +48,13 @@ pub fn kind_reads_back()
     ensures { KindReadsBack }
 {}
 
-/// A whole number of at most 38 digits is read from its printed text.
+/// The printed text of a whole number of at most 38 digits spells it.
 pub fn whole_reads_back()
     ensures { WholeReadsBack }
 {}
 
-/// A decimal number of at most 38 digits with 1 to 37 of them after the dot is read from its
-/// printed text. (38 after it and the 0 before it would be 39.)
+/// The printed text of a decimal number of at most 38 digits with 1 to 37 of them after the dot
+/// spells it. (38 after it and the 0 before it would be 39.)
 pub fn fixed_reads_back()
     ensures { FixedReadsBack }
 {}

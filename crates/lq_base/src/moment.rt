@@ -1,7 +1,8 @@
-ghost use Rattle.std.specs.Prelude.{◌≡◌, ◌<◌, ◌≤◌, ◌+◌, ◌*◌, ◌^◌, ◌%◌, ◌-◌, ◌++◌, ◌+ℤ◌, ◌*ℤ◌, ◌<ℤ◌, ◌≤ℤ◌, ℤ, pos, negsuc, neg_ℤ, unsigned_abs, ◌∷◌, take, drop, length, OnOk, OnErr, IfSome, ◌==◌, Some, None};
+ghost use Rattle.std.specs.Prelude.{◌≡◌, ◌↔◌, ◌<◌, ◌≤◌, ◌+◌, ◌*◌, ◌^◌, ◌%◌, ◌-◌, ◌++◌, ◌+ℤ◌, ◌*ℤ◌, ◌<ℤ◌, ◌≤ℤ◌, ℤ, pos, negsuc, neg_ℤ, unsigned_abs, ◌∷◌, take, drop, length, OnOk, OnErr, IfSome, ◌==◌, Some, None};
 ghost use Rattle.jiff_core.specs.Date.{epoch_day};
-ghost use Rattle.lq_base.specs.Moment.{IsMoment, is_moment, has_byte, has_day_marks, has_clock_marks, has_marks, digits_at, day_number, day_of, clock_number, clock_of, moment_by_parts, moment_of, moment_text, text_since, clock_text, day_text, day_after, day_of_date};
+ghost use Rattle.lq_base.specs.Moment.{IsMoment, is_moment, has_byte, has_day_marks, has_clock_marks, has_marks, digits_at, day_number, day_of, clock_number, clock_of, moment_of, moment_text, text_since, clock_text, day_text, day_after, day_of_date};
 ghost use Rattle.lq_base.specs.Number.{last_digits};
+ghost use Rattle.lq_base.specs.Spells.{SpellsMoment};
 
 use crate::memory::NoMemory;
 use crate::number::{all_digits, value_after};
@@ -12,15 +13,16 @@ use std::str;
 /// The moment that a text spells, in milliseconds since 1970-01-01 00:00:00: `YYYY-MM-DD`, then
 /// nothing, or a blank or `T` and `HH:MM:SS`, or that and `.mmm`; a day of the years 0001 to 9999.
 /// None where it spells none.
-#[tactic(auto, unfolding(crate::specs::Moment::moment_of))]
 pub fn read_moment(text: &str) -> Option<i64>
-    ensures { result ≡ moment_of text.now }
+    ensures spelled { (ms : ℤ) → (result ≡ Some ms) ↔ SpellsMoment text.now ms }
+    ensures none { (result ≡ None) ↔ ((ms : ℤ) → ¬ (SpellsMoment text.now ms)) }
 {
-    moment_by_parts(text.as_bytes())
+    moment_of(text.as_bytes())
 }
 
-fn moment_by_parts(text: &[u8]) -> Option<i64>
-    ensures { result ≡ moment_by_parts text.now }
+#[tactic(auto, unfolding(crate::specs::Moment::moment_of))]
+pub fn moment_of(text: &[u8]) -> Option<i64>
+    ensures { result ≡ moment_of text.now }
 {
     if !has_marks(text) {
         return None;

@@ -1,9 +1,11 @@
-ghost use Rattle.std.specs.Prelude.{◌≡◌, ◌+◌, ◌*◌, ◌/◌, ◌^◌, ◌<◌, ◌≤◌, ◌==◌, ◌++◌, true, length, min, OnOk, OnErr, string_bytes, unsigned_abs};
+ghost use Rattle.std.specs.Prelude.{◌≡◌, ◌↔◌, ◌+◌, ◌*◌, ◌/◌, ◌^◌, ◌<◌, ◌≤◌, ◌==◌, ◌++◌, true, length, min, Some, None, OnOk, OnErr, string_bytes, unsigned_abs};
 ghost use Rattle.std.specs.Bool.{OnTrue};
 ghost use Rattle.std.specs.Char.{is_ascii_digit};
 ghost use Rattle.std.specs.List.{list_all, position_or_len};
 ghost use Rattle.std.specs.Str.Parse.{digits_value_after, starts_with_minus};
 ghost use Rattle.lq_base.specs.Number.{signed, is_digits, is_dot, without_minus, whole_number, decimal_number, unsigned_number, number_of, has_digits, whole_text, last_digits, fixed_text};
+ghost use Rattle.lq_base.specs.Spells.{SpellsNumber};
+ghost use Rattle.lq_base.specs.declared.literal.Literal.{Literal};
 
 use crate::literal::Literal;
 use crate::memory::NoMemory;
@@ -13,12 +15,18 @@ use std::alloc::{AllocError, Global};
 
 /// The number that a text spells: `-?digits`, or `-?digits.digits`, with at most 38 digits. None
 /// where it spells none.
-#[tactic(auto, unfolding(crate::specs::Number::number_of))]
 pub fn read_number(text: &str) -> Option<Literal>
+    ensures spelled { (number : Literal) → (result ≡ Some number) ↔ SpellsNumber text.now number }
+    ensures none { (result ≡ None) ↔ ((number : Literal) → ¬ (SpellsNumber text.now number)) }
+{
+    number_of(text.as_bytes())
+}
+
+#[tactic(auto, unfolding(crate::specs::Number::number_of))]
+pub fn number_of(text: &[u8]) -> Option<Literal>
     ensures { result ≡ number_of text.now }
 {
-    let bytes = text.as_bytes();
-    unsigned_number(begins_with_minus(bytes), without_minus(bytes))
+    unsigned_number(begins_with_minus(text), without_minus(text))
 }
 
 fn begins_with_minus(text: &[u8]) -> bool

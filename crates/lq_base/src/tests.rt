@@ -425,8 +425,6 @@ fn fixed_texts(rt: HostRuntime) -> Result<(), Fail> {
     let mut line = Text::new(rt.alloc(), "ran ")?;
     identity(rt.alloc())?.append_to(&mut line)?;
     assert_eq!(rt; line.as_str(), "ran db/a.json::1::ann");
-    assert_eq!(rt; Reason::NotOne.text(), "not one value");
-    assert_eq!(rt; Reason::NullFound.text(), "null found");
     assert_eq!(rt; Exec::MarkRan.text(), "MARK_RAN");
     assert_eq!(rt; Dialect::Postgresql.text(), "postgresql");
     assert_eq!(rt; Dialect::Mysql.text(), "mysql");
@@ -434,6 +432,28 @@ fn fixed_texts(rt: HostRuntime) -> Result<(), Fail> {
     let later = Text::new(rt.alloc(), "ab")?;
     assert!(rt; earlier < later && earlier != later);
     Ok(())
+}
+
+#[test]
+fn reasons(rt: HostRuntime) {
+    let reasons = [
+        (1, Reason::Exists, "exists"),
+        (2, Reason::Missing, "missing"),
+        (3, Reason::Depends, "depends"),
+        (4, Reason::NullFound, "null found"),
+        (5, Reason::Duplicate, "duplicate"),
+        (6, Reason::NoParent, "no parent"),
+        (7, Reason::HasChildren, "has children"),
+        (8, Reason::TooWide, "too wide"),
+        (9, Reason::WrongKind, "wrong kind"),
+        (10, Reason::Reserved, "reserved"),
+        (11, Reason::TooManyRows, "too many rows"),
+        (12, Reason::NotOne, "not one value"),
+    ];
+    for (number, reason, text) in reasons {
+        assert_eq!(rt; reason as u8, number, "{text}");
+        assert_eq!(rt; reason.text(), text);
+    }
 }
 
 #[test]
