@@ -244,7 +244,7 @@ fn printed_moments(rt: HostRuntime) -> Result<(), Fail> {
         let mut text = Text::new(rt.alloc(), "")?;
         print_moment(ms, &mut text)?;
         assert_eq!(rt; text.as_str(), want);
-        assert_eq!(rt; read_moment(want), Some(ms), "{want}");
+        assert_eq!(rt; read_moment(want), Some(ms), "{ms}");
     }
     Ok(())
 }
