@@ -20,6 +20,7 @@ pub fn read_moment(text: &str) -> Option<i64>
     moment_of(text.as_bytes())
 }
 
+/// The moment that some bytes spell, as `read_moment` reads it, for readers of a text's parts.
 #[tactic(auto, unfolding(crate::specs::Moment::moment_of))]
 pub fn moment_of(text: &[u8]) -> Option<i64>
     ensures { result ≡ moment_of text.now }

@@ -22,6 +22,7 @@ pub fn read_number(text: &str) -> Option<Literal>
     number_of(text.as_bytes())
 }
 
+/// The number that some bytes spell, as `read_number` reads it, for readers of a text's parts.
 #[tactic(auto, unfolding(crate::specs::Number::number_of))]
 pub fn number_of(text: &[u8]) -> Option<Literal>
     ensures { result ≡ number_of text.now }
