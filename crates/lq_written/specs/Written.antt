@@ -57,9 +57,12 @@ statement_of (TableDropped table) = DropTable table
 statement_of (RowInserted row) = row_inserted (tracked_of row)
 statement_of (RowDeleted identity) = row_deleted identity
 
--- a name that a user may give to a table: no tracking table's in any ASCII case, and not the one of the lock's key
+-- a user may give the name to a table: it is no tracking table's in any ASCII case, nor the one of the lock's key
+abbrev pub may_name : Name → Bool
+may_name table = not (is_reserved User (table ∷ []) || takes_lock_key User Postgresql (table ∷ []))
+
 abbrev pub is_users : Name → Bool
-is_users table = is_name table && not (is_reserved User (table ∷ []) || takes_lock_key User Postgresql (table ∷ []))
+is_users table = is_name table && may_name table
 
 abbrev pub is_column : WrittenColumn → Bool
 is_column c = is_name c.name && is_kind c.kind
