@@ -8,7 +8,7 @@ use Rattle.lq_written.specs.declared.written.WrittenColumn.{WrittenColumn}
 abbrev pub behind_columns : List WrittenColumn → Option (List WrittenColumn) → Option (List WrittenColumn)
 behind_columns made found = option_map (λ more. made ++ more) found
 
-abbrev one_column : ℕ → Option (WrittenColumn × List ℕ) → Option (List WrittenColumn)
+abbrev pub one_column : ℕ → Option (WrittenColumn × List ℕ) → Option (List WrittenColumn)
 one_column most found = option_and_then (λ column. option_map (λ more. column.0 ∷ more) (more_columns (front_columns most) (after (codes ", ") column.1))) found
 
 pub columns_are : (most : ℕ) (text : List ℕ) → front_columns (suc most) text ≡ one_column most (front_column text)

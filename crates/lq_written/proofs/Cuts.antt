@@ -70,7 +70,7 @@ cut_is mark text (Some x) split = sym (ap (cut_at mark) split.0 ∙ cut_parts ma
 
 -- ---- between quotes
 
-other_byte : (q b : ℕ) (rest : List ℕ) → (b == q) ≡ false → quoted q (b ∷ rest) ≡ before b (quoted q rest)
+pub other_byte : (q b : ℕ) (rest : List ℕ) → (b == q) ≡ false → quoted q (b ∷ rest) ≡ before b (quoted q rest)
 unfolding quoted
 other_byte q b [] other = rw other refl
 other_byte q b (c ∷ rest) other = rw other refl

@@ -1,2 +1,5 @@
 pub mod ColumnSteps
+pub mod Complete
 pub mod Cuts
+pub mod Names
+pub mod Told

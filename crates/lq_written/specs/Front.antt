@@ -1,6 +1,8 @@
 -- What stands at the front of a text.
-use Rattle.std.specs.Prelude.{ℕ, List, [], ◌∷◌, ◌==◌, Option, Some, None, option_map, option_and_then, if◌then◌else◌}
-use Rattle.lq_base.specs.Kind.{plain_number}
+use Rattle.std.specs.Prelude.{ℕ, pos, List, [], ◌∷◌, ◌==◌, Option, Some, None, option_map, option_and_then, if◌then◌else◌}
+use Rattle.lq_base.specs.Number.{number_of}
+use Rattle.lq_base.specs.declared.literal.Literal.{Literal}
+use Rattle.lq_base.specs.declared.literal.Literal.TheVariants.{Int}
 use Rattle.lq_written.specs.declared.front.Quote.{Quote}
 use Rattle.lq_written.specs.declared.front.Quote.TheVariants as quote
 
@@ -34,7 +36,12 @@ quoted q (b ∷ c ∷ rest) =
 abbrev pub quoted_after : Quote → List ℕ → List ℕ → Option (List ℕ × List ℕ)
 quoted_after quote words text = option_and_then (quoted (mark_of quote)) (after words text)
 
+-- a whole number that is not negative
+unfoldable pub natural_of : Option Literal → Option ℕ
+natural_of (Some (Int (pos n))) = Some n
+natural_of _ = None
+
 -- the number behind the words and before the mark
 abbrev pub number_after : List ℕ → ℕ → List ℕ → Option (ℕ × List ℕ)
 number_after words mark text =
-    option_and_then (λ parts. option_map (λ n. (n, parts.1)) (plain_number parts.0)) (option_and_then (cut_at mark) (after words text))
+    option_and_then (λ parts. option_map (λ n. (n, parts.1)) (natural_of (number_of parts.0))) (option_and_then (cut_at mark) (after words text))

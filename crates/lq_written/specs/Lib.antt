@@ -1,3 +1,5 @@
+pub mod AnyCase
 pub mod Front
+pub mod Laws
 pub mod Reading
 pub mod Written

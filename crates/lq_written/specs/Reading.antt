@@ -87,9 +87,13 @@ front_columns (suc most) text =
 abbrev pub columns_in : List ℕ → Option (List WrittenColumn)
 columns_in text = front_columns (length text) text
 
+-- a user may give the name to a table
+unfoldable pub is_free : Name → Bool
+is_free name = is_users name
+
 abbrev created_with : Name × List ℕ → Option Written
 created_with name =
-    if is_users name.0 then option_map (λ columns. TableCreated name.0 columns) (option_and_then columns_in (after (codes " (") name.1)) else None
+    if is_free name.0 then option_map (λ columns. TableCreated name.0 columns) (option_and_then columns_in (after (codes " (") name.1)) else None
 
 -- a user's table
 unfoldable pub created_in : List ℕ → Option Written

@@ -1,7 +1,7 @@
 ghost use Rattle.std.specs.Prelude.{◌≡◌, ◌<◌, ◌∷◌, [], length, option_map, IfOk, IfSome};
-ghost use Rattle.lq_written.specs.Front.{after, cut_at, mark_of, number_after, quoted, quoted_after};
+ghost use Rattle.lq_written.specs.Front.{after, cut_at, mark_of, natural_of, number_after, quoted, quoted_after};
 
-use lq_base::{NoMemory, Text, plain_number};
+use lq_base::{Literal, NoMemory, Text, read_number};
 use std::alloc::Global;
 
 /// What stands around a name, and around a string.
@@ -88,12 +88,24 @@ pub fn quoted_after<'a>(
     }
 }
 
+#[tactic(auto, unfolding(crate::specs::Front::natural_of))]
+fn natural_of(number: Option<Literal>) -> Option<u128>
+    ensures { result ≡ natural_of number }
+{
+    match number {
+        Some(Literal::Int(n)) => {
+            if n >= 0 { Some(n as u128) } else { None }
+        }
+        _ => None,
+    }
+}
+
 /// The number behind the words and before the mark.
 pub fn number_after<'a>(words: &str, mark: char, text: &'a str) -> Option<(u128, &'a str)>
     requires { mark < 128 }
     ensures { option_map (λ parts. (parts.0, parts.1.now)) result ≡ number_after words.now mark text.now }
 {
     let (digits, rest) = cut_at(mark, after(words, text)?)?;
-    let number = plain_number(digits.as_bytes())?;
+    let number = natural_of(read_number(digits))?;
     Some((number, rest))
 }

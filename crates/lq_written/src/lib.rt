@@ -3,10 +3,14 @@
 
 mod columns;
 mod front;
+mod laws;
+mod reading;
 mod text;
 mod valid;
 mod written;
 
+pub use laws::{texts_tell, texts_tell_each};
+pub use reading::candidate;
 pub use text::text_of;
 pub use valid::is_written;
 pub use written::{Written, WrittenColumn, WrittenRow};

@@ -1,5 +1,4 @@
 ghost use Rattle.std.specs.Prelude.{◌≡◌, ◌≤◌, ◌<◌, ◌∷◌, [], None, true, map, IfOk};
-ghost use Rattle.std.specs.List.{first_or};
 ghost use Rattle.lq_base.specs.Moment.{IsMoment};
 ghost use Rattle.lq_base.specs.declared.dialect.Dialect.TheVariants.{Postgresql};
 ghost use Rattle.lq_model.specs.StatementText.{text_of};
@@ -15,10 +14,23 @@ use lq_sql::print;
 use lq_track::{Ran, delete_row, free_lock, insert_row, make_tables, row_of, take_lock};
 use std::alloc::Global;
 
-fn printed(alloc: Global, statement: &Statement) -> Result<Text, NoMemory>
-    ensures { IfOk result (λ text. text ≡ text_of Postgresql statement.now) }
+// Takes a statement into a list.
+fn alone(alloc: Global, statement: Statement) -> Result<Items<Statement>, NoMemory>
+    ensures { IfOk result (λ all. all ≡ statement ∷ []) }
 {
-    print(alloc, Dialect::Postgresql, statement)
+    let mut all = Items::new(alloc);
+    all.push(statement)?;
+    Ok(all)
+}
+
+fn printed(alloc: Global, statement: Statement) -> Result<Text, NoMemory>
+    ensures { IfOk result (λ text. text ≡ text_of Postgresql statement) }
+{
+    let all = alone(alloc, statement)?;
+    match all.as_slice() {
+        [one, ..] => print(alloc, Dialect::Postgresql, one),
+        _ => unreachable!(),
+    }
 }
 
 fn log_made(alloc: Global) -> Result<Text, NoMemory>
@@ -26,8 +38,8 @@ fn log_made(alloc: Global) -> Result<Text, NoMemory>
 {
     let made = make_tables(alloc, Dialect::Postgresql)?;
     match made.as_slice() {
-        [log, ..] => printed(alloc, log),
-        [] => unreachable!(),
+        [log, ..] => print(alloc, Dialect::Postgresql, log),
+        _ => unreachable!(),
     }
 }
 
@@ -36,7 +48,7 @@ fn lock_made(alloc: Global) -> Result<Text, NoMemory>
 {
     let made = make_tables(alloc, Dialect::Postgresql)?;
     match made.as_slice() {
-        [_, lock, ..] => printed(alloc, lock),
+        [_, lock, ..] => print(alloc, Dialect::Postgresql, lock),
         _ => unreachable!(),
     }
 }
@@ -46,8 +58,8 @@ fn lock_row_made(alloc: Global) -> Result<Text, NoMemory>
 {
     let made = make_tables(alloc, Dialect::Postgresql)?;
     match made.as_slice() {
-        [.., row] => printed(alloc, row),
-        [] => unreachable!(),
+        [.., row] => print(alloc, Dialect::Postgresql, row),
+        _ => unreachable!(),
     }
 }
 
@@ -92,32 +104,27 @@ fn create_table(
 fn table_created(alloc: Global, table: &Name, columns: &[WrittenColumn]) -> Result<Text, NoMemory>
     ensures { IfOk result (λ text. text ≡ text_of Postgresql (statement.CreateTable table.now (map def_of columns.now) None [] [])) }
 {
-    let statement = create_table(alloc, table, columns)?;
-    printed(alloc, &statement)
+    printed(alloc, create_table(alloc, table, columns)?)
 }
 
 fn table_dropped(alloc: Global, table: &Name) -> Result<Text, NoMemory>
     ensures { IfOk result (λ text. text ≡ text_of Postgresql (statement.DropTable table.now)) }
 {
-    let statement = Statement::DropTable {
-        table: table.duplicate(alloc)?,
-    };
-    printed(alloc, &statement)
+    let table = table.duplicate(alloc)?;
+    printed(alloc, Statement::DropTable { table })
 }
 
 fn lock_taken(alloc: Global, at: i64, by: &Text) -> Result<Text, NoMemory>
     requires { IsMoment at }
     ensures { IfOk result (λ text. text ≡ text_of Postgresql (lock_taken at by.now)) }
 {
-    let statement = take_lock(alloc, at, by)?;
-    printed(alloc, &statement)
+    printed(alloc, take_lock(alloc, at, by)?)
 }
 
 fn lock_freed(alloc: Global) -> Result<Text, NoMemory>
     ensures { IfOk result (λ text. text ≡ text_of Postgresql lock_freed) }
 {
-    let statement = free_lock(alloc)?;
-    printed(alloc, &statement)
+    printed(alloc, free_lock(alloc)?)
 }
 
 // The row, whose description is not cut.
@@ -148,15 +155,13 @@ fn row_inserted(alloc: Global, row: &WrittenRow) -> Result<Text, NoMemory>
     ensures { IfOk result (λ text. text ≡ text_of Postgresql (row_inserted (tracked_of row.now))) }
 {
     let row = tracked_of(alloc, row)?;
-    let statement = insert_row(alloc, &row)?;
-    printed(alloc, &statement)
+    printed(alloc, insert_row(alloc, &row)?)
 }
 
 fn row_deleted(alloc: Global, of: &Identity) -> Result<Text, NoMemory>
     ensures { IfOk result (λ text. text ≡ text_of Postgresql (row_deleted of.now)) }
 {
-    let statement = delete_row(alloc, of)?;
-    printed(alloc, &statement)
+    printed(alloc, delete_row(alloc, of)?)
 }
 
 /// The canonical text of the statement.
