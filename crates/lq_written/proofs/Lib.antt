@@ -2,4 +2,5 @@ pub mod ColumnSteps
 pub mod Complete
 pub mod Cuts
 pub mod Names
+pub mod RowMade
 pub mod Told

@@ -7,10 +7,11 @@ mod laws;
 mod reading;
 mod text;
 mod valid;
+mod whole;
 mod written;
 
 pub use laws::{texts_tell, texts_tell_each};
-pub use reading::candidate;
 pub use text::text_of;
 pub use valid::is_written;
+pub use whole::read_written;
 pub use written::{Written, WrittenColumn, WrittenRow};

@@ -197,7 +197,7 @@ fn inserted_in(alloc: Global, text: &str) -> Result<Option<Written>, NoMemory>
     })))
 }
 
-/// The one statement whose canonical text this may be.
+// The one statement whose canonical text this may be.
 #[tactic(auto, unfolding(crate::specs::Reading::candidate))]
 pub fn candidate(alloc: Global, text: &str) -> Result<Option<Written>, NoMemory>
     ensures { IfOk result (λ found. found ≡ candidate text.now) }

@@ -150,12 +150,20 @@ fn tracked_of(alloc: Global, row: &WrittenRow) -> Result<Tracked, NoMemory>
     Ok(made)
 }
 
+fn insertion(alloc: Global, row: &WrittenRow) -> Result<Statement, NoMemory>
+    requires { row.now.date ≤ 253402300799999 }
+    ensures { IfOk result (λ made. made ≡ row_inserted (tracked_of row.now)) }
+{
+    let row = tracked_of(alloc, row)?;
+    let statement = insert_row(alloc, &row)?;
+    Ok(statement)
+}
+
 fn row_inserted(alloc: Global, row: &WrittenRow) -> Result<Text, NoMemory>
     requires { row.now.date ≤ 253402300799999 }
     ensures { IfOk result (λ text. text ≡ text_of Postgresql (row_inserted (tracked_of row.now))) }
 {
-    let row = tracked_of(alloc, row)?;
-    printed(alloc, insert_row(alloc, &row)?)
+    printed(alloc, insertion(alloc, row)?)
 }
 
 fn row_deleted(alloc: Global, of: &Identity) -> Result<Text, NoMemory>
