@@ -1,5 +1,5 @@
 -- Each statement is read from its canonical text.
-use Rattle.std.proofs.Common.{◌≡◌, ◌<◌, ◌≤◌, ◌==◌, ◌&&◌, ◌+◌, ◌^◌, ◌∙◌, Bool, List, None, Option, Some, [], ap, append-nil, append_assoc, arith, codes, false, leb, length, length-append, map, option_and_then, option_map, pos, refl, rules, suc, sym, tests, true, zero, ℕ, ℤ, ◌++◌, ◌∷◌}
+use Rattle.std.proofs.Common.{Err, IfOk, IfSome, Ok, Result, bytes_eq, cond, subst, ◌≡◌, ◌<◌, ◌≤◌, ◌==◌, ◌&&◌, ◌+◌, ◌^◌, ◌∙◌, Bool, List, None, Option, Some, [], ap, append-nil, append_assoc, arith, codes, false, leb, length, length-append, map, option_and_then, option_map, pos, refl, rules, suc, sym, tests, true, zero, ℕ, ℤ, ◌++◌, ◌∷◌}
 use Rattle.std.proofs.lemmas.Bool.{and_parts, leb-true}
 use Rattle.std.specs.Fmt.{decimal}
 use Rattle.std.specs.List.{list_all}
@@ -26,6 +26,10 @@ use Rattle.lq_track.specs.declared.log_column.LogColumn.{LogColumn}
 use Rattle.lq_track.specs.declared.log_column.LogColumn.TheVariants as log
 use Rattle.lq_written.specs.Front.{after, quoted}
 use Rattle.lq_written.specs.Reading.{candidate, columns_in, created_in, deleted_in, dropped_in, fixed_in, front_column, front_columns, front_date, front_kind, front_nullable, front_order, front_texts, identity_after, inserted_in, is_free, moment_after, name_after, row_words, taken_in}
+use Rattle.std.proofs.lemmas.Option.{cond_some, option_and_then_some}
+use Rattle.std.proofs.lemmas.Slice.Eq.{bytes_eq-Decides}
+use Rattle.lq_base.specs.declared.memory.NoMemory.{NoMemory}
+use Rattle.lq_written.specs.Told.{canonical, checked, is_valid, told}
 use Rattle.lq_written.specs.Written.{Tells, TellsEach, are_columns, def_of, is_column, is_row, is_users, is_written, may_name, statement_of, tracked_of}
 use Rattle.lq_written.specs.declared.written.Written.{Written}
 use Rattle.lq_written.specs.declared.written.Written.TheVariants.{LockFreed, LockMade, LockRowMade, LockTaken, LogMade, RowDeleted, RowInserted, TableCreated, TableDropped}
@@ -231,8 +235,31 @@ told_read (TableDropped t) fits = dropped_read t (and_parts (is_name t) (may_nam
 told_read (RowInserted row) fits = inserted_read row fits
 told_read (RowDeleted of) fits = deleted_read of
 
-pub reads : (text : List ℕ) (w : Written) → Tells text w → candidate text ≡ Some w
-reads text w tells = ap candidate tells.0 ∙ told_read w tells.1
+-- ---- what is told
+
+reads : (text : List ℕ) (w : Written) → Tells text w → told text ≡ Some w
+unfolding told is_valid canonical
+reads text w tells =
+    let found : candidate text ≡ Some w = ap candidate tells.0 ∙ told_read w tells.1 in
+    let same : bytes_eq (text_of Postgresql (statement_of w)) text ≡ true = (bytes_eq-Decides (text_of Postgresql (statement_of w)) text).1 (sym tells.0) in
+    ap (option_and_then (checked text)) found
+    ∙ ap (λ b. cond b (cond (bytes_eq (text_of Postgresql (statement_of w)) text) (Some w) None) None) tells.1
+    ∙ ap (λ b. cond b (Some w) None) same
+
+kept : (text : List ℕ) (v w : Written) → checked text v ≡ Some w → Tells text w
+unfolding is_valid canonical
+kept text v w is =
+    let valid = cond_some_from (is_written v) (cond (bytes_eq (text_of Postgresql (statement_of v)) text) (Some v) None) w is in
+    let same = cond_some (bytes_eq (text_of Postgresql (statement_of v)) text) v w valid.1 in
+    subst (Tells text) same.1 (sym ((bytes_eq-Decides (text_of Postgresql (statement_of v)) text).0 same.0), valid.0)
+  where
+    cond_some_from : (b : Bool) (o : Option Written) (x : Written) → cond b o None ≡ Some x → (b ≡ true) × (o ≡ Some x)
+    cond_some_from true o x e = (refl, e)
+    cond_some_from false o x e = let clash : None ≡ Some x = e in cc
+
+tells_told : (text : List ℕ) (w : Written) → told text ≡ Some w → Tells text w
+unfolding told
+tells_told text w is = option_and_then_some (checked text) (candidate text) w is (λ v found kept_is. kept text v w kept_is)
 
 pub tell_one : (text : List ℕ) (w v : Written) → Tells text w → Tells text v → w ≡ v
 tell_one text w v one other = let same : Some w ≡ Some v = sym (reads text w one) ∙ reads text v other in cc
@@ -244,3 +271,16 @@ tell_each [] (w ∷ ws) vs one other = absurd one
 tell_each (text ∷ more) [] vs one other = absurd one
 tell_each (text ∷ more) (w ∷ ws) [] one other = absurd other
 tell_each (text ∷ more) (w ∷ ws) (v ∷ vs) one other = rw (tell_one text w v one.0 other.0, tell_each more ws vs one.1 other.1) refl
+
+some_tells : (text : List ℕ) (found : Option Written) → found ≡ told text → IfSome found (λ w. Tells text w)
+some_tells text None is = tt
+some_tells text (Some w) is = tells_told text w (sym is)
+
+pub told_some : (text : List ℕ) (r : Result (Option Written) NoMemory) → IfOk r (λ found. found ≡ told text) → IfOk r (λ found. IfSome found (λ w. Tells text w))
+told_some text (Ok found) is = some_tells text found is
+told_some text (Err fault) is = tt
+
+pub told_none : (text : List ℕ) (r : Result (Option Written) NoMemory) → IfOk r (λ found. found ≡ told text) → r ≡ Ok None → (w : Written) → Tells text w → ⊥
+told_none text r is none w tells =
+    let nothing : None ≡ told text = subst (λ z. IfOk z (λ found. found ≡ told text)) none is in
+    let both : None ≡ Some w = nothing ∙ reads text w tells in cc

@@ -2,4 +2,5 @@ pub mod AnyCase
 pub mod Front
 pub mod Laws
 pub mod Reading
+pub mod Told
 pub mod Written
