@@ -1,5 +1,5 @@
 -- The columns of a table, one after another.
-use Rattle.std.proofs.Common.{◌≡◌, ◌∙◌, List, None, Option, Some, [], ap, append-nil, append_assoc, codes, option_and_then, option_map, refl, suc, sym, zero, ℕ, ◌++◌, ◌∷◌}
+use Rattle.std.proofs.Common.{◌≡◌, ◌∙◌, List, None, Option, Some, [], ap, append_assoc, codes, option_and_then, option_map, refl, suc, sym, zero, ℕ, ◌++◌, ◌∷◌}
 use Rattle.lq_written.specs.Front.{after}
 use Rattle.lq_written.specs.Reading.{front_column, front_columns, more_columns}
 use Rattle.lq_written.specs.declared.written.WrittenColumn.{WrittenColumn}

@@ -1,5 +1,5 @@
 -- What is read from the canonical text of a statement is that statement.
-use Rattle.std.proofs.Common.{◌≡◌, ◌<◌, ◌≤◌, ◌==◌, ◌&&◌, ◌+◌, ◌%◌, ◌^◌, ◌∙◌, Bool, List, None, Option, Some, [], ap, append-nil, append_assoc, arith, codes, cond, false, inl, inr, leb, length, length-append, map, not, option_and_then, option_map, pos, refl, rules, subst, suc, sym, tests, true, zero, ℕ, ℤ, ◌++◌, ◌∷◌}
+use Rattle.std.proofs.Common.{◌≡◌, ◌<◌, ◌≤◌, ◌==◌, ◌&&◌, ◌+◌, ◌%◌, ◌^◌, ◌∙◌, List, Option, Some, [], ap, append_assoc, arith, codes, false, inl, inr, leb, option_and_then, option_map, pos, refl, sym, tests, true, ℕ, ◌++◌, ◌∷◌}
 use Rattle.std.proofs.lemmas.Bool.{and_parts, eq-eqb}
 use Rattle.std.proofs.lemmas.Bool.Decides.{eqb_tells}
 use Rattle.std.proofs.lemmas.Bool.{leb-true}
@@ -11,11 +11,9 @@ use Rattle.lq_base.specs.Number.{number_of}
 use Rattle.lq_base.specs.declared.kind.Kind.{Kind}
 use Rattle.lq_base.specs.declared.kind.Kind.TheVariants as kind
 use Rattle.lq_base.specs.declared.dialect.Dialect.TheVariants.{Postgresql}
-use Rattle.lq_model.specs.Phrase.{words}
-use Rattle.lq_model.specs.Quoting.{doubled, name_text, string_text}
-use Rattle.lq_written.specs.Front.{after, before, cut_at, mark_of, natural_of, quoted, quoted_after}
+use Rattle.lq_model.specs.Quoting.{doubled}
+use Rattle.lq_written.specs.Front.{after, before, cut_at, natural_of, quoted}
 use Rattle.lq_written.specs.Reading.{decimal_kind, front_kind, plain_kind, sized_kind}
-use Rattle.lq_written.specs.declared.front.Quote.TheVariants as quote
 use Rattle.lq_written.proofs.Cuts.{begins, once, other_byte, twice}
 
 -- ---- between quotes
@@ -96,5 +94,9 @@ kind_front (kind.Decimal digits scale) h rest =
     let fewer : scale ≤ digits = leb-true _ _ parts.1 in
     let one : leb digits 255 ≡ true = grind (arith, tests) in
     let two : leb scale 255 ≡ true = grind (arith, tests) in
-    rw (number_front 44 digits ((((decimal digits ++ codes ", ") ++ decimal scale) ++ 41 ∷ []) ++ rest) (32 ∷ (decimal scale ++ 41 ∷ rest)) (omega arith) (omega arith) (simp append_assoc),
-    number_front 41 scale (decimal scale ++ 41 ∷ rest) rest (omega arith) (omega arith) refl, one, two) refl
+    rw (
+      number_front 44 digits ((((decimal digits ++ codes ", ") ++ decimal scale) ++ 41 ∷ []) ++ rest) (32 ∷ (decimal scale ++ 41 ∷ rest)) (omega arith) (omega arith) (simp append_assoc),
+      number_front 41 scale (decimal scale ++ 41 ∷ rest) rest (omega arith) (omega arith) refl,
+      one,
+      two,
+    ) refl

@@ -1,5 +1,5 @@
 -- Texts taken apart at their fronts.
-use Rattle.std.proofs.Common.{◌≡◌, ◌≢◌, ◌<◌, ◌==◌, ◌∙◌, Bor, Bool, IfSome, List, None, Option, Some, [], ap, append-nil, append_assoc, arith, cond, false, get_or, inl, inr, length, option_map, refl, rules, suc, sym, true, ℕ, ◌++◌, ◌∷◌}
+use Rattle.std.proofs.Common.{◌≡◌, ◌≢◌, ◌<◌, ◌==◌, ◌∙◌, Bor, Bool, IfSome, List, None, Option, Some, [], ap, append-nil, append_assoc, arith, false, get_or, inl, inr, length, option_map, refl, rules, suc, sym, ℕ, ◌++◌, ◌∷◌}
 use Rattle.std.specs.Option.{MatchOption}
 use Rattle.std.specs.Str.Pattern.{FindsTextPrefix, StripsPrefix}
 use Rattle.std.proofs.lemmas.Bool.{eq-eqb}

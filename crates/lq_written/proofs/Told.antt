@@ -1,5 +1,5 @@
 -- Each statement is read from its canonical text.
-use Rattle.std.proofs.Common.{Err, IfOk, IfSome, Ok, Result, bytes_eq, cond, subst, ◌≡◌, ◌<◌, ◌≤◌, ◌==◌, ◌&&◌, ◌+◌, ◌^◌, ◌∙◌, Bool, List, None, Option, Some, [], ap, append-nil, append_assoc, arith, codes, false, leb, length, length-append, map, option_and_then, option_map, pos, refl, rules, suc, sym, tests, true, zero, ℕ, ℤ, ◌++◌, ◌∷◌}
+use Rattle.std.proofs.Common.{Err, IfOk, IfSome, Ok, Result, bytes_eq, cond, subst, ◌≡◌, ◌≤◌, ◌==◌, ◌∙◌, Bool, List, None, Option, Some, [], ap, append-nil, append_assoc, arith, codes, false, leb, length, length-append, map, option_and_then, option_map, pos, refl, rules, suc, sym, tests, true, zero, ℕ, ℤ, ◌++◌, ◌∷◌}
 use Rattle.std.proofs.lemmas.Bool.{and_parts, leb-true}
 use Rattle.std.specs.Fmt.{decimal}
 use Rattle.std.specs.List.{list_all}
@@ -25,7 +25,7 @@ use Rattle.lq_track.specs.Statements.{lock_test, log_holds, row_test}
 use Rattle.lq_track.specs.declared.log_column.LogColumn.{LogColumn}
 use Rattle.lq_track.specs.declared.log_column.LogColumn.TheVariants as log
 use Rattle.lq_written.specs.Front.{after, quoted}
-use Rattle.lq_written.specs.Reading.{candidate, columns_in, created_in, deleted_in, dropped_in, fixed_in, front_column, front_columns, front_date, front_kind, front_nullable, front_order, front_texts, identity_after, inserted_in, is_free, moment_after, name_after, row_words, taken_in}
+use Rattle.lq_written.specs.Reading.{candidate, columns_in, created_in, deleted_in, dropped_in, fixed_in, front_column, front_columns, front_date, front_nullable, front_order, front_texts, identity_after, inserted_in, is_free, moment_after, name_after, row_words, taken_in}
 use Rattle.std.proofs.lemmas.Option.{cond_some, option_and_then_some}
 use Rattle.std.proofs.lemmas.Slice.Eq.{bytes_eq-Decides}
 use Rattle.lq_base.specs.declared.memory.NoMemory.{NoMemory}
@@ -185,7 +185,7 @@ deleted_from of =
     let last : List ℕ = codes ")" ++ (codes " AND " ++ (held log.Filename of.file ++ codes ")")) in
     let rest : List ℕ = codes " AND " ++ (held log.Author of.author ++ last) in
     let first : quoted 39 (((((((inside 39 of.id ++ 39 ∷ []) ++ codes " AND ") ++ held log.Author of.author) ++ codes ")") ++ codes " AND ") ++ held log.Filename of.file) ++ codes ")") ≡ Some (of.id, rest) =
-        ap (quoted 39) (regroup (inside 39 of.id) (39 ∷ []) (codes " AND ") (held log.Author of.author) (codes ")") (codes " AND ") (held log.Filename of.file) (codes ")")) ∙ quoted_front 39 of.id rest refl in
+    ap (quoted 39) (regroup (inside 39 of.id) (39 ∷ []) (codes " AND ") (held log.Author of.author) (codes ")") (codes " AND ") (held log.Filename of.file) (codes ")")) ∙ quoted_front 39 of.id rest refl in
     rw (first, quoted_one 39 of.author last refl, quoted_one 39 of.file (codes ")") refl) refl
 
 pub deleted_read : (of : Identity) → Reads (RowDeleted of)

@@ -1,5 +1,5 @@
 -- What a text tells where it is the canonical one of a statement that the commands write. Of another text this says nothing.
-use Rattle.std.specs.Prelude.{ℕ, zero, suc, ℤ, pos, negsuc, Bool, true, false, nat_le, not, ◌&&◌, List, [], ◌∷◌, ◌==◌, length, Option, Some, None, option_map, option_and_then, if◌then◌else◌, codes}
+use Rattle.std.specs.Prelude.{ℕ, zero, suc, ℤ, pos, negsuc, Bool, true, false, nat_le, ◌&&◌, List, [], ◌∷◌, length, Option, Some, None, option_map, option_and_then, if◌then◌else◌, codes}
 use Rattle.lq_base.specs.Moment.{moment_of}
 use Rattle.lq_base.specs.Name.{is_name}
 use Rattle.lq_base.specs.declared.identity.Identity.{Identity}

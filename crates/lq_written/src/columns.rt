@@ -100,10 +100,7 @@ fn kind_behind(text: &str) -> Option<(Kind, &str)>
 }
 
 #[tactic(auto, unfolding(crate::specs::Reading::front_column))]
-fn front_column(
-    alloc: Global,
-    text: &str,
-) -> Result<Option<(WrittenColumn, &str)>, NoMemory>
+fn front_column(alloc: Global, text: &str) -> Result<Option<(WrittenColumn, &str)>, NoMemory>
     ensures { IfOk result (λ found. option_map (λ parts. (parts.0, parts.1.now)) found ≡ front_column text.now) }
 {
     let Some((name, behind)) = name_after(alloc, "\"", text)? else {

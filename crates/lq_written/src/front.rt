@@ -93,9 +93,7 @@ fn natural_of(number: Option<Literal>) -> Option<u128>
     ensures { result ≡ natural_of number }
 {
     match number {
-        Some(Literal::Int(n)) => {
-            if n >= 0 { Some(n as u128) } else { None }
-        }
+        Some(Literal::Int(n)) => { if n >= 0 { Some(n as u128) } else { None } }
         _ => None,
     }
 }

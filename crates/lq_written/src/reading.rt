@@ -57,7 +57,10 @@ fn fixed_in(text: &str) -> Option<Written>
     if after("INSERT INTO \"DATABASECHANGELOGLOCK\" ", text).is_some() {
         return Some(Written::LockRowMade);
     }
-    let _rest = after("UPDATE \"DATABASECHANGELOGLOCK\" SET \"LOCKED\" = FALSE", text)?;
+    let _rest = after(
+        "UPDATE \"DATABASECHANGELOGLOCK\" SET \"LOCKED\" = FALSE",
+        text,
+    )?;
     Some(Written::LockFreed)
 }
 
