@@ -3,4 +3,5 @@ pub mod Complete
 pub mod Cuts
 pub mod Names
 pub mod RowMade
+pub mod ScriptsWritten
 pub mod Told

@@ -5,12 +5,14 @@ mod columns;
 mod front;
 mod laws;
 mod reading;
+mod scripts;
 mod text;
 mod valid;
 mod whole;
 mod written;
 
 pub use laws::{texts_tell, texts_tell_each};
+pub use scripts::{rollback_is_written, update_is_written};
 pub use text::text_of;
 pub use valid::is_written;
 pub use whole::read_written;
