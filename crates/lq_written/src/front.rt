@@ -1,7 +1,7 @@
 ghost use Rattle.std.specs.Prelude.{◌≡◌, ◌<◌, ◌∷◌, [], length, option_map, IfOk, IfSome};
 ghost use Rattle.lq_written.specs.Front.{after, cut_at, mark_of, natural_of, number_after, quoted, quoted_after};
 
-use lq_base::{Literal, NoMemory, Text, read_number};
+use lq_base::{Literal, NoMemory, Text, number_of};
 use std::alloc::Global;
 
 /// What stands around a name, and around a string.
@@ -104,6 +104,6 @@ pub fn number_after<'a>(words: &str, mark: char, text: &'a str) -> Option<(u128,
     ensures { option_map (λ parts. (parts.0, parts.1.now)) result ≡ number_after words.now mark text.now }
 {
     let (digits, rest) = cut_at(mark, after(words, text)?)?;
-    let number = natural_of(read_number(digits))?;
+    let number = natural_of(number_of(digits.as_bytes()))?;
     Some((number, rest))
 }

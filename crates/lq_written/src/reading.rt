@@ -5,7 +5,7 @@ use crate::columns::{columns_in, name_after};
 use crate::front::{Quote, after, number_after, quoted_after};
 use crate::valid::is_users;
 use crate::written::{Written, WrittenRow};
-use lq_base::{Identity, Name, NoMemory, Text, read_moment};
+use lq_base::{Identity, Name, NoMemory, Text, moment_of};
 use std::alloc::Global;
 
 #[tactic(auto, unfolding(crate::specs::Reading::is_free))]
@@ -75,7 +75,7 @@ fn moment_after<'a>(
     let Some((moment, rest)) = quoted_after(alloc, Quote::String, words, text)? else {
         return Ok(None);
     };
-    match read_moment(moment.as_str()) {
+    match moment_of(moment.as_str().as_bytes()) {
         Some(at) => Ok(Some((at, rest))),
         None => Ok(None),
     }
