@@ -1,6 +1,9 @@
 pub mod Parts
 pub mod Complete
 pub mod Sound
+pub mod Splits
+pub mod Scalars
+pub mod Contents
 pub mod Fronts
 pub mod Trim
 pub mod Digits

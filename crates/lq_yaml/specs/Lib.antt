@@ -7,6 +7,9 @@ pub mod Layout
 pub mod Line
 pub mod LineMachine
 pub mod Machine
+pub mod Made
+pub mod MadeLaws
 pub mod Scalar
 pub mod Tree
 pub mod View
+pub mod Written

@@ -1,6 +1,17 @@
 ghost use Rattle.lq_yaml.specs.File.{LinesLayOutOne};
+ghost use Rattle.lq_yaml.specs.MadeLaws.{ScalarsAreFound, ContentsAreFound};
 
 /// The lines of a file lay out at most one node.
 pub fn one_tree()
     ensures { LinesLayOutOne }
+{}
+
+/// The scalar at the front of a text is the one that the reader finds.
+pub fn scalars()
+    ensures { ScalarsAreFound }
+{}
+
+/// What begins at a column of a line is what the reader finds there.
+pub fn contents()
+    ensures { ContentsAreFound }
 {}

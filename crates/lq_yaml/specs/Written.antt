@@ -1,0 +1,75 @@
+-- How scalars are written in a line: what a text is made of, and which characters it means.
+use Rattle.std.specs.Prelude.{◌≡◌, ℕ, ◌==◌, Bool, true, false, cond, List, [], ◌∷◌, ◌++◌, Some, ◌⊎◌}
+use Rattle.std.specs.List.{list_all}
+use Rattle.lq_yaml.specs.Chars.{is_blank}
+use Rattle.lq_yaml.specs.Scalar.{escaped, coded, is_mark}
+
+-- spaces and tabs alone
+abbrev pub AreBlanks : List ℕ → Type 0
+AreBlanks text = list_all is_blank text ≡ true
+
+-- the text begins so
+abbrev pub Begins : List ℕ → List ℕ → Type 0
+Begins part text = (behind : List ℕ) × (text ≡ part ++ behind)
+
+-- the part stands somewhere in the text
+abbrev pub Holds : List ℕ → List ℕ → Type 0
+Holds part text = (before behind : List ℕ) × (text ≡ before ++ (part ++ behind))
+
+-- the text's last character
+abbrev pub HasLast : List ℕ → ℕ → Type 0
+HasLast text c = (before : List ℕ) × (text ≡ before ++ c ∷ [])
+
+-- ---- quoted
+
+-- the characters with each `'` twice
+abbrev pub doubled : List ℕ → List ℕ
+doubled [] = []
+doubled (c ∷ cs) = cond (c == 39) (39 ∷ 39 ∷ doubled cs) (c ∷ doubled cs)
+
+-- `'..'`
+abbrev pub IsSingle : List ℕ → List ℕ → Type 0
+IsSingle text chars = text ≡ 39 ∷ (doubled chars ++ 39 ∷ [])
+
+-- how a character stands between `"`: as itself, unless it is `"` or `\`, by a backslash and a sign, or by `\u` and four hexadecimal digits
+pub data IsPiece (c : ℕ) (text : List ℕ) : Type 0 where
+  itself : (c == 34) ≡ false → (c == 92) ≡ false → text ≡ c ∷ [] → IsPiece c text
+  sign : (s : ℕ) → escaped s ≡ Some c → text ≡ 92 ∷ s ∷ [] → IsPiece c text
+  code : (h i j k : ℕ) → coded h i j k ≡ Some c → text ≡ 92 ∷ 117 ∷ h ∷ i ∷ j ∷ k ∷ [] → IsPiece c text
+
+-- one piece for each character
+abbrev pub ArePieces : List ℕ → List ℕ → Type 0
+ArePieces [] text = text ≡ []
+ArePieces (c ∷ cs) text = (piece more : List ℕ) × (text ≡ piece ++ more) × IsPiece c piece × ArePieces cs more
+
+-- `".."`
+abbrev pub IsDouble : List ℕ → List ℕ → Type 0
+IsDouble text chars = (inside : List ℕ) × (text ≡ 34 ∷ (inside ++ 34 ∷ [])) × ArePieces chars inside
+
+abbrev pub IsQuoted : List ℕ → List ℕ → Type 0
+IsQuoted text chars = IsSingle text chars ⊎ IsDouble text chars
+
+-- ---- plain
+
+pub record IsPlain (text : List ℕ) : Type 0 where
+  -- neither a blank nor a mark stands first
+  pub first : ℕ
+  pub begins : Begins (first ∷ []) text
+  pub no_blank : is_blank first ≡ false
+  pub no_mark : is_mark first ≡ false
+  -- neither a blank nor `:` stands last
+  pub last : ℕ
+  pub ends : HasLast text last
+  pub no_last_blank : is_blank last ≡ false
+  pub no_last_colon : (last == 58) ≡ false
+  -- it is not `-`, and does not begin with `- ` or `? `
+  pub no_dash : text ≡ 45 ∷ [] → ⊥
+  pub no_item : Begins (45 ∷ 32 ∷ []) text → ⊥
+  pub no_question : Begins (63 ∷ 32 ∷ []) text → ⊥
+  -- it holds neither `: ` nor ` #`
+  pub no_pair : Holds (58 ∷ 32 ∷ []) text → ⊥
+  pub no_comment : Holds (32 ∷ 35 ∷ []) text → ⊥
+
+-- a scalar as a key, and the key's characters
+abbrev pub IsKey : List ℕ → List ℕ → Type 0
+IsKey text chars = IsQuoted text chars ⊎ (IsPlain text × (chars ≡ text))
