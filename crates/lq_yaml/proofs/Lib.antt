@@ -2,8 +2,9 @@ pub mod Parts
 pub mod Complete
 pub mod Sound
 pub mod Splits
-pub mod Scalars
-pub mod Contents
+pub mod ScalarForms
+pub mod ContentForms
+pub mod LineForms
 pub mod Fronts
 pub mod Trim
 pub mod Digits

@@ -1,5 +1,5 @@
 ghost use Rattle.lq_yaml.specs.File.{LinesLayOutOne};
-ghost use Rattle.lq_yaml.specs.MadeLaws.{ScalarsAreFound, ContentsAreFound};
+ghost use Rattle.lq_yaml.specs.MadeLaws.{ScalarsAreFound, ContentsAreFound, FilesAreFound};
 
 /// The lines of a file lay out at most one node.
 pub fn one_tree()
@@ -14,4 +14,9 @@ pub fn scalars()
 /// What begins at a column of a line is what the reader finds there.
 pub fn contents()
     ensures { ContentsAreFound }
+{}
+
+/// The tokens of a file's lines are those that the reader finds.
+pub fn files()
+    ensures { FilesAreFound }
 {}

@@ -1,4 +1,4 @@
-use Rattle.lq_yaml.proofs.Contents.{contents}
+use Rattle.lq_yaml.proofs.ContentForms.{contents}
 use Rattle.lq_yaml.proofs.laws.contents.Goals as goal
 
 pub returns : goal.returns

@@ -14,7 +14,7 @@ use Rattle.lq_yaml.specs.Made.{spaced, IsTail, IsPlainTail, IsValue, empty_list,
 use Rattle.lq_yaml.specs.MadeLaws.{IsStop, IsFront, in_single, in_double, as_plain, ContentsAreFound}
 use Rattle.lq_yaml.specs.Scalar.{Front, front, scalar_node, plain_node, plain_front, plain_text, plain_length, is_plain, ends_with_colon, is_mark, stops}
 use Rattle.lq_yaml.specs.Written.{AreBlanks, HasLast, IsQuoted, IsPlain, IsKey}
-use Rattle.lq_yaml.proofs.Scalars.{found, written}
+use Rattle.lq_yaml.proofs.ScalarForms.{found, written}
 use Rattle.lq_yaml.proofs.Splits.{some_of, then_of, both_of, both, only_true, differs, all_append, blank_trimmed, trimmed_last}
 
 -- ---- texts that end with no blank
