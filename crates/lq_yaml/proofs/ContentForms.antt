@@ -7,12 +7,14 @@ use Rattle.lq_tree.specs.declared.node.Node.{Node, Text as TextNode, List as Lis
 use Rattle.lq_yaml.specs.declared.token.Head.TheVariants.{Dash, Key}
 use Rattle.lq_yaml.specs.declared.token.Token.{Token}
 use Rattle.lq_yaml.specs.declared.token.Token.TheVariants.{Begin, Value, Bar}
-use Rattle.lq_yaml.specs.Chars.{is_blank, trimmed, unless_last, begins_with, is_word_end, without_blanks}
+use Rattle.lq_yaml.specs.Chars.{is_blank, unless_last}
+use Rattle.lq_yaml.specs.Scan.{trimmed, begins_with, is_word_end, without_blanks}
 use Rattle.lq_yaml.specs.Line.{is_end, colon, value_if, scalar_token, behind_pair, header, value_by, value_token, value_tokens, behind_key, entry_by, entry_tokens, is_dash, tokens_at}
 use Rattle.lq_yaml.specs.Line.{key as key_of}
 use Rattle.lq_yaml.specs.Made.{spaced, IsTail, IsPlainTail, IsValue, empty_list, empty_map, quoted, plain, keeping, stripping, IsEntry, value, key, pair, IsContent, entry, dash, item}
 use Rattle.lq_yaml.specs.MadeLaws.{IsStop, IsFront, in_single, in_double, as_plain, ContentsAreFound}
-use Rattle.lq_yaml.specs.Scalar.{Front, front, scalar_node, plain_node, plain_front, plain_text, plain_length, is_plain, ends_with_colon, is_mark, stops}
+use Rattle.lq_yaml.specs.Scalar.{Front, front, scalar_node, plain_front, plain_text, plain_length, is_plain, ends_with_colon, stops}
+use Rattle.lq_yaml.specs.Meaning.{plain_node, is_mark}
 use Rattle.lq_yaml.specs.Written.{AreBlanks, HasLast, IsQuoted, IsPlain, IsKey}
 use Rattle.lq_yaml.proofs.ScalarForms.{found, written}
 use Rattle.lq_yaml.proofs.Splits.{some_of, then_of, both_of, both, only_true, differs, all_append, blank_trimmed, trimmed_last}
@@ -441,8 +443,9 @@ Reads rank x token = (value_token rank x ≡ Some token) × (key_of x ≡ None)
 reads_scalar : (rank c : ℕ) (cs : List ℕ) (token : Token) (f : Front) → (c == 91) ≡ false → (c == 123) ≡ false → (c == 124) ≡ false → front (c ∷ cs) ≡ Some f → is_end f.rest ≡ true
     → colon (without_blanks f.rest) ≡ None → token ≡ Value rank (scalar_node f) → Reads rank (c ∷ cs) token
 reads_scalar rank c cs token f a b h at ends none is = (
-    only_scalar rank c cs a b h ∙ ap (λ (o : Option Front). option_and_then (λ f. value_if rank (scalar_node f) f.rest) o) at ∙ rw ends (ap (λ (t : Token). Some t) (sym is)),
-    value_none rank (c ∷ cs) token f at none)
+  only_scalar rank c cs a b h ∙ ap (λ (o : Option Front). option_and_then (λ f. value_if rank (scalar_node f) f.rest) o) at ∙ rw ends (ap (λ (t : Token). Some t) (sym is)),
+  value_none rank (c ∷ cs) token f at none,
+)
 
 reads_at : (rank : ℕ) (x y : List ℕ) (token : Token) → x ≡ y → Reads rank y token → Reads rank x token
 reads_at rank x y token is h = subst (λ (l : List ℕ). Reads rank l token) (sym is) h

@@ -8,11 +8,12 @@ use Rattle.lq_yaml.specs.declared.mode.Mode.TheVariants.{Fresh, Between, Headed,
 use Rattle.lq_yaml.specs.declared.token.Head.TheVariants.{Dash, Key}
 use Rattle.lq_yaml.specs.declared.token.Token.{Token}
 use Rattle.lq_yaml.specs.declared.token.Token.TheVariants.{Begin, Value, Bar, Raw}
-use Rattle.lq_yaml.specs.Chars.{is_blank, is_nil, trimmed, begins_with, spaces, without_spaces, without_blanks}
+use Rattle.lq_yaml.specs.Chars.{is_blank, is_nil}
+use Rattle.lq_yaml.specs.Scan.{trimmed, begins_with, spaces, without_spaces, without_blanks}
 use Rattle.lq_yaml.specs.Layout.{raws}
 use Rattle.lq_yaml.specs.Line.{Lexed, tokens_at, base_of, parent_of, without_block, blank_tokens, is_marker, mode_after, content_tokens, has_tab, line_by, line_tokens, tokens_of}
 use Rattle.lq_yaml.specs.Made.{spaced, IsValue, empty_list, empty_map, quoted, plain, keeping, stripping, IsEntry, value, key, pair, IsContent, entry, dash, item, IsLine, IsComment, IsSkipped, IsMarker, column_after, opens_block, HasIndent, IsBase, IsBlockLine, AreBlockLines, EndsBlock, AreLines, no_lines, skipped, with_tokens, with_block, AreSkipped, IsBegun, IsFile, marked, unmarked}
-use Rattle.lq_yaml.specs.MadeLaws.{FilesAreFound}
+use Rattle.lq_yaml.specs.MadeLaws.{FilesAreFound, LinesMeanOne}
 use Rattle.lq_yaml.specs.Written.{AreBlanks, Begins, HasLast}
 use Rattle.lq_yaml.proofs.ContentForms.{split, dark_first, passed, all_passed, none_passed, begun_with, First, first_content, content_read, content_written}
 use Rattle.lq_yaml.proofs.Splits.{some_of, then_of, both_of, both, only_true, differs, all_append, trimmed_is, trimmed_last, Trimmed, Left, trim}
@@ -132,9 +133,10 @@ is_three column (a ∷ b ∷ []) is = absurd cc
 is_three column (a ∷ b ∷ c ∷ []) is =
     let x = both_of (column == 0) (a == 45 && (b == 45 && c == 45)) is in
     let y = both_of (a == 45) (b == 45 && c == 45) x.1 in
-    let z = both_of (b == 45) (c == 45) y.1 in
-    (eqb-true column 0 x.0,
-    ap (λ (i : ℕ). i ∷ b ∷ c ∷ []) (eqb-true a 45 y.0) ∙ ap (λ (i : ℕ). 45 ∷ i ∷ c ∷ []) (eqb-true b 45 z.0) ∙ ap (λ (i : ℕ). 45 ∷ 45 ∷ i ∷ []) (eqb-true c 45 z.1))
+    let z = both_of (b == 45) (c == 45) y.1 in (
+      eqb-true column 0 x.0,
+      ap (λ (i : ℕ). i ∷ b ∷ c ∷ []) (eqb-true a 45 y.0) ∙ ap (λ (i : ℕ). 45 ∷ i ∷ c ∷ []) (eqb-true b 45 z.0) ∙ ap (λ (i : ℕ). 45 ∷ 45 ∷ i ∷ []) (eqb-true c 45 z.1),
+    )
 is_three column (a ∷ b ∷ c ∷ d ∷ cs) is = absurd cc
 
 marker_by : (l text : List ℕ) → without_spaces l ≡ text → Left text (trimmed text) → spaces l ≡ 0 → trimmed text ≡ 45 ∷ 45 ∷ 45 ∷ [] → IsMarker l
@@ -486,8 +488,9 @@ block_ends column base lines tokens ends after = record { block = []; texts = []
 
 line_ends : (base : ℕ) (l : List ℕ) (ls : List (List ℕ)) → is_nil (without_blanks l) ≡ false → spaces l < base → EndsBlock base (l ∷ ls)
 line_ends base l ls some less = (
-    λ blank. let bad : true ≡ false = sym (blank_line l blank) ∙ some in absurd cc,
-    λ b. let n = ap spaces b.1 ∙ spaces_plus base b.0 in absurd (omega (arith, n, less)))
+  λ blank. let bad : true ≡ false = sym (blank_line l blank) ∙ some in absurd cc,
+  λ b. let n = ap spaces b.1 ∙ spaces_plus base b.0 in absurd (omega (arith, n, less)),
+)
 
 -- a line that is not blank and has the block's indent
 block_line : (base : ℕ) (l : List ℕ) → is_nil (without_blanks l) ≡ false → has_tab l ≡ false → base ≤ spaces l → IsBlockLine base l (encode_utf8_all (drop base l))
@@ -625,5 +628,11 @@ made (l ∷ ls) m tokens valid is =
     let y = some_of (λ ts. x.0.0 ++ ts) (tokens_of x.0.1 ls) tokens x.2 in
     one_step m l ls x.0 y.0 tokens valid x.1 y.1 y.2 (λ n ts ok e. made ls n ts ok e)
 
+pub file_found : (lines : List (List ℕ)) (tokens : List Token) → tokens_of Fresh lines ≡ Some tokens → IsFile lines tokens
+file_found lines tokens is = made lines Fresh tokens tt is
+
 pub files : FilesAreFound
-files lines tokens = (λ is. made lines Fresh tokens tt is, λ h. file_written lines tokens h)
+files lines tokens = (λ is. file_found lines tokens is, λ h. file_written lines tokens h)
+
+pub one_meaning : LinesMeanOne
+one_meaning lines a b ha hb = let same : Some a ≡ Some b = sym (file_written lines a ha) ∙ file_written lines b hb in cc

@@ -4,8 +4,10 @@ use Rattle.std.proofs.lemmas.Bool.{eqb-true, ne_eqb}
 use Rattle.std.proofs.lemmas.List.{take-append-drop}
 use Rattle.std.specs.List.{list_all}
 use Rattle.std.proofs.Math.Seq.{take-append_seam, drop-append_seam, get_or-append_seam}
-use Rattle.lq_yaml.specs.Chars.{is_blank, trimmed, begins_with, is_word_end}
-use Rattle.lq_yaml.specs.Scalar.{Found, Front, with_front, single, quote, double, behind, behind_u, escaped, coded, stops, plain_length, is_mark, begins_otherwise, is_plain, ends_with_colon, quoted_front, plain_text, plain_front, front}
+use Rattle.lq_yaml.specs.Chars.{is_blank}
+use Rattle.lq_yaml.specs.Scan.{trimmed, begins_with, is_word_end}
+use Rattle.lq_yaml.specs.Scalar.{Found, Front, with_front, single, quote, double, behind, behind_u, stops, plain_length, begins_otherwise, is_plain, ends_with_colon, quoted_front, plain_text, plain_front, front}
+use Rattle.lq_yaml.specs.Meaning.{escaped, coded, is_mark}
 use Rattle.lq_yaml.specs.Written.{AreBlanks, Begins, Holds, HasLast, doubled, IsSingle, IsPiece, itself, sign, code, ArePieces, IsDouble, IsPlain}
 use Rattle.lq_yaml.specs.MadeLaws.{IsStop, IsFront, in_single, in_double, as_plain, ScalarsAreFound}
 use Rattle.lq_yaml.proofs.Splits.{some_of, then_of, both_of, both, only_true, not_true, neither, differs, trimmed_last, Trimmed, Left, trim}
@@ -191,9 +193,11 @@ calm : (before : List ℕ) (last : ℕ) → (last == 58) ≡ false → (last == 
 calm [] last colon space pair comment = (colon, space)
 calm (c ∷ []) last colon space pair comment =
     (not_pair c last 58 32 [] (c == 58 && last == 32) refl pair, not_pair c last 32 35 [] (c == 32 && last == 35) refl comment, (colon, space))
-calm (c ∷ d ∷ before) last colon space pair comment =
-    (not_pair c d 58 32 (before ++ last ∷ []) (c == 58 && d == 32) refl pair, not_pair c d 32 35 (before ++ last ∷ []) (c == 32 && d == 35) refl comment,
-    calm (d ∷ before) last colon space (freed (58 ∷ 32 ∷ []) c (d ∷ before ++ last ∷ []) pair) (freed (32 ∷ 35 ∷ []) c (d ∷ before ++ last ∷ []) comment))
+calm (c ∷ d ∷ before) last colon space pair comment = (
+  not_pair c d 58 32 (before ++ last ∷ []) (c == 58 && d == 32) refl pair,
+  not_pair c d 32 35 (before ++ last ∷ []) (c == 32 && d == 35) refl comment,
+  calm (d ∷ before) last colon space (freed (58 ∷ 32 ∷ []) c (d ∷ before ++ last ∷ []) pair) (freed (32 ∷ 35 ∷ []) c (d ∷ before ++ last ∷ []) comment),
+)
 
 goes_on : (c : ℕ) (cs : List ℕ) (n : ℕ) → stops c cs ≡ false → plain_length cs ≡ n → plain_length (c ∷ cs) ≡ suc n
 goes_on c cs n is len = rw (is, len) (add-one n)

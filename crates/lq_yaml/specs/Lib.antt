@@ -7,9 +7,11 @@ pub mod Layout
 pub mod Line
 pub mod LineMachine
 pub mod Machine
+pub mod Meaning
 pub mod Made
 pub mod MadeLaws
 pub mod Scalar
+pub mod Scan
 pub mod Tree
 pub mod View
 pub mod Written

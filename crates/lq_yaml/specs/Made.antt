@@ -6,7 +6,7 @@ use Rattle.lq_yaml.specs.declared.token.Token.{Token}
 use Rattle.lq_yaml.specs.declared.token.Token.TheVariants.{Begin, Value, Bar, Raw}
 use Rattle.lq_yaml.specs.Chars.{is_blank}
 use Rattle.lq_yaml.specs.Layout.{raws}
-use Rattle.lq_yaml.specs.Scalar.{plain_node}
+use Rattle.lq_yaml.specs.Meaning.{plain_node}
 use Rattle.lq_yaml.specs.Written.{AreBlanks, Begins, HasLast, IsQuoted, IsPlain, IsKey}
 
 -- ---- within a line

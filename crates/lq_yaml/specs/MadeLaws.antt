@@ -2,7 +2,8 @@
 use Rattle.std.specs.Prelude.{◌≡◌, ◌↔◌, ℕ, Bool, true, false, List, [], ◌∷◌, ◌++◌, Some, ◌⊎◌}
 use Rattle.lq_yaml.specs.declared.mode.Mode.TheVariants.{Fresh}
 use Rattle.lq_yaml.specs.declared.token.Token.{Token}
-use Rattle.lq_yaml.specs.Chars.{is_blank, begins_with, trimmed}
+use Rattle.lq_yaml.specs.Chars.{is_blank}
+use Rattle.lq_yaml.specs.Scan.{begins_with, trimmed}
 use Rattle.lq_yaml.specs.Scalar.{Front, front, stops}
 use Rattle.lq_yaml.specs.Line.{tokens_at, tokens_of}
 use Rattle.lq_yaml.specs.Written.{AreBlanks, HasLast, IsSingle, IsDouble, IsPlain}
@@ -28,6 +29,10 @@ abbrev pub ContentsAreFound : Type 0
 ContentsAreFound = (column c last : ℕ) (cs : List ℕ) (tokens : List Token) → is_blank c ≡ false → HasLast (c ∷ cs) last → is_blank last ≡ false
     → (tokens_at column (c ∷ cs) ≡ Some tokens) ↔ IsContent column (c ∷ cs) tokens
 
--- the same for all lines of a file
+-- the tokens of all lines of a file are those that the reader finds
 abbrev pub FilesAreFound : Type 0
 FilesAreFound = (lines : List (List ℕ)) (tokens : List Token) → (tokens_of Fresh lines ≡ Some tokens) ↔ IsFile lines tokens
+
+-- lines are made of one list of tokens at most
+abbrev pub LinesMeanOne : Type 0
+LinesMeanOne = (lines : List (List ℕ)) (a b : List Token) → IsFile lines a → IsFile lines b → a ≡ b

@@ -2,7 +2,7 @@
 use Rattle.std.specs.Prelude.{◌≡◌, ℕ, ◌==◌, Bool, true, false, cond, List, [], ◌∷◌, ◌++◌, Some, ◌⊎◌}
 use Rattle.std.specs.List.{list_all}
 use Rattle.lq_yaml.specs.Chars.{is_blank}
-use Rattle.lq_yaml.specs.Scalar.{escaped, coded, is_mark}
+use Rattle.lq_yaml.specs.Meaning.{escaped, coded, is_mark}
 
 -- spaces and tabs alone
 abbrev pub AreBlanks : List ℕ → Type 0

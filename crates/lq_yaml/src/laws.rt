@@ -1,5 +1,5 @@
 ghost use Rattle.lq_yaml.specs.File.{LinesLayOutOne};
-ghost use Rattle.lq_yaml.specs.MadeLaws.{ScalarsAreFound, ContentsAreFound, FilesAreFound};
+ghost use Rattle.lq_yaml.specs.MadeLaws.{ScalarsAreFound, ContentsAreFound, FilesAreFound, LinesMeanOne};
 
 /// The lines of a file lay out at most one node.
 pub fn one_tree()
@@ -16,7 +16,8 @@ pub fn contents()
     ensures { ContentsAreFound }
 {}
 
-/// The tokens of a file's lines are those that the reader finds.
-pub fn files()
-    ensures { FilesAreFound }
+/// The tokens of a file's lines are those that the reader finds, and one list at most.
+pub fn tokens()
+    ensures found { FilesAreFound }
+    ensures one { LinesMeanOne }
 {}
