@@ -13,3 +13,4 @@ pub mod Views
 pub mod Runs
 pub mod Files
 pub mod Trees
+pub mod Worked

@@ -12,9 +12,9 @@ use Rattle.lq_yaml.specs.Chars.{is_blank, is_nil}
 use Rattle.lq_yaml.specs.Scan.{trimmed, begins_with, spaces, without_spaces, without_blanks}
 use Rattle.lq_yaml.specs.Layout.{raws}
 use Rattle.lq_yaml.specs.Line.{Lexed, tokens_at, base_of, parent_of, without_block, blank_tokens, is_marker, mode_after, content_tokens, has_tab, line_by, line_tokens, tokens_of}
-use Rattle.lq_yaml.specs.Made.{spaced, IsValue, empty_list, empty_map, quoted, plain, keeping, stripping, IsEntry, value, key, pair, IsContent, entry, dash, item, IsLine, IsComment, IsSkipped, IsMarker, column_after, opens_block, HasIndent, IsBase, IsBlockLine, AreBlockLines, EndsBlock, AreLines, no_lines, skipped, with_tokens, with_block, AreSkipped, IsBegun, IsFile, marked, unmarked}
+use Rattle.lq_yaml.specs.Made.{spaced, IsValue, empty_list, empty_map, quoted, plain, keeping, stripping, IsEntry, value, key, pair, IsContent, entry, dash, item, IsLine, IsComment, IsSkipped, IsMarker, column_after, opens_block, HasIndent, IsBase, IsBlockLine, AreBlockLines, EndsBlock, AreLines, no_lines, skipped, with_tokens, with_block, AreSkipped, IsUnmarked, IsFile, marked, unmarked}
 use Rattle.lq_yaml.specs.MadeLaws.{FilesAreFound, LinesMeanOne}
-use Rattle.lq_yaml.specs.Written.{AreBlanks, Begins, HasLast}
+use Rattle.lq_yaml.specs.Written.{AreBlanks, BeginsWith, HasLast}
 use Rattle.lq_yaml.proofs.ContentForms.{split, dark_first, passed, all_passed, none_passed, begun_with, First, first_content, content_read, content_written}
 use Rattle.lq_yaml.proofs.Splits.{some_of, then_of, both_of, both, only_true, differs, all_append, trimmed_is, trimmed_last, Trimmed, Left, trim}
 
@@ -260,16 +260,16 @@ ends_as (Between q) column l w p some at = ap (λ (k : ℕ). line_tokens (Betwee
 ends_as (Headed q) column l w p some at = rw (some, at, p) refl
 ends_as (Within q b) column l w p some at = rw (some, at, p) refl
 
-below : (base n : ℕ) (y l : List ℕ) → l ≡ spaced (base + n) ++ y → Begins (spaced base) l
+below : (base n : ℕ) (y l : List ℕ) → l ≡ spaced (base + n) ++ y → BeginsWith (spaced base) l
 below base n y l is = (spaced n ++ y, is ∙ ap (λ (r : List ℕ). r ++ y) (sym (replicate-append-replicate base n 32)) ∙ append_assoc (spaced base) (spaced n) y)
 
 -- a line with so many spaces in front begins with them
-has_spaces : (base : ℕ) (l : List ℕ) → base ≤ spaces l → Begins (spaced base) l
+has_spaces : (base : ℕ) (l : List ℕ) → base ≤ spaces l → BeginsWith (spaced base) l
 has_spaces base l le =
     let sum : spaces l ≡ base + (spaces l - base) = omega (arith, le) in
     below base (spaces l - base) (without_spaces l) l (spaces_split l ∙ ap (λ (k : ℕ). spaced k ++ without_spaces l) sum)
 
-fewer : (base : ℕ) (l : List ℕ) → (Begins (spaced base) l → ⊥) → nat_le base (spaces l) ≡ false
+fewer : (base : ℕ) (l : List ℕ) → (BeginsWith (spaced base) l → ⊥) → nat_le base (spaces l) ≡ false
 fewer base l less = false_from_ne_true (nat_le base (spaces l)) (λ t. less (has_spaces base l (leb-true base (spaces l) t)))
 
 not_nil : (l : List ℕ) → (AreBlanks l → ⊥) → is_nil (without_blanks l) ≡ false
@@ -384,7 +384,7 @@ begun_as l b tab skip mark =
     let other : is_marker Fresh (spaces l) (trimmed (without_spaces l)) ≡ false = false_from_ne_true (is_marker Fresh (spaces l) (trimmed (without_spaces l))) (λ t. mark (marker_found l t)) in
     rw (some, words, other) refl
 
-begun_written : (rest : List (List ℕ)) → IsBegun rest → tokens_of Fresh rest ≡ tokens_of (Between 0) rest
+begun_written : (rest : List (List ℕ)) → IsUnmarked rest → tokens_of Fresh rest ≡ tokens_of (Between 0) rest
 begun_written [] h = refl
 begun_written (l ∷ ls) h = ap (λ (o : Option Lexed). option_and_then (λ x. option_map (λ ts. x.0 ++ ts) (tokens_of x.1 ls)) o) (begun_as l (has_tab l) refl h.0 h.1)
 

@@ -8,7 +8,7 @@ use Rattle.lq_yaml.specs.Chars.{is_blank}
 use Rattle.lq_yaml.specs.Scan.{trimmed, begins_with, is_word_end}
 use Rattle.lq_yaml.specs.Scalar.{Found, Front, with_front, single, quote, double, behind, behind_u, stops, plain_length, begins_otherwise, is_plain, ends_with_colon, quoted_front, plain_text, plain_front, front}
 use Rattle.lq_yaml.specs.Meaning.{escaped, coded, is_mark}
-use Rattle.lq_yaml.specs.Written.{AreBlanks, Begins, Holds, HasLast, doubled, IsSingle, IsPiece, itself, sign, code, ArePieces, IsDouble, IsPlain}
+use Rattle.lq_yaml.specs.Written.{AreBlanks, BeginsWith, Holds, HasLast, doubled, IsSingle, IsPiece, itself, sign, code, ArePieces, IsDouble, IsPlain}
 use Rattle.lq_yaml.specs.MadeLaws.{IsStop, IsFront, in_single, in_double, as_plain, ScalarsAreFound}
 use Rattle.lq_yaml.proofs.Splits.{some_of, then_of, both_of, both, only_true, not_true, neither, differs, trimmed_last, Trimmed, Left, trim}
 

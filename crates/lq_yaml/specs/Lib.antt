@@ -1,6 +1,7 @@
 pub mod Chars
 pub mod Deep
 pub mod DeepView
+pub mod Examples
 pub mod File
 pub mod Follows
 pub mod Layout

@@ -1,4 +1,4 @@
--- What the lines of a file are made of, and which tokens they are.
+-- What the lines of a file are made of, and their tokens. A token's rank tells how far to the right it stands: a key or a value at column c has 2c + 1, a dash 2c + 2, and a value behind its key 2c + 2.
 use Rattle.std.specs.Prelude.{◌≡◌, ℕ, ◌+◌, ◌-◌, ◌*◌, ◌/◌, ◌<◌, Bool, true, false, List, [], ◌∷◌, ◌++◌, replicate, encode_utf8_all, ◌⊎◌}
 use Rattle.lq_tree.specs.declared.node.Node.{Node, Text as TextNode, List as ListNode, Map as MapNode}
 use Rattle.lq_yaml.specs.declared.token.Head.TheVariants.{Dash, Key}
@@ -7,10 +7,11 @@ use Rattle.lq_yaml.specs.declared.token.Token.TheVariants.{Begin, Value, Bar, Ra
 use Rattle.lq_yaml.specs.Chars.{is_blank}
 use Rattle.lq_yaml.specs.Layout.{raws}
 use Rattle.lq_yaml.specs.Meaning.{plain_node}
-use Rattle.lq_yaml.specs.Written.{AreBlanks, Begins, HasLast, IsQuoted, IsPlain, IsKey}
+use Rattle.lq_yaml.specs.Written.{AreBlanks, BeginsWith, HasLast, IsQuoted, IsPlain, IsKey}
 
 -- ---- within a line
 
+-- so many spaces
 abbrev pub spaced : ℕ → List ℕ
 spaced n = replicate n 32
 
@@ -64,10 +65,13 @@ IsSkipped line = AreBlanks line ⊎ IsComment line
 abbrev pub IsMarker : List ℕ → Type 0
 IsMarker line = (blanks : List ℕ) × (line ≡ 45 ∷ 45 ∷ 45 ∷ blanks) × AreBlanks blanks
 
+abbrev pub column_of : ℕ → ℕ
+column_of rank = (rank - 1) / 2
+
 -- the column of the last head, where the one before stood at `column`
 abbrev pub column_after : ℕ → List Token → ℕ
 column_after column [] = column
-column_after column (Begin rank h ∷ tokens) = column_after ((rank - 1) / 2) tokens
+column_after column (Begin rank h ∷ tokens) = column_after (column_of rank) tokens
 column_after column (t ∷ tokens) = column_after column tokens
 
 -- whether the tokens of a line begin a literal block
@@ -80,7 +84,7 @@ opens_block (t ∷ tokens) = opens_block tokens
 abbrev pub HasIndent : ℕ → List ℕ → Type 0
 HasIndent indent line = (c : ℕ) × (cs : List ℕ) × (line ≡ spaced indent ++ c ∷ cs) × (is_blank c ≡ false)
 
--- the indent of a block: that of its first line that is not blank, and greater than the parent's
+-- the indent of a block: that of its first line that is not blank, and greater than the parent's; where all are blank, the least such
 abbrev pub IsBase : ℕ → ℕ → List (List ℕ) → Type 0
 IsBase parent base [] = base ≡ parent + 1
 IsBase parent base (line ∷ lines) = (AreBlanks line × IsBase parent base lines) ⊎ (HasIndent base line × (parent < base))
@@ -97,9 +101,9 @@ AreBlockLines base (line ∷ lines) texts = (text : List ℕ) × (more : List (L
 -- before these lines a block ends: there are none, or the first is not blank and has less than the block's indent
 abbrev pub EndsBlock : ℕ → List (List ℕ) → Type 0
 EndsBlock base [] = Unit {0}
-EndsBlock base (line ∷ lines) = (AreBlanks line → ⊥) × (Begins (spaced base) line → ⊥)
+EndsBlock base (line ∷ lines) = (AreBlanks line → ⊥) × (BeginsWith (spaced base) line → ⊥)
 
--- the lines behind a head at that column: skipped ones, lines with tokens, and literal blocks
+-- the lines behind a head at that column: skipped ones, lines with tokens, and lines that begin a literal block, each with its block
 pub data AreLines : ℕ → List (List ℕ) → List Token → Type 0 where
   no_lines : {column : ℕ} {lines : List (List ℕ)} {tokens : List Token} → lines ≡ [] → tokens ≡ [] → AreLines column lines tokens
   skipped : {column : ℕ} {lines : List (List ℕ)} {tokens : List Token} (line : List ℕ) (rest : List (List ℕ)) → lines ≡ line ∷ rest
@@ -114,13 +118,13 @@ abbrev pub AreSkipped : List (List ℕ) → Type 0
 AreSkipped [] = Unit {0}
 AreSkipped (line ∷ lines) = IsSkipped line × AreSkipped lines
 
--- the first line is neither skipped nor `---`
-abbrev pub IsBegun : List (List ℕ) → Type 0
-IsBegun [] = Unit {0}
-IsBegun (line ∷ lines) = (IsSkipped line → ⊥) × (IsMarker line → ⊥)
+-- the first line, if there is one, is neither skipped nor `---`
+abbrev pub IsUnmarked : List (List ℕ) → Type 0
+IsUnmarked [] = Unit {0}
+IsUnmarked (line ∷ lines) = (IsSkipped line → ⊥) × (IsMarker line → ⊥)
 
 -- the lines of a whole file: the first that is not skipped may be `---`
 pub data IsFile (lines : List (List ℕ)) (tokens : List Token) : Type 0 where
   marked : (before : List (List ℕ)) (marker : List ℕ) (rest : List (List ℕ)) → lines ≡ before ++ marker ∷ rest → AreSkipped before → IsMarker marker
       → AreLines 0 rest tokens → IsFile lines tokens
-  unmarked : (before rest : List (List ℕ)) → lines ≡ before ++ rest → AreSkipped before → IsBegun rest → AreLines 0 rest tokens → IsFile lines tokens
+  unmarked : (before rest : List (List ℕ)) → lines ≡ before ++ rest → AreSkipped before → IsUnmarked rest → AreLines 0 rest tokens → IsFile lines tokens

@@ -9,8 +9,8 @@ abbrev pub AreBlanks : List ℕ → Type 0
 AreBlanks text = list_all is_blank text ≡ true
 
 -- the text begins so
-abbrev pub Begins : List ℕ → List ℕ → Type 0
-Begins part text = (behind : List ℕ) × (text ≡ part ++ behind)
+abbrev pub BeginsWith : List ℕ → List ℕ → Type 0
+BeginsWith part text = (behind : List ℕ) × (text ≡ part ++ behind)
 
 -- the part stands somewhere in the text
 abbrev pub Holds : List ℕ → List ℕ → Type 0
@@ -54,7 +54,7 @@ IsQuoted text chars = IsSingle text chars ⊎ IsDouble text chars
 pub record IsPlain (text : List ℕ) : Type 0 where
   -- neither a blank nor a mark stands first
   pub first : ℕ
-  pub begins : Begins (first ∷ []) text
+  pub begins : BeginsWith (first ∷ []) text
   pub no_blank : is_blank first ≡ false
   pub no_mark : is_mark first ≡ false
   -- neither a blank nor `:` stands last
@@ -64,8 +64,8 @@ pub record IsPlain (text : List ℕ) : Type 0 where
   pub no_last_colon : (last == 58) ≡ false
   -- it is not `-`, and does not begin with `- ` or `? `
   pub no_dash : text ≡ 45 ∷ [] → ⊥
-  pub no_item : Begins (45 ∷ 32 ∷ []) text → ⊥
-  pub no_question : Begins (63 ∷ 32 ∷ []) text → ⊥
+  pub no_item : BeginsWith (45 ∷ 32 ∷ []) text → ⊥
+  pub no_question : BeginsWith (63 ∷ 32 ∷ []) text → ⊥
   -- it holds neither `: ` nor ` #`
   pub no_pair : Holds (58 ∷ 32 ∷ []) text → ⊥
   pub no_comment : Holds (32 ∷ 35 ∷ []) text → ⊥

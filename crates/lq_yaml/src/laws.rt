@@ -1,3 +1,4 @@
+ghost use Rattle.lq_yaml.specs.Examples.{ScalarExamples, LineExamples};
 ghost use Rattle.lq_yaml.specs.File.{LinesLayOutOne};
 ghost use Rattle.lq_yaml.specs.MadeLaws.{ScalarsAreFound, ContentsAreFound, FilesAreFound, LinesMeanOne};
 
@@ -20,4 +21,10 @@ pub fn contents()
 pub fn tokens()
     ensures found { FilesAreFound }
     ensures one { LinesMeanOne }
+{}
+
+/// Small files and what they mean.
+pub fn examples()
+    ensures scalars { ScalarExamples }
+    ensures lines { LineExamples }
 {}
