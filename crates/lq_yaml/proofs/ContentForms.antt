@@ -1,9 +1,9 @@
 -- What begins at a column of a line is what is found there.
-use Rattle.std.proofs.Common.{◌≡◌, ℕ, zero, suc, ◌+◌, ◌*◌, Bool, true, false, cond, not, ◌&&◌, ◌||◌, ◌==◌, List, [], ◌∷◌, ◌++◌, length, replicate, Option, Some, None, option_map, option_and_then, refl, sym, ap, subst, ◌∙◌, ◌⊎◌, inl, inr, append_assoc, arith, length-append, encode_utf8_all, drop, take, add-one}
+use Rattle.std.proofs.Common.{◌≡◌, ℕ, zero, suc, ◌+◌, ◌*◌, Bool, true, false, cond, ◌&&◌, ◌==◌, List, [], ◌∷◌, ◌++◌, length, Option, Some, None, option_map, option_and_then, refl, sym, ap, subst, ◌∙◌, ◌⊎◌, inl, inr, append_assoc, arith, length-append, encode_utf8_all, take, add-one}
 use Rattle.std.proofs.lemmas.Bool.{eqb-true, ne_eqb}
 use Rattle.std.proofs.lemmas.List.{append-nil}
 use Rattle.std.specs.List.{list_all}
-use Rattle.lq_tree.specs.declared.node.Node.{Node, Text as TextNode, List as ListNode, Map as MapNode}
+use Rattle.lq_tree.specs.declared.node.Node.{Node, Text as TextNode}
 use Rattle.lq_yaml.specs.declared.token.Head.TheVariants.{Dash, Key}
 use Rattle.lq_yaml.specs.declared.token.Token.{Token}
 use Rattle.lq_yaml.specs.declared.token.Token.TheVariants.{Begin, Value, Bar}
@@ -13,9 +13,9 @@ use Rattle.lq_yaml.specs.Line.{is_end, colon, value_if, scalar_token, behind_pai
 use Rattle.lq_yaml.specs.Line.{key as key_of}
 use Rattle.lq_yaml.specs.Made.{spaced, IsTail, IsPlainTail, IsValue, empty_list, empty_map, quoted, plain, keeping, stripping, IsEntry, value, key, pair, IsContent, entry, dash, item}
 use Rattle.lq_yaml.specs.MadeLaws.{IsStop, IsFront, in_single, in_double, as_plain, ContentsAreFound}
-use Rattle.lq_yaml.specs.Scalar.{Front, front, scalar_node, plain_front, plain_text, plain_length, is_plain, ends_with_colon, stops}
+use Rattle.lq_yaml.specs.Scalar.{Front, front, scalar_node, plain_front, plain_text, plain_length, is_plain}
 use Rattle.lq_yaml.specs.Meaning.{plain_node, is_mark}
-use Rattle.lq_yaml.specs.Written.{AreBlanks, HasLast, IsQuoted, IsPlain, IsKey}
+use Rattle.lq_yaml.specs.Written.{AreBlanks, IsQuoted, IsPlain, IsKey}
 use Rattle.lq_yaml.proofs.ScalarForms.{found, written}
 use Rattle.lq_yaml.proofs.Splits.{some_of, then_of, both_of, both, only_true, differs, all_append, blank_trimmed, trimmed_last}
 

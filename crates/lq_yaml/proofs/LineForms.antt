@@ -1,22 +1,21 @@
 -- The lines of a file are made of what is found in them.
-use Rattle.std.proofs.Common.{◌≡◌, ℕ, zero, suc, ◌+◌, ◌-◌, ◌*◌, ◌/◌, ◌<◌, ◌≤◌, Bool, true, false, cond, ◌&&◌, ◌==◌, nat_lt, nat_le, List, [], ◌∷◌, ◌++◌, length, drop, replicate, Option, Some, None, option_map, option_and_then, refl, sym, ap, subst, ◌∙◌, ◌⊎◌, inl, inr, append_assoc, arith, encode_utf8_all, add-one, if◌then◌else◌}
-use Rattle.std.proofs.lemmas.Bool.{eqb-true, ne_eqb, ltb-true, ltb-false, leb-true, leb-false, lt-ltb, le-leb, false_from_ne_true}
+use Rattle.std.proofs.Common.{◌≡◌, ℕ, zero, suc, ◌+◌, ◌-◌, ◌*◌, ◌/◌, ◌<◌, ◌≤◌, Bool, true, false, cond, ◌&&◌, ◌==◌, nat_lt, nat_le, List, [], ◌∷◌, ◌++◌, drop, Option, Some, None, option_map, option_and_then, refl, sym, ap, subst, ◌∙◌, ◌⊎◌, inl, inr, append_assoc, arith, encode_utf8_all, add-one, if◌then◌else◌}
+use Rattle.std.proofs.lemmas.Bool.{eqb-true, ltb-true, ltb-false, leb-true, leb-false, lt-ltb, le-leb, false_from_ne_true}
 use Rattle.std.proofs.lemmas.List.{append-nil, length-replicate, replicate-append-replicate}
 use Rattle.std.proofs.Math.Seq.{drop-append_seam}
 use Rattle.lq_yaml.specs.declared.mode.Mode.{Mode}
 use Rattle.lq_yaml.specs.declared.mode.Mode.TheVariants.{Fresh, Between, Headed, Within}
-use Rattle.lq_yaml.specs.declared.token.Head.TheVariants.{Dash, Key}
 use Rattle.lq_yaml.specs.declared.token.Token.{Token}
-use Rattle.lq_yaml.specs.declared.token.Token.TheVariants.{Begin, Value, Bar, Raw}
+use Rattle.lq_yaml.specs.declared.token.Token.TheVariants.{Raw}
 use Rattle.lq_yaml.specs.Chars.{is_blank, is_nil}
 use Rattle.lq_yaml.specs.Scan.{trimmed, begins_with, spaces, without_spaces, without_blanks}
 use Rattle.lq_yaml.specs.Layout.{raws}
-use Rattle.lq_yaml.specs.Line.{Lexed, tokens_at, base_of, parent_of, without_block, blank_tokens, is_marker, mode_after, content_tokens, has_tab, line_by, line_tokens, tokens_of}
+use Rattle.lq_yaml.specs.Line.{Lexed, tokens_at, base_of, parent_of, without_block, blank_tokens, is_marker, mode_after, has_tab, line_by, line_tokens, tokens_of}
 use Rattle.lq_yaml.specs.Made.{spaced, IsValue, empty_list, empty_map, quoted, plain, keeping, stripping, IsEntry, value, key, pair, IsContent, entry, dash, item, IsLine, IsComment, IsSkipped, IsMarker, column_after, opens_block, HasIndent, IsBase, IsBlockLine, AreBlockLines, EndsBlock, AreLines, no_lines, skipped, with_tokens, with_block, AreSkipped, IsUnmarked, IsFile, marked, unmarked}
 use Rattle.lq_yaml.specs.MadeLaws.{FilesAreFound, LinesMeanOne}
-use Rattle.lq_yaml.specs.Written.{AreBlanks, BeginsWith, HasLast}
-use Rattle.lq_yaml.proofs.ContentForms.{split, dark_first, passed, all_passed, none_passed, begun_with, First, first_content, content_read, content_written}
-use Rattle.lq_yaml.proofs.Splits.{some_of, then_of, both_of, both, only_true, differs, all_append, trimmed_is, trimmed_last, Trimmed, Left, trim}
+use Rattle.lq_yaml.specs.Written.{AreBlanks, BeginsWith}
+use Rattle.lq_yaml.proofs.ContentForms.{split, passed, all_passed, none_passed, begun_with, first_content, content_read, content_written}
+use Rattle.lq_yaml.proofs.Splits.{some_of, then_of, both_of, differs, trimmed_is, trimmed_last, Left, trim}
 
 -- ---- indents
 

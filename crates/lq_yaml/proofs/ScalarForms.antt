@@ -1,16 +1,16 @@
 -- The scalar at the front of a text is the one that is found.
-use Rattle.std.proofs.Common.{◌≡◌, ℕ, suc, ◌+◌, ◌-◌, ◌<◌, ◌≤◌, Bool, true, false, cond, not, ◌&&◌, ◌||◌, ◌==◌, List, [], ◌∷◌, ◌++◌, length, take, drop, Option, Some, None, option_map, option_and_then, refl, sym, ap, subst, ◌∙◌, ◌↔◌, ◌⊎◌, inl, inr, append_assoc, add-one, arith, length-append, get_or, length-take, min, if◌then◌else◌}
+use Rattle.std.proofs.Common.{◌≡◌, ℕ, suc, ◌+◌, ◌-◌, ◌≤◌, Bool, true, false, cond, not, ◌&&◌, ◌||◌, ◌==◌, List, [], ◌∷◌, ◌++◌, length, take, drop, Option, Some, None, option_map, option_and_then, refl, sym, ap, subst, ◌∙◌, inl, inr, append_assoc, add-one, arith, length-append, get_or, length-take, if◌then◌else◌}
 use Rattle.std.proofs.lemmas.Bool.{eqb-true, ne_eqb}
 use Rattle.std.proofs.lemmas.List.{take-append-drop}
 use Rattle.std.specs.List.{list_all}
 use Rattle.std.proofs.Math.Seq.{take-append_seam, drop-append_seam, get_or-append_seam}
 use Rattle.lq_yaml.specs.Chars.{is_blank}
-use Rattle.lq_yaml.specs.Scan.{trimmed, begins_with, is_word_end}
+use Rattle.lq_yaml.specs.Scan.{trimmed, begins_with}
 use Rattle.lq_yaml.specs.Scalar.{Found, Front, with_front, single, quote, double, behind, behind_u, stops, plain_length, begins_otherwise, is_plain, ends_with_colon, quoted_front, plain_text, plain_front, front}
 use Rattle.lq_yaml.specs.Meaning.{escaped, coded, is_mark}
-use Rattle.lq_yaml.specs.Written.{AreBlanks, BeginsWith, Holds, HasLast, doubled, IsSingle, IsPiece, itself, sign, code, ArePieces, IsDouble, IsPlain}
+use Rattle.lq_yaml.specs.Written.{AreBlanks, Holds, HasLast, doubled, IsPiece, itself, sign, code, ArePieces, IsPlain}
 use Rattle.lq_yaml.specs.MadeLaws.{IsStop, IsFront, in_single, in_double, as_plain, ScalarsAreFound}
-use Rattle.lq_yaml.proofs.Splits.{some_of, then_of, both_of, both, only_true, not_true, neither, differs, trimmed_last, Trimmed, Left, trim}
+use Rattle.lq_yaml.proofs.Splits.{some_of, both_of, not_true, differs, trimmed_last, Left, trim}
 
 -- ---- between single quotes
 

@@ -1,9 +1,9 @@
 -- What the lines of a file are made of, and their tokens. A token's rank tells how far to the right it stands: a key or a value at column c has 2c + 1, a dash 2c + 2, and a value behind its key 2c + 2.
 use Rattle.std.specs.Prelude.{◌≡◌, ℕ, ◌+◌, ◌-◌, ◌*◌, ◌/◌, ◌<◌, Bool, true, false, List, [], ◌∷◌, ◌++◌, replicate, encode_utf8_all, ◌⊎◌}
-use Rattle.lq_tree.specs.declared.node.Node.{Node, Text as TextNode, List as ListNode, Map as MapNode}
+use Rattle.lq_tree.specs.declared.node.Node.{Text as TextNode, List as ListNode, Map as MapNode}
 use Rattle.lq_yaml.specs.declared.token.Head.TheVariants.{Dash, Key}
 use Rattle.lq_yaml.specs.declared.token.Token.{Token}
-use Rattle.lq_yaml.specs.declared.token.Token.TheVariants.{Begin, Value, Bar, Raw}
+use Rattle.lq_yaml.specs.declared.token.Token.TheVariants.{Begin, Value, Bar}
 use Rattle.lq_yaml.specs.Chars.{is_blank}
 use Rattle.lq_yaml.specs.Layout.{raws}
 use Rattle.lq_yaml.specs.Meaning.{plain_node}

@@ -1,9 +1,9 @@
 -- What is made as the definitions say is what the reader's functions find, in both directions.
-use Rattle.std.specs.Prelude.{◌≡◌, ◌↔◌, ℕ, Bool, true, false, List, [], ◌∷◌, ◌++◌, Some, ◌⊎◌}
+use Rattle.std.specs.Prelude.{◌≡◌, ◌↔◌, ℕ, true, false, List, [], ◌∷◌, ◌++◌, Some}
 use Rattle.lq_yaml.specs.declared.mode.Mode.TheVariants.{Fresh}
 use Rattle.lq_yaml.specs.declared.token.Token.{Token}
 use Rattle.lq_yaml.specs.Chars.{is_blank}
-use Rattle.lq_yaml.specs.Scan.{begins_with, trimmed}
+use Rattle.lq_yaml.specs.Scan.{begins_with}
 use Rattle.lq_yaml.specs.Scalar.{Front, front, stops}
 use Rattle.lq_yaml.specs.Line.{tokens_at, tokens_of}
 use Rattle.lq_yaml.specs.Written.{AreBlanks, HasLast, IsSingle, IsDouble, IsPlain}

@@ -1,5 +1,5 @@
 -- How scalars are written in a line: what a text is made of, and which characters it means.
-use Rattle.std.specs.Prelude.{◌≡◌, ℕ, ◌==◌, Bool, true, false, cond, List, [], ◌∷◌, ◌++◌, Some, ◌⊎◌}
+use Rattle.std.specs.Prelude.{◌≡◌, ℕ, ◌==◌, true, false, cond, List, [], ◌∷◌, ◌++◌, Some, ◌⊎◌}
 use Rattle.std.specs.List.{list_all}
 use Rattle.lq_yaml.specs.Chars.{is_blank}
 use Rattle.lq_yaml.specs.Meaning.{escaped, coded, is_mark}
