@@ -5,11 +5,11 @@ use Rattle.lq_yaml.specs.File.{IsRead}
 
 -- a file of one line with a sequence of one item
 abbrev pub Means : List ℕ → Node → Type 0
-Means item node = IsRead ((45 ∷ 32 ∷ item) ∷ []) (ListNode (node ∷ []))
+Means item node = IsRead ((codes "- " ++ item) ∷ []) (ListNode (node ∷ []))
 
 -- no file of that one item
 abbrev pub MeansNothing : List ℕ → Type 0
-MeansNothing item = (node : Node) → IsRead ((45 ∷ 32 ∷ item) ∷ []) node → ⊥
+MeansNothing item = (node : Node) → IsRead ((codes "- " ++ item) ∷ []) node → ⊥
 
 pub record ScalarExamples : Type 0 where
   pub null_word : Means (codes "null") Null
@@ -25,14 +25,14 @@ pub record ScalarExamples : Type 0 where
   pub single : Means (codes "'it''s: # 1'") (TextNode (codes "it's: # 1"))
   pub empty_text : Means (codes "''") (TextNode [])
   -- `"\"\u0041\n"`
-  pub double : Means (34 ∷ 92 ∷ 34 ∷ 92 ∷ codes "u0041" ++ 92 ∷ codes "n" ++ 34 ∷ []) (TextNode (34 ∷ 65 ∷ 10 ∷ []))
+  pub double : Means (codes "\"\\\"\\u0041\\n\"") (TextNode (codes "\"A" ++ 10 ∷ []))
   pub empty_list : Means (codes "[] # c") (ListNode [])
   pub empty_map : Means (codes "{}") (MapNode [])
   pub open_quote : MeansNothing (codes "'a")
   -- `"\x"`
-  pub bad_escape : MeansNothing (34 ∷ 92 ∷ codes "x" ++ 34 ∷ [])
+  pub bad_escape : MeansNothing (codes "\"\\x\"")
   -- `"\ud800"`, a surrogate
-  pub surrogate : MeansNothing (34 ∷ 92 ∷ codes "ud800" ++ 34 ∷ [])
+  pub surrogate : MeansNothing (codes "\"\\ud800\"")
   pub pair : MeansNothing (codes "a: b: c")
   pub colon : MeansNothing (codes "a: b:")
   pub anchor : MeansNothing (codes "&a")

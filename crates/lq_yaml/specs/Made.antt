@@ -1,5 +1,5 @@
 -- What the lines of a file are made of, and their tokens. A token's rank tells how far to the right it stands: a key or a value at column c has 2c + 1, a dash 2c + 2, and a value behind its key 2c + 2.
-use Rattle.std.specs.Prelude.{◌≡◌, ℕ, ◌+◌, ◌-◌, ◌*◌, ◌/◌, ◌<◌, Bool, true, false, List, [], ◌∷◌, ◌++◌, replicate, encode_utf8_all, ◌⊎◌}
+use Rattle.std.specs.Prelude.{◌≡◌, ℕ, ◌+◌, ◌-◌, ◌*◌, ◌/◌, ◌<◌, Bool, true, false, List, [], ◌∷◌, ◌++◌, replicate, codes, encode_utf8_all, ◌⊎◌}
 use Rattle.lq_tree.specs.declared.node.Node.{Text as TextNode, List as ListNode, Map as MapNode}
 use Rattle.lq_yaml.specs.declared.token.Head.TheVariants.{Dash, Key}
 use Rattle.lq_yaml.specs.declared.token.Token.{Token}
@@ -17,34 +17,34 @@ spaced n = replicate n 32
 
 -- what may follow a value: nothing, or a blank, more blanks, `#` and anything
 abbrev pub IsTail : List ℕ → Type 0
-IsTail text = (text ≡ []) ⊎ ((b : ℕ) × (gap words : List ℕ) × (text ≡ b ∷ (gap ++ 35 ∷ words)) × (is_blank b ≡ true) × AreBlanks gap)
+IsTail text = (text ≡ []) ⊎ ((b : ℕ) × (gap words : List ℕ) × (text ≡ b ∷ (gap ++ (codes "#" ++ words))) × (is_blank b ≡ true) × AreBlanks gap)
 
 -- a plain scalar goes on up to ` #`, so a space stands right before that `#`
 abbrev pub IsPlainTail : List ℕ → Type 0
-IsPlainTail text = (text ≡ []) ⊎ ((gap words : List ℕ) × (text ≡ gap ++ 32 ∷ 35 ∷ words) × AreBlanks gap)
+IsPlainTail text = (text ≡ []) ⊎ ((gap words : List ℕ) × (text ≡ gap ++ (codes " #" ++ words)) × AreBlanks gap)
 
 -- a value in its line, of that rank: `[]`, `{}` or a scalar, and perhaps a comment; or `|` or `|-`
 pub data IsValue (rank : ℕ) (text : List ℕ) (token : Token) : Type 0 where
-  empty_list : (tail : List ℕ) → text ≡ 91 ∷ 93 ∷ tail → IsTail tail → token ≡ Value rank (ListNode []) → IsValue rank text token
-  empty_map : (tail : List ℕ) → text ≡ 123 ∷ 125 ∷ tail → IsTail tail → token ≡ Value rank (MapNode []) → IsValue rank text token
+  empty_list : (tail : List ℕ) → text ≡ codes "[]" ++ tail → IsTail tail → token ≡ Value rank (ListNode []) → IsValue rank text token
+  empty_map : (tail : List ℕ) → text ≡ codes "{}" ++ tail → IsTail tail → token ≡ Value rank (MapNode []) → IsValue rank text token
   quoted : (scalar tail chars : List ℕ) → text ≡ scalar ++ tail → IsQuoted scalar chars → IsTail tail → token ≡ Value rank (TextNode (encode_utf8_all chars)) → IsValue rank text token
   plain : (scalar tail : List ℕ) → text ≡ scalar ++ tail → IsPlain scalar → IsPlainTail tail → token ≡ Value rank (plain_node (encode_utf8_all scalar)) → IsValue rank text token
-  keeping : text ≡ 124 ∷ [] → token ≡ Bar rank true → IsValue rank text token
-  stripping : text ≡ 124 ∷ 45 ∷ [] → token ≡ Bar rank false → IsValue rank text token
+  keeping : text ≡ codes "|" → token ≡ Bar rank true → IsValue rank text token
+  stripping : text ≡ codes "|-" → token ≡ Bar rank false → IsValue rank text token
 
 -- at a column: a value, `KEY:` or `KEY: VALUE`; blanks around the `:` mean nothing
 pub data IsEntry (column : ℕ) (text : List ℕ) (tokens : List Token) : Type 0 where
   value : (token : Token) → IsValue (2 * column + 1) text token → tokens ≡ token ∷ [] → IsEntry column text tokens
-  key : (key gap chars : List ℕ) → text ≡ key ++ (gap ++ 58 ∷ []) → IsKey key chars → AreBlanks gap
+  key : (key gap chars : List ℕ) → text ≡ key ++ (gap ++ codes ":") → IsKey key chars → AreBlanks gap
       → tokens ≡ Begin (2 * column + 1) (Key (encode_utf8_all chars)) ∷ [] → IsEntry column text tokens
-  pair : (key gap wide rest chars : List ℕ) (token : Token) → text ≡ key ++ (gap ++ 58 ∷ 32 ∷ (wide ++ rest)) → IsKey key chars → AreBlanks gap → AreBlanks wide
+  pair : (key gap wide rest chars : List ℕ) (token : Token) → text ≡ key ++ (gap ++ (codes ": " ++ (wide ++ rest))) → IsKey key chars → AreBlanks gap → AreBlanks wide
       → IsValue (2 * column + 2) rest token → tokens ≡ Begin (2 * column + 1) (Key (encode_utf8_all chars)) ∷ token ∷ [] → IsEntry column text tokens
 
 -- what begins at a column: an entry, `-` alone, or `-`, spaces and what begins at the column behind them
 pub data IsContent : ℕ → List ℕ → List Token → Type 0 where
   entry : {column : ℕ} {text : List ℕ} {tokens : List Token} → IsEntry column text tokens → IsContent column text tokens
-  dash : {column : ℕ} {text : List ℕ} {tokens : List Token} → text ≡ 45 ∷ [] → tokens ≡ Begin (2 * column + 2) Dash ∷ [] → IsContent column text tokens
-  item : {column : ℕ} {text : List ℕ} {tokens : List Token} (gap : ℕ) (rest : List ℕ) (more : List Token) → text ≡ 45 ∷ 32 ∷ (spaced gap ++ rest)
+  dash : {column : ℕ} {text : List ℕ} {tokens : List Token} → text ≡ codes "-" → tokens ≡ Begin (2 * column + 2) Dash ∷ [] → IsContent column text tokens
+  item : {column : ℕ} {text : List ℕ} {tokens : List Token} (gap : ℕ) (rest : List ℕ) (more : List Token) → text ≡ codes "- " ++ (spaced gap ++ rest)
       → tokens ≡ Begin (2 * column + 2) Dash ∷ more → IsContent (column + 2 + gap) rest more → IsContent column text tokens
 
 -- a line with tokens: spaces, what begins behind them and does not end with a blank, and perhaps blanks
@@ -56,14 +56,14 @@ IsLine line tokens = (indent last : ℕ) × (content blanks : List ℕ) × (line
 
 -- a comment: `#` after blanks
 abbrev pub IsComment : List ℕ → Type 0
-IsComment line = (gap words : List ℕ) × (line ≡ gap ++ 35 ∷ words) × AreBlanks gap
+IsComment line = (gap words : List ℕ) × (line ≡ gap ++ (codes "#" ++ words)) × AreBlanks gap
 
 abbrev pub IsSkipped : List ℕ → Type 0
 IsSkipped line = AreBlanks line ⊎ IsComment line
 
 -- `---`, and perhaps blanks
 abbrev pub IsMarker : List ℕ → Type 0
-IsMarker line = (blanks : List ℕ) × (line ≡ 45 ∷ 45 ∷ 45 ∷ blanks) × AreBlanks blanks
+IsMarker line = (blanks : List ℕ) × (line ≡ codes "---" ++ blanks) × AreBlanks blanks
 
 abbrev pub column_of : ℕ → ℕ
 column_of rank = (rank - 1) / 2

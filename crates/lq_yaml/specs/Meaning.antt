@@ -1,5 +1,5 @@
 -- What signs mean: escapes, and what a plain scalar stands for.
-use Rattle.std.specs.Prelude.{ℕ, ◌+◌, ◌-◌, ◌*◌, ◌^◌, ◌==◌, ◌&&◌, ◌||◌, nat_le, Bool, true, false, cond, if◌then◌else◌, ℤ, pos, neg_ℤ, int_le, List, [], ◌∷◌, Option, Some, None, option_and_then, codes, bytes_eq}
+use Rattle.std.specs.Prelude.{ℕ, ◌+◌, ◌-◌, ◌*◌, ◌^◌, ◌==◌, ◌&&◌, ◌||◌, nat_le, Bool, true, false, cond, if◌then◌else◌, ℤ, pos, neg_ℤ, int_le, List, [], ◌∷◌, ◌++◌, Option, Some, None, option_and_then, codes, bytes_eq}
 use Rattle.std.specs.List.{list_all, list_any}
 use Rattle.std.specs.Str.Parse.{signed_digits_value}
 use lib.Utf8.{scalar}
@@ -30,9 +30,9 @@ coded a b c d = option_and_then (λ w. option_and_then (λ x. option_and_then (�
 
 -- ---- plain scalars
 
--- no plain scalar begins with one of these: `[ ] { } , & * # | > ! % @ " '`, a grave accent, a tab
+-- no plain scalar begins with one of these, nor with a tab
 abbrev pub marks : List ℕ
-marks = 91 ∷ 93 ∷ 123 ∷ 125 ∷ 44 ∷ 38 ∷ 42 ∷ 35 ∷ 124 ∷ 62 ∷ 33 ∷ 37 ∷ 64 ∷ 34 ∷ 39 ∷ 96 ∷ 9 ∷ []
+marks = codes "[]{},&*#|>!%@\"'`" ++ 9 ∷ []
 
 abbrev pub is_mark : ℕ → Bool
 is_mark c = list_any (λ m. c == m) marks

@@ -1,5 +1,5 @@
 -- How scalars are written in a line: what a text is made of, and which characters it means.
-use Rattle.std.specs.Prelude.{◌≡◌, ℕ, ◌==◌, true, false, cond, List, [], ◌∷◌, ◌++◌, Some, ◌⊎◌}
+use Rattle.std.specs.Prelude.{◌≡◌, ℕ, ◌==◌, true, false, cond, List, [], ◌∷◌, ◌++◌, Some, ◌⊎◌, codes}
 use Rattle.std.specs.List.{list_all}
 use Rattle.lq_yaml.specs.Chars.{is_blank}
 use Rattle.lq_yaml.specs.Meaning.{escaped, coded, is_mark}
@@ -25,17 +25,17 @@ HasLast text c = (before : List ℕ) × (text ≡ before ++ c ∷ [])
 -- the characters with each `'` twice
 abbrev pub doubled : List ℕ → List ℕ
 doubled [] = []
-doubled (c ∷ cs) = cond (c == 39) (39 ∷ 39 ∷ doubled cs) (c ∷ doubled cs)
+doubled (c ∷ cs) = cond (c == 39) (codes "''" ++ doubled cs) (c ∷ doubled cs)
 
 -- `'..'`
 abbrev pub IsSingle : List ℕ → List ℕ → Type 0
-IsSingle text chars = text ≡ 39 ∷ (doubled chars ++ 39 ∷ [])
+IsSingle text chars = text ≡ codes "'" ++ (doubled chars ++ codes "'")
 
 -- how a character stands between `"`: as itself, unless it is `"` or `\`, by a backslash and a sign, or by `\u` and four hexadecimal digits
 pub data IsPiece (c : ℕ) (text : List ℕ) : Type 0 where
   itself : (c == 34) ≡ false → (c == 92) ≡ false → text ≡ c ∷ [] → IsPiece c text
-  sign : (s : ℕ) → escaped s ≡ Some c → text ≡ 92 ∷ s ∷ [] → IsPiece c text
-  code : (h i j k : ℕ) → coded h i j k ≡ Some c → text ≡ 92 ∷ 117 ∷ h ∷ i ∷ j ∷ k ∷ [] → IsPiece c text
+  sign : (s : ℕ) → escaped s ≡ Some c → text ≡ codes "\\" ++ s ∷ [] → IsPiece c text
+  code : (h i j k : ℕ) → coded h i j k ≡ Some c → text ≡ codes "\\u" ++ h ∷ i ∷ j ∷ k ∷ [] → IsPiece c text
 
 -- one piece for each character
 abbrev pub ArePieces : List ℕ → List ℕ → Type 0
@@ -44,7 +44,7 @@ ArePieces (c ∷ cs) text = (piece more : List ℕ) × (text ≡ piece ++ more) 
 
 -- `".."`
 abbrev pub IsDouble : List ℕ → List ℕ → Type 0
-IsDouble text chars = (inside : List ℕ) × (text ≡ 34 ∷ (inside ++ 34 ∷ [])) × ArePieces chars inside
+IsDouble text chars = (inside : List ℕ) × (text ≡ codes "\"" ++ (inside ++ codes "\"")) × ArePieces chars inside
 
 abbrev pub IsQuoted : List ℕ → List ℕ → Type 0
 IsQuoted text chars = IsSingle text chars ⊎ IsDouble text chars
@@ -63,12 +63,12 @@ pub record IsPlain (text : List ℕ) : Type 0 where
   pub no_last_blank : is_blank last ≡ false
   pub no_last_colon : (last == 58) ≡ false
   -- it is not `-`, and does not begin with `- ` or `? `
-  pub no_dash : text ≡ 45 ∷ [] → ⊥
-  pub no_item : BeginsWith (45 ∷ 32 ∷ []) text → ⊥
-  pub no_question : BeginsWith (63 ∷ 32 ∷ []) text → ⊥
+  pub no_dash : text ≡ codes "-" → ⊥
+  pub no_item : BeginsWith (codes "- ") text → ⊥
+  pub no_question : BeginsWith (codes "? ") text → ⊥
   -- it holds neither `: ` nor ` #`
-  pub no_pair : Holds (58 ∷ 32 ∷ []) text → ⊥
-  pub no_comment : Holds (32 ∷ 35 ∷ []) text → ⊥
+  pub no_pair : Holds (codes ": ") text → ⊥
+  pub no_comment : Holds (codes " #") text → ⊥
 
 -- a scalar as a key, and the key's characters
 abbrev pub IsKey : List ℕ → List ℕ → Type 0
