@@ -51,12 +51,15 @@ scalar_examples = record {
   truth = computed _ _ (omega (arith, one_level)) refl;
   zero = computed _ _ (omega (arith, one_level)) refl;
   negative = computed _ _ (omega (arith, one_level)) refl;
+  greatest = computed _ _ (omega (arith, one_level)) refl;
+  past = computed _ _ (omega (arith, one_level)) refl;
   point = computed _ _ (omega (arith, one_level)) refl;
   padded = computed _ _ (omega (arith, one_level)) refl;
   text = computed _ _ (omega (arith, one_level)) refl;
   single = computed _ _ (omega (arith, one_level)) refl;
   empty_text = computed _ _ (omega (arith, one_level)) refl;
   double = computed _ _ (omega (arith, one_level)) refl;
+  escapes = computed _ _ (omega (arith, one_level)) refl;
   empty_list = computed _ _ (omega (arith, one_level)) refl;
   empty_map = computed _ _ (omega (arith, one_level)) refl;
   open_quote = nothing _ refl;
@@ -66,6 +69,8 @@ scalar_examples = record {
   colon = nothing _ refl;
   anchor = nothing _ refl;
   flow = nothing _ refl;
+  folded = nothing _ refl;
+  question = nothing _ refl;
 }
 
 pub line_examples : LineExamples

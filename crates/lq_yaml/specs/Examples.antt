@@ -1,5 +1,5 @@
 -- Small files and what they mean, each form once.
-use Rattle.std.specs.Prelude.{ℕ, true, pos, neg_ℤ, List, [], ◌∷◌, ◌++◌, codes}
+use Rattle.std.specs.Prelude.{ℕ, ◌-◌, ◌^◌, true, pos, neg_ℤ, List, [], ◌∷◌, ◌++◌, codes}
 use Rattle.lq_tree.specs.declared.node.Node.{Node, Null, Truth, Whole, Text as TextNode, List as ListNode, Map as MapNode}
 use Rattle.lq_yaml.specs.File.{IsRead}
 
@@ -17,7 +17,9 @@ pub record ScalarExamples : Type 0 where
   pub truth : Means (codes "true") (Truth true)
   pub zero : Means (codes "0") (Whole (pos 0))
   pub negative : Means (codes "-12") (Whole (neg_ℤ (pos 12)))
-  -- not a number: a point, a zero in front
+  pub greatest : Means (codes "170141183460469231731687303715884105727") (Whole (pos (2 ^ 127 - 1)))
+  -- not a number: one more than 127 bits hold, a point, a zero in front
+  pub past : Means (codes "170141183460469231731687303715884105728") (TextNode (codes "170141183460469231731687303715884105728"))
   pub point : Means (codes "1.10") (TextNode (codes "1.10"))
   pub padded : Means (codes "007") (TextNode (codes "007"))
   -- blanks at the end, a comment, and signs that are none here
@@ -26,6 +28,8 @@ pub record ScalarExamples : Type 0 where
   pub empty_text : Means (codes "''") (TextNode [])
   -- `"\"\u0041\n"`
   pub double : Means (codes "\"\\\"\\u0041\\n\"") (TextNode (codes "\"A" ++ 10 ∷ []))
+  -- each escape once: `"\\\"\/\n\t\r\0\u00E9"`
+  pub escapes : Means (codes "\"\\\\\\\"\\/\\n\\t\\r\\0\\u00E9\"") (TextNode (92 ∷ 34 ∷ 47 ∷ 10 ∷ 9 ∷ 13 ∷ 0 ∷ 195 ∷ 169 ∷ []))
   pub empty_list : Means (codes "[] # c") (ListNode [])
   pub empty_map : Means (codes "{}") (MapNode [])
   pub open_quote : MeansNothing (codes "'a")
@@ -37,6 +41,8 @@ pub record ScalarExamples : Type 0 where
   pub colon : MeansNothing (codes "a: b:")
   pub anchor : MeansNothing (codes "&a")
   pub flow : MeansNothing (codes "[1]")
+  pub folded : MeansNothing (codes "> a")
+  pub question : MeansNothing (codes "? a")
 
 pub record LineExamples : Type 0 where
   pub mapping : IsRead (codes "b: 1" ∷ codes "a:" ∷ []) (MapNode ((codes "a", Null) ∷ (codes "b", Whole (pos 1)) ∷ []))
