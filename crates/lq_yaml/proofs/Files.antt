@@ -26,6 +26,7 @@ use Rattle.lq_yaml.specs.Machine.{start, finish, reach}
 use Rattle.lq_yaml.specs.Tree.{Tree, levels, node_of}
 use Rattle.lq_yaml.proofs.Complete.{complete, not_above}
 use Rattle.lq_yaml.proofs.Sound as sound
+use Rattle.lq_yaml.proofs.LineForms.{file_found, file_written}
 use Rattle.lq_yaml.proofs.Runs.{leads, leads_back, tokens, back, mono, lines_dead, lines_append}
 
 -- ---- sound and complete
@@ -48,7 +49,7 @@ read ls s n is end =
     let r = complete x.tree t.toks x.lays in
     record {
       tree = x.tree;
-      lays = (t.toks, t.are, x.lays);
+      lays = (t.toks, file_found ls t.toks t.are, x.lays);
       means = x.means;
       levels = sym r.deep ∙ sym (max_none (reach t.toks start)) ∙ sym l.levels;
     }
@@ -66,7 +67,7 @@ pub record Ends (ls : List (List ℕ)) (t : Tree) : Type 0 where
 pub ends : (ls : List (List ℕ)) (t : Tree) → IsLaidOut ls t → Ends ls t
 ends ls t lay =
     let r = complete t lay.0 lay.2 in
-    let b = back ls file_start (deep r.at (max 0 (reach lay.0 start))) lay.0 lay.1 (leads_back lay.0 deep_start r.at r.runs) in
+    let b = back ls file_start (deep r.at (max 0 (reach lay.0 start))) lay.0 (file_written ls lay.0 lay.1) (leads_back lay.0 deep_start r.at r.runs) in
     record {
       state = b.state;
       runs = b.runs;

@@ -3,7 +3,8 @@ use Rattle.std.proofs.Common.{◌≡◌, ℕ, List, [], ◌∷◌, ◌++◌, Opt
 use Rattle.std.specs.Option.{SomeIff}
 use Rattle.std.proofs.lemmas.Bool.{false_from_ne_true}
 use lib.Utf8.{scalar}
-use Rattle.lq_yaml.specs.Scalar.{Found, character, with_front, double, behind, behind_u, by_escape, by_code, coded, escaped}
+use Rattle.lq_yaml.specs.Scalar.{Found, with_front, double, behind, behind_u, by_escape, by_code}
+use Rattle.lq_yaml.specs.Meaning.{character, coded, escaped}
 use Rattle.lq_yaml.specs.Follows.{one}
 
 -- a character more

@@ -1,6 +1,10 @@
 pub mod Parts
 pub mod Complete
 pub mod Sound
+pub mod Splits
+pub mod ScalarForms
+pub mod ContentForms
+pub mod LineForms
 pub mod Fronts
 pub mod Trim
 pub mod Digits
@@ -9,3 +13,4 @@ pub mod Views
 pub mod Runs
 pub mod Files
 pub mod Trees
+pub mod Worked

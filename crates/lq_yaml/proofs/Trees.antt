@@ -17,12 +17,15 @@ use Rattle.lq_yaml.specs.declared.token.Head.{Head}
 use Rattle.lq_yaml.specs.declared.token.Head.TheVariants.{Dash, Key}
 use Rattle.lq_yaml.specs.declared.token.Token.{Token}
 use Rattle.lq_yaml.specs.declared.token.Token.TheVariants.{Begin, Value, Raw}
-use Rattle.lq_yaml.specs.Chars.{begins_with, is_nil, spaces, trimmed, without_blanks, without_spaces}
+use Rattle.lq_yaml.specs.Chars.{is_nil}
+use Rattle.lq_yaml.specs.Scan.{begins_with, spaces, trimmed, without_blanks, without_spaces}
 use Rattle.lq_yaml.specs.File.{IsRead}
 use Rattle.lq_yaml.specs.Layout.{Inside, Group, IsLeaf}
 use Rattle.lq_yaml.specs.Line.{Lexed, is_end, value_if, value_by, value_token, value_tokens, header, behind_pair, key, behind_key, entry_by, entry_tokens, is_dash, tokens_at, base_of, blank_tokens, is_marker, content_tokens, has_tab, line_by, line_tokens, mode_after, parent_of, without_block, tokens_of}
-use Rattle.lq_yaml.specs.Scalar.{Front, front, scalar_node, plain_node}
+use Rattle.lq_yaml.specs.Scalar.{Front, front, scalar_node}
+use Rattle.lq_yaml.specs.Meaning.{plain_node}
 use Rattle.lq_yaml.specs.Tree.{Tree, leaf, empty, group, Entries, no_entries, entry, node_of, group_node, items_of, put_all}
+use Rattle.lq_yaml.proofs.LineForms.{file_written}
 
 -- ---- entries in order
 
@@ -268,5 +271,5 @@ pub ordered : (ls : List (List ℕ)) (r : Result Node YamlFault) → IfOk r (λ 
 ordered ls (Err e) h = tt
 ordered ls (Ok node) h =
     let lay = h.1 in
-    let flat = some_from AreFlat (tokens_of Fresh ls) lay.0 lay.1 (lines_flat Fresh ls) in
+    let flat = some_from AreFlat (tokens_of Fresh ls) lay.0 (file_written ls lay.0 lay.1) (lines_flat Fresh ls) in
     subst (λ (n : Node). IsTree n) h.3 (in_order h.0 (flat_inside h.0 0 lay.0 flat lay.2.1))

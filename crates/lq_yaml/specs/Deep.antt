@@ -1,4 +1,4 @@
--- The machine with the deepest level on its way.
+-- The machine with the deepest level on its way. What the code computes: it need not be believed.
 use Rattle.std.specs.Prelude.{ℕ, ◌+◌, max, List, [], ◌∷◌, length, Option, Some, None, option_map, option_and_then}
 use Rattle.lq_yaml.specs.declared.token.Token.{Token}
 use Rattle.lq_yaml.specs.declared.token.Token.TheVariants.{Begin, Value}

@@ -1,23 +1,22 @@
 -- The lines of a file, the trees that they lay out, and what is wrong with lines that lay out none.
-use Rattle.std.specs.Prelude.{◌≡◌, ℕ, ◌<◌, ◌≤◌, ◌+◌, ◌-◌, List, ◌++◌, take, length, map, Some}
+use Rattle.std.specs.Prelude.{◌≡◌, ℕ, ◌<◌, ◌≤◌, ◌+◌, ◌-◌, List, ◌++◌, take, length, map}
 use Rattle.std.specs.Str.{chars}
 use Rattle.std.specs.Str.Lines.{lines}
 use Rattle.lq_tree.specs.declared.node.Node.{Node}
 use Rattle.lq_yaml.specs.declared.fault.YamlFault.{YamlFault}
 use Rattle.lq_yaml.specs.declared.fault.YamlFault.TheVariants.{NotUtf8, Line, TooDeep, OutOfMemory}
-use Rattle.lq_yaml.specs.declared.mode.Mode.TheVariants.{Fresh}
 use Rattle.lq_yaml.specs.declared.token.Token.{Token}
 use Rattle.lq_yaml.specs.Layout.{Layout}
-use Rattle.lq_yaml.specs.Line.{tokens_of}
+use Rattle.lq_yaml.specs.Made.{IsFile}
 use Rattle.lq_yaml.specs.Tree.{Tree, levels, node_of}
 
 -- the lines of a text, as characters: each ends with LF or CRLF, the last one may lack its end
 abbrev pub lines_of : List ℕ → List (List ℕ)
 lines_of text = map chars (lines text)
 
--- the lines lay out the tree
+-- the lines are made of tokens that lay out the tree
 abbrev pub IsLaidOut : List (List ℕ) → Tree → Type 0
-IsLaidOut ls t = (toks : List Token) × (tokens_of Fresh ls ≡ Some toks) × Layout toks t
+IsLaidOut ls t = (toks : List Token) × IsFile ls toks × Layout toks t
 
 -- the most levels that a tree may have
 abbrev pub most_levels : ℕ

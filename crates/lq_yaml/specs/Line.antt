@@ -1,4 +1,4 @@
--- The tokens of a line, and of all lines of a file.
+-- What the code computes of a line and of all lines of a file. `Made` says what these find (the laws `contents` and `tokens`), so they need not be believed.
 use Rattle.std.specs.Prelude.{ℕ, ◌+◌, ◌-◌, ◌*◌, ◌/◌, ◌==◌, ◌&&◌, nat_lt, nat_le, Bool, true, false, cond, if◌then◌else◌, List, [], ◌∷◌, ◌++◌, drop, Option, Some, None, option_map, option_and_then, encode_utf8_all}
 use Rattle.lq_tree.specs.declared.node.Node.{Node, List as ListNode, Map as MapNode}
 use Rattle.lq_yaml.specs.declared.token.Head.TheVariants.{Dash, Key}
@@ -6,7 +6,8 @@ use Rattle.lq_yaml.specs.declared.token.Token.{Token}
 use Rattle.lq_yaml.specs.declared.token.Token.TheVariants.{Begin, Value, Bar, Raw}
 use Rattle.lq_yaml.specs.declared.mode.Mode.{Mode}
 use Rattle.lq_yaml.specs.declared.mode.Mode.TheVariants.{Fresh, Between, Headed, Within}
-use Rattle.lq_yaml.specs.Chars.{is_blank, spaces, without_spaces, without_blanks, trimmed, begins_with, is_nil, is_word_end}
+use Rattle.lq_yaml.specs.Chars.{is_blank, is_nil}
+use Rattle.lq_yaml.specs.Scan.{spaces, without_spaces, without_blanks, trimmed, begins_with, is_word_end}
 use Rattle.lq_yaml.specs.Scalar.{front, scalar_node}
 
 -- ---- within a line

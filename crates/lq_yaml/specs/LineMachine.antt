@@ -1,4 +1,4 @@
--- The machine from line to line.
+-- The machine from line to line. What the code computes: it need not be believed.
 use Rattle.std.specs.Prelude.{ℕ, List, [], ◌∷◌, Option, Some, option_map, option_and_then}
 use Rattle.lq_yaml.specs.declared.mode.Mode.{Mode}
 use Rattle.lq_yaml.specs.declared.mode.Mode.TheVariants.{Fresh}

@@ -1,4 +1,4 @@
--- Reading tokens one by one, over a stack of open collections.
+-- Reading tokens one by one, over a stack of open collections. What the code computes: no public contract names it, so it need not be believed.
 use Rattle.std.specs.Prelude.{ℕ, ◌+◌, max, Bool, true, false, not, ◌&&◌, cond, nat_lt, is_some, List, [], ◌∷◌, ◌++◌, length, Option, Some, None, option_and_then}
 use Rattle.std.specs.BTreeMap.{insert_entry, is_at}
 use Rattle.std.specs.Map.{lookup}

@@ -41,7 +41,7 @@ abbrev mutual
   put_all among (entry (Key k) t es) = put_all (insert_entry text_cmp among k (node_of t)) es
   put_all among (entry Dash t es) = put_all among es
 
-abbrev open_levels : Node-F Node → ℕ
+abbrev pub open_levels : Node-F Node → ℕ
 open_levels (Node-F.List ns) = 1
 open_levels (Node-F.Map es) = 1
 open_levels _ = 0

@@ -20,5 +20,5 @@ mod tests;
 mod token;
 
 pub use fault::YamlFault;
-pub use laws::one_tree;
+pub use laws::{contents, examples, one_tree, scalars, tokens};
 pub use reading::read_yaml;

@@ -1,6 +1,7 @@
 ghost use Rattle.std.specs.Prelude.{◌≡◌, ◌≤◌, ◌&&◌, length, cond, Some, None};
 ghost use Rattle.std.specs.Str.Parse.{signed_digits_value};
-ghost use Rattle.lq_yaml.specs.Scalar.{stops, plain_length, plain_text, is_mark, is_plain, begins_otherwise, ends_with_colon, is_whole, is_begun, is_digit, fits_128, plain_node};
+ghost use Rattle.lq_yaml.specs.Scalar.{stops, plain_length, plain_text, is_plain, begins_otherwise, ends_with_colon};
+ghost use Rattle.lq_yaml.specs.Meaning.{is_mark, is_whole, is_begun, is_digit, fits_128, plain_node};
 ghost use Rattle.std.specs.List.{list_all};
 
 use crate::chars::{begins_with, is_word_end, trimmed};

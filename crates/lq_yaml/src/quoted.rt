@@ -1,5 +1,6 @@
 ghost use Rattle.std.specs.Prelude.{◌≡◌, ◌≤◌, ◌<◌, IfOk, IfSome, length};
-ghost use Rattle.lq_yaml.specs.Scalar.{single, double, escaped, hex_digit, coded, by_code, by_escape};
+ghost use Rattle.lq_yaml.specs.Scalar.{single, double, by_code, by_escape};
+ghost use Rattle.lq_yaml.specs.Meaning.{escaped, hex_digit, coded};
 ghost use Rattle.lq_yaml.specs.Follows.{one, Gives, Follows};
 
 use lq_base::NoMemory;

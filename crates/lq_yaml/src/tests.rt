@@ -96,6 +96,10 @@ fn collections_are_read(rt: HostRuntime) -> Result<(), Fail> {
         ("a:\n- 1\n- 2\nb:\n  - 3\n", "{a:[1 2 ] b:[3 ] }"),
         ("- a: 1\n  b: 2\n- - 1\n  - 2\n", "[{a:1 b:2 } [1 2 ] ]"),
         ("- a:\n  - 1\n  b: 2\n", "[{a:[1 ] b:2 } ]"),
+        (
+            "a:\n  - 'x': \"y\" # c\n    z: []\n  - ~\n",
+            "{a:[{x:'y' z:[] } null ] }",
+        ),
         ("-\n  a: 1\n-\n  - 2\n", "[{a:1 } [2 ] ]"),
         ("a:\n  x\nb:\n  []\nc:\n  'q'\n", "{a:'x' b:[] c:'q' }"),
         ("a: \tx\t\nb: \t[]\n", "{a:'x' b:[] }"),
@@ -131,6 +135,7 @@ fn blocks_are_read(rt: HostRuntime) -> Result<(), Fail> {
         ("a: |\n  # x\n  k: v\n# c\nb: 1\n", "{a:'# x\nk: v\n' b:1 }"),
         ("- |\n  x\n- - |-\n   y\n", "['x\n' ['y' ] ]"),
         ("a:\n  |\n  x\n", "{a:'x\n' }"),
+        ("- a: |\n    x\n  b: 2\n", "[{a:'x\n' b:2 } ]"),
     ];
     for (text, want) in cases {
         let node = read_yaml(rt.alloc(), text.as_bytes())?;

@@ -1,5 +1,5 @@
 use Rattle.std.proofs.Common.{rules, ◌≡◌, true}
-use Rattle.lq_yaml.specs.Scalar.{is_whole}
+use Rattle.lq_yaml.specs.Meaning.{is_whole}
 use Rattle.lq_yaml.proofs.Digits.{parsed}
 use Rattle.lq_yaml.proofs.plain.whole_of.Goals as goal
 

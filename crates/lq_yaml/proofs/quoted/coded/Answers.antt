@@ -1,5 +1,5 @@
 use Rattle.std.proofs.Common.{rules, ◌≡◌, Some, ◌+◌, ◌*◌}
-use Rattle.lq_yaml.specs.Scalar.{hex_digit}
+use Rattle.lq_yaml.specs.Meaning.{hex_digit}
 use Rattle.lq_yaml.proofs.Fronts.{character_from}
 use Rattle.lq_yaml.proofs.quoted.coded.Goals as goal
 
