@@ -1,0 +1,15 @@
+pub mod Added
+pub mod Begun
+pub mod Follows
+pub mod Journal
+pub mod Kept
+pub mod Loaded
+pub mod Making
+pub mod Once
+pub mod ReadOn
+pub mod RowsIn
+pub mod RowsKept
+pub mod Scripts
+pub mod TablesKept
+pub mod TablesSet
+pub mod Through

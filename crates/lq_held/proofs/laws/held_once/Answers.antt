@@ -1,0 +1,5 @@
+use Rattle.lq_held.proofs.Once.{once}
+use Rattle.lq_held.proofs.laws.held_once.Goals as goal
+
+pub returns : goal.returns
+returns c = once

@@ -1,0 +1,5 @@
+use Rattle.lq_held.proofs.Once.{more}
+use Rattle.lq_held.proofs.laws.holds_more.Goals as goal
+
+pub returns : goal.returns
+returns c = more
