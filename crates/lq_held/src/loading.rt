@@ -8,7 +8,9 @@ ghost use Rattle.lq_written.specs.Written.{is_row, is_written, tracked_of};
 ghost use Rattle.lq_written.specs.declared.written.Written.TheVariants.{LockFreed, LockTaken, RowDeleted, RowInserted, TableCreated, TableDropped};
 
 use crate::held::Held;
-use crate::rows::{Place, add_place, delete_row, fits, has_place, has_room, is_behind, is_placed, tracked_of};
+use crate::rows::{
+    Place, add_place, delete_row, fits, has_place, has_room, is_behind, is_placed, tracked_of,
+};
 use crate::tables::{add_table, remove_table, repeats_name};
 use lq_base::{Identity, Items, Name, NoMemory};
 use lq_written::{Written, WrittenColumn, WrittenRow};
@@ -56,7 +58,11 @@ fn freed(loading: Loading) -> Loading
     loading
 }
 
-fn created(loading: Loading, table: Name, columns: Items<WrittenColumn>) -> Result<Option<Loading>, NoMemory>
+fn created(
+    loading: Loading,
+    table: Name,
+    columns: Items<WrittenColumn>,
+) -> Result<Option<Loading>, NoMemory>
     ensures { IfOk result (Next (TableCreated table columns) loading) }
 {
     let mut loading = loading;
@@ -129,7 +135,11 @@ fn deleted(loading: Loading, of: Identity) -> Loading
 }
 
 /// What is kept after a statement, or nothing where the database does not take it.
-pub fn applied(loading: Loading, alloc: Global, written: Written) -> Result<Option<Loading>, NoMemory>
+pub fn applied(
+    loading: Loading,
+    alloc: Global,
+    written: Written,
+) -> Result<Option<Loading>, NoMemory>
     requires { is_written written ≡ true }
     ensures { IfOk result (Next written loading) }
 {

@@ -9,8 +9,8 @@ ghost use Rattle.lq_held.specs.Places.{HasPlaces, has_row, identity_at, is_risin
 ghost use Rattle.lq_written.specs.Written.{is_row, tracked_of};
 
 use lq_base::{Exec, Identity, Items, NoMemory, Text, Tracked, char_count};
-use lq_written::WrittenRow;
 use lq_track::{Ran, row_of};
+use lq_written::WrittenRow;
 use std::alloc::Global;
 use std::collections::BTreeSet;
 
@@ -110,7 +110,11 @@ pub fn tracked_of(alloc: Global, row: &WrittenRow) -> Result<Tracked, NoMemory>
 pub fn has_place(places: &BTreeSet<Place>, alloc: Global, of: &Identity) -> Result<bool, NoMemory>
     ensures { IfOk result (λ found. (rows : List TrackedValue) → HasPlaces rows places.now → found ≡ list_any (λ r. same_identity (identity_of r) of.now) rows) }
 {
-    let place = (of.file.copy(alloc)?, of.id.copy(alloc)?, of.author.copy(alloc)?);
+    let place = (
+        of.file.copy(alloc)?,
+        of.id.copy(alloc)?,
+        of.author.copy(alloc)?,
+    );
     let found = places.contains(&place);
     Ok(found)
 }
@@ -119,7 +123,11 @@ pub fn has_place(places: &BTreeSet<Place>, alloc: Global, of: &Identity) -> Resu
 pub fn add_place(places: &mut BTreeSet<Place>, alloc: Global, of: &Identity) -> Result<(), NoMemory>
     ensures { OnOk result ((rows : List TrackedValue) (row : TrackedValue) → identity_of row ≡ of.now → HasPlaces rows places.old → HasPlaces (rows ++ row ∷ []) places.new) }
 {
-    let place = (of.file.copy(alloc)?, of.id.copy(alloc)?, of.author.copy(alloc)?);
+    let place = (
+        of.file.copy(alloc)?,
+        of.id.copy(alloc)?,
+        of.author.copy(alloc)?,
+    );
     match places.insert(place) {
         Ok(_) => Ok(()),
         Err(_) => Err(NoMemory),
