@@ -1,0 +1,3 @@
+-- Worked examples by reason and by effect, each computed from the definitions.
+pub mod Tables
+pub mod Missing
