@@ -1,3 +1,5 @@
 -- Worked examples by reason and by effect, each computed from the definitions.
 pub mod Tables
 pub mod Missing
+pub mod Exists
+pub mod ExistsTwice
