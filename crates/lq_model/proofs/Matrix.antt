@@ -3,3 +3,5 @@ pub mod Tables
 pub mod Missing
 pub mod Exists
 pub mod ExistsTwice
+pub mod Depends
+pub mod DependsTargets
