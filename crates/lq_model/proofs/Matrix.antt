@@ -5,3 +5,6 @@ pub mod Exists
 pub mod ExistsTwice
 pub mod Depends
 pub mod DependsTargets
+pub mod WrongKind
+pub mod Comparisons
+pub mod TooWide
