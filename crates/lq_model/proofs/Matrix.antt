@@ -8,3 +8,7 @@ pub mod DependsTargets
 pub mod WrongKind
 pub mod Comparisons
 pub mod TooWide
+pub mod Rows
+pub mod Parents
+pub mod Reserved
+pub mod Order
