@@ -12,3 +12,5 @@ pub mod Rows
 pub mod Parents
 pub mod Reserved
 pub mod Order
+pub mod Made
+pub mod Altered

@@ -139,8 +139,6 @@ pub wrong_before_wide :
 unfolding decide into_kind
 wrong_before_wide = refl
 
--- a decimal that is too wide beside one of another scale stands in no column, so the rows of one Modify are all wrong or all too wide
-
 -- what is wrong or too wide before a null
 pub kinds_before_null :
     Are (Some WrongKind) User Postgresql loose (

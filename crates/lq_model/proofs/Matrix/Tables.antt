@@ -1,13 +1,16 @@
 -- The tables of the worked examples by reason, and the lists of statements that differ in one name.
-use Rattle.std.specs.Prelude.{List, None, Option, [], codes, false, map, true, ◌∷◌, ◌≡◌}
+use Rattle.std.specs.Prelude.{List, None, Ok, Option, [], codes, false, map, true, ℕ, ◌∷◌, ◌≡◌}
 use Rattle.lq_base.specs.declared.dialect.Dialect.{Dialect}
+use Rattle.lq_base.specs.declared.dialect.Dialect.TheVariants.{Mysql, Postgresql}
 use Rattle.lq_base.specs.declared.kind.Kind.{Kind}
 use Rattle.lq_base.specs.declared.kind.Kind.TheVariants as kind
 use Rattle.lq_base.specs.declared.name.Name.{Name}
 use Rattle.lq_base.specs.declared.reason.Reason.{Reason}
 use Rattle.lq_base.specs.declared.value.Value.{Value}
 use Rattle.lq_model.specs.Catalogue.{Catalogue, Table}
+use Rattle.lq_model.specs.Step.{step}
 use Rattle.lq_model.specs.declared.caller.By.{By}
+use Rattle.lq_model.specs.declared.caller.By.TheVariants.{User}
 use Rattle.lq_model.specs.declared.column.Column.{Column}
 use Rattle.lq_model.specs.declared.constraint.ForeignKey.{ForeignKey}
 use Rattle.lq_model.specs.declared.constraint.Key.{Key}
@@ -22,6 +25,14 @@ use Rattle.lq_model.proofs.ExampleWorld.{another, at, code, column, foreign_to, 
 -- each of the statements is refused for this reason, or, with None, accepted
 abbrev pub Are : Option Reason → By → Dialect → Catalogue → List Statement → Type 0
 Are reason by d c ss = refusals by d c ss ≡ map (λ s. reason) ss
+
+-- the statement is accepted, leaves the catalogue e and changes n rows
+abbrev pub Gives : Dialect → Catalogue → Statement → Catalogue → ℕ → Type 0
+Gives d c s e n = step User d s c ≡ Ok (e, n)
+
+-- the same under both dialects, of a statement that changes no row
+abbrev pub Leaves : Catalogue → Statement → Catalogue → Type 0
+Leaves c s e = Gives Postgresql c s e 0 × Gives Mysql c s e 0
 
 -- a name that nothing has
 abbrev pub fresh : Name
