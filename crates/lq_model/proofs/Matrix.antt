@@ -14,3 +14,7 @@ pub mod Reserved
 pub mod Order
 pub mod Made
 pub mod Altered
+pub mod Written
+pub mod Deleted
+pub mod Tests
+pub mod Answers
