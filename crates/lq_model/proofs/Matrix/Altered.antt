@@ -1,5 +1,5 @@
 -- Worked examples: the whole table after a column, a constraint or an index is added, changed, renamed or dropped.
-use Rattle.std.specs.Prelude.{Bool, List, None, Option, Some, [], codes, false, pos, refl, true, ℤ, ◌∷◌, ◌≡◌}
+use Rattle.std.specs.Prelude.{Bool, List, None, Option, Some, [], codes, false, pos, refl, true, ℤ, ◌∷◌}
 use Rattle.lq_base.specs.Number.{number_of}
 use Rattle.lq_base.specs.Value.{into_kind, is_value_of}
 use Rattle.lq_base.specs.declared.dialect.Dialect.TheVariants.{Mysql, Postgresql}
@@ -8,16 +8,15 @@ use Rattle.lq_base.specs.declared.literal.Literal.TheVariants as literal
 use Rattle.lq_base.specs.declared.name.Name.{Name}
 use Rattle.lq_base.specs.declared.value.Value.{Value}
 use Rattle.lq_base.specs.declared.value.Value.TheVariants as value
-use Rattle.lq_model.specs.Catalogue.{Catalogue, Table}
+use Rattle.lq_model.specs.Catalogue.{Catalogue}
 use Rattle.lq_model.specs.Plan.{decide}
 use Rattle.lq_model.specs.declared.column.Column.{Column}
 use Rattle.lq_model.specs.declared.constraint.ForeignKey.{ForeignKey}
 use Rattle.lq_model.specs.declared.constraint.Key.{Key}
 use Rattle.lq_model.specs.declared.constraint.Unique.{Unique}
 use Rattle.lq_model.specs.declared.index.Index.{Index}
-use Rattle.lq_model.specs.declared.statement.Statement.{Statement}
 use Rattle.lq_model.specs.declared.statement.Statement.TheVariants.{AddColumn, AddForeignKey, AddPrimaryKey, AddUnique, CreateIndex, DropColumn, DropConstraint, DropDefault, DropForeignKey, DropIndex, DropNotNull, DropPrimaryKey, DropUnique, Modify, RenameColumn, SetDefault, SetNotNull}
-use Rattle.lq_model.proofs.ExampleWorld.{another, at, child, children, code, column, def, foreign_to, id, index_on, key_on, number, one_child, parent, parents, text, two_parents, unique_on, up, world}
+use Rattle.lq_model.proofs.ExampleWorld.{another, at, child, children, code, column, def, foreign_to, id, index_on, key_on, one_child, parent, parents, text, two_parents, unique_on, up, world}
 use Rattle.lq_model.proofs.Matrix.Tables.{Gives, Leaves, of_tables, plain, table}
 
 -- a row of numbers

@@ -1,5 +1,5 @@
 -- Worked examples: what a query of a table and of a view is answered, and where what it is refused for stands together with something else.
-use Rattle.std.specs.Prelude.{Err, List, None, Ok, Option, Some, [], codes, false, pos, refl, true, ℤ, ◌∷◌, ◌≡◌}
+use Rattle.std.specs.Prelude.{Err, None, Ok, Option, Some, [], codes, pos, refl, true, ℤ, ◌∷◌, ◌≡◌}
 use Rattle.lq_base.specs.declared.kind.Kind.TheVariants as kind
 use Rattle.lq_base.specs.declared.literal.Literal.TheVariants as literal
 use Rattle.lq_base.specs.declared.reason.Reason.TheVariants.{Missing, Reserved, WrongKind}
@@ -8,12 +8,11 @@ use Rattle.lq_base.specs.declared.value.Value.TheVariants as value
 use Rattle.lq_model.specs.Catalogue.{Catalogue}
 use Rattle.lq_model.specs.Query.{answer}
 use Rattle.lq_model.specs.declared.caller.By.TheVariants.{Program, User}
-use Rattle.lq_model.specs.declared.query.Answered.{Answered}
 use Rattle.lq_model.specs.declared.query.Wanted.TheVariants as wanted
 use Rattle.lq_model.specs.declared.test.Op.TheVariants.{Eq, Ge, Gt}
 use Rattle.lq_model.specs.declared.test.Operand.TheVariants as operand
 use Rattle.lq_model.specs.declared.test.Test.{Compare, IsNull, Test}
-use Rattle.lq_model.proofs.ExampleWorld.{another, at, code, id, none, number, up, view}
+use Rattle.lq_model.proofs.ExampleWorld.{another, at, code, id, none, number, view}
 use Rattle.lq_model.proofs.Matrix.Tables.{of_tables, plain, query_of, table}
 
 abbrev i : ℤ → Value

@@ -1,13 +1,11 @@
 -- Worked examples: which comparisons are WrongKind, in each statement that has a test and in a query, at whatever depth of the test.
 use Rattle.std.specs.List.{flat_map}
-use Rattle.std.specs.Prelude.{Bool, Err, List, None, Option, Some, [], codes, map, pos, refl, false, true, ◌∷◌, ◌≡◌}
+use Rattle.std.specs.Prelude.{Bool, Err, List, None, Some, [], codes, map, pos, refl, false, true, ◌∷◌, ◌≡◌}
 use Rattle.lq_base.specs.Moment.{moment_of}
 use Rattle.lq_base.specs.Value.{into_kind}
 use Rattle.lq_base.specs.declared.dialect.Dialect.TheVariants.{Mysql, Postgresql}
 use Rattle.lq_base.specs.declared.kind.Kind.TheVariants as kind
 use Rattle.lq_base.specs.declared.literal.Literal.TheVariants as literal
-use Rattle.lq_base.specs.declared.name.Name.{Name}
-use Rattle.lq_base.specs.declared.reason.Reason.{Reason}
 use Rattle.lq_base.specs.declared.reason.Reason.TheVariants.{WrongKind}
 use Rattle.lq_model.specs.Catalogue.{Catalogue}
 use Rattle.lq_model.specs.Comparison.{compares_wrongly}
@@ -18,7 +16,7 @@ use Rattle.lq_model.specs.declared.column.Column.{Column}
 use Rattle.lq_model.specs.declared.query.Wanted.TheVariants as wanted
 use Rattle.lq_model.specs.declared.statement.Statement.{Statement}
 use Rattle.lq_model.specs.declared.statement.Statement.TheVariants.{CreateView, Delete, Update}
-use Rattle.lq_model.specs.declared.test.Op.TheVariants.{Eq, Ge, Gt, Le, Lt, Ne}
+use Rattle.lq_model.specs.declared.test.Op.TheVariants.{Eq, Ge, Lt, Ne}
 use Rattle.lq_model.specs.declared.test.Operand.{Operand}
 use Rattle.lq_model.specs.declared.test.Operand.TheVariants as operand
 use Rattle.lq_model.specs.declared.test.Test.{And, Compare, IsNull, Not, NotNull, Or, Test}

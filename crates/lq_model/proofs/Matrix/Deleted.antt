@@ -1,9 +1,8 @@
 -- Worked examples: the whole catalogue after a deletion, and how many rows of the named table went.
-use Rattle.std.specs.Prelude.{Bool, List, None, Option, Some, [], codes, false, map, pos, refl, true, ℤ, ◌∷◌}
+use Rattle.std.specs.Prelude.{Bool, List, None, Some, [], codes, false, pos, refl, true, ℤ, ◌∷◌}
 use Rattle.lq_base.specs.Value.{into_kind}
 use Rattle.lq_base.specs.declared.dialect.Dialect.TheVariants.{Mysql, Postgresql}
 use Rattle.lq_base.specs.declared.kind.Kind.TheVariants as kind
-use Rattle.lq_base.specs.declared.literal.Literal.TheVariants as literal
 use Rattle.lq_base.specs.declared.name.Name.{Name}
 use Rattle.lq_base.specs.declared.reason.Reason.TheVariants.{HasChildren}
 use Rattle.lq_base.specs.declared.value.Value.{Value}
@@ -11,9 +10,9 @@ use Rattle.lq_base.specs.declared.value.Value.TheVariants as value
 use Rattle.lq_model.specs.Catalogue.{Catalogue, Table}
 use Rattle.lq_model.specs.Plan.{decide}
 use Rattle.lq_model.specs.declared.statement.Statement.TheVariants.{Delete}
-use Rattle.lq_model.specs.declared.test.Op.TheVariants.{Eq, Gt}
+use Rattle.lq_model.specs.declared.test.Op.TheVariants.{Gt}
 use Rattle.lq_model.specs.declared.test.Operand.TheVariants as operand
-use Rattle.lq_model.specs.declared.test.Test.{Compare, NotNull}
+use Rattle.lq_model.specs.declared.test.Test.{Compare}
 use Rattle.lq_model.proofs.ExampleWorld.{another, child, column, foreign_to, id, key_on, number, parent, up, where_id}
 use Rattle.lq_model.proofs.Matrix.Tables.{Are, Gives, of_tables, plain, table}
 use Rattle.lq_model.specs.declared.caller.By.TheVariants.{User}

@@ -7,8 +7,8 @@ use Rattle.lq_base.specs.declared.kind.Kind.TheVariants as kind
 use Rattle.lq_base.specs.declared.literal.Literal.{Literal}
 use Rattle.lq_base.specs.declared.literal.Literal.TheVariants as literal
 use Rattle.lq_base.specs.declared.name.Name.{Name}
-use Rattle.lq_base.specs.declared.reason.Reason.TheVariants.{Depends, Missing}
-use Rattle.lq_model.specs.Catalogue.{Catalogue, Table}
+use Rattle.lq_base.specs.declared.reason.Reason.TheVariants.{Depends}
+use Rattle.lq_model.specs.Catalogue.{Catalogue}
 use Rattle.lq_model.specs.Plan.{decide}
 use Rattle.lq_model.specs.declared.caller.By.TheVariants.{User}
 use Rattle.lq_model.specs.declared.constraint.ForeignKey.{ForeignKey}
@@ -17,10 +17,10 @@ use Rattle.lq_model.specs.declared.constraint.Unique.{Unique}
 use Rattle.lq_model.specs.declared.index.Index.{Index}
 use Rattle.lq_model.specs.declared.query.Wanted.TheVariants as wanted
 use Rattle.lq_model.specs.declared.statement.Statement.{Statement}
-use Rattle.lq_model.specs.declared.statement.Statement.TheVariants.{AddColumn, CreateTable, Delete, DropColumn, DropConstraint, DropDefault, DropNotNull, DropPrimaryKey, DropTable, Insert, Modify, RenameColumn, RenameTable, SetDefault, SetNotNull, Update}
+use Rattle.lq_model.specs.declared.statement.Statement.TheVariants.{AddColumn, CreateTable, Delete, DropColumn, DropConstraint, DropDefault, DropNotNull, DropPrimaryKey, DropTable, Modify, RenameColumn, RenameTable, SetDefault, SetNotNull}
 use Rattle.lq_model.specs.declared.test.Operand.TheVariants as operand
 use Rattle.lq_model.specs.declared.test.Test.{IsNull}
-use Rattle.lq_model.proofs.ExampleWorld.{another, at, child, children, code, column, def, foreign_to, id, index_on, key_on, none, number, numbered_def, parent, parents, unique_on, up, view, world_of}
+use Rattle.lq_model.proofs.ExampleWorld.{another, at, child, children, code, def, foreign_to, id, index_on, key_on, none, number, numbered_def, parent, parents, unique_on, up, view, world_of}
 use Rattle.lq_model.proofs.Matrix.Tables.{Are, fresh, of_tables, plain, query_of, table}
 
 -- columns `id`, `code` and `at`, where alone this key, these unique constraints, foreign keys and indexes may need one

@@ -1,5 +1,5 @@
 -- Worked examples: a statement after which a foreign key's targets are, in order, neither the key nor a unique constraint of their table.
-use Rattle.std.specs.Prelude.{List, None, Option, Some, [], codes, false, map, refl, true, ◌∷◌}
+use Rattle.std.specs.Prelude.{List, None, Option, Some, [], codes, false, refl, true, ◌∷◌}
 use Rattle.lq_base.specs.Value.{into_kind}
 use Rattle.lq_base.specs.declared.dialect.Dialect.TheVariants.{Mysql, Postgresql}
 use Rattle.lq_base.specs.declared.kind.Kind.TheVariants as kind
@@ -14,7 +14,7 @@ use Rattle.lq_model.specs.declared.constraint.Unique.{Unique}
 use Rattle.lq_model.specs.declared.index.Index.{Index}
 use Rattle.lq_model.specs.declared.statement.Statement.{Statement}
 use Rattle.lq_model.specs.declared.statement.Statement.TheVariants.{AddForeignKey, CreateTable, DropConstraint, DropForeignKey, DropIndex, DropPrimaryKey, DropUnique}
-use Rattle.lq_model.proofs.ExampleWorld.{another, at, code, def, foreign_to, id, index_on, key_on, parent, unique_on, up}
+use Rattle.lq_model.proofs.ExampleWorld.{another, at, code, def, foreign_to, id, index_on, key_on, parent, unique_on}
 use Rattle.lq_model.proofs.Matrix.Tables.{Are, fresh, of_tables, plain, table}
 
 -- parents with this key, these unique constraints and indexes, and a table with this foreign key

@@ -17,7 +17,7 @@ use Rattle.lq_model.specs.declared.query.Wanted.TheVariants as wanted
 use Rattle.lq_model.specs.declared.statement.Statement.{Statement}
 use Rattle.lq_model.specs.declared.statement.Statement.TheVariants.{AddForeignKey, AddPrimaryKey, AddUnique, CreateIndex, CreateSequence, CreateTable, CreateView, RenameSequence, RenameTable, RenameView}
 use Rattle.lq_model.proofs.ExampleWorld.{another, at, child, children, code, def, foreign_to, id, index_on, key_on, none, parent, parents, seq, unique_on, up, view, world_of}
-use Rattle.lq_model.proofs.Matrix.Tables.{Are, fresh, of_tables, plain, query_of, roomy, table}
+use Rattle.lq_model.proofs.Matrix.Tables.{Are, fresh, plain, query_of, roomy, table}
 
 -- a new table with one column, and with this key, these unique constraints and foreign keys
 abbrev new_with : Option Key → List Unique → List ForeignKey → Statement

@@ -1,5 +1,5 @@
 -- Worked examples: a name that a statement makes twice, a column that it names twice in a list, a column that is there, a second key.
-use Rattle.std.specs.Prelude.{List, None, Ok, Option, Some, [], codes, false, map, pos, refl, true, ◌∷◌, ◌≡◌}
+use Rattle.std.specs.Prelude.{List, None, Option, Some, [], codes, false, refl, true, ◌∷◌}
 use Rattle.lq_base.specs.Value.{into_kind}
 use Rattle.lq_base.specs.declared.dialect.Dialect.TheVariants.{Mysql, Postgresql}
 use Rattle.lq_base.specs.declared.kind.Kind.TheVariants as kind

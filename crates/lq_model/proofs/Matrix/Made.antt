@@ -1,8 +1,8 @@
 -- Worked examples: the whole catalogue after a table, a view or a sequence is made, dropped or renamed.
-use Rattle.std.specs.Prelude.{Bool, List, None, Ok, Option, Some, [], codes, false, neg_ℤ, pos, refl, true, ℤ, ◌∷◌, ◌≡◌}
+use Rattle.std.specs.Prelude.{List, None, Ok, Option, Some, [], codes, false, neg_ℤ, pos, refl, true, ℤ, ◌∷◌, ◌≡◌}
 use Rattle.lq_base.specs.Number.{number_of}
 use Rattle.lq_base.specs.Value.{into_kind}
-use Rattle.lq_base.specs.declared.dialect.Dialect.TheVariants.{Mysql, Postgresql}
+use Rattle.lq_base.specs.declared.dialect.Dialect.TheVariants.{Postgresql}
 use Rattle.lq_base.specs.declared.kind.Kind.TheVariants as kind
 use Rattle.lq_base.specs.declared.literal.Literal.TheVariants as literal
 use Rattle.lq_base.specs.declared.name.Name.{Name}
@@ -12,7 +12,6 @@ use Rattle.lq_model.specs.Catalogue.{Catalogue, Table, View}
 use Rattle.lq_model.specs.Plan.{decide}
 use Rattle.lq_model.specs.Step.{run}
 use Rattle.lq_model.specs.declared.caller.By.TheVariants.{User}
-use Rattle.lq_model.specs.declared.column.Column.{Column}
 use Rattle.lq_model.specs.declared.constraint.ForeignKey.{ForeignKey}
 use Rattle.lq_model.specs.declared.statement.Statement.{Statement}
 use Rattle.lq_model.specs.declared.statement.Statement.TheVariants.{AddColumn, CreateSequence, CreateTable, CreateView, DropSequence, DropTable, DropView, RenameSequence, RenameTable, RenameView}
@@ -85,8 +84,10 @@ pub view_made :
     × Leaves world (CreateView (codes "w") (query_of (wanted.Columns (at ∷ id ∷ [])) parent None) true) (record world { views = (view, first_view) ∷ (codes "w", view_on (at ∷ id ∷ []) None) ∷ [] })
     × Leaves world (CreateView view (query_of wanted.All parent None) true) (record world { views = (view, view_on (id ∷ code ∷ at ∷ []) None) ∷ [] })
     × (run User Postgresql (CreateView view (query_of wanted.All parent None) true ∷ AddColumn parent (def up kind.Int (Some (number (pos 3)))) ∷ []) unseen
-    ≡ Ok (record unseen { tables = (child, children one_child 2 false (codes "pk_child")) ∷ (parent, record (parents (longer (pos 1) (codes "a") ∷ longer (pos 2) (codes "b") ∷ [])) { columns = column id kind.Int false None false ∷ column code kind.Text false (Some (value.Text (codes "a"))) false ∷ column at kind.Moment true None false ∷ column up kind.Int true (Some (value.Int (pos 3))) false ∷ [] }) ∷ [];
-    views = (view, view_on (id ∷ code ∷ at ∷ []) None) ∷ [] }))
+    ≡ Ok (record unseen {
+      tables = (child, children one_child 2 false (codes "pk_child")) ∷ (parent, record (parents (longer (pos 1) (codes "a") ∷ longer (pos 2) (codes "b") ∷ [])) { columns = column id kind.Int false None false ∷ column code kind.Text false (Some (value.Text (codes "a"))) false ∷ column at kind.Moment true None false ∷ column up kind.Int true (Some (value.Int (pos 3))) false ∷ [] }) ∷ [];
+      views = (view, view_on (id ∷ code ∷ at ∷ []) None) ∷ [];
+    }))
 unfolding decide into_kind
 view_made = ((refl, refl), (refl, refl), (refl, refl), refl)
 

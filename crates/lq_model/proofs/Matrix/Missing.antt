@@ -19,7 +19,7 @@ use Rattle.lq_model.specs.declared.statement.Statement.{Statement}
 use Rattle.lq_model.specs.declared.statement.Statement.TheVariants.{AddColumn, AddForeignKey, AddPrimaryKey, AddUnique, CreateIndex, CreateTable, CreateView, Delete, DropColumn, DropConstraint, DropDefault, DropForeignKey, DropIndex, DropNotNull, DropPrimaryKey, DropSequence, DropTable, DropUnique, DropView, Insert, Modify, RenameColumn, RenameSequence, RenameTable, RenameView, SetDefault, SetNotNull, Update}
 use Rattle.lq_model.specs.declared.test.Operand.TheVariants as operand
 use Rattle.lq_model.specs.declared.test.Test.{IsNull}
-use Rattle.lq_model.proofs.ExampleWorld.{another, at, code, def, foreign_to, id, index_on, key_on, none, parent, seq, text, unique_on, up, view, world}
+use Rattle.lq_model.proofs.ExampleWorld.{another, code, def, foreign_to, id, index_on, key_on, none, parent, seq, text, unique_on, up, view, world}
 use Rattle.lq_model.proofs.Matrix.Tables.{Are, fresh, query_of, roomy}
 
 -- what names a table: to be changed, to be targeted, to be looked at

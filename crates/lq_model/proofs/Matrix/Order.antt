@@ -1,11 +1,10 @@
 -- Worked examples: where two reasons stand against a statement, the earlier one is told. Each pair stands in each statement that can have both; what is reserved comes before all in the examples of reserved names.
-use Rattle.std.specs.Prelude.{Bool, Err, List, None, Option, Some, [], codes, false, pos, refl, true, ◌∷◌, ◌≡◌}
+use Rattle.std.specs.Prelude.{Err, List, None, Some, [], codes, false, pos, refl, true, ◌∷◌, ◌≡◌}
 use Rattle.lq_base.specs.Value.{into_kind, is_value_of}
 use Rattle.lq_base.specs.declared.dialect.Dialect.TheVariants.{Mysql, Postgresql}
 use Rattle.lq_base.specs.declared.kind.Kind.TheVariants as kind
 use Rattle.lq_base.specs.declared.literal.Literal.{Literal}
 use Rattle.lq_base.specs.declared.literal.Literal.TheVariants as literal
-use Rattle.lq_base.specs.declared.name.Name.{Name}
 use Rattle.lq_base.specs.declared.reason.Reason.TheVariants.{Depends, Duplicate, Exists, HasChildren, Missing, NoParent, NullFound, TooWide, WrongKind}
 use Rattle.lq_base.specs.declared.value.Value.{Value}
 use Rattle.lq_base.specs.declared.value.Value.TheVariants as value
@@ -18,9 +17,9 @@ use Rattle.lq_model.specs.declared.statement.Statement.{Statement}
 use Rattle.lq_model.specs.declared.statement.Statement.TheVariants.{AddColumn, AddForeignKey, AddPrimaryKey, AddUnique, CreateIndex, CreateTable, CreateView, Delete, Insert, Modify, RenameColumn, RenameSequence, RenameTable, RenameView, SetDefault, Update}
 use Rattle.lq_model.specs.declared.test.Op.TheVariants.{Eq}
 use Rattle.lq_model.specs.declared.test.Operand.TheVariants as operand
-use Rattle.lq_model.specs.declared.test.Test.{And, Compare, IsNull, Test}
-use Rattle.lq_model.proofs.ExampleWorld.{another, at, child, code, column, def, foreign_to, id, index_on, key_on, none, number, numbered_def, parent, seq, text, unique_on, up, view, where_id, world}
-use Rattle.lq_model.proofs.Matrix.Tables.{Are, fresh, of_tables, plain, query_of, roomy, table}
+use Rattle.lq_model.specs.declared.test.Test.{Compare, IsNull}
+use Rattle.lq_model.proofs.ExampleWorld.{another, at, child, code, column, def, foreign_to, id, index_on, key_on, none, number, numbered_def, parent, seq, unique_on, up, view, where_id, world}
+use Rattle.lq_model.proofs.Matrix.Tables.{Are, fresh, of_tables, plain, query_of, table}
 
 -- too wide for a whole number of 32 bits
 abbrev wide : Literal

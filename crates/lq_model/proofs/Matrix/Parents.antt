@@ -1,10 +1,9 @@
 -- Worked examples: rows without their parent, in the named table and in others, and too many rows.
-use Rattle.std.specs.Prelude.{Bool, List, None, Option, Some, [], codes, false, map, pos, refl, replicate, true, ℕ, ◌∷◌}
-use Rattle.lq_base.specs.Value.{into_kind, is_value_of}
+use Rattle.std.specs.Prelude.{Bool, List, None, Some, [], codes, false, pos, refl, replicate, true, ℕ, ◌∷◌}
+use Rattle.lq_base.specs.Value.{into_kind}
 use Rattle.lq_base.specs.declared.dialect.Dialect.TheVariants.{Mysql, Postgresql}
 use Rattle.lq_base.specs.declared.kind.Kind.TheVariants as kind
 use Rattle.lq_base.specs.declared.literal.Literal.TheVariants as literal
-use Rattle.lq_base.specs.declared.name.Name.{Name}
 use Rattle.lq_base.specs.declared.reason.Reason.TheVariants.{HasChildren, NoParent, NullFound, TooManyRows}
 use Rattle.lq_base.specs.declared.value.Value.{Value}
 use Rattle.lq_base.specs.declared.value.Value.TheVariants as value
@@ -14,7 +13,7 @@ use Rattle.lq_model.specs.declared.caller.By.TheVariants.{User}
 use Rattle.lq_model.specs.declared.constraint.ForeignKey.{ForeignKey}
 use Rattle.lq_model.specs.declared.statement.Statement.{Statement}
 use Rattle.lq_model.specs.declared.statement.Statement.TheVariants.{AddForeignKey, Delete, Insert, Update}
-use Rattle.lq_model.proofs.ExampleWorld.{another, at, code, column, foreign_to, id, key_on, number, parent, unique_on, up, where_id}
+use Rattle.lq_model.proofs.ExampleWorld.{another, code, column, foreign_to, id, key_on, number, parent, up, where_id}
 use Rattle.lq_model.proofs.Matrix.Tables.{Are, of_tables, plain, table}
 
 abbrev one : Value
@@ -69,8 +68,11 @@ children_found = (refl, refl, refl, refl, refl, refl)
 
 -- a table whose rows have their parent in it: 1 is its own, 2 has 1, 3 has 2
 abbrev tree : Bool → Catalogue
-tree cascade = of_tables ((another, table (column id kind.Int false None false ∷ plain up kind.Int ∷ []) (Some (key_on (codes "PRIMARY") (id ∷ []))) [] (foreign_to (codes "fk") (up ∷ []) another (id ∷ []) cascade ∷ []) []
-    (pair one one ∷ pair two one ∷ pair (value.Int (pos 3)) two ∷ [])) ∷ [])
+tree cascade = of_tables ((
+  another,
+  table (column id kind.Int false None false ∷ plain up kind.Int ∷ []) (Some (key_on (codes "PRIMARY") (id ∷ []))) [] (foreign_to (codes "fk") (up ∷ []) another (id ∷ []) cascade ∷ []) []
+      (pair one one ∷ pair two one ∷ pair (value.Int (pos 3)) two ∷ []),
+) ∷ [])
 
 -- all is looked at after the whole statement; after a deletion a row of the same table without its parent is a child that is left, after an update it is a row without parent
 pub tree_changed :

@@ -1,5 +1,5 @@
 -- Worked examples: whose names are those of the tracking tables. A user's statement may have them as names of columns and in texts; the program's may have them wherever.
-use Rattle.std.specs.Prelude.{Err, List, None, Option, Some, [], codes, false, map, pos, refl, true, ◌∷◌, ◌≡◌}
+use Rattle.std.specs.Prelude.{Err, List, None, Some, [], codes, false, map, pos, refl, ◌∷◌, ◌≡◌}
 use Rattle.lq_base.specs.Moment.{moment_of}
 use Rattle.lq_base.specs.Value.{into_kind}
 use Rattle.lq_base.specs.declared.dialect.Dialect.TheVariants.{Mysql, Postgresql}
@@ -16,7 +16,7 @@ use Rattle.lq_model.specs.declared.statement.Statement.TheVariants.{AddColumn, A
 use Rattle.lq_model.specs.declared.test.Op.TheVariants.{Eq}
 use Rattle.lq_model.specs.declared.test.Operand.TheVariants as operand
 use Rattle.lq_model.specs.declared.test.Test.{Compare}
-use Rattle.lq_model.proofs.ExampleWorld.{another, at, code, def, foreign_to, id, index_on, key_on, none, parent, seq, text, unique_on, up, view}
+use Rattle.lq_model.proofs.ExampleWorld.{another, code, def, foreign_to, id, index_on, key_on, none, parent, seq, text, unique_on, view}
 use Rattle.lq_model.proofs.Matrix.Tables.{Are, fresh, of_tables, plain, query_of, roomy, table}
 
 abbrev spellings : List Name

@@ -1,5 +1,5 @@
 -- Worked examples: a null in a NOT NULL column of the result, and two rows equal in a key, a unique constraint or a unique index.
-use Rattle.std.specs.Prelude.{Bool, List, None, Option, Some, [], codes, false, map, pos, refl, true, ℤ, ◌∷◌}
+use Rattle.std.specs.Prelude.{Bool, List, None, Option, Some, [], codes, false, pos, refl, true, ◌∷◌}
 use Rattle.lq_base.specs.Value.{into_kind, is_value_of}
 use Rattle.lq_base.specs.declared.dialect.Dialect.TheVariants.{Mysql, Postgresql}
 use Rattle.lq_base.specs.declared.kind.Kind.{Kind}
@@ -13,14 +13,13 @@ use Rattle.lq_base.specs.declared.value.Value.TheVariants as value
 use Rattle.lq_model.specs.Catalogue.{Catalogue}
 use Rattle.lq_model.specs.Plan.{decide}
 use Rattle.lq_model.specs.declared.caller.By.TheVariants.{User}
-use Rattle.lq_model.specs.declared.column.Column.{Column}
 use Rattle.lq_model.specs.declared.constraint.Key.{Key}
 use Rattle.lq_model.specs.declared.constraint.Unique.{Unique}
 use Rattle.lq_model.specs.declared.index.Index.{Index}
 use Rattle.lq_model.specs.declared.statement.Statement.{Statement}
 use Rattle.lq_model.specs.declared.statement.Statement.TheVariants.{AddColumn, AddPrimaryKey, AddUnique, CreateIndex, Insert, Modify, SetNotNull, Update}
 use Rattle.lq_model.proofs.ExampleWorld.{another, at, code, column, def, id, index_on, key_on, number, unique_on, up, where_id}
-use Rattle.lq_model.proofs.Matrix.Tables.{Are, fresh, of_tables, plain, table}
+use Rattle.lq_model.proofs.Matrix.Tables.{Are, of_tables, plain, table}
 
 abbrev one : Value
 one = value.Int (pos 1)

@@ -1,5 +1,4 @@
 -- Worked examples: the value of a test on a row: true, false, or unknown (None).
-use Rattle.std.specs.List.{flat_map}
 use Rattle.std.specs.Prelude.{Bool, List, None, Option, Some, [], codes, false, map, neg_ℤ, pos, refl, true, ℕ, ◌∷◌, ◌≡◌}
 use Rattle.lq_base.specs.Moment.{moment_of}
 use Rattle.lq_base.specs.Value.{into_kind}

@@ -1,12 +1,14 @@
 -- Worked examples: a literal, a next number or a row's value that is out of its kind.
 use Rattle.std.specs.List.{flat_map}
-use Rattle.std.specs.Prelude.{List, None, Option, Some, [], codes, false, map, neg_ℤ, pos, refl, true, ℕ, ◌∷◌}
+use Rattle.std.specs.Prelude.{List, None, Some, [], codes, false, neg_ℤ, pos, refl, true, ℕ, ◌∷◌, ◌≡◌}
+use Rattle.lq_base.specs.Character.{char_count}
 use Rattle.lq_base.specs.Value.{into_kind, is_value_of}
 use Rattle.lq_base.specs.declared.dialect.Dialect.TheVariants.{Mysql, Postgresql}
 use Rattle.lq_base.specs.declared.kind.Kind.{Kind}
 use Rattle.lq_base.specs.declared.kind.Kind.TheVariants as kind
 use Rattle.lq_base.specs.declared.literal.Literal.{Literal}
 use Rattle.lq_base.specs.declared.literal.Literal.TheVariants as literal
+use Rattle.lq_base.specs.declared.name.Name.{Name}
 use Rattle.lq_base.specs.declared.reason.Reason.TheVariants.{TooWide}
 use Rattle.lq_base.specs.declared.value.Value.{Value}
 use Rattle.lq_base.specs.declared.value.Value.TheVariants as value
@@ -79,3 +81,18 @@ pub values_at_the_edge :
     × Are None User Mysql (holds (kind.Decimal 5 2) (value.Fixed (pos 9999) 2)) (Modify another id (kind.Decimal 4 2) true ∷ [])
 unfolding decide is_value_of
 values_at_the_edge = (refl, refl, refl, refl, refl)
+
+-- a text of more characters than its kind has: whichever text it is, its characters decide
+abbrev Long : Kind → Literal → Type 0
+Long k l = Are (Some TooWide) User Postgresql (with_kind k) (takes_literal k l) × Are (Some TooWide) User Mysql (with_kind k) (takes_literal k l)
+
+abbrev Short : Kind → Literal → Type 0
+Short k l = Are None User Postgresql (with_kind k) (takes_literal k l) × Are None User Mysql (with_kind k) (takes_literal k l)
+
+pub characters_at_the_edge : (x : Name)
+    → (char_count x ≡ 11 → Long (kind.Varchar 10) (literal.Text x))
+    × (char_count x ≡ 10 → Short (kind.Varchar 10) (literal.Text x))
+    × (char_count x ≡ 11 → Are (Some TooWide) User Mysql (holds kind.Text (value.Text x)) (Modify another id (kind.Varchar 10) true ∷ []))
+    × (char_count x ≡ 10 → Are None User Mysql (holds kind.Text (value.Text x)) (Modify another id (kind.Varchar 10) true ∷ []))
+unfolding decide into_kind is_value_of
+characters_at_the_edge x = (λ is. (rw (is) refl, rw (is) refl), λ is. (rw (is) refl, rw (is) refl), λ is. rw (is) refl, λ is. rw (is) refl)

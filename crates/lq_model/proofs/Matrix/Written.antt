@@ -1,8 +1,7 @@
 -- Worked examples: the whole table after rows are inserted or updated, and how many rows were changed.
-use Rattle.std.specs.Prelude.{Bool, List, None, Ok, Option, Some, [], codes, false, map, neg_ℤ, pos, refl, true, ℕ, ℤ, ◌∷◌, ◌≡◌}
+use Rattle.std.specs.Prelude.{List, None, Ok, Some, [], codes, false, neg_ℤ, pos, refl, true, ℕ, ℤ, ◌∷◌, ◌≡◌}
 use Rattle.lq_base.specs.Number.{number_of}
 use Rattle.lq_base.specs.Value.{into_kind}
-use Rattle.lq_base.specs.declared.dialect.Dialect.{Dialect}
 use Rattle.lq_base.specs.declared.dialect.Dialect.TheVariants.{Mysql, Postgresql}
 use Rattle.lq_base.specs.declared.kind.Kind.TheVariants as kind
 use Rattle.lq_base.specs.declared.literal.Literal.{Literal}
@@ -17,7 +16,7 @@ use Rattle.lq_model.specs.declared.statement.Statement.{Statement}
 use Rattle.lq_model.specs.declared.statement.Statement.TheVariants.{Insert, Update}
 use Rattle.lq_model.specs.declared.test.Op.TheVariants.{Eq, Ne}
 use Rattle.lq_model.specs.declared.test.Operand.TheVariants as operand
-use Rattle.lq_model.specs.declared.test.Test.{Compare, IsNull, Test}
+use Rattle.lq_model.specs.declared.test.Test.{Compare, IsNull}
 use Rattle.lq_model.proofs.ExampleWorld.{another, at, code, column, id, key_on, number, text, up, where_id}
 use Rattle.lq_model.proofs.Matrix.Tables.{Gives, of_tables, plain, table}
 

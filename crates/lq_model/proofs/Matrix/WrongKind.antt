@@ -1,6 +1,6 @@
 -- Worked examples: a literal that is of no kind of its column's, kinds or numbers of columns that differ, a count in a view, a row's value that a new kind does not have, a numbered column of another kind than a number's.
 use Rattle.std.specs.List.{flat_map}
-use Rattle.std.specs.Prelude.{Bool, Err, List, None, Ok, Option, Some, [], codes, false, map, pos, refl, true, ◌++◌, ◌∷◌, ◌≡◌}
+use Rattle.std.specs.Prelude.{List, None, Some, [], codes, false, map, pos, refl, true, ◌++◌, ◌∷◌}
 use Rattle.lq_base.specs.Moment.{moment_of}
 use Rattle.lq_base.specs.Number.{number_of}
 use Rattle.lq_base.specs.Value.{into_kind, is_value_of}
@@ -10,14 +10,12 @@ use Rattle.lq_base.specs.declared.kind.Kind.TheVariants as kind
 use Rattle.lq_base.specs.declared.literal.Literal.{Literal}
 use Rattle.lq_base.specs.declared.literal.Literal.TheVariants as literal
 use Rattle.lq_base.specs.declared.name.Name.{Name}
-use Rattle.lq_base.specs.declared.reason.Reason.TheVariants.{TooWide, WrongKind}
+use Rattle.lq_base.specs.declared.reason.Reason.TheVariants.{WrongKind}
 use Rattle.lq_base.specs.declared.value.Value.{Value}
 use Rattle.lq_base.specs.declared.value.Value.TheVariants as value
 use Rattle.lq_model.specs.Catalogue.{Catalogue}
 use Rattle.lq_model.specs.Plan.{decide}
 use Rattle.lq_model.specs.declared.caller.By.TheVariants.{User}
-use Rattle.lq_model.specs.declared.column.Column.{Column}
-use Rattle.lq_model.specs.declared.column.ColumnDef.{ColumnDef}
 use Rattle.lq_model.specs.declared.query.Wanted.TheVariants as wanted
 use Rattle.lq_model.specs.declared.statement.Statement.{Statement}
 use Rattle.lq_model.specs.declared.statement.Statement.TheVariants.{AddColumn, AddForeignKey, CreateTable, CreateView, Insert, Modify, SetDefault, Update}
