@@ -50,18 +50,15 @@ unfolding decide into_kind
 parents_found = (refl, refl, refl, refl, refl, refl)
 
 -- the rows of another table: an update takes no rows along, whatever the foreign key says, a deletion those that go with their parent
-abbrev moves : List Statement
-moves = Update parent ((code, number (pos 9)) ∷ []) (where_id (pos 1)) ∷ []
-
-abbrev moves_one : Statement
-moves_one = Update parent ((id, number (pos 9)) ∷ []) None
+abbrev moves : Statement
+moves = Update parent ((id, number (pos 9)) ∷ []) None
 
 pub children_found :
-    Are (Some HasChildren) User Postgresql (pairs (to_pairs false ∷ []) (pair one one ∷ [])) (moves_one ∷ Delete parent None ∷ [])
-    × Are (Some HasChildren) User Mysql (pairs (to_pairs false ∷ []) (pair one one ∷ [])) (moves_one ∷ Delete parent None ∷ [])
-    × Are (Some HasChildren) User Postgresql (pairs (to_pairs true ∷ []) (pair one one ∷ [])) (moves_one ∷ [])
+    Are (Some HasChildren) User Postgresql (pairs (to_pairs false ∷ []) (pair one one ∷ [])) (moves ∷ Delete parent None ∷ [])
+    × Are (Some HasChildren) User Mysql (pairs (to_pairs false ∷ []) (pair one one ∷ [])) (moves ∷ Delete parent None ∷ [])
+    × Are (Some HasChildren) User Postgresql (pairs (to_pairs true ∷ []) (pair one one ∷ [])) (moves ∷ [])
     × Are None User Postgresql (pairs (to_pairs true ∷ []) (pair one one ∷ [])) (Delete parent None ∷ [])
-    × Are None User Postgresql (pairs (to_pairs false ∷ []) (pair one value.Null ∷ [])) (moves_one ∷ Delete parent None ∷ [])
+    × Are None User Postgresql (pairs (to_pairs false ∷ []) (pair one value.Null ∷ [])) (moves ∷ Delete parent None ∷ [])
     × Are None User Postgresql (pairs (to_pairs false ∷ []) (pair one one ∷ [])) (Update parent ((id, number (pos 1)) ∷ []) None ∷ Delete parent (where_id (pos 9)) ∷ Delete another None ∷ [])
 unfolding decide into_kind
 children_found = (refl, refl, refl, refl, refl, refl)
