@@ -26,6 +26,7 @@ pub mod Lists
 pub mod Mapped
 pub mod MappedTables
 pub mod Maps
+pub mod Matrix
 pub mod ModifyKeeps
 pub mod MovedEntries
 pub mod NameCounts
