@@ -17,6 +17,7 @@ mod statement;
 mod takes_back;
 mod test;
 mod view_queries;
+mod word;
 
 pub use caller::{By, ByText, Room};
 pub use canon::{Begun, Canon};
@@ -44,3 +45,4 @@ pub use takes_back::{
 };
 pub use test::{Op, Operand, Test};
 pub use view_queries::views_answer;
+pub use word::{SPELLINGS, Word, WordKind};
