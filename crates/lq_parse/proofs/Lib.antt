@@ -1,5 +1,11 @@
+mod Again
+mod Bytes
+mod Fronts
 mod Levels
 mod Magnitudes
+mod Numbers
+mod Quotes
+mod Spoken
 mod Steps
 mod Turns
 mod WordSteps

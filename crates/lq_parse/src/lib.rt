@@ -11,5 +11,7 @@ mod query;
 mod quoted;
 mod spelling;
 mod test;
+#[cfg(test)]
+mod tests;
 
 pub use parse::{parse_query, parse_test};
