@@ -40,9 +40,9 @@ all_append p (c ∷ a) b x y =
     let both = and_parts (p c) (list_all p a) x in
     and_from (p c) (list_all p (a ++ b)) both.0 (all_append p a b both.1 y)
 
--- what may follow a word or a number: a blank, a closing parenthesis, a comma, or nothing
+-- what may follow a word or a number: a blank, a parenthesis, a comma, or nothing
 abbrev pub stops : List ℕ
-stops = 32 ∷ 41 ∷ 44 ∷ []
+stops = 32 ∷ 40 ∷ 41 ∷ 44 ∷ []
 
 abbrev pub Stops : List ℕ → Type 0
 Stops [] = Unit {0}

@@ -57,7 +57,7 @@ capitals_say go_on d b w rest all stop =
     run_says go_on d sort.Word b w rest (λ text. refl)
     (each_is (λ c. sort_at d (c ∷ (w ++ rest)) ≡ sort.Word) capitals b (and_parts (is_one_of capitals b) (list_all (is_one_of capitals) w) all).0 (capital_begins d (w ++ rest)))
     (all_in (is_one_of capitals) is_word_byte (λ c is. each_is (λ x. is_word_byte x ≡ true) capitals c is capital_goes_on) w (and_parts (is_one_of capitals b) (list_all (is_one_of capitals) w) all).1)
-    (stops_run is_word_byte rest stop (refl, (refl, (refl, tt))))
+    (stops_run is_word_byte rest stop (refl, (refl, (refl, (refl, tt)))))
 
 -- numbers
 
@@ -85,7 +85,7 @@ pub record IsNumberText (text : List ℕ) : Type 0 where
   pub others : list_all is_number_byte more ≡ true
 
 no_number : (rest : List ℕ) → Stops rest → prefix_len is_number_byte rest ≡ 0
-no_number rest stop = stops_run is_number_byte rest stop (refl, (refl, (refl, tt)))
+no_number rest stop = stops_run is_number_byte rest stop (refl, (refl, (refl, (refl, tt))))
 
 signed_says : LexemesGoOn → (d : Dialect) (negative : Bool) (first : ℕ) (more rest : List ℕ) → is_ascii_digit first ≡ true → list_all is_number_byte more ≡ true → Stops rest
     → Says d (sign_text negative ++ (first ∷ more)) (λ ws. with_bytes word.Number (sign_text negative ++ (first ∷ more)) ∷ ws) rest

@@ -2,10 +2,13 @@ mod Again
 mod Bytes
 mod Fronts
 mod Levels
+mod Lists
 mod Magnitudes
 mod Numbers
 mod Quotes
+mod ReadBack
 mod Spoken
 mod Steps
 mod Turns
 mod WordSteps
+mod Written

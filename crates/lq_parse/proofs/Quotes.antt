@@ -82,15 +82,15 @@ pub name_says : LexemesGoOn → NamesAreRead → (d : Dialect) (name rest : List
 unfolding model.name_text Rattle.lq_model.specs.Phrase.words
 name_says go_on names Postgresql name rest stop =
     ap (λ z. words Postgresql (34 ∷ (z ++ 34 ∷ []) ++ rest)) (doubled_same false 34 (λ b. b == 34) (λ b. plain_or (b == 34)) name)
-    ∙ quoted_says go_on Postgresql 34 name rest (names Postgresql 34 name refl) (apart 34 refl (refl, (refl, (refl, tt))) rest stop)
+    ∙ quoted_says go_on Postgresql 34 name rest (names Postgresql 34 name refl) (apart 34 refl (refl, (refl, (refl, (refl, tt)))) rest stop)
 name_says go_on names Mysql name rest stop =
     ap (λ z. words Mysql (96 ∷ (z ++ 96 ∷ []) ++ rest)) (doubled_same false 96 (λ b. b == 96) (λ b. plain_or (b == 96)) name)
-    ∙ quoted_says go_on Mysql 96 name rest (names Mysql 96 name refl) (apart 96 refl (refl, (refl, (refl, tt))) rest stop)
+    ∙ quoted_says go_on Mysql 96 name rest (names Mysql 96 name refl) (apart 96 refl (refl, (refl, (refl, (refl, tt)))) rest stop)
 
 string_read : LexemesGoOn → (d : Dialect) (text rest : List ℕ) → IsRead d sort.Text 39 (in_quotes (escapes d) 39 text) → Stops rest
     → Says d (in_quotes (escapes d) 39 text) (λ more. with_bytes word.Text text ∷ more) rest
 string_read go_on d text rest read stop =
-    let is = read rest (apart 39 refl (refl, (refl, (refl, tt))) rest stop) in
+    let is = read rest (apart 39 refl (refl, (refl, (refl, (refl, tt)))) rest stop) in
     lexeme_says go_on d sort.Text (in_quotes (escapes d) 39 text) rest (omega arith) is.0 is.1
     ∙ ap (λ x. option_map (λ more. with_bytes word.Text x ∷ more) (words d rest)) (unquoted_is (escapes d) 39 text)
 
