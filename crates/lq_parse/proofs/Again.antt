@@ -253,7 +253,7 @@ pub any_test_again : (t : Test) (rest : List Word) → IsTest t → nat_le (leve
 unfolding any_test
 any_test_again t rest g few below end = rw (sum_one (primary most) _ rest t (begins t rest) (primary_again t most rest g below) end, few) refl
 
-nothing_ends : Ends []
+pub nothing_ends : Ends []
 unfolding sees same_kind
 nothing_ends = record { and = refl; or = refl }
 

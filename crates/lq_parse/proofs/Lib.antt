@@ -5,6 +5,7 @@ mod Levels
 mod Lists
 mod Magnitudes
 mod Numbers
+mod QueryAgain
 mod Quotes
 mod ReadBack
 mod Spoken
