@@ -1,12 +1,12 @@
 -- What has words is read from them: tests and queries.
-use Rattle.std.proofs.Common.{◌≡◌, ◌≤◌, ℕ, zero, suc, ◌+◌, max, Bool, true, false, nat_le, List, [], ◌∷◌, Option, Some, None, ap, ◌∙◌, sym, refl, arith}
+use Rattle.std.proofs.Common.{◌≡◌, ◌≤◌, ℕ, zero, suc, true, false, nat_le, List, [], ◌∷◌, Some, ap, ◌∙◌, refl, arith}
 use Rattle.lq_base.specs.declared.literal.Literal.{Literal}
 use Rattle.lq_base.specs.declared.literal.Literal.TheVariants as constant
 use Rattle.lq_base.specs.Number.{fixed_text, whole_text}
 use Rattle.lq_model.specs.Spelled.{levels}
-use Rattle.lq_model.specs.SqlParser.{Parser, after, ended, expect, same_kind, sees, separated, separated_from, to_end}
+use Rattle.lq_model.specs.SqlParser.{Parser, after, ended, expect, same_kind, sees, to_end}
 use Rattle.lq_model.specs.SqlPart.{literal, name, name_of, number, text_of}
-use Rattle.lq_model.specs.SqlTest.{any_test, comparison, conjunction, disjunction, most, negation, nullness, operand, operator, primary, product, sum, term, where_test}
+use Rattle.lq_model.specs.SqlTest.{any_test, comparison, conjunction, disjunction, most, negation, nullness, operand, operator, primary, product, sum, term}
 use Rattle.lq_model.specs.SqlWord.{bare, with_bytes}
 use Rattle.lq_model.specs.Truth.{Both, Either, Turned}
 use Rattle.lq_model.specs.declared.test.Op.{Op}

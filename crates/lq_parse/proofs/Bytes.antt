@@ -1,5 +1,5 @@
 -- Bytes that are among some, and runs of them.
-use Rattle.std.proofs.Common.{◌≡◌, ℕ, zero, suc, ◌+◌, ◌<◌, ◌≤◌, ◌==◌, ◌||◌, ◌&&◌, nat_le, Bool, true, false, cond, inl, inr, arith, rules, tests, List, [], ◌∷◌, ◌++◌, length, subst, ap, ◌∙◌, sym, refl}
+use Rattle.std.proofs.Common.{◌≡◌, ℕ, zero, suc, ◌+◌, ◌<◌, ◌≤◌, ◌==◌, ◌||◌, nat_le, Bool, true, false, inl, inr, arith, rules, tests, List, [], ◌∷◌, ◌++◌, length, subst, sym, refl}
 use Rattle.std.specs.Char.{is_ascii_digit}
 use Rattle.std.specs.List.{list_all, list_any, prefix_len}
 use Rattle.lq_base.specs.SqlByte.{is_blank}

@@ -1,9 +1,9 @@
 -- Which words stand at the front of a text.
-use Rattle.std.proofs.Common.{◌≡◌, ◌<◌, ℕ, zero, suc, ◌+◌, ◌==◌, ◌||◌, ◌&&◌, Bool, true, false, List, [], ◌∷◌, ◌++◌, length, drop, Option, Some, None, option_map, ap, ◌∙◌, subst, sym, refl, arith}
+use Rattle.std.proofs.Common.{◌≡◌, ◌<◌, ℕ, ◌+◌, Bool, true, false, List, [], ◌∷◌, ◌++◌, length, drop, Option, Some, None, option_map, ap, ◌∙◌, subst, sym, refl, arith}
 use Rattle.std.specs.Char.{is_ascii_digit}
 use Rattle.std.specs.Fmt.{sign_text}
 use Rattle.std.specs.List.{list_all, prefix_len}
-use Rattle.std.specs.Prelude.{codes, slice_index}
+use Rattle.std.specs.Prelude.{codes}
 use Rattle.std.proofs.lemmas.Bool.{and_from, and_parts}
 use Rattle.lq_base.specs.SqlByte.{is_blank, is_word_byte, is_number_byte}
 use Rattle.lq_base.specs.SqlLexeme.{goes_on, length_at, length_of, lexemes, sort_at}
@@ -16,7 +16,7 @@ use Rattle.lq_model.specs.declared.word.Word.{Word}
 use Rattle.lq_model.specs.declared.word.WordKind.{WordKind}
 use Rattle.lq_model.specs.declared.word.WordKind.TheVariants as word
 use Rattle.lq_sqllex.specs.Laws.{LexemesGoOn}
-use Rattle.lq_parse.proofs.Bytes.{Each, EachFrom, Stops, all_in, blank_is, digit_is, each_is, is_one_of, run_whole, stops, stops_run}
+use Rattle.lq_parse.proofs.Bytes.{Each, EachFrom, Stops, all_in, blank_is, digit_is, each_is, is_one_of, run_whole, stops_run}
 use Rattle.lq_parse.proofs.WordSteps.{words_on}
 
 -- the words at the front of a text, before those of the rest

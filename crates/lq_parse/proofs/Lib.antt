@@ -1,9 +1,13 @@
 mod Again
 mod Bytes
+mod CanWrite
 mod Fronts
 mod Levels
 mod Lists
 mod Magnitudes
+mod Makes
+mod Meaning
+mod NumberMakes
 mod Numbers
 mod QueryAgain
 mod Quotes

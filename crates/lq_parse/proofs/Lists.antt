@@ -1,5 +1,5 @@
 -- Lists with commas: their canonical words, and that they are read from them.
-use Rattle.std.proofs.Common.{◌≡◌, ◌≤◌, ℕ, zero, suc, ◌+◌, true, false, List, [], ◌∷◌, ◌++◌, length, map, Option, Some, None, option_map, ap, ◌∙◌, sym, refl, arith, append_assoc}
+use Rattle.std.proofs.Common.{◌≡◌, ◌≤◌, ℕ, zero, suc, false, List, [], ◌∷◌, ◌++◌, length, map, Option, Some, None, option_map, ap, ◌∙◌, refl, arith, append_assoc}
 use Rattle.std.specs.Prelude.{codes}
 use Rattle.lq_base.specs.SqlLexeme.{length_at}
 use Rattle.lq_base.specs.declared.dialect.Dialect.{Dialect}

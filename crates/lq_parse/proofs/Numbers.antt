@@ -1,21 +1,20 @@
 -- A number is read from its text.
-use Rattle.std.proofs.Common.{◌≡◌, ◌<◌, ◌≤◌, ℕ, suc, ◌+◌, ◌-◌, ◌^◌, ◌==◌, ◌||◌, ◌&&◌, nat_le, nat_lt, ltb, Bool, true, false, ℤ, pos, negsuc, neg_ℤ, unsigned_abs, List, [], ◌∷◌, ◌++◌, length, Option, Some, None, ap, ◌∙◌, subst, sym, refl, arith, rules, tests}
+use Rattle.std.proofs.Common.{◌≡◌, ◌<◌, ◌≤◌, ℕ, suc, ◌-◌, ◌^◌, ◌==◌, ◌&&◌, nat_le, nat_lt, Bool, true, false, ℤ, pos, negsuc, unsigned_abs, List, [], ◌∷◌, ◌++◌, length, Some, ap, ◌∙◌, refl, arith, rules, tests}
 use Rattle.std.specs.Char.{is_ascii_digit}
 use Rattle.std.specs.Fmt.{decimal, sign_text}
 use Rattle.std.specs.List.{list_all, list_any}
-use Rattle.std.specs.Str.Parse.{AllDigits, digits_value, starts_with_minus}
+use Rattle.std.specs.Str.Parse.{digits_value, starts_with_minus}
 use Rattle.std.proofs.lemmas.Bool.{and_from, and_parts, le-leb, leb-true, lt-ltb, ltb-true, or_right}
 use Rattle.std.proofs.lemmas.Fmt.{decimal_is_IsNumeral_wide}
 use Rattle.std.proofs.lemmas.Str.Parse.{IsDigitsTest, IsNumeralModel, numerals_by_value}
 use Rattle.lq_base.specs.Laws.{FixedReadsBack, NumberOfSpells}
-use Rattle.lq_base.specs.Number.{fixed_text, has_digits, is_digits, is_dot, number_of, signed, whole_text, without_minus}
-use Rattle.lq_base.specs.Spells.{IsPointed, SpellsNumber}
+use Rattle.lq_base.specs.Number.{fixed_text, has_digits, is_digits, is_dot, signed, whole_text}
+use Rattle.lq_base.specs.Spells.{IsPointed}
 use Rattle.lq_base.specs.SqlByte.{is_number_byte}
-use Rattle.lq_base.specs.declared.literal.Literal.{Literal}
 use Rattle.lq_base.specs.declared.literal.Literal.TheVariants as constant
 use Rattle.lq_model.specs.Spelled.{is_literal}
 use Rattle.lq_model.specs.SqlPart.{number, whole_by}
-use Rattle.lq_parse.proofs.Bytes.{EachFrom, all_append, all_in, digit_is}
+use Rattle.lq_parse.proofs.Bytes.{all_append, all_in, digit_is}
 use Rattle.lq_parse.proofs.Fronts.{IsNumberText, digit_is_number_byte}
 
 -- some digits, the first of them apart
@@ -32,7 +31,7 @@ digits_of (b ∷ w) some all =
     let both = and_parts (is_ascii_digit b) (list_all is_ascii_digit w) all in
     record { first = b; more = w; is = refl; digit = both.0; others = both.1 }
 
-of_is_digits : (w : List ℕ) → is_digits w ≡ true → (0 < length w) × (list_all is_ascii_digit w ≡ true)
+pub of_is_digits : (w : List ℕ) → is_digits w ≡ true → (0 < length w) × (list_all is_ascii_digit w ≡ true)
 of_is_digits w is =
     let both = and_parts (nat_lt 0 (length w)) (list_all is_ascii_digit w) is in
     let some : 0 < length w = search (rules, tests) in
@@ -74,7 +73,7 @@ tells_list_all = record {
   more = λ c cs k e. and_from (is_ascii_digit c) (list_all is_ascii_digit cs) (and_from (nat_le 48 c) (nat_le c 57) (le-leb 48 c k.0) (le-leb c 57 k.1)) e;
 }
 
-all_digits : IsNumeralModel (λ ds. list_all is_ascii_digit ds ≡ true) (digits_value 10)
+pub all_digits : IsNumeralModel (λ ds. list_all is_ascii_digit ds ≡ true) (digits_value 10)
 all_digits = numerals_by_value (λ ds. list_all is_ascii_digit ds ≡ true) tells_list_all
 
 decimal_digits : (n : ℕ) → n < 10 ^ 64 → is_digits (decimal n) ≡ true
@@ -84,7 +83,7 @@ decimal_digits n h =
 
 -- digits have no dot and no minus
 
-no_dot : (w : List ℕ) → list_all is_ascii_digit w ≡ true → list_any is_dot w ≡ false
+pub no_dot : (w : List ℕ) → list_all is_ascii_digit w ≡ true → list_any is_dot w ≡ false
 no_dot [] all = refl
 no_dot (b ∷ w) all =
     let both = and_parts (is_ascii_digit b) (list_all is_ascii_digit w) all in

@@ -1,5 +1,5 @@
 -- Queries: their canonical words, and that they are read from them.
-use Rattle.std.proofs.Common.{◌≡◌, ◌≤◌, ℕ, zero, suc, Bool, true, false, not, ◌&&◌, nat_le, List, [], ◌∷◌, ◌++◌, length, map, Option, Some, None, option_map, ap, ◌∙◌, sym, refl, arith}
+use Rattle.std.proofs.Common.{◌≡◌, ℕ, true, false, not, ◌&&◌, List, [], ◌∷◌, ◌++◌, Option, Some, None, option_map, ap, ◌∙◌, refl, arith}
 use Rattle.std.specs.List.{list_all}
 use Rattle.std.specs.Prelude.{codes}
 use Rattle.std.specs.Str.{is_utf8}
@@ -11,30 +11,28 @@ use Rattle.lq_base.specs.declared.dialect.Dialect.TheVariants.{Postgresql, Mysql
 use Rattle.lq_model.specs.Names.{is_empty}
 use Rattle.lq_model.specs.Phrase as text
 use Rattle.lq_model.specs.Quoting.{name_text}
-use Rattle.lq_model.specs.Spelled.{levels}
-use Rattle.lq_model.specs.SqlParser.{after, ended, expect, same_kind, sees, separated, to_end}
+use Rattle.lq_model.specs.SqlParser.{after, ended, expect, same_kind, sees, to_end}
 use Rattle.lq_model.specs.SqlPart.{name, name_of}
 use Rattle.lq_model.specs.SqlQuery.{columns, count, query, sees_count, selected}
-use Rattle.lq_model.specs.SqlTest.{any_test, where_test}
+use Rattle.lq_model.specs.SqlTest.{where_test}
 use Rattle.lq_model.specs.SqlText.{query_in}
 use Rattle.lq_model.specs.SqlWord.{bare, folded, kind_of_word, with_bytes, words}
-use Rattle.lq_model.specs.Statement.{is_name_list, is_query, is_wanted, is_where}
-use Rattle.lq_model.specs.TestText.{listed, names_text, query_text, wanted_text, where_text}
-use Rattle.lq_model.specs.declared.phrase.Phrase.TheVariants as phrase
+use Rattle.lq_model.specs.Statement.{is_wanted, is_where}
+use Rattle.lq_model.specs.TestText.{names_text, query_text, wanted_text, where_text}
 use Rattle.lq_model.specs.declared.query.Query.{Query}
 use Rattle.lq_model.specs.declared.query.Wanted.{Wanted}
 use Rattle.lq_model.specs.declared.query.Wanted.TheVariants as wanted
 use Rattle.lq_model.specs.declared.test.Test.{Test}
 use Rattle.lq_model.specs.declared.word.Word.{Word}
 use Rattle.lq_model.specs.declared.word.WordKind.TheVariants as word
-use Rattle.lq_parse.specs.Laws.{QueriesReadBack, are_texts, is_query_text, wanted_names}
+use Rattle.lq_parse.specs.Laws.{QueriesReadBack, are_texts, wanted_names}
 use Rattle.lq_parse.proofs.Again.{any_test_again, nothing_ends, test_words}
 use Rattle.lq_parse.proofs.Bytes.{Stops}
 use Rattle.lq_parse.proofs.Fronts.{Says, blank_says, capitals_say, keyword_says, mark_says}
 use Rattle.lq_parse.proofs.Lists.{EachItem, IsAgain, listed_says, separated_again, tail_words}
 use Rattle.lq_parse.proofs.Quotes.{name_says}
 use Rattle.lq_parse.proofs.ReadBack.{all_words, where_facts, whole_is}
-use Rattle.lq_parse.proofs.Spoken.{Below, TestHasLiterals, close_says, open_says, test_says, then}
+use Rattle.lq_parse.proofs.Spoken.{Below, close_says, open_says, test_says, then}
 use Rattle.lq_parse.proofs.Written.{name_fact, test_fact}
 
 abbrev pub name_word : List ℕ → List Word → List Word

@@ -1,16 +1,14 @@
 -- What stands in quotes is read as it was written.
-use Rattle.std.proofs.Common.{◌≡◌, ◌<◌, ℕ, ◌+◌, ◌==◌, ◌||◌, ◌&&◌, Bool, true, false, if◌then◌else◌, List, [], ◌∷◌, ◌++◌, length, Option, Some, None, option_map, ap, ◌∙◌, sym, subst, refl, arith, append_assoc, length-append}
+use Rattle.std.proofs.Common.{◌≡◌, ◌<◌, ℕ, ◌==◌, ◌||◌, ◌&&◌, Bool, true, false, if◌then◌else◌, List, [], ◌∷◌, ◌++◌, length, option_map, ap, ◌∙◌, sym, subst, refl, arith, length-append}
 use Rattle.std.specs.Prelude.{slice_index}
 use Rattle.std.proofs.lemmas.Bool.{eqb-true}
-use Rattle.lq_base.specs.SqlByte.{escapes, is_name_quote, is_text_quote}
-use Rattle.lq_base.specs.SqlLexeme.{length_at, sort_at}
+use Rattle.lq_base.specs.SqlByte.{escapes}
 use Rattle.lq_base.specs.SqlQuoted.{is_pair}
 use Rattle.lq_base.specs.declared.dialect.Dialect.{Dialect}
 use Rattle.lq_base.specs.declared.dialect.Dialect.TheVariants.{Postgresql, Mysql}
 use Rattle.lq_base.specs.declared.lexeme.LexemeSort.TheVariants as sort
 use Rattle.lq_model.specs.Quoting as model
 use Rattle.lq_model.specs.SqlWord.{inside, pair_text, unquoted, with_bytes, words}
-use Rattle.lq_model.specs.declared.word.Word.{Word}
 use Rattle.lq_model.specs.declared.word.WordKind.TheVariants as word
 use Rattle.lq_sqllex.specs.Laws.{doubled, in_quotes, IsRead, LexemesGoOn, NamesAreRead, TextsAreRead}
 use Rattle.lq_parse.proofs.Bytes.{Each, Stops, each_is, stops}

@@ -1,5 +1,5 @@
 -- What is printed is read as what was printed.
-use Rattle.std.proofs.Common.{◌≡◌, ◌≤◌, ℕ, Bool, true, false, ◌&&◌, nat_le, List, [], ◌∷◌, ◌++◌, Option, Some, None, option_map, ap, ◌∙◌, sym, refl}
+use Rattle.std.proofs.Common.{◌≡◌, ◌≤◌, ℕ, true, nat_le, List, [], Some, option_map, ap, ◌∙◌, sym, refl}
 use Rattle.std.specs.List.{list_all}
 use Rattle.std.specs.Str.{is_utf8}
 use Rattle.std.proofs.lemmas.Bool.{and_parts, leb-true}
@@ -10,17 +10,17 @@ use Rattle.lq_base.specs.declared.dialect.Dialect.{Dialect}
 use Rattle.lq_model.specs.Spelled.{is_literal, is_spelled, levels, test_literals}
 use Rattle.lq_model.specs.SqlParser.{Parser, to_end}
 use Rattle.lq_model.specs.SqlTest.{any_test}
-use Rattle.lq_model.specs.SqlText.{query_in, test_in, whole}
+use Rattle.lq_model.specs.SqlText.{test_in, whole}
 use Rattle.lq_model.specs.SqlWord.{words}
 use Rattle.lq_model.specs.Statement.{is_where}
-use Rattle.lq_model.specs.TestText.{query_text, test_text}
+use Rattle.lq_model.specs.TestText.{test_text}
 use Rattle.lq_model.specs.Truth.{test_names}
 use Rattle.lq_model.specs.declared.test.Test.{Test}
 use Rattle.lq_model.specs.declared.word.Word.{Word}
 use Rattle.lq_parse.specs.Laws.{TestsReadBack, are_texts, is_text_literal}
-use Rattle.lq_parse.proofs.Again.{IsTest, test_words, whole_test_again}
+use Rattle.lq_parse.proofs.Again.{test_words, whole_test_again}
 use Rattle.lq_parse.proofs.Fronts.{Says}
-use Rattle.lq_parse.proofs.Spoken.{Below, TestHasLiterals, test_says}
+use Rattle.lq_parse.proofs.Spoken.{Below, test_says}
 use Rattle.lq_parse.proofs.Written.{Facts, test_fact}
 
 no_words : (d : Dialect) → words d [] ≡ Some []

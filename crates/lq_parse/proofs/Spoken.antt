@@ -1,16 +1,15 @@
 -- The canonical texts of literals, tests and queries have their canonical words.
-use Rattle.std.proofs.Common.{◌≡◌, ℕ, Bool, true, false, List, [], ◌∷◌, ◌++◌, length, Option, Some, None, option_map, ap, ◌∙◌, sym, refl, append_assoc, arith}
+use Rattle.std.proofs.Common.{◌≡◌, ℕ, true, false, List, ◌∷◌, ◌++◌, Option, Some, None, option_map, ap, ◌∙◌, refl, append_assoc, arith}
 use Rattle.std.specs.Prelude.{codes}
 use Rattle.lq_base.specs.Laws.{FixedReadsBack, NumberOfSpells}
-use Rattle.lq_base.specs.SqlLexeme.{length_at, lexemes}
+use Rattle.lq_base.specs.SqlLexeme.{length_at}
 use Rattle.lq_base.specs.declared.dialect.Dialect.{Dialect}
 use Rattle.lq_base.specs.declared.dialect.Dialect.TheVariants.{Postgresql, Mysql}
 use Rattle.lq_base.specs.declared.literal.Literal.{Literal}
 use Rattle.lq_base.specs.declared.literal.Literal.TheVariants as constant
 use Rattle.lq_model.specs.Phrase as text
-use Rattle.lq_model.specs.Quoting.{name_text}
 use Rattle.lq_model.specs.Spelled.{is_literal}
-use Rattle.lq_model.specs.SqlWord.{bare, folded, kind_of_word, unquoted_word, with_bytes, words}
+use Rattle.lq_model.specs.SqlWord.{bare, kind_of_word, words}
 use Rattle.lq_model.specs.TestText.{literal_text, op_text, operand_text, test_text}
 use Rattle.lq_model.specs.Truth.{Both, Either, Turned}
 use Rattle.lq_model.specs.declared.phrase.Phrase.TheVariants as phrase
@@ -18,7 +17,7 @@ use Rattle.lq_model.specs.declared.test.Op.{Op}
 use Rattle.lq_model.specs.declared.test.Op.TheVariants as op
 use Rattle.lq_model.specs.declared.test.Operand.{Operand}
 use Rattle.lq_model.specs.declared.test.Operand.TheVariants as side
-use Rattle.lq_model.specs.declared.test.Test.{And', Compare, IsNull, Not', NotNull, Or', Test, end_of-Test, more_of-Test}
+use Rattle.lq_model.specs.declared.test.Test.{Compare, IsNull, NotNull, Test}
 use Rattle.lq_model.specs.declared.word.Word.{Word}
 use Rattle.lq_model.specs.declared.word.WordKind.{WordKind}
 use Rattle.lq_model.specs.declared.word.WordKind.TheVariants as word

@@ -1,8 +1,8 @@
 -- What the laws ask of a test, part by part.
-use Rattle.std.proofs.Common.{◌≡◌, ◌≤◌, ℕ, Bool, true, false, ◌&&◌, nat_le, List, [], ◌∷◌, ◌++◌, Option, Some, None, ap, ◌∙◌, sym, refl}
+use Rattle.std.proofs.Common.{◌≡◌, ℕ, Bool, true, List, ◌++◌, Some, ◌∙◌, sym, refl}
 use Rattle.std.specs.List.{list_all}
 use Rattle.std.specs.Str.{is_utf8}
-use Rattle.std.proofs.lemmas.Bool.{and_from, and_parts}
+use Rattle.std.proofs.lemmas.Bool.{and_parts}
 use Rattle.std.proofs.lemmas.List.Folds.{list_all-append}
 use Rattle.lq_base.specs.Name.{is_name}
 use Rattle.lq_base.specs.declared.literal.Literal.{Literal}
@@ -12,7 +12,7 @@ use Rattle.lq_model.specs.SqlPart.{name_of, text_of}
 use Rattle.lq_model.specs.Truth.{Both, Either, Turned, operand_names, test_names}
 use Rattle.lq_model.specs.declared.test.Operand.{Operand}
 use Rattle.lq_model.specs.declared.test.Operand.TheVariants as side
-use Rattle.lq_model.specs.declared.test.Test.{And', Compare, IsNull, Not', NotNull, Or', Test, end_of-Test, more_of-Test}
+use Rattle.lq_model.specs.declared.test.Test.{Compare, IsNull, NotNull, Test}
 use Rattle.lq_parse.specs.Laws.{is_text_literal}
 use Rattle.lq_parse.proofs.Again.{IsLiteral, IsOperand, IsTest}
 use Rattle.lq_parse.proofs.Numbers.{fixed_number, whole_number}

@@ -1,5 +1,5 @@
 -- What holds of the meanings of SQL texts.
-use Rattle.std.specs.Prelude.{◌≡◌, ℕ, not, Bool, true, false, List, [], ◌∷◌, filter, ◌&&◌, Option, Some, None}
+use Rattle.std.specs.Prelude.{◌≡◌, ℕ, not, Bool, true, List, [], ◌∷◌, filter, ◌&&◌, Option, Some, None, codes}
 use Rattle.std.specs.List.{list_all}
 use Rattle.std.specs.Str.{is_utf8, str_eq_ignore_ascii_case}
 use Rattle.lq_base.specs.SqlLexeme.{is_trivia_sort, lexemes}
@@ -9,7 +9,8 @@ use Rattle.lq_base.specs.declared.literal.Literal.{Literal}
 use Rattle.lq_base.specs.declared.literal.Literal.TheVariants as constant
 use Rattle.lq_model.specs.Spelled.{test_literals}
 use Rattle.lq_model.specs.SqlText.{query_in, test_in}
-use Rattle.lq_model.specs.SqlWord.{kind_of_word}
+use Rattle.lq_model.specs.SqlPart.{name}
+use Rattle.lq_model.specs.SqlWord.{kind_of_word, may_be_name, with_bytes}
 use Rattle.lq_model.specs.Statement.{is_query, is_where}
 use Rattle.lq_model.specs.TestText.{query_text, test_text}
 use Rattle.lq_model.specs.Truth.{test_names}
@@ -17,7 +18,9 @@ use Rattle.lq_model.specs.declared.query.Query.{Query}
 use Rattle.lq_model.specs.declared.query.Wanted.{Wanted}
 use Rattle.lq_model.specs.declared.query.Wanted.TheVariants as wanted
 use Rattle.lq_model.specs.declared.test.Test.{Test}
+use Rattle.lq_model.specs.declared.word.Word.{Word}
 use Rattle.lq_model.specs.declared.word.WordKind.{WordKind}
+use Rattle.lq_model.specs.declared.word.WordKind.TheVariants as word
 
 abbrev pub is_text_literal : Literal → Bool
 is_text_literal (constant.Text t) = is_utf8 t
@@ -63,3 +66,11 @@ BlanksChangeNothing = (d : Dialect) (a b : List ℕ) (found other : List (Lexeme
 -- a word of the statements may stand in any ASCII case
 abbrev pub CaseChangesNothing : Type 0
 CaseChangesNothing = (other : WordKind) (a b : List ℕ) → str_eq_ignore_ascii_case a b ≡ true → kind_of_word other a ≡ kind_of_word other b
+
+-- `!=` and `<>` are one mark
+abbrev pub UnequalIsOneMark : Type 0
+UnequalIsOneMark = kind_of_word word.Unknown (codes "!=") ≡ kind_of_word word.Unknown (codes "<>")
+
+-- a word that may be a name is read as that name in quotes
+abbrev pub NamesNeedNoQuotes : Type 0
+NamesNeedNoQuotes = (kind : WordKind) (said : List ℕ) (rest : List Word) → may_be_name kind ≡ true → name (with_bytes kind said ∷ rest) ≡ name (with_bytes word.Quoted said ∷ rest)
