@@ -8,6 +8,7 @@ mod list;
 mod number;
 mod parse;
 mod part;
+mod profile;
 mod query;
 mod quoted;
 mod spelling;
@@ -16,3 +17,4 @@ mod test;
 mod tests;
 
 pub use parse::{parse_query, parse_test};
+pub use profile::{My, Pg};
