@@ -15,5 +15,6 @@ mod ReadBack
 mod Spoken
 mod Steps
 mod Turns
+mod Utf8
 mod WordSteps
 mod Written
