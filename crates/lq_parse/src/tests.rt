@@ -289,3 +289,85 @@ fn dropped(rt: &impl Abort, alloc: Global, table: Name) -> Text {
     let statement = Statement::DropTable { table };
     My.print(alloc, &statement).expect(rt, "memory")
 }
+
+fn selects(alloc: Global, dialect: Dialect, word: &str) -> bool {
+    let mut text = String::new(alloc);
+    let _ = write!(text, "SELECT {word} FROM t");
+    parse_query(alloc, dialect, text.as_str()).is_ok()
+}
+
+#[test]
+fn reserved_words_are_no_names(rt: HostRuntime) {
+    let reserved = [
+        "ADD",
+        "ALTER",
+        "AND",
+        "AS",
+        "COLUMN",
+        "CONSTRAINT",
+        "CREATE",
+        "DEFAULT",
+        "DELETE",
+        "DROP",
+        "FALSE",
+        "FOREIGN",
+        "FROM",
+        "INSERT",
+        "INTO",
+        "IS",
+        "NOT",
+        "NULL",
+        "ON",
+        "OR",
+        "PRIMARY",
+        "REFERENCES",
+        "SELECT",
+        "SET",
+        "TABLE",
+        "TO",
+        "TRUE",
+        "UNIQUE",
+        "UPDATE",
+        "VALUES",
+        "WHERE",
+        "where",
+        "nOt",
+    ];
+    for word in reserved {
+        assert!(&rt; !selects(rt.alloc(), PG, word), "{word} in postgresql");
+        assert!(&rt; !selects(rt.alloc(), MY, word), "{word} in mysql");
+    }
+}
+
+#[test]
+fn other_words_are_names(rt: HostRuntime) {
+    let others = [
+        "ACTION",
+        "AUTO_INCREMENT",
+        "BY",
+        "CASCADE",
+        "COUNT",
+        "GENERATED",
+        "IDENTITY",
+        "INCREMENT",
+        "INDEX",
+        "KEY",
+        "MODIFY",
+        "NO",
+        "RENAME",
+        "REPLACE",
+        "RESTRICT",
+        "SEQUENCE",
+        "START",
+        "VIEW",
+        "WITH",
+        "INTEGER",
+        "varchar",
+        "wheres",
+        "_1",
+    ];
+    for word in others {
+        assert!(&rt; selects(rt.alloc(), PG, word), "{word} in postgresql");
+        assert!(&rt; selects(rt.alloc(), MY, word), "{word} in mysql");
+    }
+}
