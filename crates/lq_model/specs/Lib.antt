@@ -42,3 +42,10 @@ pub mod ViewsAnswer
 pub mod Widened
 pub mod Look
 pub mod Changes
+pub mod Reads
+pub mod SqlParser
+pub mod SqlPart
+pub mod SqlQuery
+pub mod SqlTest
+pub mod SqlText
+pub mod SqlWord

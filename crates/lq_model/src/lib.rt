@@ -13,10 +13,12 @@ mod keeps_sound;
 mod look;
 mod phrase;
 mod query;
+mod sql_text;
 mod statement;
 mod takes_back;
 mod test;
 mod view_queries;
+mod word;
 
 pub use caller::{By, ByText, Room};
 pub use canon::{Begun, Canon};
@@ -32,6 +34,7 @@ pub use keeps_sound::statement_keeps_sound;
 pub use look::Look;
 pub use phrase::Phrase;
 pub use query::{Answered, Query, Wanted};
+pub use sql_text::SqlText;
 pub use statement::Statement;
 pub use takes_back::{
     drop_column_takes_back, drop_column_takes_back_widened, drop_constraint_takes_back_foreign_key,
@@ -44,3 +47,4 @@ pub use takes_back::{
 };
 pub use test::{Op, Operand, Test};
 pub use view_queries::views_answer;
+pub use word::{SPELLINGS, Word, WordKind};

@@ -1,0 +1,109 @@
+-- What the rules of the grammar are made of. A parser takes words from the front of some, or refuses them.
+use Rattle.std.specs.Prelude.{ℕ, zero, suc, Bool, if◌then◌else◌, List, [], ◌∷◌, ◌++◌, length, Option, Some, None}
+use denote.Enum.Bare.{sameb}
+use Rattle.lq_model.specs.contracts.word.WordKind.{the_type}
+use Rattle.lq_model.specs.declared.word.Word.{Word}
+use Rattle.lq_model.specs.declared.word.WordKind.{WordKind}
+use Rattle.lq_model.specs.declared.word.WordKind.TheVariants as word
+
+-- what was read, and the words after it
+abbrev pub Outcome : Type 0 → Type 0
+Outcome A = Option (A × List Word)
+
+abbrev pub Parser : Type 0 → Type 0
+Parser A = List Word → Outcome A
+
+abbrev pub and_then : {A B : Type 0} → Outcome A → (A → Parser B) → Outcome B
+and_then None f = None
+and_then (Some found) f = f found.0 found.1
+
+infixl 10 ◌>>=◌
+abbrev pub ◌>>=◌ : {A B : Type 0} → Parser A → (A → Parser B) → Parser B
+p >>= f = λ i. and_then (p i) f
+
+infixl 10 ◌>>◌
+abbrev pub ◌>>◌ : {A B : Type 0} → Parser A → Parser B → Parser B
+p >> q = p >>= (λ _. q)
+
+abbrev pub pure : {A : Type 0} → A → Parser A
+pure a = λ i. Some (a, i)
+
+abbrev pub refuse : {A : Type 0} → Parser A
+refuse = λ i. None
+
+-- what may be there, or a refusal
+abbrev pub given : {A : Type 0} → Option A → Parser A
+given None = refuse
+given (Some a) = pure a
+
+-- the next word
+
+unfoldable pub same_kind : WordKind → WordKind → Bool
+same_kind = sameb the_type
+
+abbrev pub kind : List Word → WordKind
+kind [] = word.End
+kind (w ∷ ws) = w.kind
+
+abbrev pub text : List Word → List ℕ
+text [] = []
+text (w ∷ ws) = w.text
+
+abbrev pub next : List Word → List Word
+next [] = []
+next (w ∷ ws) = ws
+
+abbrev pub peek : Parser WordKind
+peek = λ i. Some (kind i, i)
+
+abbrev pub skip : Parser (Unit {0})
+skip = λ i. Some (tt, next i)
+
+unfoldable pub sees : WordKind → List Word → Bool
+sees k i = same_kind (kind i) k
+
+unfoldable pub after : WordKind → List Word → List Word
+after k i = if sees k i then next i else i
+
+-- takes a word of this kind, if it comes next
+abbrev pub eat : WordKind → Parser Bool
+eat k = λ i. Some (sees k i, after k i)
+
+-- takes a word of this kind
+unfoldable pub expect : WordKind → Parser (Unit {0})
+expect k = λ i. if sees k i then Some (tt, next i) else None
+
+-- the text of the next word, which is taken
+abbrev pub taken : Parser (List ℕ)
+taken = λ i. Some (text i, next i)
+
+-- The number bounds the turns, and each takes a word.
+unfoldable pub separated_from : {A : Type 0} → Parser A → ℕ → List A → Parser (List A)
+separated_from item zero found = refuse
+separated_from item (suc turns) found = do
+  x ← item
+  more ← eat word.Comma
+  if more then separated_from item turns (found ++ x ∷ []) else pure (found ++ x ∷ [])
+
+-- one or more, with commas between
+unfoldable pub separated : {A : Type 0} → Parser A → Parser (List A)
+separated item = λ i. separated_from item (length i) [] i
+
+-- a list in parentheses
+unfoldable pub enclosed : {A : Type 0} → Parser A → Parser (List A)
+enclosed item = do
+  expect word.Open
+  found ← separated item
+  expect word.Close
+  pure found
+
+-- what was read, at the end of the text, before which a `;` may stand
+unfoldable pub ended : {A : Type 0} → A → Parser A
+ended it = do
+  eat word.Semicolon
+  expect word.End
+  pure it
+
+-- with nothing after it
+abbrev pub to_end : {A : Type 0} → Parser A → Parser A
+to_end parser = parser >>= ended

@@ -1,0 +1,24 @@
+-- What an SQL text means: the one statement, query or test that is spelled so, or none.
+use Rattle.std.specs.Prelude.{ℕ, List, Option, Some, None}
+use Rattle.std.specs.Option.{option_and_then}
+use Rattle.lq_base.specs.declared.dialect.Dialect.{Dialect}
+use Rattle.lq_model.specs.SqlParser.{Outcome, Parser, to_end}
+use Rattle.lq_model.specs.SqlQuery.{query}
+use Rattle.lq_model.specs.SqlTest.{any_test}
+use Rattle.lq_model.specs.SqlWord.{words}
+use Rattle.lq_model.specs.declared.query.Query.{Query}
+use Rattle.lq_model.specs.declared.test.Test.{Test}
+
+abbrev pub read : {A : Type 0} → Outcome A → Option A
+read None = None
+read (Some found) = Some found.0
+
+-- what all words of a text spell
+abbrev pub whole : {A : Type 0} → Parser A → Dialect → List ℕ → Option A
+whole parser d text = option_and_then (λ ws. read (to_end parser ws)) (words d text)
+
+unfoldable pub test_in : Dialect → List ℕ → Option Test
+test_in d text = whole any_test d text
+
+unfoldable pub query_in : Dialect → List ℕ → Option Query
+query_in d text = whole query d text

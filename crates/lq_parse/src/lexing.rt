@@ -1,0 +1,113 @@
+ghost use Rattle.std.specs.Prelude.{◌≡◌, [], ◌∷◌, ◌++◌, IfOk, OnOk};
+ghost use Rattle.std.specs.Str.{IsUtf8};
+ghost use Rattle.lq_base.specs.SqlByte.{escapes};
+ghost use Rattle.lq_model.specs.Reads.{Gives};
+ghost use Rattle.lq_model.specs.SqlWord as spec;
+ghost use Rattle.lq_parse.specs.Words.{AreTexts};
+
+use crate::quoted::unquoted;
+use crate::spelling::{folded, kind_of_word, may_be_name};
+use lq_base::{Dialect, Items, LexemeSort, NoMemory, Text};
+use lq_model::{ParseFault, Word, WordKind};
+use lq_sqllex::{Lexeme, lexeme_at};
+use std::alloc::Global;
+
+fn escapes(dialect: Dialect) -> bool
+    ensures { result ≡ escapes dialect }
+{
+    match dialect {
+        Dialect::Postgresql => false,
+        Dialect::Mysql => true,
+    }
+}
+
+// Bytes that are known to be UTF-8.
+fn text_of(alloc: Global, bytes: &[u8]) -> Result<Text, NoMemory>
+    requires { IsUtf8 bytes.now }
+    ensures { IfOk result (λ text. text ≡ bytes.now) }
+{
+    match str::from_utf8(bytes) {
+        Ok(text) => Text::new(alloc, text),
+        Err(_) => unreachable!(),
+    }
+}
+
+fn with_text(alloc: Global, kind: WordKind, bytes: &[u8]) -> Result<Word, NoMemory>
+    requires { IsUtf8 bytes.now }
+    ensures { IfOk result (λ it. it ≡ spec.with_text kind bytes.now) }
+{
+    let text = text_of(alloc, bytes)?;
+    Ok(Word { kind, text })
+}
+
+fn bare(alloc: Global, kind: WordKind) -> Result<Word, NoMemory>
+    ensures { IfOk result (λ it. it ≡ spec.bare kind) }
+{
+    let text = Text::new(alloc, "")?;
+    Ok(Word { kind, text })
+}
+
+fn unquoted_word(
+    alloc: Global,
+    dialect: Dialect,
+    kind: WordKind,
+    bytes: &[u8],
+) -> Result<Word, NoMemory>
+    requires { AreTexts (spec.unquoted_word kind (spec.folded dialect bytes.now) ∷ []) }
+    ensures { IfOk result (λ it. it ≡ spec.unquoted_word kind (spec.folded dialect bytes.now)) }
+{
+    if may_be_name(kind) {
+        let name = folded(alloc, dialect, bytes)?;
+        with_text(alloc, kind, name.as_slice())
+    } else {
+        bare(alloc, kind)
+    }
+}
+
+// Appends the word that a lexeme is, if it is one.
+fn push_word(
+    alloc: Global,
+    dialect: Dialect,
+    sort: LexemeSort,
+    bytes: &[u8],
+    to: &mut Items<Word>,
+) -> Result<(), NoMemory>
+    requires { AreTexts (spec.words_of dialect sort bytes.now) }
+    ensures { OnOk result (to.new ≡ to.old ++ spec.words_of dialect sort bytes.now) }
+{
+    let word = match sort {
+        LexemeSort::Blank | LexemeSort::LineComment | LexemeSort::BlockComment => return Ok(()),
+        LexemeSort::Name => {
+            let name = unquoted(alloc, false, bytes)?;
+            with_text(alloc, WordKind::Quoted, name.as_slice())?
+        }
+        LexemeSort::Text => {
+            let text = unquoted(alloc, escapes(dialect), bytes)?;
+            with_text(alloc, WordKind::Text, text.as_slice())?
+        }
+        LexemeSort::Number => with_text(alloc, WordKind::Number, bytes)?,
+        LexemeSort::Word => {
+            unquoted_word(alloc, dialect, kind_of_word(WordKind::Plain, bytes), bytes)?
+        }
+        LexemeSort::Mark => bare(alloc, kind_of_word(WordKind::Unknown, bytes))?,
+    };
+    to.push(word)?;
+    Ok(())
+}
+
+/// The words of a text. `NotSql` exactly where a string, quoted name or comment is not closed.
+pub fn words(alloc: Global, dialect: Dialect, text: &[u8]) -> Result<Items<Word>, ParseFault>
+    requires { IsUtf8 text.now }
+    ensures { Gives (spec.words dialect text.now) result }
+{
+    let mut found = Items::new(alloc);
+    let mut rest = text;
+    while !rest.is_empty() {
+        let Some(lexeme) = lexeme_at(dialect, rest) else {
+            return Err(ParseFault::NotSql);
+        };
+        push_word(alloc, dialect, lexeme.sort, lexeme.bytes, &mut found)?;
+        rest = lexeme.rest;
+    }
+    Ok(found)
+}

@@ -1,0 +1,65 @@
+ghost use Rattle.std.specs.Prelude.{◌≡◌};
+ghost use Rattle.lq_model.specs.Reads.{Gives, Reads};
+ghost use Rattle.lq_model.specs.SqlPart as spec;
+
+use crate::cursor::Words;
+use crate::number::number;
+use crate::spelling::may_be_name;
+use lq_base::{Literal, Name, NameFault, Text};
+use lq_model::{ParseFault, WordKind};
+use std::alloc::Global;
+
+#[tactic(auto, unfolding(lq_model::specs::SqlPart::name_of))]
+fn name_of(alloc: Global, text: &str) -> Result<Name, ParseFault>
+    ensures { Gives (spec.name_of text.now) result }
+{
+    match Name::new(alloc, text) {
+        Ok(name) => Ok(name),
+        Err(NameFault::BadName) => Err(ParseFault::NotSql),
+        Err(NameFault::OutOfMemory) => Err(ParseFault::OutOfMemory),
+    }
+}
+
+/// A name: in quotes, or a word that is no reserved word.
+#[tactic(auto, unfolding(lq_model::specs::SqlPart::name))]
+pub fn name(alloc: Global, words: &mut Words<'_>) -> Result<Name, ParseFault>
+    ensures { Reads (spec.name words.old) result words.new }
+{
+    if !may_be_name(words.peek()) {
+        return Err(ParseFault::NotSql);
+    }
+    name_of(alloc, words.take())
+}
+
+fn number_literal(text: &str) -> Result<Literal, ParseFault>
+    ensures { Gives (spec.number text.now) result }
+{
+    match number(text.as_bytes()) {
+        Some(literal) => Ok(literal),
+        None => Err(ParseFault::NotSql),
+    }
+}
+
+/// NULL, TRUE, FALSE, a string or a number.
+#[tactic(auto, unfolding(lq_model::specs::SqlPart::literal))]
+pub fn literal(alloc: Global, words: &mut Words<'_>) -> Result<Literal, ParseFault>
+    ensures { Reads (spec.literal words.old) result words.new }
+{
+    match words.peek() {
+        WordKind::Null => {
+            words.skip();
+            Ok(Literal::Null)
+        }
+        WordKind::True => {
+            words.skip();
+            Ok(Literal::Bool(true))
+        }
+        WordKind::False => {
+            words.skip();
+            Ok(Literal::Bool(false))
+        }
+        WordKind::Text => Ok(Literal::Text(Text::new(alloc, words.take())?)),
+        WordKind::Number => number_literal(words.take()),
+        _ => Err(ParseFault::NotSql),
+    }
+}
