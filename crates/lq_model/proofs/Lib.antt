@@ -47,3 +47,5 @@ pub mod Untouched
 pub mod ViewAnswers
 pub mod ViewAt
 pub mod Views
+pub mod ExamplesStatements
+mod PlainText

@@ -14,6 +14,7 @@ mod look;
 mod phrase;
 mod query;
 mod statement;
+mod table_item;
 mod takes_back;
 mod test;
 mod view_queries;
@@ -34,6 +35,7 @@ pub use look::Look;
 pub use phrase::Phrase;
 pub use query::{Answered, Query, Wanted};
 pub use statement::Statement;
+pub use table_item::{StatedColumn, TableConstraint, TableItem, Target};
 pub use takes_back::{
     drop_column_takes_back, drop_column_takes_back_widened, drop_constraint_takes_back_foreign_key,
     drop_constraint_takes_back_key, drop_constraint_takes_back_unique, drop_default_takes_back,
