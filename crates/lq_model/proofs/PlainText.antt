@@ -1,10 +1,12 @@
 -- Texts of ASCII are texts, and so names where they have a name's bytes.
-use Rattle.std.specs.Prelude.{◌≡◌, ◌<◌, ℕ, zero, suc, nat_lt, true, false, ◌&&◌, Bool, List, [], ◌∷◌, Some, slice_index, refl}
+use Rattle.std.specs.Prelude.{◌≡◌, ◌<◌, ℕ, zero, suc, nat_lt, nat_le, take, length, true, false, ◌&&◌, Bool, List, [], ◌∷◌, Some, slice_index, refl}
 use Rattle.std.specs.List.{list_all}
 use Rattle.std.specs.Str.{is_utf8, IsUtf8, IsAscii}
 use Rattle.std.proofs.Common.{arith, ap, ◌∙◌, sym}
 use Rattle.std.proofs.lemmas.Str.{is_utf8-from_IsUtf8, IsUtf8-from_ascii}
+use Rattle.std.proofs.lemmas.List.{take_all}
 use Rattle.lq_base.specs.Name.{is_name}
+use Rattle.lq_model.specs.DefaultName.{cut}
 use Rattle.lq_model.specs.SqlPart.{name_of, text_of}
 
 abbrev pub is_plain : List ℕ → Bool
@@ -32,3 +34,9 @@ plain_name bytes h g = rw (plain_utf8 bytes h, g) refl
 pub plain_text : (bytes : List ℕ) → is_plain bytes ≡ true → text_of bytes ≡ Some bytes
 unfolding text_of
 plain_text bytes h = rw (plain_utf8 bytes h) refl
+
+pub plain_cut : (bytes : List ℕ) → is_plain bytes ≡ true → nat_le (length bytes) 63 ≡ true → cut 63 bytes ≡ bytes
+unfolding cut
+plain_cut bytes h g =
+    let all : take 63 bytes ≡ bytes = take_all 63 bytes (grind arith) in
+    rw (all, plain_utf8 bytes h) refl
