@@ -35,8 +35,8 @@ pub use memory::NoMemory;
 pub use moment::{is_moment, print_moment, read_moment};
 pub use name::{Name, NameFault};
 pub use number::{
-    all_digits, append_fixed, append_whole, has_digits, is_digits, place_of, read_number,
-    value_after,
+    all_digits, append_fixed, append_whole, has_digits, is_digits, number_in, place_of,
+    read_number, value_after,
 };
 pub use reason::Reason;
 pub use run::{Did, Happened, Printed, Why};

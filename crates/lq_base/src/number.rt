@@ -13,11 +13,17 @@ use std::alloc::{AllocError, Global};
 
 /// The number that a text spells: `-?digits`, or `-?digits.digits`, with at most 38 digits. None
 /// where it spells none.
-#[tactic(auto, unfolding(crate::specs::Number::number_of))]
 pub fn read_number(text: &str) -> Option<Literal>
     ensures { result ≡ number_of text.now }
 {
-    let bytes = text.as_bytes();
+    number_in(text.as_bytes())
+}
+
+/// The number that some bytes spell, as `read_number` reads it.
+#[tactic(auto, unfolding(crate::specs::Number::number_of))]
+pub fn number_in(bytes: &[u8]) -> Option<Literal>
+    ensures { result ≡ number_of bytes.now }
+{
     unsigned_number(begins_with_minus(bytes), without_minus(bytes))
 }
 

@@ -103,3 +103,7 @@ ended it = do
   eat word.Semicolon
   expect word.End
   pure it
+
+-- with nothing after it
+abbrev pub to_end : {A : Type 0} → Parser A → Parser A
+to_end parser = parser >>= ended

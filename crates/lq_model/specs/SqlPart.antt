@@ -34,15 +34,15 @@ name = do
 unfoldable pub text_of : List ℕ → Option (List ℕ)
 text_of found = if is_utf8 found then Some found else None
 
--- `-?digits` within 128 signed bits
-unfoldable pub whole_of : List ℕ → Option Literal
-whole_of found =
-    let number = constant.Int (signed (starts_with_minus found) (digits_value 10 (without_minus found))) in
-    if is_digits (without_minus found) && is_literal number then Some number else None
+-- a sign and digits, within 128 signed bits
+abbrev pub whole_by : Bool → List ℕ → Option Literal
+whole_by negative digits =
+    let whole = constant.Int (signed negative (digits_value 10 digits)) in
+    if is_digits digits && is_literal whole then Some whole else None
 
--- that, or `-?digits.digits` with at most 38 digits
+-- `-?digits`, or `-?digits.digits` with at most 38 digits
 unfoldable pub number : List ℕ → Option Literal
-number found = if list_any is_dot found then number_of found else whole_of found
+number found = if list_any is_dot found then number_of found else whole_by (starts_with_minus found) (without_minus found)
 
 abbrev pub text_literal : Option (List ℕ) → Option Literal
 text_literal None = None

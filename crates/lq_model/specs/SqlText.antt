@@ -2,7 +2,7 @@
 use Rattle.std.specs.Prelude.{ℕ, List, Option, Some, None}
 use Rattle.std.specs.Option.{option_and_then}
 use Rattle.lq_base.specs.declared.dialect.Dialect.{Dialect}
-use Rattle.lq_model.specs.SqlParser.{Outcome, Parser, ◌>>=◌, ended}
+use Rattle.lq_model.specs.SqlParser.{Outcome, Parser, to_end}
 use Rattle.lq_model.specs.SqlQuery.{query}
 use Rattle.lq_model.specs.SqlStatement.{statement}
 use Rattle.lq_model.specs.SqlTest.{any_test}
@@ -17,7 +17,7 @@ read (Some found) = Some found.0
 
 -- what all words of a text spell
 abbrev pub whole : {A : Type 0} → Parser A → Dialect → List ℕ → Option A
-whole parser d text = option_and_then (λ ws. read ((parser >>= ended) ws)) (words d text)
+whole parser d text = option_and_then (λ ws. read (to_end parser ws)) (words d text)
 
 unfoldable pub test_in : Dialect → List ℕ → Option Test
 test_in d text = whole any_test d text

@@ -1,4 +1,5 @@
-use lq_base::{Dialect, Reason, Text};
+use lq_base::{Dialect, NoMemory, Reason, Text};
+use std::alloc::AllocError;
 use thiserror::Error;
 
 /// Why a query gets no answer.
@@ -17,6 +18,28 @@ pub enum ParseFault {
     NotSql,
     #[error("out of memory")]
     OutOfMemory,
+}
+
+impl From<NoMemory> for ParseFault {
+    ghost use Rattle.std.specs.Prelude.{◌≡◌};
+    ghost use Rattle.lq_model.specs.declared.fault.ParseFault.TheVariants.{OutOfMemory};
+
+    ghost from_gives = { λ _ e. e ≡ OutOfMemory };
+
+    fn from(_: NoMemory) -> ParseFault {
+        ParseFault::OutOfMemory
+    }
+}
+
+impl From<AllocError> for ParseFault {
+    ghost use Rattle.std.specs.Prelude.{◌≡◌};
+    ghost use Rattle.lq_model.specs.declared.fault.ParseFault.TheVariants.{OutOfMemory};
+
+    ghost from_gives = { λ _ e. e ≡ OutOfMemory };
+
+    fn from(_: AllocError) -> ParseFault {
+        ParseFault::OutOfMemory
+    }
 }
 
 /// Why a node is no change or condition. A key is given by its path from the node, as

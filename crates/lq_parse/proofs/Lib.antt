@@ -1,0 +1,5 @@
+mod Levels
+mod Magnitudes
+mod Steps
+mod Turns
+mod WordSteps

@@ -1,0 +1,52 @@
+ghost use Rattle.std.specs.declared.alloc.Global.{Global};
+ghost use denote.Ref.{MutBor};
+ghost use Rattle.lq_model.specs.SqlParser as spec;
+ghost use Rattle.lq_model.specs.SqlParser.{Parser};
+ghost use Rattle.lq_model.specs.Reads.{Reads};
+ghost use Rattle.lq_model.specs.declared.word.Word.{Word};
+ghost use Rattle.std.specs.Prelude.{List};
+ghost use Rattle.lq_parse.specs.Meets.{Meets};
+
+use crate::cursor::Words;
+use lq_base::Items;
+use lq_model::{ParseFault, WordKind};
+use std::alloc::Global;
+
+/// One or more, with commas between.
+pub fn separated<T: Drop, F: Fn(Global, &mut Words<'_>) -> Result<T, ParseFault>>(
+    alloc: Global,
+    words: &mut Words<'_>,
+    item: &F,
+) -> Result<Items<T>, ParseFault>
+    ghost p: { Parser T }
+    requires callable { (alloc : Global) (old : MutBor (List Word)) → F.pre item.now alloc old }
+    requires meets { Meets p (F.post item.now) }
+    ensures { Reads (spec.separated p words.old) result words.new }
+{
+    let mut found = Items::new(alloc);
+    for _turn in 0..words.left() {
+        found.push(item(alloc, words)?)?;
+        if !words.eat(WordKind::Comma) {
+            return Ok(found);
+        }
+    }
+    Err(ParseFault::NotSql)
+}
+
+/// A list in parentheses.
+#[tactic(auto, unfolding(lq_model::specs::SqlParser::enclosed))]
+pub fn enclosed<T: Drop, F: Fn(Global, &mut Words<'_>) -> Result<T, ParseFault>>(
+    alloc: Global,
+    words: &mut Words<'_>,
+    item: &F,
+) -> Result<Items<T>, ParseFault>
+    ghost p: { Parser T }
+    requires callable { (alloc : Global) (old : MutBor (List Word)) → F.pre item.now alloc old }
+    requires meets { Meets p (F.post item.now) }
+    ensures { Reads (spec.enclosed p words.old) result words.new }
+{
+    words.expect(WordKind::Open)?;
+    let found = separated(alloc, words, item)?;
+    words.expect(WordKind::Close)?;
+    Ok(found)
+}

@@ -1,0 +1,244 @@
+ghost use Rattle.std.specs.Prelude.{◌≡◌, ◌≤◌, nat_le, IfOk};
+ghost use Rattle.lq_model.specs.Reads.{Reads};
+ghost use Rattle.lq_model.specs.Spelled.{levels};
+ghost use Rattle.lq_model.specs.SqlTest as spec;
+
+use crate::cursor::Words;
+use crate::part::{literal, name};
+use lq_base::Boxed;
+use lq_model::{Op, Operand, ParseFault, Test, WordKind};
+use std::alloc::{AllocError, Global};
+
+fn begins_literal(kind: WordKind) -> bool
+    ensures { result ≡ spec.begins_literal kind }
+{
+    match kind {
+        WordKind::Null | WordKind::True | WordKind::False | WordKind::Text | WordKind::Number =>
+            true,
+        _ => false,
+    }
+}
+
+#[tactic(auto, unfolding(lq_model::specs::SqlTest::operand))]
+fn operand(alloc: Global, words: &mut Words<'_>) -> Result<Operand, ParseFault>
+    ensures { Reads (spec.operand words.old) result words.new }
+{
+    if begins_literal(words.peek()) {
+        Ok(Operand::Literal(literal(alloc, words)?))
+    } else {
+        Ok(Operand::Column(name(alloc, words)?))
+    }
+}
+
+#[tactic(auto, unfolding(lq_model::specs::SqlTest::operator))]
+fn operator(words: &mut Words<'_>) -> Result<Op, ParseFault>
+    ensures { Reads (spec.operator words.old) result words.new }
+{
+    let op = match words.peek() {
+        WordKind::Equal => Op::Eq,
+        WordKind::Unequal => Op::Ne,
+        WordKind::Less => Op::Lt,
+        WordKind::AtMost => Op::Le,
+        WordKind::More => Op::Gt,
+        WordKind::AtLeast => Op::Ge,
+        _ => return Err(ParseFault::NotSql),
+    };
+    words.skip();
+    Ok(op)
+}
+
+// After IS.
+#[tactic(auto, unfolding(lq_model::specs::SqlTest::nullness))]
+fn nullness(words: &mut Words<'_>, x: Operand) -> Result<Test, ParseFault>
+    ensures { Reads (spec.nullness x words.old) result words.new }
+{
+    let negated = words.eat(WordKind::Not);
+    words.expect(WordKind::Null)?;
+    if negated {
+        Ok(Test::NotNull(x))
+    } else {
+        Ok(Test::IsNull(x))
+    }
+}
+
+fn boxed(alloc: Global, test: Test) -> Result<Boxed<Test>, AllocError>
+    ensures { IfOk result (λ it. it ≡ test) }
+{
+    Boxed::new(alloc, test)
+}
+
+#[tactic(auto, unfolding(lq_model::specs::SqlTest::comparison))]
+fn comparison(alloc: Global, words: &mut Words<'_>) -> Result<Boxed<Test>, ParseFault>
+    ensures { Reads (spec.comparison words.old) result words.new }
+{
+    let x = operand(alloc, words)?;
+    if words.eat(WordKind::Is) {
+        return Ok(boxed(alloc, nullness(words, x)?)?);
+    }
+    let op = operator(words)?;
+    let y = operand(alloc, words)?;
+    Ok(boxed(alloc, Test::Compare { op, x, y })?)
+}
+
+const MOST: usize = 64;
+
+#[cycle(test)]
+#[tactic(auto, unfolding(lq_model::specs::SqlTest::negation, lq_model::specs::SqlTest::conjunction, lq_model::specs::SqlTest::disjunction, lq_model::specs::SqlTest::term, lq_model::specs::SqlTest::product, lq_model::specs::SqlTest::sum, lq_model::specs::SqlTest::primary))]
+fn negation(
+    alloc: Global,
+    words: &mut Words<'_>,
+    nots: usize,
+    parentheses: usize,
+) -> Result<Boxed<Test>, ParseFault>
+    requires { nots ≤ 64 }
+    ensures { Reads (spec.negation nots (spec.primary parentheses) words.old) result words.new }
+{
+    if nots == 0 {
+        return primary(alloc, words, parentheses);
+    }
+    if words.eat(WordKind::Not) {
+        let inner = negation(alloc, words, nots - 1, parentheses)?;
+        Ok(boxed(alloc, Test::Not(inner))?)
+    } else {
+        primary(alloc, words, parentheses)
+    }
+}
+
+#[cycle(test)]
+#[tactic(auto, unfolding(lq_model::specs::SqlTest::negation, lq_model::specs::SqlTest::conjunction, lq_model::specs::SqlTest::disjunction, lq_model::specs::SqlTest::term, lq_model::specs::SqlTest::product, lq_model::specs::SqlTest::sum, lq_model::specs::SqlTest::primary))]
+fn conjunction(
+    alloc: Global,
+    words: &mut Words<'_>,
+    parentheses: usize,
+    turns: usize,
+    left: Boxed<Test>,
+) -> Result<Boxed<Test>, ParseFault>
+    requires { turns ≤ 64 }
+    ensures { Reads (spec.conjunction (spec.term (spec.primary parentheses)) turns left words.old) result words.new }
+{
+    if turns == 0 {
+        return Ok(left);
+    }
+    if !words.eat(WordKind::And) {
+        return Ok(left);
+    }
+    let right = negation(alloc, words, MOST, parentheses)?;
+    let both = boxed(alloc, Test::And(left, right))?;
+    conjunction(alloc, words, parentheses, turns - 1, both)
+}
+
+#[cycle(test)]
+#[tactic(auto, unfolding(lq_model::specs::SqlTest::negation, lq_model::specs::SqlTest::conjunction, lq_model::specs::SqlTest::disjunction, lq_model::specs::SqlTest::term, lq_model::specs::SqlTest::product, lq_model::specs::SqlTest::sum, lq_model::specs::SqlTest::primary))]
+fn product(
+    alloc: Global,
+    words: &mut Words<'_>,
+    parentheses: usize,
+) -> Result<Boxed<Test>, ParseFault>
+    ensures { Reads (spec.product (spec.primary parentheses) words.old) result words.new }
+{
+    let first = negation(alloc, words, MOST, parentheses)?;
+    conjunction(alloc, words, parentheses, MOST, first)
+}
+
+#[cycle(test)]
+#[tactic(auto, unfolding(lq_model::specs::SqlTest::negation, lq_model::specs::SqlTest::conjunction, lq_model::specs::SqlTest::disjunction, lq_model::specs::SqlTest::term, lq_model::specs::SqlTest::product, lq_model::specs::SqlTest::sum, lq_model::specs::SqlTest::primary))]
+fn disjunction(
+    alloc: Global,
+    words: &mut Words<'_>,
+    parentheses: usize,
+    turns: usize,
+    left: Boxed<Test>,
+) -> Result<Boxed<Test>, ParseFault>
+    requires { turns ≤ 64 }
+    ensures { Reads (spec.disjunction (spec.product (spec.primary parentheses)) turns left words.old) result words.new }
+{
+    if turns == 0 {
+        return Ok(left);
+    }
+    if !words.eat(WordKind::Or) {
+        return Ok(left);
+    }
+    let right = product(alloc, words, parentheses)?;
+    let both = boxed(alloc, Test::Or(left, right))?;
+    disjunction(alloc, words, parentheses, turns - 1, both)
+}
+
+#[cycle(test)]
+#[tactic(auto, unfolding(lq_model::specs::SqlTest::negation, lq_model::specs::SqlTest::conjunction, lq_model::specs::SqlTest::disjunction, lq_model::specs::SqlTest::term, lq_model::specs::SqlTest::product, lq_model::specs::SqlTest::sum, lq_model::specs::SqlTest::primary))]
+fn sum(alloc: Global, words: &mut Words<'_>, parentheses: usize) -> Result<Boxed<Test>, ParseFault>
+    ensures { Reads (spec.sum (spec.primary parentheses) words.old) result words.new }
+{
+    let first = product(alloc, words, parentheses)?;
+    disjunction(alloc, words, parentheses, MOST, first)
+}
+
+#[cycle(test)]
+#[tactic(auto, unfolding(lq_model::specs::SqlTest::negation, lq_model::specs::SqlTest::conjunction, lq_model::specs::SqlTest::disjunction, lq_model::specs::SqlTest::term, lq_model::specs::SqlTest::product, lq_model::specs::SqlTest::sum, lq_model::specs::SqlTest::primary))]
+fn primary(
+    alloc: Global,
+    words: &mut Words<'_>,
+    parentheses: usize,
+) -> Result<Boxed<Test>, ParseFault>
+    ensures { Reads (spec.primary parentheses words.old) result words.new }
+{
+    if parentheses == 0 {
+        return comparison(alloc, words);
+    }
+    if !words.eat(WordKind::Open) {
+        return comparison(alloc, words);
+    }
+    let inner = sum(alloc, words, parentheses - 1)?;
+    words.expect(WordKind::Close)?;
+    Ok(inner)
+}
+
+#[tactic(auto, using(crate::proofs::Levels::none_and, crate::proofs::Levels::none_or, crate::proofs::Levels::none_not))]
+fn is_flat(test: &Test) -> bool
+    ensures { result ≡ nat_le (levels test.now) 0 }
+{
+    match test {
+        Test::Compare { op: _, x: _, y: _ } | Test::IsNull(_) | Test::NotNull(_) => true,
+        Test::And(_, _) | Test::Or(_, _) | Test::Not(_) => false,
+    }
+}
+
+// Whether AND, OR and NOT stand in one another at most so deep.
+#[tactic(auto, using(crate::proofs::Levels::within_and, crate::proofs::Levels::within_or, crate::proofs::Levels::within_not))]
+fn is_within(test: &Test, most: usize) -> bool
+    ensures { result ≡ nat_le (levels test.now) most }
+{
+    if most == 0 {
+        return is_flat(test);
+    }
+    match test {
+        Test::Compare { op: _, x: _, y: _ } | Test::IsNull(_) | Test::NotNull(_) => true,
+        Test::And(a, b) => is_within(a.get(), most - 1) && is_within(b.get(), most - 1),
+        Test::Or(a, b) => is_within(a.get(), most - 1) && is_within(b.get(), most - 1),
+        Test::Not(a) => is_within(a.get(), most - 1),
+    }
+}
+
+/// A test, of at most 64 levels.
+#[tactic(auto, unfolding(lq_model::specs::SqlTest::any_test))]
+pub fn any_test(alloc: Global, words: &mut Words<'_>) -> Result<Boxed<Test>, ParseFault>
+    ensures { Reads (spec.any_test words.old) result words.new }
+{
+    let test = sum(alloc, words, MOST)?;
+    if is_within(test.get(), MOST) {
+        Ok(test)
+    } else {
+        Err(ParseFault::NotSql)
+    }
+}
+
+/// What stands after WHERE, if it stands there.
+#[tactic(auto, unfolding(lq_model::specs::SqlTest::where_test))]
+pub fn where_test(alloc: Global, words: &mut Words<'_>) -> Result<Option<Test>, ParseFault>
+    ensures { Reads (spec.where_test words.old) result words.new }
+{
+    if words.eat(WordKind::Where) {
+        Ok(Some(any_test(alloc, words)?.into_inner()))
+    } else {
+        Ok(None)
+    }
+}
