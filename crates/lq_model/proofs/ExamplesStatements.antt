@@ -19,7 +19,7 @@ use Rattle.lq_model.specs.SqlDrop.{drop_object, drop_index, rename_table}
 use Rattle.lq_model.specs.SqlRows.{insert, stated_columns}
 use Rattle.lq_model.specs.SqlTable.{create_table, table_item, column_item, table_of}
 use Rattle.lq_model.specs.SqlParser.{same_kind, sees, after, expect, ended, enclosed, separated, separated_from}
-use Rattle.lq_model.specs.SqlPart.{name, column_kind, kind_with, sized_with, kind_number, literal as literal_rule, number as number_rule, whole_of}
+use Rattle.lq_model.specs.SqlPart.{name, column_kind, kind_with, sized_with, kind_number, literal as literal_rule, number as number_rule}
 use Rattle.lq_model.specs.declared.statement.Statement.TheVariants.{AddColumn, AddForeignKey, CreateSequence, CreateTable, DropIndex, DropTable, Insert, RenameTable}
 
 -- words in any case; an unquoted name is folded in postgresql and kept in mysql
@@ -57,7 +57,7 @@ rename_is_read =
 pub insert_is_read :
     (statement_in Mysql (codes "insert into t values ('a\\'b')") ≡ Some (Insert (codes "t") [] (literal.Text (codes "a'b") ∷ [])))
     × (statement_in Postgresql (codes "insert into t (id, up) values (-12, NULL)") ≡ Some (Insert (codes "t") (id ∷ up ∷ []) (literal.Int (neg_ℤ (pos 12)) ∷ literal.Null ∷ [])))
-unfolding statement_in words kind_of_word unquoted statement insert stated_columns enclosed separated separated_from literal_rule number_rule whole_of same_kind sees after expect ended name lexemes length_at
+unfolding statement_in words kind_of_word unquoted statement insert stated_columns enclosed separated separated_from literal_rule number_rule same_kind sees after expect ended name lexemes length_at
 insert_is_read =
     ( rw (plain_name (codes "t") refl refl, plain_text (codes "a'b") refl) refl
     , rw (plain_name (codes "t") refl refl, plain_name id refl refl, plain_name up refl refl) refl )
@@ -67,7 +67,7 @@ pub sequence_is_read :
     (statement_in Postgresql (codes "create sequence s start with 5 increment by -1") ≡ Some (CreateSequence (codes "s") (pos 5) (neg_ℤ (pos 1))))
     × (statement_in Postgresql (codes "create sequence s start with 5 increment by 0") ≡ None)
     × (statement_in Mysql (codes "create sequence s start with 5 increment by 1") ≡ None)
-unfolding statement_in words kind_of_word unquoted statement create create_sequence whole step literal_rule number_rule whole_of same_kind sees after expect ended name lexemes length_at
+unfolding statement_in words kind_of_word unquoted statement create create_sequence whole step literal_rule number_rule same_kind sees after expect ended name lexemes length_at
 sequence_is_read = (rw (plain_name (codes "s") refl refl) refl, rw (plain_name (codes "s") refl refl) refl, refl)
 
 -- clauses in any order, each once, and none of a constraint
@@ -76,7 +76,7 @@ pub add_is_read :
     × (statement_in Postgresql (codes "alter table t add column id int null null") ≡ None)
     × (statement_in Postgresql (codes "alter table t add column id int primary key") ≡ None)
     × (statement_in Postgresql (codes "alter table t add column id varchar(03)") ≡ None)
-unfolding statement_in words kind_of_word unquoted statement alter alter_table add add_column added_column stated_column clauses clause column_kind kind_with sized_with kind_number plain_kind sized_kind literal_rule number_rule whole_of same_kind sees after expect ended name lexemes length_at
+unfolding statement_in words kind_of_word unquoted statement alter alter_table add add_column added_column stated_column clauses clause column_kind kind_with sized_with kind_number plain_kind sized_kind literal_rule number_rule same_kind sees after expect ended name lexemes length_at
 add_is_read =
     ( rw (plain_name (codes "t") refl refl, plain_name id refl refl) refl, rw (plain_name (codes "t") refl refl, plain_name id refl refl) refl
     , rw (plain_name (codes "t") refl refl, plain_name id refl refl) refl, rw (plain_name (codes "t") refl refl, plain_name id refl refl) refl )

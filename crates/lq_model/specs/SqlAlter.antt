@@ -64,14 +64,20 @@ set_by Postgresql table column word.Not = skip >> (expect word.Null >> pure (Set
 set_by d table column word.Default = skip >> (do value ← literal; pure (SetDefault table column value))
 set_by d table column _ = refuse
 
-abbrev pub drop_by : Dialect → Name → Name → WordKind → Parser Statement
-drop_by Postgresql table column word.Not = skip >> (expect word.Null >> pure (DropNotNull table column))
-drop_by d table column word.Default = skip >> pure (DropDefault table column)
-drop_by d table column _ = refuse
+unfoldable pub set_part : Dialect → Name → Name → Parser Statement
+set_part d table column = peek >>= set_by d table column
+
+abbrev pub unset_by : Dialect → Name → Name → WordKind → Parser Statement
+unset_by Postgresql table column word.Not = skip >> (expect word.Null >> pure (DropNotNull table column))
+unset_by d table column word.Default = skip >> pure (DropDefault table column)
+unset_by d table column _ = refuse
+
+unfoldable pub unset_part : Dialect → Name → Name → Parser Statement
+unset_part d table column = peek >>= unset_by d table column
 
 abbrev pub alter_column_by : Dialect → Name → Name → WordKind → Parser Statement
-alter_column_by d table column word.Set = skip >> (peek >>= set_by d table column)
-alter_column_by d table column word.Drop = skip >> (peek >>= drop_by d table column)
+alter_column_by d table column word.Set = skip >> set_part d table column
+alter_column_by d table column word.Drop = skip >> unset_part d table column
 alter_column_by d table column _ = refuse
 
 unfoldable pub alter_column : Dialect → Name → Parser Statement

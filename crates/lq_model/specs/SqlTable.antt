@@ -1,5 +1,5 @@
 -- The grammar of CREATE TABLE.
-use Rattle.std.specs.Prelude.{ℕ, nat_le, Bool, true, false, ◌&&◌, not, if◌then◌else◌, List, [], ◌∷◌, length, Option, Some, None}
+use Rattle.std.specs.Prelude.{ℕ, nat_le, Bool, true, false, ◌&&◌, not, if◌then◌else◌, List, [], ◌∷◌, length, Option, Some, None, option_map}
 use Rattle.std.specs.List.{flat_map}
 use Rattle.std.specs.Option.{option_to_list}
 use Rattle.lq_base.specs.declared.dialect.Dialect.{Dialect}
@@ -76,14 +76,14 @@ abbrev pub table_with : Name → List TableItem → Option Key → Statement
 table_with table items key = CreateTable table (flat_map columns_in items) key (flat_map uniques_in items) (flat_map foreign_in items)
 
 -- a column at least, and one key at most
-unfoldable pub table_of : Name → List TableItem → Parser Statement
-table_of table items = do
-  key ← given (only (flat_map keys_in items))
-  if are_ordered_from 0 items && not (is_empty (flat_map columns_in items)) then pure (table_with table items key) else refuse
+unfoldable pub table_of : Name → List TableItem → Option Statement
+table_of table items =
+    if are_ordered_from 0 items && not (is_empty (flat_map columns_in items))
+    then option_map (table_with table items) (only (flat_map keys_in items)) else None
 
 -- `q (item, ..)`
 unfoldable pub create_table : Dialect → Parser Statement
 create_table d = do
   table ← name
   items ← enclosed (table_item d table)
-  table_of table items
+  given (table_of table items)

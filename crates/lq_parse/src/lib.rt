@@ -1,15 +1,15 @@
 //! SQL text of both dialects read as tests and queries.
 #![tactic(auto)]
 
-mod cursor;
-mod lexing;
-mod list;
+pub mod cursor;
+pub mod lexing;
+pub mod list;
 mod number;
-mod parse;
-mod part;
-mod query;
+pub mod parse;
+pub mod part;
+pub mod query;
 mod quoted;
 mod spelling;
-mod test;
+pub mod test;
 
 pub use parse::{parse_query, parse_test};

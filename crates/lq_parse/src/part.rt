@@ -10,7 +10,8 @@ use lq_base::{Literal, Name, NameFault, Text};
 use lq_model::{ParseFault, WordKind};
 use std::alloc::Global;
 
-fn as_text(bytes: &[u8]) -> Option<&str>
+/// The text of these bytes, or none where they are not UTF-8.
+pub fn as_text(bytes: &[u8]) -> Option<&str>
     ensures { MatchOption result (is_utf8 bytes.now ≡ false) (λ text. (text.now ≡ bytes.now) × (is_utf8 bytes.now ≡ true)) }
 {
     match str::from_utf8(bytes) {
@@ -19,8 +20,9 @@ fn as_text(bytes: &[u8]) -> Option<&str>
     }
 }
 
+/// A name of these bytes. `NotSql` where they are no name.
 #[tactic(auto, unfolding(lq_model::specs::SqlPart::name_of))]
-fn name_of(alloc: Global, bytes: &[u8]) -> Result<Name, ParseFault>
+pub fn name_of(alloc: Global, bytes: &[u8]) -> Result<Name, ParseFault>
     ensures { Gives (spec.name_of bytes.now) result }
 {
     match as_text(bytes) {
