@@ -15,5 +15,7 @@ mod name;
 mod rows;
 mod statement;
 mod table;
+#[cfg(test)]
+mod tests;
 
 pub use statement::parse;
