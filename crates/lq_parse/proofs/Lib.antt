@@ -1,5 +1,19 @@
-mod Levels
-mod Magnitudes
-mod Steps
-mod Turns
-mod WordSteps
+pub mod Again
+pub mod Bytes
+pub mod CanWrite
+pub mod Fronts
+pub mod Levels
+pub mod Lists
+pub mod Magnitudes
+pub mod Makes
+pub mod Meaning
+pub mod NumberMakes
+pub mod Numbers
+pub mod QueryAgain
+pub mod Quotes
+pub mod ReadBack
+pub mod Spoken
+pub mod Steps
+pub mod Turns
+pub mod WordSteps
+pub mod Written

@@ -2,6 +2,7 @@
 #![tactic(auto)]
 
 pub mod cursor;
+pub mod laws;
 pub mod lexing;
 pub mod list;
 mod number;
@@ -11,5 +12,7 @@ pub mod query;
 mod quoted;
 mod spelling;
 pub mod test;
+#[cfg(test)]
+mod tests;
 
 pub use parse::{parse_query, parse_test};

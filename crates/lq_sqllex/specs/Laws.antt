@@ -1,5 +1,5 @@
 -- What holds of the definitions.
-use Rattle.std.specs.Prelude.{◌≡◌, ◌<◌, ℕ, suc, ◌+◌, ◌==◌, ◌&&◌, ◌||◌, Bool, true, false, if◌then◌else◌, List, [], ◌∷◌, ◌++◌, length, drop, slice_index, Some, All, codes}
+use Rattle.std.specs.Prelude.{◌≡◌, ◌<◌, ℕ, suc, ◌+◌, ◌==◌, ◌&&◌, ◌||◌, Bool, true, false, if◌then◌else◌, List, [], ◌∷◌, ◌++◌, length, drop, slice_index, Some, option_map, All, codes}
 use Rattle.std.specs.List.{flat_map}
 use Rattle.lq_base.specs.declared.dialect.Dialect.{Dialect}
 use Rattle.lq_base.specs.declared.lexeme.LexemeSort.{LexemeSort}
@@ -13,6 +13,11 @@ use Rattle.lq_base.specs.SqlQuoted.{after}
 -- the lexemes of a text, one after the other, are the text
 abbrev pub LexemesAreTheText : Type 0
 LexemesAreTheText = (d : Dialect) (text : List ℕ) (found : List (LexemeSort × List ℕ)) → lexemes d text ≡ Some found → flat_map (λ lexeme. lexeme.1) found ≡ text
+
+-- after a lexeme the reading begins anew
+abbrev pub LexemesGoOn : Type 0
+LexemesGoOn = (d : Dialect) (bytes rest : List ℕ) → 0 < length bytes → length_at d (bytes ++ rest) ≡ Some (length bytes)
+    → lexemes d (bytes ++ rest) ≡ option_map (λ more. (sort_at d (bytes ++ rest), bytes) ∷ more) (lexemes d rest)
 
 -- the pieces with a delimiter between each two
 abbrev pub joined : List ℕ → List (List ℕ) → List ℕ

@@ -1,11 +1,16 @@
 //! What holds of the definitions that the contracts cite. Each function is empty: its contract is
 //! the law.
 
-ghost use Rattle.lq_sqllex.specs.Laws.{LexemesAreTheText, PiecesAreTheText, TextsAreRead, NamesAreRead, CommentsNest, PiecesHaveWords, PiecesGoOn, DelimitersAreInside};
+ghost use Rattle.lq_sqllex.specs.Laws.{LexemesAreTheText, LexemesGoOn, PiecesAreTheText, TextsAreRead, NamesAreRead, CommentsNest, PiecesHaveWords, PiecesGoOn, DelimitersAreInside};
 
 /// The lexemes of a text, one after the other, are the text.
 pub fn lexemes_are_the_text()
     ensures { LexemesAreTheText }
+{}
+
+/// After a lexeme the reading begins anew.
+pub fn lexemes_go_on()
+    ensures { LexemesGoOn }
 {}
 
 /// All pieces of a text, with the delimiters between them, are the text.
