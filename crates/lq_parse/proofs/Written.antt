@@ -25,11 +25,11 @@ pub name_fact : (n : List ℕ) → is_utf8 n ≡ true → is_name n ≡ true →
 unfolding name_of
 name_fact n utf8 is = rw (utf8, is) refl
 
-text_fact : (t : List ℕ) → is_utf8 t ≡ true → text_of t ≡ Some t
+pub text_fact : (t : List ℕ) → is_utf8 t ≡ true → text_of t ≡ Some t
 unfolding text_of
 text_fact t utf8 = rw utf8 refl
 
-literal_fact : Below → (l : Literal) → is_literal l ≡ true → is_text_literal l ≡ true → IsLiteral l
+pub literal_fact : Below → (l : Literal) → is_literal l ≡ true → is_text_literal l ≡ true → IsLiteral l
 literal_fact below constant.Null is utf8 = tt
 literal_fact below (constant.Bool b) is utf8 = tt
 literal_fact below (constant.Text t) is utf8 = text_fact t utf8

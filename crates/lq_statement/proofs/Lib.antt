@@ -1,1 +1,12 @@
+mod AlterMakes
+mod ColumnMakes
+mod ConstraintMakes
 mod CutSteps
+mod DropMakes
+mod KindMakes
+mod Parts
+mod Phrases
+mod RowMakes
+mod Said
+mod StatementMakes
+mod TableMakes

@@ -11,6 +11,7 @@ mod gather;
 mod given;
 mod inline;
 mod kind;
+pub mod laws;
 mod name;
 mod rows;
 mod statement;
