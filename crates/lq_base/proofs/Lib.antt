@@ -8,7 +8,7 @@ mod NumberLemmas
 pub mod NumberPrinted
 pub mod NumberSpelled
 mod PlainLemmas
-mod SpacedLemmas
+pub mod SpacedLemmas
 mod SplitLemmas
 mod TextLemmas
 pub mod ValueLemmas

@@ -10,3 +10,5 @@ mod RowMakes
 mod Said
 mod StatementMakes
 mod TableMakes
+mod Named
+mod Whole

@@ -98,3 +98,10 @@ tail_says go_on d ws b w rest all last stop =
     ∙ then d (spaced ws) (b ∷ w) rest (said d ws) (λ more. unquoted_word (kind_of_word word.Plain (b ∷ w)) (folded d (b ∷ w)) ∷ more)
     (spaced_says go_on d ws ((b ∷ w) ++ rest) all)
     (last_keyword_says go_on d b w rest (unquoted_word (kind_of_word word.Plain (b ∷ w)) (folded d (b ∷ w))) last stop refl)
+
+-- what ends with a mark may stand before what ends a word
+abbrev pub ready : {d : Dialect} {a : List ℕ} → Open d a → Closed d a
+ready x = record { these = x.these; is = λ rest stop. x.is rest }
+
+abbrev pub opened : {d : Dialect} {a : List ℕ} → Lead d a → Open d a
+opened x = record { these = x.these; is = x.is }
