@@ -45,9 +45,9 @@ abbrev pub kind : List Word → WordKind
 kind [] = word.End
 kind (w ∷ ws) = w.kind
 
-abbrev pub bytes : List Word → List ℕ
-bytes [] = []
-bytes (w ∷ ws) = w.bytes
+abbrev pub text : List Word → List ℕ
+text [] = []
+text (w ∷ ws) = w.text
 
 abbrev pub next : List Word → List Word
 next [] = []
@@ -73,9 +73,9 @@ eat k = λ i. Some (sees k i, after k i)
 unfoldable pub expect : WordKind → Parser (Unit {0})
 expect k = λ i. if sees k i then Some (tt, next i) else None
 
--- the bytes of the next word, which is taken
+-- the text of the next word, which is taken
 abbrev pub taken : Parser (List ℕ)
-taken = λ i. Some (bytes i, next i)
+taken = λ i. Some (text i, next i)
 
 -- The number bounds the turns, and each takes a word.
 unfoldable pub separated_from : {A : Type 0} → Parser A → ℕ → List A → Parser (List A)

@@ -1,7 +1,6 @@
 -- The parts that statements, queries and tests share: names, literals and kinds.
 use Rattle.std.specs.Prelude.{ℕ, ℤ, Bool, true, false, ◌&&◌, if◌then◌else◌, List, Option, Some, None}
 use Rattle.std.specs.List.{list_any}
-use Rattle.std.specs.Str.{is_utf8}
 use Rattle.std.specs.Str.Parse.{digits_value, starts_with_minus}
 use Rattle.lq_base.specs.Kind.{plain_number, plain_kind, sized_kind, decimal_kind}
 use Rattle.lq_base.specs.Name.{is_name}
@@ -20,7 +19,7 @@ use Rattle.lq_model.specs.declared.word.WordKind.TheVariants as word
 
 -- 1 to 63 bytes, none a control character
 unfoldable pub name_of : List ℕ → Option Name
-name_of found = if is_utf8 found && is_name found then Some found else None
+name_of found = if is_name found then Some found else None
 
 -- in quotes, or a word that is no reserved word
 unfoldable pub name : Parser Name
@@ -29,10 +28,6 @@ name = do
   if may_be_name found then taken >>= (λ it. given (name_of it)) else refuse
 
 -- literals
-
--- the characters of a string
-unfoldable pub text_of : List ℕ → Option (List ℕ)
-text_of found = if is_utf8 found then Some found else None
 
 -- a sign and digits, within 128 signed bits
 abbrev pub whole_by : Bool → List ℕ → Option Literal
@@ -44,15 +39,11 @@ whole_by negative digits =
 unfoldable pub number : List ℕ → Option Literal
 number found = if list_any is_dot found then number_of found else whole_by (starts_with_minus found) (without_minus found)
 
-abbrev pub text_literal : Option (List ℕ) → Option Literal
-text_literal None = None
-text_literal (Some t) = Some (constant.Text t)
-
 abbrev pub literal_by : WordKind → Parser Literal
 literal_by word.Null = skip >> pure constant.Null
 literal_by word.True = skip >> pure (constant.Bool true)
 literal_by word.False = skip >> pure (constant.Bool false)
-literal_by word.Text = taken >>= (λ it. given (text_literal (text_of it)))
+literal_by word.Text = taken >>= (λ it. pure (constant.Text it))
 literal_by word.Number = taken >>= (λ it. given (number it))
 literal_by _ = refuse
 

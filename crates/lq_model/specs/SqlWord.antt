@@ -53,15 +53,15 @@ abbrev pub folded : Dialect → List ℕ → List ℕ
 folded Postgresql bytes = map to_ascii_lowercase bytes
 folded Mysql bytes = bytes
 
-abbrev pub with_bytes : WordKind → List ℕ → Word
-with_bytes kind bytes = record { kind = kind; bytes = bytes }
+abbrev pub with_text : WordKind → List ℕ → Word
+with_text kind text = record { kind = kind; text = text }
 
 -- a word that is the same however it is spelled
 abbrev pub bare : WordKind → Word
-bare kind = with_bytes kind []
+bare kind = with_text kind []
 
 abbrev pub unquoted_word : WordKind → List ℕ → Word
-unquoted_word kind name = if may_be_name kind then with_bytes kind name else bare kind
+unquoted_word kind name = if may_be_name kind then with_text kind name else bare kind
 
 -- the character that a backslash and this byte stand for: MySQL's manual, 9.1.1
 abbrev pub escaped : ℕ → ℕ
@@ -86,9 +86,9 @@ unquoted escaping bytes = inside escaping (slice_index bytes 0) (drop 1 bytes)
 
 -- the word that a lexeme is; blanks and comments are none
 abbrev pub words_of : Dialect → LexemeSort → List ℕ → List Word
-words_of d sort.Name bytes = with_bytes word.Quoted (unquoted false bytes) ∷ []
-words_of d sort.Text bytes = with_bytes word.Text (unquoted (escapes d) bytes) ∷ []
-words_of d sort.Number bytes = with_bytes word.Number bytes ∷ []
+words_of d sort.Name bytes = with_text word.Quoted (unquoted false bytes) ∷ []
+words_of d sort.Text bytes = with_text word.Text (unquoted (escapes d) bytes) ∷ []
+words_of d sort.Number bytes = with_text word.Number bytes ∷ []
 words_of d sort.Word bytes = unquoted_word (kind_of_word word.Plain bytes) (folded d bytes) ∷ []
 words_of d sort.Mark bytes = bare (kind_of_word word.Unknown bytes) ∷ []
 words_of d _ bytes = []

@@ -13,6 +13,7 @@ mod keeps_sound;
 mod look;
 mod phrase;
 mod query;
+mod sql_text;
 mod statement;
 mod table_item;
 mod takes_back;
@@ -34,6 +35,7 @@ pub use keeps_sound::statement_keeps_sound;
 pub use look::Look;
 pub use phrase::Phrase;
 pub use query::{Answered, Query, Wanted};
+pub use sql_text::SqlText;
 pub use statement::Statement;
 pub use table_item::{StatedColumn, TableConstraint, TableItem, Target};
 pub use takes_back::{

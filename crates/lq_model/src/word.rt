@@ -1,4 +1,4 @@
-use lq_base::Items;
+use lq_base::Text;
 
 /// What a word of an SQL text is: a name or a literal, a mark, or one of the words of the statements.
 #[derive(Clone, Copy, Debug, PartialEq, Eq)]
@@ -142,10 +142,10 @@ pub const SPELLINGS: [(&[u8], WordKind); 62] = [
     (b"WITH", WordKind::With),
 ];
 
-/// A word of an SQL text. `bytes` has the characters of a string, of a name in quotes and of a
-/// number, and those of a word that may be a name as they stand in that name.
+/// A word of an SQL text. `text` is what stands in the quotes of a string or a name, a number as it
+/// is written, and a word that may be a name as that name; of other words and of marks it is empty.
 #[derive(Debug, Drop)]
 pub struct Word {
     pub kind: WordKind,
-    pub bytes: Items<u8>,
+    pub text: Text,
 }

@@ -5,9 +5,9 @@ use Rattle.lq_base.specs.declared.literal.Literal.TheVariants as constant
 use Rattle.lq_base.specs.Number.{fixed_text, whole_text}
 use Rattle.lq_model.specs.Spelled.{levels}
 use Rattle.lq_model.specs.SqlParser.{Parser, after, ended, expect, same_kind, sees, to_end}
-use Rattle.lq_model.specs.SqlPart.{literal, name, name_of, number, text_of}
+use Rattle.lq_model.specs.SqlPart.{literal, name, name_of, number}
 use Rattle.lq_model.specs.SqlTest.{any_test, comparison, conjunction, disjunction, most, negation, nullness, operand, operator, primary, product, sum, term}
-use Rattle.lq_model.specs.SqlWord.{bare, with_bytes}
+use Rattle.lq_model.specs.SqlWord.{bare, with_text}
 use Rattle.lq_model.specs.Truth.{Both, Either, Turned}
 use Rattle.lq_model.specs.declared.test.Op.{Op}
 use Rattle.lq_model.specs.declared.test.Op.TheVariants as op
@@ -24,12 +24,12 @@ abbrev pub literal_words : Literal → List Word → List Word
 literal_words constant.Null rest = bare word.Null ∷ rest
 literal_words (constant.Bool true) rest = bare word.True ∷ rest
 literal_words (constant.Bool false) rest = bare word.False ∷ rest
-literal_words (constant.Text t) rest = with_bytes word.Text t ∷ rest
-literal_words (constant.Int n) rest = with_bytes word.Number (whole_text n) ∷ rest
-literal_words (constant.Fixed units scale) rest = with_bytes word.Number (fixed_text units scale) ∷ rest
+literal_words (constant.Text t) rest = with_text word.Text t ∷ rest
+literal_words (constant.Int n) rest = with_text word.Number (whole_text n) ∷ rest
+literal_words (constant.Fixed units scale) rest = with_text word.Number (fixed_text units scale) ∷ rest
 
 abbrev pub operand_words : Operand → List Word → List Word
-operand_words (side.Column c) rest = with_bytes word.Quoted c ∷ rest
+operand_words (side.Column c) rest = with_text word.Quoted c ∷ rest
 operand_words (side.Literal l) rest = literal_words l rest
 
 abbrev pub op_kind : Op → WordKind
@@ -53,7 +53,7 @@ test_words (Turned a) rest = bare word.Open ∷ bare word.Not ∷ test_words a (
 abbrev pub IsLiteral : Literal → Type 0
 IsLiteral constant.Null = Unit {0}
 IsLiteral (constant.Bool b) = Unit {0}
-IsLiteral (constant.Text t) = text_of t ≡ Some t
+IsLiteral (constant.Text t) = Unit {0}
 IsLiteral (constant.Int n) = number (whole_text n) ≡ Some (constant.Int n)
 IsLiteral (constant.Fixed units scale) = number (fixed_text units scale) ≡ Some (constant.Fixed units scale)
 
@@ -74,7 +74,7 @@ unfolding literal
 literal_again constant.Null rest h = refl
 literal_again (constant.Bool true) rest h = refl
 literal_again (constant.Bool false) rest h = refl
-literal_again (constant.Text t) rest h = rw h refl
+literal_again (constant.Text t) rest h = refl
 literal_again (constant.Int n) rest h = rw h refl
 literal_again (constant.Fixed units scale) rest h = rw h refl
 

@@ -2,7 +2,6 @@
 use Rattle.std.proofs.Common.{◌≡◌, ℕ, true, ◌&&◌, nat_le, List, [], ◌∷◌, Option, Some, None, IfSome, subst, refl}
 use Rattle.std.specs.List.{list_all}
 use Rattle.std.specs.Option.{option_and_then}
-use Rattle.std.specs.Str.{is_utf8}
 use Rattle.std.proofs.lemmas.Bool.{and_from}
 use Rattle.lq_base.specs.Laws.{NumberOfSpells}
 use Rattle.lq_base.specs.Name.{is_name}
@@ -22,7 +21,7 @@ use Rattle.lq_model.specs.declared.query.Wanted.TheVariants as wanted
 use Rattle.lq_model.specs.declared.test.Test.{Test}
 use Rattle.lq_model.specs.declared.word.Word.{Word}
 use Rattle.lq_model.specs.declared.word.WordKind.TheVariants as word
-use Rattle.lq_parse.specs.Laws.{QueriesCanBeWritten, TestsCanBeWritten, are_texts, is_query_text, is_text_literal, wanted_names}
+use Rattle.lq_parse.specs.Laws.{QueriesCanBeWritten, TestsCanBeWritten}
 use Rattle.lq_parse.proofs.Makes.{AllSo, IsLiteralText, IsNameText, IsWholeTest, IsWholeWhere, Makes, SomeSo, any_test_makes, literal_makes, makes_after, makes_if, makes_pure, makes_then, name_makes, separated_makes, to_end_makes, where_makes}
 use Rattle.lq_parse.proofs.NumberMakes.{number_makes}
 
@@ -42,14 +41,11 @@ whole_makes P parser d text it makes e =
 pub literals : NumberOfSpells → Makes IsLiteralText literal
 literals spells = literal_makes (number_makes spells)
 
-pub where_is : (t : Test) → IsWholeTest t → (is_where (Some t) ≡ true) × (are_texts (Some t) ≡ true)
-where_is t it = (
-  and_from (list_all is_name (test_names t)) (is_spelled (Some t)) it.0.are_names (and_from (nat_le (levels t) 64) (list_all is_literal (test_literals t)) it.1 it.0.are_literals),
-  and_from (list_all is_utf8 (test_names t)) (list_all is_text_literal (test_literals t)) it.0.are_utf8 it.0.are_texts,
-)
+pub where_is : (t : Test) → IsWholeTest t → is_where (Some t) ≡ true
+where_is t it = and_from (list_all is_name (test_names t)) (is_spelled (Some t)) it.0.are_names (and_from (nat_le (levels t) 64) (list_all is_literal (test_literals t)) it.1 it.0.are_literals)
 
-pub option_where : (test : Option Test) → IsWholeWhere test → (is_where test ≡ true) × (are_texts test ≡ true)
-option_where None it = (refl, refl)
+pub option_where : (test : Option Test) → IsWholeWhere test → is_where test ≡ true
+option_where None it = refl
 option_where (Some t) it = where_is t it
 
 pub tests_can : NumberOfSpells → TestsCanBeWritten
@@ -59,13 +55,11 @@ tests_can spells d text t e = where_is t (whole_makes IsWholeTest any_test d tex
 -- queries
 
 abbrev pub IsWantedText : Wanted → Type 0
-IsWantedText w = (is_wanted w ≡ true) × (list_all is_utf8 (wanted_names w) ≡ true)
+IsWantedText w = is_wanted w ≡ true
 
-pub names_are : (ns : List (List ℕ)) → AllSo IsNameText ns → (list_all is_name ns ≡ true) × (list_all is_utf8 ns ≡ true)
-names_are [] h = (refl, refl)
-names_are (n ∷ ns) h =
-    let more = names_are ns h.1 in
-    (and_from (is_name n) (list_all is_name ns) h.0.1 more.0, and_from (is_utf8 n) (list_all is_utf8 ns) h.0.0 more.1)
+pub names_are : (ns : List (List ℕ)) → AllSo IsNameText ns → list_all is_name ns ≡ true
+names_are [] h = refl
+names_are (n ∷ ns) h = and_from (is_name n) (list_all is_name ns) h.0 (names_are ns h.1)
 
 pub some_names : (ns : List (List ℕ)) → SomeSo IsNameText ns → IsWantedText (wanted.Columns ns)
 some_names [] h = absurd h
@@ -75,20 +69,16 @@ selected_makes : Makes IsWantedText selected
 unfolding selected columns count
 selected_makes =
     makes_after IsWantedText (eat word.Star) _ (λ all. makes_after IsWantedText peek_count _ (λ counted. makes_if IsWantedText all _ _
-    (makes_pure IsWantedText wanted.All (refl, refl))
+    (makes_pure IsWantedText wanted.All refl)
     (makes_if IsWantedText counted _ _
-    (makes_after IsWantedText (expect word.Count) _ (λ a. makes_after IsWantedText (expect word.Open) _ (λ b. makes_after IsWantedText (expect word.Star) _ (λ c. makes_after IsWantedText (expect word.Close) _ (λ e. makes_pure IsWantedText wanted.Count (refl, refl))))))
+    (makes_after IsWantedText (expect word.Count) _ (λ a. makes_after IsWantedText (expect word.Open) _ (λ b. makes_after IsWantedText (expect word.Star) _ (λ c. makes_after IsWantedText (expect word.Close) _ (λ e. makes_pure IsWantedText wanted.Count refl)))))
     (makes_then (SomeSo IsNameText) IsWantedText (separated name) _ (separated_makes IsNameText name name_makes) (λ ns h. makes_pure IsWantedText (wanted.Columns ns) (some_names ns h))))))
 
 abbrev pub IsQueryText : Query → Type 0
-IsQueryText q = (is_query q ≡ true) × (is_query_text q ≡ true)
+IsQueryText q = is_query q ≡ true
 
 query_is : (w : Wanted) (table : List ℕ) (test : Option Test) → IsWantedText w → IsNameText table → IsWholeWhere test → IsQueryText (record { wanted = w; table = table; test = test })
-query_is w table test a b c =
-    let last = option_where test c in (
-      and_from (is_wanted w) (is_name table && is_where test) a.0 (and_from (is_name table) (is_where test) b.1 last.0),
-      and_from (list_all is_utf8 (table ∷ wanted_names w)) (are_texts test) (and_from (is_utf8 table) (list_all is_utf8 (wanted_names w)) b.0 a.1) last.1,
-    )
+query_is w table test a b c = and_from (is_wanted w) (is_name table && is_where test) a (and_from (is_name table) (is_where test) b (option_where test c))
 
 pub query_makes : NumberOfSpells → Makes IsQueryText query
 unfolding query

@@ -11,7 +11,7 @@ use Rattle.lq_base.specs.declared.dialect.Dialect.{Dialect}
 use Rattle.lq_base.specs.declared.dialect.Dialect.TheVariants.{Postgresql, Mysql}
 use Rattle.lq_base.specs.declared.lexeme.LexemeSort.{LexemeSort}
 use Rattle.lq_base.specs.declared.lexeme.LexemeSort.TheVariants as sort
-use Rattle.lq_model.specs.SqlWord.{bare, folded, kind_of_word, unquoted_word, with_bytes, words, words_of}
+use Rattle.lq_model.specs.SqlWord.{bare, folded, kind_of_word, unquoted_word, with_text, words, words_of}
 use Rattle.lq_model.specs.declared.word.Word.{Word}
 use Rattle.lq_model.specs.declared.word.WordKind.{WordKind}
 use Rattle.lq_model.specs.declared.word.WordKind.TheVariants as word
@@ -88,7 +88,7 @@ no_number : (rest : List ℕ) → Stops rest → prefix_len is_number_byte rest 
 no_number rest stop = stops_run is_number_byte rest stop (refl, (refl, (refl, (refl, tt))))
 
 signed_says : LexemesGoOn → (d : Dialect) (negative : Bool) (first : ℕ) (more rest : List ℕ) → is_ascii_digit first ≡ true → list_all is_number_byte more ≡ true → Stops rest
-    → Says d (sign_text negative ++ (first ∷ more)) (λ ws. with_bytes word.Number (sign_text negative ++ (first ∷ more)) ∷ ws) rest
+    → Says d (sign_text negative ++ (first ∷ more)) (λ ws. with_text word.Number (sign_text negative ++ (first ∷ more)) ∷ ws) rest
 signed_says go_on d true first more rest digit others stop =
     run_says go_on d sort.Number 45 (first ∷ more) rest (λ text. refl)
     (digit_is (λ c. sort_at d (45 ∷ c ∷ (more ++ rest)) ≡ sort.Number) first digit (minus_begins d (more ++ rest)))
@@ -100,9 +100,9 @@ signed_says go_on d false first more rest digit others stop =
     others
     (no_number rest stop)
 
-pub number_says : LexemesGoOn → (d : Dialect) (text rest : List ℕ) → IsNumberText text → Stops rest → Says d text (λ ws. with_bytes word.Number text ∷ ws) rest
+pub number_says : LexemesGoOn → (d : Dialect) (text rest : List ℕ) → IsNumberText text → Stops rest → Says d text (λ ws. with_text word.Number text ∷ ws) rest
 number_says go_on d text rest it stop =
-    subst (λ (t : List ℕ). Says d t (λ ws. with_bytes word.Number t ∷ ws) rest) (sym it.is) (signed_says go_on d it.negative it.first it.more rest it.digit it.others stop)
+    subst (λ (t : List ℕ). Says d t (λ ws. with_text word.Number t ∷ ws) rest) (sym it.is) (signed_says go_on d it.negative it.first it.more rest it.digit it.others stop)
 
 -- blanks
 

@@ -15,5 +15,6 @@ pub mod ReadBack
 pub mod Spoken
 pub mod Steps
 pub mod Turns
+pub mod Utf8
 pub mod WordSteps
 pub mod Written

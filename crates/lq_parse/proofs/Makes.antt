@@ -1,15 +1,14 @@
 -- What is read can be written.
-use Rattle.std.proofs.Common.{◌≡◌, ℕ, zero, suc, Bool, true, false, ◌&&◌, nat_le, if◌then◌else◌, List, [], ◌∷◌, ◌++◌, length, Option, Some, None, IfSome, ◌∙◌, refl, tests}
+use Rattle.std.proofs.Common.{◌≡◌, ℕ, zero, suc, Bool, true, false, nat_le, if◌then◌else◌, List, [], ◌∷◌, ◌++◌, length, Option, Some, None, IfSome, ◌∙◌, refl, tests}
 use Rattle.std.specs.List.{list_all}
-use Rattle.std.specs.Str.{is_utf8}
-use Rattle.std.proofs.lemmas.Bool.{and_from, and_parts}
+use Rattle.std.proofs.lemmas.Bool.{and_from}
 use Rattle.std.proofs.lemmas.List.Folds.{list_all-append}
 use Rattle.lq_base.specs.Name.{is_name}
 use Rattle.lq_base.specs.declared.literal.Literal.{Literal}
 use Rattle.lq_base.specs.declared.literal.Literal.TheVariants as constant
 use Rattle.lq_model.specs.Spelled.{is_literal, levels, operand_literals, test_literals}
 use Rattle.lq_model.specs.SqlParser.{Parser, ◌>>=◌, and_then, after, eat, ended, expect, given, peek, pure, refuse, sees, separated, separated_from, skip, taken, to_end}
-use Rattle.lq_model.specs.SqlPart.{literal, literal_by, name, name_of, number, text_literal, text_of}
+use Rattle.lq_model.specs.SqlPart.{literal, literal_by, name, name_of, number}
 use Rattle.lq_model.specs.SqlTest.{any_test, begins_literal, comparison, conjunction, disjunction, most, negation, nullness, operand, operator, primary, product, sum, term, where_test}
 use Rattle.lq_model.specs.SqlWord.{may_be_name}
 use Rattle.lq_model.specs.Truth.{operand_names, test_names}
@@ -20,7 +19,6 @@ use Rattle.lq_model.specs.declared.test.Test.TheVariants as test
 use Rattle.lq_model.specs.declared.word.Word.{Word}
 use Rattle.lq_model.specs.declared.word.WordKind.{WordKind}
 use Rattle.lq_model.specs.declared.word.WordKind.TheVariants as word
-use Rattle.lq_parse.specs.Laws.{is_text_literal}
 use Rattle.lq_parse.proofs.Written.{Facts}
 
 -- all that a parser gives is so
@@ -73,11 +71,11 @@ if_some P false x h = tt
 -- names
 
 abbrev pub IsNameText : List ℕ → Type 0
-IsNameText n = (is_utf8 n ≡ true) × (is_name n ≡ true)
+IsNameText n = is_name n ≡ true
 
 pub name_of_makes : (bytes : List ℕ) → IfSome (name_of bytes) IsNameText
 unfolding name_of
-name_of_makes bytes = if_some IsNameText (is_utf8 bytes && is_name bytes) bytes (λ is. and_parts (is_utf8 bytes) (is_name bytes) is)
+name_of_makes bytes = if_some IsNameText (is_name bytes) bytes (λ is. is)
 
 pub name_makes : Makes IsNameText name
 unfolding name
@@ -124,25 +122,17 @@ separated_makes P item h = record { at = λ i. (from_makes P item (length i) [] 
 -- literals
 
 abbrev pub IsLiteralText : Literal → Type 0
-IsLiteralText l = (is_literal l ≡ true) × (is_text_literal l ≡ true)
-
-text_makes : (bytes : List ℕ) → IfSome (text_literal (text_of bytes)) IsLiteralText
-unfolding text_of
-text_makes bytes =
-    elim (is_utf8 bytes) as (λ b. is_utf8 bytes ≡ b → IfSome (text_literal (if b then Some bytes else None)) IsLiteralText) [
-      | true ↦ λ e. (refl, e)
-      | false ↦ λ e. tt
-    ] refl
+IsLiteralText l = is_literal l ≡ true
 
 pub literal_makes : ((bytes : List ℕ) → IfSome (number bytes) IsLiteralText) → Makes IsLiteralText literal
 unfolding literal
 literal_makes numbers = makes_after IsLiteralText peek literal_by by
   where
     by : (k : WordKind) → Makes IsLiteralText (literal_by k)
-    by word.Null = makes_after IsLiteralText skip _ (λ it. makes_pure IsLiteralText constant.Null (refl, refl))
-    by word.True = makes_after IsLiteralText skip _ (λ it. makes_pure IsLiteralText (constant.Bool true) (refl, refl))
-    by word.False = makes_after IsLiteralText skip _ (λ it. makes_pure IsLiteralText (constant.Bool false) (refl, refl))
-    by word.Text = makes_after IsLiteralText taken _ (λ it. makes_given IsLiteralText (text_literal (text_of it)) (text_makes it))
+    by word.Null = makes_after IsLiteralText skip _ (λ it. makes_pure IsLiteralText constant.Null refl)
+    by word.True = makes_after IsLiteralText skip _ (λ it. makes_pure IsLiteralText (constant.Bool true) refl)
+    by word.False = makes_after IsLiteralText skip _ (λ it. makes_pure IsLiteralText (constant.Bool false) refl)
+    by word.Text = makes_after IsLiteralText taken _ (λ it. makes_pure IsLiteralText (constant.Text it) refl)
     by word.Number = makes_after IsLiteralText taken _ (λ it. makes_given IsLiteralText (number it) (numbers it))
     by _ = makes_refuse IsLiteralText
 
@@ -162,9 +152,9 @@ unfolding operand
 operand_makes literals =
     makes_after IsOperandText peek _ (λ found. makes_if IsOperandText (begins_literal found) _ _
     (makes_then IsLiteralText IsOperandText literal _ literals (λ l is. makes_pure IsOperandText (side.Literal l)
-    (record { are_names = refl; are_utf8 = refl; are_literals = one is_literal l is.0; are_texts = one is_text_literal l is.1 })))
+    (record { are_names = refl; are_literals = one is_literal l is })))
     (makes_then IsNameText IsOperandText name _ name_makes (λ n is. makes_pure IsOperandText (side.Column n)
-    (record { are_names = one is_name n is.1; are_utf8 = one is_utf8 n is.0; are_literals = refl; are_texts = refl }))))
+    (record { are_names = one is_name n is; are_literals = refl }))))
 
 pub all_join : {A : Type 0} (p : A → Bool) (xs ys : List A) → list_all p xs ≡ true → list_all p ys ≡ true → list_all p (xs ++ ys) ≡ true
 all_join p xs ys a b = list_all-append p xs ys ∙ and_from (list_all p xs) (list_all p ys) a b
@@ -172,9 +162,7 @@ all_join p xs ys a b = list_all-append p xs ys ∙ and_from (list_all p xs) (lis
 facts_join : (ns ms : List (List ℕ)) (ls ks : List Literal) → Facts ns ls → Facts ms ks → Facts (ns ++ ms) (ls ++ ks)
 facts_join ns ms ls ks a b = record {
   are_names = all_join is_name ns ms a.are_names b.are_names;
-  are_utf8 = all_join is_utf8 ns ms a.are_utf8 b.are_utf8;
   are_literals = all_join is_literal ls ks a.are_literals b.are_literals;
-  are_texts = all_join is_text_literal ls ks a.are_texts b.are_texts;
 }
 
 and_text : (a b : Test) → IsTestText a → IsTestText b → IsTestText (And a b)

@@ -23,7 +23,7 @@ whole_makes : (negative : Bool) (digits : List ℕ) → IfSome (whole_by negativ
 whole_makes negative digits =
     elim (is_digits digits && is_literal (constant.Int (signed negative (digits_value 10 digits)))) as (λ b. (is_digits digits && is_literal (constant.Int (signed negative (digits_value 10 digits)))) ≡ b
     → IfSome (if b then Some (constant.Int (signed negative (digits_value 10 digits))) else None) IsLiteralText) [
-      | true ↦ λ e. ((and_parts (is_digits digits) (is_literal (constant.Int (signed negative (digits_value 10 digits)))) e).1, refl)
+      | true ↦ λ e. (and_parts (is_digits digits) (is_literal (constant.Int (signed negative (digits_value 10 digits)))) e).1
       | false ↦ λ e. tt
     ] refl
 
@@ -59,7 +59,7 @@ spelled_makes bytes (constant.Int n) dot it =
   where
     true_false : true ≡ false → ⊥
     true_false e = absurd cc
-spelled_makes bytes (constant.Fixed units scale) dot it = (pointed_fits bytes units scale it, refl)
+spelled_makes bytes (constant.Fixed units scale) dot it = pointed_fits bytes units scale it
 spelled_makes bytes constant.Null dot it = absurd it
 spelled_makes bytes (constant.Bool b) dot it = absurd it
 spelled_makes bytes (constant.Text t) dot it = absurd it

@@ -2,7 +2,6 @@
 use Rattle.std.proofs.Common.{◌≡◌, ℕ, true, false, not, ◌&&◌, List, [], ◌∷◌, ◌++◌, Option, Some, None, option_map, ap, ◌∙◌, refl, arith}
 use Rattle.std.specs.List.{list_all}
 use Rattle.std.specs.Prelude.{codes}
-use Rattle.std.specs.Str.{is_utf8}
 use Rattle.std.proofs.lemmas.Bool.{and_parts}
 use Rattle.lq_base.specs.Name.{is_name}
 use Rattle.lq_base.specs.SqlLexeme.{length_at}
@@ -16,7 +15,7 @@ use Rattle.lq_model.specs.SqlPart.{name, name_of}
 use Rattle.lq_model.specs.SqlQuery.{columns, count, query, sees_count, selected}
 use Rattle.lq_model.specs.SqlTest.{where_test}
 use Rattle.lq_model.specs.SqlText.{query_in}
-use Rattle.lq_model.specs.SqlWord.{bare, folded, kind_of_word, with_bytes, words}
+use Rattle.lq_model.specs.SqlWord.{bare, folded, kind_of_word, with_text, words}
 use Rattle.lq_model.specs.Statement.{is_wanted, is_where}
 use Rattle.lq_model.specs.TestText.{names_text, query_text, wanted_text, where_text}
 use Rattle.lq_model.specs.declared.query.Query.{Query}
@@ -25,7 +24,7 @@ use Rattle.lq_model.specs.declared.query.Wanted.TheVariants as wanted
 use Rattle.lq_model.specs.declared.test.Test.{Test}
 use Rattle.lq_model.specs.declared.word.Word.{Word}
 use Rattle.lq_model.specs.declared.word.WordKind.TheVariants as word
-use Rattle.lq_parse.specs.Laws.{QueriesReadBack, are_texts, wanted_names}
+use Rattle.lq_parse.specs.Laws.{QueriesReadBack}
 use Rattle.lq_parse.proofs.Again.{any_test_again, nothing_ends, test_words}
 use Rattle.lq_parse.proofs.Bytes.{Stops}
 use Rattle.lq_parse.proofs.Fronts.{Says, blank_says, capitals_say, keyword_says, mark_says}
@@ -36,7 +35,7 @@ use Rattle.lq_parse.proofs.Spoken.{Below, close_says, open_says, test_says, then
 use Rattle.lq_parse.proofs.Written.{name_fact, test_fact}
 
 abbrev pub name_word : List ℕ → List Word → List Word
-name_word n rest = with_bytes word.Quoted n ∷ rest
+name_word n rest = with_text word.Quoted n ∷ rest
 
 abbrev pub names_words : List (List ℕ) → List Word → List Word
 names_words [] rest = rest
@@ -44,7 +43,7 @@ names_words (n ∷ ns) rest = name_word n (tail_words name_word ns rest)
 
 abbrev pub wanted_words : Dialect → Wanted → List Word → List Word
 wanted_words d wanted.All rest = bare word.Select ∷ bare word.Star ∷ bare word.From ∷ rest
-wanted_words d wanted.Count rest = bare word.Select ∷ with_bytes word.Count (folded d (codes "COUNT")) ∷ bare word.Open ∷ bare word.Star ∷ bare word.Close ∷ bare word.From ∷ rest
+wanted_words d wanted.Count rest = bare word.Select ∷ with_text word.Count (folded d (codes "COUNT")) ∷ bare word.Open ∷ bare word.Star ∷ bare word.Close ∷ bare word.From ∷ rest
 wanted_words d (wanted.Columns ns) rest = bare word.Select ∷ names_words ns (bare word.From ∷ rest)
 
 abbrev pub where_words : Option Test → List Word → List Word
@@ -60,12 +59,11 @@ pub name_again : IsAgain IsReadName name name_word
 unfolding name
 name_again = record { read = λ n rest h. rw h refl; long = λ n rest. omega arith }
 
-pub each_name : (ns : List (List ℕ)) → list_all is_utf8 ns ≡ true → list_all is_name ns ≡ true → EachItem IsReadName ns
-each_name [] utf8 is = tt
-each_name (n ∷ ns) utf8 is =
-    let a = and_parts (is_utf8 n) (list_all is_utf8 ns) utf8 in
-    let b = and_parts (is_name n) (list_all is_name ns) is in
-    (name_fact n a.0 b.0, each_name ns a.1 b.1)
+pub each_name : (ns : List (List ℕ)) → list_all is_name ns ≡ true → EachItem IsReadName ns
+each_name [] is = tt
+each_name (n ∷ ns) is =
+    let both = and_parts (is_name n) (list_all is_name ns) is in
+    (name_fact n both.0, each_name ns both.1)
 
 pub any_names : (ns : List (List ℕ)) → EachItem (λ n. Unit {0}) ns
 any_names [] = tt
@@ -99,7 +97,7 @@ unfolding length_at kind_of_word
 star_before_close below Postgresql rest = mark_says below.go_on Postgresql (codes "*") (41 ∷ rest) word.Star (omega arith) refl refl refl
 star_before_close below Mysql rest = mark_says below.go_on Mysql (codes "*") (41 ∷ rest) word.Star (omega arith) refl refl refl
 
-count_says : Below → (d : Dialect) (rest : List ℕ) → words d (codes "COUNT(" ++ rest) ≡ option_map (λ ws. with_bytes word.Count (folded d (codes "COUNT")) ∷ ws) (words d (40 ∷ rest))
+count_says : Below → (d : Dialect) (rest : List ℕ) → words d (codes "COUNT(" ++ rest) ≡ option_map (λ ws. with_text word.Count (folded d (codes "COUNT")) ∷ ws) (words d (40 ∷ rest))
 unfolding kind_of_word
 count_says below d rest = capitals_say below.go_on d 67 (codes "OUNT") (40 ∷ rest) refl refl
 
@@ -117,9 +115,9 @@ wanted_says below d wanted.All rest is =
     step d _ (codes "* FROM " ++ rest) (λ ws. bare word.Select ∷ ws) (λ ws. bare word.Star ∷ bare word.From ∷ ws) (words d rest) (select_says below d (codes "* FROM " ++ rest))
     (step d _ (codes " FROM " ++ rest) (λ ws. bare word.Star ∷ ws) (λ ws. bare word.From ∷ ws) (words d rest) (star_before_blank below d (codes "FROM " ++ rest)) (from_says below d rest))
 wanted_says below d wanted.Count rest is =
-    step d _ (codes "COUNT(*) FROM " ++ rest) (λ ws. bare word.Select ∷ ws) (λ ws. with_bytes word.Count (folded d (codes "COUNT")) ∷ bare word.Open ∷ bare word.Star ∷ bare word.Close ∷ bare word.From ∷ ws) (words d rest)
+    step d _ (codes "COUNT(*) FROM " ++ rest) (λ ws. bare word.Select ∷ ws) (λ ws. with_text word.Count (folded d (codes "COUNT")) ∷ bare word.Open ∷ bare word.Star ∷ bare word.Close ∷ bare word.From ∷ ws) (words d rest)
     (select_says below d (codes "COUNT(*) FROM " ++ rest))
-    (step d _ (codes "(*) FROM " ++ rest) (λ ws. with_bytes word.Count (folded d (codes "COUNT")) ∷ ws) (λ ws. bare word.Open ∷ bare word.Star ∷ bare word.Close ∷ bare word.From ∷ ws) (words d rest)
+    (step d _ (codes "(*) FROM " ++ rest) (λ ws. with_text word.Count (folded d (codes "COUNT")) ∷ ws) (λ ws. bare word.Open ∷ bare word.Star ∷ bare word.Close ∷ bare word.From ∷ ws) (words d rest)
     (count_says below d (codes "*) FROM " ++ rest))
     (step d _ (codes "*) FROM " ++ rest) (λ ws. bare word.Open ∷ ws) (λ ws. bare word.Star ∷ bare word.Close ∷ bare word.From ∷ ws) (words d rest)
     (open_says below d (codes "*) FROM " ++ rest))
@@ -134,15 +132,15 @@ wanted_says below d (wanted.Columns (n ∷ ns)) rest is =
     (select_says below d _) (names_say below d n ns (codes " FROM " ++ rest) refl))
     (from_says below d rest)
 
-pub where_says_all : Below → (d : Dialect) (test : Option Test) → is_where test ≡ true → are_texts test ≡ true → Says d (where_text d test) (where_words test) []
+pub where_says_all : Below → (d : Dialect) (test : Option Test) → is_where test ≡ true → Says d (where_text d test) (where_words test) []
 unfolding text.words
-where_says_all below d None is texts = nothing (words d [])
+where_says_all below d None is = nothing (words d [])
   where
     nothing : (o : Option (List Word)) → o ≡ option_map (λ ws. ws) o
     nothing None = refl
     nothing (Some ws) = refl
-where_says_all below d (Some t) is texts =
-    let facts = where_facts t is texts in
+where_says_all below d (Some t) is =
+    let facts = where_facts t is in
     let parts = test_fact below t facts.0 in
     then d (codes " WHERE ") _ [] (λ ws. bare word.Where ∷ ws) (test_words t) (where_says below d _) (test_says below d t [] parts.1 tt)
 
@@ -151,15 +149,15 @@ unfolding text.words
 where_stops d None = tt
 where_stops d (Some t) = refl
 
-pub query_says : Below → (d : Dialect) (q : Query) → is_wanted q.wanted ≡ true → is_where q.test ≡ true → are_texts q.test ≡ true
+pub query_says : Below → (d : Dialect) (q : Query) → is_wanted q.wanted ≡ true → is_where q.test ≡ true
     → Says d (query_text d q) (λ ws. wanted_words d q.wanted (name_word q.table (where_words q.test ws))) []
 unfolding query_text
-query_says below d q is can texts =
+query_says below d q is can =
     then d (wanted_text d q.wanted ++ name_text d q.table) (where_text d q.test) [] (λ ws. wanted_words d q.wanted (name_word q.table ws)) (where_words q.test)
     (then d (wanted_text d q.wanted) (name_text d q.table) (where_text d q.test ++ []) (wanted_words d q.wanted) (name_word q.table)
     (wanted_says below d q.wanted _ is)
     (name_says below.go_on below.names d q.table (where_text d q.test ++ []) (where_stops d q.test)))
-    (where_says_all below d q.test can texts)
+    (where_says_all below d q.test can)
 
 -- and back
 
@@ -173,13 +171,17 @@ unfolding columns
 columns_again n ns rest one each = rw (separated_again IsReadName name name_word name_again n ns (bare word.From ∷ rest) one each (no_comma rest)) refl
 
 -- the table and the test after FROM
-pub where_again : (test : Option Test) → is_where test ≡ true → are_texts test ≡ true → Below → where_test (where_words test []) ≡ Some (test, [])
+pub where_again : (test : Option Test) → is_where test ≡ true → Below → where_test (where_words test []) ≡ Some (test, [])
 unfolding where_test sees after same_kind
-where_again None is texts below = refl
-where_again (Some t) is texts below =
-    let facts = where_facts t is texts in
+where_again None is below = refl
+where_again (Some t) is below =
+    let facts = where_facts t is in
     let parts = test_fact below t facts.0 in
     rw (any_test_again t [] parts.0 facts.1 facts.2 nothing_ends) refl
+
+abbrev pub wanted_names : Wanted → List (List ℕ)
+wanted_names (wanted.Columns names) = names
+wanted_names _ = []
 
 pub query_again : (d : Dialect) (w : Wanted) (table : List ℕ) (test : Option Test) → is_wanted w ≡ true → EachItem IsReadName (wanted_names w) → IsReadName table
     → where_test (where_words test []) ≡ Some (test, []) → to_end query (wanted_words d w (name_word table (where_words test []))) ≡ Some (record { wanted = w; table = table; test = test }, [])
@@ -191,16 +193,14 @@ query_again d (wanted.Columns (n ∷ ns)) table test is each one end = rw (colum
 
 pub queries_read : Below → QueriesReadBack
 unfolding query_in
-queries_read below d q can texts =
+queries_read below d q can =
     let a = and_parts (is_wanted q.wanted) (is_name q.table && is_where q.test) can in
     let b = and_parts (is_name q.table) (is_where q.test) a.1 in
-    let c = and_parts (list_all is_utf8 (q.table ∷ wanted_names q.wanted)) (are_texts q.test) texts in
-    let e = and_parts (is_utf8 q.table) (list_all is_utf8 (wanted_names q.wanted)) c.0 in
     whole_is query d (query_text d q) (wanted_words d q.wanted (name_word q.table (where_words q.test []))) [] q
-    (all_words d (query_text d q) (λ ws. wanted_words d q.wanted (name_word q.table (where_words q.test ws))) (query_says below d q a.0 b.1 c.1))
-    (query_again d q.wanted q.table q.test a.0 (each_wanted q.wanted a.0 e.1) (name_fact q.table e.0 b.0) (where_again q.test b.1 c.1 below))
+    (all_words d (query_text d q) (λ ws. wanted_words d q.wanted (name_word q.table (where_words q.test ws))) (query_says below d q a.0 b.1))
+    (query_again d q.wanted q.table q.test a.0 (each_wanted q.wanted a.0) (name_fact q.table b.0) (where_again q.test b.1 below))
   where
-    each_wanted : (w : Wanted) → is_wanted w ≡ true → list_all is_utf8 (wanted_names w) ≡ true → EachItem IsReadName (wanted_names w)
-    each_wanted wanted.All is utf8 = tt
-    each_wanted wanted.Count is utf8 = tt
-    each_wanted (wanted.Columns ns) is utf8 = each_name ns utf8 (and_parts (not (is_empty ns)) (list_all is_name ns) is).1
+    each_wanted : (w : Wanted) → is_wanted w ≡ true → EachItem IsReadName (wanted_names w)
+    each_wanted wanted.All is = tt
+    each_wanted wanted.Count is = tt
+    each_wanted (wanted.Columns ns) is = each_name ns (and_parts (not (is_empty ns)) (list_all is_name ns) is).1

@@ -8,7 +8,7 @@ use Rattle.lq_base.specs.declared.dialect.Dialect.{Dialect}
 use Rattle.lq_base.specs.declared.dialect.Dialect.TheVariants.{Postgresql, Mysql}
 use Rattle.lq_base.specs.declared.lexeme.LexemeSort.TheVariants as sort
 use Rattle.lq_model.specs.Quoting as model
-use Rattle.lq_model.specs.SqlWord.{inside, pair_text, unquoted, with_bytes, words}
+use Rattle.lq_model.specs.SqlWord.{inside, pair_text, unquoted, with_text, words}
 use Rattle.lq_model.specs.declared.word.WordKind.TheVariants as word
 use Rattle.lq_sqllex.specs.Laws.{doubled, in_quotes, IsRead, LexemesGoOn, NamesAreRead, TextsAreRead}
 use Rattle.lq_parse.proofs.Bytes.{Each, Stops, each_is, stops}
@@ -70,13 +70,13 @@ apart quote zero each [] stop = zero
 apart quote zero each (b ∷ rest) stop = each_is (λ c. (c == quote) ≡ false) stops b stop each
 
 quoted_says : LexemesGoOn → (d : Dialect) (quote : ℕ) (name rest : List ℕ) → IsRead d sort.Name quote (in_quotes false quote name) → (slice_index rest 0 == quote) ≡ false
-    → Says d (in_quotes false quote name) (λ more. with_bytes word.Quoted name ∷ more) rest
+    → Says d (in_quotes false quote name) (λ more. with_text word.Quoted name ∷ more) rest
 quoted_says go_on d quote name rest read other =
     let is = read rest other in
     lexeme_says go_on d sort.Name (in_quotes false quote name) rest (omega arith) is.0 is.1
-    ∙ ap (λ x. option_map (λ more. with_bytes word.Quoted x ∷ more) (words d rest)) (unquoted_is false quote name)
+    ∙ ap (λ x. option_map (λ more. with_text word.Quoted x ∷ more) (words d rest)) (unquoted_is false quote name)
 
-pub name_says : LexemesGoOn → NamesAreRead → (d : Dialect) (name rest : List ℕ) → Stops rest → Says d (model.name_text d name) (λ more. with_bytes word.Quoted name ∷ more) rest
+pub name_says : LexemesGoOn → NamesAreRead → (d : Dialect) (name rest : List ℕ) → Stops rest → Says d (model.name_text d name) (λ more. with_text word.Quoted name ∷ more) rest
 unfolding model.name_text Rattle.lq_model.specs.Phrase.words
 name_says go_on names Postgresql name rest stop =
     ap (λ z. words Postgresql (34 ∷ (z ++ 34 ∷ []) ++ rest)) (doubled_same false 34 (λ b. b == 34) (λ b. plain_or (b == 34)) name)
@@ -86,13 +86,13 @@ name_says go_on names Mysql name rest stop =
     ∙ quoted_says go_on Mysql 96 name rest (names Mysql 96 name refl) (apart 96 refl (refl, (refl, (refl, (refl, tt)))) rest stop)
 
 string_read : LexemesGoOn → (d : Dialect) (text rest : List ℕ) → IsRead d sort.Text 39 (in_quotes (escapes d) 39 text) → Stops rest
-    → Says d (in_quotes (escapes d) 39 text) (λ more. with_bytes word.Text text ∷ more) rest
+    → Says d (in_quotes (escapes d) 39 text) (λ more. with_text word.Text text ∷ more) rest
 string_read go_on d text rest read stop =
     let is = read rest (apart 39 refl (refl, (refl, (refl, (refl, tt)))) rest stop) in
     lexeme_says go_on d sort.Text (in_quotes (escapes d) 39 text) rest (omega arith) is.0 is.1
-    ∙ ap (λ x. option_map (λ more. with_bytes word.Text x ∷ more) (words d rest)) (unquoted_is (escapes d) 39 text)
+    ∙ ap (λ x. option_map (λ more. with_text word.Text x ∷ more) (words d rest)) (unquoted_is (escapes d) 39 text)
 
-pub string_says : LexemesGoOn → TextsAreRead → (d : Dialect) (text rest : List ℕ) → Stops rest → Says d (model.string_text d text) (λ more. with_bytes word.Text text ∷ more) rest
+pub string_says : LexemesGoOn → TextsAreRead → (d : Dialect) (text rest : List ℕ) → Stops rest → Says d (model.string_text d text) (λ more. with_text word.Text text ∷ more) rest
 unfolding model.string_text Rattle.lq_model.specs.Phrase.words
 string_says go_on texts Postgresql text rest stop =
     ap (λ z. words Postgresql (39 ∷ (z ++ 39 ∷ []) ++ rest)) (doubled_same false 39 (λ b. b == 39) (λ b. plain_or (b == 39)) text)

@@ -1,7 +1,6 @@
 -- What is printed is read as what was printed.
 use Rattle.std.proofs.Common.{◌≡◌, ◌≤◌, ℕ, true, nat_le, List, [], Some, option_map, ap, ◌∙◌, sym, refl}
 use Rattle.std.specs.List.{list_all}
-use Rattle.std.specs.Str.{is_utf8}
 use Rattle.std.proofs.lemmas.Bool.{and_parts, leb-true}
 use Rattle.std.proofs.lemmas.List.{append-nil}
 use Rattle.lq_base.specs.Name.{is_name}
@@ -17,7 +16,7 @@ use Rattle.lq_model.specs.TestText.{test_text}
 use Rattle.lq_model.specs.Truth.{test_names}
 use Rattle.lq_model.specs.declared.test.Test.{Test}
 use Rattle.lq_model.specs.declared.word.Word.{Word}
-use Rattle.lq_parse.specs.Laws.{TestsReadBack, are_texts, is_text_literal}
+use Rattle.lq_parse.specs.Laws.{TestsReadBack}
 use Rattle.lq_parse.proofs.Again.{test_words, whole_test_again}
 use Rattle.lq_parse.proofs.Fronts.{Says}
 use Rattle.lq_parse.proofs.Spoken.{Below, test_says}
@@ -34,16 +33,16 @@ all_words d bytes these says = ap (words d) (sym (append-nil bytes)) ∙ says �
 pub whole_is : {A : Type 0} (parser : Parser A) (d : Dialect) (bytes : List ℕ) (ws rest : List Word) (it : A) → words d bytes ≡ Some ws → to_end parser ws ≡ Some (it, rest) → whole parser d bytes ≡ Some it
 whole_is parser d bytes ws rest it says reads = rw (says, reads) refl
 
-pub where_facts : (t : Test) → is_where (Some t) ≡ true → are_texts (Some t) ≡ true → (Facts (test_names t) (test_literals t)) × (nat_le (levels t) 64 ≡ true) × (levels t ≤ 64)
-where_facts t can texts =
+pub where_facts : (t : Test) → is_where (Some t) ≡ true → (Facts (test_names t) (test_literals t)) × (nat_le (levels t) 64 ≡ true) × (levels t ≤ 64)
+where_facts t can =
     let names = and_parts (list_all is_name (test_names t)) (is_spelled (Some t)) can in
     let spelled = and_parts (nat_le (levels t) 64) (list_all is_literal (test_literals t)) names.1 in
-    let both = and_parts (list_all is_utf8 (test_names t)) (list_all is_text_literal (test_literals t)) texts in
-    (record { are_names = names.0; are_utf8 = both.0; are_literals = spelled.1; are_texts = both.1 }, spelled.0, leb-true (levels t) 64 spelled.0)
+    (record { are_names = names.0; are_literals = spelled.1 }, spelled.0, leb-true (levels t) 64 spelled.0)
 
 pub tests_read : Below → TestsReadBack
 unfolding test_in
-tests_read below d t can texts =
-    let facts = where_facts t can texts in
+tests_read below d t can =
+    let facts = where_facts t can in
     let parts = test_fact below t facts.0 in
-    whole_is any_test d (test_text d t) (test_words t []) [] t (all_words d (test_text d t) (test_words t) (test_says below d t [] parts.1 tt)) (whole_test_again t parts.0 facts.1 facts.2)
+    whole_is any_test d (test_text d t) (test_words t []) [] t (all_words d (test_text d t) (test_words t) (test_says below d t [] parts.1 tt))
+    (whole_test_again t parts.0 facts.1 facts.2)

@@ -53,3 +53,7 @@ pub done : (d : Dialect) (whole : Option (List Word)) (found : List Word) (text 
     → option_map (λ ws. found ++ ws) (words d text) ≡ whole → length text ≡ 0 → whole ≡ Some found
 done d whole found text so_far none =
     sym so_far ∙ ap (λ o. option_map (λ ws. found ++ ws) o) (words_empty d text none) ∙ ap (λ z. Some z) (append-nil found)
+
+pub unbegun : (found : List Word) (more : Option (List Word)) → found ≡ [] → option_map (λ ws. found ++ ws) more ≡ more
+unbegun found None none = refl
+unbegun found (Some ws) none = ap (λ z. Some (z ++ ws)) none

@@ -1,19 +1,17 @@
 -- What the laws ask of a test, part by part.
 use Rattle.std.proofs.Common.{◌≡◌, ℕ, Bool, true, List, ◌++◌, Some, ◌∙◌, sym, refl}
 use Rattle.std.specs.List.{list_all}
-use Rattle.std.specs.Str.{is_utf8}
 use Rattle.std.proofs.lemmas.Bool.{and_parts}
 use Rattle.std.proofs.lemmas.List.Folds.{list_all-append}
 use Rattle.lq_base.specs.Name.{is_name}
 use Rattle.lq_base.specs.declared.literal.Literal.{Literal}
 use Rattle.lq_base.specs.declared.literal.Literal.TheVariants as constant
 use Rattle.lq_model.specs.Spelled.{is_literal, operand_literals, test_literals}
-use Rattle.lq_model.specs.SqlPart.{name_of, text_of}
+use Rattle.lq_model.specs.SqlPart.{name_of}
 use Rattle.lq_model.specs.Truth.{Both, Either, Turned, operand_names, test_names}
 use Rattle.lq_model.specs.declared.test.Operand.{Operand}
 use Rattle.lq_model.specs.declared.test.Operand.TheVariants as side
 use Rattle.lq_model.specs.declared.test.Test.{Compare, IsNull, NotNull, Test}
-use Rattle.lq_parse.specs.Laws.{is_text_literal}
 use Rattle.lq_parse.proofs.Again.{IsLiteral, IsOperand, IsTest}
 use Rattle.lq_parse.proofs.Numbers.{fixed_number, whole_number}
 use Rattle.lq_parse.proofs.Spoken.{Below, HasLiterals, TestHasLiterals}
@@ -21,41 +19,33 @@ use Rattle.lq_parse.proofs.Spoken.{Below, HasLiterals, TestHasLiterals}
 pub all_split : {A : Type 0} (p : A → Bool) (xs ys : List A) → list_all p (xs ++ ys) ≡ true → (list_all p xs ≡ true) × (list_all p ys ≡ true)
 all_split p xs ys all = and_parts (list_all p xs) (list_all p ys) (sym (list_all-append p xs ys) ∙ all)
 
-pub name_fact : (n : List ℕ) → is_utf8 n ≡ true → is_name n ≡ true → name_of n ≡ Some n
+pub name_fact : (n : List ℕ) → is_name n ≡ true → name_of n ≡ Some n
 unfolding name_of
-name_fact n utf8 is = rw (utf8, is) refl
+name_fact n is = rw is refl
 
-pub text_fact : (t : List ℕ) → is_utf8 t ≡ true → text_of t ≡ Some t
-unfolding text_of
-text_fact t utf8 = rw utf8 refl
+pub literal_fact : Below → (l : Literal) → is_literal l ≡ true → IsLiteral l
+literal_fact below constant.Null is = tt
+literal_fact below (constant.Bool b) is = tt
+literal_fact below (constant.Text t) is = tt
+literal_fact below (constant.Int n) is = whole_number n is
+literal_fact below (constant.Fixed units scale) is = fixed_number below.fixed below.spells units scale is
 
-pub literal_fact : Below → (l : Literal) → is_literal l ≡ true → is_text_literal l ≡ true → IsLiteral l
-literal_fact below constant.Null is utf8 = tt
-literal_fact below (constant.Bool b) is utf8 = tt
-literal_fact below (constant.Text t) is utf8 = text_fact t utf8
-literal_fact below (constant.Int n) is utf8 = whole_number n is
-literal_fact below (constant.Fixed units scale) is utf8 = fixed_number below.fixed below.spells units scale is
-
--- the names are names and texts, and the literals can be written and are texts
+-- the names are names, and the literals can be written
 pub record Facts (names : List (List ℕ)) (literals : List Literal) : Type 0 where
   pub are_names : list_all is_name names ≡ true
-  pub are_utf8 : list_all is_utf8 names ≡ true
   pub are_literals : list_all is_literal literals ≡ true
-  pub are_texts : list_all is_text_literal literals ≡ true
 
 facts_split : (ns ms : List (List ℕ)) (ls ks : List Literal) → Facts (ns ++ ms) (ls ++ ks) → Facts ns ls × Facts ms ks
 facts_split ns ms ls ks it =
     let a = all_split is_name ns ms it.are_names in
-    let b = all_split is_utf8 ns ms it.are_utf8 in
-    let c = all_split is_literal ls ks it.are_literals in
-    let d = all_split is_text_literal ls ks it.are_texts in
-    (record { are_names = a.0; are_utf8 = b.0; are_literals = c.0; are_texts = d.0 }, record { are_names = a.1; are_utf8 = b.1; are_literals = c.1; are_texts = d.1 })
+    let b = all_split is_literal ls ks it.are_literals in
+    (record { are_names = a.0; are_literals = b.0 }, record { are_names = a.1; are_literals = b.1 })
 
 operand_fact : Below → (x : Operand) → Facts (operand_names x) (operand_literals x) → IsOperand x × HasLiterals x
-operand_fact below (side.Column n) it = (name_fact n (and_parts (is_utf8 n) true it.are_utf8).0 (and_parts (is_name n) true it.are_names).0, tt)
+operand_fact below (side.Column n) it = (name_fact n (and_parts (is_name n) true it.are_names).0, tt)
 operand_fact below (side.Literal l) it =
     let is = (and_parts (is_literal l) true it.are_literals).0 in
-    (literal_fact below l is (and_parts (is_text_literal l) true it.are_texts).0, is)
+    (literal_fact below l is, is)
 
 pub test_fact : Below → (t : Test) → Facts (test_names t) (test_literals t) → IsTest t × TestHasLiterals t
 test_fact below (Compare o x y) it =

@@ -1,58 +1,35 @@
 -- What holds of the meanings of SQL texts.
-use Rattle.std.specs.Prelude.{◌≡◌, ℕ, not, Bool, true, List, [], ◌∷◌, filter, ◌&&◌, Option, Some, None, codes}
-use Rattle.std.specs.List.{list_all}
-use Rattle.std.specs.Str.{is_utf8, str_eq_ignore_ascii_case}
+use Rattle.std.specs.Prelude.{◌≡◌, ℕ, not, true, List, ◌∷◌, filter, Some, codes}
+use Rattle.std.specs.Str.{str_eq_ignore_ascii_case}
 use Rattle.lq_base.specs.SqlLexeme.{is_trivia_sort, lexemes}
 use Rattle.lq_base.specs.declared.dialect.Dialect.{Dialect}
 use Rattle.lq_base.specs.declared.lexeme.LexemeSort.{LexemeSort}
-use Rattle.lq_base.specs.declared.literal.Literal.{Literal}
-use Rattle.lq_base.specs.declared.literal.Literal.TheVariants as constant
-use Rattle.lq_model.specs.Spelled.{test_literals}
 use Rattle.lq_model.specs.SqlText.{query_in, test_in}
 use Rattle.lq_model.specs.SqlPart.{name}
-use Rattle.lq_model.specs.SqlWord.{kind_of_word, may_be_name, with_bytes}
+use Rattle.lq_model.specs.SqlWord.{kind_of_word, may_be_name, with_text}
 use Rattle.lq_model.specs.Statement.{is_query, is_where}
 use Rattle.lq_model.specs.TestText.{query_text, test_text}
-use Rattle.lq_model.specs.Truth.{test_names}
 use Rattle.lq_model.specs.declared.query.Query.{Query}
-use Rattle.lq_model.specs.declared.query.Wanted.{Wanted}
-use Rattle.lq_model.specs.declared.query.Wanted.TheVariants as wanted
 use Rattle.lq_model.specs.declared.test.Test.{Test}
 use Rattle.lq_model.specs.declared.word.Word.{Word}
 use Rattle.lq_model.specs.declared.word.WordKind.{WordKind}
 use Rattle.lq_model.specs.declared.word.WordKind.TheVariants as word
 
-abbrev pub is_text_literal : Literal → Bool
-is_text_literal (constant.Text t) = is_utf8 t
-is_text_literal _ = true
-
--- names and strings are texts, as those of values always are
-abbrev pub are_texts : Option Test → Bool
-are_texts None = true
-are_texts (Some t) = list_all is_utf8 (test_names t) && list_all is_text_literal (test_literals t)
-
-abbrev pub wanted_names : Wanted → List (List ℕ)
-wanted_names (wanted.Columns names) = names
-wanted_names _ = []
-
-abbrev pub is_query_text : Query → Bool
-is_query_text q = list_all is_utf8 (q.table ∷ wanted_names q.wanted) && are_texts q.test
-
 -- a test that can be written is read from its text
 abbrev pub TestsReadBack : Type 0
-TestsReadBack = (d : Dialect) (t : Test) → is_where (Some t) ≡ true → are_texts (Some t) ≡ true → test_in d (test_text d t) ≡ Some t
+TestsReadBack = (d : Dialect) (t : Test) → is_where (Some t) ≡ true → test_in d (test_text d t) ≡ Some t
 
 -- so is a query
 abbrev pub QueriesReadBack : Type 0
-QueriesReadBack = (d : Dialect) (q : Query) → is_query q ≡ true → is_query_text q ≡ true → query_in d (query_text d q) ≡ Some q
+QueriesReadBack = (d : Dialect) (q : Query) → is_query q ≡ true → query_in d (query_text d q) ≡ Some q
 
 -- a test that is read can be written
 abbrev pub TestsCanBeWritten : Type 0
-TestsCanBeWritten = (d : Dialect) (text : List ℕ) (t : Test) → test_in d text ≡ Some t → (is_where (Some t) ≡ true) × (are_texts (Some t) ≡ true)
+TestsCanBeWritten = (d : Dialect) (text : List ℕ) (t : Test) → test_in d text ≡ Some t → is_where (Some t) ≡ true
 
 -- so can a query
 abbrev pub QueriesCanBeWritten : Type 0
-QueriesCanBeWritten = (d : Dialect) (text : List ℕ) (q : Query) → query_in d text ≡ Some q → (is_query q ≡ true) × (is_query_text q ≡ true)
+QueriesCanBeWritten = (d : Dialect) (text : List ℕ) (q : Query) → query_in d text ≡ Some q → is_query q ≡ true
 
 -- the lexemes without blanks and comments
 abbrev pub without_trivia : List (LexemeSort × List ℕ) → List (LexemeSort × List ℕ)
@@ -73,4 +50,4 @@ UnequalIsOneMark = kind_of_word word.Unknown (codes "!=") ≡ kind_of_word word.
 
 -- a word that may be a name is read as that name in quotes
 abbrev pub NamesNeedNoQuotes : Type 0
-NamesNeedNoQuotes = (kind : WordKind) (said : List ℕ) (rest : List Word) → may_be_name kind ≡ true → name (with_bytes kind said ∷ rest) ≡ name (with_bytes word.Quoted said ∷ rest)
+NamesNeedNoQuotes = (kind : WordKind) (said : List ℕ) (rest : List Word) → may_be_name kind ≡ true → name (with_text kind said ∷ rest) ≡ name (with_text word.Quoted said ∷ rest)

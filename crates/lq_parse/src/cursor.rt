@@ -53,23 +53,23 @@ impl<'a> Words<'a> {
         }
     }
 
-    fn bytes(&self) -> &'a [u8]
-        ensures { result.now ≡ spec.bytes self.now }
+    fn text(&self) -> &'a str
+        ensures { result.now ≡ spec.text self.now }
     {
         match self.rest {
-            [first, ..] => first.bytes.as_slice(),
-            [] => &[],
+            [first, ..] => first.text.as_str(),
+            [] => "",
         }
     }
 
-    /// The bytes of the next word, which is taken.
-    pub fn take(&mut self) -> &'a [u8]
-        ensures bytes { result.now ≡ spec.bytes self.old }
+    /// The text of the next word, which is taken.
+    pub fn take(&mut self) -> &'a str
+        ensures text { result.now ≡ spec.text self.old }
         ensures rest { self.new ≡ spec.next self.old }
     {
-        let bytes = self.bytes();
+        let text = self.text();
         self.skip();
-        bytes
+        text
     }
 
     #[tactic(auto, unfolding(lq_model::specs::SqlParser::sees))]

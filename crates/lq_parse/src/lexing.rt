@@ -1,14 +1,16 @@
-ghost use Rattle.std.specs.Prelude.{◌≡◌, ◌++◌, IfOk, OnOk};
+ghost use Rattle.std.specs.Prelude.{◌≡◌, [], ◌∷◌, ◌++◌, IfOk, OnOk};
+ghost use Rattle.std.specs.Str.{IsUtf8};
 ghost use Rattle.lq_base.specs.SqlByte.{escapes};
 ghost use Rattle.lq_model.specs.Reads.{Gives};
 ghost use Rattle.lq_model.specs.SqlWord as spec;
+ghost use Rattle.lq_parse.specs.Words.{AreTexts};
 
 use crate::quoted::unquoted;
 use crate::spelling::{folded, kind_of_word, may_be_name};
-use lq_base::{Dialect, Items, LexemeSort};
+use lq_base::{Dialect, Items, LexemeSort, NoMemory, Text};
 use lq_model::{ParseFault, Word, WordKind};
 use lq_sqllex::{Lexeme, lexeme_at};
-use std::alloc::{AllocError, Global};
+use std::alloc::Global;
 
 fn escapes(dialect: Dialect) -> bool
     ensures { result ≡ escapes dialect }
@@ -19,16 +21,30 @@ fn escapes(dialect: Dialect) -> bool
     }
 }
 
-fn with_bytes(kind: WordKind, bytes: Items<u8>) -> Word
-    ensures { result ≡ spec.with_bytes kind bytes }
+// Bytes that are known to be UTF-8.
+fn text_of(alloc: Global, bytes: &[u8]) -> Result<Text, NoMemory>
+    requires { IsUtf8 bytes.now }
+    ensures { IfOk result (λ text. text ≡ bytes.now) }
 {
-    Word { kind, bytes }
+    match str::from_utf8(bytes) {
+        Ok(text) => Text::new(alloc, text),
+        Err(_) => unreachable!(),
+    }
 }
 
-fn bare(alloc: Global, kind: WordKind) -> Word
-    ensures { result ≡ spec.bare kind }
+fn with_text(alloc: Global, kind: WordKind, bytes: &[u8]) -> Result<Word, NoMemory>
+    requires { IsUtf8 bytes.now }
+    ensures { IfOk result (λ it. it ≡ spec.with_text kind bytes.now) }
 {
-    with_bytes(kind, Items::new(alloc))
+    let text = text_of(alloc, bytes)?;
+    Ok(Word { kind, text })
+}
+
+fn bare(alloc: Global, kind: WordKind) -> Result<Word, NoMemory>
+    ensures { IfOk result (λ it. it ≡ spec.bare kind) }
+{
+    let text = Text::new(alloc, "")?;
+    Ok(Word { kind, text })
 }
 
 fn unquoted_word(
@@ -36,13 +52,15 @@ fn unquoted_word(
     dialect: Dialect,
     kind: WordKind,
     bytes: &[u8],
-) -> Result<Word, AllocError>
+) -> Result<Word, NoMemory>
+    requires { AreTexts (spec.unquoted_word kind (spec.folded dialect bytes.now) ∷ []) }
     ensures { IfOk result (λ it. it ≡ spec.unquoted_word kind (spec.folded dialect bytes.now)) }
 {
     if may_be_name(kind) {
-        Ok(with_bytes(kind, folded(alloc, dialect, bytes)?))
+        let name = folded(alloc, dialect, bytes)?;
+        with_text(alloc, kind, name.as_slice())
     } else {
-        Ok(bare(alloc, kind))
+        bare(alloc, kind)
     }
 }
 
@@ -53,29 +71,33 @@ fn push_word(
     sort: LexemeSort,
     bytes: &[u8],
     to: &mut Items<Word>,
-) -> Result<(), AllocError>
+) -> Result<(), NoMemory>
+    requires { AreTexts (spec.words_of dialect sort bytes.now) }
     ensures { OnOk result (to.new ≡ to.old ++ spec.words_of dialect sort bytes.now) }
 {
-    match sort {
-        LexemeSort::Blank | LexemeSort::LineComment | LexemeSort::BlockComment => Ok(()),
-        LexemeSort::Name => to.push(with_bytes(WordKind::Quoted, unquoted(alloc, false, bytes)?)),
+    let word = match sort {
+        LexemeSort::Blank | LexemeSort::LineComment | LexemeSort::BlockComment => return Ok(()),
+        LexemeSort::Name => {
+            let name = unquoted(alloc, false, bytes)?;
+            with_text(alloc, WordKind::Quoted, name.as_slice())?
+        }
         LexemeSort::Text => {
             let text = unquoted(alloc, escapes(dialect), bytes)?;
-            to.push(with_bytes(WordKind::Text, text))
+            with_text(alloc, WordKind::Text, text.as_slice())?
         }
-        LexemeSort::Number => {
-            to.push(with_bytes(WordKind::Number, Items::from_slice(alloc, bytes)?))
-        }
+        LexemeSort::Number => with_text(alloc, WordKind::Number, bytes)?,
         LexemeSort::Word => {
-            let kind = kind_of_word(WordKind::Plain, bytes);
-            to.push(unquoted_word(alloc, dialect, kind, bytes)?)
+            unquoted_word(alloc, dialect, kind_of_word(WordKind::Plain, bytes), bytes)?
         }
-        LexemeSort::Mark => to.push(bare(alloc, kind_of_word(WordKind::Unknown, bytes))),
-    }
+        LexemeSort::Mark => bare(alloc, kind_of_word(WordKind::Unknown, bytes))?,
+    };
+    to.push(word)?;
+    Ok(())
 }
 
 /// The words of a text. `NotSql` exactly where a string, quoted name or comment is not closed.
 pub fn words(alloc: Global, dialect: Dialect, text: &[u8]) -> Result<Items<Word>, ParseFault>
+    requires { IsUtf8 text.now }
     ensures { Gives (spec.words dialect text.now) result }
 {
     let mut found = Items::new(alloc);

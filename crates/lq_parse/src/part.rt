@@ -1,5 +1,4 @@
-ghost use Rattle.std.specs.Prelude.{◌≡◌, true, false, MatchOption};
-ghost use Rattle.std.specs.Str.{is_utf8};
+ghost use Rattle.std.specs.Prelude.{◌≡◌};
 ghost use Rattle.lq_model.specs.Reads.{Gives, Reads};
 ghost use Rattle.lq_model.specs.SqlPart as spec;
 
@@ -10,28 +9,15 @@ use lq_base::{Literal, Name, NameFault, Text};
 use lq_model::{ParseFault, WordKind};
 use std::alloc::Global;
 
-/// The text of these bytes, or none where they are not UTF-8.
-pub fn as_text(bytes: &[u8]) -> Option<&str>
-    ensures { MatchOption result (is_utf8 bytes.now ≡ false) (λ text. (text.now ≡ bytes.now) × (is_utf8 bytes.now ≡ true)) }
-{
-    match str::from_utf8(bytes) {
-        Ok(text) => Some(text),
-        Err(_) => None,
-    }
-}
-
-/// A name of these bytes. `NotSql` where they are no name.
+/// The name that a text is. `NotSql` where it is none.
 #[tactic(auto, unfolding(lq_model::specs::SqlPart::name_of))]
-pub fn name_of(alloc: Global, bytes: &[u8]) -> Result<Name, ParseFault>
-    ensures { Gives (spec.name_of bytes.now) result }
+pub fn name_of(alloc: Global, text: &str) -> Result<Name, ParseFault>
+    ensures { Gives (spec.name_of text.now) result }
 {
-    match as_text(bytes) {
-        Some(text) => match Name::new(alloc, text) {
-            Ok(name) => Ok(name),
-            Err(NameFault::BadName) => Err(ParseFault::NotSql),
-            Err(NameFault::OutOfMemory) => Err(ParseFault::OutOfMemory),
-        },
-        None => Err(ParseFault::NotSql),
+    match Name::new(alloc, text) {
+        Ok(name) => Ok(name),
+        Err(NameFault::BadName) => Err(ParseFault::NotSql),
+        Err(NameFault::OutOfMemory) => Err(ParseFault::OutOfMemory),
     }
 }
 
@@ -46,26 +32,10 @@ pub fn name(alloc: Global, words: &mut Words<'_>) -> Result<Name, ParseFault>
     name_of(alloc, words.take())
 }
 
-#[tactic(auto, unfolding(lq_model::specs::SqlPart::text_of))]
-fn text_of(alloc: Global, bytes: &[u8]) -> Result<Text, ParseFault>
-    ensures { Gives (spec.text_of bytes.now) result }
+fn number_literal(text: &str) -> Result<Literal, ParseFault>
+    ensures { Gives (spec.number text.now) result }
 {
-    match as_text(bytes) {
-        Some(text) => Ok(Text::new(alloc, text)?),
-        None => Err(ParseFault::NotSql),
-    }
-}
-
-fn text_literal(alloc: Global, bytes: &[u8]) -> Result<Literal, ParseFault>
-    ensures { Gives (spec.text_literal (spec.text_of bytes.now)) result }
-{
-    Ok(Literal::Text(text_of(alloc, bytes)?))
-}
-
-fn number_literal(bytes: &[u8]) -> Result<Literal, ParseFault>
-    ensures { Gives (spec.number bytes.now) result }
-{
-    match number(bytes) {
+    match number(text.as_bytes()) {
         Some(literal) => Ok(literal),
         None => Err(ParseFault::NotSql),
     }
@@ -89,7 +59,7 @@ pub fn literal(alloc: Global, words: &mut Words<'_>) -> Result<Literal, ParseFau
             words.skip();
             Ok(Literal::Bool(false))
         }
-        WordKind::Text => text_literal(alloc, words.take()),
+        WordKind::Text => Ok(Literal::Text(Text::new(alloc, words.take())?)),
         WordKind::Number => number_literal(words.take()),
         _ => Err(ParseFault::NotSql),
     }

@@ -1,6 +1,6 @@
-use crate::{parse_query, parse_test};
-use lq_base::{Dialect, NoMemory, Text};
-use lq_model::{ParseFault, Query, Test};
+use crate::{My, Pg, parse_query, parse_test};
+use lq_base::{Dialect, Name, NoMemory, Text};
+use lq_model::{ParseFault, Query, SqlText, Statement, Test};
 use lq_sql::{print_query, print_test};
 use std::alloc::Global;
 use std::process::Abort;
@@ -258,5 +258,116 @@ fn tests_have_at_most_64_levels(rt: HostRuntime) {
             !nested(&rt, rt.alloc(), opening, closing, 65),
             "65 of {opening}"
         );
+    }
+}
+
+// A text through the trait: whether it is a query, and whether it is a test.
+fn through<P: SqlText>(sql: &P, alloc: Global, text: &str) -> (bool, bool) {
+    let is_query = sql.parse_query(alloc, text).is_ok();
+    let is_test = sql.parse_test(alloc, text).is_ok();
+    (is_query, is_test)
+}
+
+#[test]
+fn each_dialect_reads_through_the_trait(rt: HostRuntime) {
+    assert_eq!(&rt;
+        through(&Pg, rt.alloc(), "SELECT * FROM \"a\""),
+        (true, false)
+    );
+    assert_eq!(&rt;
+        through(&My, rt.alloc(), "SELECT * FROM \"a\""),
+        (false, false)
+    );
+    assert_eq!(&rt; through(&Pg, rt.alloc(), "`a` = 1"), (false, false));
+    assert_eq!(&rt; through(&My, rt.alloc(), "`a` = 1"), (false, true));
+    let table = Name::new(rt.alloc(), "a").expect(&rt, "a name");
+    let printed = dropped(&rt, rt.alloc(), table);
+    assert_eq!(&rt; printed.as_str(), "DROP TABLE `a`");
+}
+
+fn dropped(rt: &impl Abort, alloc: Global, table: Name) -> Text {
+    let statement = Statement::DropTable { table };
+    My.print(alloc, &statement).expect(rt, "memory")
+}
+
+fn selects(alloc: Global, dialect: Dialect, word: &str) -> bool {
+    let mut text = String::new(alloc);
+    let _ = write!(text, "SELECT {word} FROM t");
+    parse_query(alloc, dialect, text.as_str()).is_ok()
+}
+
+#[test]
+fn reserved_words_are_no_names(rt: HostRuntime) {
+    let reserved = [
+        "ADD",
+        "ALTER",
+        "AND",
+        "AS",
+        "COLUMN",
+        "CONSTRAINT",
+        "CREATE",
+        "DEFAULT",
+        "DELETE",
+        "DROP",
+        "FALSE",
+        "FOREIGN",
+        "FROM",
+        "INSERT",
+        "INTO",
+        "IS",
+        "NOT",
+        "NULL",
+        "ON",
+        "OR",
+        "PRIMARY",
+        "REFERENCES",
+        "SELECT",
+        "SET",
+        "TABLE",
+        "TO",
+        "TRUE",
+        "UNIQUE",
+        "UPDATE",
+        "VALUES",
+        "WHERE",
+        "where",
+        "nOt",
+    ];
+    for word in reserved {
+        assert!(&rt; !selects(rt.alloc(), PG, word), "{word} in postgresql");
+        assert!(&rt; !selects(rt.alloc(), MY, word), "{word} in mysql");
+    }
+}
+
+#[test]
+fn other_words_are_names(rt: HostRuntime) {
+    let others = [
+        "ACTION",
+        "AUTO_INCREMENT",
+        "BY",
+        "CASCADE",
+        "COUNT",
+        "GENERATED",
+        "IDENTITY",
+        "INCREMENT",
+        "INDEX",
+        "KEY",
+        "MODIFY",
+        "NO",
+        "RENAME",
+        "REPLACE",
+        "RESTRICT",
+        "SEQUENCE",
+        "START",
+        "VIEW",
+        "WITH",
+        "INTEGER",
+        "varchar",
+        "wheres",
+        "_1",
+    ];
+    for word in others {
+        assert!(&rt; selects(rt.alloc(), PG, word), "{word} in postgresql");
+        assert!(&rt; selects(rt.alloc(), MY, word), "{word} in mysql");
     }
 }

@@ -1,9 +1,9 @@
-use Rattle.std.proofs.Common.{◌≡◌, ◌++◌, length, option_map}
+use Rattle.std.proofs.Common.{◌≡◌, ◌++◌, ℕ, List, length, option_map}
 use Rattle.lq_model.specs.SqlWord.{words}
 use Rattle.lq_parse.proofs.lexing.words.Given as goal
 
 abbrev pub invariant-loop-rest : goal.invariant-loop-rest
-invariant-loop-rest l = option_map (λ more. l.found ++ more) (words l.dialect l.rest) ≡ words l.dialect l.text
+invariant-loop-rest l = (option_map (λ more. l.found ++ more) (words l.dialect l.rest) ≡ words l.dialect l.text) × ((front : List ℕ) × (l.text ≡ front ++ l.rest))
 
 abbrev pub decreases-loop-rest : goal.decreases-loop-rest
 decreases-loop-rest l = length l.rest
