@@ -1,13 +1,11 @@
--- Texts of ASCII are texts, and so names where they have a name's bytes.
+-- Texts of ASCII are texts, which are not cut where they are short.
 use Rattle.std.specs.Prelude.{◌≡◌, ◌<◌, ℕ, zero, suc, nat_lt, nat_le, take, length, true, false, ◌&&◌, Bool, List, [], ◌∷◌, Some, slice_index, refl}
 use Rattle.std.specs.List.{list_all}
 use Rattle.std.specs.Str.{is_utf8, IsUtf8, IsAscii}
 use Rattle.std.proofs.Common.{arith, ap, ◌∙◌, sym}
 use Rattle.std.proofs.lemmas.Str.{is_utf8-from_IsUtf8, IsUtf8-from_ascii}
 use Rattle.std.proofs.lemmas.List.{take_all}
-use Rattle.lq_base.specs.Name.{is_name}
 use Rattle.lq_model.specs.DefaultName.{cut}
-use Rattle.lq_model.specs.SqlPart.{name_of, text_of}
 
 abbrev pub is_plain : List ℕ → Bool
 is_plain bytes = list_all (λ b. nat_lt b 128) bytes
@@ -26,14 +24,6 @@ ascii_plain (b ∷ bytes) h (suc i) = ascii_plain bytes (both_true (nat_lt b 128
 
 pub plain_utf8 : (bytes : List ℕ) → is_plain bytes ≡ true → is_utf8 bytes ≡ true
 plain_utf8 bytes h = is_utf8-from_IsUtf8 bytes (IsUtf8-from_ascii bytes (ascii_plain bytes h))
-
-pub plain_name : (bytes : List ℕ) → is_plain bytes ≡ true → is_name bytes ≡ true → name_of bytes ≡ Some bytes
-unfolding name_of
-plain_name bytes h g = rw (plain_utf8 bytes h, g) refl
-
-pub plain_text : (bytes : List ℕ) → is_plain bytes ≡ true → text_of bytes ≡ Some bytes
-unfolding text_of
-plain_text bytes h = rw (plain_utf8 bytes h) refl
 
 pub plain_cut : (bytes : List ℕ) → is_plain bytes ≡ true → nat_le (length bytes) 63 ≡ true → cut 63 bytes ≡ bytes
 unfolding cut

@@ -8,7 +8,6 @@ pub mod list;
 mod number;
 pub mod parse;
 pub mod part;
-mod profile;
 pub mod query;
 mod quoted;
 mod spelling;
@@ -17,4 +16,3 @@ pub mod test;
 mod tests;
 
 pub use parse::{parse_query, parse_test};
-pub use profile::{My, Pg};

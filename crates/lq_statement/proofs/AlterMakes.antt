@@ -1,6 +1,5 @@
 -- What ALTER gives is a statement of the dialect.
 use Rattle.std.proofs.Common.{◌≡◌, ℕ, Bool, true, false, ◌&&◌, if◌then◌else◌, List, [], Option, Some, None, refl}
-use Rattle.std.specs.Str.{is_utf8}
 use Rattle.std.proofs.lemmas.Bool.{and_from}
 use Rattle.lq_base.specs.Laws.{NumberOfSpells}
 use Rattle.lq_base.specs.Name.{is_name}
@@ -30,22 +29,22 @@ new_makes = makes_after IsNameText (expect word.To) _ (λ a. name_makes)
 
 -- two names
 
-two : (t n : List ℕ) → IsNameText t → IsNameText n → ((is_name t && is_name n) ≡ true) × ((is_utf8 t && is_utf8 n) ≡ true)
-two t n h g = (and_from (is_name t) (is_name n) h.1 g.1, and_from (is_utf8 t) (is_utf8 n) h.0 g.0)
+two : (t n : List ℕ) → IsNameText t → IsNameText n → (is_name t && is_name n) ≡ true
+two t n h g = and_from (is_name t) (is_name n) h g
 
 -- ADD
 
 added_is : (d : Dialect) (t : List ℕ) (it : TableConstraint) → IsNameText t → IsConstraint d it → Is d (constraint_added t it)
-added_is d t (constraint.Key k) h g = join (h.1, h.0) g
-added_is d t (constraint.Unique u) h g = join (h.1, h.0) g
-added_is d t (constraint.Foreign f) h g = join (h.1, h.0) g
+added_is d t (constraint.Key k) h g = join h g
+added_is d t (constraint.Unique u) h g = join h g
+added_is d t (constraint.Foreign f) h g = join h g
 
 add_makes : NumberOfSpells → (d : Dialect) (t : List ℕ) → IsNameText t → Makes (Is d) (add d t)
 unfolding add add_column add_constraint
 add_makes spells d t h =
     makes_after (Is d) peek _ (λ found. makes_if (Is d) (begins_constraint found) _ _
     (makes_then (IsConstraint d) (Is d) (table_constraint d t) _ (constraint_makes d t) (λ it g. makes_pure (Is d) (constraint_added t it) (added_is d t it h g)))
-    (makes_after (Is d) (eat word.Column) _ (λ a. makes_then IsDef (Is d) (added_column d) _ (added_makes spells d) (λ column g. makes_pure (Is d) (AddColumn t column) (join (h.1, h.0) g)))))
+    (makes_after (Is d) (eat word.Column) _ (λ a. makes_then IsDef (Is d) (added_column d) _ (added_makes spells d) (λ column g. makes_pure (Is d) (AddColumn t column) (join h g)))))
 
 -- DROP
 
@@ -56,7 +55,7 @@ drop_part_makes d t h = makes_after (Is d) peek (drop_part_by d t) (by d)
     by : (d : Dialect) (k : WordKind) → Makes (Is d) (drop_part_by d t k)
     by d word.Column = makes_after (Is d) skip _ (λ a. makes_then IsNameText (Is d) name _ name_makes (λ n g. makes_pure (Is d) (DropColumn t n) (two t n h g)))
     by Postgresql word.Constraint = makes_after (Is Postgresql) skip _ (λ a. makes_then IsNameText (Is Postgresql) name _ name_makes (λ n g. makes_pure (Is Postgresql) (DropConstraint t n) (two t n h g)))
-    by Mysql word.Primary = makes_after (Is Mysql) skip _ (λ a. makes_after (Is Mysql) (expect word.Key) _ (λ b. makes_pure (Is Mysql) (DropPrimaryKey t) (h.1, h.0)))
+    by Mysql word.Primary = makes_after (Is Mysql) skip _ (λ a. makes_after (Is Mysql) (expect word.Key) _ (λ b. makes_pure (Is Mysql) (DropPrimaryKey t) h))
     by Mysql word.Index = makes_after (Is Mysql) skip _ (λ a. makes_then IsNameText (Is Mysql) name _ name_makes (λ n g. makes_pure (Is Mysql) (DropUnique t n) (two t n h g)))
     by Mysql word.Foreign = makes_after (Is Mysql) skip _ (λ a. makes_after (Is Mysql) (expect word.Key) _ (λ b. makes_then IsNameText (Is Mysql) name _ name_makes (λ n g. makes_pure (Is Mysql) (DropForeignKey t n) (two t n h g))))
     by d _ = makes_refuse (Is d)
@@ -69,7 +68,7 @@ set_makes spells d t n h g = makes_after (Is d) peek (set_by d t n) (by d)
   where
     by : (d : Dialect) (k : WordKind) → Makes (Is d) (set_by d t n k)
     by Postgresql word.Not = makes_after (Is Postgresql) skip _ (λ a. makes_after (Is Postgresql) (expect word.Null) _ (λ b. makes_pure (Is Postgresql) (SetNotNull t n) (two t n h g)))
-    by d word.Default = makes_after (Is d) skip _ (λ a. makes_then IsLiteralText (Is d) literal _ (literals spells) (λ l k. makes_pure (Is d) (SetDefault t n l) (join (h.1, h.0) (join (g.1, g.0) k))))
+    by d word.Default = makes_after (Is d) skip _ (λ a. makes_then IsLiteralText (Is d) literal _ (literals spells) (λ l k. makes_pure (Is d) (SetDefault t n l) (join h (join g k))))
     by d _ = makes_refuse (Is d)
 
 unset_makes : (d : Dialect) (t n : List ℕ) → IsNameText t → IsNameText n → Makes (Is d) (unset_part d t n)
@@ -101,7 +100,7 @@ rename_makes : (d : Dialect) (t : List ℕ) → IsNameText t → Makes (Is d) (r
 unfolding rename_part rename_column
 rename_makes d t h =
     makes_after (Is d) (eat word.Column) _ (λ column. makes_if (Is d) column _ _
-    (makes_then IsNameText (Is d) name _ name_makes (λ n g. makes_then IsNameText (Is d) new_name _ new_makes (λ to k. makes_pure (Is d) (RenameColumn t n to) (join (h.1, h.0) (two n to g k)))))
+    (makes_then IsNameText (Is d) name _ name_makes (λ n g. makes_then IsNameText (Is d) new_name _ new_makes (λ to k. makes_pure (Is d) (RenameColumn t n to) (join h (two n to g k)))))
     (rename_table_makes d t h))
 
 pub rename_table_statement : (d : Dialect) → Makes (Is d) rename_table
@@ -114,7 +113,7 @@ modify_makes : (t : List ℕ) → IsNameText t → Makes (Is Mysql) (modify t)
 unfolding modify
 modify_makes t h =
     makes_then IsNameText (Is Mysql) name _ name_makes (λ n g. makes_then IsKind (Is Mysql) column_kind _ kind_makes (λ k is. makes_after (Is Mysql) (eat word.Not) _ (λ required. makes_after (Is Mysql) (expect word.Null) _ (λ a.
-    makes_pure (Is Mysql) (Modify t n k (if required then false else true)) (and_from (is_name t) _ h.1 (and_from (is_name n) _ g.1 is), (two t n h g).1)))))
+    makes_pure (Is Mysql) (Modify t n k (if required then false else true)) (and_from (is_name t) _ h (and_from (is_name n) _ g is))))))
 
 alter_table_makes : NumberOfSpells → (d : Dialect) → Makes (Is d) (alter_table d)
 unfolding alter_table

@@ -1,7 +1,5 @@
 -- The columns that are read are those of a statement.
 use Rattle.std.proofs.Common.{◌≡◌, ℕ, Bool, true, false, ◌&&◌, ◌||◌, if◌then◌else◌, List, [], ◌∷◌, Option, Some, None, is_some, IfSome, refl}
-use Rattle.std.specs.List.{list_all}
-use Rattle.std.specs.Str.{is_utf8}
 use Rattle.std.proofs.lemmas.Bool.{and_from}
 use Rattle.lq_base.specs.Kind.{decimal_kind, is_kind, plain_kind, sized_kind}
 use Rattle.lq_base.specs.Laws.{NumberOfSpells}
@@ -25,7 +23,6 @@ use Rattle.lq_model.specs.declared.word.WordKind.{WordKind}
 use Rattle.lq_model.specs.declared.word.WordKind.TheVariants as word
 use Rattle.lq_parse.proofs.CanWrite.{literals}
 use Rattle.lq_parse.proofs.Makes.{IsLiteralText, IsNameText, Makes, makes_after, makes_given, makes_if, makes_pure, makes_refuse, makes_then, name_makes, name_of_makes}
-use Rattle.lq_statement.specs.Laws.{is_column_text}
 use Rattle.lq_statement.proofs.ConstraintMakes.{IsForeignText, IsKeyName, IsKeyText, IsUniqueText, foreign_is, key_is, key_name_is, unique_is}
 use Rattle.lq_statement.proofs.KindMakes.{IsKind, kind_makes}
 use Rattle.lq_statement.proofs.Parts.{join}
@@ -88,14 +85,14 @@ stated_makes spells d =
     makes_then IsNameText IsStated name _ name_makes (λ n h. makes_then IsKind IsStated column_kind _ kind_makes (λ k g. clauses_make spells d _ (record { name = h; kind = g; default = tt; target = tt })))
 
 abbrev pub IsDef : ColumnDef → Type 0
-IsDef c = (is_column_def c ≡ true) × (is_column_text c ≡ true)
+IsDef c = is_column_def c ≡ true
 
 pub column_is : (c : StatedColumn) → IsStated c → IsDef (column_of c)
 column_is c is = by c.default is.default
   where
     by : (default : Option Literal) → IfSome default IsLiteralText → IsDef (record { name = c.name; kind = c.kind; nullable = (column_of c).nullable; default = default; numbered = c.numbered })
-    by None h = join (is.name.1, is.name.0) (and_from (is_kind c.kind) _ is.kind refl, refl)
-    by (Some l) h = join (is.name.1, is.name.0) (and_from (is_kind c.kind) _ is.kind h.0, h.1)
+    by None h = join is.name (and_from (is_kind c.kind) _ is.kind refl)
+    by (Some l) h = join is.name (and_from (is_kind c.kind) _ is.kind h)
 
 pub added_makes : NumberOfSpells → (d : Dialect) → Makes IsDef (added_column d)
 unfolding added_column

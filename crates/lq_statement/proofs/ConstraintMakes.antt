@@ -1,8 +1,6 @@
 -- The constraints that are read are those of a statement.
 use Rattle.std.proofs.Common.{◌≡◌, ℕ, Bool, true, ◌&&◌, if◌then◌else◌, List, [], ◌∷◌, Option, Some, None, IfSome, refl}
-use Rattle.std.specs.List.{list_all}
-use Rattle.std.specs.Str.{is_utf8}
-use Rattle.std.proofs.lemmas.Bool.{and_from, and_parts}
+use Rattle.std.proofs.lemmas.Bool.{and_from}
 use Rattle.lq_base.specs.Name.{is_name}
 use Rattle.lq_base.specs.declared.dialect.Dialect.{Dialect}
 use Rattle.lq_base.specs.declared.dialect.Dialect.TheVariants.{Postgresql, Mysql}
@@ -20,20 +18,19 @@ use Rattle.lq_model.specs.declared.table_item.TableConstraint.TheVariants as con
 use Rattle.lq_model.specs.declared.word.WordKind.{WordKind}
 use Rattle.lq_model.specs.declared.word.WordKind.TheVariants as word
 use Rattle.lq_parse.proofs.Makes.{AllSo, IsNameText, Makes, SomeSo, if_some, makes_after, makes_given, makes_if, makes_pure, makes_refuse, makes_then, name_makes, name_of_makes}
-use Rattle.lq_statement.specs.Laws.{is_foreign_text, is_key_text, is_unique_text}
-use Rattle.lq_statement.proofs.Parts.{enclosed_makes, join, names_list}
+use Rattle.lq_statement.proofs.Parts.{enclosed_makes, names_list}
 
 abbrev pub IsKeyName : Dialect → List ℕ → Type 0
 IsKeyName d n = IsNameText n × (is_key_name d n ≡ true)
 
 abbrev pub IsKeyText : Dialect → Key → Type 0
-IsKeyText d k = (is_key d k ≡ true) × (is_key_text k ≡ true)
+IsKeyText d k = is_key d k ≡ true
 
 abbrev pub IsUniqueText : Unique → Type 0
-IsUniqueText u = (is_unique u ≡ true) × (is_unique_text u ≡ true)
+IsUniqueText u = is_unique u ≡ true
 
 abbrev pub IsForeignText : ForeignKey → Type 0
-IsForeignText f = (is_foreign f ≡ true) × (is_foreign_text f ≡ true)
+IsForeignText f = is_foreign f ≡ true
 
 abbrev pub IsConstraint : Dialect → TableConstraint → Type 0
 IsConstraint d (constraint.Key k) = IsKeyText d k
@@ -51,8 +48,8 @@ name_or_makes other (Some n) h = makes_pure IsNameText n h
 
 pub key_name_is : (d : Dialect) (table : List ℕ) → IfSome (name_of (key_name d table)) (IsKeyName d)
 unfolding name_of key_name
-key_name_is Postgresql table = if_some (IsKeyName Postgresql) _ _ (λ is. (and_parts (is_utf8 (key_name Postgresql table)) (is_name (key_name Postgresql table)) is, refl))
-key_name_is Mysql table = if_some (IsKeyName Mysql) (is_utf8 primary && is_name primary) primary (λ is. (and_parts (is_utf8 primary) (is_name primary) is, refl))
+key_name_is Postgresql table = if_some (IsKeyName Postgresql) (is_name (key_name Postgresql table)) (key_name Postgresql table) (λ is. (is, refl))
+key_name_is Mysql table = if_some (IsKeyName Mysql) (is_name primary) primary (λ is. (is, refl))
 
 key_name_makes : (d : Dialect) (table : List ℕ) (stated : Option (List ℕ)) → MayBeName stated → Makes (IsKeyName d) (key_name_or d table stated)
 key_name_makes Postgresql table None h = makes_given (IsKeyName Postgresql) (name_of (key_name Postgresql table)) (key_name_is Postgresql table)
@@ -62,22 +59,14 @@ key_name_makes Mysql table stated h = makes_given (IsKeyName Mysql) (name_of (ke
 -- constraints
 
 pub key_is : (d : Dialect) (n : List ℕ) (columns : List (List ℕ)) → IsKeyName d n → SomeSo IsNameText columns → IsKeyText d (record { name = n; columns = columns })
-key_is d n columns h so =
-    let names = names_list columns so in
-    (and_from (is_name n) _ h.0.1 (and_from (is_key_name d n) (is_name_list columns) h.1 names.0), and_from (is_utf8 n) (list_all is_utf8 columns) h.0.0 names.1)
+key_is d n columns h so = and_from (is_name n) _ h.0 (and_from (is_key_name d n) (is_name_list columns) h.1 (names_list columns so))
 
 pub unique_is : (n : List ℕ) (columns : List (List ℕ)) → IsNameText n → SomeSo IsNameText columns → IsUniqueText (record { name = n; columns = columns })
-unique_is n columns h so =
-    let names = names_list columns so in
-    (and_from (is_name n) (is_name_list columns) h.1 names.0, and_from (is_utf8 n) (list_all is_utf8 columns) h.0 names.1)
+unique_is n columns h so = and_from (is_name n) (is_name_list columns) h (names_list columns so)
 
 pub foreign_is : (n table : List ℕ) (columns targets : List (List ℕ)) (cascade : Bool) → IsNameText n → SomeSo IsNameText columns → IsNameText table → SomeSo IsNameText targets
     → IsForeignText (record { name = n; columns = columns; table = table; targets = targets; cascade = cascade })
-foreign_is n table columns targets cascade h so g more =
-    let names = names_list columns so in
-    let others = names_list targets more in
-    (and_from (is_name n) _ h.1 (and_from (is_name_list columns) _ names.0 (and_from (is_name table) (is_name_list targets) g.1 others.0)),
-     and_from (is_utf8 n) _ h.0 (and_from (list_all is_utf8 columns) _ names.1 (and_from (is_utf8 table) (list_all is_utf8 targets) g.0 others.1)))
+foreign_is n table columns targets cascade h so g more = and_from (is_name n) _ h (and_from (is_name_list columns) _ (names_list columns so) (and_from (is_name table) (is_name_list targets) g (names_list targets more)))
 
 key_makes : (d : Dialect) (table : List ℕ) (stated : Option (List ℕ)) → MayBeName stated → Makes (IsKeyText d) (key d table stated)
 unfolding key

@@ -1,7 +1,5 @@
 -- What DROP gives is a statement of the dialect.
 use Rattle.std.proofs.Common.{◌≡◌, Bool, true, ◌&&◌, List, [], Option, Some, None, refl}
-use Rattle.std.specs.List.{list_all}
-use Rattle.std.specs.Str.{is_utf8}
 use Rattle.std.proofs.lemmas.Bool.{and_from}
 use Rattle.lq_base.specs.Name.{is_name}
 use Rattle.lq_base.specs.declared.dialect.Dialect.{Dialect}
@@ -16,23 +14,22 @@ use Rattle.lq_model.specs.declared.statement.Statement.TheVariants.{DropIndex, D
 use Rattle.lq_model.specs.declared.word.WordKind.{WordKind}
 use Rattle.lq_model.specs.declared.word.WordKind.TheVariants as word
 use Rattle.lq_parse.proofs.Makes.{IsNameText, Makes, makes_after, makes_pure, makes_refuse, makes_then, name_makes}
-use Rattle.lq_statement.specs.Laws.{is_statement_text}
 use Rattle.lq_statement.proofs.Parts.{Is, join}
 
 drop_index_makes : (d : Dialect) → Makes (Is d) (drop_index d)
 unfolding drop_index
-drop_index_makes Postgresql = makes_then IsNameText (Is Postgresql) name _ name_makes (λ n h. makes_pure (Is Postgresql) (DropIndex n None) (join (h.1, h.0) (refl, refl)))
+drop_index_makes Postgresql = makes_then IsNameText (Is Postgresql) name _ name_makes (λ n h. makes_pure (Is Postgresql) (DropIndex n None) (join h refl))
 drop_index_makes Mysql =
     makes_then IsNameText (Is Mysql) name _ name_makes (λ n h. makes_after (Is Mysql) (expect word.On) _ (λ on. makes_then IsNameText (Is Mysql) name _ name_makes (λ t g.
-    makes_pure (Is Mysql) (DropIndex n (Some t)) (join (h.1, h.0) (g.1, and_from _ _ g.0 refl)))))
+    makes_pure (Is Mysql) (DropIndex n (Some t)) (join h g))))
 
 pub drop_makes : (d : Dialect) → Makes (Is d) (drop_object d)
 unfolding drop_object
 drop_makes d = makes_after (Is d) peek (drop_object_by d) (by d)
   where
     by : (d : Dialect) (k : WordKind) → Makes (Is d) (drop_object_by d k)
-    by d word.Table = makes_after (Is d) skip _ (λ it. makes_then IsNameText (Is d) name _ name_makes (λ t h. makes_pure (Is d) (DropTable t) (h.1, h.0)))
+    by d word.Table = makes_after (Is d) skip _ (λ it. makes_then IsNameText (Is d) name _ name_makes (λ t h. makes_pure (Is d) (DropTable t) h))
     by d word.Index = makes_after (Is d) skip _ (λ it. drop_index_makes d)
-    by d word.View = makes_after (Is d) skip _ (λ it. makes_then IsNameText (Is d) name _ name_makes (λ v h. makes_pure (Is d) (DropView v) (h.1, h.0)))
-    by Postgresql word.Sequence = makes_after (Is Postgresql) skip _ (λ it. makes_then IsNameText (Is Postgresql) name _ name_makes (λ s h. makes_pure (Is Postgresql) (DropSequence s) (h.1, h.0)))
+    by d word.View = makes_after (Is d) skip _ (λ it. makes_then IsNameText (Is d) name _ name_makes (λ v h. makes_pure (Is d) (DropView v) h))
+    by Postgresql word.Sequence = makes_after (Is Postgresql) skip _ (λ it. makes_then IsNameText (Is Postgresql) name _ name_makes (λ s h. makes_pure (Is Postgresql) (DropSequence s) h))
     by d _ = makes_refuse (Is d)

@@ -13,7 +13,6 @@ use Rattle.lq_model.specs.SqlWord.{bare}
 use Rattle.lq_model.specs.TestText.{listed, literal_text, names_text}
 use Rattle.lq_model.specs.declared.word.Word.{Word}
 use Rattle.lq_model.specs.declared.word.WordKind.TheVariants as word
-use Rattle.lq_parse.specs.Laws.{is_text_literal}
 use Rattle.lq_parse.proofs.Again.{IsLiteral, literal_again, literal_words}
 use Rattle.lq_parse.proofs.Lists.{EachItem, IsAgain, listed_says, separated_again, tail_words}
 use Rattle.lq_parse.proofs.QueryAgain.{IsReadName, name_again, name_word, names_say, names_words}
@@ -61,12 +60,11 @@ pub each_stands : (ls : List Literal) → list_all is_literal ls ≡ true → Ea
 each_stands [] all = tt
 each_stands (l ∷ ls) all = let both = and_parts (is_literal l) (list_all is_literal ls) all in (both.0, each_stands ls both.1)
 
-pub each_literal : Below → (ls : List Literal) → list_all is_literal ls ≡ true → list_all is_text_literal ls ≡ true → EachItem IsLiteral ls
-each_literal below [] all texts = tt
-each_literal below (l ∷ ls) all texts =
-    let a = and_parts (is_literal l) (list_all is_literal ls) all in
-    let b = and_parts (is_text_literal l) (list_all is_text_literal ls) texts in
-    (literal_fact below l a.0 b.0, each_literal below ls a.1 b.1)
+pub each_literal : Below → (ls : List Literal) → list_all is_literal ls ≡ true → EachItem IsLiteral ls
+each_literal below [] all = tt
+each_literal below (l ∷ ls) all =
+    let both = and_parts (is_literal l) (list_all is_literal ls) all in
+    (literal_fact below l both.0, each_literal below ls both.1)
 
 abbrev pub literal_said : Below → (d : Dialect) (l : Literal) → is_literal l ≡ true → Closed d (literal_text d l)
 literal_said below d l is = record { these = literal_words l; is = λ rest stop. literal_says below d l rest is stop }

@@ -10,7 +10,7 @@ use Rattle.lq_model.specs.SqlParser.{after, ended, expect, same_kind, sees, to_e
 use Rattle.lq_model.specs.SqlPart.{name, name_of}
 use Rattle.lq_model.specs.SqlStatement.{statement}
 use Rattle.lq_model.specs.SqlText.{statement_in}
-use Rattle.lq_model.specs.SqlWord.{kind_of_word, with_bytes}
+use Rattle.lq_model.specs.SqlWord.{kind_of_word, with_text}
 use Rattle.lq_model.specs.StatementText.{text_of}
 use Rattle.lq_model.specs.declared.phrase.Phrase.TheVariants as phrase
 use Rattle.lq_model.specs.declared.statement.Statement.{Statement}

@@ -1,7 +1,6 @@
 -- What the laws of statements ask of their parts.
 use Rattle.std.proofs.Common.{◌≡◌, ℕ, Bool, true, ◌&&◌, List, [], ◌∷◌, Option, Some, None, IfSome}
 use Rattle.std.specs.List.{list_all}
-use Rattle.std.specs.Str.{is_utf8}
 use Rattle.std.proofs.lemmas.Bool.{and_from}
 use Rattle.lq_base.specs.declared.dialect.Dialect.{Dialect}
 use Rattle.lq_model.specs.SqlParser.{Parser, enclosed, expect, separated}
@@ -10,14 +9,13 @@ use Rattle.lq_model.specs.declared.statement.Statement.{Statement}
 use Rattle.lq_model.specs.declared.word.WordKind.TheVariants as word
 use Rattle.lq_parse.proofs.CanWrite.{names_are}
 use Rattle.lq_parse.proofs.Makes.{AllSo, IsNameText, Makes, SomeSo, makes_after, makes_pure, makes_then, separated_makes}
-use Rattle.lq_statement.specs.Laws.{is_statement_text}
 
--- a statement of the dialect, whose names and strings are texts
+-- a statement of the dialect
 abbrev pub Is : Dialect → Statement → Type 0
-Is d s = (is_statement d s ≡ true) × (is_statement_text s ≡ true)
+Is d s = is_statement d s ≡ true
 
-pub join : {a b x y : Bool} → (a ≡ true) × (b ≡ true) → (x ≡ true) × (y ≡ true) → ((a && x) ≡ true) × ((b && y) ≡ true)
-join {a} {b} {x} {y} h g = (and_from a x h.0 g.0, and_from b y h.1 g.1)
+pub join : {a x : Bool} → a ≡ true → x ≡ true → (a && x) ≡ true
+join {a} {x} h g = and_from a x h g
 
 -- lists in parentheses
 
@@ -39,6 +37,6 @@ pub some_all : {A : Type 0} (P : A → Type 0) (p : Parser (List A)) → Makes (
 some_all P p h = makes_more (SomeSo P) (AllSo P) p (each_so P) h
 
 -- a list of names
-pub names_list : (ns : List (List ℕ)) → SomeSo IsNameText ns → (is_name_list ns ≡ true) × (list_all is_utf8 ns ≡ true)
+pub names_list : (ns : List (List ℕ)) → SomeSo IsNameText ns → is_name_list ns ≡ true
 names_list [] so = absurd so
 names_list (n ∷ ns) so = names_are (n ∷ ns) so

@@ -3,7 +3,7 @@ use Rattle.std.proofs.Common.{◌≡◌, ℕ, List, [], ◌∷◌, ◌++◌, opt
 use Rattle.std.specs.Prelude.{codes}
 use Rattle.lq_base.specs.declared.dialect.Dialect.{Dialect}
 use Rattle.lq_model.specs.Phrase as text
-use Rattle.lq_model.specs.SqlWord.{bare, folded, kind_of_word, with_bytes, words}
+use Rattle.lq_model.specs.SqlWord.{bare, folded, kind_of_word, with_text, words}
 use Rattle.lq_model.specs.declared.phrase.Phrase.TheVariants as phrase
 use Rattle.lq_model.specs.declared.word.WordKind.TheVariants as word
 use Rattle.lq_parse.proofs.Fronts.{blank_says}
@@ -28,47 +28,47 @@ alter_table below d = record { these = λ ws. bare word.Alter ∷ bare word.Tabl
 
 abbrev pub rename_table : Below → (d : Dialect) → Open d (text.words phrase.RenameTable)
 unfolding text.words kind_of_word
-rename_table below d = record { these = λ ws. with_bytes word.Rename (folded d (codes "RENAME")) ∷ bare word.Table ∷ ws; is = λ rest. spaced_says below.go_on d (codes "RENAME" ∷ codes "TABLE" ∷ []) rest refl }
+rename_table below d = record { these = λ ws. with_text word.Rename (folded d (codes "RENAME")) ∷ bare word.Table ∷ ws; is = λ rest. spaced_says below.go_on d (codes "RENAME" ∷ codes "TABLE" ∷ []) rest refl }
 
 abbrev pub create_index : Below → (d : Dialect) → Open d (text.words phrase.CreateIndex)
 unfolding text.words kind_of_word
-create_index below d = record { these = λ ws. bare word.Create ∷ with_bytes word.Index (folded d (codes "INDEX")) ∷ ws; is = λ rest. spaced_says below.go_on d (codes "CREATE" ∷ codes "INDEX" ∷ []) rest refl }
+create_index below d = record { these = λ ws. bare word.Create ∷ with_text word.Index (folded d (codes "INDEX")) ∷ ws; is = λ rest. spaced_says below.go_on d (codes "CREATE" ∷ codes "INDEX" ∷ []) rest refl }
 
 abbrev pub create_unique_index : Below → (d : Dialect) → Open d (text.words phrase.CreateUniqueIndex)
 unfolding text.words kind_of_word
-create_unique_index below d = record { these = λ ws. bare word.Create ∷ bare word.Unique ∷ with_bytes word.Index (folded d (codes "INDEX")) ∷ ws; is = λ rest. spaced_says below.go_on d (codes "CREATE" ∷ codes "UNIQUE" ∷ codes "INDEX" ∷ []) rest refl }
+create_unique_index below d = record { these = λ ws. bare word.Create ∷ bare word.Unique ∷ with_text word.Index (folded d (codes "INDEX")) ∷ ws; is = λ rest. spaced_says below.go_on d (codes "CREATE" ∷ codes "UNIQUE" ∷ codes "INDEX" ∷ []) rest refl }
 
 abbrev pub drop_index : Below → (d : Dialect) → Open d (text.words phrase.DropIndex)
 unfolding text.words kind_of_word
-drop_index below d = record { these = λ ws. bare word.Drop ∷ with_bytes word.Index (folded d (codes "INDEX")) ∷ ws; is = λ rest. spaced_says below.go_on d (codes "DROP" ∷ codes "INDEX" ∷ []) rest refl }
+drop_index below d = record { these = λ ws. bare word.Drop ∷ with_text word.Index (folded d (codes "INDEX")) ∷ ws; is = λ rest. spaced_says below.go_on d (codes "DROP" ∷ codes "INDEX" ∷ []) rest refl }
 
 abbrev pub create_view : Below → (d : Dialect) → Open d (text.words phrase.CreateView)
 unfolding text.words kind_of_word
-create_view below d = record { these = λ ws. bare word.Create ∷ with_bytes word.View (folded d (codes "VIEW")) ∷ ws; is = λ rest. spaced_says below.go_on d (codes "CREATE" ∷ codes "VIEW" ∷ []) rest refl }
+create_view below d = record { these = λ ws. bare word.Create ∷ with_text word.View (folded d (codes "VIEW")) ∷ ws; is = λ rest. spaced_says below.go_on d (codes "CREATE" ∷ codes "VIEW" ∷ []) rest refl }
 
 abbrev pub create_or_replace_view : Below → (d : Dialect) → Open d (text.words phrase.CreateOrReplaceView)
 unfolding text.words kind_of_word
-create_or_replace_view below d = record { these = λ ws. bare word.Create ∷ bare word.Or ∷ with_bytes word.Replace (folded d (codes "REPLACE")) ∷ with_bytes word.View (folded d (codes "VIEW")) ∷ ws; is = λ rest. spaced_says below.go_on d (codes "CREATE" ∷ codes "OR" ∷ codes "REPLACE" ∷ codes "VIEW" ∷ []) rest refl }
+create_or_replace_view below d = record { these = λ ws. bare word.Create ∷ bare word.Or ∷ with_text word.Replace (folded d (codes "REPLACE")) ∷ with_text word.View (folded d (codes "VIEW")) ∷ ws; is = λ rest. spaced_says below.go_on d (codes "CREATE" ∷ codes "OR" ∷ codes "REPLACE" ∷ codes "VIEW" ∷ []) rest refl }
 
 abbrev pub drop_view : Below → (d : Dialect) → Open d (text.words phrase.DropView)
 unfolding text.words kind_of_word
-drop_view below d = record { these = λ ws. bare word.Drop ∷ with_bytes word.View (folded d (codes "VIEW")) ∷ ws; is = λ rest. spaced_says below.go_on d (codes "DROP" ∷ codes "VIEW" ∷ []) rest refl }
+drop_view below d = record { these = λ ws. bare word.Drop ∷ with_text word.View (folded d (codes "VIEW")) ∷ ws; is = λ rest. spaced_says below.go_on d (codes "DROP" ∷ codes "VIEW" ∷ []) rest refl }
 
 abbrev pub alter_view : Below → (d : Dialect) → Open d (text.words phrase.AlterView)
 unfolding text.words kind_of_word
-alter_view below d = record { these = λ ws. bare word.Alter ∷ with_bytes word.View (folded d (codes "VIEW")) ∷ ws; is = λ rest. spaced_says below.go_on d (codes "ALTER" ∷ codes "VIEW" ∷ []) rest refl }
+alter_view below d = record { these = λ ws. bare word.Alter ∷ with_text word.View (folded d (codes "VIEW")) ∷ ws; is = λ rest. spaced_says below.go_on d (codes "ALTER" ∷ codes "VIEW" ∷ []) rest refl }
 
 abbrev pub create_sequence : Below → (d : Dialect) → Open d (text.words phrase.CreateSequence)
 unfolding text.words kind_of_word
-create_sequence below d = record { these = λ ws. bare word.Create ∷ with_bytes word.Sequence (folded d (codes "SEQUENCE")) ∷ ws; is = λ rest. spaced_says below.go_on d (codes "CREATE" ∷ codes "SEQUENCE" ∷ []) rest refl }
+create_sequence below d = record { these = λ ws. bare word.Create ∷ with_text word.Sequence (folded d (codes "SEQUENCE")) ∷ ws; is = λ rest. spaced_says below.go_on d (codes "CREATE" ∷ codes "SEQUENCE" ∷ []) rest refl }
 
 abbrev pub drop_sequence : Below → (d : Dialect) → Open d (text.words phrase.DropSequence)
 unfolding text.words kind_of_word
-drop_sequence below d = record { these = λ ws. bare word.Drop ∷ with_bytes word.Sequence (folded d (codes "SEQUENCE")) ∷ ws; is = λ rest. spaced_says below.go_on d (codes "DROP" ∷ codes "SEQUENCE" ∷ []) rest refl }
+drop_sequence below d = record { these = λ ws. bare word.Drop ∷ with_text word.Sequence (folded d (codes "SEQUENCE")) ∷ ws; is = λ rest. spaced_says below.go_on d (codes "DROP" ∷ codes "SEQUENCE" ∷ []) rest refl }
 
 abbrev pub alter_sequence : Below → (d : Dialect) → Open d (text.words phrase.AlterSequence)
 unfolding text.words kind_of_word
-alter_sequence below d = record { these = λ ws. bare word.Alter ∷ with_bytes word.Sequence (folded d (codes "SEQUENCE")) ∷ ws; is = λ rest. spaced_says below.go_on d (codes "ALTER" ∷ codes "SEQUENCE" ∷ []) rest refl }
+alter_sequence below d = record { these = λ ws. bare word.Alter ∷ with_text word.Sequence (folded d (codes "SEQUENCE")) ∷ ws; is = λ rest. spaced_says below.go_on d (codes "ALTER" ∷ codes "SEQUENCE" ∷ []) rest refl }
 
 abbrev pub insert_into : Below → (d : Dialect) → Open d (text.words phrase.InsertInto)
 unfolding text.words kind_of_word
@@ -90,7 +90,7 @@ constraint below d = record { these = λ ws. bare word.Constraint ∷ ws; is = �
 
 abbrev pub rename_to : Below → (d : Dialect) → Lead d (text.words phrase.RenameTo)
 unfolding text.words kind_of_word
-rename_to below d = record { these = λ ws. with_bytes word.Rename (folded d (codes "RENAME")) ∷ bare word.To ∷ ws; is = λ rest. lead_says below.go_on d (codes "RENAME" ∷ codes "TO" ∷ []) rest refl; stops = λ rest. refl }
+rename_to below d = record { these = λ ws. with_text word.Rename (folded d (codes "RENAME")) ∷ bare word.To ∷ ws; is = λ rest. lead_says below.go_on d (codes "RENAME" ∷ codes "TO" ∷ []) rest refl; stops = λ rest. refl }
 
 abbrev pub to : Below → (d : Dialect) → Lead d (text.words phrase.To)
 unfolding text.words kind_of_word
@@ -106,7 +106,7 @@ drop_column below d = record { these = λ ws. bare word.Drop ∷ bare word.Colum
 
 abbrev pub rename_column : Below → (d : Dialect) → Lead d (text.words phrase.RenameColumn)
 unfolding text.words kind_of_word
-rename_column below d = record { these = λ ws. with_bytes word.Rename (folded d (codes "RENAME")) ∷ bare word.Column ∷ ws; is = λ rest. lead_says below.go_on d (codes "RENAME" ∷ codes "COLUMN" ∷ []) rest refl; stops = λ rest. refl }
+rename_column below d = record { these = λ ws. with_text word.Rename (folded d (codes "RENAME")) ∷ bare word.Column ∷ ws; is = λ rest. lead_says below.go_on d (codes "RENAME" ∷ codes "COLUMN" ∷ []) rest refl; stops = λ rest. refl }
 
 abbrev pub alter_column : Below → (d : Dialect) → Lead d (text.words phrase.AlterColumn)
 unfolding text.words kind_of_word
@@ -114,7 +114,7 @@ alter_column below d = record { these = λ ws. bare word.Alter ∷ bare word.Col
 
 abbrev pub modify : Below → (d : Dialect) → Lead d (text.words phrase.Modify)
 unfolding text.words kind_of_word
-modify below d = record { these = λ ws. with_bytes word.Modify (folded d (codes "MODIFY")) ∷ ws; is = λ rest. lead_says below.go_on d (codes "MODIFY" ∷ []) rest refl; stops = λ rest. refl }
+modify below d = record { these = λ ws. with_text word.Modify (folded d (codes "MODIFY")) ∷ ws; is = λ rest. lead_says below.go_on d (codes "MODIFY" ∷ []) rest refl; stops = λ rest. refl }
 
 abbrev pub set_default : Below → (d : Dialect) → Lead d (text.words phrase.SetDefault)
 unfolding text.words kind_of_word
@@ -130,11 +130,11 @@ drop_constraint below d = record { these = λ ws. bare word.Drop ∷ bare word.C
 
 abbrev pub drop_unique : Below → (d : Dialect) → Lead d (text.words phrase.DropUnique)
 unfolding text.words kind_of_word
-drop_unique below d = record { these = λ ws. bare word.Drop ∷ with_bytes word.Index (folded d (codes "INDEX")) ∷ ws; is = λ rest. lead_says below.go_on d (codes "DROP" ∷ codes "INDEX" ∷ []) rest refl; stops = λ rest. refl }
+drop_unique below d = record { these = λ ws. bare word.Drop ∷ with_text word.Index (folded d (codes "INDEX")) ∷ ws; is = λ rest. lead_says below.go_on d (codes "DROP" ∷ codes "INDEX" ∷ []) rest refl; stops = λ rest. refl }
 
 abbrev pub drop_foreign_key : Below → (d : Dialect) → Lead d (text.words phrase.DropForeignKey)
 unfolding text.words kind_of_word
-drop_foreign_key below d = record { these = λ ws. bare word.Drop ∷ bare word.Foreign ∷ with_bytes word.Key (folded d (codes "KEY")) ∷ ws; is = λ rest. lead_says below.go_on d (codes "DROP" ∷ codes "FOREIGN" ∷ codes "KEY" ∷ []) rest refl; stops = λ rest. refl }
+drop_foreign_key below d = record { these = λ ws. bare word.Drop ∷ bare word.Foreign ∷ with_text word.Key (folded d (codes "KEY")) ∷ ws; is = λ rest. lead_says below.go_on d (codes "DROP" ∷ codes "FOREIGN" ∷ codes "KEY" ∷ []) rest refl; stops = λ rest. refl }
 
 abbrev pub on : Below → (d : Dialect) → Lead d (text.words phrase.On)
 unfolding text.words kind_of_word
@@ -146,11 +146,11 @@ as_query below d = record { these = λ ws. bare word.As ∷ ws; is = λ rest. le
 
 abbrev pub start_with : Below → (d : Dialect) → Lead d (text.words phrase.StartWith)
 unfolding text.words kind_of_word
-start_with below d = record { these = λ ws. with_bytes word.Start (folded d (codes "START")) ∷ with_bytes word.With (folded d (codes "WITH")) ∷ ws; is = λ rest. lead_says below.go_on d (codes "START" ∷ codes "WITH" ∷ []) rest refl; stops = λ rest. refl }
+start_with below d = record { these = λ ws. with_text word.Start (folded d (codes "START")) ∷ with_text word.With (folded d (codes "WITH")) ∷ ws; is = λ rest. lead_says below.go_on d (codes "START" ∷ codes "WITH" ∷ []) rest refl; stops = λ rest. refl }
 
 abbrev pub increment_by : Below → (d : Dialect) → Lead d (text.words phrase.IncrementBy)
 unfolding text.words kind_of_word
-increment_by below d = record { these = λ ws. with_bytes word.Increment (folded d (codes "INCREMENT")) ∷ with_bytes word.By (folded d (codes "BY")) ∷ ws; is = λ rest. lead_says below.go_on d (codes "INCREMENT" ∷ codes "BY" ∷ []) rest refl; stops = λ rest. refl }
+increment_by below d = record { these = λ ws. with_text word.Increment (folded d (codes "INCREMENT")) ∷ with_text word.By (folded d (codes "BY")) ∷ ws; is = λ rest. lead_says below.go_on d (codes "INCREMENT" ∷ codes "BY" ∷ []) rest refl; stops = λ rest. refl }
 
 abbrev pub set : Below → (d : Dialect) → Lead d (text.words phrase.Set)
 unfolding text.words kind_of_word
@@ -180,15 +180,15 @@ drop_default below d = record { these = λ ws. bare word.Drop ∷ bare word.Defa
 
 abbrev pub drop_primary_key : Below → (d : Dialect) → Tail d (text.words phrase.DropPrimaryKey)
 unfolding text.words kind_of_word
-drop_primary_key below d = record { these = λ ws. bare word.Drop ∷ bare word.Primary ∷ with_bytes word.Key (folded d (codes "KEY")) ∷ ws; is = λ rest stop. tail_says below.go_on d (codes "DROP" ∷ codes "PRIMARY" ∷ []) 75 (codes "EY") rest refl refl stop; stops = λ rest stop. refl }
+drop_primary_key below d = record { these = λ ws. bare word.Drop ∷ bare word.Primary ∷ with_text word.Key (folded d (codes "KEY")) ∷ ws; is = λ rest stop. tail_says below.go_on d (codes "DROP" ∷ codes "PRIMARY" ∷ []) 75 (codes "EY") rest refl refl stop; stops = λ rest stop. refl }
 
 abbrev pub identity : Below → (d : Dialect) → Tail d (text.words phrase.Identity)
 unfolding text.words kind_of_word
-identity below d = record { these = λ ws. with_bytes word.Generated (folded d (codes "GENERATED")) ∷ with_bytes word.By (folded d (codes "BY")) ∷ bare word.Default ∷ bare word.As ∷ with_bytes word.Identity (folded d (codes "IDENTITY")) ∷ ws; is = λ rest stop. tail_says below.go_on d (codes "GENERATED" ∷ codes "BY" ∷ codes "DEFAULT" ∷ codes "AS" ∷ []) 73 (codes "DENTITY") rest refl refl stop; stops = λ rest stop. refl }
+identity below d = record { these = λ ws. with_text word.Generated (folded d (codes "GENERATED")) ∷ with_text word.By (folded d (codes "BY")) ∷ bare word.Default ∷ bare word.As ∷ with_text word.Identity (folded d (codes "IDENTITY")) ∷ ws; is = λ rest stop. tail_says below.go_on d (codes "GENERATED" ∷ codes "BY" ∷ codes "DEFAULT" ∷ codes "AS" ∷ []) 73 (codes "DENTITY") rest refl refl stop; stops = λ rest stop. refl }
 
 abbrev pub auto_increment : Below → (d : Dialect) → Tail d (text.words phrase.AutoIncrement)
 unfolding text.words kind_of_word
-auto_increment below d = record { these = λ ws. with_bytes word.AutoIncrement (folded d (codes "AUTO_INCREMENT")) ∷ ws; is = λ rest stop. tail_says below.go_on d ([]) 65 (codes "UTO_INCREMENT") rest refl refl stop; stops = λ rest stop. refl }
+auto_increment below d = record { these = λ ws. with_text word.AutoIncrement (folded d (codes "AUTO_INCREMENT")) ∷ ws; is = λ rest stop. tail_says below.go_on d ([]) 65 (codes "UTO_INCREMENT") rest refl refl stop; stops = λ rest stop. refl }
 
 abbrev pub not_null : Below → (d : Dialect) → Tail d (text.words phrase.NotNull)
 unfolding text.words kind_of_word
@@ -200,7 +200,7 @@ nullable below d = record { these = λ ws. bare word.Null ∷ ws; is = λ rest s
 
 abbrev pub on_delete_cascade : Below → (d : Dialect) → Tail d (text.words phrase.OnDeleteCascade)
 unfolding text.words kind_of_word
-on_delete_cascade below d = record { these = λ ws. bare word.On ∷ bare word.Delete ∷ with_bytes word.Cascade (folded d (codes "CASCADE")) ∷ ws; is = λ rest stop. tail_says below.go_on d (codes "ON" ∷ codes "DELETE" ∷ []) 67 (codes "ASCADE") rest refl refl stop; stops = λ rest stop. refl }
+on_delete_cascade below d = record { these = λ ws. bare word.On ∷ bare word.Delete ∷ with_text word.Cascade (folded d (codes "CASCADE")) ∷ ws; is = λ rest stop. tail_says below.go_on d (codes "ON" ∷ codes "DELETE" ∷ []) 67 (codes "ASCADE") rest refl refl stop; stops = λ rest stop. refl }
 
 -- with a parenthesis or a comma
 
@@ -226,7 +226,7 @@ equal below d = record { these = λ ws. bare word.Equal ∷ ws; is = λ rest. op
 
 abbrev pub primary_key : Below → (d : Dialect) → Open d (text.words phrase.PrimaryKey)
 unfolding text.words kind_of_word
-primary_key below d = record { these = λ ws. bare word.Primary ∷ with_bytes word.Key (folded d (codes "KEY")) ∷ bare word.Open ∷ ws; is = λ rest. then d (codes "PRIMARY KEY ") (text.words phrase.Open) rest (λ ws. bare word.Primary ∷ with_bytes word.Key (folded d (codes "KEY")) ∷ ws) (λ ws. bare word.Open ∷ ws) (spaced_says below.go_on d (codes "PRIMARY" ∷ codes "KEY" ∷ []) (text.words phrase.Open ++ rest) refl) (open_says below d rest) }
+primary_key below d = record { these = λ ws. bare word.Primary ∷ with_text word.Key (folded d (codes "KEY")) ∷ bare word.Open ∷ ws; is = λ rest. then d (codes "PRIMARY KEY ") (text.words phrase.Open) rest (λ ws. bare word.Primary ∷ with_text word.Key (folded d (codes "KEY")) ∷ ws) (λ ws. bare word.Open ∷ ws) (spaced_says below.go_on d (codes "PRIMARY" ∷ codes "KEY" ∷ []) (text.words phrase.Open ++ rest) refl) (open_says below d rest) }
 
 abbrev pub values : Below → (d : Dialect) → Lead d (text.words phrase.Values)
 unfolding text.words kind_of_word
@@ -238,7 +238,7 @@ unique below d = record { these = λ ws. bare word.Unique ∷ bare word.Open ∷
 
 abbrev pub foreign_key : Below → (d : Dialect) → Lead d (text.words phrase.ForeignKey)
 unfolding text.words kind_of_word
-foreign_key below d = record { these = λ ws. bare word.Foreign ∷ with_bytes word.Key (folded d (codes "KEY")) ∷ bare word.Open ∷ ws; is = λ rest. then d (codes " FOREIGN KEY ") (text.words phrase.Open) rest (λ ws. bare word.Foreign ∷ with_bytes word.Key (folded d (codes "KEY")) ∷ ws) (λ ws. bare word.Open ∷ ws) (lead_says below.go_on d (codes "FOREIGN" ∷ codes "KEY" ∷ []) (text.words phrase.Open ++ rest) refl) (open_says below d rest); stops = λ rest. refl }
+foreign_key below d = record { these = λ ws. bare word.Foreign ∷ with_text word.Key (folded d (codes "KEY")) ∷ bare word.Open ∷ ws; is = λ rest. then d (codes " FOREIGN KEY ") (text.words phrase.Open) rest (λ ws. bare word.Foreign ∷ with_text word.Key (folded d (codes "KEY")) ∷ ws) (λ ws. bare word.Open ∷ ws) (lead_says below.go_on d (codes "FOREIGN" ∷ codes "KEY" ∷ []) (text.words phrase.Open ++ rest) refl) (open_says below d rest); stops = λ rest. refl }
 
 abbrev pub references : Below → (d : Dialect) → Lead d (text.words phrase.References)
 unfolding text.words kind_of_word

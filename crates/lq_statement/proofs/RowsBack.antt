@@ -1,7 +1,6 @@
 -- INSERT, UPDATE and DELETE are read from their texts.
 use Rattle.std.proofs.Common.{◌≡◌, ◌≢◌, ◌≤◌, ℕ, suc, true, false, ◌&&◌, List, [], ◌∷◌, ◌++◌, length, map, Option, Some, None, ap, refl, arith}
 use Rattle.std.specs.List.{list_all}
-use Rattle.std.specs.Str.{is_utf8}
 use Rattle.std.proofs.lemmas.Bool.{and_parts}
 use Rattle.lq_base.specs.Name.{is_name}
 use Rattle.lq_base.specs.declared.dialect.Dialect.{Dialect}
@@ -24,7 +23,6 @@ use Rattle.lq_model.specs.declared.statement.Statement.TheVariants.{Delete, Inse
 use Rattle.lq_model.specs.declared.test.Test.{Test}
 use Rattle.lq_model.specs.declared.word.Word.{Word}
 use Rattle.lq_model.specs.declared.word.WordKind.TheVariants as word
-use Rattle.lq_parse.specs.Laws.{are_texts, is_text_literal}
 use Rattle.lq_parse.proofs.Again.{IsLiteral, literal_again, literal_words}
 use Rattle.lq_parse.proofs.Bytes.{Stops}
 use Rattle.lq_parse.proofs.Fronts.{Says}
@@ -70,16 +68,16 @@ insert_back below d t (n ∷ ns) (l ∷ ls) h more all each some = let both = an
 
 -- a test at the end
 
-with_where : Below → (d : Dialect) (bytes : List ℕ) (part : Closed d bytes) (test : Option Test) → is_where test ≡ true → are_texts test ≡ true → Says d (bytes ++ where_text d test) (λ ws. part.these (where_words test ws)) []
-with_where below d bytes part test can texts = then d bytes (where_text d test) [] part.these (where_words test) (part.is (where_text d test ++ []) (where_stops d test)) (where_says_all below d test can texts)
+with_where : Below → (d : Dialect) (bytes : List ℕ) (part : Closed d bytes) (test : Option Test) → is_where test ≡ true → Says d (bytes ++ where_text d test) (λ ws. part.these (where_words test ws)) []
+with_where below d bytes part test can = then d bytes (where_text d test) [] part.these (where_words test) (part.is (where_text d test ++ []) (where_stops d test)) (where_says_all below d test can)
 
 -- DELETE
 
-pub delete_back : Below → (d : Dialect) (t : List ℕ) (test : Option Test) → IsReadName t → is_where test ≡ true → are_texts test ≡ true → statement_in d (text_of d (Delete t test)) ≡ Some (Delete t test)
+pub delete_back : Below → (d : Dialect) (t : List ℕ) (test : Option Test) → IsReadName t → is_where test ≡ true → statement_in d (text_of d (Delete t test)) ≡ Some (Delete t test)
 unfolding text.words kind_of_word statement delete name sees same_kind after expect ended
-delete_back below d t test h can texts =
-    read_says d (Delete t test) _ (λ ws. bare word.Delete ∷ bare word.From ∷ name_word t (where_words test ws)) (with_where below d _ (oc (say.delete_from below d) (named below d t)) test can texts)
-    (rw (h, where_again test can texts below) refl)
+delete_back below d t test h can =
+    read_says d (Delete t test) _ (λ ws. bare word.Delete ∷ bare word.From ∷ name_word t (where_words test ws)) (with_where below d _ (oc (say.delete_from below d) (named below d t)) test can)
+    (rw (h, where_again test can below) refl)
 
 -- UPDATE
 
@@ -103,20 +101,19 @@ set_is_again : IsAgain IsSet assignment set_words
 set_is_again = record { read = set_again; long = set_long }
 
 set_says : Below → (d : Dialect) (s : List ℕ × Literal) (rest : List ℕ) → CanStand s → Stops rest → Says d (set_text d s) (set_words s) rest
+unfolding text.words kind_of_word
 set_says below d s rest is stop = (oc (cl (named below d s.0) (say.equal below d)) (literal_said below d s.1 is)).is rest stop
 
 each_stands : (sets : List (List ℕ × Literal)) → list_all (λ s. is_literal s.1) sets ≡ true → EachItem CanStand sets
 each_stands [] all = tt
 each_stands (s ∷ sets) all = let both = and_parts (is_literal s.1) (list_all (λ s. is_literal s.1) sets) all in (both.0, each_stands sets both.1)
 
-pub each_set : Below → (sets : List (List ℕ × Literal)) → list_all (λ s. is_name s.0) sets ≡ true → list_all (λ s. is_literal s.1) sets ≡ true → list_all (λ s. is_utf8 s.0 && is_text_literal s.1) sets ≡ true → EachItem IsSet sets
-each_set below [] names literals texts = tt
-each_set below (s ∷ sets) names literals texts =
+pub each_set : Below → (sets : List (List ℕ × Literal)) → list_all (λ s. is_name s.0) sets ≡ true → list_all (λ s. is_literal s.1) sets ≡ true → EachItem IsSet sets
+each_set below [] names literals = tt
+each_set below (s ∷ sets) names literals =
     let a = and_parts (is_name s.0) (list_all (λ s. is_name s.0) sets) names in
     let b = and_parts (is_literal s.1) (list_all (λ s. is_literal s.1) sets) literals in
-    let c = and_parts (is_utf8 s.0 && is_text_literal s.1) (list_all (λ s. is_utf8 s.0 && is_text_literal s.1) sets) texts in
-    let e = and_parts (is_utf8 s.0) (is_text_literal s.1) c.0 in
-    ((name_fact s.0 e.0 a.0, literal_fact below s.1 b.0 e.1), each_set below sets a.1 b.1 c.1)
+    ((name_fact s.0 a.0, literal_fact below s.1 b.0), each_set below sets a.1 b.1)
 
 where_begins : (test : Option Test) → sees word.Comma (where_words test []) ≡ false
 unfolding sees same_kind
@@ -127,9 +124,9 @@ abbrev sets_said : Below → (d : Dialect) (s : List ℕ × Literal) (sets : Lis
 sets_said below d s sets one each = record { these = λ ws. set_words s (tail_words set_words sets ws); is = λ rest stop. listed_says below d CanStand (set_text d) set_words (set_says below d) s sets rest one each stop }
 
 pub update_back : Below → (d : Dialect) (t : List ℕ) (s : List ℕ × Literal) (sets : List (List ℕ × Literal)) (test : Option Test) → IsReadName t → IsSet s → EachItem IsSet sets → CanStand s → list_all (λ s. is_literal s.1) sets ≡ true
-    → is_where test ≡ true → are_texts test ≡ true → statement_in d (text_of d (Update t (s ∷ sets) test)) ≡ Some (Update t (s ∷ sets) test)
+    → is_where test ≡ true → statement_in d (text_of d (Update t (s ∷ sets) test)) ≡ Some (Update t (s ∷ sets) test)
 unfolding text.words kind_of_word statement update name sees same_kind after expect ended
-update_back below d t s sets test h one each stands all can texts =
+update_back below d t s sets test h one each stands all can =
     read_says d (Update t (s ∷ sets) test) _ (λ ws. bare word.Update ∷ name_word t (bare word.Set ∷ set_words s (tail_words set_words sets (where_words test ws))))
-    (with_where below d _ (oc (cl (oc (say.update below d) (named below d t)) (say.set below d)) (sets_said below d s sets stands (each_stands sets all))) test can texts)
-    (rw (h, separated_again IsSet assignment set_words set_is_again s sets (where_words test []) one each (where_begins test), where_again test can texts below) refl)
+    (with_where below d _ (oc (cl (oc (say.update below d) (named below d t)) (say.set below d)) (sets_said below d s sets stands (each_stands sets all))) test can)
+    (rw (h, separated_again IsSet assignment set_words set_is_again s sets (where_words test []) one each (where_begins test), where_again test can below) refl)

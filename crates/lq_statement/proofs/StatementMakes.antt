@@ -1,8 +1,6 @@
 -- A statement that a text spells is one of the dialect.
 use Rattle.std.proofs.Common.{◌≡◌, ℕ, ℤ, pos, Bool, true, false, ◌&&◌, not, if◌then◌else◌, List, [], Option, Some, None, refl}
 use Rattle.std.specs.Ordering.{int_eq}
-use Rattle.std.specs.List.{list_all}
-use Rattle.std.specs.Str.{is_utf8}
 use Rattle.std.proofs.lemmas.Bool.{and_from}
 use Rattle.lq_base.specs.Laws.{NumberOfSpells}
 use Rattle.lq_base.specs.Name.{is_name}
@@ -32,9 +30,7 @@ use Rattle.lq_statement.proofs.TableMakes.{table_makes}
 -- CREATE INDEX and CREATE VIEW
 
 index_is : (d : Dialect) (n t : List ℕ) (columns : List (List ℕ)) (unique : Bool) → IsNameText n → IsNameText t → SomeSo IsNameText columns → Is d (CreateIndex t (record { name = n; columns = columns; unique = unique }))
-index_is d n t columns unique h g so =
-    let names = names_list columns so in
-    (and_from (is_name t) _ g.1 (and_from (is_name n) _ h.1 names.0), and_from (is_utf8 t) _ g.0 (and_from (is_utf8 n) (list_all is_utf8 columns) h.0 names.1))
+index_is d n t columns unique h g so = and_from (is_name t) _ g (and_from (is_name n) _ h (names_list columns so))
 
 index_makes : (d : Dialect) (unique : Bool) → Makes (Is d) (create_index unique)
 unfolding create_index
@@ -46,7 +42,7 @@ view_makes : NumberOfSpells → (d : Dialect) (replace : Bool) → Makes (Is d) 
 unfolding create_view
 view_makes spells d replace =
     makes_after (Is d) (expect word.View) _ (λ a. makes_then IsNameText (Is d) name _ name_makes (λ v h. makes_after (Is d) (expect word.As) _ (λ b. makes_then IsQueryText (Is d) query _ (query_makes spells) (λ q g.
-    makes_pure (Is d) (CreateView v q replace) (join (h.1, h.0) g)))))
+    makes_pure (Is d) (CreateView v q replace) (join h g)))))
 
 -- CREATE SEQUENCE
 
@@ -54,7 +50,7 @@ abbrev IsWhole : ℤ → Type 0
 IsWhole n = is_literal (constant.Int n) ≡ true
 
 whole_of_makes : (l : Literal) → IsLiteralText l → Makes IsWhole (whole_of l)
-whole_of_makes (constant.Int n) h = makes_pure IsWhole n h.0
+whole_of_makes (constant.Int n) h = makes_pure IsWhole n h
 whole_of_makes constant.Null h = makes_refuse IsWhole
 whole_of_makes (constant.Bool b) h = makes_refuse IsWhole
 whole_of_makes (constant.Text t) h = makes_refuse IsWhole
@@ -81,7 +77,7 @@ sequence_makes spells =
     makes_then IsNameText (Is Postgresql) name _ name_makes (λ s h. makes_after (Is Postgresql) (expect word.Start) _ (λ a. makes_after (Is Postgresql) (expect word.With) _ (λ b.
     makes_then IsWhole (Is Postgresql) whole _ (whole_makes_number spells) (λ start g. makes_after (Is Postgresql) (expect word.Increment) _ (λ c. makes_after (Is Postgresql) (expect word.By) _ (λ e.
     makes_then IsStep (Is Postgresql) step _ (step_makes spells) (λ size k. makes_pure (Is Postgresql) (CreateSequence s start size)
-    (and_from (is_name s) _ h.1 (and_from (is_literal (constant.Int start)) _ g (and_from (is_literal (constant.Int size)) _ k.0 k.1)), h.0))))))))
+    (and_from (is_name s) _ h (and_from (is_literal (constant.Int start)) _ g (and_from (is_literal (constant.Int size)) _ k.0 k.1))))))))))
 
 create_makes : NumberOfSpells → (d : Dialect) → Makes (Is d) (create d)
 unfolding create

@@ -2,7 +2,6 @@
 use Rattle.std.proofs.Common.{◌≡◌, ℕ, Bool, true, false, ◌&&◌, not, if◌then◌else◌, List, [], ◌∷◌, ◌++◌, Option, Some, None, option_map, IfSome, refl}
 use Rattle.std.specs.List.{flat_map, list_all}
 use Rattle.std.specs.Option.{option_to_list}
-use Rattle.std.specs.Str.{is_utf8}
 use Rattle.std.proofs.lemmas.Bool.{and_from, and_parts}
 use Rattle.lq_base.specs.Laws.{NumberOfSpells}
 use Rattle.lq_base.specs.Name.{is_name}
@@ -21,8 +20,7 @@ use Rattle.lq_model.specs.declared.table_item.TableConstraint.{TableConstraint}
 use Rattle.lq_model.specs.declared.table_item.TableConstraint.TheVariants as constraint
 use Rattle.lq_model.specs.declared.table_item.TableItem.{TableItem}
 use Rattle.lq_model.specs.declared.table_item.TableItem.TheVariants as item
-use Rattle.lq_parse.proofs.Makes.{AllSo, IsNameText, Makes, SomeSo, all_join, makes_after, makes_given, makes_if, makes_pure, makes_then, name_makes}
-use Rattle.lq_statement.specs.Laws.{is_column_text, is_foreign_text, is_key_text, is_unique_text}
+use Rattle.lq_parse.proofs.Makes.{AllSo, IsNameText, Makes, SomeSo, all_join, makes_after, makes_given, makes_if, makes_pure, makes_then, name_makes, one}
 use Rattle.lq_statement.proofs.ColumnMakes.{IsDef, IsStated, MayBeForeign, MayBeKey, MayBeUnique, column_foreign_makes, column_is, column_key_makes, column_unique_makes, stated_makes}
 use Rattle.lq_statement.proofs.ConstraintMakes.{IsConstraint, IsForeignText, IsKeyText, IsUniqueText, constraint_makes}
 use Rattle.lq_statement.proofs.Parts.{Is, each_so, enclosed_makes}
@@ -45,51 +43,41 @@ item_makes spells d table =
     (makes_then (IsConstraint d) (IsItem d) (table_constraint d table) _ (constraint_makes d table) (λ it h. makes_pure (IsItem d) (item.Constraint it) h))
     (column_item_makes spells d table))
 
--- both tests of each of some
-abbrev All2 : {A : Type 0} → (A → Bool) → (A → Bool) → List A → Type 0
-All2 p q xs = (list_all p xs ≡ true) × (list_all q xs ≡ true)
+may : {A : Type 0} (p : A → Bool) (o : Option A) → IfSome o (λ x. p x ≡ true) → list_all p (option_to_list o) ≡ true
+may p None h = refl
+may p (Some x) h = one p x h
 
-one2 : {A : Type 0} (p q : A → Bool) (x : A) → (p x ≡ true) × (q x ≡ true) → All2 p q (x ∷ [])
-one2 p q x h = (and_from (p x) true h.0 refl, and_from (q x) true h.1 refl)
+all_of : {A : Type 0} (p : A → Bool) (f : TableItem → List A) (P : TableItem → Type 0) → ((i : TableItem) → P i → list_all p (f i) ≡ true) → (items : List TableItem) → AllSo P items → list_all p (flat_map f items) ≡ true
+all_of p f P each [] h = refl
+all_of p f P each (i ∷ items) h = all_join p (f i) (flat_map f items) (each i h.0) (all_of p f P each items h.1)
 
-may2 : {A : Type 0} (p q : A → Bool) (o : Option A) → IfSome o (λ x. (p x ≡ true) × (q x ≡ true)) → All2 p q (option_to_list o)
-may2 p q None h = (refl, refl)
-may2 p q (Some x) h = one2 p q x h
+defs_are : (d : Dialect) (i : TableItem) → IsItem d i → list_all is_column_def (columns_in i) ≡ true
+defs_are d (item.Column column key unique foreign) h = one is_column_def column h.0
+defs_are d (item.Constraint it) h = refl
 
-all2 : {A : Type 0} (p q : A → Bool) (f : TableItem → List A) (P : TableItem → Type 0) → ((i : TableItem) → P i → All2 p q (f i)) → (items : List TableItem) → AllSo P items → All2 p q (flat_map f items)
-all2 p q f P each [] h = (refl, refl)
-all2 p q f P each (i ∷ items) h =
-    let here = each i h.0 in
-    let more = all2 p q f P each items h.1 in
-    (all_join p (f i) (flat_map f items) here.0 more.0, all_join q (f i) (flat_map f items) here.1 more.1)
+keys_are : (d : Dialect) (i : TableItem) → IsItem d i → list_all (is_key d) (keys_in i) ≡ true
+keys_are d (item.Column column key unique foreign) h = may (is_key d) key h.1.0
+keys_are d (item.Constraint (constraint.Key it)) h = one (is_key d) it h
+keys_are d (item.Constraint (constraint.Unique it)) h = refl
+keys_are d (item.Constraint (constraint.Foreign it)) h = refl
 
-defs_are : (d : Dialect) (i : TableItem) → IsItem d i → All2 is_column_def is_column_text (columns_in i)
-defs_are d (item.Column column key unique foreign) h = one2 is_column_def is_column_text column h.0
-defs_are d (item.Constraint it) h = (refl, refl)
+uniques_are : (d : Dialect) (i : TableItem) → IsItem d i → list_all is_unique (uniques_in i) ≡ true
+uniques_are d (item.Column column key unique foreign) h = may is_unique unique h.1.1.0
+uniques_are d (item.Constraint (constraint.Key it)) h = refl
+uniques_are d (item.Constraint (constraint.Unique it)) h = one is_unique it h
+uniques_are d (item.Constraint (constraint.Foreign it)) h = refl
 
-keys_are : (d : Dialect) (i : TableItem) → IsItem d i → All2 (is_key d) is_key_text (keys_in i)
-keys_are d (item.Column column key unique foreign) h = may2 (is_key d) is_key_text key h.1.0
-keys_are d (item.Constraint (constraint.Key it)) h = one2 (is_key d) is_key_text it h
-keys_are d (item.Constraint (constraint.Unique it)) h = (refl, refl)
-keys_are d (item.Constraint (constraint.Foreign it)) h = (refl, refl)
-
-uniques_are : (d : Dialect) (i : TableItem) → IsItem d i → All2 is_unique is_unique_text (uniques_in i)
-uniques_are d (item.Column column key unique foreign) h = may2 is_unique is_unique_text unique h.1.1.0
-uniques_are d (item.Constraint (constraint.Key it)) h = (refl, refl)
-uniques_are d (item.Constraint (constraint.Unique it)) h = one2 is_unique is_unique_text it h
-uniques_are d (item.Constraint (constraint.Foreign it)) h = (refl, refl)
-
-foreign_are : (d : Dialect) (i : TableItem) → IsItem d i → All2 is_foreign is_foreign_text (foreign_in i)
-foreign_are d (item.Column column key unique foreign) h = may2 is_foreign is_foreign_text foreign h.1.1.1
-foreign_are d (item.Constraint (constraint.Key it)) h = (refl, refl)
-foreign_are d (item.Constraint (constraint.Unique it)) h = (refl, refl)
-foreign_are d (item.Constraint (constraint.Foreign it)) h = one2 is_foreign is_foreign_text it h
+foreign_are : (d : Dialect) (i : TableItem) → IsItem d i → list_all is_foreign (foreign_in i) ≡ true
+foreign_are d (item.Column column key unique foreign) h = may is_foreign foreign h.1.1.1
+foreign_are d (item.Constraint (constraint.Key it)) h = refl
+foreign_are d (item.Constraint (constraint.Unique it)) h = refl
+foreign_are d (item.Constraint (constraint.Foreign it)) h = one is_foreign it h
 
 -- at most one key
-only_is : (p q : Key → Bool) (keys : List Key) → All2 p q keys → IfSome (only keys) (λ key. All2 p q (key_list key))
-only_is p q [] h = (refl, refl)
-only_is p q (k ∷ []) h = h
-only_is p q (k ∷ l ∷ more) h = tt
+only_is : (p : Key → Bool) (keys : List Key) → list_all p keys ≡ true → IfSome (only keys) (λ key. list_all p (key_list key) ≡ true)
+only_is p [] h = refl
+only_is p (k ∷ []) h = h
+only_is p (k ∷ l ∷ more) h = tt
 
 mapped : {A B : Type 0} (P : B → Type 0) (f : A → B) (o : Option A) → IfSome o (λ x. P (f x)) → IfSome (option_map f o) P
 mapped P f None h = tt
@@ -106,19 +94,17 @@ tested P false o h = tt
 table_is : (d : Dialect) (table : List ℕ) (items : List TableItem) → IsNameText table → AllSo (IsItem d) items → IfSome (table_of table items) (Is d)
 unfolding table_of
 table_is d table items h so =
-    let defs = all2 is_column_def is_column_text columns_in (IsItem d) (defs_are d) items so in
-    let keys = only_is (is_key d) is_key_text (flat_map keys_in items) (all2 (is_key d) is_key_text keys_in (IsItem d) (keys_are d) items so) in
-    let uniques = all2 is_unique is_unique_text uniques_in (IsItem d) (uniques_are d) items so in
-    let foreign = all2 is_foreign is_foreign_text foreign_in (IsItem d) (foreign_are d) items so in
+    let defs = all_of is_column_def columns_in (IsItem d) (defs_are d) items so in
+    let keys = only_is (is_key d) (flat_map keys_in items) (all_of (is_key d) keys_in (IsItem d) (keys_are d) items so) in
+    let uniques = all_of is_unique uniques_in (IsItem d) (uniques_are d) items so in
+    let foreign = all_of is_foreign foreign_in (IsItem d) (foreign_are d) items so in
     tested (Is d) (are_ordered_from 0 items && not (is_empty (flat_map columns_in items))) _ (λ can.
     let some = (and_parts (are_ordered_from 0 items) (not (is_empty (flat_map columns_in items))) can).1 in
     mapped (Is d) (table_with table items) (only (flat_map keys_in items))
-    (more_of (λ key. All2 (is_key d) is_key_text (key_list key)) (λ key. Is d (table_with table items key)) (λ key k. (
-      and_from (is_name table) _ h.1 (and_from (not (is_empty (flat_map columns_in items))) _ some (and_from (list_all is_column_def (flat_map columns_in items)) _ defs.0 (and_from (list_all (is_key d) (key_list key)) _ k.0
-      (and_from (list_all is_unique (flat_map uniques_in items)) (list_all is_foreign (flat_map foreign_in items)) uniques.0 foreign.0)))),
-      and_from (is_utf8 table) _ h.0 (and_from (list_all is_column_text (flat_map columns_in items)) _ defs.1 (and_from (list_all is_key_text (key_list key)) _ k.1
-      (and_from (list_all is_unique_text (flat_map uniques_in items)) (list_all is_foreign_text (flat_map foreign_in items)) uniques.1 foreign.1))),
-    )) (only (flat_map keys_in items)) keys))
+    (more_of (λ key. list_all (is_key d) (key_list key) ≡ true) (λ key. Is d (table_with table items key)) (λ key k.
+    and_from (is_name table) _ h (and_from (not (is_empty (flat_map columns_in items))) _ some (and_from (list_all is_column_def (flat_map columns_in items)) _ defs (and_from (list_all (is_key d) (key_list key)) _ k
+    (and_from (list_all is_unique (flat_map uniques_in items)) (list_all is_foreign (flat_map foreign_in items)) uniques foreign)))))
+    (only (flat_map keys_in items)) keys))
 
 pub table_makes : NumberOfSpells → (d : Dialect) → Makes (Is d) (create_table d)
 unfolding create_table

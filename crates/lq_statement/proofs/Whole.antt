@@ -5,7 +5,7 @@ use Rattle.lq_model.specs.Quoting.{name_text}
 use Rattle.lq_model.specs.SqlParser.{to_end}
 use Rattle.lq_model.specs.SqlStatement.{statement}
 use Rattle.lq_model.specs.SqlText.{statement_in}
-use Rattle.lq_model.specs.SqlWord.{with_bytes}
+use Rattle.lq_model.specs.SqlWord.{with_text}
 use Rattle.lq_model.specs.declared.statement.Statement.{Statement}
 use Rattle.lq_model.specs.declared.word.Word.{Word}
 use Rattle.lq_model.specs.declared.word.WordKind.TheVariants as word
@@ -16,7 +16,7 @@ use Rattle.lq_parse.proofs.Spoken.{Below}
 use Rattle.lq_statement.proofs.Said.{Closed}
 
 abbrev pub named : Below → (d : Dialect) (n : List ℕ) → Closed d (name_text d n)
-named below d n = record { these = λ ws. with_bytes word.Quoted n ∷ ws; is = λ rest stop. name_says below.go_on below.names d n rest stop }
+named below d n = record { these = λ ws. with_text word.Quoted n ∷ ws; is = λ rest stop. name_says below.go_on below.names d n rest stop }
 
 pub read_says : (d : Dialect) (s : Statement) (bytes : List ℕ) (these : List Word → List Word) → Says d bytes these [] → to_end (statement d) (these []) ≡ Some (s, []) → statement_in d bytes ≡ Some s
 unfolding statement_in

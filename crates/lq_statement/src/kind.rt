@@ -13,28 +13,28 @@ fn kind_number(words: &mut Words<'_>) -> Result<u128, ParseFault>
     if !words.sees(WordKind::Number) {
         return Err(ParseFault::NotSql);
     }
-    given(plain_number(words.take()))
+    given(plain_number(words.take().as_bytes()))
 }
 
 #[tactic(auto, unfolding(lq_model::specs::SqlPart::sized_with))]
-fn sized_with(words: &mut Words<'_>, said: &[u8], first: u128) -> Result<Kind, ParseFault>
+fn sized_with(words: &mut Words<'_>, said: &str, first: u128) -> Result<Kind, ParseFault>
     ensures { Reads (spec.sized_with said.now first words.old) result words.new }
 {
     words.expect(WordKind::Close)?;
-    given(Kind::sized(said, first))
+    given(Kind::sized(said.as_bytes(), first))
 }
 
 #[tactic(auto, unfolding(lq_model::specs::SqlPart::decimal_with))]
-fn decimal_with(words: &mut Words<'_>, said: &[u8], first: u128) -> Result<Kind, ParseFault>
+fn decimal_with(words: &mut Words<'_>, said: &str, first: u128) -> Result<Kind, ParseFault>
     ensures { Reads (spec.decimal_with said.now first words.old) result words.new }
 {
     let second = kind_number(words)?;
     words.expect(WordKind::Close)?;
-    given(Kind::decimal(said, first, second))
+    given(Kind::decimal(said.as_bytes(), first, second))
 }
 
 #[tactic(auto, unfolding(lq_model::specs::SqlPart::kind_with))]
-fn kind_with(words: &mut Words<'_>, said: &[u8]) -> Result<Kind, ParseFault>
+fn kind_with(words: &mut Words<'_>, said: &str) -> Result<Kind, ParseFault>
     ensures { Reads (spec.kind_with said.now words.old) result words.new }
 {
     let first = kind_number(words)?;
@@ -59,6 +59,6 @@ pub fn column_kind(words: &mut Words<'_>) -> Result<Kind, ParseFault>
     if sized {
         kind_with(words, said)
     } else {
-        given(Kind::plain(said))
+        given(Kind::plain(said.as_bytes()))
     }
 }

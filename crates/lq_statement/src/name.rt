@@ -1,5 +1,6 @@
-ghost use Rattle.std.specs.Prelude.{◌≡◌, ◌++◌, ℕ, take, codes, IfOk, string_bytes};
+ghost use Rattle.std.specs.Prelude.{◌≡◌, ◌++◌, ℕ, take, codes, true, false, IfOk, MatchOption, string_bytes};
 ghost use Rattle.std.specs.List.{flat_map};
+ghost use Rattle.std.specs.Str.{is_utf8};
 ghost use Rattle.lq_base.specs.declared.name.Name.{Name};
 ghost use Rattle.lq_model.specs.DefaultName as spec;
 ghost use Rattle.lq_model.specs.Reads.{Gives};
@@ -7,8 +8,17 @@ ghost use Rattle.lq_model.specs.SqlPart.{name_of};
 
 use lq_base::{Dialect, Name};
 use lq_model::ParseFault;
-use lq_parse::part::{as_text, name_of};
+use lq_parse::part::name_of;
 use std::alloc::{AllocError, Global};
+
+fn as_text(bytes: &[u8]) -> Option<&str>
+    ensures { MatchOption result (is_utf8 bytes.now ≡ false) (λ text. (text.now ≡ bytes.now) × (is_utf8 bytes.now ≡ true)) }
+{
+    match str::from_utf8(bytes) {
+        Ok(text) => Some(text),
+        Err(_) => None,
+    }
+}
 
 fn front(bytes: &[u8], most: usize) -> &[u8]
     ensures { result.now ≡ take most bytes.now }
@@ -18,17 +28,15 @@ fn front(bytes: &[u8], most: usize) -> &[u8]
 
 // The longest text of whole characters at the front, of at most so many bytes.
 #[tactic(auto, using(crate::proofs::CutSteps::cut_step), unfolding(lq_model::specs::DefaultName::cut))]
-fn cut(bytes: &[u8], most: usize) -> &[u8]
+fn cut(bytes: &[u8], most: usize) -> &str
     ensures { result.now ≡ spec.cut most bytes.now }
 {
     if most == 0 {
-        return &[];
+        return "";
     }
-    let front = front(bytes, most);
-    if as_text(front).is_some() {
-        front
-    } else {
-        cut(bytes, most - 1)
+    match as_text(front(bytes, most)) {
+        Some(text) => text,
+        None => cut(bytes, most - 1),
     }
 }
 
@@ -69,7 +77,7 @@ pub fn key_name(alloc: Global, dialect: Dialect, table: &Name) -> Result<Name, P
 {
     match dialect {
         Dialect::Postgresql => default_name(alloc, "pk_", table, &[]),
-        Dialect::Mysql => name_of(alloc, b"PRIMARY"),
+        Dialect::Mysql => name_of(alloc, "PRIMARY"),
     }
 }
 

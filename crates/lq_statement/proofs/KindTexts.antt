@@ -13,7 +13,7 @@ use Rattle.lq_base.proofs.SpacedLemmas.{plain_number-decimal}
 use Rattle.lq_model.specs.Phrase as text
 use Rattle.lq_model.specs.SqlParser.{after, expect, same_kind, sees}
 use Rattle.lq_model.specs.SqlPart.{column_kind, decimal_with, kind_number, kind_with, sized_with}
-use Rattle.lq_model.specs.SqlWord.{bare, folded, kind_of_word, with_bytes}
+use Rattle.lq_model.specs.SqlWord.{bare, folded, kind_of_word, with_text}
 use Rattle.lq_model.specs.declared.phrase.Phrase.TheVariants as phrase
 use Rattle.lq_model.specs.declared.word.Word.{Word}
 use Rattle.lq_model.specs.declared.word.WordKind.TheVariants as word
@@ -25,18 +25,18 @@ use Rattle.lq_statement.proofs.Phrases as say
 use Rattle.lq_statement.proofs.Said.{Closed, Open, cl, oc, ready}
 
 abbrev pub kind_word : Dialect → List ℕ → Word
-kind_word d bytes = with_bytes word.Plain (folded d bytes)
+kind_word d bytes = with_text word.Plain (folded d bytes)
 
 -- a word and `(`
 sized_front : Below → (d : Dialect) (b : ℕ) (w rest : List ℕ) (these : List Word → List Word) → ((more : List ℕ) → Stops more → Says d (b ∷ w) these more) → Says d ((b ∷ w) ++ codes "(") (λ ws. these (bare word.Open ∷ ws)) rest
 unfolding text.words
 sized_front below d b w rest these word_says = then d (b ∷ w) (text.words phrase.Open) rest these (λ ws. bare word.Open ∷ ws) (word_says (40 ∷ rest) refl) (open_says below d rest)
 
-number_text : (n : ℕ) → n < 2 ^ 64 → IsNumberText (decimal n)
+pub number_text : (n : ℕ) → n < 2 ^ 64 → IsNumberText (decimal n)
 number_text n small = signed_digits (decimal n) false (decimal n) refl (decimal_digits n (omega arith))
 
 abbrev pub numeral : Below → (d : Dialect) (n : ℕ) → n < 2 ^ 64 → Closed d (decimal n)
-numeral below d n small = record { these = λ ws. with_bytes word.Number (decimal n) ∷ ws; is = λ rest stop. number_says below.go_on d (decimal n) rest (number_text n small) stop }
+numeral below d n small = record { these = λ ws. with_text word.Number (decimal n) ∷ ws; is = λ rest stop. number_says below.go_on d (decimal n) rest (number_text n small) stop }
 
 three : IsNumberText (codes "3")
 three = record { negative = false; first = 51; more = []; is = refl; digit = refl; others = refl }
@@ -70,13 +70,13 @@ kind_words Postgresql kind.Int rest = kind_word Postgresql (codes "INTEGER") ∷
 kind_words Mysql kind.Int rest = kind_word Mysql (codes "INT") ∷ rest
 kind_words d kind.BigInt rest = kind_word d (codes "BIGINT") ∷ rest
 kind_words d kind.Boolean rest = kind_word d (codes "BOOLEAN") ∷ rest
-kind_words d (kind.Varchar n) rest = kind_word d (codes "VARCHAR") ∷ bare word.Open ∷ with_bytes word.Number (decimal n) ∷ bare word.Close ∷ rest
+kind_words d (kind.Varchar n) rest = kind_word d (codes "VARCHAR") ∷ bare word.Open ∷ with_text word.Number (decimal n) ∷ bare word.Close ∷ rest
 kind_words d kind.Text rest = kind_word d (codes "TEXT") ∷ rest
 kind_words Postgresql kind.Moment rest = kind_word Postgresql (codes "TIMESTAMP") ∷ rest
-kind_words Mysql kind.Moment rest = kind_word Mysql (codes "DATETIME") ∷ bare word.Open ∷ with_bytes word.Number (codes "3") ∷ bare word.Close ∷ rest
-kind_words d (kind.Decimal p s) rest = kind_word d (codes "DECIMAL") ∷ bare word.Open ∷ with_bytes word.Number (decimal p) ∷ bare word.Comma ∷ with_bytes word.Number (decimal s) ∷ bare word.Close ∷ rest
+kind_words Mysql kind.Moment rest = kind_word Mysql (codes "DATETIME") ∷ bare word.Open ∷ with_text word.Number (codes "3") ∷ bare word.Close ∷ rest
+kind_words d (kind.Decimal p s) rest = kind_word d (codes "DECIMAL") ∷ bare word.Open ∷ with_text word.Number (decimal p) ∷ bare word.Comma ∷ with_text word.Number (decimal s) ∷ bare word.Close ∷ rest
 
-kind_says : Below → (d : Dialect) (k : Kind) (rest : List ℕ) → is_kind k ≡ true → Stops rest → Says d (kind_text d k) (kind_words d k) rest
+pub kind_says : Below → (d : Dialect) (k : Kind) (rest : List ℕ) → is_kind k ≡ true → Stops rest → Says d (kind_text d k) (kind_words d k) rest
 unfolding kind_of_word text.words
 kind_says below Postgresql kind.Int rest is stop = capitals_say below.go_on Postgresql 73 (codes "NTEGER") rest refl stop
 kind_says below Mysql kind.Int rest is stop = capitals_say below.go_on Mysql 73 (codes "NT") rest refl stop
@@ -88,7 +88,7 @@ kind_says below Postgresql kind.Text rest is stop = capitals_say below.go_on Pos
 kind_says below Mysql kind.Text rest is stop = capitals_say below.go_on Mysql 84 (codes "EXT") rest refl stop
 kind_says below Postgresql kind.Moment rest is stop = capitals_say below.go_on Postgresql 84 (codes "IMESTAMP") rest refl stop
 kind_says below Mysql kind.Moment rest is stop =
-    (ready (cl (oc (datetime_front below Mysql) (record { these = λ ws. with_bytes word.Number (codes "3") ∷ ws; is = λ more stop. number_says below.go_on Mysql (codes "3") more three stop })) (say.close below Mysql))).is rest stop
+    (ready (cl (oc {b = codes "3"} (datetime_front below Mysql) (record { these = λ ws. with_text word.Number (codes "3") ∷ ws; is = λ more stop. number_says below.go_on Mysql (codes "3") more three stop })) (say.close below Mysql))).is rest stop
 kind_says below Postgresql (kind.Varchar n) rest is stop = (ready (cl (oc (varchar_front below Postgresql) (numeral below Postgresql n (varchar_small n is))) (say.close below Postgresql))).is rest stop
 kind_says below Mysql (kind.Varchar n) rest is stop = (ready (cl (oc (varchar_front below Mysql) (numeral below Mysql n (varchar_small n is))) (say.close below Mysql))).is rest stop
 kind_says below Postgresql (kind.Decimal p s) rest is stop =
