@@ -9,7 +9,7 @@ pub mod NumberPrinted
 pub mod NumberSpelled
 mod PlainLemmas
 pub mod ReadLemmas
-mod SpacedLemmas
+pub mod SpacedLemmas
 mod SplitLemmas
 mod TextLemmas
 pub mod ValueLemmas

@@ -48,3 +48,5 @@ pub mod Untouched
 pub mod ViewAnswers
 pub mod ViewAt
 pub mod Views
+pub mod ExamplesStatements
+mod PlainText

@@ -4,9 +4,11 @@ use Rattle.std.specs.Option.{option_and_then}
 use Rattle.lq_base.specs.declared.dialect.Dialect.{Dialect}
 use Rattle.lq_model.specs.SqlParser.{Outcome, Parser, to_end}
 use Rattle.lq_model.specs.SqlQuery.{query}
+use Rattle.lq_model.specs.SqlStatement.{statement}
 use Rattle.lq_model.specs.SqlTest.{any_test}
 use Rattle.lq_model.specs.SqlWord.{words}
 use Rattle.lq_model.specs.declared.query.Query.{Query}
+use Rattle.lq_model.specs.declared.statement.Statement.{Statement}
 use Rattle.lq_model.specs.declared.test.Test.{Test}
 
 abbrev pub read : {A : Type 0} → Outcome A → Option A
@@ -22,3 +24,6 @@ test_in d text = whole any_test d text
 
 unfoldable pub query_in : Dialect → List ℕ → Option Query
 query_in d text = whole query d text
+
+unfoldable pub statement_in : Dialect → List ℕ → Option Statement
+statement_in d text = whole (statement d) d text

@@ -1,6 +1,6 @@
 ghost use Rattle.std.specs.Prelude.{◌≡◌, true, IfOk};
 ghost use Rattle.lq_model.specs.Reads.{Gives};
-ghost use Rattle.lq_model.specs.SqlText.{query_in, test_in};
+ghost use Rattle.lq_model.specs.SqlText.{query_in, statement_in, test_in};
 ghost use Rattle.lq_model.specs.Statement.{is_statement};
 ghost use Rattle.lq_model.specs.StatementText.{text_of};
 
@@ -21,6 +21,10 @@ pub trait SqlText {
     fn print(&self, alloc: Global, statement: &Statement) -> Result<Text, NoMemory>
         requires { is_statement dialect statement.now ≡ true }
         ensures { IfOk result (λ text. text ≡ text_of dialect statement.now) };
+
+    /// The statement that a text spells. `NotSql` exactly where it spells none.
+    fn parse(&self, alloc: Global, text: &str) -> Result<Statement, ParseFault>
+        ensures { Gives (statement_in dialect text.now) result };
 
     /// The query that a text spells. `NotSql` exactly where it spells none.
     fn parse_query(&self, alloc: Global, text: &str) -> Result<Query, ParseFault>

@@ -69,7 +69,7 @@ IsTest (Both a b) = IsTest a × IsTest b
 IsTest (Either a b) = IsTest a × IsTest b
 IsTest (Turned a) = IsTest a
 
-literal_again : (l : Literal) (rest : List Word) → IsLiteral l → literal (literal_words l rest) ≡ Some (l, rest)
+pub literal_again : (l : Literal) (rest : List Word) → IsLiteral l → literal (literal_words l rest) ≡ Some (l, rest)
 unfolding literal
 literal_again constant.Null rest h = refl
 literal_again (constant.Bool true) rest h = refl
@@ -78,7 +78,7 @@ literal_again (constant.Text t) rest h = refl
 literal_again (constant.Int n) rest h = rw h refl
 literal_again (constant.Fixed units scale) rest h = rw h refl
 
-operand_again : (x : Operand) (rest : List Word) → IsOperand x → operand (operand_words x rest) ≡ Some (x, rest)
+pub operand_again : (x : Operand) (rest : List Word) → IsOperand x → operand (operand_words x rest) ≡ Some (x, rest)
 unfolding operand name
 operand_again (side.Column c) rest h = rw h refl
 operand_again (side.Literal constant.Null) rest h = rw (literal_again constant.Null rest h) refl

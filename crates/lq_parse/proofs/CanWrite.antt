@@ -38,13 +38,13 @@ whole_makes P parser d text it makes e =
     by None e = absurd cc
     by (Some ws) e = read_makes P (to_end parser ws) it ((to_end_makes P parser makes).at ws) e
 
-literals : NumberOfSpells → Makes IsLiteralText literal
+pub literals : NumberOfSpells → Makes IsLiteralText literal
 literals spells = literal_makes (number_makes spells)
 
-where_is : (t : Test) → IsWholeTest t → is_where (Some t) ≡ true
+pub where_is : (t : Test) → IsWholeTest t → is_where (Some t) ≡ true
 where_is t it = and_from (list_all is_name (test_names t)) (is_spelled (Some t)) it.0.are_names (and_from (nat_le (levels t) 64) (list_all is_literal (test_literals t)) it.1 it.0.are_literals)
 
-option_where : (test : Option Test) → IsWholeWhere test → is_where test ≡ true
+pub option_where : (test : Option Test) → IsWholeWhere test → is_where test ≡ true
 option_where None it = refl
 option_where (Some t) it = where_is t it
 
@@ -54,14 +54,14 @@ tests_can spells d text t e = where_is t (whole_makes IsWholeTest any_test d tex
 
 -- queries
 
-abbrev IsWantedText : Wanted → Type 0
+abbrev pub IsWantedText : Wanted → Type 0
 IsWantedText w = is_wanted w ≡ true
 
-names_are : (ns : List (List ℕ)) → AllSo IsNameText ns → list_all is_name ns ≡ true
+pub names_are : (ns : List (List ℕ)) → AllSo IsNameText ns → list_all is_name ns ≡ true
 names_are [] h = refl
 names_are (n ∷ ns) h = and_from (is_name n) (list_all is_name ns) h.0 (names_are ns h.1)
 
-some_names : (ns : List (List ℕ)) → SomeSo IsNameText ns → IsWantedText (wanted.Columns ns)
+pub some_names : (ns : List (List ℕ)) → SomeSo IsNameText ns → IsWantedText (wanted.Columns ns)
 some_names [] h = absurd h
 some_names (n ∷ ns) h = names_are (n ∷ ns) h
 
@@ -74,13 +74,13 @@ selected_makes =
     (makes_after IsWantedText (expect word.Count) _ (λ a. makes_after IsWantedText (expect word.Open) _ (λ b. makes_after IsWantedText (expect word.Star) _ (λ c. makes_after IsWantedText (expect word.Close) _ (λ e. makes_pure IsWantedText wanted.Count refl)))))
     (makes_then (SomeSo IsNameText) IsWantedText (separated name) _ (separated_makes IsNameText name name_makes) (λ ns h. makes_pure IsWantedText (wanted.Columns ns) (some_names ns h))))))
 
-abbrev IsQueryText : Query → Type 0
+abbrev pub IsQueryText : Query → Type 0
 IsQueryText q = is_query q ≡ true
 
 query_is : (w : Wanted) (table : List ℕ) (test : Option Test) → IsWantedText w → IsNameText table → IsWholeWhere test → IsQueryText (record { wanted = w; table = table; test = test })
 query_is w table test a b c = and_from (is_wanted w) (is_name table && is_where test) a (and_from (is_name table) (is_where test) b (option_where test c))
 
-query_makes : NumberOfSpells → Makes IsQueryText query
+pub query_makes : NumberOfSpells → Makes IsQueryText query
 unfolding query
 query_makes spells =
     makes_after IsQueryText (expect word.Select) _ (λ a. makes_then IsWantedText IsQueryText selected _ selected_makes (λ w is_wanted. makes_after IsQueryText (expect word.From) _ (λ b.

@@ -1,20 +1,20 @@
-mod Again
-mod Bytes
-mod CanWrite
-mod Fronts
-mod Levels
-mod Lists
-mod Magnitudes
-mod Makes
-mod Meaning
-mod NumberMakes
-mod Numbers
-mod QueryAgain
-mod Quotes
-mod ReadBack
-mod Spoken
-mod Steps
-mod Turns
-mod Utf8
-mod WordSteps
-mod Written
+pub mod Again
+pub mod Bytes
+pub mod CanWrite
+pub mod Fronts
+pub mod Levels
+pub mod Lists
+pub mod Magnitudes
+pub mod Makes
+pub mod Meaning
+pub mod NumberMakes
+pub mod Numbers
+pub mod QueryAgain
+pub mod Quotes
+pub mod ReadBack
+pub mod Spoken
+pub mod Steps
+pub mod Turns
+pub mod Utf8
+pub mod WordSteps
+pub mod Written

@@ -62,12 +62,12 @@ same_words : (o : Option (List Word)) → o ≡ option_map (λ ws. ws) o
 same_words None = refl
 same_words (Some ws) = refl
 
-tail_stops : {A : Type 0} (bytes : A → List ℕ) (xs : List A) (rest : List ℕ) → Stops rest → Stops (after_commas (map bytes xs) ++ rest)
+pub tail_stops : {A : Type 0} (bytes : A → List ℕ) (xs : List A) (rest : List ℕ) → Stops rest → Stops (after_commas (map bytes xs) ++ rest)
 unfolding text.words
 tail_stops bytes [] rest stop = stop
 tail_stops bytes (x ∷ xs) rest stop = refl
 
-tail_says : Below → (d : Dialect) {A : Type 0} (P : A → Type 0) (bytes : A → List ℕ) (w : A → List Word → List Word) → ItemSays d P bytes w → (xs : List A) (rest : List ℕ)
+pub tail_says : Below → (d : Dialect) {A : Type 0} (P : A → Type 0) (bytes : A → List ℕ) (w : A → List Word → List Word) → ItemSays d P bytes w → (xs : List A) (rest : List ℕ)
     → EachItem P xs → Stops rest → Says d (after_commas (map bytes xs)) (tail_words w xs) rest
 tail_says below d P bytes w item [] rest each stop = same_words (words d rest)
 tail_says below d P bytes w item (x ∷ xs) rest each stop =

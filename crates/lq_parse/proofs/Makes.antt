@@ -64,7 +64,7 @@ makes_given P None h = record { at = λ i. tt }
 makes_given P (Some x) h = record { at = λ i. h }
 
 -- what is found under a test
-if_some : {A : Type 0} (P : A → Type 0) (b : Bool) (x : A) → (b ≡ true → P x) → IfSome (if b then Some x else None) P
+pub if_some : {A : Type 0} (P : A → Type 0) (b : Bool) (x : A) → (b ≡ true → P x) → IfSome (if b then Some x else None) P
 if_some P true x h = h refl
 if_some P false x h = tt
 
@@ -73,7 +73,7 @@ if_some P false x h = tt
 abbrev pub IsNameText : List ℕ → Type 0
 IsNameText n = is_name n ≡ true
 
-name_of_makes : (bytes : List ℕ) → IfSome (name_of bytes) IsNameText
+pub name_of_makes : (bytes : List ℕ) → IfSome (name_of bytes) IsNameText
 unfolding name_of
 name_of_makes bytes = if_some IsNameText (is_name bytes) bytes (λ is. is)
 
@@ -144,7 +144,7 @@ IsOperandText x = Facts (operand_names x) (operand_literals x)
 abbrev pub IsTestText : Test → Type 0
 IsTestText t = Facts (test_names t) (test_literals t)
 
-one : {A : Type 0} (p : A → Bool) (x : A) → p x ≡ true → list_all p (x ∷ []) ≡ true
+pub one : {A : Type 0} (p : A → Bool) (x : A) → p x ≡ true → list_all p (x ∷ []) ≡ true
 one p x is = rw is refl
 
 operand_makes : Makes IsLiteralText literal → Makes IsOperandText operand
@@ -156,7 +156,7 @@ operand_makes literals =
     (makes_then IsNameText IsOperandText name _ name_makes (λ n is. makes_pure IsOperandText (side.Column n)
     (record { are_names = one is_name n is; are_literals = refl }))))
 
-all_join : {A : Type 0} (p : A → Bool) (xs ys : List A) → list_all p xs ≡ true → list_all p ys ≡ true → list_all p (xs ++ ys) ≡ true
+pub all_join : {A : Type 0} (p : A → Bool) (xs ys : List A) → list_all p xs ≡ true → list_all p ys ≡ true → list_all p (xs ++ ys) ≡ true
 all_join p xs ys a b = list_all-append p xs ys ∙ and_from (list_all p xs) (list_all p ys) a b
 
 facts_join : (ns ms : List (List ℕ)) (ls ks : List Literal) → Facts ns ls → Facts ms ks → Facts (ns ++ ms) (ls ++ ks)

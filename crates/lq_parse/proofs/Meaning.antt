@@ -35,7 +35,7 @@ kept_same : (d : Dialect) (found : List (LexemeSort × List ℕ)) → all_words 
 kept_same d [] = refl
 kept_same d (lexeme ∷ more) = kept_by d lexeme.0 lexeme.1 more (kept_same d more)
 
-words_same : (d : Dialect) (a b : List ℕ) (found other : List (LexemeSort × List ℕ)) → lexemes d a ≡ Some found → lexemes d b ≡ Some other
+pub words_same : (d : Dialect) (a b : List ℕ) (found other : List (LexemeSort × List ℕ)) → lexemes d a ≡ Some found → lexemes d b ≡ Some other
     → without_trivia found ≡ without_trivia other → words d a ≡ words d b
 unfolding words
 words_same d a b found other is_a is_b same =

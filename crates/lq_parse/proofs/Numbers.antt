@@ -41,7 +41,7 @@ number_bytes : (w : List ℕ) → list_all is_ascii_digit w ≡ true → list_al
 number_bytes w all = all_in is_ascii_digit is_number_byte digit_is_number_byte w all
 
 -- `-` or nothing, and digits
-signed_digits : (text : List ℕ) (negative : Bool) (w : List ℕ) → text ≡ sign_text negative ++ w → is_digits w ≡ true → IsNumberText text
+pub signed_digits : (text : List ℕ) (negative : Bool) (w : List ℕ) → text ≡ sign_text negative ++ w → is_digits w ≡ true → IsNumberText text
 signed_digits text negative w is all =
     let facts = of_is_digits w all in
     let split = digits_of w facts.0 facts.1 in
@@ -76,7 +76,7 @@ tells_list_all = record {
 pub all_digits : IsNumeralModel (λ ds. list_all is_ascii_digit ds ≡ true) (digits_value 10)
 all_digits = numerals_by_value (λ ds. list_all is_ascii_digit ds ≡ true) tells_list_all
 
-decimal_digits : (n : ℕ) → n < 10 ^ 64 → is_digits (decimal n) ≡ true
+pub decimal_digits : (n : ℕ) → n < 10 ^ 64 → is_digits (decimal n) ≡ true
 decimal_digits n h =
     let is = decimal_is_IsNumeral_wide n h in
     and_from (nat_lt 0 (length (decimal n))) (list_all is_ascii_digit (decimal n)) (lt-ltb 0 _ is.0.0) (all_digits.from (decimal n) is.0.1)

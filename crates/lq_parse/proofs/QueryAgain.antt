@@ -102,7 +102,7 @@ unfolding kind_of_word
 count_says below d rest = capitals_say below.go_on d 67 (codes "OUNT") (40 ∷ rest) refl refl
 
 -- words at the front of some, and then others
-step : (d : Dialect) (bytes rest : List ℕ) (f g : List Word → List Word) (more : Option (List Word)) → words d bytes ≡ option_map f (words d rest) → words d rest ≡ option_map g more → words d bytes ≡ option_map (λ ws. f (g ws)) more
+pub step : (d : Dialect) (bytes rest : List ℕ) (f g : List Word → List Word) (more : Option (List Word)) → words d bytes ≡ option_map f (words d rest) → words d rest ≡ option_map g more → words d bytes ≡ option_map (λ ws. f (g ws)) more
 step d bytes rest f g more first second = first ∙ ap (option_map f) second ∙ twice more
   where
     twice : (o : Option (List Word)) → option_map f (option_map g o) ≡ option_map (λ ws. f (g ws)) o
@@ -144,7 +144,7 @@ where_says_all below d (Some t) is =
     let parts = test_fact below t facts.0 in
     then d (codes " WHERE ") _ [] (λ ws. bare word.Where ∷ ws) (test_words t) (where_says below d _) (test_says below d t [] parts.1 tt)
 
-where_stops : (d : Dialect) (test : Option Test) → Stops (where_text d test ++ [])
+pub where_stops : (d : Dialect) (test : Option Test) → Stops (where_text d test ++ [])
 unfolding text.words
 where_stops d None = tt
 where_stops d (Some t) = refl
@@ -165,13 +165,13 @@ no_comma : (rest : List Word) → sees word.Comma (bare word.From ∷ rest) ≡ 
 unfolding sees same_kind
 no_comma rest = refl
 
-columns_again : (n : List ℕ) (ns : List (List ℕ)) (rest : List Word) → IsReadName n → EachItem IsReadName ns
+pub columns_again : (n : List ℕ) (ns : List (List ℕ)) (rest : List Word) → IsReadName n → EachItem IsReadName ns
     → columns (names_words (n ∷ ns) (bare word.From ∷ rest)) ≡ Some (wanted.Columns (n ∷ ns), bare word.From ∷ rest)
 unfolding columns
 columns_again n ns rest one each = rw (separated_again IsReadName name name_word name_again n ns (bare word.From ∷ rest) one each (no_comma rest)) refl
 
 -- the table and the test after FROM
-where_again : (test : Option Test) → is_where test ≡ true → Below → where_test (where_words test []) ≡ Some (test, [])
+pub where_again : (test : Option Test) → is_where test ≡ true → Below → where_test (where_words test []) ≡ Some (test, [])
 unfolding where_test sees after same_kind
 where_again None is below = refl
 where_again (Some t) is below =
@@ -179,11 +179,11 @@ where_again (Some t) is below =
     let parts = test_fact below t facts.0 in
     rw (any_test_again t [] parts.0 facts.1 facts.2 nothing_ends) refl
 
-abbrev wanted_names : Wanted → List (List ℕ)
+abbrev pub wanted_names : Wanted → List (List ℕ)
 wanted_names (wanted.Columns names) = names
 wanted_names _ = []
 
-query_again : (d : Dialect) (w : Wanted) (table : List ℕ) (test : Option Test) → is_wanted w ≡ true → EachItem IsReadName (wanted_names w) → IsReadName table
+pub query_again : (d : Dialect) (w : Wanted) (table : List ℕ) (test : Option Test) → is_wanted w ≡ true → EachItem IsReadName (wanted_names w) → IsReadName table
     → where_test (where_words test []) ≡ Some (test, []) → to_end query (wanted_words d w (name_word table (where_words test []))) ≡ Some (record { wanted = w; table = table; test = test }, [])
 unfolding query selected sees_count count expect sees after same_kind name ended
 query_again d wanted.All table test is each one end = rw (one, end) refl

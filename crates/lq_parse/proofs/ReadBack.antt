@@ -22,7 +22,7 @@ use Rattle.lq_parse.proofs.Fronts.{Says}
 use Rattle.lq_parse.proofs.Spoken.{Below, test_says}
 use Rattle.lq_parse.proofs.Written.{Facts, test_fact}
 
-no_words : (d : Dialect) → words d [] ≡ Some []
+pub no_words : (d : Dialect) → words d [] ≡ Some []
 unfolding words lexemes
 no_words d = refl
 

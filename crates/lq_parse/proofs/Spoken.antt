@@ -62,7 +62,7 @@ between : Below → (d : Dialect) (bytes rest : List ℕ) (k : WordKind) → wor
 between below d bytes rest k is =
     blank_says below.go_on d (bytes ++ (32 ∷ rest)) ∙ is ∙ ap (option_map (λ ws. bare k ∷ ws)) (blank_says below.go_on d rest)
 
-op_says : Below → (d : Dialect) (o : Op) (rest : List ℕ) → Says d (op_text o) (λ ws. bare (op_kind o) ∷ ws) rest
+pub op_says : Below → (d : Dialect) (o : Op) (rest : List ℕ) → Says d (op_text o) (λ ws. bare (op_kind o) ∷ ws) rest
 unfolding text.words length_at kind_of_word
 op_says below Postgresql op.Eq rest = between below Postgresql (codes "=") rest word.Equal (mark_says below.go_on Postgresql (codes "=") (32 ∷ rest) word.Equal (omega arith) refl refl refl)
 op_says below Postgresql op.Ne rest = between below Postgresql (codes "<>") rest word.Unequal (mark_says below.go_on Postgresql (codes "<>") (32 ∷ rest) word.Unequal (omega arith) refl refl refl)

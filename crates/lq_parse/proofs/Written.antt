@@ -23,7 +23,7 @@ pub name_fact : (n : List ℕ) → is_name n ≡ true → name_of n ≡ Some n
 unfolding name_of
 name_fact n is = rw is refl
 
-literal_fact : Below → (l : Literal) → is_literal l ≡ true → IsLiteral l
+pub literal_fact : Below → (l : Literal) → is_literal l ≡ true → IsLiteral l
 literal_fact below constant.Null is = tt
 literal_fact below (constant.Bool b) is = tt
 literal_fact below (constant.Text t) is = tt

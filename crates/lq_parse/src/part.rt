@@ -9,8 +9,9 @@ use lq_base::{Literal, Name, NameFault, Text};
 use lq_model::{ParseFault, WordKind};
 use std::alloc::Global;
 
+/// The name that a text is. `NotSql` where it is none.
 #[tactic(auto, unfolding(lq_model::specs::SqlPart::name_of))]
-fn name_of(alloc: Global, text: &str) -> Result<Name, ParseFault>
+pub fn name_of(alloc: Global, text: &str) -> Result<Name, ParseFault>
     ensures { Gives (spec.name_of text.now) result }
 {
     match Name::new(alloc, text) {

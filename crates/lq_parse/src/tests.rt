@@ -1,6 +1,6 @@
-use crate::{My, Pg, parse_query, parse_test};
-use lq_base::{Dialect, Name, NoMemory, Text};
-use lq_model::{ParseFault, Query, SqlText, Statement, Test};
+use crate::{parse_query, parse_test};
+use lq_base::{Dialect, NoMemory, Text};
+use lq_model::{ParseFault, Query, Test};
 use lq_sql::{print_query, print_test};
 use std::alloc::Global;
 use std::process::Abort;
@@ -259,35 +259,6 @@ fn tests_have_at_most_64_levels(rt: HostRuntime) {
             "65 of {opening}"
         );
     }
-}
-
-// A text through the trait: whether it is a query, and whether it is a test.
-fn through<P: SqlText>(sql: &P, alloc: Global, text: &str) -> (bool, bool) {
-    let is_query = sql.parse_query(alloc, text).is_ok();
-    let is_test = sql.parse_test(alloc, text).is_ok();
-    (is_query, is_test)
-}
-
-#[test]
-fn each_dialect_reads_through_the_trait(rt: HostRuntime) {
-    assert_eq!(&rt;
-        through(&Pg, rt.alloc(), "SELECT * FROM \"a\""),
-        (true, false)
-    );
-    assert_eq!(&rt;
-        through(&My, rt.alloc(), "SELECT * FROM \"a\""),
-        (false, false)
-    );
-    assert_eq!(&rt; through(&Pg, rt.alloc(), "`a` = 1"), (false, false));
-    assert_eq!(&rt; through(&My, rt.alloc(), "`a` = 1"), (false, true));
-    let table = Name::new(rt.alloc(), "a").expect(&rt, "a name");
-    let printed = dropped(&rt, rt.alloc(), table);
-    assert_eq!(&rt; printed.as_str(), "DROP TABLE `a`");
-}
-
-fn dropped(rt: &impl Abort, alloc: Global, table: Name) -> Text {
-    let statement = Statement::DropTable { table };
-    My.print(alloc, &statement).expect(rt, "memory")
 }
 
 fn selects(alloc: Global, dialect: Dialect, word: &str) -> bool {

@@ -1,34 +1,13 @@
-use crate::parse::{parse_query, parse_test};
 use lq_base::{Dialect, NoMemory, Text};
 use lq_model::{ParseFault, Query, SqlText, Statement, Test};
+use lq_parse::{parse_query, parse_test};
 use lq_sql::print;
+use lq_statement::parse;
 use std::alloc::Global;
-
-/// SQL text of PostgreSQL.
-#[derive(Clone, Copy, Debug)]
-pub struct Pg;
 
 /// SQL text of MySQL.
 #[derive(Clone, Copy, Debug)]
 pub struct My;
-
-impl SqlText for Pg {
-    ghost use Rattle.lq_base.specs.declared.dialect.Dialect.TheVariants.{Postgresql};
-
-    ghost dialect = { Postgresql };
-
-    fn print(&self, alloc: Global, statement: &Statement) -> Result<Text, NoMemory> {
-        print(alloc, Dialect::Postgresql, statement)
-    }
-
-    fn parse_query(&self, alloc: Global, text: &str) -> Result<Query, ParseFault> {
-        parse_query(alloc, Dialect::Postgresql, text)
-    }
-
-    fn parse_test(&self, alloc: Global, text: &str) -> Result<Test, ParseFault> {
-        parse_test(alloc, Dialect::Postgresql, text)
-    }
-}
 
 impl SqlText for My {
     ghost use Rattle.lq_base.specs.declared.dialect.Dialect.TheVariants.{Mysql};
@@ -37,6 +16,10 @@ impl SqlText for My {
 
     fn print(&self, alloc: Global, statement: &Statement) -> Result<Text, NoMemory> {
         print(alloc, Dialect::Mysql, statement)
+    }
+
+    fn parse(&self, alloc: Global, text: &str) -> Result<Statement, ParseFault> {
+        parse(alloc, Dialect::Mysql, text)
     }
 
     fn parse_query(&self, alloc: Global, text: &str) -> Result<Query, ParseFault> {

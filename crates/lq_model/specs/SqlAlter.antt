@@ -1,0 +1,155 @@
+-- The grammar of ALTER.
+use Rattle.std.specs.Prelude.{Bool, true, false, if◌then◌else◌}
+use Rattle.lq_base.specs.declared.dialect.Dialect.{Dialect}
+use Rattle.lq_base.specs.declared.dialect.Dialect.TheVariants.{Postgresql, Mysql}
+use Rattle.lq_base.specs.declared.name.Name.{Name}
+use Rattle.lq_model.specs.SqlColumn.{added_column}
+use Rattle.lq_model.specs.SqlConstraint.{begins_constraint, table_constraint}
+use Rattle.lq_model.specs.SqlParser.{Parser, ◌>>=◌, ◌>>◌, pure, refuse, peek, skip, eat, expect}
+use Rattle.lq_model.specs.SqlPart.{name, literal, column_kind}
+use Rattle.lq_model.specs.declared.statement.Statement.{Statement}
+use Rattle.lq_model.specs.declared.statement.Statement.TheVariants.{AddColumn, AddForeignKey, AddPrimaryKey, AddUnique, DropColumn, DropConstraint, DropDefault, DropForeignKey, DropNotNull, DropPrimaryKey, DropUnique, Modify, RenameColumn, RenameSequence, RenameTable, RenameView, SetDefault, SetNotNull}
+use Rattle.lq_model.specs.declared.table_item.TableConstraint.{TableConstraint}
+use Rattle.lq_model.specs.declared.table_item.TableConstraint.TheVariants as constraint
+use Rattle.lq_model.specs.declared.word.WordKind.{WordKind}
+use Rattle.lq_model.specs.declared.word.WordKind.TheVariants as word
+
+-- `TO q`
+unfoldable pub new_name : Parser Name
+new_name = do
+  expect word.To
+  name
+
+-- what follows ADD
+
+abbrev pub constraint_added : Name → TableConstraint → Statement
+constraint_added table (constraint.Key key) = AddPrimaryKey table key
+constraint_added table (constraint.Unique unique) = AddUnique table unique
+constraint_added table (constraint.Foreign foreign) = AddForeignKey table foreign
+
+unfoldable pub add_constraint : Dialect → Name → Parser Statement
+add_constraint d table = do
+  found ← table_constraint d table
+  pure (constraint_added table found)
+
+-- `[COLUMN] coldef`
+unfoldable pub add_column : Dialect → Name → Parser Statement
+add_column d table = do
+  eat word.Column
+  column ← added_column d
+  pure (AddColumn table column)
+
+unfoldable pub add : Dialect → Name → Parser Statement
+add d table = do
+  found ← peek
+  if begins_constraint found then add_constraint d table else add_column d table
+
+-- what follows DROP
+
+abbrev pub drop_part_by : Dialect → Name → WordKind → Parser Statement
+drop_part_by d table word.Column = skip >> (do column ← name; pure (DropColumn table column))
+drop_part_by Postgresql table word.Constraint = skip >> (do found ← name; pure (DropConstraint table found))
+drop_part_by Mysql table word.Primary = skip >> (expect word.Key >> pure (DropPrimaryKey table))
+drop_part_by Mysql table word.Index = skip >> (do found ← name; pure (DropUnique table found))
+drop_part_by Mysql table word.Foreign = skip >> (expect word.Key >> (do found ← name; pure (DropForeignKey table found)))
+drop_part_by d table _ = refuse
+
+unfoldable pub drop_part : Dialect → Name → Parser Statement
+drop_part d table = peek >>= drop_part_by d table
+
+-- what follows ALTER COLUMN q
+
+abbrev pub set_by : Dialect → Name → Name → WordKind → Parser Statement
+set_by Postgresql table column word.Not = skip >> (expect word.Null >> pure (SetNotNull table column))
+set_by d table column word.Default = skip >> (do value ← literal; pure (SetDefault table column value))
+set_by d table column _ = refuse
+
+unfoldable pub set_part : Dialect → Name → Name → Parser Statement
+set_part d table column = peek >>= set_by d table column
+
+abbrev pub unset_by : Dialect → Name → Name → WordKind → Parser Statement
+unset_by Postgresql table column word.Not = skip >> (expect word.Null >> pure (DropNotNull table column))
+unset_by d table column word.Default = skip >> pure (DropDefault table column)
+unset_by d table column _ = refuse
+
+unfoldable pub unset_part : Dialect → Name → Name → Parser Statement
+unset_part d table column = peek >>= unset_by d table column
+
+abbrev pub alter_column_by : Dialect → Name → Name → WordKind → Parser Statement
+alter_column_by d table column word.Set = skip >> set_part d table column
+alter_column_by d table column word.Drop = skip >> unset_part d table column
+alter_column_by d table column _ = refuse
+
+unfoldable pub alter_column : Dialect → Name → Parser Statement
+alter_column d table = do
+  expect word.Column
+  column ← name
+  found ← peek
+  alter_column_by d table column found
+
+-- what follows RENAME
+
+unfoldable pub rename_column : Name → Parser Statement
+rename_column table = do
+  column ← name
+  to ← new_name
+  pure (RenameColumn table column to)
+
+unfoldable pub rename_table_to : Name → Parser Statement
+rename_table_to table = do
+  to ← new_name
+  pure (RenameTable table to)
+
+unfoldable pub rename_part : Name → Parser Statement
+rename_part table = do
+  column ← eat word.Column
+  if column then rename_column table else rename_table_to table
+
+-- what follows MODIFY: `q KIND NULL` or `q KIND NOT NULL`
+unfoldable pub modify : Name → Parser Statement
+modify table = do
+  column ← name
+  kind ← column_kind
+  required ← eat word.Not
+  expect word.Null
+  pure (Modify table column kind (if required then false else true))
+
+abbrev pub alter_table_by : Dialect → Name → WordKind → Parser Statement
+alter_table_by d table word.Add = skip >> add d table
+alter_table_by d table word.Alter = skip >> alter_column d table
+alter_table_by d table word.Drop = skip >> drop_part d table
+alter_table_by d table word.Rename = skip >> rename_part table
+alter_table_by Mysql table word.Modify = skip >> modify table
+alter_table_by d table _ = refuse
+
+-- what follows ALTER TABLE
+unfoldable pub alter_table : Dialect → Parser Statement
+alter_table d = do
+  table ← name
+  found ← peek
+  alter_table_by d table found
+
+-- what follows ALTER VIEW and ALTER SEQUENCE: `q RENAME TO q`
+
+unfoldable pub alter_view : Parser Statement
+alter_view = do
+  view ← name
+  expect word.Rename
+  to ← new_name
+  pure (RenameView view to)
+
+unfoldable pub alter_sequence : Parser Statement
+alter_sequence = do
+  sequence ← name
+  expect word.Rename
+  to ← new_name
+  pure (RenameSequence sequence to)
+
+abbrev pub alter_by : Dialect → WordKind → Parser Statement
+alter_by d word.Table = skip >> alter_table d
+alter_by Postgresql word.View = skip >> alter_view
+alter_by Postgresql word.Sequence = skip >> alter_sequence
+alter_by d _ = refuse
+
+unfoldable pub alter : Dialect → Parser Statement
+alter d = peek >>= alter_by d

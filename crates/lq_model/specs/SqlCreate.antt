@@ -1,0 +1,72 @@
+-- The grammar of CREATE.
+use Rattle.std.specs.Prelude.{Bool, true, false, if◌then◌else◌, ℤ, pos}
+use Rattle.std.specs.Ordering.{int_eq}
+use Rattle.lq_base.specs.declared.dialect.Dialect.{Dialect}
+use Rattle.lq_base.specs.declared.dialect.Dialect.TheVariants.{Postgresql}
+use Rattle.lq_base.specs.declared.literal.Literal.{Literal}
+use Rattle.lq_base.specs.declared.literal.Literal.TheVariants as constant
+use Rattle.lq_model.specs.SqlParser.{Parser, ◌>>=◌, ◌>>◌, pure, refuse, peek, skip, expect, enclosed}
+use Rattle.lq_model.specs.SqlPart.{name, literal}
+use Rattle.lq_model.specs.SqlQuery.{query}
+use Rattle.lq_model.specs.SqlTable.{create_table}
+use Rattle.lq_model.specs.declared.statement.Statement.{Statement}
+use Rattle.lq_model.specs.declared.statement.Statement.TheVariants.{CreateIndex, CreateSequence, CreateView}
+use Rattle.lq_model.specs.declared.word.WordKind.{WordKind}
+use Rattle.lq_model.specs.declared.word.WordKind.TheVariants as word
+
+-- `INDEX q ON q (c)`
+unfoldable pub create_index : Bool → Parser Statement
+create_index unique = do
+  expect word.Index
+  index ← name
+  expect word.On
+  table ← name
+  columns ← enclosed name
+  pure (CreateIndex table (record { name = index; columns = columns; unique = unique }))
+
+-- `VIEW q AS query`
+unfoldable pub create_view : Bool → Parser Statement
+create_view replace = do
+  expect word.View
+  view ← name
+  expect word.As
+  it ← query
+  pure (CreateView view it replace)
+
+abbrev pub whole_of : Literal → Parser ℤ
+whole_of (constant.Int n) = pure n
+whole_of _ = refuse
+
+-- a whole number
+unfoldable pub whole : Parser ℤ
+whole = literal >>= whole_of
+
+-- a step of 0 is none
+unfoldable pub step : Parser ℤ
+step = do
+  n ← whole
+  if int_eq n (pos 0) then refuse else pure n
+
+-- `q START WITH n INCREMENT BY n`
+unfoldable pub create_sequence : Parser Statement
+create_sequence = do
+  sequence ← name
+  expect word.Start
+  expect word.With
+  start ← whole
+  expect word.Increment
+  expect word.By
+  size ← step
+  pure (CreateSequence sequence start size)
+
+abbrev pub create_by : Dialect → WordKind → Parser Statement
+create_by d word.Table = skip >> create_table d
+create_by d word.Index = create_index false
+create_by d word.Unique = skip >> create_index true
+create_by d word.View = create_view false
+create_by d word.Or = skip >> (expect word.Replace >> create_view true)
+create_by Postgresql word.Sequence = skip >> create_sequence
+create_by d _ = refuse
+
+unfoldable pub create : Dialect → Parser Statement
+create d = peek >>= create_by d

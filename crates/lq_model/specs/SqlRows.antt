@@ -1,0 +1,51 @@
+-- The grammar of INSERT, UPDATE and DELETE.
+use Rattle.std.specs.Prelude.{Bool, if◌then◌else◌, List, []}
+use Rattle.lq_base.specs.declared.literal.Literal.{Literal}
+use Rattle.lq_base.specs.declared.name.Name.{Name}
+use Rattle.lq_model.specs.SqlParser.{Parser, ◌>>=◌, ◌>>◌, pure, peek, same_kind, expect, enclosed, separated}
+use Rattle.lq_model.specs.SqlPart.{name, literal}
+use Rattle.lq_model.specs.SqlTest.{where_test}
+use Rattle.lq_model.specs.declared.statement.Statement.{Statement}
+use Rattle.lq_model.specs.declared.statement.Statement.TheVariants.{Delete, Insert, Update}
+use Rattle.lq_model.specs.declared.word.WordKind.TheVariants as word
+
+-- the columns that get values: `(c)`, or all of the table's
+unfoldable pub stated_columns : Parser (List Name)
+stated_columns = do
+  found ← peek
+  if same_kind found word.Open then enclosed name else pure []
+
+-- `INTO q [(c)] VALUES (lit, ..)`
+unfoldable pub insert : Parser Statement
+insert = do
+  expect word.Into
+  table ← name
+  columns ← stated_columns
+  expect word.Values
+  values ← enclosed literal
+  pure (Insert table columns values)
+
+-- `q = lit`
+unfoldable pub assignment : Parser (Name × Literal)
+assignment = do
+  column ← name
+  expect word.Equal
+  value ← literal
+  pure (column, value)
+
+-- `q SET q = lit, .. [WHERE test]`
+unfoldable pub update : Parser Statement
+update = do
+  table ← name
+  expect word.Set
+  sets ← separated assignment
+  test ← where_test
+  pure (Update table sets test)
+
+-- `FROM q [WHERE test]`
+unfoldable pub delete : Parser Statement
+delete = do
+  expect word.From
+  table ← name
+  test ← where_test
+  pure (Delete table test)

@@ -1,0 +1,44 @@
+use crate::column::ColumnDef;
+use crate::constraint::{ForeignKey, Key, Unique};
+use lq_base::{Kind, Literal, Name};
+
+/// A constraint that an SQL text states apart from its columns.
+#[derive(Debug, Drop)]
+pub enum TableConstraint {
+    Key(Key),
+    Unique(Unique),
+    Foreign(ForeignKey),
+}
+
+/// What stands between two commas of CREATE TABLE. A column has the constraints that its clauses state.
+#[derive(Debug, Drop)]
+pub enum TableItem {
+    Column {
+        column: ColumnDef,
+        key: Option<Key>,
+        unique: Option<Unique>,
+        foreign: Option<ForeignKey>,
+    },
+    Constraint(TableConstraint),
+}
+
+/// The table and column that a column's REFERENCES names.
+#[derive(Debug, Drop)]
+pub struct Target {
+    pub table: Name,
+    pub column: Name,
+}
+
+/// A column with the clauses that an SQL text has stated of it.
+#[derive(Debug, Drop)]
+pub struct StatedColumn {
+    pub name: Name,
+    pub kind: Kind,
+    /// True for NULL, false for NOT NULL.
+    pub nullable: Option<bool>,
+    pub default: Option<Literal>,
+    pub numbered: bool,
+    pub key: bool,
+    pub unique: bool,
+    pub target: Option<Target>,
+}

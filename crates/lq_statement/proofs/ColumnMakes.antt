@@ -1,0 +1,133 @@
+-- The columns that are read are those of a statement.
+use Rattle.std.proofs.Common.{◌≡◌, ℕ, Bool, true, false, ◌&&◌, ◌||◌, if◌then◌else◌, List, [], ◌∷◌, Option, Some, None, is_some, IfSome, refl}
+use Rattle.std.proofs.lemmas.Bool.{and_from}
+use Rattle.lq_base.specs.Kind.{decimal_kind, is_kind, plain_kind, sized_kind}
+use Rattle.lq_base.specs.Laws.{NumberOfSpells}
+use Rattle.lq_base.specs.Name.{is_name}
+use Rattle.lq_base.specs.declared.dialect.Dialect.{Dialect}
+use Rattle.lq_base.specs.declared.dialect.Dialect.TheVariants.{Postgresql, Mysql}
+use Rattle.lq_base.specs.declared.kind.Kind.{Kind}
+use Rattle.lq_base.specs.declared.literal.Literal.{Literal}
+use Rattle.lq_model.specs.DefaultName.{foreign_name, key_name, unique_name}
+use Rattle.lq_model.specs.SqlColumn.{added_column, clause, clause_by, clauses, column_foreign, column_key, column_of, column_unique, foreign_to, has_constraint, identity, stated_column, target, with_default, with_key, with_nullable, with_number, with_target, with_unique}
+use Rattle.lq_model.specs.SqlParser.{expect, given, peek, skip}
+use Rattle.lq_model.specs.SqlPart.{column_kind, literal, name, name_of}
+use Rattle.lq_model.specs.Statement.{is_column_def}
+use Rattle.lq_model.specs.declared.column.ColumnDef.{ColumnDef}
+use Rattle.lq_model.specs.declared.constraint.ForeignKey.{ForeignKey}
+use Rattle.lq_model.specs.declared.constraint.Key.{Key}
+use Rattle.lq_model.specs.declared.constraint.Unique.{Unique}
+use Rattle.lq_model.specs.declared.table_item.StatedColumn.{StatedColumn}
+use Rattle.lq_model.specs.declared.table_item.Target.{Target}
+use Rattle.lq_model.specs.declared.word.WordKind.{WordKind}
+use Rattle.lq_model.specs.declared.word.WordKind.TheVariants as word
+use Rattle.lq_parse.proofs.CanWrite.{literals}
+use Rattle.lq_parse.proofs.Makes.{IsLiteralText, IsNameText, Makes, makes_after, makes_given, makes_if, makes_pure, makes_refuse, makes_then, name_makes, name_of_makes}
+use Rattle.lq_statement.proofs.ConstraintMakes.{IsForeignText, IsKeyName, IsKeyText, IsUniqueText, foreign_is, key_is, key_name_is, unique_is}
+use Rattle.lq_statement.proofs.KindMakes.{IsKind, kind_makes}
+use Rattle.lq_statement.proofs.Parts.{join}
+
+abbrev pub IsTarget : Target → Type 0
+IsTarget t = IsNameText t.table × IsNameText t.column
+
+pub record IsStated (c : StatedColumn) : Type 0 where
+  pub name : IsNameText c.name
+  pub kind : is_kind c.kind ≡ true
+  pub default : IfSome c.default IsLiteralText
+  pub target : IfSome c.target IsTarget
+
+unless : {A : Type 0} (P : A → Type 0) (b : Bool) (x : A) → P x → IfSome (if b then None else Some x) P
+unless P true x h = tt
+unless P false x h = h
+
+target_makes : Makes IsTarget target
+unfolding target
+target_makes =
+    makes_then IsNameText IsTarget name _ name_makes (λ t h. makes_after IsTarget (expect word.Open) _ (λ a. makes_then IsNameText IsTarget name _ name_makes (λ c g. makes_after IsTarget (expect word.Close) _ (λ b.
+    makes_pure IsTarget (record { table = t; column = c }) (h, g)))))
+
+nullable_makes : (c : StatedColumn) (it : Bool) → IsStated c → Makes IsStated (given (with_nullable c it))
+nullable_makes c it is = makes_given IsStated (with_nullable c it) (unless IsStated (is_some c.nullable) _ (record { name = is.name; kind = is.kind; default = is.default; target = is.target }))
+
+number_makes : (c : StatedColumn) → IsStated c → Makes IsStated (given (with_number c))
+number_makes c is = makes_given IsStated (with_number c) (unless IsStated c.numbered _ (record { name = is.name; kind = is.kind; default = is.default; target = is.target }))
+
+clause_makes : NumberOfSpells → (d : Dialect) (c : StatedColumn) → IsStated c → Makes IsStated (clause d c)
+unfolding clause
+clause_makes spells d c is = makes_after IsStated peek (clause_by d c) (by d)
+  where
+    by : (d : Dialect) (k : WordKind) → Makes IsStated (clause_by d c k)
+    by d word.Not = makes_after IsStated skip _ (λ a. makes_after IsStated (expect word.Null) _ (λ b. nullable_makes c false is))
+    by d word.Null = makes_after IsStated skip _ (λ a. nullable_makes c true is)
+    by d word.Default =
+        makes_after IsStated skip _ (λ a. makes_then IsLiteralText IsStated literal _ (literals spells) (λ it h.
+        makes_given IsStated (with_default c it) (unless IsStated (is_some c.default) _ (record { name = is.name; kind = is.kind; default = h; target = is.target }))))
+    by d word.Primary =
+        makes_after IsStated skip _ (λ a. makes_after IsStated (expect word.Key) _ (λ b.
+        makes_given IsStated (with_key c) (unless IsStated c.key _ (record { name = is.name; kind = is.kind; default = is.default; target = is.target }))))
+    by d word.Unique = makes_after IsStated skip _ (λ a. makes_given IsStated (with_unique c) (unless IsStated c.unique _ (record { name = is.name; kind = is.kind; default = is.default; target = is.target })))
+    by d word.References =
+        makes_after IsStated skip _ (λ a. makes_then IsTarget IsStated target _ target_makes (λ it h.
+        makes_given IsStated (with_target c it) (unless IsStated (is_some c.target) _ (record { name = is.name; kind = is.kind; default = is.default; target = h }))))
+    by Postgresql word.Generated = makes_after IsStated identity _ (λ a. number_makes c is)
+    by Mysql word.AutoIncrement = makes_after IsStated skip _ (λ a. number_makes c is)
+    by d _ = makes_pure IsStated c is
+
+clauses_make : NumberOfSpells → (d : Dialect) (c : StatedColumn) → IsStated c → Makes IsStated (clauses d c)
+unfolding clauses
+clauses_make spells d c is =
+    let next = clause_makes spells d in
+    makes_then IsStated IsStated _ (clause d) (makes_then IsStated IsStated _ (clause d) (makes_then IsStated IsStated _ (clause d) (makes_then IsStated IsStated _ (clause d) (makes_then IsStated IsStated (clause d c) (clause d) (next c is) next) next) next) next) next
+
+pub stated_makes : NumberOfSpells → (d : Dialect) → Makes IsStated (stated_column d)
+unfolding stated_column
+stated_makes spells d =
+    makes_then IsNameText IsStated name _ name_makes (λ n h. makes_then IsKind IsStated column_kind _ kind_makes (λ k g. clauses_make spells d _ (record { name = h; kind = g; default = tt; target = tt })))
+
+abbrev pub IsDef : ColumnDef → Type 0
+IsDef c = is_column_def c ≡ true
+
+pub column_is : (c : StatedColumn) → IsStated c → IsDef (column_of c)
+column_is c is = by c.default is.default
+  where
+    by : (default : Option Literal) → IfSome default IsLiteralText → IsDef (record { name = c.name; kind = c.kind; nullable = (column_of c).nullable; default = default; numbered = c.numbered })
+    by None h = join is.name (and_from (is_kind c.kind) _ is.kind refl)
+    by (Some l) h = join is.name (and_from (is_kind c.kind) _ is.kind h)
+
+pub added_makes : NumberOfSpells → (d : Dialect) → Makes IsDef (added_column d)
+unfolding added_column
+added_makes spells d = makes_then IsStated IsDef (stated_column d) _ (stated_makes spells d) (λ c is. makes_if IsDef (has_constraint c) _ _ (makes_refuse IsDef) (makes_pure IsDef (column_of c) (column_is c is)))
+
+-- the constraints of clauses
+
+abbrev pub MayBeKey : Dialect → Option Key → Type 0
+MayBeKey d o = IfSome o (IsKeyText d)
+
+abbrev pub MayBeUnique : Option Unique → Type 0
+MayBeUnique o = IfSome o IsUniqueText
+
+abbrev pub MayBeForeign : Option ForeignKey → Type 0
+MayBeForeign o = IfSome o IsForeignText
+
+pub column_key_makes : (d : Dialect) (table : List ℕ) (c : StatedColumn) → IsStated c → Makes (MayBeKey d) (column_key d table c)
+unfolding column_key
+column_key_makes d table c is =
+    makes_if (MayBeKey d) c.key _ _
+    (makes_then (IsKeyName d) (MayBeKey d) (given (name_of (key_name d table))) _ (makes_given (IsKeyName d) (name_of (key_name d table)) (key_name_is d table)) (λ n h.
+    makes_pure (MayBeKey d) (Some (record { name = n; columns = c.name ∷ [] })) (key_is d n (c.name ∷ []) h (is.name, tt))))
+    (makes_pure (MayBeKey d) None tt)
+
+pub column_unique_makes : (table : List ℕ) (c : StatedColumn) → IsStated c → Makes MayBeUnique (column_unique table c)
+unfolding column_unique
+column_unique_makes table c is =
+    makes_if MayBeUnique c.unique _ _
+    (makes_then IsNameText MayBeUnique (given (name_of (unique_name table (c.name ∷ [])))) _ (makes_given IsNameText (name_of (unique_name table (c.name ∷ []))) (name_of_makes (unique_name table (c.name ∷ [])))) (λ n h.
+    makes_pure MayBeUnique (Some (record { name = n; columns = c.name ∷ [] })) (unique_is n (c.name ∷ []) h (is.name, tt))))
+    (makes_pure MayBeUnique None tt)
+
+pub column_foreign_makes : (table column : List ℕ) (o : Option Target) → IsNameText column → IfSome o IsTarget → Makes MayBeForeign (column_foreign table column o)
+unfolding column_foreign foreign_to
+column_foreign_makes table column None h g = makes_pure MayBeForeign None tt
+column_foreign_makes table column (Some it) h g =
+    makes_then IsNameText MayBeForeign (given (name_of (foreign_name table (column ∷ [])))) _ (makes_given IsNameText (name_of (foreign_name table (column ∷ []))) (name_of_makes (foreign_name table (column ∷ [])))) (λ n is.
+    makes_pure MayBeForeign (Some (record { name = n; columns = column ∷ []; table = it.table; targets = it.column ∷ []; cascade = false })) (foreign_is n it.table (column ∷ []) (it.column ∷ []) false is (h, tt) g.0 (g.1, tt)))

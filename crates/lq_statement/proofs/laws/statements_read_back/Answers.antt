@@ -1,0 +1,12 @@
+use Rattle.lq_statement.proofs.ReadBack.{statements_read}
+use Rattle.lq_statement.proofs.laws.statements_read_back.Goals as goal
+
+pub returns : goal.returns
+returns c =
+    statements_read (record {
+      go_on = c.lexemes_go_on.ensures;
+      names = c.names_are_read.ensures;
+      strings = c.texts_are_read.ensures;
+      fixed = c.fixed_reads_back.ensures;
+      spells = c.number_of_spells.ensures;
+    })

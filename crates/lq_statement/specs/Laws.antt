@@ -1,0 +1,22 @@
+-- What holds of the meanings of statements' texts.
+use Rattle.std.specs.Prelude.{◌≡◌, ℕ, true, List, Some}
+use Rattle.lq_base.specs.SqlLexeme.{lexemes}
+use Rattle.lq_base.specs.declared.dialect.Dialect.{Dialect}
+use Rattle.lq_base.specs.declared.lexeme.LexemeSort.{LexemeSort}
+use Rattle.lq_model.specs.SqlText.{statement_in}
+use Rattle.lq_model.specs.Statement.{is_statement}
+use Rattle.lq_model.specs.StatementText.{text_of}
+use Rattle.lq_model.specs.declared.statement.Statement.{Statement}
+use Rattle.lq_parse.specs.Laws.{without_trivia}
+
+-- a statement of the dialect is read from its text
+abbrev pub StatementsReadBack : Type 0
+StatementsReadBack = (d : Dialect) (s : Statement) → is_statement d s ≡ true → statement_in d (text_of d s) ≡ Some s
+
+-- a statement that is read is one of the dialect
+abbrev pub StatementsCanBeWritten : Type 0
+StatementsCanBeWritten = (d : Dialect) (text : List ℕ) (s : Statement) → statement_in d text ≡ Some s → is_statement d s ≡ true
+
+-- other blanks and comments between the words change nothing
+abbrev pub BlanksChangeNoStatement : Type 0
+BlanksChangeNoStatement = (d : Dialect) (a b : List ℕ) (found other : List (LexemeSort × List ℕ)) → lexemes d a ≡ Some found → lexemes d b ≡ Some other → without_trivia found ≡ without_trivia other → statement_in d a ≡ statement_in d b

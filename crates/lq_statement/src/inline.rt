@@ -1,0 +1,91 @@
+ghost use Rattle.std.specs.Prelude.{◌≡◌, [], ◌∷◌, IfOk, None};
+ghost use Rattle.lq_model.specs.Reads.{Reads};
+ghost use Rattle.lq_model.specs.SqlColumn as spec;
+
+use crate::name::{foreign_name, key_name, unique_name};
+use lq_base::{Dialect, Duplicate, Items, Name, NoMemory};
+use lq_model::{ForeignKey, Key, ParseFault, StatedColumn, Target, Unique};
+use lq_parse::cursor::Words;
+use std::alloc::Global;
+
+fn one(alloc: Global, name: &Name) -> Result<Items<Name>, NoMemory>
+    ensures { IfOk result (λ names. names ≡ name.now ∷ []) }
+{
+    let mut names = Items::new(alloc);
+    names.push(name.duplicate(alloc)?)?;
+    Ok(names)
+}
+
+/// The key that a column's clauses state.
+#[tactic(auto, unfolding(lq_model::specs::SqlColumn::column_key))]
+pub fn column_key(
+    alloc: Global,
+    dialect: Dialect,
+    words: &mut Words<'_>,
+    table: &Name,
+    column: &StatedColumn,
+) -> Result<Option<Key>, ParseFault>
+    ensures { Reads (spec.column_key dialect table.now column.now words.old) result words.new }
+{
+    if !column.key {
+        return Ok(None);
+    }
+    let columns = one(alloc, &column.name)?;
+    let name = key_name(alloc, dialect, table)?;
+    Ok(Some(Key { name, columns }))
+}
+
+/// The unique constraint that a column's clauses state.
+#[tactic(auto, unfolding(lq_model::specs::SqlColumn::column_unique))]
+pub fn column_unique(
+    alloc: Global,
+    words: &mut Words<'_>,
+    table: &Name,
+    column: &StatedColumn,
+) -> Result<Option<Unique>, ParseFault>
+    ensures { Reads (spec.column_unique table.now column.now words.old) result words.new }
+{
+    if !column.unique {
+        return Ok(None);
+    }
+    let columns = one(alloc, &column.name)?;
+    let name = unique_name(alloc, table, columns.as_slice())?;
+    Ok(Some(Unique { name, columns }))
+}
+
+#[tactic(auto, unfolding(lq_model::specs::SqlColumn::foreign_to))]
+fn foreign_to(
+    alloc: Global,
+    words: &mut Words<'_>,
+    table: &Name,
+    column: &Name,
+    target: &Target,
+) -> Result<Option<ForeignKey>, ParseFault>
+    ensures { Reads (spec.foreign_to table.now column.now target.now words.old) result words.new }
+{
+    let columns = one(alloc, column)?;
+    let name = foreign_name(alloc, table, columns.as_slice())?;
+    Ok(Some(ForeignKey {
+        name,
+        columns,
+        table: target.table.duplicate(alloc)?,
+        targets: one(alloc, &target.column)?,
+        cascade: false,
+    }))
+}
+
+/// The foreign key that a column's clauses state.
+#[tactic(auto, unfolding(lq_model::specs::SqlColumn::column_foreign))]
+pub fn column_foreign(
+    alloc: Global,
+    words: &mut Words<'_>,
+    table: &Name,
+    column: &StatedColumn,
+) -> Result<Option<ForeignKey>, ParseFault>
+    ensures { Reads (spec.column_foreign table.now column.now.name column.now.target words.old) result words.new }
+{
+    match &column.target {
+        None => Ok(None),
+        Some(target) => foreign_to(alloc, words, table, &column.name, target),
+    }
+}
