@@ -41,9 +41,9 @@ left_after [] used a b c p left = gains_after [] a b c p left
 left_after (e ∷ made) used a b c p (inl g) = inl (g.0, gains_after _ a b c p g.1)
 left_after (e ∷ made) used a b c p (inr g) = inr (g.0, gains_after _ a b c p g.1)
 
-pub unfinished_after : (f : AppendFault) (entries : List T) (a b c : Option (List ℕ)) → Gains [] a b → IsUnfinished (fault_of_append f) entries b c → IsUnfinished (fault_of_append f) entries a c
-unfinished_after append.Disk entries a b c p cut = cut_after entries a b c p cut
-unfinished_after (append.Full used next) entries a b c p full = record {
+pub unfinished_after : (f : AppendFault) (start : ℕ) (entries : List T) (a b c : Option (List ℕ)) → Gains [] a b → IsUnfinished (fault_of_append f) start entries b c → IsUnfinished (fault_of_append f) start entries a c
+unfinished_after append.Disk start entries a b c p cut = cut_after entries a b c p cut
+unfinished_after (append.Full used next) start entries a b c p full = record {
   made = full.made;
   first = full.first;
   rest = full.rest;
@@ -55,5 +55,5 @@ unfinished_after (append.Full used next) entries a b c p full = record {
   now = left_after full.made used a b c p full.now;
 }
 
-pub not_begun : (f : AppendFault) (entries : List T) (a b : Option (List ℕ)) → f ≡ append.Disk → Gains [] a b → IsUnfinished (fault_of_append f) entries a b
-not_begun f entries a b is p = subst (λ g. IsUnfinished (fault_of_append g) entries a b) (sym is) (record { made = []; rest = entries; is = refl; now = inl p })
+pub not_begun : (f : AppendFault) (start : ℕ) (entries : List T) (a b : Option (List ℕ)) → f ≡ append.Disk → Gains [] a b → IsUnfinished (fault_of_append f) start entries a b
+not_begun f start entries a b is p = subst (λ g. IsUnfinished (fault_of_append g) start entries a b) (sym is) (record { made = []; rest = entries; is = refl; now = inl p })

@@ -173,33 +173,33 @@ run_done first last turns a b c d opened turned closed =
 pub opening_fits : (first : T) (start opened_at : ℕ) → opened_at ≡ start + size_of first → start + size_of first ≤ ordinary → opened_at ≤ ordinary
 opening_fits first start opened_at opened_is fits = omega (arith, opened_is, fits)
 
-pub turns_fit : (first : T) (turns : List T) (start opened_at used : ℕ) → start ≡ 17 → opened_at ≡ start + size_of first → used ≡ opened_at + room_of turns
-    → used ≤ ordinary → 17 + room_of (first ∷ turns) ≤ ordinary
-turns_fit first turns start opened_at used start_is opened_is used_is within =
+pub turns_fit : (first : T) (turns : List T) (start opened_at used : ℕ) → opened_at ≡ start + size_of first → used ≡ opened_at + room_of turns
+    → used ≤ ordinary → start + room_of (first ∷ turns) ≤ ordinary
+turns_fit first turns start opened_at used opened_is used_is within =
     let r = room_of-append (first ∷ []) turns in
-    omega (arith, start_is, opened_is, used_is, within, r)
+    omega (arith, opened_is, used_is, within, r)
 
-pub last_fits : (first last : T) (turns : List T) (start opened_at used : ℕ) → start ≡ 17 → opened_at ≡ start + size_of first → used ≡ opened_at + room_of turns
-    → used + size_of last ≤ most → 17 + room_of (first ∷ turns ++ last ∷ []) ≤ most
-last_fits first last turns start opened_at used start_is opened_is used_is fits =
+pub last_fits : (first last : T) (turns : List T) (start opened_at used : ℕ) → opened_at ≡ start + size_of first → used ≡ opened_at + room_of turns
+    → used + size_of last ≤ most → start + room_of (first ∷ turns ++ last ∷ []) ≤ most
+last_fits first last turns start opened_at used opened_is used_is fits =
     let r = room_of-append (first ∷ []) turns in
     let q = room_of-append (first ∷ turns) (last ∷ []) in
-    omega (arith, start_is, opened_is, used_is, fits, r, q)
+    omega (arith, opened_is, used_is, fits, r, q)
 
 pub opening_stopped : (fault : AppendFault) (first last : T) (turns : List T) (a b : Option (List ℕ)) (used : ℕ)
-    → used ≡ 17 → StoppedBy fault ordinary first [] used a b → IsUnfinished (fault_of_append fault) (first ∷ turns ++ last ∷ []) a b
-opening_stopped append.Disk first last turns a b used start (inl now) = record { made = []; rest = first ∷ turns ++ last ∷ []; is = refl; now = inl now }
-opening_stopped append.Disk first last turns a b used start (inr now) = record { made = first ∷ []; rest = turns ++ last ∷ []; is = refl; now = inl now }
-opening_stopped (append.Full u n) first last turns a b used start (now, u_is, n_is, past) =
+    → StoppedBy fault ordinary first [] used a b → IsUnfinished (fault_of_append fault) used (first ∷ turns ++ last ∷ []) a b
+opening_stopped append.Disk first last turns a b used (inl now) = record { made = []; rest = first ∷ turns ++ last ∷ []; is = refl; now = inl now }
+opening_stopped append.Disk first last turns a b used (inr now) = record { made = first ∷ []; rest = turns ++ last ∷ []; is = refl; now = inl now }
+opening_stopped (append.Full u n) first last turns a b used (now, u_is, n_is, past) =
     let e = end_before-more turns last in
     record {
       made = [];
       first = first;
       rest = turns ++ last ∷ [];
       is = refl;
-      used_is = omega (arith, u_is, start);
+      used_is = omega (arith, u_is);
       next_is = n_is;
-      fits = omega (arith, u_is, start);
+      fits = inl refl;
       past = omega (arith, e, u_is, n_is, past);
       now = now;
     }
@@ -260,10 +260,10 @@ freed_left u used last made a c d last_is place gains (inr (past, now)) =
     inr (subst (λ t. most < u + size_of t) last_is (omega (arith, place, past)), gains_no_more made a c d gains now)
 
 stops_at_full : (u n : ℕ) (first last : T) (turns : List T) (a b c d : Option (List ℕ)) (start opened_at used : ℕ)
-    → last ≡ freeing → start ≡ 17 → opened_at ≡ start + size_of first → used ≤ ordinary → u ≡ used → Gains (first ∷ []) a b → Stops (append.Full u n) ordinary turns b c opened_at
+    → last ≡ freeing → opened_at ≡ start + size_of first → used ≤ ordinary → u ≡ used → Gains (first ∷ []) a b → Stops (append.Full u n) ordinary turns b c opened_at
     → ((used + size_of last ≤ most) × Gains (last ∷ []) c d) ⊎ ((most < used + size_of last) × Gains [] c d)
-    → IsFull u n (first ∷ turns ++ last ∷ []) a d
-stops_at_full u n first last turns a b c d start opened_at used last_is start_is opened_is within place opened s freed =
+    → IsFull start u n (first ∷ turns ++ last ∷ []) a d
+stops_at_full u n first last turns a b c d start opened_at used last_is opened_is within place opened s freed =
     let u_is = s.why.1 in
     let n_is = s.why.2 in
     let past = s.why.3 in
@@ -274,51 +274,51 @@ stops_at_full u n first last turns a b c d start opened_at used last_is start_is
       first = s.next;
       rest = s.rest ++ last ∷ [];
       is = in_run first last turns s.made (s.next ∷ s.rest) s.is;
-      used_is = omega (arith, u_is, start_is, opened_is, r);
+      used_is = omega (arith, u_is, opened_is, r);
       next_is = n_is;
-      fits = omega (arith, place, within);
+      fits = inr (omega (arith, place, within));
       past = omega (arith, e, u_is, n_is, past);
       now = freed_left u used last (first ∷ s.made) a c d last_is place (gains_more (first ∷ []) s.made a b c opened s.why.0) freed;
     }
 
 -- what stands where a turn had no room
 pub turns_full : (fault : AppendFault) (u n : ℕ) (first last : T) (turns : List T) (a b c d : Option (List ℕ)) (start opened_at used : ℕ)
-    → fault ≡ append.Full u n → last ≡ freeing → start ≡ 17 → opened_at ≡ start + size_of first → opened_at ≤ ordinary
+    → fault ≡ append.Full u n → last ≡ freeing → opened_at ≡ start + size_of first → opened_at ≤ ordinary
     → (IsFullFault fault → opened_at ≤ ordinary → used ≤ ordinary) → IsPlace used fault
     → Gains (first ∷ []) a b → Stops fault ordinary turns b c opened_at
     → ((used + size_of last ≤ most) × Gains (last ∷ []) c d) ⊎ ((most < used + size_of last) × Gains [] c d)
-    → IsFull u n (first ∷ turns ++ last ∷ []) a d
-turns_full fault u n first last turns a b c d start opened_at used fault_is last_is start_is opened_is opened_fits within place opened s freed =
-    stops_at_full u n first last turns a b c d start opened_at used last_is start_is opened_is
+    → IsFull start u n (first ∷ turns ++ last ∷ []) a d
+turns_full fault u n first last turns a b c d start opened_at used fault_is last_is opened_is opened_fits within place opened s freed =
+    stops_at_full u n first last turns a b c d start opened_at used last_is opened_is
     (subst (λ f. IsFullFault f → opened_at ≤ ordinary → used ≤ ordinary) fault_is within tt opened_fits) (subst (λ f. IsPlace used f) fault_is place)
     opened (subst (λ f. Stops f ordinary turns b c opened_at) fault_is s) freed
 
 -- what stands where the last entry was not added
 pub last_stopped : (fault : AppendFault) (first last : T) (turns : List T) (a b c d : Option (List ℕ)) (start opened_at used : ℕ)
-    → last ≡ freeing → start ≡ 17 → opened_at ≡ start + size_of first → used ≡ opened_at + room_of turns → used ≤ ordinary → Gains (first ∷ []) a b → Gains turns b c
-    → StoppedBy fault most last [] used c d → IsUnfinished (fault_of_append fault) (first ∷ turns ++ last ∷ []) a d
-last_stopped append.Disk first last turns a b c d start opened_at used last_is start_is opened_is used_is within opened turned (inl now) = record {
+    → last ≡ freeing → opened_at ≡ start + size_of first → used ≡ opened_at + room_of turns → used ≤ ordinary → Gains (first ∷ []) a b → Gains turns b c
+    → StoppedBy fault most last [] used c d → IsUnfinished (fault_of_append fault) start (first ∷ turns ++ last ∷ []) a d
+last_stopped append.Disk first last turns a b c d start opened_at used last_is opened_is used_is within opened turned (inl now) = record {
   made = first ∷ turns;
   rest = last ∷ [];
   is = refl;
   now = inl (gains_no_more (first ∷ turns) a c d (gains_more (first ∷ []) turns a b c opened turned) now);
 }
-last_stopped append.Disk first last turns a b c d start opened_at used last_is start_is opened_is used_is within opened turned (inr now) = record {
+last_stopped append.Disk first last turns a b c d start opened_at used last_is opened_is used_is within opened turned (inr now) = record {
   made = first ∷ turns;
   rest = last ∷ [];
   is = refl;
   now = inr (gains_freeing (first ∷ turns) last a c d last_is (gains_more (first ∷ []) turns a b c opened turned) now);
 }
-last_stopped (append.Full u n) first last turns a b c d start opened_at used last_is start_is opened_is used_is within opened turned (now, u_is, n_is, past) =
+last_stopped (append.Full u n) first last turns a b c d start opened_at used last_is opened_is used_is within opened turned (now, u_is, n_is, past) =
     let r = room_of-append (first ∷ []) turns in
     record {
       made = first ∷ turns;
       first = last;
       rest = [];
       is = refl;
-      used_is = omega (arith, u_is, start_is, opened_is, used_is, r);
+      used_is = omega (arith, u_is, opened_is, used_is, r);
       next_is = n_is;
-      fits = omega (arith, u_is, within);
+      fits = inr (omega (arith, u_is, within));
       past = omega (arith, u_is, n_is, past);
       now = freed_left u used last (first ∷ turns) a c d last_is u_is (gains_more (first ∷ []) turns a b c opened turned) (inr (past, now));
     }

@@ -31,8 +31,8 @@ no_more (x ∷ xs) ys (f ∷ front) y last e =
     let right : room_of (f ∷ front) ≡ room_of (f ∷ []) + room_of front = sum_by-append size_of (f ∷ []) front in
     omega (arith, more, same, left, right)
 
-module _ (front : List T) (last : T) (fits : 17 + room_of front ≤ ordinary) (all : 17 + room_of (front ++ last ∷ []) ≤ most) where
-  each_fits : (made rest : List T) (next : T) → front ++ last ∷ [] ≡ made ++ next ∷ rest → 17 + room_of made + size_of next ≤ end_before rest
+module _ (start : ℕ) (front : List T) (last : T) (fits : start + room_of front ≤ ordinary) (all : start + room_of (front ++ last ∷ []) ≤ most) where
+  each_fits : (made rest : List T) (next : T) → front ++ last ∷ [] ≡ made ++ next ∷ rest → start + room_of made + size_of next ≤ end_before rest
   each_fits made [] next is =
       let same = ap room_of is in
       let parts : room_of (made ++ next ∷ []) ≡ room_of made + room_of (next ∷ []) = sum_by-append size_of made (next ∷ []) in
@@ -45,8 +45,8 @@ module _ (front : List T) (last : T) (fits : 17 + room_of front ≤ ordinary) (a
       let one : room_of (next ∷ []) ≡ 0 + size_of next = refl in
       omega (arith, fits, less, parts, one)
 
-  pub room_for_each : HasRoom (front ++ last ∷ [])
+  pub room_for_each : HasRoom start (front ++ last ∷ [])
   room_for_each = record { fits = each_fits }
 
-pub room_for_none : (entries : List T) → entries ≡ [] → HasRoom entries
-room_for_none entries none = record { fits = λ made rest next is. absurd (not_nil made next rest (sym is ∙ none)) }
+pub room_for_none : (start : ℕ) (entries : List T) → entries ≡ [] → HasRoom start entries
+room_for_none start entries none = record { fits = λ made rest next is. absurd (not_nil made next rest (sym is ∙ none)) }

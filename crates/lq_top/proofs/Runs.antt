@@ -1,22 +1,30 @@
--- The entries of an update: none, or one that takes the lock, one for each changeset, and the one that frees it.
-use Rattle.std.proofs.Common.{◌≡◌, ℕ, false, List, [], ◌∷◌, ◌++◌, map, sym, subst}
+-- The entries of a command: none, or one that takes the lock, one for each turn, and the one that frees it.
+use Rattle.std.proofs.Common.{◌≡◌, ◌+◌, ℕ, Bool, true, List, [], ◌∷◌, ◌++◌, map, sym, subst}
 use Rattle.std.proofs.lemmas.List.{map-append}
 use Rattle.lq_base.specs.declared.dialect.Dialect.TheVariants.{Postgresql}
+use Rattle.lq_base.specs.declared.tracking.Tracked.{Tracked}
+use Rattle.lq_model.specs.Script.{entries}
 use Rattle.lq_model.specs.StatementText.{text_of}
 use Rattle.lq_create.proofs.Entries.{script_entries}
-use Rattle.lq_create.specs.Script.{closing, entry_of, update_turn, update_turns}
+use Rattle.lq_create.specs.Script.{Turn, closing, entry_of, greatest, rollback_turn, script, update_turns}
 use Rattle.lq_create.specs.declared.changelog.ChangeSet.{ChangeSet}
 use Rattle.lq_create.specs.declared.stamp.Stamp.{Stamp}
 use Rattle.lq_top.specs.Left.{IsRun, freeing}
-use Rattle.lq_top.specs.Update.{statements_of, texts}
+use Rattle.lq_top.specs.Fit.{turns, written}
+use Rattle.lq_top.specs.Given.{texts}
+use Rattle.lq_top.specs.declared.words.Job.{Job}
+use Rattle.lq_top.specs.declared.words.Job.TheVariants.{RollbackCount, Update}
 
-pub is_run : (stamp : Stamp) (path : List ℕ) (sets : List ChangeSet) → IsRun (texts (statements_of stamp path sets))
-is_run stamp path [] = tt
-is_run stamp path (set ∷ sets) =
-    let turn = update_turn stamp path 1 set in
-    let turns = update_turns stamp path 2 sets in
-    subst (λ all. IsRun (texts all)) (sym (script_entries false stamp turn turns))
+a_run : (made : Bool) (stamp : Stamp) (turns : List Turn) → IsRun (texts (entries (script made stamp turns)))
+a_run made stamp [] = tt
+a_run made stamp (turn ∷ turns) =
+    subst (λ all. IsRun (texts all)) (sym (script_entries made stamp turn turns))
     (texts (map entry_of (turn ∷ turns)), map-append (map (text_of Postgresql)) (map entry_of (turn ∷ turns)) (closing ∷ []))
+
+-- so are those of each command
+pub is_run : (job : Job) (stamp : Stamp) (path : List ℕ) (sets : List ChangeSet) (made : Bool) (rows : List Tracked) → IsRun (written job stamp path sets made rows)
+is_run Update stamp path sets made rows = a_run made stamp (update_turns stamp path (greatest rows + 1) (turns Update path sets rows))
+is_run (RollbackCount count) stamp path sets made rows = a_run true stamp (map (rollback_turn path) (turns (RollbackCount count) path sets rows))
 
 abbrev T : Type 0
 T = List (List ℕ)

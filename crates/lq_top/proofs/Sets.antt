@@ -7,32 +7,13 @@ use Rattle.lq_tree.specs.declared.node.TreeFault.{TreeFault}
 use Rattle.lq_create.specs.Changelog.{are_sets, changelog_of, if_so, list_of, set_of}
 use Rattle.lq_create.specs.Parts.{only}
 use Rattle.lq_create.specs.declared.changelog.ChangeSet.{ChangeSet}
-use Rattle.lq_top.specs.Update.{AreRead, AreSome, sets_in}
+use Rattle.lq_top.specs.Given.{AreRead, AreSome, sets_in}
 
 none_some : {A : Type 0} (x : A) → (let o : Option A = None in o) ≡ Some x → ⊥
 none_some x e = Prim.cc
 
 some_same : {A : Type 0} (x y : A) → (let o : Option A = Some x in o) ≡ Some y → x ≡ y
 some_same x y e = Prim.cc
-
-few_are : (sets : List ChangeSet) → are_sets sets ≡ true → length sets ≤ 10000
-few_are sets so = search rules
-
-few_if_so : (o : Option (List ChangeSet)) (sets : List ChangeSet) → option_and_then (if_so are_sets) o ≡ Some sets → length sets ≤ 10000
-few_if_so None sets e = absurd (none_some sets e)
-few_if_so (Some found) sets e =
-    elim (are_sets found) as (λ b. are_sets found ≡ b → cond b (Some found) None ≡ Some sets → length sets ≤ 10000) [
-      | true ↦ λ so q. subst (λ s. length s ≤ 10000) (some_same found sets q) (few_are found so)
-      | false ↦ λ so q. absurd (none_some sets q)
-    ] refl e
-
-few_of : (n : Node) (sets : List ChangeSet) → changelog_of n ≡ Some sets → length sets ≤ 10000
-unfolding changelog_of
-few_of n sets e = few_if_so (option_and_then (list_of set_of) (only (codes "databaseChangeLog") n)) sets e
-
-pub few_sets : (r : Result Node TreeFault) (sets : List ChangeSet) → sets_in r ≡ Some sets → length sets ≤ 10000
-few_sets (Ok n) sets e = few_of n sets e
-few_sets (Err fault) sets e = absurd (none_some sets e)
 
 pub read_sets : (r : Result Node TreeFault) (sets : List ChangeSet) → sets_in r ≡ Some sets → AreRead sets
 read_sets (Ok n) sets e = record { tree = n; is = e }

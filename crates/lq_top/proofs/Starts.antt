@@ -25,12 +25,13 @@ value_none n s h = rw (after-none n s h) refl
 pub value_some : (n s rest : List ℕ) → s ≡ n ++ rest → value n s ≡ not_empty rest
 value_some n s rest is = rw (is, after-front n rest) refl
 
-pub not_three : (words : List (String Global)) → length words ≢ 3 → asked (map (λ word. string_bytes word) words) ≡ None
-not_three [] h = refl
-not_three (a ∷ []) h = refl
-not_three (a ∷ b ∷ []) h = refl
-not_three (a ∷ b ∷ c ∷ []) h = absurd (h refl)
-not_three (a ∷ b ∷ c ∷ d ∷ more) h = refl
+pub not_either : (words : List (String Global)) → length words ≢ 3 → length words ≢ 4 → asked (map (λ word. string_bytes word) words) ≡ None
+not_either [] h k = refl
+not_either (a ∷ []) h k = refl
+not_either (a ∷ b ∷ []) h k = refl
+not_either (a ∷ b ∷ c ∷ []) h k = absurd (h refl)
+not_either (a ∷ b ∷ c ∷ d ∷ []) h k = absurd (k refl)
+not_either (a ∷ b ∷ c ∷ d ∷ e ∷ more) h k = refl
 
 pub stripped : (n s x : List ℕ) → StripsPrefix (FindsTextPrefix n) s x → s ≡ n ++ x
 stripped n s x h = search rules

@@ -1,15 +1,24 @@
 -- The database that a journal holds.
-use Rattle.std.specs.Prelude.{List, Option, ℕ}
-use Rattle.lq_model.specs.Script.{Call, entries}
-use Rattle.lq_track.specs.Database.{Database}
-use Rattle.lq_create.specs.Committed.{Leaves}
-use Rattle.lq_top.specs.Journal.{Gains}
-use Rattle.lq_top.specs.Left.{IsEmpty}
-use Rattle.lq_top.specs.Update.{texts}
+use Rattle.std.specs.List.{flat_map}
+use Rattle.std.specs.Prelude.{List, Ok, Option, IfSome, ℕ, ◌≡◌}
+use Rattle.lq_track.specs.Database.{Database, SameDatabase}
+use Rattle.lq_held.specs.Held.{HoldsDatabase}
+use Rattle.lq_top.specs.Journal.{journal}
 
--- An empty journal got what some calls commit. All of it is accepted from the empty catalogue on, and leaves this database.
-pub record ComesToHold (database : Database) (before after : Option (List ℕ)) : Type 0 where
-  pub empty : IsEmpty before
-  pub calls : List Call
-  pub now : Gains (texts (entries calls)) before after
-  pub leaves : Leaves calls database
+-- the texts of entries, one after another
+abbrev pub all : List (List (List ℕ)) → List (List ℕ)
+all entries = flat_map (λ entry. entry) entries
+
+-- the bytes are a journal that holds the database
+pub record Holds (database : Database) (bytes : List ℕ) : Type 0 where
+  pub texts : List (List (List ℕ))
+  pub is : journal bytes ≡ Ok texts
+  pub holds : HoldsDatabase (all texts) database
+
+-- the same where the disk tells
+abbrev pub HoldsIn : Database → Option (List ℕ) → Type 0
+HoldsIn database told = IfSome told (Holds database)
+
+-- a database that is the same
+abbrev pub HoldsSame : Database → Option (List ℕ) → Type 0
+HoldsSame wanted told = IfSome told (λ bytes. (database : Database) × (SameDatabase database wanted × Holds database bytes))

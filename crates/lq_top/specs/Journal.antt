@@ -1,5 +1,5 @@
 -- A journal of the PostgreSQL profile, as the texts of its entries.
-use Rattle.std.specs.Prelude.{◌≡◌, ◌+◌, ◌≤◌, ◌<◌, ◌⊎◌, ℕ, List, [], ◌∷◌, ◌++◌, map, Result, Ok, Err, Option}
+use Rattle.std.specs.Prelude.{◌≡◌, ◌+◌, ◌≤◌, ◌<◌, ◌⊎◌, ℕ, List, [], ◌∷◌, ◌++◌, map, Result, Ok, Err, Option, IfSome}
 use Rattle.std.specs.List.{sum_by}
 use Rattle.std.specs.Option.{option_map}
 use Rattle.lq_base.specs.declared.dialect.Dialect.TheVariants.{Postgresql}
@@ -35,6 +35,14 @@ with_more more (Err at) = Err at
 -- how many bytes entries take
 abbrev pub room_of : List (List (List ℕ)) → ℕ
 room_of entries = sum_by size_of entries
+
+-- the place at which a journal of these entries ends: behind a header of 16 bytes and a gate
+abbrev pub place_after : List (List (List ℕ)) → ℕ
+place_after entries = 17 + room_of entries
+
+-- these are the entries of the journal, where the disk tells
+abbrev pub IsJournal : List (List (List ℕ)) → Option (List ℕ) → Type 0
+IsJournal entries told = IfSome told (λ bytes. journal bytes ≡ Ok entries)
 
 -- the journal got these entries, where the disk tells
 abbrev pub Gains : List (List (List ℕ)) → Option (List ℕ) → Option (List ℕ) → Type 0

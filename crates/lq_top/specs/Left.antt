@@ -1,5 +1,5 @@
 -- What a command leaves on the disk.
-use Rattle.std.specs.Prelude.{◌≡◌, ◌+◌, ◌<◌, ◌≤◌, ◌⊎◌, ℕ, List, [], ◌∷◌, ◌++◌, map, length, Option, IfSome}
+use Rattle.std.specs.Prelude.{◌≡◌, ◌+◌, ◌<◌, ◌≤◌, ◌⊎◌, ℕ, List, [], ◌∷◌, ◌++◌, map, Option}
 use Rattle.lq_base.specs.declared.dialect.Dialect.TheVariants.{Postgresql}
 use Rattle.lq_model.specs.StatementText.{text_of}
 use Rattle.lq_journal.specs.Body.{size_of}
@@ -7,10 +7,6 @@ use Rattle.lq_create.specs.Script.{closing}
 use Rattle.lq_top.specs.Journal.{Gains, most, ordinary, room_of}
 use Rattle.lq_top.specs.declared.fault.Fault.{Fault}
 use Rattle.lq_top.specs.declared.fault.Fault.TheVariants as fault
-
--- the file has no more than a header and a gate
-abbrev pub IsEmpty : Option (List ℕ) → Type 0
-IsEmpty told = IfSome told (λ bytes. length bytes ≤ 17)
 
 -- the entry that frees the lock
 abbrev pub freeing : List (List ℕ)
@@ -28,9 +24,14 @@ abbrev pub end_before : List (List (List ℕ)) → ℕ
 end_before [] = most
 end_before (entry ∷ rest) = ordinary
 
--- there is room for each of the entries
-pub record HasRoom (entries : List (List (List ℕ))) : Type 0 where
-  pub fits : (made rest : List (List (List ℕ))) (next : List (List ℕ)) → entries ≡ made ++ next ∷ rest → 17 + room_of made + size_of next ≤ end_before rest
+-- there is room for each of the entries behind a place
+pub record HasRoom (start : ℕ) (entries : List (List (List ℕ))) : Type 0 where
+  pub fits : (made rest : List (List (List ℕ))) (next : List (List ℕ)) → entries ≡ made ++ next ∷ rest → start + room_of made + size_of next ≤ end_before rest
+
+-- behind a place the journal got these entries, for each of which there was room
+pub record IsDone (start : ℕ) (entries : List (List (List ℕ))) (before after : Option (List ℕ)) : Type 0 where
+  pub now : Gains entries before after
+  pub room : HasRoom start entries
 
 -- What the journal got before an entry for which there is no room: nothing where that is the first. Otherwise the lock is freed, exactly where there is room for that.
 abbrev pub IsLeftFull : List (List (List ℕ)) → ℕ → Option (List ℕ) → Option (List ℕ) → Type 0
@@ -38,26 +39,26 @@ IsLeftFull [] used before after = Gains [] before after
 IsLeftFull (entry ∷ made) used before after = ((used + size_of freeing ≤ most) × Gains ((entry ∷ made) ++ freeing ∷ []) before after)
     ⊎ ((most < used + size_of freeing) × Gains (entry ∷ made) before after)
 
--- The first entry for which there is no room was not added; those before it have room.
-pub record IsFull (used next : ℕ) (entries : List (List (List ℕ))) (before after : Option (List ℕ)) : Type 0 where
+-- Of entries behind a place the first for which there is no room was not added; those before it have room.
+pub record IsFull (start used next : ℕ) (entries : List (List (List ℕ))) (before after : Option (List ℕ)) : Type 0 where
   pub made : List (List (List ℕ))
   pub first : List (List ℕ)
   pub rest : List (List (List ℕ))
   pub is : entries ≡ made ++ first ∷ rest
-  pub used_is : used ≡ 17 + room_of made
+  pub used_is : used ≡ start + room_of made
   pub next_is : next ≡ size_of first
-  pub fits : used ≤ ordinary
+  pub fits : (made ≡ []) ⊎ (used ≤ ordinary)
   pub past : end_before rest < used + next
   pub now : IsLeftFull made used before after
 
--- what stands on the disk where a run of these entries did not come to its end, by the fault
-abbrev pub IsUnfinished : Fault → List (List (List ℕ)) → Option (List ℕ) → Option (List ℕ) → Type 0
-IsUnfinished fault.Disk entries before after = IsCut entries before after
-IsUnfinished (fault.Full used next) entries before after = IsFull used next entries before after
-IsUnfinished fault.NoMemory entries before after = after ≡ before
-IsUnfinished fault.Usage entries before after = ⊥
-IsUnfinished fault.Read entries before after = ⊥
-IsUnfinished fault.NotBuilt entries before after = ⊥
+-- what stands on the disk where a run of these entries behind a place did not come to its end, by the fault
+abbrev pub IsUnfinished : Fault → ℕ → List (List (List ℕ)) → Option (List ℕ) → Option (List ℕ) → Type 0
+IsUnfinished fault.Disk start entries before after = IsCut entries before after
+IsUnfinished (fault.Full used next) start entries before after = IsFull start used next entries before after
+IsUnfinished fault.NoMemory start entries before after = after ≡ before
+IsUnfinished fault.Usage start entries before after = ⊥
+IsUnfinished fault.Read start entries before after = ⊥
+IsUnfinished fault.NotBuilt start entries before after = ⊥
 
 -- no entry, or one that takes the lock, one for each turn, and the one that frees it
 abbrev pub IsRun : List (List (List ℕ)) → Type 0

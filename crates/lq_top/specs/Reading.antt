@@ -2,7 +2,7 @@
 use Rattle.std.specs.Prelude.{◌≡◌, ℕ, List, Option, None, IfSome}
 use Rattle.lq_outside.specs.Count.{Rose}
 use Rattle.lq_create.specs.declared.changelog.ChangeSet.{ChangeSet}
-use Rattle.lq_top.specs.Update.{given}
+use Rattle.lq_top.specs.Given.{given}
 use Rattle.lq_top.specs.declared.fault.Fault.{Fault}
 use Rattle.lq_top.specs.declared.fault.Fault.TheVariants.{Usage, Read, NotBuilt, Disk, Full, NoMemory}
 

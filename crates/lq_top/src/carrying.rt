@@ -4,7 +4,7 @@ ghost use Rattle.lq_outside.specs.Count.{Rose};
 ghost use Rattle.lq_top.specs.Fault.{fault_of_append};
 ghost use Rattle.lq_top.specs.Journal.{Gains, IsOpen};
 ghost use Rattle.lq_top.specs.Left.{HasRoom, IsRun, IsUnfinished, freeing};
-ghost use Rattle.lq_top.specs.Opened.{IsFresh};
+ghost use Rattle.lq_top.specs.Opened.{IsOpened};
 
 use crate::writing::append_run;
 use lq_journal::{AppendFault, EncodedEntry, Journal};
@@ -38,12 +38,12 @@ fn run_of(entries: &[EncodedEntry]) -> Option<Run<'_>>
     }
 }
 
-// Writes the header.
+// Writes the header, where there is none.
 #[tactic(auto, using(crate::proofs::Begun::nothing_gained))]
 fn begin<D: Disk>(to: &mut Journal<D>) -> Result<(), AppendFault>
-    requires fresh { IsFresh (D.told (disk_of to.old)) to.old }
+    requires opened { IsOpened (D.told (disk_of to.old)) to.old }
     ensures open { OnOk result (IsOpen (D.told (disk_of to.new)) to.new) }
-    ensures used { OnOk result (used_of to.new ≡ 17) }
+    ensures used { OnOk result (used_of to.new ≡ used_of to.old) }
     ensures nothing { Gains [] (D.told (disk_of to.old)) (D.told (disk_of to.new)) }
     ensures later { D.faults (disk_of to.old) ≤ D.faults (disk_of to.new) }
     ensures fault { IfErr result (λ fault. (fault ≡ AppendFault.Disk) × Rose (D.faults (disk_of to.old)) (D.faults (disk_of to.new))) }
@@ -54,7 +54,7 @@ fn begin<D: Disk>(to: &mut Journal<D>) -> Result<(), AppendFault>
     }
 }
 
-// Writes the header, and then the run.
+// Writes the header where there is none, and then the run.
 #[tactic(auto, using(crate::proofs::Begun::gains_after, crate::proofs::Begun::unfinished_after, crate::proofs::Begun::not_begun))]
 fn carry_out<D: Disk>(
     to: &mut Journal<D>,
@@ -62,11 +62,11 @@ fn carry_out<D: Disk>(
     turns: &[EncodedEntry],
     last: &EncodedEntry,
 ) -> Result<(), AppendFault>
-    requires fresh { IsFresh (D.told (disk_of to.old)) to.old }
+    requires opened { IsOpened (D.told (disk_of to.old)) to.old }
     requires freeing { last.now ≡ freeing }
     ensures gains { OnOk result (Gains (opening.now ∷ turns.now ++ last.now ∷ []) (D.told (disk_of to.old)) (D.told (disk_of to.new))) }
-    ensures room { OnOk result (HasRoom (opening.now ∷ turns.now ++ last.now ∷ [])) }
-    ensures unfinished { IfErr result (λ fault. IsUnfinished (fault_of_append fault) (opening.now ∷ turns.now ++ last.now ∷ []) (D.told (disk_of to.old)) (D.told (disk_of to.new))) }
+    ensures room { OnOk result (HasRoom (used_of to.old) (opening.now ∷ turns.now ++ last.now ∷ [])) }
+    ensures unfinished { IfErr result (λ fault. IsUnfinished (fault_of_append fault) (used_of to.old) (opening.now ∷ turns.now ++ last.now ∷ []) (D.told (disk_of to.old)) (D.told (disk_of to.new))) }
     ensures later { D.faults (disk_of to.old) ≤ D.faults (disk_of to.new) }
     ensures disk { result ≡ Err AppendFault.Disk → Rose (D.faults (disk_of to.old)) (D.faults (disk_of to.new)) }
 {
@@ -86,14 +86,14 @@ pub struct Written<D: Disk> {
     pub done: Result<(), AppendFault>,
 }
 
-/// Writes these entries on an empty file: nothing where there is none.
+/// Writes these entries behind those of the journal: nothing where there is none.
 #[tactic(auto, using(crate::proofs::Begun::nothing, crate::proofs::Room::room_for_none))]
 pub fn write<D: Disk>(journal: Journal<D>, entries: &[EncodedEntry]) -> Written<D>
-    requires fresh { IsFresh (D.told (disk_of journal)) journal }
+    requires opened { IsOpened (D.told (disk_of journal)) journal }
     requires run { IsRun entries.now }
     ensures gains { OnOk result.done (Gains entries.now (D.told (disk_of journal)) (D.told result.disk)) }
-    ensures room { OnOk result.done (HasRoom entries.now) }
-    ensures unfinished { IfErr result.done (λ fault. IsUnfinished (fault_of_append fault) entries.now (D.told (disk_of journal)) (D.told result.disk)) }
+    ensures room { OnOk result.done (HasRoom (used_of journal) entries.now) }
+    ensures unfinished { IfErr result.done (λ fault. IsUnfinished (fault_of_append fault) (used_of journal) entries.now (D.told (disk_of journal)) (D.told result.disk)) }
     ensures later { D.faults (disk_of journal) ≤ D.faults result.disk }
     ensures disk { result.done ≡ Err AppendFault.Disk → Rose (D.faults (disk_of journal)) (D.faults result.disk) }
 {

@@ -1,8 +1,8 @@
-ghost use Rattle.std.specs.Prelude.{◌≡◌, ◌≤◌, length, true, Some, IfOk, IfErr, IfSome, OnOk};
+ghost use Rattle.std.specs.Prelude.{◌≡◌, ◌≤◌, true, Some, IfOk, IfErr, IfSome, OnOk};
 ghost use Rattle.lq_tree.specs.Json.{json_tree};
 ghost use Rattle.lq_create.specs.Changelog.{is_label};
 ghost use Rattle.lq_top.specs.Reading.{IsNoChangelog, IsUnread};
-ghost use Rattle.lq_top.specs.Update.{AreRead, given, sets_in};
+ghost use Rattle.lq_top.specs.Given.{AreRead, given, sets_in};
 
 use crate::fault::Fault;
 use lq_base::{Items, char_count, has_control};
@@ -31,10 +31,9 @@ fn tree_of(alloc: Global, bytes: &[u8]) -> Result<Node, Fault>
     }
 }
 
-#[tactic(auto, using(crate::proofs::Sets::few_sets))]
+#[tactic(auto)]
 fn sets_in(alloc: Global, bytes: &[u8]) -> Result<Items<ChangeSet>, Fault>
     ensures ok { IfOk result (λ sets. sets_in (json_tree bytes.now) ≡ Some sets) }
-    ensures few { IfOk result (λ sets. length sets ≤ 10000) }
     ensures read { IfOk result AreRead }
     ensures err { IfErr result (λ fault. IsNoChangelog fault (sets_in (json_tree bytes.now))) }
 {
@@ -52,7 +51,6 @@ pub fn read_sets<F: Files>(
     files: &mut F,
 ) -> Result<Items<ChangeSet>, Fault>
     ensures sets { IfSome (F.told files.old) (λ held. IfOk result (λ sets. given held path.now ≡ Some sets)) }
-    ensures few { IfOk result (λ sets. length sets ≤ 10000) }
     ensures read { IfOk result AreRead }
     ensures path { OnOk result (is_label path.now ≡ true) }
     ensures told { F.told files.new ≡ F.told files.old }

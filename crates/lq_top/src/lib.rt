@@ -2,16 +2,17 @@
 #![tactic(auto)]
 
 mod carrying;
+mod changelog;
 mod changesets;
 mod fault;
 mod log;
 mod opening;
-mod plan;
+mod planning;
+mod printing;
 mod status;
 #[cfg(test)]
 mod tests;
 mod top;
-mod update;
 mod who;
 mod words;
 mod work;

@@ -1,6 +1,8 @@
+use crate::opening::open;
+use crate::writing::append_all;
 use crate::{Status, run};
 use lq_base::{Dialect, Items, Text};
-use lq_journal::{Entry, Journal};
+use lq_journal::{EncodedEntry, Entry, Journal};
 use lq_outside::{MemDisk, MemFiles, MemSink, SetClock};
 use std::alloc::Global;
 use std::process::Abort;
@@ -186,17 +188,144 @@ fn two_changesets(rt: HostRuntime) {
     assert_texts(&rt, second, &[tables[2], tables[3], ROWS_OF_TWO[1]]);
 }
 
+const THREE: &str = r#"{"databaseChangeLog":[
+{"changeSet":{"id":"1","author":"ann","changes":[{"createTable":{"tableName":"t","columns":[{"column":{"name":"id","type":"int"}}]}}]}},
+{"changeSet":{"id":"2","author":"ann","changes":[
+ {"createTable":{"tableName":"u","columns":[{"column":{"name":"n","type":"varchar(40)"}}]}},
+ {"createTable":{"tableName":"v","columns":[{"column":{"name":"m","type":"text"}}]}}]}},
+{"changeSet":{"id":"3","author":"bob","changes":[{"createTable":{"tableName":"w","columns":[{"column":{"name":"x","type":"bigint"}}]}}]}}]}"#;
+
+// The identity of ONE's changeset, with another column.
+const CHANGED: &str =
+    r#"{"databaseChangeLog":[{"changeSet":{"id":"1","author":"ann","changes":[{"createTable":{"tableName":"t","columns":[{"column":{"name":"id","type":"bigint"}}]}}]}}]}"#;
+
+const DELETED: &str =
+    r#"DELETE FROM "DATABASECHANGELOG" WHERE (("ID" = '1' AND "AUTHOR" = 'ann') AND "FILENAME" = 'db/r1.json')"#;
+
+const MADE: &str = r#"CREATE TABLE "t" ("id" INTEGER)"#;
+
+fn back(count: &str) -> [&str; 4] {
+    [
+        "rollback-count",
+        "--url=postgresql:db",
+        "--changelog-file=db/r1.json",
+        count,
+    ]
+}
+
+fn assert_done(rt: &impl Abort, ran: &Ran, out: &str) {
+    assert!(rt; ran.status == Status::Done);
+    assert!(rt; ran.out.as_slice() == out.as_bytes());
+    assert!(rt; ran.log.is_empty());
+}
+
+#[test]
+fn one_table_back(rt: HostRuntime) {
+    let first = run_over(&rt, rt.alloc(), &UPDATE, ONE, b"", NONE);
+    let ran = run_over(&rt, rt.alloc(), &back("--count=1"), ONE, &first.bytes, NONE);
+    let wanted = "rolled back db/r1.json::1::ann\nrollback: 1 rolled back\n";
+    assert_done(&rt, &ran, wanted);
+    let entries = entries_of(&rt, rt.alloc(), &ran.bytes);
+    let [_, _, _, opening, turn, closing] = entries.as_slice() else {
+        assert!(rt; false, "six entries");
+        return;
+    };
+    assert_texts(&rt, opening, &[TAKEN]);
+    assert_texts(&rt, turn, &[r#"DROP TABLE "t""#, DELETED]);
+    assert_texts(&rt, closing, &[FREED]);
+}
+
+#[test]
+fn none_back(rt: HostRuntime) {
+    let first = run_over(&rt, rt.alloc(), &UPDATE, ONE, b"", NONE);
+    let ran = run_over(&rt, rt.alloc(), &back("--count=0"), ONE, &first.bytes, NONE);
+    assert_done(&rt, &ran, "rollback: 0 rolled back\n");
+    assert!(rt; ran.bytes == first.bytes);
+    let ran = run_over(&rt, rt.alloc(), &UPDATE, ONE, &first.bytes, NONE);
+    let wanted = "update: 0 ran, 0 ran again, 0 marked, 0 skipped, 0 not fresh\n";
+    assert_done(&rt, &ran, wanted);
+    assert!(rt; ran.bytes == first.bytes);
+}
+
+#[test]
+fn three_forth_and_back(rt: HostRuntime) {
+    let first =
+        "ran db/r1.json::1::ann\nran db/r1.json::2::ann\nran db/r1.json::3::bob\nupdate: 3 ran, 0 ran again, 0 marked, 0 skipped, 0 not fresh\n";
+    let last = "rolled back db/r1.json::3::bob\nrollback: 1 rolled back\n";
+    let again =
+        "ran db/r1.json::3::bob\nupdate: 1 ran, 0 ran again, 0 marked, 0 skipped, 0 not fresh\n";
+    let all =
+        "rolled back db/r1.json::3::bob\nrolled back db/r1.json::2::ann\nrolled back db/r1.json::1::ann\nrollback: 3 rolled back\n";
+    let one = back("--count=1");
+    let most = back("--count=4294967295");
+    let steps = [
+        (UPDATE.as_slice(), first),
+        (one.as_slice(), last),
+        (UPDATE.as_slice(), again),
+        (most.as_slice(), all),
+        (UPDATE.as_slice(), first),
+    ];
+    let mut bytes = Vec::new(rt.alloc());
+    for (words, out) in steps {
+        let ran = run_over(&rt, rt.alloc(), words, THREE, &bytes, NONE);
+        assert_done(&rt, &ran, out);
+        bytes = ran.bytes;
+    }
+}
+
+// The entry with one text more.
+fn with_text(
+    rt: &impl Abort,
+    alloc: Global,
+    entry: Option<EncodedEntry>,
+    text: &str,
+) -> EncodedEntry {
+    match entry {
+        Some(mut entry) => {
+            entry.push(text).expect(rt, "memory");
+            entry
+        }
+        None => EncodedEntry::new(alloc, text).expect(rt, "memory"),
+    }
+}
+
+// Entries of these texts, each ended by an empty one.
+fn entries_in(rt: &impl Abort, alloc: Global, texts: &[&str]) -> Items<EncodedEntry> {
+    let mut entries = Items::new(alloc);
+    let mut begun = None;
+    for text in texts {
+        if text.is_empty() {
+            if let Some(entry) = begun {
+                entries.push(entry).expect(rt, "memory");
+            }
+            begun = None;
+        } else {
+            begun = Some(with_text(rt, alloc, begun, text));
+        }
+    }
+    entries
+}
+
+fn journal_of(rt: &impl Abort, alloc: Global, texts: &[&str]) -> Vec<u8> {
+    let disk = MemDisk::new(Vec::new(alloc), Vec::new(alloc));
+    let Ok((mut journal, _)) = open(alloc, disk) else {
+        assert!(rt; false, "a journal");
+        return Vec::new(alloc);
+    };
+    journal.prepare().expect(rt, "a header");
+    let entries = entries_in(rt, alloc, texts);
+    append_all(&mut journal, entries.as_slice()).expect(rt, "room");
+    copied(rt, alloc, journal.into_disk().bytes())
+}
+
 #[test]
 fn endings(rt: HostRuntime) {
-    let usage = "liquibase: usage: liquibase COMMAND --url=DIALECT:FILE [options]\n";
     let not_built = "liquibase: not built yet\n";
     let absent = [
         "update",
         "--url=postgresql:db",
         "--changelog-file=db/n.json",
     ];
-    let mysql = ["update", "--url=mysql:db", "--changelog-file=db/r1.json"];
-    let no_file = ["update", "--url=postgresql:", "--changelog-file=db/r1.json"];
     let cases = [
         (
             UPDATE,
@@ -214,8 +343,6 @@ fn endings(rt: HostRuntime) {
         ),
         (UPDATE, "{", b"".as_slice(), Status::NotBuilt, not_built),
         (absent, ONE, b"".as_slice(), Status::NotBuilt, not_built),
-        (mysql, ONE, b"".as_slice(), Status::Usage, usage),
-        (no_file, ONE, b"".as_slice(), Status::Usage, usage),
     ];
     for (words, changelog, bytes, status, log) in cases {
         let ran = run_over(&rt, rt.alloc(), &words, changelog, bytes, NONE);
@@ -225,6 +352,73 @@ fn endings(rt: HostRuntime) {
         assert!(rt; done || ran.bytes.as_slice() == bytes);
         assert!(rt; done || ran.out.is_empty());
     }
+}
+
+#[test]
+fn wrong_words(rt: HostRuntime) {
+    let url = "--url=postgresql:db";
+    let path = "--changelog-file=db/r1.json";
+    let cases: [&[&str]; 12] = [
+        &["update", "--url=mysql:db", path],
+        &["update", "--url=postgresql:", path],
+        &["update", path, url],
+        &["update", url, path, "--count=1"],
+        &["rollback-count", url, path],
+        &["rollback-count", url, path, "--count="],
+        &["rollback-count", url, path, "--count=01"],
+        &["rollback-count", url, path, "--count=+1"],
+        &["rollback-count", url, path, "--count=-1"],
+        &["rollback-count", url, path, "--count=4294967296"],
+        &["rollback-count", url, "--count=1", path],
+        &["rollback-count", url, path, "--count=1", "--count=1"],
+    ];
+    let usage = "liquibase: usage: liquibase COMMAND --url=DIALECT:FILE [options]\n";
+    for words in cases {
+        let ran = run_over(&rt, rt.alloc(), words, ONE, b"", NONE);
+        assert!(rt; ran.status == Status::Usage);
+        assert!(rt; ran.log.as_slice() == usage.as_bytes());
+        assert!(rt; ran.bytes.is_empty() && ran.out.is_empty());
+    }
+}
+
+fn assert_not_built(rt: &impl Abort, alloc: Global, words: &[&str], changelog: &str, bytes: &[u8]) {
+    let ran = run_over(rt, alloc, words, changelog, bytes, NONE);
+    assert!(rt; ran.status == Status::NotBuilt);
+    assert!(rt; ran.bytes.as_slice() == bytes);
+    assert!(rt; ran.out.is_empty());
+}
+
+#[test]
+fn not_taken(rt: HostRuntime) {
+    let [log, lock, row] = TABLES;
+    let held = [log, lock, row, TAKEN, ""];
+    let made_before = [log, lock, row, TAKEN, "", MADE, "", FREED, ""];
+    let no_table = [log, lock, row, TAKEN, "", ROW_OF_ONE, "", FREED, ""];
+    let other = [log, lock, row, TAKEN, "", "SELECT 1", "", FREED, ""];
+    let no_lock = [log, "", MADE, ""];
+    let ran = [log, lock, row, TAKEN, "", MADE, ROW_OF_ONE, "", FREED, ""];
+    let one = back("--count=1");
+    let none = back("--count=0");
+    let empty = r#"{"databaseChangeLog":[]}"#;
+    let cases = [
+        (held.as_slice(), UPDATE.as_slice(), ONE),
+        (held.as_slice(), none.as_slice(), ONE),
+        (made_before.as_slice(), UPDATE.as_slice(), ONE),
+        (no_table.as_slice(), one.as_slice(), ONE),
+        (other.as_slice(), UPDATE.as_slice(), ONE),
+        (no_lock.as_slice(), UPDATE.as_slice(), ONE),
+        (ran.as_slice(), UPDATE.as_slice(), empty),
+        (ran.as_slice(), none.as_slice(), empty),
+        (ran.as_slice(), UPDATE.as_slice(), CHANGED),
+        (ran.as_slice(), one.as_slice(), CHANGED),
+    ];
+    for (texts, words, changelog) in cases {
+        let bytes = journal_of(&rt, rt.alloc(), texts);
+        assert_not_built(&rt, rt.alloc(), words, changelog, &bytes);
+    }
+    let bytes = journal_of(&rt, rt.alloc(), &ran);
+    let ran = run_over(&rt, rt.alloc(), &one, ONE, &bytes, NONE);
+    assert!(rt; ran.status == Status::Done);
 }
 
 #[test]
@@ -253,17 +447,43 @@ fn failing_calls(rt: HostRuntime) {
 
 #[test]
 fn failing_disk_calls(rt: HostRuntime) {
-    // size, sync, size, read; header, sync; and for each of three entries two writes and two syncs.
-    for number in 1..20u64 {
+    // sync, size, read; header, sync; and for each of three entries two writes and two syncs.
+    for number in 1..19u64 {
         let failing = Failing {
             disk: number,
             ..NONE
         };
-        let wanted = if number <= 18 {
+        let wanted = if number <= 17 {
             Status::DiskFault
         } else {
             Status::Done
         };
         assert!(rt; status_with(&rt, rt.alloc(), failing) == wanted);
+    }
+}
+
+#[test]
+fn failing_disk_calls_of_a_rollback(rt: HostRuntime) {
+    let first = run_over(&rt, rt.alloc(), &UPDATE, ONE, b"", NONE);
+    // sync, size, read; and for each of three entries two writes and two syncs.
+    for number in 1..17u64 {
+        let failing = Failing {
+            disk: number,
+            ..NONE
+        };
+        let ran = run_over(
+            &rt,
+            rt.alloc(),
+            &back("--count=1"),
+            ONE,
+            &first.bytes,
+            failing,
+        );
+        let wanted = if number <= 15 {
+            Status::DiskFault
+        } else {
+            Status::Done
+        };
+        assert!(rt; ran.status == wanted);
     }
 }

@@ -3,11 +3,13 @@ ghost use Rattle.std.specs.Option.{option_map};
 ghost use Rattle.lq_outside.specs.Count.{Rose};
 ghost use Rattle.lq_outside.specs.Sink.{IsPart};
 ghost use Rattle.lq_top.specs.Fault.{status_of};
-ghost use Rattle.lq_top.specs.Held.{ComesToHold};
-ghost use Rattle.lq_top.specs.Run.{IsDone, IsNotBuilt, IsRefusal, IsSilent, IsWorked, WasNotDone, WasLeft, database_of, entries_of, output_of};
+ghost use Rattle.lq_track.specs.Lock.{free};
+ghost use Rattle.lq_top.specs.Back.{GoesBack};
+ghost use Rattle.lq_top.specs.Held.{HoldsSame};
+ghost use Rattle.lq_top.specs.Run.{IsRefusal, IsSilent, IsTaken, IsWorked, WasDone, WasLeft, WasUpdated};
 ghost use Rattle.lq_top.specs.Status.{IsFixed, log_text};
-ghost use Rattle.lq_top.specs.Update.{Update};
 ghost use Rattle.lq_top.specs.Words.{asked};
+ghost use Rattle.lq_top.specs.Work.{IsBarred, IsNotBuilt, Work, output_on};
 
 use crate::fault::Fault;
 use crate::log::{fixed_line, full_line, tell};
@@ -74,7 +76,8 @@ fn log_status<L: Sink>(alloc: Global, status: Status, log: &mut L) -> Status
 }
 
 /// Runs the command that the words ask for, which are those after the program's name: `update
-/// --url=postgresql:FILE --changelog-file=PATH`. The disk is the database file, and comes back with
+/// --url=postgresql:FILE --changelog-file=PATH`, or `rollback-count --url=postgresql:FILE
+/// --changelog-file=PATH --count=N`. The disk is the database file, and comes back with
 /// every status. The lock names `who`, in whom each `|` and each control character is `_`.
 ///
 /// Where the command did its work its text is written to `out`; for every status but `Done` the log
@@ -95,25 +98,31 @@ pub fn run<F: Files, D: Disk, C: Clock, O: Sink, L: Sink>(
     ensures read { result.status ≡ Status.ReadFault → Rose (F.faults files.old) (F.faults files.new) }
     ensures disk { result.status ≡ Status.DiskFault → Rose (D.faults disk) (D.faults result.disk) }
     ensures write { result.status ≡ Status.WriteFault → Rose (O.faults out.old) (O.faults out.new) }
-    ensures not_built { result.status ≡ Status.NotBuilt → IsNotBuilt (map (λ word. string_bytes word) words.now) who.now (F.told files.old) (C.last clock.new) (D.told disk) }
+    ensures not_built { result.status ≡ Status.NotBuilt → IsNotBuilt (map (λ word. string_bytes word) words.now) (F.told files.old) (D.told disk) }
+    ensures not_built_only { IsBarred (map (λ word. string_bytes word) words.now) (F.told files.old) (D.told disk) → (Rose (F.faults files.old) (F.faults files.new) → ⊥) → (Rose (D.faults disk) (D.faults result.disk) → ⊥)
+        → (result.status ≡ Status.NotBuilt) ⊎ (result.status ≡ Status.OutOfMemory) }
 
     // A refusal changes no byte.
     ensures refusals { IsRefusal result.status → D.told result.disk ≡ D.told disk }
 
-    // The journal is that of the update, and its text is printed, or for a write fault a front of it.
-    ensures done { result.status ≡ Status.Done → (u : Update (map (λ word. string_bytes word) words.now) (F.told files.old))
-        × (IsDone (entries_of (map (λ word. string_bytes word) words.now) who.now (F.told files.old) (C.last clock.new) u) (D.told disk) (D.told result.disk)
-        × (O.told out.new ≡ option_map (λ before. before ++ output_of (map (λ word. string_bytes word) words.now) who.now (F.told files.old) (C.last clock.new) u) (O.told out.old))) }
-    ensures printed_part { result.status ≡ Status.WriteFault → (u : Update (map (λ word. string_bytes word) words.now) (F.told files.old))
-        × (IsDone (entries_of (map (λ word. string_bytes word) words.now) who.now (F.told files.old) (C.last clock.new) u) (D.told disk) (D.told result.disk)
-        × IsPart (output_of (map (λ word. string_bytes word) words.now) who.now (F.told files.old) (C.last clock.new) u) (O.told out.old) (O.told out.new)) }
+    // The journal got the work's entries, and its text is printed, or for a write fault a front of it.
+    ensures done { result.status ≡ Status.Done → (w : Work (map (λ word. string_bytes word) words.now) (F.told files.old) (D.told disk))
+        × (WasDone (map (λ word. string_bytes word) words.now) who.now (F.told files.old) (C.last clock.new) (D.told disk) w (D.told result.disk)
+        × (O.told out.new ≡ option_map (λ before. before ++ output_on w.task) (O.told out.old))) }
+    ensures printed_part { result.status ≡ Status.WriteFault → (w : Work (map (λ word. string_bytes word) words.now) (F.told files.old) (D.told disk))
+        × (WasDone (map (λ word. string_bytes word) words.now) who.now (F.told files.old) (C.last clock.new) (D.told disk) w (D.told result.disk)
+        × IsPart (output_on w.task) (O.told out.old) (O.told out.new)) }
 
-    // The journal's statements, run from nothing on, leave the database that the changelog describes.
-    ensures database { IsWorked result.status → (u : Update (map (λ word. string_bytes word) words.now) (F.told files.old))
-        × ComesToHold (database_of (map (λ word. string_bytes word) words.now) who.now (F.told files.old) (C.last clock.new) u) (D.told disk) (D.told result.disk) }
+    // After an update the bytes hold the database with the tables and rows of the new changesets.
+    ensures database { IsWorked result.status → (w : Work (map (λ word. string_bytes word) words.now) (F.told files.old) (D.told disk))
+        × WasUpdated (map (λ word. string_bytes word) words.now) who.now (F.told files.old) (C.last clock.new) (D.told disk) w (D.told result.disk) }
 
-    // Otherwise the journal is what it was, or has a front of the update's entries, and then possibly the one that frees the lock.
-    ensures left { WasLeft (map (λ word. string_bytes word) words.now) who.now (F.told files.old) (C.last clock.new) result.status (D.told disk) (D.told result.disk) }
+    // What ran since a point is taken back: with the lock free, the database is the one of that point.
+    ensures rollback { (g : GoesBack (map (λ word. string_bytes word) words.now) (F.told files.old) (D.told disk)) → IsWorked result.status → HoldsSame (record g.since { lock = free }) (D.told result.disk) }
+    ensures success { GoesBack (map (λ word. string_bytes word) words.now) (F.told files.old) (D.told disk) → IsTaken result.status }
+
+    // Otherwise the journal is what it was, or has a front of the work's entries, and then possibly the one that frees the lock.
+    ensures left { WasLeft (map (λ word. string_bytes word) words.now) who.now (F.told files.old) (C.last clock.new) (D.told disk) result.status (D.told result.disk) }
     ensures silent { IsSilent result.status → O.told out.new ≡ O.told out.old }
 
     // The log gets its text, or where it failed a front of it.

@@ -1,24 +1,26 @@
-ghost use Rattle.std.specs.Prelude.{◌≡◌, ◌≤◌, IfOk, IfErr, OnOk, Err, None, length, map, min, string_bytes};
-ghost use Rattle.lq_create.specs.Output.{update_text};
-ghost use Rattle.lq_journal.specs.State.{disk_of};
+ghost use Rattle.std.specs.Prelude.{◌≡◌, ◌≤◌, List, Option, ℕ, IfOk, IfErr, Err, None, length, map, min, string_bytes};
+ghost use Rattle.lq_journal.specs.State.{disk_of, used_of};
 ghost use Rattle.lq_outside.specs.Count.{Rose};
-ghost use Rattle.lq_top.specs.Left.{HasRoom, IsUnfinished};
-ghost use Rattle.lq_top.specs.Journal.{Gains};
-ghost use Rattle.lq_top.specs.Opened.{IsFresh};
-ghost use Rattle.lq_top.specs.Run.{IsDone, IsUndone, WasNotDone, entries_for, entries_of, output_of};
-ghost use Rattle.lq_top.specs.Update.{Update, stamp_of, statements_of, texts};
+ghost use Rattle.lq_top.specs.Given.{stamp_of};
+ghost use Rattle.lq_top.specs.Journal.{IsJournal, place_after};
+ghost use Rattle.lq_top.specs.Left.{IsDone, IsRun, IsUnfinished};
+ghost use Rattle.lq_top.specs.Opened.{IsOpened};
+ghost use Rattle.lq_top.specs.Plan.{IsCarried, IsPlanned, IsUndone, IsUnplanned};
+ghost use Rattle.lq_top.specs.Run.{WasDone, WasNotDone};
 ghost use Rattle.lq_top.specs.Words.{asked};
+ghost use Rattle.lq_top.specs.Work.{Work, output_on};
 
 use crate::carrying::{Written, write};
 use crate::changesets::read_sets;
 use crate::fault::{Fault, fault_of_append};
+use lq_held::load;
 use crate::opening::open;
-use crate::update::{Plan, plan_of};
+use crate::planning::{Plan, planned};
 use crate::who::clean;
-use crate::words::read_words;
+use crate::words::{Job, Line, read_words};
 use lq_base::{NoMemory, Text};
 use lq_create::{ChangeSet, Stamp};
-use lq_journal::Journal;
+use lq_journal::{Entry, Journal};
 use lq_outside::{Clock, Disk, Files, LoadRefused};
 use std::alloc::Global;
 
@@ -41,67 +43,77 @@ fn stamp_of(alloc: Global, who: &str, reading: u64) -> Result<Stamp, NoMemory>
     })
 }
 
-// Updates an empty database with these changesets, with this stamp.
-#[tactic(auto, using(crate::proofs::Runs::is_run))]
-fn update<D: Disk>(
+// What the command is going to write behind these entries.
+fn plan_behind(
     alloc: Global,
-    journal: Journal<D>,
+    entries: &[Entry],
+    job: Job,
     stamp: &Stamp,
     path: &Text,
     sets: &[ChangeSet],
-) -> Worked<D>
-    requires fresh { IsFresh (D.told (disk_of journal)) journal }
+) -> Result<Plan, Fault>
     requires reading { stamp.now.reading ≤ 253402300799999 }
-    requires few { length sets.now ≤ 10000 }
-    ensures done { IfOk result.done (λ text. Gains (texts (statements_of stamp.now path.now sets.now)) (D.told (disk_of journal)) (D.told result.disk) × (text ≡ update_text path.now sets.now)) }
-    ensures room { OnOk result.done (HasRoom (texts (statements_of stamp.now path.now sets.now))) }
-    ensures unfinished { IfErr result.done (λ fault. IsUnfinished fault (texts (statements_of stamp.now path.now sets.now)) (D.told (disk_of journal)) (D.told result.disk)) }
+    ensures planned { (told : Option (List ℕ)) (start : ℕ) → IsJournal (map (λ entry. entry.texts) entries.now) told → start ≡ place_after (map (λ entry. entry.texts) entries.now)
+        → IfOk result (IsPlanned job stamp.now path.now sets.now told start) }
+    ensures fault { (told : Option (List ℕ)) → IsJournal (map (λ entry. entry.texts) entries.now) told → IfErr result (λ fault. IsUnplanned job stamp.now path.now sets.now told fault) }
+{
+    let Some(held) = load(alloc, entries)? else {
+        return Err(Fault::NotBuilt);
+    };
+    match planned(alloc, job, stamp, path, sets, &held)? {
+        Some(plan) => Ok(plan),
+        None => Err(Fault::NotBuilt),
+    }
+}
+
+// Writes what is planned.
+fn carry<D: Disk>(journal: Journal<D>, plan: Plan) -> Worked<D>
+    requires opened { IsOpened (D.told (disk_of journal)) journal }
+    requires run { IsRun plan.entries }
+    ensures done { IfOk result.done (λ text. IsDone (used_of journal) plan.entries (D.told (disk_of journal)) (D.told result.disk)) }
+    ensures text { IfOk result.done (λ text. text ≡ plan.text) }
+    ensures unfinished { IfErr result.done (λ fault. IsUnfinished fault (used_of journal) plan.entries (D.told (disk_of journal)) (D.told result.disk)) }
     ensures later { D.faults (disk_of journal) ≤ D.faults result.disk }
     ensures disk { result.done ≡ Err Fault.Disk → Rose (D.faults (disk_of journal)) (D.faults result.disk) }
 {
-    match plan_of(alloc, stamp, path, sets) {
-        Ok(plan) => {
-            let Plan { entries, text } = plan;
-            let Written { disk, done } = write(journal, entries.as_slice());
-            match done {
-                Ok(()) => Worked {
-                    disk,
-                    done: Ok(text),
-                },
-                Err(fault) => Worked {
-                    disk,
-                    done: Err(fault_of_append(fault)),
-                },
-            }
-        }
-        Err(_) => Worked {
-            disk: journal.into_disk(),
-            done: Err(Fault::NoMemory),
+    let Plan { entries, text } = plan;
+    let Written { disk, done } = write(journal, entries.as_slice());
+    match done {
+        Ok(()) => Worked {
+            disk,
+            done: Ok(text),
+        },
+        Err(fault) => Worked {
+            disk,
+            done: Err(fault_of_append(fault)),
         },
     }
 }
 
-fn stamped<D: Disk>(
+// Does the command on a journal that was opened, with these entries.
+fn on_journal<D: Disk>(
     alloc: Global,
     journal: Journal<D>,
-    who: &str,
-    reading: u64,
-    path: &str,
+    entries: &[Entry],
+    job: Job,
+    stamp: &Stamp,
+    path: &Text,
     sets: &[ChangeSet],
 ) -> Worked<D>
-    requires fresh { IsFresh (D.told (disk_of journal)) journal }
-    requires few { length sets.now ≤ 10000 }
-    ensures done { IfOk result.done (λ text. Gains (entries_for who.now reading path.now sets.now) (D.told (disk_of journal)) (D.told result.disk) × (text ≡ update_text path.now sets.now)) }
-    ensures room { OnOk result.done (HasRoom (entries_for who.now reading path.now sets.now)) }
-    ensures unfinished { IfErr result.done (λ fault. IsUnfinished fault (entries_for who.now reading path.now sets.now) (D.told (disk_of journal)) (D.told result.disk)) }
+    requires opened { IsOpened (D.told (disk_of journal)) journal }
+    requires journal { IsJournal (map (λ entry. entry.texts) entries.now) (D.told (disk_of journal)) }
+    requires used { used_of journal ≡ place_after (map (λ entry. entry.texts) entries.now) }
+    requires reading { stamp.now.reading ≤ 253402300799999 }
+    ensures done { IfOk result.done (IsCarried job stamp.now path.now sets.now (D.told (disk_of journal)) (D.told result.disk)) }
+    ensures undone { IfErr result.done (λ fault. IsUndone job stamp.now path.now sets.now (D.told (disk_of journal)) fault (D.told result.disk)) }
     ensures later { D.faults (disk_of journal) ≤ D.faults result.disk }
     ensures disk { result.done ≡ Err Fault.Disk → Rose (D.faults (disk_of journal)) (D.faults result.disk) }
 {
-    match named(alloc, who, reading, path) {
-        Ok((stamp, path)) => update(alloc, journal, &stamp, &path, sets),
-        Err(_) => Worked {
+    match plan_behind(alloc, entries, job, stamp, path, sets) {
+        Ok(plan) => carry(journal, plan),
+        Err(fault) => Worked {
             disk: journal.into_disk(),
-            done: Err(Fault::NoMemory),
+            done: Err(fault),
         },
     }
 }
@@ -114,23 +126,36 @@ fn named(alloc: Global, who: &str, reading: u64, path: &str) -> Result<(Stamp, T
     Ok((stamp, path))
 }
 
-// Opens the database file and updates it.
+// Opens the database file, and does there what the line asks for.
 fn on_disk<D: Disk, C: Clock>(
     alloc: Global,
     disk: D,
     who: &str,
-    path: &str,
+    line: Line<'_>,
     sets: &[ChangeSet],
     clock: &mut C,
 ) -> Worked<D>
-    requires few { length sets.now ≤ 10000 }
-    ensures done { IfOk result.done (λ text. IsDone (entries_for who.now (C.last clock.new) path.now sets.now) (D.told disk) (D.told result.disk) × (text ≡ update_text path.now sets.now)) }
-    ensures undone { IfErr result.done (λ fault. IsUndone fault (entries_for who.now (C.last clock.new) path.now sets.now) (D.told disk) (D.told result.disk)) }
+    ensures done { IfOk result.done (IsCarried line.entry.job (stamp_of who.now (C.last clock.new)) line.entry.path.now sets.now (D.told disk) (D.told result.disk)) }
+    ensures undone { IfErr result.done (λ fault. IsUndone line.entry.job (stamp_of who.now (C.last clock.new)) line.entry.path.now sets.now (D.told disk) fault (D.told result.disk)) }
     ensures later { D.faults disk ≤ D.faults result.disk }
     ensures disk { result.done ≡ Err Fault.Disk → Rose (D.faults disk) (D.faults result.disk) }
 {
     match open(alloc, disk) {
-        Ok(journal) => stamped(alloc, journal, who, clock.now(), path, sets),
+        Ok((journal, entries)) => match named(alloc, who, clock.now(), line.path) {
+            Ok((stamp, path)) => on_journal(
+                alloc,
+                journal,
+                entries.as_slice(),
+                line.job,
+                &stamp,
+                &path,
+                sets,
+            ),
+            Err(_) => Worked {
+                disk: journal.into_disk(),
+                done: Err(Fault::NoMemory),
+            },
+        },
         Err(refused) => {
             let LoadRefused { disk, fault } = refused;
             Worked {
@@ -151,10 +176,9 @@ pub fn work<F: Files, D: Disk, C: Clock>(
     clock: &mut C,
 ) -> Worked<D>
     ensures usage { asked (map (λ word. string_bytes word) words.now) ≡ None → result.done ≡ Err Fault.Usage }
-    ensures done { IfOk result.done (λ text. (u : Update (map (λ word. string_bytes word) words.now) (F.told files.old))
-        × (IsDone (entries_of (map (λ word. string_bytes word) words.now) who.now (F.told files.old) (C.last clock.new) u) (D.told disk) (D.told result.disk)
-        × (text ≡ output_of (map (λ word. string_bytes word) words.now) who.now (F.told files.old) (C.last clock.new) u))) }
-    ensures undone { IfErr result.done (λ fault. WasNotDone (map (λ word. string_bytes word) words.now) who.now (F.told files.old) (C.last clock.new) fault (D.told disk) (D.told result.disk)) }
+    ensures done { IfOk result.done (λ text. (w : Work (map (λ word. string_bytes word) words.now) (F.told files.old) (D.told disk))
+        × (WasDone (map (λ word. string_bytes word) words.now) who.now (F.told files.old) (C.last clock.new) (D.told disk) w (D.told result.disk) × (text ≡ output_on w.task))) }
+    ensures undone { IfErr result.done (λ fault. WasNotDone (map (λ word. string_bytes word) words.now) who.now (F.told files.old) (C.last clock.new) (D.told disk) fault (D.told result.disk)) }
     ensures read { result.done ≡ Err Fault.Read → Rose (F.faults files.old) (F.faults files.new) }
     ensures disk { result.done ≡ Err Fault.Disk → Rose (D.faults disk) (D.faults result.disk) }
 {
@@ -165,7 +189,7 @@ pub fn work<F: Files, D: Disk, C: Clock>(
         };
     };
     match read_sets(alloc, line.path, files) {
-        Ok(sets) => on_disk(alloc, disk, who, line.path, sets.as_slice(), clock),
+        Ok(sets) => on_disk(alloc, disk, who, line, sets.as_slice(), clock),
         Err(fault) => Worked {
             disk,
             done: Err(fault),

@@ -110,11 +110,10 @@ pub fn append_run<D: Disk>(
     last: &EncodedEntry,
 ) -> Result<(), AppendFault>
     requires open { IsOpen (D.told (disk_of to.old)) to.old }
-    requires start { used_of to.old ≡ 17 }
     requires freeing { last.now ≡ freeing }
     ensures gains { OnOk result (Gains (opening.now ∷ turns.now ++ last.now ∷ []) (D.told (disk_of to.old)) (D.told (disk_of to.new))) }
-    ensures room { OnOk result (HasRoom (opening.now ∷ turns.now ++ last.now ∷ [])) }
-    ensures unfinished { IfErr result (λ fault. IsUnfinished (fault_of_append fault) (opening.now ∷ turns.now ++ last.now ∷ []) (D.told (disk_of to.old)) (D.told (disk_of to.new))) }
+    ensures room { OnOk result (HasRoom (used_of to.old) (opening.now ∷ turns.now ++ last.now ∷ [])) }
+    ensures unfinished { IfErr result (λ fault. IsUnfinished (fault_of_append fault) (used_of to.old) (opening.now ∷ turns.now ++ last.now ∷ []) (D.told (disk_of to.old)) (D.told (disk_of to.new))) }
     ensures later { D.faults (disk_of to.old) ≤ D.faults (disk_of to.new) }
     ensures disk { result ≡ Err AppendFault.Disk → Rose (D.faults (disk_of to.old)) (D.faults (disk_of to.new)) }
 {

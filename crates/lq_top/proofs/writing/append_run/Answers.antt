@@ -9,14 +9,14 @@ returns-in-Ok-append_one-clause-gains g c = run_done _ _ _ _ _ _ _ c.in_ok-appen
 pub returns-in-Ok-append_one-clause-room : goal.returns-in-Ok-append_one-clause-room
 returns-in-Ok-append_one-clause-room g c =
     let opened_fits = opening_fits _ _ _ c.in_ok-append_one.ensures.used c.in_ok-append_one.ensures.fits in
-    let turns = turns_fit c.args.opening.now c.args.turns.now _ _ _ c.requires.start c.in_ok-append_one.ensures.used c.in-Ok.ensures.used (c.in-Ok.ensures.within opened_fits) in
-    let all = last_fits c.args.opening.now c.args.last.now c.args.turns.now _ _ _ c.requires.start c.in_ok-append_one.ensures.used c.in-Ok.ensures.used c.in-Ok-append_one.ensures.fits in
-    room_for_each (c.args.opening.now ∷ c.args.turns.now) c.args.last.now turns all
+    let turns = turns_fit c.args.opening.now c.args.turns.now _ _ _ c.in_ok-append_one.ensures.used c.in-Ok.ensures.used (c.in-Ok.ensures.within opened_fits) in
+    let all = last_fits c.args.opening.now c.args.last.now c.args.turns.now _ _ _ c.in_ok-append_one.ensures.used c.in-Ok.ensures.used c.in-Ok-append_one.ensures.fits in
+    room_for_each _ (c.args.opening.now ∷ c.args.turns.now) c.args.last.now turns all
 
 pub returns-in-Err-clause-unfinished : goal.returns-in-Err-clause-unfinished
 returns-in-Err-clause-unfinished g c =
     let opened_fits = opening_fits _ _ _ c.in_ok-append_one.ensures.used c.in_ok-append_one.ensures.fits in
-    last_stopped _ _ _ _ _ _ _ _ _ _ _ c.requires.freeing c.requires.start c.in_ok-append_one.ensures.used c.in-Ok.ensures.used
+    last_stopped _ _ _ _ _ _ _ _ _ _ _ c.requires.freeing c.in_ok-append_one.ensures.used c.in-Ok.ensures.used
     (c.in-Ok.ensures.within opened_fits) c.in_ok-append_one.ensures.gains c.in-Ok.ensures.gains c.in-Err.ensures.stops
 
 pub returns-in-Err-Disk-clause-unfinished : goal.returns-in-Err-Disk-clause-unfinished
@@ -25,7 +25,7 @@ returns-in-Err-Disk-clause-unfinished g c = turns_cut _ _ _ _ _ _ _ _ _ c.in-Err
 pub returns-in-Ok-free-clause-unfinished : goal.returns-in-Ok-free-clause-unfinished
 returns-in-Ok-free-clause-unfinished g c =
     let opened_fits = opening_fits _ _ _ c.in_ok-append_one.ensures.used c.in_ok-append_one.ensures.fits in
-    turns_full _ _ _ _ _ _ _ _ _ _ _ _ _ c.in-Err-Full.field-0-is c.requires.freeing c.requires.start c.in_ok-append_one.ensures.used opened_fits
+    turns_full _ _ _ _ _ _ _ _ _ _ _ _ _ c.in-Err-Full.field-0-is c.requires.freeing c.in_ok-append_one.ensures.used opened_fits
     c.in-Err-Full.ensures.within c.in-Err-Full.ensures.place c.in_ok-append_one.ensures.gains c.in-Err-Full.ensures.stops c.in-Ok-free.ensures.freed
 
 pub returns-in-Err-free-clause-unfinished : goal.returns-in-Err-free-clause-unfinished

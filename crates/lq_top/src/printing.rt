@@ -1,7 +1,7 @@
 ghost use Rattle.std.specs.Prelude.{◌≡◌, ◌<◌, ◌++◌, IfOk, length, map, All};
 ghost use Rattle.lq_base.specs.declared.dialect.Dialect.TheVariants.{Postgresql};
 ghost use Rattle.lq_model.specs.StatementText.{text_of};
-ghost use Rattle.lq_top.specs.Update.{AreSome, texts};
+ghost use Rattle.lq_top.specs.Given.{AreSome, texts};
 
 use lq_base::{Dialect, Items, NoMemory};
 use lq_journal::EncodedEntry;

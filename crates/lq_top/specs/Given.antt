@@ -1,18 +1,15 @@
--- What an update is to do.
+-- What a command is given: the changesets of a file, and its stamp.
 use Rattle.std.specs.Prelude.{◌≡◌, ◌<◌, false, true, ℕ, List, [], ◌∷◌, map, min, length, Option, Some, None, IfSome, option_and_then, if◌then◌else◌, nat_lt, Result, Ok, Err}
 use Rattle.lq_base.specs.declared.dialect.Dialect.TheVariants.{Postgresql}
-use Rattle.lq_model.specs.Script.{entries}
 use Rattle.lq_model.specs.StatementText.{text_of}
 use Rattle.lq_model.specs.declared.statement.Statement.{Statement}
 use Rattle.lq_tree.specs.Json.{json_tree}
 use Rattle.lq_tree.specs.declared.node.Node.{Node}
 use Rattle.lq_tree.specs.declared.node.TreeFault.{TreeFault}
 use Rattle.lq_create.specs.Changelog.{changelog_of, is_label}
-use Rattle.lq_create.specs.Script.{update_script}
 use Rattle.lq_create.specs.declared.changelog.ChangeSet.{ChangeSet}
 use Rattle.lq_create.specs.declared.stamp.Stamp.{Stamp}
 use Rattle.lq_top.specs.Who.{clean}
-use Rattle.lq_top.specs.Words.{Asked, asked}
 
 abbrev pub sets_in : Result Node TreeFault → Option (List ChangeSet)
 sets_in (Ok tree) = changelog_of tree
@@ -34,19 +31,6 @@ stamp_of who reading = record { who = clean who; reading = min reading 253402300
 pub record AreRead (sets : List ChangeSet) : Type 0 where
   pub tree : Node
   pub is : changelog_of tree ≡ Some sets
-
--- the update that the words ask for, of the changesets that the files give
-pub record Update (words : List (List ℕ)) (files : Option (List ℕ → Option (List ℕ))) : Type 0 where
-  pub asks : Asked
-  pub sets : List ChangeSet
-  pub asked_is : asked words ≡ Some asks
-  pub given_is : IfSome files (λ held. given held asks.path ≡ Some sets)
-  pub path_is : is_label asks.path ≡ true
-  pub sets_are : AreRead sets
-
--- its statements, entry by entry, on a database without tables
-abbrev pub statements_of : Stamp → List ℕ → List ChangeSet → List (List Statement)
-statements_of stamp path sets = entries (update_script false stamp path 1 sets)
 
 -- the texts of entries
 abbrev pub texts : List (List Statement) → List (List (List ℕ))

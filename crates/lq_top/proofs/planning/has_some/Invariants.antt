@@ -1,0 +1,10 @@
+use Rattle.std.proofs.Common.{length, map, ◌≡◌}
+use Rattle.std.specs.List.{list_all, list_any}
+use Rattle.lq_top.specs.HeldFit.{has_all, has_some, has_table}
+use Rattle.lq_top.proofs.planning.has_some.Given as goal
+
+abbrev pub invariant-loop-rest : goal.invariant-loop-rest
+invariant-loop-rest l = has_some l.held (map (λ s. s.now) l.rest) ≡ has_some l.held (map (λ s. s.now) l.sets)
+
+abbrev pub decreases-loop-rest : goal.decreases-loop-rest
+decreases-loop-rest l = length l.rest
