@@ -62,8 +62,8 @@ unfolding decide
 foreign_keys_need_their_table = (refl, refl, refl, refl, refl)
 
 -- a key, a unique constraint, an index and a foreign key need each of their columns: `id` and `code` are in one, `at` is in none
-abbrev columns_stay : Catalogue → Type 0
-columns_stay c =
+abbrev ColumnsStay : Catalogue → Type 0
+ColumnsStay c =
     Are (Some Depends) User Postgresql c (DropColumn another id ∷ DropColumn another code ∷ [])
     × Are (Some Depends) User Mysql c (DropColumn another id ∷ DropColumn another code ∷ [])
     × Are None User Postgresql c (DropColumn another at ∷ [])
@@ -75,11 +75,11 @@ two_targets = of_tables ((another, table (plain id kind.Int ∷ plain code kind.
     ∷ (parent, table (plain up kind.Int ∷ plain none kind.Int ∷ []) (Some (key_on (codes "pk") (up ∷ none ∷ []))) [] [] [] []) ∷ [])
 
 pub columns_are_bound :
-    columns_stay (bound (Some (key_on (codes "pk") (id ∷ code ∷ []))) [] [] [])
-    × columns_stay (bound None (unique_on (codes "uq") (id ∷ code ∷ []) ∷ []) [] [])
-    × columns_stay (bound None [] [] (index_on (codes "ix") (id ∷ code ∷ []) false ∷ []))
-    × columns_stay (bound None [] [] (index_on (codes "ix") (id ∷ code ∷ []) true ∷ []))
-    × columns_stay two_targets
+    ColumnsStay (bound (Some (key_on (codes "pk") (id ∷ code ∷ []))) [] [] [])
+    × ColumnsStay (bound None (unique_on (codes "uq") (id ∷ code ∷ []) ∷ []) [] [])
+    × ColumnsStay (bound None [] [] (index_on (codes "ix") (id ∷ code ∷ []) false ∷ []))
+    × ColumnsStay (bound None [] [] (index_on (codes "ix") (id ∷ code ∷ []) true ∷ []))
+    × ColumnsStay two_targets
     × Are (Some Depends) User Postgresql two_targets (DropColumn parent up ∷ DropColumn parent none ∷ [])
 unfolding decide
 columns_are_bound = ((refl, refl, refl, refl), (refl, refl, refl, refl), (refl, refl, refl, refl), (refl, refl, refl, refl), (refl, refl, refl, refl), refl)
