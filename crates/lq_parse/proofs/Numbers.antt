@@ -7,7 +7,7 @@ use Rattle.std.specs.Str.Parse.{digits_value, starts_with_minus}
 use Rattle.std.proofs.lemmas.Bool.{and_from, and_parts, le-leb, leb-true, lt-ltb, ltb-true, or_right}
 use Rattle.std.proofs.lemmas.Fmt.{decimal_is_IsNumeral_wide}
 use Rattle.std.proofs.lemmas.Str.Parse.{IsDigitsTest, IsNumeralModel, numerals_by_value}
-use Rattle.lq_base.specs.Laws.{FixedReadsBack, NumberOfSpells}
+use Rattle.lq_base.specs.Laws.{FixedReadsBack, SpellsGivesNumberOf}
 use Rattle.lq_base.specs.Number.{fixed_text, has_digits, is_digits, is_dot, signed, whole_text}
 use Rattle.lq_base.specs.Spells.{IsPointed}
 use Rattle.lq_base.specs.SqlByte.{is_number_byte}
@@ -157,16 +157,16 @@ fixed_facts units scale fits =
     let few : unsigned_abs units < 10 ^ 38 = ltb-true (unsigned_abs units) (10 ^ 38) b.1 in
     (few, omega arith, omega arith)
 
-fixed_spelled : FixedReadsBack → NumberOfSpells → (units : ℤ) (scale : ℕ) → is_literal (constant.Fixed units scale) ≡ true → IsPointed (fixed_text units scale) units scale
-fixed_spelled again spells units scale fits =
+fixed_spelled : FixedReadsBack → (units : ℤ) (scale : ℕ) → is_literal (constant.Fixed units scale) ≡ true → IsPointed (fixed_text units scale) units scale
+fixed_spelled again units scale fits =
     let facts = fixed_facts units scale fits in
-    spells (fixed_text units scale) (constant.Fixed units scale) (again units scale facts.0 facts.1 facts.2)
+    again units scale facts.0 facts.1 facts.2
 
-pub fixed_number : FixedReadsBack → NumberOfSpells → (units : ℤ) (scale : ℕ) → is_literal (constant.Fixed units scale) ≡ true → number (fixed_text units scale) ≡ Some (constant.Fixed units scale)
+pub fixed_number : FixedReadsBack → SpellsGivesNumberOf → (units : ℤ) (scale : ℕ) → is_literal (constant.Fixed units scale) ≡ true → number (fixed_text units scale) ≡ Some (constant.Fixed units scale)
 unfolding number
 fixed_number again spells units scale fits =
-    let facts = fixed_facts units scale fits in
-    rw (has_dot (fixed_text units scale) units scale (fixed_spelled again spells units scale fits)) (again units scale facts.0 facts.1 facts.2)
+    let spelled = fixed_spelled again units scale fits in
+    rw (has_dot (fixed_text units scale) units scale spelled) (spells (fixed_text units scale) (constant.Fixed units scale) spelled)
 
-pub fixed_number_text : FixedReadsBack → NumberOfSpells → (units : ℤ) (scale : ℕ) → is_literal (constant.Fixed units scale) ≡ true → IsNumberText (fixed_text units scale)
-fixed_number_text again spells units scale fits = pointed_digits (fixed_text units scale) units scale (fixed_spelled again spells units scale fits)
+pub fixed_number_text : FixedReadsBack → (units : ℤ) (scale : ℕ) → is_literal (constant.Fixed units scale) ≡ true → IsNumberText (fixed_text units scale)
+fixed_number_text again units scale fits = pointed_digits (fixed_text units scale) units scale (fixed_spelled again units scale fits)

@@ -1,7 +1,7 @@
 -- The canonical texts of literals, tests and queries have their canonical words.
 use Rattle.std.proofs.Common.{◌≡◌, ℕ, true, false, List, ◌∷◌, ◌++◌, Option, Some, None, option_map, ap, ◌∙◌, refl, append_assoc, arith}
 use Rattle.std.specs.Prelude.{codes}
-use Rattle.lq_base.specs.Laws.{FixedReadsBack, NumberOfSpells}
+use Rattle.lq_base.specs.Laws.{FixedReadsBack, SpellsGivesNumberOf}
 use Rattle.lq_base.specs.SqlLexeme.{length_at}
 use Rattle.lq_base.specs.declared.dialect.Dialect.{Dialect}
 use Rattle.lq_base.specs.declared.dialect.Dialect.TheVariants.{Postgresql, Mysql}
@@ -34,7 +34,7 @@ pub record Below : Type 0 where
   pub names : NamesAreRead
   pub strings : TextsAreRead
   pub fixed : FixedReadsBack
-  pub spells : NumberOfSpells
+  pub spells : SpellsGivesNumberOf
 
 twice : (f g : List Word → List Word) (o : Option (List Word)) → option_map f (option_map g o) ≡ option_map (λ ws. f (g ws)) o
 twice f g None = refl
@@ -128,7 +128,7 @@ literal_says below d (constant.Bool true) rest is stop = last_keyword_says below
 literal_says below d (constant.Bool false) rest is stop = last_keyword_says below.go_on d 70 (codes "ALSE") rest (bare word.False) refl stop refl
 literal_says below d (constant.Text t) rest is stop = string_says below.go_on below.strings d t rest stop
 literal_says below d (constant.Int n) rest is stop = number_says below.go_on d _ rest (whole_number_text n is) stop
-literal_says below d (constant.Fixed units scale) rest is stop = number_says below.go_on d _ rest (fixed_number_text below.fixed below.spells units scale is) stop
+literal_says below d (constant.Fixed units scale) rest is stop = number_says below.go_on d _ rest (fixed_number_text below.fixed units scale is) stop
 
 -- the literals of an operand and of a test can be written
 

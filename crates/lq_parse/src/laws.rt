@@ -3,7 +3,7 @@
 
 ghost use Rattle.lq_parse.specs.Laws.{BlanksChangeNothing, CaseChangesNothing, NamesNeedNoQuotes, QueriesCanBeWritten, QueriesReadBack, ReservedWordsInAnyCase, TestsCanBeWritten, TestsReadBack, UnequalIsOneMark, WordsInAnyCase};
 
-use lq_base::laws::{fixed_reads_back, number_of_spells};
+use lq_base::laws::{fixed_reads_back, number_of_spells, spells_gives_number_of};
 use lq_sqllex::laws::{lexemes_go_on, names_are_read, texts_are_read};
 
 /// A test that can be written is read from its canonical text.
@@ -14,7 +14,7 @@ pub fn tests_read_back()
     names_are_read();
     texts_are_read();
     fixed_reads_back();
-    number_of_spells();
+    spells_gives_number_of();
 }
 
 /// A query that can be written is read from its canonical text.
@@ -25,7 +25,7 @@ pub fn queries_read_back()
     names_are_read();
     texts_are_read();
     fixed_reads_back();
-    number_of_spells();
+    spells_gives_number_of();
 }
 
 /// A test that is read can be written.

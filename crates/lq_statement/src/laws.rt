@@ -3,7 +3,7 @@
 
 ghost use Rattle.lq_statement.specs.Laws.{BlanksChangeNoStatement, StatementsCanBeWritten, StatementsReadBack};
 
-use lq_base::laws::{fixed_reads_back, number_of_spells};
+use lq_base::laws::{fixed_reads_back, number_of_spells, spells_gives_number_of};
 use lq_sqllex::laws::{lexemes_go_on, names_are_read, texts_are_read};
 
 /// A statement of the dialect is read from its canonical text.
@@ -14,7 +14,7 @@ pub fn statements_read_back()
     names_are_read();
     texts_are_read();
     fixed_reads_back();
-    number_of_spells();
+    spells_gives_number_of();
 }
 
 /// A statement that a text spells is one of the dialect.

@@ -8,7 +8,6 @@ ghost use Rattle.lq_top.specs.Given.{texts};
 ghost use Rattle.lq_top.specs.Index.{IsIndexed};
 
 use crate::changelog::Changelog;
-use lq_held::Held;
 use crate::printing::entries_of;
 use crate::words::Job;
 use lq_base::{Items, NoMemory, Text, Tracked};
@@ -16,6 +15,7 @@ use lq_create::{
     ChangeSet, CreatedTable, Stamp, greatest, new_sets, rollback_entries, rollback_text,
     update_entries, update_text,
 };
+use lq_held::Held;
 use lq_journal::EncodedEntry;
 use lq_model::Statement;
 use std::alloc::Global;

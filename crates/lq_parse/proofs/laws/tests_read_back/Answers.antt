@@ -8,5 +8,5 @@ returns c =
       names = c.names_are_read.ensures;
       strings = c.texts_are_read.ensures;
       fixed = c.fixed_reads_back.ensures;
-      spells = c.number_of_spells.ensures;
+      spells = c.spells_gives_number_of.ensures;
     })
