@@ -122,7 +122,7 @@ null_of false = Some false
 
 clauses_again : (d : Dialect) (n : List ℕ) (k : Kind) (numbered nullable : Bool) (default : Option Literal) (rest : List Word) → IsDefault default → EndsItem rest
     → clauses d (record { name = n; kind = k; nullable = None; default = None; numbered = false; key = false; unique = false; target = None }) (number_words d numbered (null_words nullable (default_words default rest)))
-      ≡ Some (record { name = n; kind = k; nullable = null_of nullable; default = default; numbered = numbered; key = false; unique = false; target = None }, rest)
+    ≡ Some (record { name = n; kind = k; nullable = null_of nullable; default = default; numbered = numbered; key = false; unique = false; target = None }, rest)
 unfolding clauses clause identity expect sees same_kind
 clauses_again Postgresql n k true true None rest is (inl e) = rw (e, e, e, e, e) refl
 clauses_again Postgresql n k true true None rest is (inr (inl e)) = rw (e, e, e, e, e) refl

@@ -129,5 +129,10 @@ delete_again d false rest (inr (inr e)) = rw e refl
 pub foreign_again : (d : Dialect) (t : List ℕ) (f : ForeignKey) (rest : List Word) → IsReadForeign f → EndsItem rest → table_constraint d t (foreign_words d f rest) ≡ Some (constraint.Foreign f, rest)
 unfolding table_constraint stated_name foreign name expect sees after same_kind
 foreign_again d t f rest h end =
-    rw (h.0, enclosed_names f.columns (bare word.References ∷ name_word f.table (bare word.Open ∷ names_words f.targets (bare word.Close ∷ cascade_words d f.cascade rest))) h.1.0,
-        h.1.1.0, enclosed_names f.targets (cascade_words d f.cascade rest) h.1.1.1, delete_again d f.cascade rest end) refl
+    rw (
+      h.0,
+      enclosed_names f.columns (bare word.References ∷ name_word f.table (bare word.Open ∷ names_words f.targets (bare word.Close ∷ cascade_words d f.cascade rest))) h.1.0,
+      h.1.1.0,
+      enclosed_names f.targets (cascade_words d f.cascade rest) h.1.1.1,
+      delete_again d f.cascade rest end,
+    ) refl

@@ -260,7 +260,7 @@ only_key (Some k) = refl
 table_again : (t : List ℕ) (c : ColumnDef) (cs : List ColumnDef) (key : Option Key) (us : List Unique) (fs : List ForeignKey) → table_of t (all_items (c ∷ cs) key us fs) ≡ Some (CreateTable t (c ∷ cs) key us fs)
 unfolding table_of
 table_again t c cs key us fs =
-    by (all_items (c ∷ cs) key us fs) (items_ordered (c ∷ cs) key us fs) (columns_of (c ∷ cs) key us fs) (keys_of (c ∷ cs) key us fs ) (uniques_of (c ∷ cs) key us fs) (foreign_of (c ∷ cs) key us fs)
+    by (all_items (c ∷ cs) key us fs) (items_ordered (c ∷ cs) key us fs) (columns_of (c ∷ cs) key us fs) (keys_of (c ∷ cs) key us fs) (uniques_of (c ∷ cs) key us fs) (foreign_of (c ∷ cs) key us fs)
   where
     by : (items : List TableItem) → are_ordered_from 0 items ≡ true → flat_map columns_in items ≡ c ∷ cs → flat_map keys_in items ≡ key_list key → flat_map uniques_in items ≡ us → flat_map foreign_in items ≡ fs
         → table_of t items ≡ Some (CreateTable t (c ∷ cs) key us fs)

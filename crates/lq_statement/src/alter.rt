@@ -113,11 +113,7 @@ fn drop_part(
 }
 
 #[tactic(auto, unfolding(lq_model::specs::SqlAlter::rename_column))]
-fn rename_column(
-    alloc: Global,
-    words: &mut Words<'_>,
-    table: Name,
-) -> Result<Statement, ParseFault>
+fn rename_column(alloc: Global, words: &mut Words<'_>, table: Name) -> Result<Statement, ParseFault>
     ensures { Reads (spec.rename_column table words.old) result words.new }
 {
     let column = name(alloc, words)?;
@@ -140,11 +136,7 @@ pub fn rename_table_to(
 
 // What follows RENAME.
 #[tactic(auto, unfolding(lq_model::specs::SqlAlter::rename_part))]
-fn rename_part(
-    alloc: Global,
-    words: &mut Words<'_>,
-    table: Name,
-) -> Result<Statement, ParseFault>
+fn rename_part(alloc: Global, words: &mut Words<'_>, table: Name) -> Result<Statement, ParseFault>
     ensures { Reads (spec.rename_part table words.old) result words.new }
 {
     if words.eat(WordKind::Column) {

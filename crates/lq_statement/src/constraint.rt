@@ -146,15 +146,9 @@ pub fn table_constraint(
 {
     let stated = stated_name(alloc, words)?;
     match words.peek() {
-        WordKind::Primary => Ok(TableConstraint::Key(key(
-            alloc, dialect, words, table, stated,
-        )?)),
-        WordKind::Unique => Ok(TableConstraint::Unique(unique(
-            alloc, words, table, stated,
-        )?)),
-        WordKind::Foreign => Ok(TableConstraint::Foreign(foreign(
-            alloc, words, table, stated,
-        )?)),
+        WordKind::Primary => Ok(TableConstraint::Key(key(alloc, dialect, words, table, stated)?)),
+        WordKind::Unique => Ok(TableConstraint::Unique(unique(alloc, words, table, stated)?)),
+        WordKind::Foreign => Ok(TableConstraint::Foreign(foreign(alloc, words, table, stated)?)),
         _ => Err(ParseFault::NotSql),
     }
 }

@@ -13,11 +13,7 @@ use std::alloc::Global;
 
 // `INDEX q ON q (c)`
 #[tactic(auto, unfolding(lq_model::specs::SqlCreate::create_index))]
-fn create_index(
-    alloc: Global,
-    words: &mut Words<'_>,
-    unique: bool,
-) -> Result<Statement, ParseFault>
+fn create_index(alloc: Global, words: &mut Words<'_>, unique: bool) -> Result<Statement, ParseFault>
     ensures { Reads (spec.create_index unique words.old) result words.new }
 {
     words.expect(WordKind::Index)?;
@@ -37,11 +33,7 @@ fn create_index(
 
 // `VIEW q AS query`
 #[tactic(auto, unfolding(lq_model::specs::SqlCreate::create_view))]
-fn create_view(
-    alloc: Global,
-    words: &mut Words<'_>,
-    replace: bool,
-) -> Result<Statement, ParseFault>
+fn create_view(alloc: Global, words: &mut Words<'_>, replace: bool) -> Result<Statement, ParseFault>
     ensures { Reads (spec.create_view replace words.old) result words.new }
 {
     words.expect(WordKind::View)?;

@@ -8,11 +8,7 @@ use lq_model::{
 };
 use std::alloc::Global;
 
-fn push_column(
-    alloc: Global,
-    item: &TableItem,
-    to: &mut Items<ColumnDef>,
-) -> Result<(), NoMemory>
+fn push_column(alloc: Global, item: &TableItem, to: &mut Items<ColumnDef>) -> Result<(), NoMemory>
     ensures { OnOk result (to.new ≡ to.old ++ spec.columns_in item.now) }
 {
     if let TableItem::Column { column, .. } = item {
@@ -48,11 +44,7 @@ fn push_unique(alloc: Global, item: &TableItem, to: &mut Items<Unique>) -> Resul
     Ok(())
 }
 
-fn push_foreign(
-    alloc: Global,
-    item: &TableItem,
-    to: &mut Items<ForeignKey>,
-) -> Result<(), NoMemory>
+fn push_foreign(alloc: Global, item: &TableItem, to: &mut Items<ForeignKey>) -> Result<(), NoMemory>
     ensures { OnOk result (to.new ≡ to.old ++ spec.foreign_in item.now) }
 {
     match item {

@@ -108,18 +108,54 @@ fn postgresql_reads_other_spellings(rt: HostRuntime) {
     let rows = [
         ("drop table T", "DROP TABLE \"t\""),
         ("Drop /* one */ TABLE t; -- two", "DROP TABLE \"t\""),
-        ("create table t (id int primary key)", "CREATE TABLE \"t\" (\"id\" INTEGER, CONSTRAINT \"pk_t\" PRIMARY KEY (\"id\"))"),
-        ("create table t (a int unique not null, b clob default 'x' null references p (q))", "CREATE TABLE \"t\" (\"a\" INTEGER NOT NULL, \"b\" TEXT DEFAULT 'x', CONSTRAINT \"uq_t_a\" UNIQUE (\"a\"), CONSTRAINT \"fk_t_b\" FOREIGN KEY (\"b\") REFERENCES \"p\" (\"q\"))"),
-        ("create table t (a varchar (3), b numeric(5,2), primary key (a, b), unique (a, b), foreign key (a, b) references p (c, d) on delete restrict)", "CREATE TABLE \"t\" (\"a\" VARCHAR(3), \"b\" DECIMAL(5, 2), CONSTRAINT \"pk_t\" PRIMARY KEY (\"a\", \"b\"), CONSTRAINT \"uq_t_a_b\" UNIQUE (\"a\", \"b\"), CONSTRAINT \"fk_t_a_b\" FOREIGN KEY (\"a\", \"b\") REFERENCES \"p\" (\"c\", \"d\"))"),
-        ("create table t (a int unique, b int unique, unique (b, a))", "CREATE TABLE \"t\" (\"a\" INTEGER, \"b\" INTEGER, CONSTRAINT \"uq_t_a\" UNIQUE (\"a\"), CONSTRAINT \"uq_t_b\" UNIQUE (\"b\"), CONSTRAINT \"uq_t_b_a\" UNIQUE (\"b\", \"a\"))"),
-        ("create table \"nnnnnnnnnnnnnnnnnnnnnnnnnnnnnnnnnnnnnnnnnnnnnnnnnnnnnnnnnnnnnnn\" (a int primary key)", "CREATE TABLE \"nnnnnnnnnnnnnnnnnnnnnnnnnnnnnnnnnnnnnnnnnnnnnnnnnnnnnnnnnnnnnnn\" (\"a\" INTEGER, CONSTRAINT \"pk_nnnnnnnnnnnnnnnnnnnnnnnnnnnnnnnnnnnnnnnnnnnnnnnnnnnnnnnnnnnn\" PRIMARY KEY (\"a\"))"),
-        ("create table \"néééééééééééééééééééééééééééééé\" (a int primary key)", "CREATE TABLE \"néééééééééééééééééééééééééééééé\" (\"a\" INTEGER, CONSTRAINT \"pk_nééééééééééééééééééééééééééééé\" PRIMARY KEY (\"a\"))"),
-        ("alter table t add c timestamp not null default '2020-01-01'", "ALTER TABLE \"t\" ADD COLUMN \"c\" TIMESTAMP NOT NULL DEFAULT '2020-01-01'"),
-        ("alter table t add unique (a)", "ALTER TABLE \"t\" ADD CONSTRAINT \"uq_t_a\" UNIQUE (\"a\")"),
-        ("alter table t add primary key (a)", "ALTER TABLE \"t\" ADD CONSTRAINT \"pk_t\" PRIMARY KEY (\"a\")"),
-        ("alter table t add foreign key (a) references p (b) on delete no action", "ALTER TABLE \"t\" ADD CONSTRAINT \"fk_t_a\" FOREIGN KEY (\"a\") REFERENCES \"p\" (\"b\")"),
-        ("insert into t values (0012, 'it''s')", "INSERT INTO \"t\" VALUES (12, 'it''s')"),
-        ("update index set key = 1 where no != 2", "UPDATE \"index\" SET \"key\" = 1 WHERE \"no\" <> 2"),
+        (
+            "create table t (id int primary key)",
+            "CREATE TABLE \"t\" (\"id\" INTEGER, CONSTRAINT \"pk_t\" PRIMARY KEY (\"id\"))",
+        ),
+        (
+            "create table t (a int unique not null, b clob default 'x' null references p (q))",
+            "CREATE TABLE \"t\" (\"a\" INTEGER NOT NULL, \"b\" TEXT DEFAULT 'x', CONSTRAINT \"uq_t_a\" UNIQUE (\"a\"), CONSTRAINT \"fk_t_b\" FOREIGN KEY (\"b\") REFERENCES \"p\" (\"q\"))",
+        ),
+        (
+            "create table t (a varchar (3), b numeric(5,2), primary key (a, b), unique (a, b), foreign key (a, b) references p (c, d) on delete restrict)",
+            "CREATE TABLE \"t\" (\"a\" VARCHAR(3), \"b\" DECIMAL(5, 2), CONSTRAINT \"pk_t\" PRIMARY KEY (\"a\", \"b\"), CONSTRAINT \"uq_t_a_b\" UNIQUE (\"a\", \"b\"), CONSTRAINT \"fk_t_a_b\" FOREIGN KEY (\"a\", \"b\") REFERENCES \"p\" (\"c\", \"d\"))",
+        ),
+        (
+            "create table t (a int unique, b int unique, unique (b, a))",
+            "CREATE TABLE \"t\" (\"a\" INTEGER, \"b\" INTEGER, CONSTRAINT \"uq_t_a\" UNIQUE (\"a\"), CONSTRAINT \"uq_t_b\" UNIQUE (\"b\"), CONSTRAINT \"uq_t_b_a\" UNIQUE (\"b\", \"a\"))",
+        ),
+        (
+            "create table \"nnnnnnnnnnnnnnnnnnnnnnnnnnnnnnnnnnnnnnnnnnnnnnnnnnnnnnnnnnnnnnn\" (a int primary key)",
+            "CREATE TABLE \"nnnnnnnnnnnnnnnnnnnnnnnnnnnnnnnnnnnnnnnnnnnnnnnnnnnnnnnnnnnnnnn\" (\"a\" INTEGER, CONSTRAINT \"pk_nnnnnnnnnnnnnnnnnnnnnnnnnnnnnnnnnnnnnnnnnnnnnnnnnnnnnnnnnnnn\" PRIMARY KEY (\"a\"))",
+        ),
+        (
+            "create table \"néééééééééééééééééééééééééééééé\" (a int primary key)",
+            "CREATE TABLE \"néééééééééééééééééééééééééééééé\" (\"a\" INTEGER, CONSTRAINT \"pk_nééééééééééééééééééééééééééééé\" PRIMARY KEY (\"a\"))",
+        ),
+        (
+            "alter table t add c timestamp not null default '2020-01-01'",
+            "ALTER TABLE \"t\" ADD COLUMN \"c\" TIMESTAMP NOT NULL DEFAULT '2020-01-01'",
+        ),
+        (
+            "alter table t add unique (a)",
+            "ALTER TABLE \"t\" ADD CONSTRAINT \"uq_t_a\" UNIQUE (\"a\")",
+        ),
+        (
+            "alter table t add primary key (a)",
+            "ALTER TABLE \"t\" ADD CONSTRAINT \"pk_t\" PRIMARY KEY (\"a\")",
+        ),
+        (
+            "alter table t add foreign key (a) references p (b) on delete no action",
+            "ALTER TABLE \"t\" ADD CONSTRAINT \"fk_t_a\" FOREIGN KEY (\"a\") REFERENCES \"p\" (\"b\")",
+        ),
+        (
+            "insert into t values (0012, 'it''s')",
+            "INSERT INTO \"t\" VALUES (12, 'it''s')",
+        ),
+        (
+            "update index set key = 1 where no != 2",
+            "UPDATE \"index\" SET \"key\" = 1 WHERE \"no\" <> 2",
+        ),
     ];
     for (text, wanted) in rows {
         reads(&rt, rt.alloc(), PG, text, wanted);
@@ -129,12 +165,30 @@ fn postgresql_reads_other_spellings(rt: HostRuntime) {
 #[test]
 fn mysql_reads_other_spellings(rt: HostRuntime) {
     let rows = [
-        ("insert into t values ('a\\'b')", "INSERT INTO `t` VALUES ('a''b')"),
-        ("insert into T values (\"a'b\", \"c\\\\\")", "INSERT INTO `T` VALUES ('a''b', 'c\\\\')"),
-        ("alter table t rename to u # to the end", "RENAME TABLE `t` TO `u`"),
-        ("create table t (id int primary key auto_increment)", "CREATE TABLE `t` (`id` INT AUTO_INCREMENT, PRIMARY KEY (`id`))"),
-        ("create table t (id integer, constraint pk primary key (id))", "CREATE TABLE `t` (`id` INT, PRIMARY KEY (`id`))"),
-        ("alter table t modify c datetime not null", "ALTER TABLE `t` MODIFY `c` DATETIME(3) NOT NULL"),
+        (
+            "insert into t values ('a\\'b')",
+            "INSERT INTO `t` VALUES ('a''b')",
+        ),
+        (
+            "insert into T values (\"a'b\", \"c\\\\\")",
+            "INSERT INTO `T` VALUES ('a''b', 'c\\\\')",
+        ),
+        (
+            "alter table t rename to u # to the end",
+            "RENAME TABLE `t` TO `u`",
+        ),
+        (
+            "create table t (id int primary key auto_increment)",
+            "CREATE TABLE `t` (`id` INT AUTO_INCREMENT, PRIMARY KEY (`id`))",
+        ),
+        (
+            "create table t (id integer, constraint pk primary key (id))",
+            "CREATE TABLE `t` (`id` INT, PRIMARY KEY (`id`))",
+        ),
+        (
+            "alter table t modify c datetime not null",
+            "ALTER TABLE `t` MODIFY `c` DATETIME(3) NOT NULL",
+        ),
     ];
     for (text, wanted) in rows {
         reads(&rt, rt.alloc(), MY, text, wanted);
