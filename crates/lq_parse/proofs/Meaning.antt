@@ -1,19 +1,21 @@
 -- What changes nothing in what a text means.
-use Rattle.std.proofs.Common.{◌≡◌, ℕ, List, [], ◌∷◌, ◌++◌, map, Some, option_map, cond, ap, ◌∙◌, sym, refl}
+use Rattle.std.proofs.Common.{◌≡◌, ℕ, false, List, [], ◌∷◌, ◌++◌, map, Some, option_map, cond, ap, ◌∙◌, sym, refl}
 use Rattle.std.specs.List.{flat_map}
 use Rattle.std.specs.Str.{bytes_eq, str_eq_ignore_ascii_case, str_to_ascii_lowercase}
 use Rattle.std.proofs.lemmas.Slice.Eq.{bytes_eq-Decides}
 use Rattle.lq_base.specs.SqlLexeme.{lexemes}
 use Rattle.lq_base.specs.declared.dialect.Dialect.{Dialect}
+use Rattle.lq_base.specs.declared.dialect.Dialect.TheVariants.{Postgresql}
 use Rattle.lq_base.specs.declared.lexeme.LexemeSort.{LexemeSort}
 use Rattle.lq_base.specs.declared.lexeme.LexemeSort.TheVariants as sort
 use Rattle.lq_model.specs.SqlPart.{name}
 use Rattle.lq_model.specs.SqlText.{query_in, test_in}
-use Rattle.lq_model.specs.SqlWord.{kind_in, kind_of_word, words, words_of}
+use Rattle.lq_model.specs.SqlWord.{folded, kind_in, kind_of_word, may_be_name, unquoted_word, words, words_of}
 use Rattle.lq_model.specs.declared.word.TheConstants.{SPELLINGS}
 use Rattle.lq_model.specs.declared.word.Word.{Word}
 use Rattle.lq_model.specs.declared.word.WordKind.{WordKind}
-use Rattle.lq_parse.specs.Laws.{BlanksChangeNothing, CaseChangesNothing, NamesNeedNoQuotes, UnequalIsOneMark, without_trivia}
+use Rattle.lq_model.specs.declared.word.WordKind.TheVariants as word
+use Rattle.lq_parse.specs.Laws.{BlanksChangeNothing, CaseChangesNothing, NamesNeedNoQuotes, ReservedWordsInAnyCase, UnequalIsOneMark, WordsInAnyCase, without_trivia}
 
 abbrev all_words : Dialect → List (LexemeSort × List ℕ) → List Word
 all_words d = flat_map (λ lexeme. words_of d lexeme.0 lexeme.1)
@@ -57,6 +59,19 @@ kind_by (spelling ∷ more) other a b same =
 pub case_changes_nothing : CaseChangesNothing
 unfolding kind_of_word
 case_changes_nothing other a b same = kind_by (map (λ spelling. (spelling.0.now, spelling.1)) SPELLINGS) other a b ((bytes_eq-Decides (str_to_ascii_lowercase a) (str_to_ascii_lowercase b)).0 same)
+
+bare_by : (k : WordKind) (first other : List ℕ) → may_be_name k ≡ false → unquoted_word k first ≡ unquoted_word k other
+bare_by k first other reserved = rw reserved refl
+
+pub reserved_words_in_any_case : ReservedWordsInAnyCase
+reserved_words_in_any_case d a b same reserved =
+    ap (λ w. w ∷ []) (bare_by (kind_of_word word.Plain a) (folded d a) (folded d b) reserved ∙ ap (λ k. unquoted_word k (folded d b)) (case_changes_nothing word.Plain a b same))
+
+pub words_in_any_case : WordsInAnyCase
+words_in_any_case a b same =
+    ap (λ w. w ∷ [])
+    (ap (λ k. unquoted_word k (folded Postgresql a)) (case_changes_nothing word.Plain a b same)
+    ∙ ap (unquoted_word (kind_of_word word.Plain b)) ((bytes_eq-Decides (str_to_ascii_lowercase a) (str_to_ascii_lowercase b)).0 same))
 
 pub unequal_is_one_mark : UnequalIsOneMark
 unfolding kind_of_word

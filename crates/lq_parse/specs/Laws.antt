@@ -1,12 +1,14 @@
 -- What holds of the meanings of SQL texts.
-use Rattle.std.specs.Prelude.{◌≡◌, ℕ, not, true, List, ◌∷◌, filter, Some, codes}
+use Rattle.std.specs.Prelude.{◌≡◌, ℕ, false, not, true, List, ◌∷◌, filter, Some, codes}
 use Rattle.std.specs.Str.{str_eq_ignore_ascii_case}
 use Rattle.lq_base.specs.SqlLexeme.{is_trivia_sort, lexemes}
 use Rattle.lq_base.specs.declared.dialect.Dialect.{Dialect}
+use Rattle.lq_base.specs.declared.dialect.Dialect.TheVariants.{Postgresql}
 use Rattle.lq_base.specs.declared.lexeme.LexemeSort.{LexemeSort}
+use Rattle.lq_base.specs.declared.lexeme.LexemeSort.TheVariants as sort
 use Rattle.lq_model.specs.SqlText.{query_in, test_in}
 use Rattle.lq_model.specs.SqlPart.{name}
-use Rattle.lq_model.specs.SqlWord.{kind_of_word, may_be_name, with_text}
+use Rattle.lq_model.specs.SqlWord.{kind_of_word, may_be_name, with_text, words_of}
 use Rattle.lq_model.specs.Statement.{is_query, is_where}
 use Rattle.lq_model.specs.TestText.{query_text, test_text}
 use Rattle.lq_model.specs.declared.query.Query.{Query}
@@ -40,9 +42,17 @@ abbrev pub BlanksChangeNothing : Type 0
 BlanksChangeNothing = (d : Dialect) (a b : List ℕ) (found other : List (LexemeSort × List ℕ)) → lexemes d a ≡ Some found → lexemes d b ≡ Some other
     → without_trivia found ≡ without_trivia other → (test_in d a ≡ test_in d b) × (query_in d a ≡ query_in d b)
 
--- a word of the statements may stand in any ASCII case
+-- a word of the statements is the same one in any ASCII case
 abbrev pub CaseChangesNothing : Type 0
 CaseChangesNothing = (other : WordKind) (a b : List ℕ) → str_eq_ignore_ascii_case a b ≡ true → kind_of_word other a ≡ kind_of_word other b
+
+-- so a reserved word is read alike in any case
+abbrev pub ReservedWordsInAnyCase : Type 0
+ReservedWordsInAnyCase = (d : Dialect) (a b : List ℕ) → str_eq_ignore_ascii_case a b ≡ true → may_be_name (kind_of_word word.Plain a) ≡ false → words_of d sort.Word a ≡ words_of d sort.Word b
+
+-- and in postgresql each unquoted word
+abbrev pub WordsInAnyCase : Type 0
+WordsInAnyCase = (a b : List ℕ) → str_eq_ignore_ascii_case a b ≡ true → words_of Postgresql sort.Word a ≡ words_of Postgresql sort.Word b
 
 -- `!=` and `<>` are one mark
 abbrev pub UnequalIsOneMark : Type 0

@@ -1,7 +1,7 @@
 //! What holds of the definitions that the contracts cite. Each function calls those whose laws it
 //! stands on, and its contract is the law.
 
-ghost use Rattle.lq_parse.specs.Laws.{BlanksChangeNothing, CaseChangesNothing, NamesNeedNoQuotes, QueriesCanBeWritten, QueriesReadBack, TestsCanBeWritten, TestsReadBack, UnequalIsOneMark};
+ghost use Rattle.lq_parse.specs.Laws.{BlanksChangeNothing, CaseChangesNothing, NamesNeedNoQuotes, QueriesCanBeWritten, QueriesReadBack, ReservedWordsInAnyCase, TestsCanBeWritten, TestsReadBack, UnequalIsOneMark, WordsInAnyCase};
 
 use lq_base::laws::{fixed_reads_back, number_of_spells};
 use lq_sqllex::laws::{lexemes_go_on, names_are_read, texts_are_read};
@@ -47,9 +47,19 @@ pub fn blanks_change_nothing()
     ensures { BlanksChangeNothing }
 {}
 
-/// A word of the statements may stand in any ASCII case.
+/// A word of the statements is the same one in any ASCII case.
 pub fn case_changes_nothing()
     ensures { CaseChangesNothing }
+{}
+
+/// A reserved word is read alike in any ASCII case.
+pub fn reserved_words_in_any_case()
+    ensures { ReservedWordsInAnyCase }
+{}
+
+/// In postgresql each unquoted word is read alike in any ASCII case.
+pub fn words_in_any_case()
+    ensures { WordsInAnyCase }
 {}
 
 /// `!=` and `<>` are one mark.
