@@ -5,7 +5,7 @@ use Rattle.lq_base.specs.declared.kind.Kind.TheVariants as kind
 use Rattle.lq_base.specs.declared.literal.Literal.TheVariants as literal
 use Rattle.lq_base.specs.Kind.{plain_kind, sized_kind}
 use Rattle.lq_base.specs.SqlLexeme.{lexemes, length_at}
-use Rattle.lq_model.proofs.ExampleWorld.{def, foreign_to, id, key_on, number, numbered_def, unique_on, up}
+use Rattle.lq_model.proofs.ExampleWorld.{def, foreign_to, id, key_on, number, unique_on, up}
 use Rattle.lq_model.proofs.PlainText.{plain_cut}
 use Rattle.lq_model.specs.DefaultName.{key_name, unique_name, foreign_name}
 use Rattle.lq_model.specs.SqlText.{statement_in}
@@ -13,7 +13,7 @@ use Rattle.lq_model.specs.SqlWord.{words, kind_of_word, unquoted}
 use Rattle.lq_model.specs.SqlStatement.{statement}
 use Rattle.lq_model.specs.SqlAlter.{alter, alter_table, add, add_column, add_constraint, rename_part, rename_table_to, new_name}
 use Rattle.lq_model.specs.SqlColumn.{added_column, stated_column, clauses, clause, identity, target, column_key, column_unique, column_foreign, foreign_to as foreign_stated}
-use Rattle.lq_model.specs.SqlConstraint.{table_constraint, stated_name, key, unique, foreign, on_delete}
+use Rattle.lq_model.specs.SqlConstraint.{table_constraint, stated_name, key, foreign, on_delete}
 use Rattle.lq_model.specs.SqlCreate.{create, create_sequence, whole, step}
 use Rattle.lq_model.specs.SqlDrop.{drop_object, drop_index, rename_table}
 use Rattle.lq_model.specs.SqlRows.{insert, stated_columns}

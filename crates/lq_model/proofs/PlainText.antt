@@ -1,8 +1,8 @@
 -- Texts of ASCII are texts, which are not cut where they are short.
-use Rattle.std.specs.Prelude.{◌≡◌, ◌<◌, ℕ, zero, suc, nat_lt, nat_le, take, length, true, false, ◌&&◌, Bool, List, [], ◌∷◌, Some, slice_index, refl}
+use Rattle.std.specs.Prelude.{◌≡◌, ◌<◌, ℕ, zero, suc, nat_lt, nat_le, take, length, true, false, ◌&&◌, Bool, List, [], ◌∷◌, refl}
 use Rattle.std.specs.List.{list_all}
-use Rattle.std.specs.Str.{is_utf8, IsUtf8, IsAscii}
-use Rattle.std.proofs.Common.{arith, ap, ◌∙◌, sym}
+use Rattle.std.specs.Str.{is_utf8, IsAscii}
+use Rattle.std.proofs.Common.{arith}
 use Rattle.std.proofs.lemmas.Str.{is_utf8-from_IsUtf8, IsUtf8-from_ascii}
 use Rattle.std.proofs.lemmas.List.{take_all}
 use Rattle.lq_model.specs.DefaultName.{cut}

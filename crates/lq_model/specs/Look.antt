@@ -1,6 +1,6 @@
 -- What is seen of a catalogue: whatever stands at a name, and what a query is answered.
 use Rattle.std.specs.List.{find, list_any}
-use Rattle.std.specs.Prelude.{Bool, Err, List, Ok, Option, Result, length, option_and_then, option_map, ℕ, ◌&&◌, ◌≡◌}
+use Rattle.std.specs.Prelude.{Bool, Err, List, Ok, Option, Result, option_and_then, option_map, ◌&&◌, ◌≡◌}
 use Rattle.lq_base.specs.Name.{is_named}
 use Rattle.lq_base.specs.declared.name.Name.{Name}
 use Rattle.lq_base.specs.declared.reason.Reason.{Reason}

@@ -1,9 +1,8 @@
 -- The grammar of a column: `q KIND`, and its clauses in any order, each at most once.
-use Rattle.std.specs.Prelude.{Bool, true, false, ◌||◌, if◌then◌else◌, List, [], ◌∷◌, Option, Some, None, is_some}
+use Rattle.std.specs.Prelude.{Bool, true, false, ◌||◌, if◌then◌else◌, [], ◌∷◌, Option, Some, None, is_some}
 use Rattle.std.specs.Option.{unwrap_or}
 use Rattle.lq_base.specs.declared.dialect.Dialect.{Dialect}
 use Rattle.lq_base.specs.declared.dialect.Dialect.TheVariants.{Postgresql, Mysql}
-use Rattle.lq_base.specs.declared.kind.Kind.{Kind}
 use Rattle.lq_base.specs.declared.literal.Literal.{Literal}
 use Rattle.lq_base.specs.declared.name.Name.{Name}
 use Rattle.lq_model.specs.DefaultName.{key_name, unique_name, foreign_name}

@@ -1,5 +1,5 @@
 -- The parts that statements, queries and tests share: names, literals and kinds.
-use Rattle.std.specs.Prelude.{ℕ, ℤ, Bool, true, false, ◌&&◌, if◌then◌else◌, List, Option, Some, None}
+use Rattle.std.specs.Prelude.{ℕ, Bool, true, false, ◌&&◌, if◌then◌else◌, List, Option, Some, None}
 use Rattle.std.specs.List.{list_any}
 use Rattle.std.specs.Str.Parse.{digits_value, starts_with_minus}
 use Rattle.lq_base.specs.Kind.{plain_number, plain_kind, sized_kind, decimal_kind}

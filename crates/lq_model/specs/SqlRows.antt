@@ -1,5 +1,5 @@
 -- The grammar of INSERT, UPDATE and DELETE.
-use Rattle.std.specs.Prelude.{Bool, if◌then◌else◌, List, []}
+use Rattle.std.specs.Prelude.{if◌then◌else◌, List, []}
 use Rattle.lq_base.specs.declared.literal.Literal.{Literal}
 use Rattle.lq_base.specs.declared.name.Name.{Name}
 use Rattle.lq_model.specs.SqlParser.{Parser, ◌>>=◌, ◌>>◌, pure, peek, same_kind, expect, enclosed, separated}

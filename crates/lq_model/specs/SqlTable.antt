@@ -1,5 +1,5 @@
 -- The grammar of CREATE TABLE.
-use Rattle.std.specs.Prelude.{ℕ, nat_le, Bool, true, false, ◌&&◌, not, if◌then◌else◌, List, [], ◌∷◌, length, Option, Some, None, option_map}
+use Rattle.std.specs.Prelude.{ℕ, nat_le, Bool, true, ◌&&◌, not, if◌then◌else◌, List, [], ◌∷◌, Option, Some, None, option_map}
 use Rattle.std.specs.List.{flat_map}
 use Rattle.std.specs.Option.{option_to_list}
 use Rattle.lq_base.specs.declared.dialect.Dialect.{Dialect}
@@ -7,7 +7,7 @@ use Rattle.lq_base.specs.declared.name.Name.{Name}
 use Rattle.lq_model.specs.Names.{is_empty}
 use Rattle.lq_model.specs.SqlColumn.{stated_column, column_of, column_key, column_unique, column_foreign}
 use Rattle.lq_model.specs.SqlConstraint.{begins_constraint, table_constraint}
-use Rattle.lq_model.specs.SqlParser.{Parser, ◌>>=◌, ◌>>◌, pure, refuse, given, peek, enclosed}
+use Rattle.lq_model.specs.SqlParser.{Parser, ◌>>=◌, pure, given, peek, enclosed}
 use Rattle.lq_model.specs.SqlPart.{name}
 use Rattle.lq_model.specs.declared.column.ColumnDef.{ColumnDef}
 use Rattle.lq_model.specs.declared.constraint.ForeignKey.{ForeignKey}

@@ -1,24 +1,21 @@
 -- The text of a column has its words, and is read from them.
-use Rattle.std.proofs.Common.{◌≡◌, ◌⊎◌, ℕ, Bool, true, false, ◌&&◌, not, List, [], ◌∷◌, ◌++◌, Option, Some, None, inl, inr, ap, refl}
+use Rattle.std.proofs.Common.{◌≡◌, ◌⊎◌, ℕ, Bool, true, false, not, List, ◌∷◌, ◌++◌, Option, Some, None, inl, inr, ap, refl}
 use Rattle.std.specs.Option.{unwrap_or}
 use Rattle.std.specs.Prelude.{codes}
-use Rattle.lq_base.specs.Kind.{is_kind, kind_text}
+use Rattle.lq_base.specs.Kind.{is_kind}
 use Rattle.lq_base.specs.declared.dialect.Dialect.{Dialect}
 use Rattle.lq_base.specs.declared.dialect.Dialect.TheVariants.{Postgresql, Mysql}
 use Rattle.lq_base.specs.declared.kind.Kind.{Kind}
 use Rattle.lq_base.specs.declared.literal.Literal.{Literal}
 use Rattle.lq_model.specs.Phrase as text
-use Rattle.lq_model.specs.Quoting.{name_text}
 use Rattle.lq_model.specs.Spelled.{is_literal}
 use Rattle.lq_model.specs.SqlColumn.{added_column, clause, clauses, column_of, identity, stated_column}
 use Rattle.lq_model.specs.SqlParser.{expect, kind, same_kind, sees}
-use Rattle.lq_model.specs.SqlPart.{column_kind, literal, name}
+use Rattle.lq_model.specs.SqlPart.{name}
 use Rattle.lq_model.specs.SqlWord.{bare, folded, kind_of_word, with_text, words}
 use Rattle.lq_model.specs.StatementText.{column_text, default_text, numbering, words_if}
-use Rattle.lq_model.specs.TestText.{literal_text}
 use Rattle.lq_model.specs.declared.column.ColumnDef.{ColumnDef}
 use Rattle.lq_model.specs.declared.phrase.Phrase.TheVariants as phrase
-use Rattle.lq_model.specs.declared.table_item.StatedColumn.{StatedColumn}
 use Rattle.lq_model.specs.declared.word.Word.{Word}
 use Rattle.lq_model.specs.declared.word.WordKind.TheVariants as word
 use Rattle.lq_parse.proofs.Again.{IsLiteral, literal_again, literal_words}
@@ -29,7 +26,7 @@ use Rattle.lq_parse.proofs.Spoken.{Below}
 use Rattle.lq_statement.proofs.KindTexts.{kind_again, kind_said, kind_words}
 use Rattle.lq_statement.proofs.ListsAgain.{literal_said}
 use Rattle.lq_statement.proofs.Phrases as say
-use Rattle.lq_statement.proofs.Said.{Closed, Tail, cl, ct, oc, opened, same_words}
+use Rattle.lq_statement.proofs.Said.{Tail, cl, ct, oc, opened, same_words}
 use Rattle.lq_statement.proofs.Whole.{named}
 
 -- what may follow a column or a constraint

@@ -1,12 +1,10 @@
 -- The columns that are read are those of a statement.
-use Rattle.std.proofs.Common.{◌≡◌, ℕ, Bool, true, false, ◌&&◌, ◌||◌, if◌then◌else◌, List, [], ◌∷◌, Option, Some, None, is_some, IfSome, refl}
+use Rattle.std.proofs.Common.{◌≡◌, ℕ, Bool, true, false, if◌then◌else◌, List, [], ◌∷◌, Option, Some, None, is_some, IfSome, refl}
 use Rattle.std.proofs.lemmas.Bool.{and_from}
-use Rattle.lq_base.specs.Kind.{decimal_kind, is_kind, plain_kind, sized_kind}
+use Rattle.lq_base.specs.Kind.{is_kind}
 use Rattle.lq_base.specs.Laws.{NumberOfSpells}
-use Rattle.lq_base.specs.Name.{is_name}
 use Rattle.lq_base.specs.declared.dialect.Dialect.{Dialect}
 use Rattle.lq_base.specs.declared.dialect.Dialect.TheVariants.{Postgresql, Mysql}
-use Rattle.lq_base.specs.declared.kind.Kind.{Kind}
 use Rattle.lq_base.specs.declared.literal.Literal.{Literal}
 use Rattle.lq_model.specs.DefaultName.{foreign_name, key_name, unique_name}
 use Rattle.lq_model.specs.SqlColumn.{added_column, clause, clause_by, clauses, column_foreign, column_key, column_of, column_unique, foreign_to, has_constraint, identity, stated_column, target, with_default, with_key, with_nullable, with_number, with_target, with_unique}

@@ -1,5 +1,5 @@
 -- The text of a constraint has its words, and is read from them.
-use Rattle.std.proofs.Common.{◌≡◌, ℕ, Bool, true, false, List, [], ◌∷◌, ◌++◌, Option, Some, None, inl, inr, ap, sym, refl}
+use Rattle.std.proofs.Common.{◌≡◌, ℕ, Bool, true, false, List, [], ◌∷◌, ◌++◌, Some, inl, inr, ap, sym, refl}
 use Rattle.std.specs.Prelude.{codes}
 use Rattle.lq_base.specs.declared.dialect.Dialect.{Dialect}
 use Rattle.lq_base.specs.declared.dialect.Dialect.TheVariants.{Postgresql, Mysql}
@@ -27,7 +27,7 @@ use Rattle.lq_parse.proofs.Spoken.{Below}
 use Rattle.lq_statement.proofs.ColumnAgain.{EndsItem}
 use Rattle.lq_statement.proofs.ListsAgain.{names_again}
 use Rattle.lq_statement.proofs.Phrases as say
-use Rattle.lq_statement.proofs.Said.{Closed, Lead, Open, Tail, cl, oc, oo, opened, ot, same_words}
+use Rattle.lq_statement.proofs.Said.{Closed, Lead, Tail, cl, oc, oo, opened, ot, same_words}
 use Rattle.lq_statement.proofs.Whole.{named}
 
 names_is : Below → (d : Dialect) (ns : List (List ℕ)) (rest : List ℕ) → Stops rest → Says d (names_text d ns) (names_words ns) rest

@@ -1,5 +1,5 @@
 -- The constraints that are read are those of a statement.
-use Rattle.std.proofs.Common.{◌≡◌, ℕ, Bool, true, ◌&&◌, if◌then◌else◌, List, [], ◌∷◌, Option, Some, None, IfSome, refl}
+use Rattle.std.proofs.Common.{◌≡◌, ℕ, Bool, true, List, Option, Some, None, IfSome, refl}
 use Rattle.std.proofs.lemmas.Bool.{and_from}
 use Rattle.lq_base.specs.Name.{is_name}
 use Rattle.lq_base.specs.declared.dialect.Dialect.{Dialect}
@@ -17,7 +17,7 @@ use Rattle.lq_model.specs.declared.table_item.TableConstraint.{TableConstraint}
 use Rattle.lq_model.specs.declared.table_item.TableConstraint.TheVariants as constraint
 use Rattle.lq_model.specs.declared.word.WordKind.{WordKind}
 use Rattle.lq_model.specs.declared.word.WordKind.TheVariants as word
-use Rattle.lq_parse.proofs.Makes.{AllSo, IsNameText, Makes, SomeSo, if_some, makes_after, makes_given, makes_if, makes_pure, makes_refuse, makes_then, name_makes, name_of_makes}
+use Rattle.lq_parse.proofs.Makes.{IsNameText, Makes, SomeSo, if_some, makes_after, makes_given, makes_if, makes_pure, makes_refuse, makes_then, name_makes, name_of_makes}
 use Rattle.lq_statement.proofs.Parts.{enclosed_makes, names_list}
 
 abbrev pub IsKeyName : Dialect → List ℕ → Type 0

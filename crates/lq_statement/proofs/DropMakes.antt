@@ -1,16 +1,11 @@
 -- What DROP gives is a statement of the dialect.
-use Rattle.std.proofs.Common.{◌≡◌, Bool, true, ◌&&◌, List, [], Option, Some, None, refl}
-use Rattle.std.proofs.lemmas.Bool.{and_from}
-use Rattle.lq_base.specs.Name.{is_name}
+use Rattle.std.proofs.Common.{Some, None, refl}
 use Rattle.lq_base.specs.declared.dialect.Dialect.{Dialect}
 use Rattle.lq_base.specs.declared.dialect.Dialect.TheVariants.{Postgresql, Mysql}
-use Rattle.lq_model.specs.SqlAlter.{new_name, rename_table_to}
-use Rattle.lq_model.specs.SqlDrop.{drop_index, drop_object, drop_object_by, rename_table}
+use Rattle.lq_model.specs.SqlDrop.{drop_index, drop_object, drop_object_by}
 use Rattle.lq_model.specs.SqlParser.{expect, peek, skip}
 use Rattle.lq_model.specs.SqlPart.{name}
-use Rattle.lq_model.specs.Statement.{is_statement}
-use Rattle.lq_model.specs.declared.statement.Statement.{Statement}
-use Rattle.lq_model.specs.declared.statement.Statement.TheVariants.{DropIndex, DropSequence, DropTable, DropView, RenameTable}
+use Rattle.lq_model.specs.declared.statement.Statement.TheVariants.{DropIndex, DropSequence, DropTable, DropView}
 use Rattle.lq_model.specs.declared.word.WordKind.{WordKind}
 use Rattle.lq_model.specs.declared.word.WordKind.TheVariants as word
 use Rattle.lq_parse.proofs.Makes.{IsNameText, Makes, makes_after, makes_pure, makes_refuse, makes_then, name_makes}

@@ -1,10 +1,10 @@
 -- The text of a kind has its words, and is read from them.
-use Rattle.std.proofs.Common.{◌≡◌, ◌<◌, ◌≤◌, ◌^◌, ℕ, Bool, true, false, ◌&&◌, nat_le, List, [], ◌∷◌, ◌++◌, Option, Some, None, refl, arith}
+use Rattle.std.proofs.Common.{◌≡◌, ◌<◌, ◌≤◌, ◌^◌, ℕ, true, false, nat_le, List, [], ◌∷◌, ◌++◌, Some, refl, arith}
 use Rattle.std.specs.Fmt.{decimal}
 use Rattle.std.specs.Int.{is_in_range}
 use Rattle.std.specs.Prelude.{codes}
 use Rattle.std.proofs.lemmas.Bool.{and_parts, leb-true}
-use Rattle.lq_base.specs.Kind.{decimal_kind, is_kind, kind_text, plain_kind, plain_number, sized_kind}
+use Rattle.lq_base.specs.Kind.{decimal_kind, is_kind, kind_text, plain_kind, sized_kind}
 use Rattle.lq_base.specs.declared.dialect.Dialect.{Dialect}
 use Rattle.lq_base.specs.declared.dialect.Dialect.TheVariants.{Postgresql, Mysql}
 use Rattle.lq_base.specs.declared.kind.Kind.{Kind}

@@ -1,11 +1,10 @@
 -- Lists in parentheses: their words, and that they are read from them.
-use Rattle.std.proofs.Common.{◌≡◌, ◌≤◌, ℕ, suc, true, false, List, [], ◌∷◌, ◌++◌, length, map, Option, Some, None, refl, arith}
+use Rattle.std.proofs.Common.{◌≡◌, ◌≤◌, ℕ, suc, true, false, List, [], ◌∷◌, length, map, Some, refl, arith}
 use Rattle.std.specs.List.{list_all}
 use Rattle.std.proofs.lemmas.Bool.{and_parts}
 use Rattle.lq_base.specs.declared.dialect.Dialect.{Dialect}
 use Rattle.lq_base.specs.declared.literal.Literal.{Literal}
 use Rattle.lq_base.specs.declared.literal.Literal.TheVariants as constant
-use Rattle.lq_model.specs.Quoting.{name_text}
 use Rattle.lq_model.specs.Spelled.{is_literal}
 use Rattle.lq_model.specs.SqlParser.{Parser, after, enclosed, expect, same_kind, sees}
 use Rattle.lq_model.specs.SqlPart.{literal, name}

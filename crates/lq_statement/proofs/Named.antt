@@ -1,21 +1,19 @@
 -- Statements of names alone are read from their texts.
-use Rattle.std.proofs.Common.{◌≡◌, ℕ, List, [], ◌∷◌, ◌++◌, Option, Some, None, refl}
+use Rattle.std.proofs.Common.{◌≡◌, ℕ, List, ◌++◌, Some, None, refl}
 use Rattle.lq_base.specs.declared.dialect.Dialect.{Dialect}
 use Rattle.lq_base.specs.declared.dialect.Dialect.TheVariants.{Postgresql, Mysql}
 use Rattle.lq_model.specs.Phrase as text
 use Rattle.lq_model.specs.Quoting.{name_text}
 use Rattle.lq_model.specs.SqlAlter.{alter, alter_column, alter_sequence, alter_table, alter_view, drop_part, new_name, rename_column, rename_part, rename_table_to, set_part, unset_part}
 use Rattle.lq_model.specs.SqlDrop.{drop_index, drop_object, rename_table}
-use Rattle.lq_model.specs.SqlParser.{after, ended, expect, same_kind, sees, to_end}
-use Rattle.lq_model.specs.SqlPart.{name, name_of}
+use Rattle.lq_model.specs.SqlParser.{after, ended, expect, same_kind, sees}
+use Rattle.lq_model.specs.SqlPart.{name}
 use Rattle.lq_model.specs.SqlStatement.{statement}
 use Rattle.lq_model.specs.SqlText.{statement_in}
-use Rattle.lq_model.specs.SqlWord.{kind_of_word, with_text}
+use Rattle.lq_model.specs.SqlWord.{kind_of_word}
 use Rattle.lq_model.specs.StatementText.{text_of}
 use Rattle.lq_model.specs.declared.phrase.Phrase.TheVariants as phrase
-use Rattle.lq_model.specs.declared.statement.Statement.{Statement}
 use Rattle.lq_model.specs.declared.statement.Statement.TheVariants.{DropColumn, DropConstraint, DropDefault, DropForeignKey, DropIndex, DropNotNull, DropPrimaryKey, DropSequence, DropTable, DropUnique, DropView, RenameColumn, RenameSequence, RenameTable, RenameView, SetNotNull}
-use Rattle.lq_model.specs.declared.word.WordKind.TheVariants as word
 use Rattle.lq_parse.proofs.QueryAgain.{IsReadName}
 use Rattle.lq_parse.proofs.Spoken.{Below}
 use Rattle.lq_statement.proofs.Phrases as say

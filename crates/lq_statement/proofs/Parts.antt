@@ -1,6 +1,5 @@
 -- What the laws of statements ask of their parts.
-use Rattle.std.proofs.Common.{◌≡◌, ℕ, Bool, true, ◌&&◌, List, [], ◌∷◌, Option, Some, None, IfSome}
-use Rattle.std.specs.List.{list_all}
+use Rattle.std.proofs.Common.{◌≡◌, ℕ, Bool, true, ◌&&◌, List, [], ◌∷◌, Some, None, IfSome}
 use Rattle.std.proofs.lemmas.Bool.{and_from}
 use Rattle.lq_base.specs.declared.dialect.Dialect.{Dialect}
 use Rattle.lq_model.specs.SqlParser.{Parser, enclosed, expect, separated}

@@ -1,5 +1,5 @@
 -- Each statement of a dialect is read from its text.
-use Rattle.std.proofs.Common.{◌≡◌, ◌≢◌, ℕ, Bool, true, false, ◌&&◌, not, List, [], ◌∷◌, ◌++◌, map, Option, Some, None, is_none, is_some, refl}
+use Rattle.std.proofs.Common.{◌≡◌, ◌≢◌, ℕ, true, false, ◌&&◌, not, List, [], ◌∷◌, ◌++◌, map, Option, Some, None, refl}
 use Rattle.std.specs.List.{list_all}
 use Rattle.std.specs.Option.{unwrap_or}
 use Rattle.std.specs.Ordering.{int_eq}
@@ -16,7 +16,7 @@ use Rattle.lq_model.specs.Literals.{literal_of}
 use Rattle.lq_model.specs.Names.{is_empty}
 use Rattle.lq_model.specs.Sound.{is_key_name, primary}
 use Rattle.lq_model.specs.Spelled.{is_literal}
-use Rattle.lq_model.specs.Statement.{is_column_def, is_foreign, is_index, is_key, is_name_list, is_query, is_statement, is_unique, is_wanted, is_where}
+use Rattle.lq_model.specs.Statement.{is_column_def, is_foreign, is_index, is_key, is_name_list, is_query, is_unique, is_wanted, is_where}
 use Rattle.lq_model.specs.SqlText.{statement_in}
 use Rattle.lq_model.specs.StatementText.{text_of}
 use Rattle.lq_model.specs.TableNames.{key_list}
@@ -26,7 +26,6 @@ use Rattle.lq_model.specs.declared.constraint.Key.{Key}
 use Rattle.lq_model.specs.declared.constraint.Unique.{Unique}
 use Rattle.lq_model.specs.declared.query.Wanted.{Wanted}
 use Rattle.lq_model.specs.declared.query.Wanted.TheVariants as wanted
-use Rattle.lq_model.specs.declared.statement.Statement.{Statement}
 use Rattle.lq_model.specs.declared.statement.Statement.TheVariants.{AddColumn, AddForeignKey, AddPrimaryKey, AddUnique, CreateIndex, CreateSequence, CreateTable, CreateView, Delete, DropColumn, DropConstraint, DropDefault, DropForeignKey, DropIndex, DropNotNull, DropPrimaryKey, DropSequence, DropTable, DropUnique, DropView, Insert, Modify, RenameColumn, RenameSequence, RenameTable, RenameView, SetDefault, SetNotNull, Update}
 use Rattle.lq_parse.proofs.Lists.{EachItem}
 use Rattle.lq_parse.proofs.QueryAgain.{IsReadName, each_name, wanted_names}

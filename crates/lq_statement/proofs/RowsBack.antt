@@ -1,24 +1,21 @@
 -- INSERT, UPDATE and DELETE are read from their texts.
-use Rattle.std.proofs.Common.{◌≡◌, ◌≢◌, ◌≤◌, ℕ, suc, true, false, ◌&&◌, List, [], ◌∷◌, ◌++◌, length, map, Option, Some, None, ap, refl, arith}
+use Rattle.std.proofs.Common.{◌≡◌, ◌≢◌, ◌≤◌, ℕ, suc, true, false, List, [], ◌∷◌, ◌++◌, length, map, Option, Some, None, refl, arith}
 use Rattle.std.specs.List.{list_all}
 use Rattle.std.proofs.lemmas.Bool.{and_parts}
 use Rattle.lq_base.specs.Name.{is_name}
 use Rattle.lq_base.specs.declared.dialect.Dialect.{Dialect}
 use Rattle.lq_base.specs.declared.literal.Literal.{Literal}
 use Rattle.lq_model.specs.Phrase as text
-use Rattle.lq_model.specs.Quoting.{name_text}
 use Rattle.lq_model.specs.Spelled.{is_literal}
-use Rattle.lq_model.specs.SqlParser.{after, ended, expect, same_kind, sees, separated, to_end}
-use Rattle.lq_model.specs.SqlPart.{literal, name, name_of}
+use Rattle.lq_model.specs.SqlParser.{after, ended, expect, same_kind, sees}
+use Rattle.lq_model.specs.SqlPart.{name}
 use Rattle.lq_model.specs.SqlRows.{assignment, delete, insert, stated_columns, update}
 use Rattle.lq_model.specs.SqlStatement.{statement}
-use Rattle.lq_model.specs.SqlTest.{where_test}
 use Rattle.lq_model.specs.SqlText.{statement_in}
 use Rattle.lq_model.specs.SqlWord.{bare, kind_of_word, words}
 use Rattle.lq_model.specs.Statement.{is_where}
 use Rattle.lq_model.specs.StatementText.{columns_text, set_text, text_of}
-use Rattle.lq_model.specs.TestText.{listed, literal_text, names_text, where_text}
-use Rattle.lq_model.specs.declared.phrase.Phrase.TheVariants as phrase
+use Rattle.lq_model.specs.TestText.{listed, where_text}
 use Rattle.lq_model.specs.declared.statement.Statement.TheVariants.{Delete, Insert, Update}
 use Rattle.lq_model.specs.declared.test.Test.{Test}
 use Rattle.lq_model.specs.declared.word.Word.{Word}

@@ -1,5 +1,5 @@
 -- Defaults, kinds, indexes, views and sequences: statements that are read from their texts.
-use Rattle.std.proofs.Common.{◌≡◌, ℕ, ℤ, pos, Bool, true, false, not, List, [], ◌∷◌, ◌++◌, Option, Some, None, refl}
+use Rattle.std.proofs.Common.{◌≡◌, ℕ, ℤ, pos, Bool, true, false, not, List, [], ◌∷◌, ◌++◌, Option, Some, refl}
 use Rattle.std.specs.Prelude.{codes}
 use Rattle.std.specs.Ordering.{int_eq}
 use Rattle.lq_base.specs.Number.{whole_text}
@@ -14,7 +14,7 @@ use Rattle.lq_model.specs.Spelled.{is_literal}
 use Rattle.lq_model.specs.SqlAlter.{alter, alter_column, alter_table, modify, set_part}
 use Rattle.lq_model.specs.SqlCreate.{create, create_index, create_sequence, create_view, step, whole}
 use Rattle.lq_model.specs.SqlParser.{after, ended, expect, same_kind, sees}
-use Rattle.lq_model.specs.SqlPart.{literal, name, number}
+use Rattle.lq_model.specs.SqlPart.{literal, name}
 use Rattle.lq_model.specs.SqlQuery.{count, query, sees_count, selected}
 use Rattle.lq_model.specs.SqlStatement.{statement}
 use Rattle.lq_model.specs.SqlTest.{where_test}
@@ -23,7 +23,6 @@ use Rattle.lq_model.specs.SqlWord.{bare, folded, kind_of_word, with_text}
 use Rattle.lq_model.specs.Statement.{is_wanted, is_where}
 use Rattle.lq_model.specs.StatementText.{text_of}
 use Rattle.lq_model.specs.TestText.{query_text}
-use Rattle.lq_model.specs.declared.phrase.Phrase.TheVariants as phrase
 use Rattle.lq_model.specs.declared.query.Query.{Query}
 use Rattle.lq_model.specs.declared.query.Wanted.{Wanted}
 use Rattle.lq_model.specs.declared.query.Wanted.TheVariants as wanted

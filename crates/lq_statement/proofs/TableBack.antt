@@ -1,7 +1,6 @@
 -- CREATE TABLE and what ADD adds are read from their texts.
-use Rattle.std.proofs.Common.{◌≡◌, ◌≤◌, ℕ, zero, suc, nat_le, Bool, true, false, ◌&&◌, not, List, [], ◌∷◌, ◌++◌, length, map, Option, Some, None, option_map, inl, inr, ap, ◌∙◌, sym, refl, arith, append_assoc, append-nil}
+use Rattle.std.proofs.Common.{◌≡◌, ◌≤◌, ℕ, zero, suc, nat_le, Bool, true, false, List, [], ◌∷◌, ◌++◌, length, map, Option, Some, None, inl, inr, ap, ◌∙◌, sym, refl, arith, append_assoc, append-nil}
 use Rattle.std.specs.List.{flat_map}
-use Rattle.std.specs.Option.{option_to_list}
 use Rattle.std.proofs.lemmas.Bool.{le-leb, leb-true}
 use Rattle.lq_base.specs.Kind.{is_kind}
 use Rattle.lq_base.specs.declared.dialect.Dialect.{Dialect}
@@ -9,25 +8,23 @@ use Rattle.lq_base.specs.declared.dialect.Dialect.TheVariants.{Postgresql, Mysql
 use Rattle.lq_base.specs.declared.kind.Kind.{Kind}
 use Rattle.lq_base.specs.declared.kind.Kind.TheVariants as kinds
 use Rattle.lq_base.specs.declared.literal.Literal.{Literal}
-use Rattle.lq_model.specs.Names.{is_empty}
 use Rattle.lq_model.specs.Phrase as text
 use Rattle.lq_model.specs.SqlAlter.{add, add_column, add_constraint, alter, alter_table}
-use Rattle.lq_model.specs.SqlColumn.{column_foreign, column_key, column_of, column_unique}
+use Rattle.lq_model.specs.SqlColumn.{column_foreign, column_key, column_unique}
 use Rattle.lq_model.specs.SqlCreate.{create}
-use Rattle.lq_model.specs.SqlParser.{Parser, after, enclosed, ended, expect, kind, same_kind, sees, separated, separated_from}
+use Rattle.lq_model.specs.SqlParser.{after, enclosed, ended, expect, same_kind, sees, separated, separated_from}
 use Rattle.lq_model.specs.SqlPart.{name}
 use Rattle.lq_model.specs.SqlStatement.{statement}
-use Rattle.lq_model.specs.SqlTable.{are_ordered_from, column_item, columns_in, create_table, foreign_in, keys_in, only, rank, table_item, table_of, table_with, uniques_in}
+use Rattle.lq_model.specs.SqlTable.{are_ordered_from, column_item, columns_in, create_table, foreign_in, keys_in, only, rank, table_item, table_of, uniques_in}
 use Rattle.lq_model.specs.SqlText.{statement_in}
 use Rattle.lq_model.specs.SqlWord.{bare, kind_of_word, words}
-use Rattle.lq_model.specs.StatementText.{column_text, foreign_text, key_in_table, key_text, table_text, text_of, unique_text}
+use Rattle.lq_model.specs.StatementText.{column_text, foreign_text, key_in_table, table_text, text_of, unique_text}
 use Rattle.lq_model.specs.TableNames.{key_list}
 use Rattle.lq_model.specs.TestText.{after_commas, listed}
 use Rattle.lq_model.specs.declared.column.ColumnDef.{ColumnDef}
 use Rattle.lq_model.specs.declared.constraint.ForeignKey.{ForeignKey}
 use Rattle.lq_model.specs.declared.constraint.Key.{Key}
 use Rattle.lq_model.specs.declared.constraint.Unique.{Unique}
-use Rattle.lq_model.specs.declared.phrase.Phrase.TheVariants as phrase
 use Rattle.lq_model.specs.declared.statement.Statement.TheVariants.{AddColumn, AddForeignKey, AddPrimaryKey, AddUnique, CreateTable}
 use Rattle.lq_model.specs.declared.table_item.TableConstraint.TheVariants as constraint
 use Rattle.lq_model.specs.declared.table_item.TableItem.{TableItem}
@@ -45,7 +42,7 @@ use Rattle.lq_statement.proofs.KindTexts.{kind_words}
 use Rattle.lq_statement.proofs.ListsAgain.{literal_long}
 use Rattle.lq_statement.proofs.Named.{of_table}
 use Rattle.lq_statement.proofs.Phrases as say
-use Rattle.lq_statement.proofs.Said.{Closed, Open, Tail, cl, ct, oc, oo, opened, ready, same_words}
+use Rattle.lq_statement.proofs.Said.{Closed, Tail, cl, ct, oc, oo, opened, ready, same_words}
 use Rattle.lq_statement.proofs.Whole.{named, read_back}
 
 at_end : EndsItem []

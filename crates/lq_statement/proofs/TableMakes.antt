@@ -1,5 +1,5 @@
 -- What CREATE TABLE gives is a statement of the dialect.
-use Rattle.std.proofs.Common.{◌≡◌, ℕ, Bool, true, false, ◌&&◌, not, if◌then◌else◌, List, [], ◌∷◌, ◌++◌, Option, Some, None, option_map, IfSome, refl}
+use Rattle.std.proofs.Common.{◌≡◌, ℕ, Bool, true, false, ◌&&◌, not, if◌then◌else◌, List, [], ◌∷◌, Option, Some, None, option_map, IfSome, refl}
 use Rattle.std.specs.List.{flat_map, list_all}
 use Rattle.std.specs.Option.{option_to_list}
 use Rattle.std.proofs.lemmas.Bool.{and_from, and_parts}
@@ -9,20 +9,18 @@ use Rattle.lq_base.specs.declared.dialect.Dialect.{Dialect}
 use Rattle.lq_model.specs.Names.{is_empty}
 use Rattle.lq_model.specs.SqlColumn.{column_foreign, column_key, column_of, column_unique, stated_column}
 use Rattle.lq_model.specs.SqlConstraint.{begins_constraint, table_constraint}
-use Rattle.lq_model.specs.SqlParser.{enclosed, given, peek}
+use Rattle.lq_model.specs.SqlParser.{enclosed, peek}
 use Rattle.lq_model.specs.SqlPart.{name}
 use Rattle.lq_model.specs.SqlTable.{are_ordered_from, column_item, columns_in, create_table, foreign_in, keys_in, only, table_item, table_of, table_with, uniques_in}
 use Rattle.lq_model.specs.Statement.{is_column_def, is_foreign, is_key, is_unique}
 use Rattle.lq_model.specs.TableNames.{key_list}
 use Rattle.lq_model.specs.declared.constraint.Key.{Key}
-use Rattle.lq_model.specs.declared.statement.Statement.{Statement}
-use Rattle.lq_model.specs.declared.table_item.TableConstraint.{TableConstraint}
 use Rattle.lq_model.specs.declared.table_item.TableConstraint.TheVariants as constraint
 use Rattle.lq_model.specs.declared.table_item.TableItem.{TableItem}
 use Rattle.lq_model.specs.declared.table_item.TableItem.TheVariants as item
 use Rattle.lq_parse.proofs.Makes.{AllSo, IsNameText, Makes, SomeSo, all_join, makes_after, makes_given, makes_if, makes_pure, makes_then, name_makes, one}
 use Rattle.lq_statement.proofs.ColumnMakes.{IsDef, IsStated, MayBeForeign, MayBeKey, MayBeUnique, column_foreign_makes, column_is, column_key_makes, column_unique_makes, stated_makes}
-use Rattle.lq_statement.proofs.ConstraintMakes.{IsConstraint, IsForeignText, IsKeyText, IsUniqueText, constraint_makes}
+use Rattle.lq_statement.proofs.ConstraintMakes.{IsConstraint, constraint_makes}
 use Rattle.lq_statement.proofs.Parts.{Is, each_so, enclosed_makes}
 
 abbrev IsItem : Dialect → TableItem → Type 0
