@@ -2,7 +2,5 @@
 #![tactic(auto)]
 
 mod sql;
-#[cfg(test)]
-mod tests;
 
 pub use sql::My;
