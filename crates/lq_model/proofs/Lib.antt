@@ -49,4 +49,5 @@ pub mod ViewAnswers
 pub mod ViewAt
 pub mod Views
 pub mod ExamplesStatements
+pub mod Texts
 mod PlainText

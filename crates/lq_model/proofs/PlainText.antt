@@ -30,3 +30,8 @@ unfolding cut
 plain_cut bytes h g =
     let all : take 63 bytes ≡ bytes = take_all 63 bytes (grind arith) in
     rw (all, plain_utf8 bytes h) refl
+
+-- one that is longer is cut to its front
+pub plain_front : (bytes : List ℕ) → is_plain (take 63 bytes) ≡ true → cut 63 bytes ≡ take 63 bytes
+unfolding cut
+plain_front bytes h = rw (plain_utf8 (take 63 bytes) h) refl
