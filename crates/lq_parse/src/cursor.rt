@@ -22,13 +22,14 @@ impl<'a> Model for Words<'a> {
 }
 
 impl<'a> Words<'a> {
+    /// The place before the first of some words.
     pub fn new(words: &'a [Word]) -> Words<'a>
         ensures { result ≡ words.now }
     {
         Words { rest: words }
     }
 
-    /// The kind of the next word.
+    /// The kind of the next word, `End` where none is left.
     pub fn peek(&self) -> WordKind
         ensures { result ≡ spec.kind self.now }
     {
@@ -45,6 +46,7 @@ impl<'a> Words<'a> {
         self.rest.len()
     }
 
+    /// Goes on behind the next word. Where none is left, nothing changes.
     pub fn skip(&mut self)
         ensures { self.new ≡ spec.next self.old }
     {
@@ -62,7 +64,7 @@ impl<'a> Words<'a> {
         }
     }
 
-    /// The text of the next word, which is taken.
+    /// The text of the next word, which is taken; empty where none is left.
     pub fn take(&mut self) -> &'a str
         ensures text { result.now ≡ spec.text self.old }
         ensures rest { self.new ≡ spec.next self.old }
@@ -72,6 +74,7 @@ impl<'a> Words<'a> {
         text
     }
 
+    /// Whether a word of this kind comes next.
     #[tactic(auto, unfolding(lq_model::specs::SqlParser::sees))]
     pub fn sees(&self, kind: WordKind) -> bool
         ensures { result ≡ spec.sees kind self.now }
@@ -90,7 +93,7 @@ impl<'a> Words<'a> {
         }
     }
 
-    /// Takes a word of this kind, if it comes next.
+    /// Takes a word of this kind, if it comes next, and says whether it did.
     #[tactic(auto, unfolding(lq_model::specs::SqlParser::after))]
     pub fn eat(&mut self, kind: WordKind) -> bool
         ensures found { result ≡ spec.sees kind self.old }
@@ -103,7 +106,7 @@ impl<'a> Words<'a> {
         found
     }
 
-    /// Takes a word of this kind.
+    /// Takes a word of this kind. `NotSql` where another one comes next.
     #[tactic(auto, unfolding(lq_model::specs::SqlParser::expect, lq_model::specs::SqlParser::after))]
     pub fn expect(&mut self, kind: WordKind) -> Result<(), ParseFault>
         ensures { Reads (spec.expect kind self.old) result self.new }

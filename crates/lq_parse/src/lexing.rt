@@ -95,7 +95,7 @@ fn push_word(
     Ok(())
 }
 
-/// The words of a text. `NotSql` exactly where a string, quoted name or comment is not closed.
+/// The words of a text, which are its lexemes without blanks and comments. `NotSql` exactly where a string, quoted name or comment is not closed.
 pub fn words(alloc: Global, dialect: Dialect, text: &[u8]) -> Result<Items<Word>, ParseFault>
     requires { IsUtf8 text.now }
     ensures { Gives (spec.words dialect text.now) result }

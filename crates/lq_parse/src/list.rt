@@ -12,7 +12,7 @@ use lq_base::Items;
 use lq_model::{ParseFault, WordKind};
 use std::alloc::Global;
 
-/// One or more, with commas between.
+/// One or more, with commas between. `NotSql` where one of them is refused.
 pub fn separated<T: Drop, F: Fn(Global, &mut Words<'_>) -> Result<T, ParseFault>>(
     alloc: Global,
     words: &mut Words<'_>,
@@ -33,7 +33,8 @@ pub fn separated<T: Drop, F: Fn(Global, &mut Words<'_>) -> Result<T, ParseFault>
     Err(ParseFault::NotSql)
 }
 
-/// A list in parentheses.
+/// One or more in parentheses, with commas between. `NotSql` where one of them is refused or a
+/// parenthesis is missing.
 #[tactic(auto, unfolding(lq_model::specs::SqlParser::enclosed))]
 pub fn enclosed<T: Drop, F: Fn(Global, &mut Words<'_>) -> Result<T, ParseFault>>(
     alloc: Global,

@@ -70,7 +70,8 @@ fn has_dot(bytes: &[u8]) -> bool
     bytes.iter().any(|byte| *byte == b'.')
 }
 
-/// The number that some bytes spell in SQL.
+/// The number that some bytes spell in SQL: a whole one within 128 signed bits, or one with a point
+/// and at most 38 digits.
 #[tactic(auto, unfolding(lq_model::specs::SqlPart::number))]
 pub fn number(bytes: &[u8]) -> Option<Literal>
     ensures { result ≡ spec.number bytes.now }

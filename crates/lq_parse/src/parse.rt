@@ -13,7 +13,8 @@ use lq_base::{Boxed, Dialect};
 use lq_model::{ParseFault, Query, Test, WordKind};
 use std::alloc::Global;
 
-/// What was read, at the end of the text, before which a `;` may stand.
+/// What was read, at the end of the text, before which one `;` may stand. `NotSql` where more
+/// follows.
 #[tactic(auto, unfolding(lq_model::specs::SqlParser::ended))]
 pub fn ended<T: Drop>(words: &mut Words<'_>, it: T) -> Result<T, ParseFault>
     ensures { Reads (parser.ended it words.old) result words.new }

@@ -9,7 +9,8 @@ use lq_base::{Literal, Name, NameFault, Text};
 use lq_model::{ParseFault, WordKind};
 use std::alloc::Global;
 
-/// The name that a text is. `NotSql` where it is none.
+/// The name that a text is. `NotSql` where it is none: it has 1 to 63 bytes and no control
+/// character.
 #[tactic(auto, unfolding(lq_model::specs::SqlPart::name_of))]
 pub fn name_of(alloc: Global, text: &str) -> Result<Name, ParseFault>
     ensures { Gives (spec.name_of text.now) result }
@@ -21,7 +22,7 @@ pub fn name_of(alloc: Global, text: &str) -> Result<Name, ParseFault>
     }
 }
 
-/// A name: in quotes, or a word that is no reserved word.
+/// A name: in quotes, or a word that is no reserved word. `NotSql` where none comes next.
 #[tactic(auto, unfolding(lq_model::specs::SqlPart::name))]
 pub fn name(alloc: Global, words: &mut Words<'_>) -> Result<Name, ParseFault>
     ensures { Reads (spec.name words.old) result words.new }
@@ -41,7 +42,8 @@ fn number_literal(text: &str) -> Result<Literal, ParseFault>
     }
 }
 
-/// NULL, TRUE, FALSE, a string or a number.
+/// NULL, TRUE, FALSE, a string or a number. `NotSql` where none comes next, or a number does not
+/// fit: a whole one into 128 signed bits, another one into 38 digits.
 #[tactic(auto, unfolding(lq_model::specs::SqlPart::literal))]
 pub fn literal(alloc: Global, words: &mut Words<'_>) -> Result<Literal, ParseFault>
     ensures { Reads (spec.literal words.old) result words.new }

@@ -48,6 +48,8 @@ fn selected(alloc: Global, words: &mut Words<'_>) -> Result<Wanted, ParseFault>
     }
 }
 
+/// SELECT of `*`, of `COUNT(*)` or of columns, FROM one table, also with WHERE. `NotSql` where none
+/// comes next.
 #[tactic(auto, unfolding(lq_model::specs::SqlQuery::query))]
 pub fn query(alloc: Global, words: &mut Words<'_>) -> Result<Query, ParseFault>
     ensures { Reads (spec.query words.old) result words.new }

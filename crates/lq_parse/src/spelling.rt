@@ -64,6 +64,7 @@ pub fn may_be_name(kind: WordKind) -> bool
     }
 }
 
+/// Whether two words are of one kind.
 #[tactic(auto, unfolding(lq_model::specs::SqlParser::same_kind))]
 pub fn same_kind(a: WordKind, b: WordKind) -> bool
     ensures { result ≡ parser.same_kind a b }
@@ -81,7 +82,7 @@ fn lower(alloc: Global, bytes: &[u8]) -> Result<Items<u8>, AllocError>
     Ok(out)
 }
 
-/// The name that an unquoted word stands for.
+/// The name that an unquoted word stands for: in lower case in postgresql, as it is in mysql.
 pub fn folded(alloc: Global, dialect: Dialect, bytes: &[u8]) -> Result<Items<u8>, AllocError>
     ensures { IfOk result (λ it. it ≡ spec.folded dialect bytes.now) }
 {

@@ -218,7 +218,8 @@ fn is_within(test: &Test, most: usize) -> bool
     }
 }
 
-/// A test, of at most 64 levels.
+/// A test, in which at most 64 parentheses stand in one another, and at most 64 of AND, OR and NOT.
+/// `NotSql` where none comes next.
 #[tactic(auto, unfolding(lq_model::specs::SqlTest::any_test))]
 pub fn any_test(alloc: Global, words: &mut Words<'_>) -> Result<Boxed<Test>, ParseFault>
     ensures { Reads (spec.any_test words.old) result words.new }
@@ -231,7 +232,8 @@ pub fn any_test(alloc: Global, words: &mut Words<'_>) -> Result<Boxed<Test>, Par
     }
 }
 
-/// What stands after WHERE, if it stands there.
+/// The test after WHERE, or none where another word comes next. `NotSql` where WHERE stands without
+/// a test.
 #[tactic(auto, unfolding(lq_model::specs::SqlTest::where_test))]
 pub fn where_test(alloc: Global, words: &mut Words<'_>) -> Result<Option<Test>, ParseFault>
     ensures { Reads (spec.where_test words.old) result words.new }
