@@ -4,3 +4,6 @@
 mod sql;
 
 pub use sql::My;
+
+#[cfg(test)]
+mod tests;

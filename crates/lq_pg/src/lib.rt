@@ -4,3 +4,6 @@
 mod sql;
 
 pub use sql::Pg;
+
+#[cfg(test)]
+mod tests;

@@ -1,11 +1,13 @@
 //! Small implementations of lq_model's traits, which show that the traits can be met: a look at a
-//! catalogue without objects, and a change that makes a sequence.
+//! catalogue without objects, a change that makes a sequence, and SQL text without blanks at its front.
 #![tactic(auto)]
 
 mod new_sequence;
 mod no_objects;
 #[cfg(test)]
 mod tests;
+mod trimmed;
 
 pub use new_sequence::NewSequence;
 pub use no_objects::NoObjects;
+pub use trimmed::Trimmed;

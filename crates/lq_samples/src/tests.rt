@@ -1,6 +1,9 @@
-use crate::{NewSequence, NoObjects};
-use lq_base::{Dialect, Items, Name, NoMemory, Reason};
-use lq_model::{AskFault, By, Canon, Change, Look, Query, Statement, Undo, Wanted};
+use crate::{NewSequence, NoObjects, Trimmed};
+use lq_base::{Dialect, Items, Name, NoMemory, Reason, Text};
+use lq_model::{
+    AskFault, By, Canon, Change, Look, ParseFault, Query, SqlText, Statement, Test, Undo, Wanted,
+};
+use lq_parse::{parse_query, parse_test};
 use std::alloc::Global;
 use std::test::Fail;
 
@@ -46,6 +49,50 @@ fn drops_one(undo: &Undo) -> bool {
         },
         Undo::Absent => false,
     }
+}
+
+// A reader of queries and tests, which finds no memory for statements.
+#[derive(Drop)]
+struct WithoutStatements;
+
+impl SqlText for WithoutStatements {
+    ghost use Rattle.lq_base.specs.declared.dialect.Dialect.TheVariants.{Postgresql};
+
+    ghost dialect = { Postgresql };
+
+    fn print(&self, _alloc: Global, _statement: &Statement) -> Result<Text, NoMemory> {
+        Err(NoMemory)
+    }
+
+    fn parse(&self, _alloc: Global, _text: &str) -> Result<Statement, ParseFault> {
+        Err(ParseFault::OutOfMemory)
+    }
+
+    fn parse_query(&self, alloc: Global, text: &str) -> Result<Query, ParseFault> {
+        parse_query(alloc, Dialect::Postgresql, text)
+    }
+
+    fn parse_test(&self, alloc: Global, text: &str) -> Result<Test, ParseFault> {
+        parse_test(alloc, Dialect::Postgresql, text)
+    }
+}
+
+fn is_test<P: SqlText>(sql: &P, alloc: Global, text: &str) -> bool {
+    sql.parse_test(alloc, text).is_ok()
+}
+
+fn is_query<P: SqlText>(sql: &P, alloc: Global, text: &str) -> bool {
+    sql.parse_query(alloc, text).is_ok()
+}
+
+#[test]
+fn blanks_at_the_front_are_dropped(rt: HostRuntime) {
+    let sql = Trimmed {
+        reader: WithoutStatements,
+    };
+    assert!(rt; is_test(&sql, rt.alloc(), "  a = 1"));
+    assert!(rt; is_query(&sql, rt.alloc(), " select * from t"));
+    assert!(rt; !is_query(&sql, rt.alloc(), " selec"));
 }
 
 #[test]
