@@ -16,7 +16,8 @@ use Rattle.lq_model.specs.declared.caller.By.TheVariants.{Program, User}
 use Rattle.lq_track.specs.Lock.{free, taken}
 use Rattle.lq_track.specs.Statements.{row_deleted}
 use Rattle.lq_create.proofs.Entries.{by_user, commit_of, commits_of}
-use Rattle.lq_create.proofs.Holds.{Holds, database as database_with, deletion_holds, deletion_run, read, stood, without_row}
+use Rattle.lq_create.proofs.Holds.{Holds, database as database_with, deletion_holds, deletion_run, stood, without_row}
+use Rattle.lq_create.proofs.NamesKept.{names_before}
 use Rattle.lq_create.proofs.Opened.{closes, opens}
 use Rattle.lq_create.proofs.RowDeleted.{is_of, others}
 use Rattle.lq_create.proofs.RunMade.{commit_run, ok_same, run_one}
@@ -27,7 +28,7 @@ use Rattle.lq_create.specs.Distinct.{created_tables, identities, is_same_identit
 use Rattle.lq_create.specs.Row.{identity_of, row_after}
 use Rattle.lq_create.specs.Script.{by_program, closing, has_row, is_row_of, opening, rollback_turn}
 use Rattle.lq_create.specs.Since.{AreRowsOf, IsRowOf, RollbackRestores}
-use Rattle.lq_create.specs.Started.{IsFirm}
+use Rattle.lq_create.specs.Started.{IsFirm, tracking_of}
 use Rattle.lq_create.specs.Statements.{created, undoing}
 use Rattle.lq_create.specs.declared.changelog.ChangeSet.{ChangeSet}
 
@@ -143,22 +144,22 @@ restores stamp path since database [] c reading ready stands ran = record {
 }
 restores stamp path since database (set ∷ sets) c reading ready stands ran =
     let all = set ∷ sets in
-    let first = subst (λ rs. Holds c database.users rs database.lock) ran.rows (read c database stands ready) in
-    let opened = opens stamp reading c database.users (since.rows ++ ran.added) database.lock first in
+    let there = tracking_of database in
+    let opened = opens stamp reading c database stands ready in
     let end = by_program closing ∷ [] in
-    let undone = sets_back path all opened.0 since.users database.users since.rows ran.added (taken (pos stamp.reading) stamp.who) end opened.2 ran.firm ran.are_theirs ran.users ran.differ ran.new in
+    let undone = sets_back path all opened.0 since.users database.users since.rows ran.added (taken (pos stamp.reading) stamp.who) end (subst (λ rs. Holds opened.0 database.users rs (taken (pos stamp.reading) stamp.who)) ran.rows opened.2) ran.firm ran.are_theirs ran.users ran.differ ran.new in
     let closed = closes undone.0 since.users since.rows (taken (pos stamp.reading) stamp.who) undone.2 in
     record {
       after = database_with since.users since.rows free;
       leads = record {
         catalogue = closed.0;
         accepted =
-            ap (λ cs. run_commits Postgresql cs c) (commits_of true stamp (map (rollback_turn path) (reverse all)) (some_turns path set sets))
-            ∙ commit_run Postgresql (by_program (opening true stamp)) (back_commits path all ++ end) c opened.0 opened.1
+            ap (λ cs. run_commits Postgresql cs c) (commits_of there stamp (map (rollback_turn path) (reverse all)) (some_turns path set sets))
+            ∙ commit_run Postgresql (by_program (opening there stamp)) (back_commits path all ++ end) c opened.0 opened.1
             ∙ undone.1
             ∙ commit_run Postgresql (by_program closing) [] undone.0 closed.0 closed.1;
         left = stood closed.0 since.users since.rows free closed.2;
       };
       same = record { users = refl; rows = refl; lock = refl };
-      ready = record { users = ran.firm; log = refl; lock = refl; lock_row = refl; few = omega (arith, ready.few, ap length ran.rows, length-append since.rows ran.added); unlocked = refl };
+      ready = record { users = ran.firm; names = names_before (created_tables all) since.users database.users ran.users ready.names; few = omega (arith, ready.few, ap length ran.rows, length-append since.rows ran.added); unlocked = refl };
     }

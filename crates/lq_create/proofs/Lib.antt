@@ -6,6 +6,7 @@ pub mod Gathered
 pub mod Given
 pub mod Lengths
 pub mod LockChanged
+pub mod MadeBefore
 pub mod Moments
 pub mod Opened
 pub mod RowAdded
@@ -14,6 +15,7 @@ pub mod RowMade
 pub mod RunMade
 pub mod RowsRead
 pub mod Seen
+pub mod Stood
 pub mod TrackedTables
 pub mod Unreserved
 pub mod UpdateRun
@@ -25,4 +27,13 @@ pub mod Holds
 pub mod TablesHeld
 pub mod BackRun
 pub mod SinceLaws
+pub mod NamesKept
 pub mod NewSets
+pub mod RefusedTables
+pub mod RefusedRows
+pub mod RefusedUpdate
+pub mod RefusedRollback
+pub mod RefusedBack
+pub mod RefusedScripts
+pub mod RefusedRoom
+pub mod RefusedNames

@@ -77,11 +77,11 @@ module _ (next : ℕ) (old new : Lock) (fits : LockGoesIn new) where
   unfolding lock_column lock_order lock_value lock_key_name into_kind
   changed = rw (fits.granted, fits.by) refl
 
-  module _ (c users : Catalogue) (log : Table) (so : Tracks c users log (lock_at next old)) where
+  module _ (c users : Catalogue) (log : Option Table) (so : Tracks c users log (Some (lock_at next old))) where
     abbrev pub after : Catalogue
     after = with_table c lock_table (lock_at next new)
 
-    pub tracks_after : Tracks after users log (lock_at next new)
+    pub tracks_after : Tracks after users log (Some (lock_at next new))
     tracks_after = lock_changed c users log (lock_at next old) (lock_at next new) so (lock_plain next new)
 
     the_plan : Plan
@@ -121,5 +121,5 @@ module _ (next : ℕ) (old new : Lock) (fits : LockGoesIn new) where
 
     pub lock_accepted : step Program Postgresql (lock_put new) c ≡ Ok (after, 1)
     unfolding the_plan
-    lock_accepted = settles the_plan (subst IsSettled (sym result_same) (settled after users log (lock_at next new) tracks_after)) nothing_against
+    lock_accepted = settles the_plan (subst IsSettled (sym result_same) (settled after users log (Some (lock_at next new)) tracks_after)) nothing_against
         ∙ ap (λ e. Ok (e, the_plan.count)) result_same ∙ ap (λ n. Ok (after, n)) one_row

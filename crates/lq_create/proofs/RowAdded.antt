@@ -113,11 +113,11 @@ no_bad_nulls (row ∷ rows) = or_false _ _ (no_bad_null row) (no_bad_nulls rows)
 pub log_plain : (next : ℕ) (rows : List Tracked) → nat_le (length (log_rows rows)) 100000 ≡ true → is_plain_table (log_at next (log_rows rows)) ≡ true
 log_plain next rows few = and_true _ _ (ap not (no_bad_nulls rows)) (ap (λ b. not (not b)) few)
 
-module _ (row : Tracked) (next : ℕ) (rows : List Tracked) (c users : Catalogue) (lock : Table) (so : Tracks c users (log_at next (log_rows rows)) lock) (fits : GoesIn row) (few : nat_le (length (log_rows (rows ++ row ∷ []))) 100000 ≡ true) where
+module _ (row : Tracked) (next : ℕ) (rows : List Tracked) (c users : Catalogue) (lock : Option Table) (so : Tracks c users (Some (log_at next (log_rows rows))) lock) (fits : GoesIn row) (few : nat_le (length (log_rows (rows ++ row ∷ []))) 100000 ≡ true) where
   abbrev pub after : Catalogue
   after = with_table c log_table (log_at next (log_rows (rows ++ row ∷ [])))
 
-  pub tracks_after : Tracks after users (log_at next (log_rows (rows ++ row ∷ []))) lock
+  pub tracks_after : Tracks after users (Some (log_at next (log_rows (rows ++ row ∷ [])))) lock
   tracks_after = log_changed c users (log_at next (log_rows rows)) (log_at next (log_rows (rows ++ row ∷ []))) lock so (log_plain next (rows ++ row ∷ []) few)
 
   the_plan : Plan
@@ -145,4 +145,4 @@ module _ (row : Tracked) (next : ℕ) (rows : List Tracked) (c users : Catalogue
 
   pub row_accepted : step Program Postgresql (row_inserted row) c ≡ Ok (after, 1)
   unfolding the_plan
-  row_accepted = settles the_plan (subst IsSettled (sym result_same) (settled after users (log_at next (log_rows (rows ++ row ∷ []))) lock tracks_after)) nothing_against ∙ ap (λ e. Ok (e, 1)) result_same
+  row_accepted = settles the_plan (subst IsSettled (sym result_same) (settled after users (Some (log_at next (log_rows (rows ++ row ∷ [])))) lock tracks_after)) nothing_against ∙ ap (λ e. Ok (e, 1)) result_same

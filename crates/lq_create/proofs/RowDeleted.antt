@@ -3,7 +3,7 @@ use Rattle.std.proofs.Common.{ap, sym, ◌∙◌}
 use Rattle.std.proofs.Math.Path.{subst}
 use Rattle.std.specs.List.{filter, list_any}
 use Rattle.std.specs.Option.{unwrap_or}
-use Rattle.std.specs.Prelude.{Bool, List, Ok, Some, [], cond, false, is_none, is_ok, length, nat_le, not, refl, suc, true, zero, ℕ, ◌&&◌, ◌++◌, ◌∷◌, ◌≡◌}
+use Rattle.std.specs.Prelude.{Bool, List, Ok, Option, Some, [], cond, false, is_none, is_ok, length, nat_le, not, refl, suc, true, zero, ℕ, ◌&&◌, ◌++◌, ◌∷◌, ◌≡◌}
 use Rattle.lq_base.specs.Text.{is_text}
 use Rattle.lq_base.specs.Value.{into_kind}
 use Rattle.lq_base.specs.declared.dialect.Dialect.TheVariants.{Postgresql}
@@ -113,11 +113,11 @@ module _ (of : Identity) where
     at true more = more
     at false more = ap (λ vs. log_row r ∷ vs) more
 
-  module _ (next : ℕ) (rows : List Tracked) (c users : Catalogue) (lock : Table) (so : Tracks c users (log_at next (log_rows rows)) lock) (few : nat_le (length (log_rows (others rows))) 100000 ≡ true) where
+  module _ (next : ℕ) (rows : List Tracked) (c users : Catalogue) (lock : Option Table) (so : Tracks c users (Some (log_at next (log_rows rows))) lock) (few : nat_le (length (log_rows (others rows))) 100000 ≡ true) where
     abbrev pub after : Catalogue
     after = with_table c log_table (log_at next (log_rows (others rows)))
 
-    pub tracks_after : Tracks after users (log_at next (log_rows (others rows))) lock
+    pub tracks_after : Tracks after users (Some (log_at next (log_rows (others rows)))) lock
     tracks_after = log_changed c users (log_at next (log_rows rows)) (log_at next (log_rows (others rows))) lock so (log_plain next (others rows) few)
 
     the_plan : Plan
@@ -127,7 +127,7 @@ module _ (of : Identity) where
     the_is = ap (λ o. unwrap_or o no_table) so.log_is
 
     tested : IsSettled after
-    tested = settled after users (log_at next (log_rows (others rows))) lock tracks_after
+    tested = settled after users (Some (log_at next (log_rows (others rows)))) lock tracks_after
 
     result_same : the_plan.result ≡ after
     unfolding the_plan

@@ -38,7 +38,7 @@ all_ran p (r ∷ rs) h =
     let all = all_placed p r (in_run_order rs) h in
     and_true _ _ (and_left (p r) _ all) (all_ran p rs (and_right (p r) _ all))
 
-placed_all : (p : Tracked → Bool) (r : Tracked) (rs : List Tracked) → p r ≡ true → list_all p rs ≡ true → list_all p (placed r rs) ≡ true
+pub placed_all : (p : Tracked → Bool) (r : Tracked) (rs : List Tracked) → p r ≡ true → list_all p rs ≡ true → list_all p (placed r rs) ≡ true
 placed_all p r [] h all = and_true _ _ h refl
 placed_all p r (s ∷ rs) h all = elim (nat_lt r.order s.order) as (λ b. list_all p (cond b (r ∷ s ∷ rs) (s ∷ placed r rs)) ≡ true) [
   | true ↦ and_true _ _ h all

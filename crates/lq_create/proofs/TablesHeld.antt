@@ -2,7 +2,7 @@
 use Rattle.std.proofs.Common.{ap, sym, ◌∙◌}
 use Rattle.std.proofs.Math.Path.{subst}
 use Rattle.std.proofs.lemmas.List.{append_assoc, reverse-append}
-use Rattle.std.specs.Prelude.{Err, List, None, Ok, Result, Some, [], cond, false, is_none, map, not, refl, reverse, ℕ, ◌&&◌, ◌++◌, ◌∷◌, ◌≡◌}
+use Rattle.std.specs.Prelude.{Err, List, None, Ok, Option, Result, Some, [], cond, false, is_none, map, not, refl, reverse, ℕ, ◌&&◌, ◌++◌, ◌∷◌, ◌≡◌}
 use Rattle.lq_base.specs.Name.{is_named}
 use Rattle.lq_base.specs.declared.dialect.Dialect.TheVariants.{Postgresql}
 use Rattle.lq_base.specs.declared.name.Name.{Name}
@@ -116,13 +116,13 @@ module _ (c users : Catalogue) (rows : List Tracked) (l : Lock) (so : Holds c us
   not_lock : is_named t.name lock_table ≡ false
   not_lock = apart_from_lock t.name is.apart
 
-  tracks : Tracks with_it x.0 (log_at so.log_next (log_rows so.stored)) (lock_at so.lock_next l)
-  tracks = subst (λ u. Tracks with_it u (log_at so.log_next (log_rows so.stored)) (lock_at so.lock_next l)) (sym is.result)
-      (beside t.name (made_table t) not_log not_lock c users (log_at so.log_next (log_rows so.stored)) (lock_at so.lock_next l) so.tracks (firm_new users so.tracks.firm t is.none))
+  tracks : Tracks with_it x.0 (Some (log_at so.log_next (log_rows so.stored))) (Some (lock_at so.lock_next l))
+  tracks = subst (λ u. Tracks with_it u (Some (log_at so.log_next (log_rows so.stored))) (Some (lock_at so.lock_next l))) (sym is.result)
+      (beside t.name (made_table t) not_log not_lock c users (Some (log_at so.log_next (log_rows so.stored))) (Some (lock_at so.lock_next l)) so.tracks (firm_new users so.tracks.firm t is.none))
 
   free : is_taken Postgresql t.name c ≡ false
   unfolding lock_key_name
-  free = free_here c users (log_at so.log_next (log_rows so.stored)) (lock_at so.lock_next l) so.tracks t.name not_log not_lock refl (or_false _ _ (other_way lock_key t.name is.no_key) refl) is.free
+  free = free_here c users (Some (log_at so.log_next (log_rows so.stored))) (Some (lock_at so.lock_next l)) so.tracks t.name not_log not_lock refl (or_false _ _ (other_way lock_key t.name is.no_key) refl) is.free
 
   abbrev the_plan : Plan
   the_plan = create_table User Postgresql t.name (map def_of t.columns) None [] [] c
@@ -133,7 +133,7 @@ module _ (c users : Catalogue) (rows : List Tracked) (l : Lock) (so : Holds c us
       record { reserved = ok.reserved; missing = ok.missing; exists = or_false _ _ free (or_right (is_taken Postgresql t.name users) _ ok.exists); depends = ok.depends; wrong = ok.wrong; wide = ok.wide }
 
   pub made_run : step User Postgresql (created t) c ≡ Ok (with_it, 0)
-  made_run = settles the_plan (subst IsSettled (sym (stated_result User c t)) (settled with_it x.0 (log_at so.log_next (log_rows so.stored)) (lock_at so.lock_next l) tracks)) nothing_against
+  made_run = settles the_plan (subst IsSettled (sym (stated_result User c t)) (settled with_it x.0 (Some (log_at so.log_next (log_rows so.stored))) (Some (lock_at so.lock_next l)) tracks)) nothing_against
       ∙ ap (λ e. Ok (e, 0)) (stated_result User c t)
 
   pub made_holds : Holds with_it x.0 rows l
@@ -145,11 +145,11 @@ module _ (c users after : Catalogue) (rows : List Tracked) (l : Lock) (so : Hold
   abbrev without_it : Catalogue
   without_it = without_table c t.name
 
-  abbrev log : Table
-  log = log_at so.log_next (log_rows so.stored)
+  abbrev log : Option Table
+  log = Some (log_at so.log_next (log_rows so.stored))
 
-  abbrev lock : Table
-  lock = lock_at so.lock_next l
+  abbrev lock : Option Table
+  lock = Some (lock_at so.lock_next l)
 
   apart_log : is_named t.name log_table ≡ false
   apart_log = apart_from_log t.name is.apart

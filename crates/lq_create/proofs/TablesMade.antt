@@ -118,7 +118,7 @@ module _ (n t : Name) (it : Table) where
         | Greater ↦ both_of (inner_names e.1) _ here (inner_free es own more)
       ]
 
-  still_free : (c : Catalogue) → is_named n t ≡ false → is_in n (inner_names it) ≡ false → is_taken Postgresql n c ≡ false → is_taken Postgresql n (with_new c t it) ≡ false
+  pub still_free : (c : Catalogue) → is_named n t ≡ false → is_in n (inner_names it) ≡ false → is_taken Postgresql n c ≡ false → is_taken Postgresql n (with_new c t it) ≡ false
   still_free c other own free =
       let objects = left_of (object_names c) _ free in
       both_of (object_names (with_new c t it)) _

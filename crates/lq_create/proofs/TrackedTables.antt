@@ -1,4 +1,4 @@
--- A catalogue with both tracking tables.
+-- A catalogue with the tracking tables that are there.
 use Rattle.std.proofs.Common.{ap, sym, ◌∙◌}
 use Rattle.std.specs.BTreeMap.{insert_entry}
 use Rattle.std.specs.FinMap.Entries.{below_all, is_sorted}
@@ -6,7 +6,7 @@ use Rattle.std.specs.List.{list_any}
 use Rattle.std.specs.Map.{lookup, remove_entry, set_value}
 use Rattle.std.specs.Option.{unwrap_or}
 use Rattle.std.specs.Ordering.{is_lt}
-use Rattle.std.specs.Prelude.{Bool, List, None, Option, Some, T, [], cond, false, is_some, map, not, refl, true, ◌&&◌, ◌++◌, ◌∷◌, ◌≡◌}
+use Rattle.std.specs.Prelude.{Bool, List, None, Option, Some, T, [], cond, false, is_some, map, not, refl, true, ◌&&◌, ◌++◌, ◌||◌, ◌∷◌, ◌≡◌}
 use Rattle.lq_base.specs.Name.{is_named, name_cmp}
 use Rattle.lq_base.specs.declared.dialect.Dialect.TheVariants.{Postgresql}
 use Rattle.lq_base.specs.declared.name.Name.{Name}
@@ -15,7 +15,7 @@ use Rattle.lq_model.proofs.CreateDrop.{remove_entry-insert_entry}
 use Rattle.lq_model.proofs.Decide.{IsSettled}
 use Rattle.lq_model.proofs.Kept.{lookup_other}
 use Rattle.lq_model.proofs.Lists.{any-append, or_false, or_left, or_right, other_way, same_name, true_false}
-use Rattle.lq_model.proofs.Maps.{found, lookup-insert_entry, lookup-remove_entry, lookup-set_value, same_maps, some_same, sorted-insert_entry, sorted-remove_entry}
+use Rattle.lq_model.proofs.Maps.{found, lookup-insert_entry, lookup-remove_entry, lookup-set_value, same_maps, sorted-insert_entry, sorted-remove_entry}
 use Rattle.lq_model.specs.Catalogue.{Catalogue, Table, no_table, table_of, the_table, with_new, with_table, without_table}
 use Rattle.lq_model.specs.NameSpaces.{is_taken, object_names}
 use Rattle.lq_model.specs.Names.{is_in, same_names}
@@ -30,15 +30,29 @@ use Rattle.lq_create.proofs.TablesMade.{no_equals, no_foreign, no_keys, no_nulls
 use Rattle.lq_create.specs.Created.{is_plain_table}
 use Rattle.lq_create.specs.Started.{IsFirm}
 
--- what the tracking tables are, and what the users' objects are
-pub record Tracks (c users : Catalogue) (log lock : Table) : Type 0 where
+-- where the table is there, it is plain
+abbrev pub is_plain_if_there : Option Table → Bool
+is_plain_if_there None = true
+is_plain_if_there (Some it) = is_plain_table it
+
+-- it is there, and the test holds of it
+abbrev pub holds_there : (Table → Bool) → Option Table → Bool
+holds_there p None = false
+holds_there p (Some it) = p it
+
+-- what the tracking tables are, each there or not, and what the users' objects are
+pub record Tracks (c users : Catalogue) (log lock : Option Table) : Type 0 where
   pub firm : IsFirm users
-  pub log_plain : is_plain_table log ≡ true
-  pub lock_plain : is_plain_table lock ≡ true
+  pub log_plain : is_plain_if_there log ≡ true
+  pub lock_plain : is_plain_if_there lock ≡ true
   pub ordered : T (is_sorted name_cmp c.tables)
-  pub log_is : table_of c log_table ≡ Some log
-  pub lock_is : table_of c lock_table ≡ Some lock
+  pub log_is : table_of c log_table ≡ log
+  pub lock_is : table_of c lock_table ≡ lock
   pub users_are : users_of c ≡ users
+
+none_plain : (p : Table → Bool) → ((it : Table) → is_plain_table it ≡ true → p it ≡ false) → (o : Option Table) → is_plain_if_there o ≡ true → holds_there p o ≡ false
+none_plain p out None plain = refl
+none_plain p out (Some it) plain = out it plain
 
 -- a table of another name beside them
 
@@ -62,17 +76,17 @@ none_restored test p (e ∷ es) taken none =
       | false ↦ λ t n. or_false _ _ (or_left (p e) _ n) (none_restored test p es t (or_right (p e) _ n))
     ] taken none
 
-module _ (c users : Catalogue) (log lock : Table) (so : Tracks c users log lock) where
+module _ (c users : Catalogue) (log lock : Option Table) (so : Tracks c users log lock) where
   pub users_at : (q : Name) → table_of users q ≡ cond (is_named lock_table q) None (cond (is_named log_table q) None (table_of c q))
   users_at q = ap (λ (u : Catalogue). table_of u q) (sym so.users_are) ∙ lookup_without c.tables q so.ordered
 
   -- what none of the users' tables, and neither tracking table has
-  pub none_has : (p : Name × Table → Bool) → ((k : Name) → p (k, log) ≡ false) → ((k : Name) → p (k, lock) ≡ false) → list_any p users.tables ≡ false → list_any p c.tables ≡ false
+  pub none_has : (p : Name × Table → Bool) → ((k : Name) → holds_there (λ it. p (k, it)) log ≡ false) → ((k : Name) → holds_there (λ it. p (k, it)) lock ≡ false) → list_any p users.tables ≡ false → list_any p c.tables ≡ false
   unfolding log_table lock_table
   none_has p on_log on_lock none =
-      none_restored (is_named log_table) p c.tables (λ k x is. ap (λ y. p (k, y)) (some_same (sym is ∙ so.log_is)) ∙ on_log k)
+      none_restored (is_named log_table) p c.tables (λ k x is. ap (holds_there (λ it. p (k, it))) (sym is ∙ so.log_is) ∙ on_log k)
       (none_restored (is_named lock_table) p (remove_entry (is_named log_table) c.tables)
-      (λ k x is. ap (λ y. p (k, y)) (some_same (sym is ∙ lookup-remove_entry log_table c.tables lock_table so.ordered ∙ so.lock_is)) ∙ on_lock k)
+      (λ k x is. ap (holds_there (λ it. p (k, it))) (sym is ∙ lookup-remove_entry log_table c.tables lock_table so.ordered ∙ so.lock_is) ∙ on_lock k)
       (ap (λ (u : Catalogue). list_any p u.tables) so.users_are ∙ none))
 
   hits_at : (f : ForeignKey) (a b : Bool) (o : Option Table) → not (list_any (same_names f.targets) (target_lists (unwrap_or (cond a None (cond b None o)) no_table))) ≡ false → cond a None (cond b None o) ≡ o
@@ -84,18 +98,17 @@ module _ (c users : Catalogue) (log lock : Table) (so : Tracks c users log lock)
   targets_same f hits = ap (λ o. unwrap_or o no_table) (sym (users_at f.table
       ∙ hits_at f (is_named lock_table f.table) (is_named log_table f.table) (table_of c f.table) (ap (λ o. not (list_any (same_names f.targets) (target_lists (unwrap_or o no_table)))) (sym (users_at f.table)) ∙ hits)))
 
-  abbrev keyless : (it : Table) → is_plain_table it ≡ true → (q : ForeignKey → Bool) → list_any q it.foreign ≡ false
-  keyless it plain q = no_foreign q it.foreign (no_keys it plain)
+  -- what no plain table has, and none of the users' tables
+  passes : (p : Table → Bool) → ((it : Table) → is_plain_table it ≡ true → p it ≡ false) → list_any (λ (e : Name × Table). p e.1) users.tables ≡ false → list_any (λ (e : Name × Table). p e.1) c.tables ≡ false
+  passes p out none = none_has (λ (e : Name × Table). p e.1) (λ k. none_plain p out log so.log_plain) (λ k. none_plain p out lock so.lock_plain) none
 
   pub settled : IsSettled c
   settled = record {
-    aimed = none_has (λ (e : Name × Table). list_any (misses_target c) e.1.foreign) (λ k. keyless log so.log_plain (misses_target c)) (λ k. keyless lock so.lock_plain (misses_target c))
-        (aimed_in users c targets_same users.tables so.firm.aimed);
-    no_null = none_has (λ (e : Name × Table). table_has_null e.1) (λ k. no_nulls log so.log_plain) (λ k. no_nulls lock so.lock_plain) so.firm.no_null;
-    no_twins = none_has (λ (e : Name × Table). table_has_twins e.1) (λ k. no_equals log so.log_plain) (λ k. no_equals lock so.lock_plain) so.firm.no_twins;
-    parents = none_has (λ (e : Name × Table). has_orphan c e.1) (λ k. keyless log so.log_plain _) (λ k. keyless lock so.lock_plain _)
-        (parents_in users c targets_same users.tables so.firm.aimed so.firm.parents);
-    small = none_has (λ (e : Name × Table). is_full e.1) (λ k. small log so.log_plain) (λ k. small lock so.lock_plain) so.firm.small;
+    aimed = passes (λ it. list_any (misses_target c) it.foreign) (λ it plain. no_foreign (misses_target c) it.foreign (no_keys it plain)) (aimed_in users c targets_same users.tables so.firm.aimed);
+    no_null = passes table_has_null no_nulls so.firm.no_null;
+    no_twins = passes table_has_twins no_equals so.firm.no_twins;
+    parents = passes (has_orphan c) (λ it plain. no_foreign _ it.foreign (no_keys it plain)) (parents_in users c targets_same users.tables so.firm.aimed so.firm.parents);
+    small = passes is_full small so.firm.small;
   }
 
 -- one that is found under its name is found where neither of the others is
@@ -121,7 +134,7 @@ module _ (t : Name) (it : Table) (not_log : is_named t log_table ≡ false) (not
       ∙ ap (cond (is_named q t) (Some it)) (sym (lookup_without es q h))
       ∙ sym (lookup-insert_entry (without es) t it q))
 
-  pub beside : (c users : Catalogue) (log lock : Table) → Tracks c users log lock → IsFirm (with_new users t it) → Tracks (with_new c t it) (with_new users t it) log lock
+  pub beside : (c users : Catalogue) (log lock : Option Table) → Tracks c users log lock → IsFirm (with_new users t it) → Tracks (with_new c t it) (with_new users t it) log lock
   beside c users log lock so firm = record {
     firm = firm;
     log_plain = so.log_plain;
@@ -154,7 +167,7 @@ module _ (t : Name) (it : Table) (not_log : is_named t log_table ≡ false) (not
       ∙ ap (cond (is_named t q) None) (sym (lookup_without es q h))
       ∙ sym (lookup-remove_entry t (without es) q left))
 
-  pub without_it : (c users : Catalogue) (log lock : Table) → Tracks c (with_new users t it) log lock → IsFirm users → table_of users t ≡ None → Tracks (without_table c t) users log lock
+  pub without_it : (c users : Catalogue) (log lock : Option Table) → Tracks c (with_new users t it) log lock → IsFirm users → table_of users t ≡ None → Tracks (without_table c t) users log lock
   without_it c users log lock so firm none = record {
     firm = firm;
     log_plain = so.log_plain;
@@ -222,7 +235,7 @@ module _ {X : Type 0} (t k : Name) (y : X) (apart : is_named t k ≡ false) wher
       ] refl
 
 -- DATABASECHANGELOG is another table now
-pub log_changed : (c users : Catalogue) (log other lock : Table) → Tracks c users log lock → is_plain_table other ≡ true → Tracks (with_table c log_table other) users other lock
+pub log_changed : (c users : Catalogue) (log other : Table) (lock : Option Table) → Tracks c users (Some log) lock → is_plain_table other ≡ true → Tracks (with_table c log_table other) users (Some other) lock
 unfolding log_table lock_table
 log_changed c users log other lock so plain = record {
   firm = so.firm;
@@ -235,7 +248,7 @@ log_changed c users log other lock so plain = record {
 }
 
 -- DATABASECHANGELOGLOCK is
-pub lock_changed : (c users : Catalogue) (log lock other : Table) → Tracks c users log lock → is_plain_table other ≡ true → Tracks (with_table c lock_table other) users log other
+pub lock_changed : (c users : Catalogue) (log : Option Table) (lock other : Table) → Tracks c users log (Some lock) → is_plain_table other ≡ true → Tracks (with_table c lock_table other) users log (Some other)
 unfolding log_table lock_table
 lock_changed c users log lock other so plain = record {
   firm = so.firm;
@@ -248,20 +261,72 @@ lock_changed c users log lock other so plain = record {
       ∙ ap (λ es. record c { tables = es }) (removed_set lock_table other (remove_entry (is_named log_table) c.tables)) ∙ so.users_are;
 }
 
--- a name that is free among the users' is free here, but for the tracking tables' own
-module _ (c users : Catalogue) (log lock : Table) (so : Tracks c users log lock) (n : Name) (not_log : is_named n log_table ≡ false) (not_lock : is_named n lock_table ≡ false) where
-  pub table_same : table_of users n ≡ table_of c n
-  table_same = users_at c users log lock so n ∙ rw (other_way n lock_table not_lock, other_way n log_table not_log) refl
+-- a tracking table that was not there is made
 
-  pub free_here : is_in n (inner_names log) ≡ false → is_in n (inner_names lock) ≡ false → is_taken Postgresql n users ≡ false → is_taken Postgresql n c ≡ false
-  free_here on_log on_lock free =
+module _ (t : Name) (it : Table) (of_them : (is_named lock_table t || is_named log_table t) ≡ true) where
+  hidden_new : (a b new : Bool) (x : Option Table) → (new ≡ true → (a || b) ≡ true) → cond a None (cond b None (cond new (Some it) x)) ≡ cond a None (cond b None x)
+  hidden_new true b new x h = refl
+  hidden_new false true new x h = refl
+  hidden_new false false true x h = true_false (h refl) refl
+  hidden_new false false false x h = refl
+
+  without_new : (es : Entries) → T (is_sorted name_cmp es) → without (insert_entry name_cmp es t it) ≡ without es
+  without_new es h =
+      let after = sorted-insert_entry es t it h in
+      same_maps (without (insert_entry name_cmp es t it)) (without es)
+      (sorted-remove_entry lock_table _ (sorted-remove_entry log_table _ after))
+      (sorted-remove_entry lock_table _ (sorted-remove_entry log_table _ h))
+      (λ q.
+      lookup_without (insert_entry name_cmp es t it) q after
+      ∙ ap (λ x. cond (is_named lock_table q) None (cond (is_named log_table q) None x)) (lookup-insert_entry es t it q)
+      ∙ hidden_new (is_named lock_table q) (is_named log_table q) (is_named q t) (lookup (is_named q) es) (λ same. ap (λ n. is_named lock_table n || is_named log_table n) (same_name q t same) ∙ of_them)
+      ∙ sym (lookup_without es q h))
+
+-- DATABASECHANGELOG is
+pub log_new : (c users : Catalogue) (it : Table) (lock : Option Table) → Tracks c users None lock → is_plain_table it ≡ true → Tracks (with_new c log_table it) users (Some it) lock
+unfolding log_table lock_table
+log_new c users it lock so plain = record {
+  firm = so.firm;
+  log_plain = plain;
+  lock_plain = so.lock_plain;
+  ordered = sorted-insert_entry c.tables log_table it so.ordered;
+  log_is = lookup-insert_entry c.tables log_table it log_table;
+  lock_is = lookup-insert_entry c.tables log_table it lock_table ∙ so.lock_is;
+  users_are = ap (λ es. record c { tables = es }) (without_new log_table it refl c.tables so.ordered) ∙ so.users_are;
+}
+
+-- DATABASECHANGELOGLOCK is
+pub lock_new : (c users : Catalogue) (log : Option Table) (it : Table) → Tracks c users log None → is_plain_table it ≡ true → Tracks (with_new c lock_table it) users log (Some it)
+unfolding log_table lock_table
+lock_new c users log it so plain = record {
+  firm = so.firm;
+  log_plain = so.log_plain;
+  lock_plain = plain;
+  ordered = sorted-insert_entry c.tables lock_table it so.ordered;
+  log_is = lookup-insert_entry c.tables lock_table it log_table ∙ so.log_is;
+  lock_is = lookup-insert_entry c.tables lock_table it lock_table;
+  users_are = ap (λ es. record c { tables = es }) (without_new lock_table it refl c.tables so.ordered) ∙ so.users_are;
+}
+
+-- a name that is free among the users' is free here, where no other table has it
+module _ (c users : Catalogue) (log lock : Option Table) (so : Tracks c users log lock) (n : Name) where
+  pub free_where : table_of users n ≡ table_of c n → holds_there (λ it. is_in n (inner_names it)) log ≡ false → holds_there (λ it. is_in n (inner_names it)) lock ≡ false → is_taken Postgresql n users ≡ false → is_taken Postgresql n c ≡ false
+  free_where same on_log on_lock free =
       let objects = or_left (is_in n (object_names users)) _ (sym (any-append (is_named n) (object_names users) _) ∙ free) in
       let inner = or_right (is_in n (object_names users)) _ (sym (any-append (is_named n) (object_names users) _) ∙ free) in
       let split = sym (any-append (is_named n) (map (λ (e : Name × Table). e.0) users.tables) _) ∙ objects in
       any-append (is_named n) (object_names c) _
       ∙ or_false _ _
       (any-append (is_named n) (map (λ (e : Name × Table). e.0) c.tables) _
-      ∙ or_false _ _ (found n c.tables ∙ ap (λ o. is_some o) (sym table_same) ∙ sym (found n users.tables) ∙ or_left (is_in n (map (λ (e : Name × Table). e.0) users.tables)) _ split)
+      ∙ or_false _ _ (found n c.tables ∙ ap (λ o. is_some o) (sym same) ∙ sym (found n users.tables) ∙ or_left (is_in n (map (λ (e : Name × Table). e.0) users.tables)) _ split)
       (ap (λ (u : Catalogue). is_in n (map (λ e. e.0) u.views ++ map (λ e. e.0) u.sequences)) so.users_are ∙ or_right (is_in n (map (λ (e : Name × Table). e.0) users.tables)) _ split))
       (any-flat_map (is_named n) (λ (e : Name × Table). inner_names e.1) c.tables
       ∙ none_has c users log lock so (λ (e : Name × Table). is_in n (inner_names e.1)) (λ k. on_log) (λ k. on_lock) (sym (any-flat_map (is_named n) (λ (e : Name × Table). inner_names e.1) users.tables) ∙ inner))
+
+  -- as it is with a name of neither tracking table
+  module _ (not_log : is_named n log_table ≡ false) (not_lock : is_named n lock_table ≡ false) where
+    pub table_same : table_of users n ≡ table_of c n
+    table_same = users_at c users log lock so n ∙ rw (other_way n lock_table not_lock, other_way n log_table not_log) refl
+
+    pub free_here : holds_there (λ it. is_in n (inner_names it)) log ≡ false → holds_there (λ it. is_in n (inner_names it)) lock ≡ false → is_taken Postgresql n users ≡ false → is_taken Postgresql n c ≡ false
+    free_here on_log on_lock free = free_where table_same on_log on_lock free

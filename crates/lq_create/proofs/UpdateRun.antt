@@ -3,44 +3,39 @@ use Rattle.std.proofs.Common.{ap, sym, ◌∙◌, arith, rules, tests, length-ap
 use Rattle.std.proofs.Math.Path.{subst}
 use Rattle.std.proofs.lemmas.List.{append-nil, append_assoc}
 use Rattle.std.specs.List.{list_all, list_any}
-use Rattle.std.specs.List.Sorted.{IsStrictlySortedBy}
-use Rattle.std.specs.Map.{lookup, remove_entry}
-use Rattle.std.specs.Prelude.{Bool, List, None, Ok, Some, [], cond, false, length, map, nat_le, nat_lt, pos, refl, true, ℕ, ◌&&◌, ◌+◌, ◌++◌, ◌||◌, ◌∷◌, ◌≡◌, ◌≤◌}
-use Rattle.lq_base.proofs.ValueLemmas.{and_then_some}
-use Rattle.lq_base.specs.Name.{is_named}
+use Rattle.std.specs.Prelude.{Bool, List, Ok, [], false, length, map, nat_le, nat_lt, pos, refl, true, ℕ, ◌&&◌, ◌+◌, ◌++◌, ◌||◌, ◌∷◌, ◌≡◌, ◌≤◌}
 use Rattle.lq_base.specs.declared.dialect.Dialect.TheVariants.{Postgresql}
 use Rattle.lq_base.specs.declared.tracking.Lock.{Lock}
 use Rattle.lq_base.specs.declared.tracking.Tracked.{Tracked}
 use Rattle.lq_model.proofs.Absent.{free_of}
 use Rattle.lq_model.proofs.Kept.{never}
 use Rattle.lq_model.proofs.Lists.{all_more, all_one_more, and_left, and_right, and_true, or_false, or_left, or_right}
-use Rattle.lq_model.proofs.Maps.{none_if, not_some}
-use Rattle.lq_model.specs.Catalogue.{Catalogue, no_objects, table_of}
+use Rattle.lq_model.specs.Catalogue.{Catalogue, no_objects}
 use Rattle.lq_model.specs.Reserved.{is_reserved, takes_lock_key}
 use Rattle.lq_model.specs.Script.{Made}
 use Rattle.lq_model.specs.Step.{run}
 use Rattle.lq_model.specs.declared.caller.By.TheVariants.{Program, User}
-use Rattle.lq_track.specs.Database.{Database, lock_of, rows_of}
-use Rattle.lq_track.specs.Lock.{free, lock_table, taken}
-use Rattle.lq_track.specs.Log.{log_table}
+use Rattle.lq_track.specs.Database.{Database}
+use Rattle.lq_track.specs.Lock.{free, taken}
 use Rattle.lq_track.specs.Statements.{row_inserted}
 use Rattle.lq_create.proofs.Entries.{by_user, commit_of, commits_of}
 use Rattle.lq_create.proofs.Firm.{firm_new, settled_firm}
-use Rattle.lq_create.proofs.Given.{AreGiven, given, is_named_reserved, map_some}
-use Rattle.lq_create.proofs.Holds.{Holds, database as database_with, is_placed, read, row_holds, row_run, stood, with_one}
-use Rattle.lq_create.proofs.Opened.{closes, nothing_firm, opens, opens_first}
+use Rattle.lq_create.proofs.Given.{AreGiven, given, is_named_reserved}
+use Rattle.lq_create.proofs.Holds.{Holds, database as database_with, is_placed, row_holds, row_run, stood, with_one}
+use Rattle.lq_create.proofs.NamesKept.{names_after}
+use Rattle.lq_create.proofs.Opened.{closes, nothing_ready, nothing_stands, opens}
 use Rattle.lq_create.proofs.RowFits.{row_fits}
 use Rattle.lq_create.proofs.RunMade.{commit_run, ok_same, run_one}
 use Rattle.lq_create.proofs.TablesHeld.{run_tables, tables_forth}
 use Rattle.lq_create.proofs.TablesMade.{creates_in}
 use Rattle.lq_create.proofs.Unreserved.{leaves_key, unreserved}
-use Rattle.lq_create.specs.Changelog.{is_label, is_some_list}
+use Rattle.lq_create.specs.Changelog.{is_label}
 use Rattle.lq_create.specs.Committed.{run_commits, run_made}
 use Rattle.lq_create.specs.Created.{is_unfree, with_tables}
 use Rattle.lq_create.specs.Distinct.{created_tables}
 use Rattle.lq_create.specs.Row.{row_after}
 use Rattle.lq_create.specs.Script.{by_program, closing, greatest, opening, update_script, update_turn, update_turns}
-use Rattle.lq_create.specs.Started.{IsFirm, IsReady, LeadsTo, StandsFor, Starts, no_database}
+use Rattle.lq_create.specs.Started.{IsFirm, IsReady, LeadsTo, StandsFor, no_database, tracking_of}
 use Rattle.lq_create.specs.Statements.{created}
 use Rattle.lq_create.specs.Updated.{AreNew, UpdateLeads, UpdateLeaves, rows_after, updated_from}
 use Rattle.lq_create.specs.declared.changelog.ChangeSet.{ChangeSet}
@@ -134,11 +129,12 @@ module _ (stamp : Stamp) (path : List ℕ) (reading : stamp.reading ≤ 25340230
   abbrev holder : Lock
   holder = taken (pos stamp.reading) stamp.who
 
-  all_run : (made : Bool) (set : ChangeSet) (sets : List ChangeSet) (database : Database) (c opened : Catalogue) → IsFirm database.users → AreNew path (set ∷ sets) database
-      → run_made Postgresql (by_program (opening made stamp)) c ≡ Ok opened → Holds opened database.users database.rows holder
-      → LeadsTo c (update_script made stamp path (greatest database.rows + 1) (set ∷ sets)) (database_with (with_tables (created_tables (set ∷ sets)) database.users) (database.rows ++ rows_after stamp path (greatest database.rows + 1) (set ∷ sets)) free)
-  all_run made set sets database c opened firm new is so =
+  all_run : (set : ChangeSet) (sets : List ChangeSet) (database : Database) (c opened : Catalogue) → IsFirm database.users → AreNew path (set ∷ sets) database
+      → run_made Postgresql (by_program (opening (tracking_of database) stamp)) c ≡ Ok opened → Holds opened database.users database.rows holder
+      → LeadsTo c (update_script (tracking_of database) stamp path (greatest database.rows + 1) (set ∷ sets)) (database_with (with_tables (created_tables (set ∷ sets)) database.users) (database.rows ++ rows_after stamp path (greatest database.rows + 1) (set ∷ sets)) free)
+  all_run set sets database c opened firm new is so =
       let all = set ∷ sets in
+      let there = tracking_of database in
       let order = greatest database.rows + 1 in
       let end = by_program closing ∷ [] in
       let users = with_tables (created_tables all) database.users in
@@ -149,14 +145,14 @@ module _ (stamp : Stamp) (path : List ℕ) (reading : stamp.reading ≤ 25340230
       record {
         catalogue = closed.0;
         accepted =
-            ap (λ cs. run_commits Postgresql cs c) (commits_of made stamp (update_turns stamp path order all) refl)
-            ∙ commit_run Postgresql (by_program (opening made stamp)) (map commit_of (update_turns stamp path order all) ++ end) c opened is
+            ap (λ cs. run_commits Postgresql cs c) (commits_of there stamp (update_turns stamp path order all) refl)
+            ∙ commit_run Postgresql (by_program (opening there stamp)) (map commit_of (update_turns stamp path order all) ++ end) c opened is
             ∙ ran.1
             ∙ commit_run Postgresql (by_program closing) [] ran.0 closed.0 closed.1;
         left = stood closed.0 users rows free closed.2;
       }
 
-  -- where the tracking tables are there
+  -- what is left is the database
 
   abbrev parts : List ChangeSet → Database → Lock → Bool → Bool → Bool → Database
   parts sets database l log lock row = record {
@@ -168,89 +164,46 @@ module _ (stamp : Stamp) (path : List ℕ) (reading : stamp.reading ≤ 25340230
     has_lock_row = row;
   }
 
-  still_true : (b c : Bool) → b ≡ true → true ≡ (b || c)
-  still_true b c h = sym (ap (λ x. x || c) h)
+  or_so : (b : Bool) → true ≡ (b || true)
+  or_so true = refl
+  or_so false = refl
 
-  parts_same : (sets : List ChangeSet) (database : Database) → IsReady database → parts sets database free true true true ≡ updated_from stamp path sets database
-  parts_same sets database ready =
-      let some = is_some_list sets in
-      ap (λ l. parts sets database l true true true) (sym ready.unlocked)
-      ∙ ap (λ b. parts sets database database.lock b true true) (still_true database.has_log some ready.log)
-      ∙ ap (λ b. parts sets database database.lock (database.has_log || some) b true) (still_true database.has_lock some ready.lock)
-      ∙ ap (λ b. parts sets database database.lock (database.has_log || some) (database.has_lock || some) b) (still_true database.has_lock_row some ready.lock_row)
+  or_not : (b : Bool) → (b || false) ≡ b
+  or_not true = refl
+  or_not false = refl
 
-  nothing_new : (database : Database) → IsReady database → updated_from stamp path [] database ≡ database
-  nothing_new database ready =
-      sym (parts_same [] database ready)
-      ∙ ap (λ rs. database_with database.users rs free) (append-nil database.rows)
-      ∙ ap (λ l. record (database_with database.users database.rows free) { lock = l }) (sym ready.unlocked)
-      ∙ ap (λ b. record (database_with database.users database.rows database.lock) { has_log = b }) (sym ready.log)
-      ∙ ap (λ b. record database { has_lock = b; has_lock_row = true }) (sym ready.lock)
-      ∙ ap (λ b. record database { has_lock_row = b }) (sym ready.lock_row)
+  something_new : (set : ChangeSet) (sets : List ChangeSet) (database : Database) → IsReady database → parts (set ∷ sets) database free true true true ≡ updated_from stamp path (set ∷ sets) database
+  something_new set sets database ready =
+      ap (λ l. parts (set ∷ sets) database l true true true) (sym ready.unlocked)
+      ∙ ap (λ b. parts (set ∷ sets) database database.lock b true true) (or_so database.has_log)
+      ∙ ap (λ b. parts (set ∷ sets) database database.lock (database.has_log || true) b true) (or_so database.has_lock)
+      ∙ ap (λ b. parts (set ∷ sets) database database.lock (database.has_log || true) (database.has_lock || true) b) (or_so database.has_lock_row)
+
+  nothing_new : (database : Database) → updated_from stamp path [] database ≡ database
+  nothing_new database =
+      ap (λ rs. record (updated_from stamp path [] database) { rows = rs }) (append-nil database.rows)
+      ∙ ap (λ b. record database { has_log = b; has_lock = database.has_lock || false; has_lock_row = database.has_lock_row || false }) (or_not database.has_log)
+      ∙ ap (λ b. record database { has_lock = b; has_lock_row = database.has_lock_row || false }) (or_not database.has_lock)
+      ∙ ap (λ b. record database { has_lock_row = b }) (or_not database.has_lock_row)
 
   still_ready : (sets : List ChangeSet) (database : Database) → IsReady database → AreNew path sets database → IsReady (updated_from stamp path sets database)
   still_ready sets database ready new = record {
     users = (made_there path sets database ready.users new).1;
-    log = sym (still_true database.has_log (is_some_list sets) ready.log);
-    lock = sym (still_true database.has_lock (is_some_list sets) ready.lock);
-    lock_row = sym (still_true database.has_lock_row (is_some_list sets) ready.lock_row);
+    names = names_after (created_tables sets) database.users new.free ready.names;
     few = omega (arith, new.few, length-append database.rows (rows_after stamp path (greatest database.rows + 1) sets), rows_length stamp path (greatest database.rows + 1) sets);
     unlocked = ready.unlocked;
   }
 
   leads_on : (sets : List ChangeSet) (database : Database) (c : Catalogue) → IsReady database → StandsFor c database → AreNew path sets database
-      → LeadsTo c (update_script true stamp path (greatest database.rows + 1) sets) (updated_from stamp path sets database)
-  leads_on [] database c ready stands new = record { catalogue = c; accepted = refl; left = subst (StandsFor c) (sym (nothing_new database ready)) stands }
+      → LeadsTo c (update_script (tracking_of database) stamp path (greatest database.rows + 1) sets) (updated_from stamp path sets database)
+  leads_on [] database c ready stands new = record { catalogue = c; accepted = refl; left = subst (StandsFor c) (sym (nothing_new database)) stands }
   leads_on (set ∷ sets) database c ready stands new =
-      let opened = opens stamp reading c database.users database.rows database.lock (read c database stands ready) in
-      subst (LeadsTo c (update_script true stamp path (greatest database.rows + 1) (set ∷ sets))) (parts_same (set ∷ sets) database ready)
-      (all_run true set sets database c opened.0 ready.users new opened.1 opened.2)
-
-  -- where nothing is there
-
-  leads_first : (sets : List ChangeSet) → AreNew path sets no_database → LeadsTo no_objects (update_script false stamp path 1 sets) (updated_from stamp path sets no_database)
-  unfolding IsStrictlySortedBy
-  leads_first [] new = record { catalogue = no_objects; accepted = refl; left = record { ordered = tt; is = refl } }
-  leads_first (set ∷ sets) new =
-      let opened = opens_first stamp reading in
-      all_run false set sets no_database no_objects opened.0 nothing_firm new opened.1 opened.2
-
-  first_ready : (sets : List ChangeSet) → AreNew path sets no_database → Starts (is_some_list sets) (updated_from stamp path sets no_database)
-  first_ready [] new = refl
-  first_ready (set ∷ sets) new = record {
-    users = (made_there path (set ∷ sets) no_database nothing_firm new).1;
-    log = refl;
-    lock = refl;
-    lock_row = refl;
-    few = omega (arith, new.few, rows_length stamp path 1 (set ∷ sets));
-    unlocked = refl;
-  }
-
-removed_none : {K X : Type 0} (test : K → Bool) (es : List (K × X)) → lookup test es ≡ None → remove_entry test es ≡ es
-removed_none test [] h = refl
-removed_none test (e ∷ es) h = at (test e.0) refl h (λ none. removed_none test es none) where
-  at : (b : Bool) → test e.0 ≡ b → cond b (Some e.1) (lookup test es) ≡ None → (lookup test es ≡ None → remove_entry test es ≡ es) → cond b es (e ∷ remove_entry test es) ≡ e ∷ es
-  at true is q more = not_some q
-  at false is q more = ap (λ fs. e ∷ fs) (more q)
-
--- the empty catalogue alone is the database with nothing
-nothing_there : (c : Catalogue) → StandsFor c no_database → c ≡ no_objects
-nothing_there c stands =
-    let rows = and_then_some _ (rows_of c) no_database stands.is in
-    let l = map_some _ (lock_of Postgresql c) no_database rows.2 in
-    let no_log = none_if (table_of c log_table) (ap (λ (x : Database). x.has_log) l.2) in
-    let no_lock = none_if (table_of c lock_table) (ap (λ (x : Database). x.has_lock) l.2) in
-    let same = removed_none (is_named log_table) c.tables no_log in
-    ap (λ es. record c { tables = es }) (sym (removed_none (is_named lock_table) (remove_entry (is_named log_table) c.tables) (ap (lookup (is_named lock_table)) same ∙ no_lock) ∙ same))
-    ∙ ap (λ (x : Database). x.users) l.2
+      let opened = opens stamp reading c database stands ready in
+      subst (LeadsTo c (update_script (tracking_of database) stamp path (greatest database.rows + 1) (set ∷ sets))) (something_new set sets database ready)
+      (all_run set sets database c opened.0 ready.users new opened.1 opened.2)
 
 pub leads : UpdateLeads
-leads true stamp path sets database c reading label ready stands new = (leads_on stamp path reading label sets database c ready stands new, still_ready stamp path reading label sets database ready new)
-leads false stamp path sets database c reading label start stands new =
-    let first = subst (AreNew path sets) start new in
-    let here = nothing_there c (subst (StandsFor c) start stands) in
-    subst (λ db. LeadsTo c (update_script false stamp path (greatest db.rows + 1) sets) (updated_from stamp path sets db) × Starts (is_some_list sets) (updated_from stamp path sets db)) (sym start)
-    (subst (λ e. LeadsTo e (update_script false stamp path 1 sets) (updated_from stamp path sets no_database)) (sym here) (leads_first stamp path reading label sets first), first_ready stamp path reading label sets first)
+leads stamp path sets database c reading label ready stands new = (leads_on stamp path reading label sets database c ready stands new, still_ready stamp path reading label sets database ready new)
 
 -- a changelog's changesets are new where nothing is
 
@@ -277,5 +230,5 @@ all_new path sets holds = record {
 
 pub leaves : UpdateLeaves
 leaves stamp path tree sets reading label e =
-    let first = leads_first stamp path reading label sets (all_new path sets (given tree sets e)) in
-    record { catalogue = first.catalogue; accepted = first.accepted; left = first.left.is }
+    let first = leads stamp path sets no_database no_objects reading label nothing_ready nothing_stands (all_new path sets (given tree sets e)) in
+    record { catalogue = first.0.catalogue; accepted = first.0.accepted; left = first.0.left.is }

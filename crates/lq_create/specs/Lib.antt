@@ -5,6 +5,7 @@ pub mod Created
 pub mod Distinct
 pub mod Output
 pub mod Parts
+pub mod Refused
 pub mod Row
 pub mod Rows
 pub mod Script

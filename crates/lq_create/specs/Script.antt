@@ -8,11 +8,12 @@ use Rattle.lq_model.specs.Script.{Call, Made, alone, begin, commit, execute}
 use Rattle.lq_model.specs.declared.caller.By.TheVariants.{Program, User}
 use Rattle.lq_model.specs.declared.caller.Room.TheVariants.{Ordinary, Release}
 use Rattle.lq_model.specs.declared.statement.Statement.{Statement}
-use Rattle.lq_track.specs.Statements.{lock_freed, lock_taken, row_deleted, row_inserted, tables}
+use Rattle.lq_track.specs.Statements.{lock_freed, lock_made, lock_row_made, lock_taken, log_made, row_deleted, row_inserted}
 use Rattle.lq_create.specs.Row.{identity_of, row_after}
 use Rattle.lq_create.specs.Statements.{created, undoing}
 use Rattle.lq_create.specs.declared.changelog.ChangeSet.{ChangeSet}
 use Rattle.lq_create.specs.declared.stamp.Stamp.{Stamp}
+use Rattle.lq_create.specs.declared.tracking.TrackingTables.{TrackingTables}
 
 -- the row is the changeset's
 abbrev pub is_row_of : List ℕ → ChangeSet → Tracked → Bool
@@ -30,14 +31,17 @@ abbrev pub greatest : List Tracked → ℕ
 greatest [] = 0
 greatest (row ∷ rows) = max row.order (greatest rows)
 
--- the tracking tables and the lock's row, where they are missing
-abbrev pub made_before : Bool → List Statement
-made_before true = []
-made_before false = tables Postgresql
+abbrev pub if_missing : Bool → Statement → List Statement
+if_missing true statement = []
+if_missing false statement = statement ∷ []
+
+-- the tracking tables and the lock's row, each where it is missing
+abbrev pub made_before : TrackingTables → List Statement
+made_before there = if_missing there.log log_made ++ (if_missing there.lock (lock_made Postgresql) ++ if_missing there.lock_row lock_row_made)
 
 -- makes them, and takes the lock
-abbrev pub opening : Bool → Stamp → List Statement
-opening made stamp = made_before made ++ lock_taken (pos stamp.reading) stamp.who ∷ []
+abbrev pub opening : TrackingTables → Stamp → List Statement
+opening there stamp = made_before there ++ lock_taken (pos stamp.reading) stamp.who ∷ []
 
 abbrev pub closing : List Statement
 closing = lock_freed ∷ []
@@ -57,9 +61,9 @@ abbrev pub entry_of : Turn → List Statement
 entry_of turn = turn.0 ++ turn.1 ∷ []
 
 -- without a turn there is no call
-abbrev pub script : Bool → Stamp → List Turn → List Call
-script made stamp [] = []
-script made stamp (turn ∷ turns) = alone (by_program (opening made stamp)) Ordinary ∷ flat_map calls_of (turn ∷ turns) ++ alone (by_program closing) Release ∷ []
+abbrev pub script : TrackingTables → Stamp → List Turn → List Call
+script there stamp [] = []
+script there stamp (turn ∷ turns) = alone (by_program (opening there stamp)) Ordinary ∷ flat_map calls_of (turn ∷ turns) ++ alone (by_program closing) Release ∷ []
 
 -- a changeset's tables, then its row
 abbrev pub update_turn : Stamp → List ℕ → ℕ → ChangeSet → Turn
@@ -71,13 +75,13 @@ update_turns stamp path order [] = []
 update_turns stamp path order (set ∷ sets) = update_turn stamp path order set ∷ update_turns stamp path (order + 1) sets
 
 -- an update in which these changesets are new, the first at this place in run order
-abbrev pub update_script : Bool → Stamp → List ℕ → ℕ → List ChangeSet → List Call
-update_script made stamp path order sets = script made stamp (update_turns stamp path order sets)
+abbrev pub update_script : TrackingTables → Stamp → List ℕ → ℕ → List ChangeSet → List Call
+update_script there stamp path order sets = script there stamp (update_turns stamp path order sets)
 
 -- a changeset's tables go, the last one first, then its row
 abbrev pub rollback_turn : List ℕ → ChangeSet → Turn
 rollback_turn path set = (undoing set.tables, row_deleted (identity_of path set))
 
--- taking back these changesets, the one that ran last first; where one ran the tracking tables are there
-abbrev pub rollback_script : Stamp → List ℕ → List ChangeSet → List Call
-rollback_script stamp path sets = script true stamp (map (rollback_turn path) sets)
+-- taking back these changesets, the one that ran last first
+abbrev pub rollback_script : TrackingTables → Stamp → List ℕ → List ChangeSet → List Call
+rollback_script there stamp path sets = script there stamp (map (rollback_turn path) sets)

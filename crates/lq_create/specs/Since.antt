@@ -12,7 +12,7 @@ use Rattle.lq_track.specs.Lock.{free}
 use Rattle.lq_create.specs.Distinct.{created_tables, identities, is_same_identity, repeats}
 use Rattle.lq_create.specs.Row.{row_after}
 use Rattle.lq_create.specs.Script.{has_row, rollback_script}
-use Rattle.lq_create.specs.Started.{IsFirm, IsReady, LeadsTo, StandsFor}
+use Rattle.lq_create.specs.Started.{IsFirm, IsReady, LeadsTo, StandsFor, tracking_of}
 use Rattle.lq_create.specs.Statements.{created}
 use Rattle.lq_create.specs.Updated.{AreNew, updated_from}
 use Rattle.lq_create.specs.declared.changelog.ChangeSet.{ChangeSet}
@@ -65,7 +65,7 @@ pub record Restores (c : Catalogue) (calls : List Call) (before : Database) : Ty
 abbrev pub RollbackRestores : Type 0
 RollbackRestores = (stamp : Stamp) (path : List ℕ) (since database : Database) (sets : List ChangeSet) (c : Catalogue)
     → stamp.reading ≤ 253402300799999 → IsReady database → StandsFor c database → RanSince path since sets database
-    → Restores c (rollback_script stamp path (reverse sets)) since
+    → Restores c (rollback_script (tracking_of database) stamp path (reverse sets)) since
 
 -- new changesets ran since the database that their update began with
 abbrev pub UpdateRuns : Type 0

@@ -1,17 +1,21 @@
 -- Where a command starts, and what its commits leave there.
-use Rattle.std.specs.List.{list_all}
+use Rattle.std.specs.List.{list_all, list_any}
 use Rattle.std.specs.List.Sorted.{IsStrictlySortedBy}
 use Rattle.std.specs.Map.{keys_of}
-use Rattle.std.specs.Prelude.{Bool, List, Ok, Some, [], false, is_some, length, true, ◌≡◌, ◌≤◌}
+use Rattle.std.specs.Prelude.{List, Ok, Some, [], false, is_some, length, true, ◌∷◌, ◌≡◌, ◌≤◌}
 use Rattle.lq_base.specs.Name.{name_cmp}
 use Rattle.lq_base.specs.declared.dialect.Dialect.TheVariants.{Postgresql}
+use Rattle.lq_base.specs.declared.name.Name.{Name}
 use Rattle.lq_model.specs.Catalogue.{Catalogue, no_objects, table_of}
+use Rattle.lq_model.specs.NameSpaces.{is_taken}
 use Rattle.lq_model.specs.ResultTests.{has_null, has_orphans, has_twins, is_loose, is_overfull}
 use Rattle.lq_model.specs.Script.{Call, commits}
 use Rattle.lq_model.specs.Sound.{IsSound}
 use Rattle.lq_track.specs.Database.{Database, database_of}
-use Rattle.lq_track.specs.Lock.{free}
+use Rattle.lq_track.specs.Lock.{free, lock_key_name, lock_table}
+use Rattle.lq_track.specs.Log.{log_table}
 use Rattle.lq_create.specs.Committed.{run_commits}
+use Rattle.lq_create.specs.declared.tracking.TrackingTables.{TrackingTables}
 
 -- What createTables need of a catalogue, and keep: its tables are in the order of their names, each view is of a table that is there, and it passes what the result of a statement is tested for.
 pub record IsFirm (c : Catalogue) : Type 0 where
@@ -32,12 +36,14 @@ pub record StandsFor (c : Catalogue) (database : Database) : Type 0 where
   pub ordered : IsStrictlySortedBy name_cmp (keys_of c.tables)
   pub is : database_of Postgresql c ≡ Some database
 
--- A command may start: both tracking tables and the lock's row are there, with at most 100,000 rows and a free lock, beside firm objects of the users.
+-- the names that the tracking tables and the lock's key take
+abbrev pub tracking_names : List Name
+tracking_names = log_table ∷ lock_table ∷ lock_key_name Postgresql ∷ []
+
+-- A command may start: there are at most 100,000 rows and a free lock, beside firm objects of the users, none of which has a name of the tracking tables. These are there or not, each on its own.
 pub record IsReady (database : Database) : Type 0 where
   pub users : IsFirm database.users
-  pub log : database.has_log ≡ true
-  pub lock : database.has_lock ≡ true
-  pub lock_row : database.has_lock_row ≡ true
+  pub names : list_any (λ n. is_taken Postgresql n database.users) tracking_names ≡ false
   pub few : length database.rows ≤ 100000
   pub unlocked : database.lock ≡ free
 
@@ -45,10 +51,9 @@ pub record IsReady (database : Database) : Type 0 where
 abbrev pub no_database : Database
 no_database = record { users = no_objects; rows = []; lock = free; has_log = false; has_lock = false; has_lock_row = false }
 
--- a command may start, the tracking tables being there or not: they are not where nothing is there at all
-abbrev pub Starts : Bool → Database → Type 0
-Starts true database = IsReady database
-Starts false database = database ≡ no_database
+-- which of the tracking tables are there
+abbrev pub tracking_of : Database → TrackingTables
+tracking_of database = record { log = database.has_log; lock = database.has_lock; lock_row = database.has_lock_row }
 
 -- all that the calls commit is accepted from the catalogue on, and leaves one that is the database
 pub record LeadsTo (c : Catalogue) (calls : List Call) (database : Database) : Type 0 where

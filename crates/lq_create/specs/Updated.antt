@@ -1,6 +1,6 @@
 -- The database that an update of new changesets leaves.
 use Rattle.std.specs.List.{list_all, list_any}
-use Rattle.std.specs.Prelude.{Bool, List, Some, [], false, length, true, ℕ, ◌&&◌, ◌+◌, ◌++◌, ◌||◌, ◌∷◌, ◌≡◌, ◌≤◌}
+use Rattle.std.specs.Prelude.{List, Some, [], false, length, true, ℕ, ◌&&◌, ◌+◌, ◌++◌, ◌||◌, ◌∷◌, ◌≡◌, ◌≤◌}
 use Rattle.lq_base.specs.Text.{is_text}
 use Rattle.lq_base.specs.declared.dialect.Dialect.TheVariants.{Postgresql}
 use Rattle.lq_base.specs.declared.tracking.Tracked.{Tracked}
@@ -15,7 +15,7 @@ use Rattle.lq_create.specs.Created.{is_unfree, with_tables}
 use Rattle.lq_create.specs.Distinct.{created_tables, identities, is_same_identity, repeats, table_names}
 use Rattle.lq_create.specs.Row.{row_after}
 use Rattle.lq_create.specs.Script.{greatest, has_row, new_sets, update_script}
-use Rattle.lq_create.specs.Started.{LeadsTo, StandsFor, Starts, no_database}
+use Rattle.lq_create.specs.Started.{IsReady, LeadsTo, StandsFor, no_database, tracking_of}
 use Rattle.lq_create.specs.declared.changelog.ChangeSet.{ChangeSet}
 use Rattle.lq_create.specs.declared.stamp.Stamp.{Stamp}
 
@@ -42,7 +42,7 @@ updated stamp path sets = updated_from stamp path sets no_database
 abbrev pub UpdateLeaves : Type 0
 UpdateLeaves = (stamp : Stamp) (path : List ℕ) (tree : Node) (sets : List ChangeSet)
     → stamp.reading ≤ 253402300799999 → is_label path ≡ true → changelog_of tree ≡ Some sets
-    → Leaves (update_script false stamp path 1 sets) (updated stamp path sets)
+    → Leaves (update_script (tracking_of no_database) stamp path 1 sets) (updated stamp path sets)
 
 -- changesets of a file that are new to a database, and have room there
 pub record AreNew (path : List ℕ) (sets : List ChangeSet) (database : Database) : Type 0 where
@@ -61,10 +61,10 @@ pub record AreNew (path : List ℕ) (sets : List ChangeSet) (database : Database
 
 -- an update of new changesets, from each catalogue that is the database on, leaves that database, and a command may start there
 abbrev pub UpdateLeads : Type 0
-UpdateLeads = (made : Bool) (stamp : Stamp) (path : List ℕ) (sets : List ChangeSet) (database : Database) (c : Catalogue)
-    → stamp.reading ≤ 253402300799999 → is_label path ≡ true → Starts made database → StandsFor c database → AreNew path sets database
-    → LeadsTo c (update_script made stamp path (greatest database.rows + 1) sets) (updated_from stamp path sets database)
-    × Starts (made || is_some_list sets) (updated_from stamp path sets database)
+UpdateLeads = (stamp : Stamp) (path : List ℕ) (sets : List ChangeSet) (database : Database) (c : Catalogue)
+    → stamp.reading ≤ 253402300799999 → is_label path ≡ true → IsReady database → StandsFor c database → AreNew path sets database
+    → LeadsTo c (update_script (tracking_of database) stamp path (greatest database.rows + 1) sets) (updated_from stamp path sets database)
+    × IsReady (updated_from stamp path sets database)
 
 -- a changelog's changesets without a row are new where no table has a name of theirs and they have room
 abbrev pub NewSetsAreNew : Type 0

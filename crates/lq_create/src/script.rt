@@ -8,9 +8,10 @@ use crate::changelog::ChangeSet;
 use crate::row::{identity_of, row_after};
 use crate::stamp::Stamp;
 use crate::statements::{statements_of, undo_statements};
+use crate::tracking::TrackingTables;
 use lq_base::{Dialect, Items, NoMemory, Text, Tracked};
 use lq_model::Statement;
-use lq_track::{delete_row, free_lock, insert_row, make_tables, take_lock};
+use lq_track::{delete_row, free_lock, insert_row, make_lock, make_lock_row, make_log, take_lock};
 use std::alloc::Global;
 
 /// What one commit leaves in the journal.
@@ -29,21 +30,28 @@ pub fn greatest(rows: &[Tracked]) -> u32
     last
 }
 
-fn made_before(alloc: Global, made: bool) -> Result<Entry, NoMemory>
-    ensures { IfOk result (λ entry. entry ≡ made_before made) }
+fn made_before(alloc: Global, there: TrackingTables) -> Result<Entry, NoMemory>
+    ensures { IfOk result (λ entry. entry ≡ made_before there) }
 {
-    if made {
-        return Ok(Items::new(alloc));
+    let mut made = Items::new(alloc);
+    if !there.log {
+        made.push(make_log(alloc)?)?;
     }
-    make_tables(alloc, Dialect::Postgresql)
+    if !there.lock {
+        made.push(make_lock(alloc, Dialect::Postgresql)?)?;
+    }
+    if !there.lock_row {
+        made.push(make_lock_row(alloc)?)?;
+    }
+    Ok(made)
 }
 
 #[tactic(auto, using(crate::proofs::Moments::is_moment))]
-fn opening(alloc: Global, made: bool, stamp: &Stamp) -> Result<Entry, NoMemory>
+fn opening(alloc: Global, there: TrackingTables, stamp: &Stamp) -> Result<Entry, NoMemory>
     requires { stamp.now.reading ≤ 253402300799999 }
-    ensures { IfOk result (λ entry. entry ≡ opening made stamp.now) }
+    ensures { IfOk result (λ entry. entry ≡ opening there stamp.now) }
 {
-    let mut entry = made_before(alloc, made)?;
+    let mut entry = made_before(alloc, there)?;
     entry.push(take_lock(alloc, stamp.reading as i64, &stamp.who)?)?;
     Ok(entry)
 }
@@ -117,11 +125,11 @@ fn push_updates(
 }
 
 /// The journal entries of an update in which these changesets are new, each of which was read from
-/// the file `path`; the first gets the place `order` in run order, and `made` says whether the
-/// tracking tables are there. Without a changeset there is none.
+/// the file `path`; the first gets the place `order` in run order, and what is not `there` of the
+/// tracking tables is made. Without a changeset there is none.
 pub fn update_entries(
     alloc: Global,
-    made: bool,
+    there: TrackingTables,
     stamp: &Stamp,
     path: &Text,
     order: u32,
@@ -129,13 +137,13 @@ pub fn update_entries(
 ) -> Result<Items<Entry>, NoMemory>
     requires reading { stamp.now.reading ≤ 253402300799999 }
     requires orders { order + length sets.now ≤ 2147483648 }
-    ensures { IfOk result (λ all. all ≡ entries (update_script made stamp.now path.now order (map (λ s. s.now) sets.now))) }
+    ensures { IfOk result (λ all. all ≡ entries (update_script there stamp.now path.now order (map (λ s. s.now) sets.now))) }
 {
     let [_first, ..] = sets else {
         return Ok(Items::new(alloc));
     };
     let mut all = Items::new(alloc);
-    all.push(opening(alloc, made, stamp)?)?;
+    all.push(opening(alloc, there, stamp)?)?;
     push_updates(&mut all, alloc, stamp, path, order, sets)?;
     push_closing(&mut all, alloc)?;
     Ok(all)
@@ -166,22 +174,23 @@ fn push_rollbacks(
     Ok(())
 }
 
-/// The journal entries of a rollback that takes these changesets back, the one that ran last first.
-/// Without a changeset there is none.
+/// The journal entries of a rollback that takes these changesets back, the one that ran last first;
+/// what is not `there` of the tracking tables is made. Without a changeset there is none.
 pub fn rollback_entries(
     alloc: Global,
+    there: TrackingTables,
     stamp: &Stamp,
     path: &Text,
     sets: &[&ChangeSet],
 ) -> Result<Items<Entry>, NoMemory>
     requires reading { stamp.now.reading ≤ 253402300799999 }
-    ensures { IfOk result (λ all. all ≡ entries (rollback_script stamp.now path.now (map (λ s. s.now) sets.now))) }
+    ensures { IfOk result (λ all. all ≡ entries (rollback_script there stamp.now path.now (map (λ s. s.now) sets.now))) }
 {
     let [_first, ..] = sets else {
         return Ok(Items::new(alloc));
     };
     let mut undone = Items::new(alloc);
-    undone.push(opening(alloc, true, stamp)?)?;
+    undone.push(opening(alloc, there, stamp)?)?;
     push_rollbacks(&mut undone, alloc, path, sets)?;
     push_closing(&mut undone, alloc)?;
     Ok(undone)

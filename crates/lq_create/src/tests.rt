@@ -1,6 +1,6 @@
 use crate::{
-    ChangeSet, Stamp, greatest, new_sets, read_changelog, rollback_entries, rollback_text,
-    row_after, update_entries, update_text,
+    ChangeSet, Stamp, TrackingTables, greatest, new_sets, read_changelog, rollback_entries,
+    rollback_text, row_after, update_entries, update_text,
 };
 use lq_base::{Items, Literal, NoMemory, Text};
 use lq_model::{ColumnDef, Statement};
@@ -68,6 +68,18 @@ const TWO: &str = r#"{"databaseChangeLog":[
  {"createTable":{"tableName":"t","columns":[{"column":{"name":"id","type":"int"}}]}},
  {"createTable":{"tableName":"u","columns":[{"column":{"name":"id","type":"BIGINT"}}]}}]}}]}"#;
 
+const NOTHING: TrackingTables = TrackingTables {
+    log: false,
+    lock: false,
+    lock_row: false,
+};
+
+const EVERYTHING: TrackingTables = TrackingTables {
+    log: true,
+    lock: true,
+    lock_row: true,
+};
+
 #[test]
 fn two_changesets_and_back(rt: HostRuntime) -> Result<(), Fail> {
     let alloc = rt.alloc();
@@ -79,7 +91,7 @@ fn two_changesets_and_back(rt: HostRuntime) -> Result<(), Fail> {
     let path = Text::new(alloc, "db/two.json")?;
     let refs = new_sets(alloc, path.as_str(), &[], sets.as_slice())?;
     assert_eq!(rt; refs.len(), 2);
-    let entries = update_entries(alloc, false, &stamp, &path, 1, refs.as_slice())?;
+    let entries = update_entries(alloc, NOTHING, &stamp, &path, 1, refs.as_slice())?;
     let mut shown = String::new(alloc);
     for entry in entries.as_slice() {
         write!(shown, "{} statements\n", entry.len())?;
@@ -119,7 +131,9 @@ update: 2 ran, 0 ran again, 0 marked, 0 skipped, 0 not fresh
         2
     );
     let mut back = String::new(alloc);
-    for entry in rollback_entries(alloc, &stamp, &path, &refs.as_slice()[1..])?.as_slice() {
+    let last = &refs.as_slice()[1..];
+    let undone = rollback_entries(alloc, EVERYTHING, &stamp, &path, last)?;
+    for entry in undone.as_slice() {
         show(&mut back, entry)?;
     }
     assert_eq!(rt;
@@ -137,6 +151,80 @@ update DATABASECHANGELOGLOCK
 rollback: 1 rolled back
 "
     );
+    Ok(())
+}
+
+// What an entry does to which tables.
+fn show_briefly(out: &mut String, entry: &Items<Statement>) -> Result<(), AllocError> {
+    for statement in entry.as_slice() {
+        match statement {
+            Statement::CreateTable { table, .. } => write!(out, "create {}\n", table.as_key())?,
+            Statement::Insert { table, .. } => write!(out, "insert {}\n", table.as_key())?,
+            Statement::Update { table, .. } => write!(out, "update {}\n", table.as_key())?,
+            _ => out.push_str("other\n")?,
+        }
+    }
+    Ok(())
+}
+
+// What an update of the changeset does first, and what its rollback does first.
+fn openings(alloc: Global, there: TrackingTables, set: &ChangeSet) -> Result<String, Fail> {
+    let stamp = Stamp {
+        who: Text::new(alloc, "ci")?,
+        reading: 1000,
+    };
+    let path = Text::new(alloc, "db/two.json")?;
+    let mut shown = String::new(alloc);
+    let update = update_entries(alloc, there, &stamp, &path, 1, &[set])?;
+    let rollback = rollback_entries(alloc, there, &stamp, &path, &[set])?;
+    for entry in [update.as_slice().first(), rollback.as_slice().first()] {
+        if let Some(entry) = entry {
+            show_briefly(&mut shown, entry)?;
+        }
+    }
+    Ok(shown)
+}
+
+// Of the log, the lock and the lock's row, those that are there, and what is done before all else.
+const OPENINGS: [((bool, bool, bool), &str); 6] = [
+    (
+        (false, false, false),
+        "create DATABASECHANGELOG\ncreate DATABASECHANGELOGLOCK\ninsert DATABASECHANGELOGLOCK\nupdate DATABASECHANGELOGLOCK\n",
+    ),
+    (
+        (true, false, false),
+        "create DATABASECHANGELOGLOCK\ninsert DATABASECHANGELOGLOCK\nupdate DATABASECHANGELOGLOCK\n",
+    ),
+    (
+        (false, true, false),
+        "create DATABASECHANGELOG\ninsert DATABASECHANGELOGLOCK\nupdate DATABASECHANGELOGLOCK\n",
+    ),
+    (
+        (true, true, false),
+        "insert DATABASECHANGELOGLOCK\nupdate DATABASECHANGELOGLOCK\n",
+    ),
+    (
+        (false, true, true),
+        "create DATABASECHANGELOG\nupdate DATABASECHANGELOGLOCK\n",
+    ),
+    ((true, true, true), "update DATABASECHANGELOGLOCK\n"),
+];
+
+#[test]
+fn what_is_missing_is_made(rt: HostRuntime) -> Result<(), Fail> {
+    let alloc = rt.alloc();
+    let sets = read(alloc, TWO)?.unwrap_or(Items::new(alloc));
+    assert_eq!(rt; sets.len(), 2);
+    for ((log, lock, lock_row), once) in OPENINGS.iter() {
+        let there = TrackingTables {
+            log: *log,
+            lock: *lock,
+            lock_row: *lock_row,
+        };
+        let shown = openings(alloc, there, &sets.as_slice()[0])?;
+        let twice = format!(in alloc; "{once}{once}")?;
+        assert_eq!(rt; shown.as_str(), twice.as_str());
+    }
     Ok(())
 }
 

@@ -2,9 +2,9 @@
 use Rattle.std.proofs.Common.{ap, sym, ◌∙◌, arith, rules, tests, length-append}
 use Rattle.std.proofs.lemmas.Int.{ints}
 use Rattle.std.proofs.lemmas.List.{length-map}
-use Rattle.std.specs.List.{filter, list_all, list_any}
+use Rattle.std.specs.List.{list_all, list_any}
 use Rattle.std.specs.Option.{unwrap_or}
-use Rattle.std.specs.Prelude.{Bool, Err, List, Ok, Result, [], codes, cond, false, length, map, nat_eq, nat_le, nat_lt, not, pos, refl, true, ℕ, ◌&&◌, ◌+◌, ◌++◌, ◌||◌, ◌∷◌, ◌≡◌, ◌≤◌}
+use Rattle.std.specs.Prelude.{Bool, Err, List, Ok, Result, Some, [], codes, cond, false, length, map, nat_eq, nat_le, nat_lt, not, pos, refl, true, ℕ, ◌&&◌, ◌+◌, ◌++◌, ◌||◌, ◌∷◌, ◌≡◌, ◌≤◌}
 use Rattle.lq_base.specs.Character.{char_count}
 use Rattle.lq_base.specs.Moment.{moment_text}
 use Rattle.lq_base.specs.Name.{is_named}
@@ -16,14 +16,13 @@ use Rattle.lq_base.specs.declared.literal.Literal.TheVariants as literal
 use Rattle.lq_base.specs.declared.name.Name.{Name}
 use Rattle.lq_base.specs.declared.reason.Reason.{Reason}
 use Rattle.lq_base.specs.declared.reason.Reason.TheVariants.{TooWide}
-use Rattle.lq_base.specs.declared.tracking.Lock.{Lock}
 use Rattle.lq_base.specs.declared.tracking.Tracked.{Tracked}
 use Rattle.lq_base.specs.declared.value.Value.{Value}
 use Rattle.lq_base.specs.declared.value.Value.TheVariants as value
 use Rattle.lq_model.proofs.Decide.{accepted}
 use Rattle.lq_model.proofs.Lists.{and_left, and_right, and_true, any-append, or_false, or_left, or_right, true_false}
 use Rattle.lq_model.proofs.Maps.{at_lookup, lookup-set_value}
-use Rattle.lq_model.specs.Catalogue.{Catalogue, Table, no_table, the_table, with_table}
+use Rattle.lq_model.specs.Catalogue.{Catalogue, Table, no_table, table_of, the_table, with_table}
 use Rattle.lq_model.specs.Insert.{insert, row_of, with_row}
 use Rattle.lq_model.specs.Literals.{is_wide, value_in}
 use Rattle.lq_model.specs.ResultTests.{is_full}
@@ -32,11 +31,9 @@ use Rattle.lq_model.specs.declared.caller.By.TheVariants.{Program}
 use Rattle.lq_track.specs.Database.{has_twin_rows, same_identity}
 use Rattle.lq_track.specs.Log.{identity_of, log_column, log_name, log_order, log_table, log_value}
 use Rattle.lq_track.specs.Statements.{row_inserted}
-use Rattle.lq_create.proofs.Holds.{Holds}
 use Rattle.lq_create.proofs.Lengths.{deployment_fits, within}
 use Rattle.lq_create.proofs.RowAdded.{GoesIn, log_at, log_row, log_rows}
 use Rattle.lq_create.proofs.RowFits.{moment_goes}
-use Rattle.lq_create.proofs.RunOrder.{as_many}
 use Rattle.lq_create.proofs.TablesRead.{not_is}
 use Rattle.lq_held.specs.Goes.{fits}
 use Rattle.lq_written.specs.Written.{is_row, tracked_of}
@@ -129,24 +126,24 @@ not_full it h = at (nat_le (length it.rows) 100000) refl h where
   at true is k = below (length it.rows) 100000 is
   at false is k = true_false refl k
 
-module _ (c users : Catalogue) (rows : List Tracked) (l : Lock) (so : Holds c users rows l) (row : WrittenRow) (x : Catalogue × ℕ) (h : step Program Postgresql (row_inserted (tracked_of row)) c ≡ Ok x) where
+module _ (c : Catalogue) (rows : List Tracked) (next : ℕ) (log_is : table_of c log_table ≡ Some (log_at next (log_rows rows))) (row : WrittenRow) (x : Catalogue × ℕ) (h : step Program Postgresql (row_inserted (tracked_of row)) c ≡ Ok x) where
   abbrev literals : List Literal
   literals = map (log_value (tracked_of row)) log_order
 
   abbrev log : Table
-  log = log_at so.log_next (log_rows so.stored)
+  log = log_at next (log_rows rows)
 
   abbrev one_more : Table → Table
   one_more it = with_row Postgresql names literals it
 
   the_is : the_table c log_table ≡ log
-  the_is = ap (λ o. unwrap_or o no_table) so.tracks.log_is
+  the_is = ap (λ o. unwrap_or o no_table) log_is
 
   pub row_fits : fits row ≡ true
   unfolding log_order
   row_fits =
       let ok = accepted (insert Program Postgresql log_table names literals c) x.0 x.1 h in
-      fits_if row so.log_next (log_rows so.stored) (sym (ap (λ (it : Table). list_any is_wide (row_of names literals it)) the_is) ∙ ok.wide)
+      fits_if row next (log_rows rows) (sym (ap (λ (it : Table). list_any is_wide (row_of names literals it)) the_is) ∙ ok.wide)
 
   stays_so : with_table c log_table (one_more (the_table c log_table)) ≡ with_table c log_table (one_more log)
   stays_so = ap (λ (it : Table). with_table c log_table (one_more it)) the_is
@@ -157,12 +154,12 @@ module _ (c users : Catalogue) (rows : List Tracked) (l : Lock) (so : Holds c us
       let ok = accepted (insert Program Postgresql log_table names literals c) x.0 x.1 h in
       at_lookup (is_named log_table) is_full (with_table c log_table (one_more log)).tables (one_more log)
       (sym (ap (λ (e : Catalogue). list_any (λ (y : Name × Table). is_full y.1) e.tables) stays_so) ∙ ok.small)
-      (lookup-set_value (is_named log_table) c.tables log (one_more log) so.tracks.log_is)
+      (lookup-set_value (is_named log_table) c.tables log (one_more log) log_is)
 
   pub has_room : length rows + 1 ≤ 100000
   has_room =
       let all = not_full (one_more log) not_too_many in
-      omega (arith, all, length-append (log_rows so.stored) (map value_in (row_of names literals log) ∷ []), length-map so.stored log_row, as_many so.stored, ap length so.order)
+      omega (arith, all, length-append (log_rows rows) (map value_in (row_of names literals log) ∷ []), length-map rows log_row)
 
 -- rows of different identities and places
 
@@ -182,17 +179,3 @@ still_differ (r ∷ rows) row h all =
     or_false _ _
     (any-append (twin r) rows (row ∷ []) ∙ or_false _ _ (or_left (list_any (twin r) rows) _ h) (or_false _ _ (no_twin r row here) refl))
     (still_differ rows row (or_right (list_any (twin r) rows) _ h) (and_right (nat_lt r.order row.order && not (same_identity (identity_of r) (identity_of row))) _ all))
-
-any_filtered : {A : Type 0} (p q : A → Bool) (xs : List A) → list_any q xs ≡ false → list_any q (filter p xs) ≡ false
-any_filtered p q [] h = refl
-any_filtered p q (x ∷ xs) h = elim (p x) as (λ b. list_any q (cond b (x ∷ filter p xs) (filter p xs)) ≡ false) [
-  | true ↦ or_false _ _ (or_left (q x) _ h) (any_filtered p q xs (or_right (q x) _ h))
-  | false ↦ any_filtered p q xs (or_right (q x) _ h)
-]
-
-pub fewer_differ : (p : Tracked → Bool) (rows : List Tracked) → has_twin_rows rows ≡ false → has_twin_rows (filter p rows) ≡ false
-fewer_differ p [] h = refl
-fewer_differ p (r ∷ rows) h = elim (p r) as (λ b. has_twin_rows (cond b (r ∷ filter p rows) (filter p rows)) ≡ false) [
-  | true ↦ or_false _ _ (any_filtered p (twin r) rows (or_left (list_any (twin r) rows) _ h)) (fewer_differ p rows (or_right (list_any (twin r) rows) _ h))
-  | false ↦ fewer_differ p rows (or_right (list_any (twin r) rows) _ h)
-]

@@ -1,35 +1,31 @@
 -- What the scripts of an update and of a rollback write, and that they go on from what a journal holds.
 use Rattle.std.proofs.Common.{ap, sym, ◌∙◌, arith, rules, tests}
 use Rattle.std.proofs.Math.Path.{subst}
-use Rattle.std.proofs.lemmas.List.{append_assoc, reverse-append}
+use Rattle.std.proofs.lemmas.List.{append-nil, append_assoc, reverse-append}
 use Rattle.std.specs.List.{flat_map, list_all, list_any}
 use Rattle.std.specs.Option.{unwrap_or}
 use Rattle.std.specs.Prelude.{Bool, List, None, Ok, [], false, length, map, nat_le, nat_lt, not, pos, refl, reverse, true, ℕ, ◌&&◌, ◌+◌, ◌++◌, ◌∷◌, ◌≡◌, ◌≤◌}
 use Rattle.lq_base.specs.Moment.{is_moment}
 use Rattle.lq_base.specs.Name.{is_name}
 use Rattle.lq_base.specs.Text.{is_text}
-use Rattle.lq_base.specs.Value.{into_kind}
 use Rattle.lq_base.specs.declared.dialect.Dialect.TheVariants.{Postgresql}
 use Rattle.lq_base.specs.declared.tracking.Tracked.{Tracked}
 use Rattle.std.proofs.lemmas.Int.{ints}
-use Rattle.lq_model.proofs.Lists.{all-append_left, all-append_right, all_both, all_more, all_one_more, and_left, and_right, and_true, any-append, none_all, or_false, or_left, or_right, true_false}
+use Rattle.lq_model.proofs.Lists.{all-append, all-append_left, all-append_right, all_both, all_more, all_one_more, and_left, and_right, and_true, any-append, none_all, or_false, or_left, or_right, true_false}
 use Rattle.lq_model.specs.Catalogue.{Catalogue, no_objects}
-use Rattle.lq_model.specs.Plan.{decide}
 use Rattle.lq_model.specs.Script.{Made, statements_in}
 use Rattle.lq_model.specs.StatementText.{text_of}
 use Rattle.lq_model.specs.declared.caller.By.TheVariants.{Program}
 use Rattle.lq_model.specs.declared.statement.Statement.TheVariants.{CreateTable}
-use Rattle.lq_track.specs.Database.{Database, same_identity}
-use Rattle.lq_track.specs.Lock.{free, lock_column, lock_key_name, lock_order, lock_table, lock_value}
-use Rattle.lq_track.specs.Log.{identity_of, log_column, log_order, log_table}
+use Rattle.lq_track.specs.Database.{Database, has_twin_rows, same_identity}
+use Rattle.lq_track.specs.Log.{identity_of}
 use Rattle.lq_track.specs.Row.{cut}
-use Rattle.lq_track.specs.Statements.{row_deleted, row_inserted, tables}
+use Rattle.lq_track.specs.Statements.{row_deleted, row_inserted}
 use Rattle.lq_create.proofs.BackRun.{theirs}
 use Rattle.lq_create.proofs.Entries.{by_user, commit_of}
-use Rattle.lq_create.proofs.RunMade.{run_on}
 use Rattle.lq_create.specs.Canonical.{sum_of}
 use Rattle.lq_create.specs.Changelog.{are_columns}
-use Rattle.lq_create.specs.Committed.{run_commits, run_made}
+use Rattle.lq_create.specs.Committed.{run_commits}
 use Rattle.lq_create.specs.Distinct.{created_tables, identities, is_same_identity, repeats}
 use Rattle.lq_create.specs.Row.{described, identity_of as identity_for, row_after}
 use Rattle.lq_create.specs.Script.{by_program, closing, has_row, is_row_of, opening, rollback_turn, update_turns}
@@ -40,15 +36,16 @@ use Rattle.lq_create.specs.declared.changelog.ChangeSet.{ChangeSet}
 use Rattle.lq_create.specs.declared.changelog.CreatedColumn.{CreatedColumn}
 use Rattle.lq_create.specs.declared.changelog.CreatedTable.{CreatedTable}
 use Rattle.lq_create.specs.declared.stamp.Stamp.{Stamp}
-use Rattle.lq_held.proofs.Begun.{begun, begun_kept, both_tables}
-use Rattle.lq_held.proofs.Journal.{kept_here, tells_more, then_all}
-use Rattle.lq_held.proofs.Through.{AreThose, all_due, flat, run_flat, tells_commits, through}
-use Rattle.lq_held.specs.Goes.{others}
-use Rattle.lq_held.specs.Held.{LeadHere, is_last, making}
+use Rattle.lq_create.specs.Updated.{rows_after}
+use Rattle.lq_create.specs.declared.tracking.TrackingTables.{TrackingTables}
+use Rattle.lq_held.proofs.Journal.{after_then, tells_more}
+use Rattle.lq_held.proofs.RowsIn.{still_differ}
+use Rattle.lq_held.proofs.Through.{AreThose, flat, run_flat, tells_commits, those_append, through}
+use Rattle.lq_held.specs.Held.{HoldsDatabase}
 use Rattle.lq_held.specs.Laws.{is_named_column, is_named_table}
 use Rattle.lq_written.specs.Written.{are_columns as are_written, def_of as written_def, is_column, is_written, may_name, statement_of, tracked_of}
 use Rattle.lq_written.specs.declared.written.Written.{Written}
-use Rattle.lq_written.specs.declared.written.Written.TheVariants.{LockFreed, LockTaken, RowDeleted, RowInserted, TableCreated, TableDropped}
+use Rattle.lq_written.specs.declared.written.Written.TheVariants.{LockFreed, LockMade, LockRowMade, LockTaken, LogMade, RowDeleted, RowInserted, TableCreated, TableDropped}
 use Rattle.lq_written.specs.declared.written.WrittenColumn.{WrittenColumn}
 use Rattle.lq_written.specs.declared.written.WrittenRow.{WrittenRow}
 
@@ -135,14 +132,17 @@ tables_written (t ∷ ts) ws named columns written =
 at_most : (a b : ℕ) → a ≤ b → nat_le a b ≡ true
 at_most a b h = search (rules, tests)
 
-pub updates_written : (stamp : Stamp) (path : List ℕ) (order : ℕ) (sets : List ChangeSet) → stamp.reading ≤ 253402300799999 → order + length sets ≤ 2147483648 → list_all is_named_table (created_tables sets) ≡ true
+placed_at : (order : ℕ) → 1 ≤ order → nat_lt 0 order ≡ true
+placed_at order h = search (rules, tests)
+
+pub updates_written : (stamp : Stamp) (path : List ℕ) (order : ℕ) (sets : List ChangeSet) → stamp.reading ≤ 253402300799999 → 1 ≤ order → order + length sets ≤ 2147483648 → list_all is_named_table (created_tables sets) ≡ true
     → list_all (λ (t : CreatedTable). are_columns t.columns) (created_tables sets) ≡ true → list_all is_written (updates stamp path order sets) ≡ true
-updates_written stamp path order [] reading early named columns = refl
-updates_written stamp path order (set ∷ sets) reading early named columns =
+updates_written stamp path order [] reading first early named columns = refl
+updates_written stamp path order (set ∷ sets) reading first early named columns =
     tables_written set.tables (RowInserted (row_written stamp path order set) ∷ updates stamp path (order + 1) sets)
     (all-append_left is_named_table set.tables (created_tables sets) named) (all-append_left (λ (t : CreatedTable). are_columns t.columns) set.tables (created_tables sets) columns)
-    (and_true _ _ (and_true _ _ (at_most stamp.reading 253402300799999 reading) (at_most order 4294967295 (omega (arith, early))))
-    (updates_written stamp path (order + 1) sets reading (omega (arith, early)) (all-append_right is_named_table set.tables (created_tables sets) named) (all-append_right (λ (t : CreatedTable). are_columns t.columns) set.tables (created_tables sets) columns)))
+    (and_true _ _ (and_true _ _ (at_most stamp.reading 253402300799999 reading) (and_true _ _ (placed_at order first) (at_most order 4294967295 (omega (arith, early)))))
+    (updates_written stamp path (order + 1) sets reading (omega (arith, first)) (omega (arith, early)) (all-append_right is_named_table set.tables (created_tables sets) named) (all-append_right (λ (t : CreatedTable). are_columns t.columns) set.tables (created_tables sets) columns)))
 
 pub all_reversed : {A : Type 0} (p : A → Bool) (xs : List A) → list_all p xs ≡ true → list_all p (reverse xs) ≡ true
 all_reversed p [] h = refl
@@ -164,30 +164,13 @@ drops_written path [] named = refl
 drops_written path (set ∷ sets) named =
     drops_on (reverse set.tables) (RowDeleted (identity_for path set) ∷ drops path sets) (all_reversed is_named_table set.tables (and_left (has_named set) _ named)) (and_true _ _ refl (drops_written path sets (and_right (has_named set) _ named)))
 
--- a rollback inserts no row
-
-drops_due : (ts : List CreatedTable) (ws : List Written) (rows : List Tracked) → all_due ws rows ≡ true → all_due (map (λ (t : CreatedTable). TableDropped t.name) ts ++ ws) rows ≡ true
-drops_due [] ws rows due = due
-drops_due (t ∷ ts) ws rows due = drops_due ts ws rows due
-
-pub back_due : (path : List ℕ) (sets : List ChangeSet) (rows : List Tracked) → all_due (drops path sets) rows ≡ true
-back_due path [] rows = refl
-back_due path (set ∷ sets) rows = drops_due (reverse set.tables) (RowDeleted (identity_for path set) ∷ drops path sets) rows (back_due path sets (others (identity_for path set) rows))
-
--- an update inserts each row behind the others
+-- an update inserts each row behind the others, so none of them are twins
 
 later : (order : ℕ) → nat_lt order (order + 1) ≡ true
 later order = search (rules, tests)
 
 later_too : (n order : ℕ) → nat_lt n order ≡ true → nat_lt n (order + 1) ≡ true
 later_too n order h = search (rules, tests)
-
-placed_at : (order : ℕ) → 1 ≤ order → nat_lt 0 order ≡ true
-placed_at order h = search (rules, tests)
-
-tables_due : (ts : List CreatedTable) (ws : List Written) (rows : List Tracked) → all_due ws rows ≡ true → all_due (map table_written ts ++ ws) rows ≡ true
-tables_due [] ws rows due = due
-tables_due (t ∷ ts) ws rows due = tables_due ts ws rows due
 
 same_row : (path : List ℕ) (set : ChangeSet) (r : Tracked) → is_row_of path set r ≡ same_identity (identity_of r) (identity_for path set)
 same_row path set r = turned (is_text r.filename path) (is_text r.id set.id) (is_text r.author set.author) where
@@ -211,22 +194,27 @@ module _ (stamp : Stamp) (path : List ℕ) where
       (any-append (is_row_of path s) rows (its order set ∷ []) ∙ or_false _ _ (or_left (has_row path rows s) _ none) (or_false _ _ (theirs path set (its order set) (its_row order set) s ∙ or_left (is_same_identity (set.id, set.author) (s.id, s.author)) _ differ) refl))
       (still_new order set rows sets (or_right (is_same_identity (set.id, set.author) (s.id, s.author)) _ differ) (or_right (has_row path rows s) _ none))
 
-  behind : (order : ℕ) (set : ChangeSet) (rows : List Tracked) → has_row path rows set ≡ false → list_all (λ r. nat_lt r.order order) rows ≡ true → 1 ≤ order → is_last (its order set) rows ≡ true
-  behind order set rows none last positive =
-      and_true _ _ (placed_at order positive)
-      (all_both (λ r. nat_lt r.order order) (λ r. not (same_identity (identity_of r) (identity_for path set))) rows last
-      (all_more (λ r. not (is_row_of path set r)) (λ r. not (same_identity (identity_of r) (identity_for path set))) rows (λ r h. sym (ap not (same_row path set r)) ∙ h) (none_all (is_row_of path set) rows none)))
+  apart : (order : ℕ) (set : ChangeSet) (rows : List Tracked) → has_row path rows set ≡ false → list_all (λ r. nat_lt r.order order) rows ≡ true
+      → list_all (λ r. nat_lt r.order order && not (same_identity (identity_of r) (identity_for path set))) rows ≡ true
+  apart order set rows none last =
+      all_both (λ r. nat_lt r.order order) (λ r. not (same_identity (identity_of r) (identity_for path set))) rows last
+      (all_more (λ r. not (is_row_of path set r)) (λ r. not (same_identity (identity_of r) (identity_for path set))) rows (λ r h. sym (ap not (same_row path set r)) ∙ h) (none_all (is_row_of path set) rows none))
 
-  pub updates_due : (order : ℕ) (sets : List ChangeSet) (rows : List Tracked) → repeats is_same_identity (identities sets) ≡ false → list_any (has_row path rows) sets ≡ false → list_all (λ r. nat_lt r.order order) rows ≡ true → 1 ≤ order
-      → all_due (updates stamp path order sets) rows ≡ true
-  updates_due order [] rows differ none last positive = refl
-  updates_due order (set ∷ sets) rows differ none last positive =
-      tables_due set.tables (RowInserted (row_written stamp path order set) ∷ updates stamp path (order + 1) sets) rows
-      (and_true _ _ (behind order set rows (or_left (has_row path rows set) _ none) last positive)
-      (updates_due (order + 1) sets (rows ++ its order set ∷ []) (or_right (list_any (is_same_identity (set.id, set.author)) (identities sets)) _ differ)
+  its_is : (order : ℕ) (set : ChangeSet) → its order set ≡ row_after stamp path order set
+  unfolding row_after
+  its_is order set = refl
+
+  pub rows_differ : (order : ℕ) (sets : List ChangeSet) (rows : List Tracked) → has_twin_rows rows ≡ false → repeats is_same_identity (identities sets) ≡ false → list_any (has_row path rows) sets ≡ false
+      → list_all (λ r. nat_lt r.order order) rows ≡ true → has_twin_rows (rows ++ rows_after stamp path order sets) ≡ false
+  rows_differ order [] rows before differ none last = ap has_twin_rows (append-nil rows) ∙ before
+  rows_differ order (set ∷ sets) rows before differ none last =
+      ap (λ (r : Tracked). has_twin_rows (rows ++ r ∷ rows_after stamp path (order + 1) sets)) (sym (its_is order set))
+      ∙ ap has_twin_rows (sym (append_assoc rows (its order set ∷ []) (rows_after stamp path (order + 1) sets)))
+      ∙ rows_differ (order + 1) sets (rows ++ its order set ∷ [])
+      (still_differ rows (its order set) before (apart order set rows (or_left (has_row path rows set) _ none) last))
+      (or_right (list_any (is_same_identity (set.id, set.author)) (identities sets)) _ differ)
       (still_new order set rows sets (or_left (list_any (is_same_identity (set.id, set.author)) (identities sets)) _ differ) (or_right (has_row path rows set) _ none))
       (all_one_more (λ (r : Tracked). nat_lt r.order (order + 1)) rows (its order set) (all_more (λ (r : Tracked). nat_lt r.order order) _ rows (λ r h. later_too r.order order h) last) (later order))
-      (omega (arith, positive))))
 
 -- the whole script
 
@@ -236,41 +224,50 @@ taken_by stamp = LockTaken (pos stamp.reading) stamp.who
 pub moment_so : (n : ℕ) → n ≤ 253402300799999 → is_moment (pos n) ≡ true
 moment_so n h = grind (arith, ints, tests)
 
-making_run : run_made Postgresql (by_program (tables Postgresql)) no_objects ≡ Ok both_tables
-unfolding decide into_kind log_table lock_table log_column log_order lock_column lock_order lock_key_name lock_value
-making_run = refl
+-- what is missing of the tracking tables, and the lock
 
--- from what a journal holds, with the tracking tables
-module _ (stamp : Stamp) (texts : List (List ℕ)) (it other : Database) (h : LeadHere texts it) (cs : List (List Made)) (ws : List Written) where
-  pub leads_here : AreThose (flat (by_program (opening true stamp) ∷ cs)) (taken_by stamp ∷ ws) → list_all is_written (taken_by stamp ∷ ws) ≡ true → all_due ws it.rows ≡ true
-      → (e : Catalogue) → run_commits Postgresql (by_program (opening true stamp) ∷ cs) h.catalogue ≡ Ok e → StandsFor e other
-      → LeadHere (texts ++ flat_map (map (text_of Postgresql)) (map statements_in (by_program (opening true stamp) ∷ cs))) other
-  leads_here those written due e ran stands =
-      let all = by_program (opening true stamp) ∷ cs in
-      let so = kept_here texts it h in
-      record {
-        more = h.more ++ taken_by stamp ∷ ws;
-        told = tells_more texts (flat_map (map (text_of Postgresql)) (map statements_in all)) (making ++ h.more) (taken_by stamp ∷ ws) h.told (tells_commits all (taken_by stamp ∷ ws) those written);
-        catalogue = e;
-        led = then_all (making ++ h.more) (taken_by stamp ∷ ws) no_objects h.catalogue h.led
-            ∙ through (flat all) (taken_by stamp ∷ ws) those written h.catalogue e it.users it.rows it.lock so.0 due (run_flat all h.catalogue e ran);
-        is = stands.is;
-      }
+abbrev if_missing_written : Bool → Written → List Written
+if_missing_written true w = []
+if_missing_written false w = w ∷ []
 
--- and from nothing
-module _ (stamp : Stamp) (other : Database) (cs : List (List Made)) (ws : List Written) where
-  pub leads_first : AreThose (flat (by_program (opening false stamp) ∷ cs)) (making ++ taken_by stamp ∷ ws) → list_all is_written (taken_by stamp ∷ ws) ≡ true → all_due ws [] ≡ true
-      → (e : Catalogue) → run_commits Postgresql (by_program (opening false stamp) ∷ cs) no_objects ≡ Ok e → StandsFor e other
-      → LeadHere (flat_map (map (text_of Postgresql)) (map statements_in (by_program (opening false stamp) ∷ cs))) other
-  leads_first those written due e ran stands =
-      let all = by_program (opening false stamp) ∷ cs in
-      let rest = flat (by_program (opening true stamp) ∷ cs) in
-      record {
-        more = taken_by stamp ∷ ws;
-        told = tells_commits all (making ++ taken_by stamp ∷ ws) those written;
-        catalogue = e;
-        led = then_all making (taken_by stamp ∷ ws) no_objects both_tables begun
-            ∙ through rest (taken_by stamp ∷ ws) those.1.1.1 written both_tables e no_objects [] free begun_kept due
-            (sym (run_on Postgresql (by_program (tables Postgresql)) rest no_objects both_tables making_run) ∙ run_flat all no_objects e ran);
-        is = stands.is;
-      }
+abbrev pub opens : TrackingTables → Stamp → List Written
+opens there stamp = (if_missing_written there.log LogMade ++ (if_missing_written there.lock LockMade ++ if_missing_written there.lock_row LockRowMade)) ++ taken_by stamp ∷ []
+
+pub opens_those : (log lock row : Bool) (stamp : Stamp) → AreThose (by_program (opening (record { log = log; lock = lock; lock_row = row }) stamp)) (opens (record { log = log; lock = lock; lock_row = row }) stamp)
+opens_those true true true stamp = (refl, tt)
+opens_those true true false stamp = (refl, (refl, tt))
+opens_those true false true stamp = (refl, (refl, tt))
+opens_those true false false stamp = (refl, (refl, (refl, tt)))
+opens_those false true true stamp = (refl, (refl, tt))
+opens_those false true false stamp = (refl, (refl, (refl, tt)))
+opens_those false false true stamp = (refl, (refl, (refl, tt)))
+opens_those false false false stamp = (refl, (refl, (refl, (refl, tt))))
+
+pub opens_written : (log lock row : Bool) (stamp : Stamp) → stamp.reading ≤ 253402300799999 → list_all is_written (opens (record { log = log; lock = lock; lock_row = row }) stamp) ≡ true
+opens_written true true true stamp h = and_true _ _ (moment_so stamp.reading h) refl
+opens_written true true false stamp h = and_true _ _ (moment_so stamp.reading h) refl
+opens_written true false true stamp h = and_true _ _ (moment_so stamp.reading h) refl
+opens_written true false false stamp h = and_true _ _ (moment_so stamp.reading h) refl
+opens_written false true true stamp h = and_true _ _ (moment_so stamp.reading h) refl
+opens_written false true false stamp h = and_true _ _ (moment_so stamp.reading h) refl
+opens_written false false true stamp h = and_true _ _ (moment_so stamp.reading h) refl
+opens_written false false false stamp h = and_true _ _ (moment_so stamp.reading h) refl
+
+-- from what a journal holds
+pub leads_here : (there : TrackingTables) (stamp : Stamp) (texts : List (List ℕ)) (it other : Database) (h : HoldsDatabase texts it) (cs : List (List Made)) (ws : List Written)
+    → stamp.reading ≤ 253402300799999 → AreThose (flat cs) ws → list_all is_written ws ≡ true
+    → (e : Catalogue) → run_commits Postgresql (by_program (opening there stamp) ∷ cs) h.catalogue ≡ Ok e → StandsFor e other → has_twin_rows other.rows ≡ false
+    → HoldsDatabase (texts ++ flat_map (map (text_of Postgresql)) (map statements_in (by_program (opening there stamp) ∷ cs))) other
+leads_here there stamp texts it other h cs ws reading those written e ran stands differ =
+    let all = by_program (opening there stamp) ∷ cs in
+    let us = opens there stamp ++ ws in
+    let are = those_append (by_program (opening there stamp)) (flat cs) (opens there stamp) ws (opens_those there.log there.lock there.lock_row stamp) those in
+    let fit = all-append is_written (opens there stamp) ws (opens_written there.log there.lock there.lock_row stamp reading) written in
+    record {
+      written = h.written ++ us;
+      told = tells_more texts (flat_map (map (text_of Postgresql)) (map statements_in all)) h.written us h.told (tells_commits all us are fit);
+      catalogue = e;
+      led = after_then h.written us no_objects h.catalogue h.led ∙ through (flat all) us are h.catalogue e (run_flat all h.catalogue e ran);
+      is = stands.is;
+      differ = differ;
+    }

@@ -13,7 +13,8 @@ use Rattle.lq_base.specs.declared.name.Name.{Name}
 use Rattle.lq_base.specs.declared.tracking.Lock.{Lock}
 use Rattle.lq_base.specs.declared.tracking.Tracked.{Tracked}
 use Rattle.lq_model.proofs.Absent.{free_of}
-use Rattle.lq_model.proofs.Decide.{IsSettled, accepted, settled, settles}
+use Rattle.lq_model.proofs.Decide as decide
+use Rattle.lq_model.proofs.Decide.{IsSettled, accepted, settles}
 use Rattle.lq_model.proofs.KeepsSound.{statement_keeps}
 use Rattle.lq_model.proofs.Lists.{all_more, and_left, and_no_right, and_right, and_true, any_none, named_itself, or_false, or_left, or_right, other_way, same_name, true_false}
 use Rattle.lq_model.proofs.Maps.{lookup-insert_entry, lookup-remove_entry, same_maps, sorted-insert_entry, sorted-remove_entry, sorted_entries}
@@ -24,7 +25,7 @@ use Rattle.lq_model.specs.NameSpaces.{is_taken}
 use Rattle.lq_model.specs.Names.{is_empty, is_in, repeats as repeats_name}
 use Rattle.lq_model.specs.Needs.{is_targeted, is_viewed, targets_table}
 use Rattle.lq_model.specs.Plan.{Plan}
-use Rattle.lq_model.specs.Reserved.{is_reserved, is_tracking, takes_lock_key}
+use Rattle.lq_model.specs.Reserved.{is_reserved, is_tracking, lock_key, takes_lock_key}
 use Rattle.lq_model.specs.Sound.{IsSound}
 use Rattle.lq_model.specs.Statement.{is_statement}
 use Rattle.lq_model.specs.Step.{step}
@@ -32,16 +33,12 @@ use Rattle.lq_model.specs.TableNames.{column_names, inner_names}
 use Rattle.lq_model.specs.declared.caller.By.{By}
 use Rattle.lq_model.specs.declared.caller.By.TheVariants.{Program, User}
 use Rattle.lq_model.specs.declared.statement.Statement.TheVariants.{DropTable}
-use Rattle.lq_track.specs.Lock.{lock_table}
+use Rattle.lq_track.specs.Lock.{lock_key_name, lock_table}
 use Rattle.lq_track.specs.Log.{log_table}
 use Rattle.lq_create.proofs.Firm.{firm_new, settled_firm, sound_firm}
-use Rattle.lq_create.proofs.LockChanged.{lock_at}
-use Rattle.lq_create.proofs.RowAdded.{log_at, log_rows}
-use Rattle.lq_create.proofs.TablesHeld.{made_holds, made_run}
 use Rattle.lq_create.proofs.TablesMade.{accepted_one, all_insert, no_foreign, no_keys, plain_settled}
 use Rattle.lq_create.proofs.TablesRead.{not_is}
-use Rattle.lq_create.proofs.TrackedTables as tables
-use Rattle.lq_create.proofs.TrackedTables.{Tracks, none_has, table_same, without_it}
+use Rattle.lq_create.proofs.TrackedTables.{Tracks, beside, free_here, holds_there, none_has, settled, table_same, without_it}
 use Rattle.lq_create.proofs.Unreserved.{apart_from_lock, apart_from_log}
 use Rattle.lq_create.specs.Changelog.{are_columns}
 use Rattle.lq_create.specs.Created.{is_plain_table, is_unfree, made_table}
@@ -49,7 +46,7 @@ use Rattle.lq_create.specs.Distinct.{repeats}
 use Rattle.lq_create.specs.Statements.{created, def_of}
 use Rattle.lq_create.specs.declared.changelog.CreatedColumn.{CreatedColumn}
 use Rattle.lq_create.specs.declared.changelog.CreatedTable.{CreatedTable}
-use Rattle.lq_held.proofs.Kept.{IsKept, is_bare, taken_is}
+use Rattle.lq_held.proofs.Kept.{IsKept, is_bare, lock_then, log_then, taken_is}
 use Rattle.lq_written.specs.Written.{may_name}
 
 -- what a user may do, the program may
@@ -61,7 +58,7 @@ module _ (t : CreatedTable) (c : Catalogue) (x : Catalogue × ℕ) (h : step Use
   pub created_by_program : step Program Postgresql (created t) c ≡ Ok x
   created_by_program =
       let ok = accepted (creates User) x.0 x.1 h in
-      let tested = subst IsSettled (sym ok.result) (settled (creates User) x.0 ok) in
+      let tested = subst IsSettled (sym ok.result) (decide.settled (creates User) x.0 ok) in
       let free = or_left (is_taken Postgresql t.name c) _ ok.exists in
       let names = or_right (is_taken Postgresql t.name c) _ ok.exists in
       settles (creates Program) tested (record { reserved = refl; missing = ok.missing; exists = or_false _ _ free (or_right (takes_lock_key User Postgresql (t.name ∷ [])) _ names); depends = ok.depends; wrong = ok.wrong; wide = ok.wide })
@@ -75,7 +72,7 @@ module _ (n : Name) (c : Catalogue) (x : Catalogue × ℕ) (h : step User Postgr
   pub dropped_by_program : step Program Postgresql (DropTable n) c ≡ Ok x
   dropped_by_program =
       let ok = accepted (drops User) x.0 x.1 h in
-      let tested = subst IsSettled (sym ok.result) (settled (drops User) x.0 ok) in
+      let tested = subst IsSettled (sym ok.result) (decide.settled (drops User) x.0 ok) in
       settles (drops Program) tested (record { reserved = refl; missing = ok.missing; exists = ok.exists; depends = ok.depends; wrong = ok.wrong; wide = ok.wide })
       ∙ sym (settles (drops User) tested (record { reserved = ok.reserved; missing = ok.missing; exists = ok.exists; depends = ok.depends; wrong = ok.wrong; wide = ok.wide }))
       ∙ h
@@ -128,12 +125,40 @@ module _ (n : Name) (it : Table) (es : List (Name × Table)) (sorted : T (is_sor
   restored = same_maps es (insert_entry name_cmp (remove_entry (is_named n) es) n it) sorted (sorted-insert_entry (remove_entry (is_named n) es) n it (sorted-remove_entry n es sorted))
       (λ q. sym (lookup-insert_entry (remove_entry (is_named n) es) n it q ∙ ap (cond (is_named q n) (Some it)) (lookup-remove_entry n es q sorted) ∙ looked q (is_named q n) refl))
 
-module _ (c users : Catalogue) (rows : List Tracked) (l : Lock) (so : IsKept c users rows l) where
-  abbrev log : Table
-  log = log_at so.holds.log_next (log_rows so.holds.stored)
+none_there : (log : Bool) (next : ℕ) (rows : List Tracked) (n : Name) (k : Name) → holds_there (λ it. not (is_named n k) && targets_table n it) (log_then log next rows) ≡ false
+none_there true next rows n k = and_no_right (not (is_named n k)) _ refl
+none_there false next rows n k = refl
 
-  abbrev lock : Table
-  lock = lock_at so.holds.lock_next l
+none_at_lock : (lock row : Bool) (next : ℕ) (l : Lock) (n : Name) (k : Name) → holds_there (λ it. not (is_named n k) && targets_table n it) (lock_then lock row next l) ≡ false
+none_at_lock true true next l n k = and_no_right (not (is_named n k)) _ refl
+none_at_lock true false next l n k = and_no_right (not (is_named n k)) _ refl
+none_at_lock false row next l n k = refl
+
+-- the tracking tables have the lock's key inside, and no other name
+
+no_log_names : (log : Bool) (next : ℕ) (rows : List Tracked) (n : Name) → holds_there (λ it. is_in n (inner_names it)) (log_then log next rows) ≡ false
+no_log_names true next rows n = refl
+no_log_names false next rows n = refl
+
+no_lock_names : (lock row : Bool) (next : ℕ) (l : Lock) (n : Name) → is_named n (lock_key_name Postgresql) ≡ false → holds_there (λ it. is_in n (inner_names it)) (lock_then lock row next l) ≡ false
+no_lock_names true true next l n apart = or_false _ _ apart refl
+no_lock_names true false next l n apart = or_false _ _ apart refl
+no_lock_names false row next l n apart = refl
+
+module _ (n : Name) (may : may_name n ≡ true) where
+  not_key : is_named n (lock_key_name Postgresql) ≡ false
+  unfolding lock_key_name
+  not_key = other_way lock_key n (or_left (is_named lock_key n) _ (or_right (is_reserved User (n ∷ [])) _ (either n may)))
+
+module _ (c users : Catalogue) (rows : List Tracked) (l : Lock) (log lock row : Bool) (so : IsKept c users rows l log lock row) where
+  abbrev the_log : Option Table
+  the_log = log_then log so.log_next rows
+
+  abbrev the_lock : Option Table
+  the_lock = lock_then lock row so.lock_next l
+
+  abbrev with_users : Catalogue → Catalogue → Type 0
+  with_users e more = IsKept e more rows l log lock row
 
   -- CREATE TABLE
 
@@ -141,25 +166,41 @@ module _ (c users : Catalogue) (rows : List Tracked) (l : Lock) (so : IsKept c u
     abbrev more : Catalogue
     more = with_new users t.name (made_table t)
 
+    free_there : is_taken Postgresql t.name users ≡ false
+    free_there = taken_is c users rows l log lock row so t.name ∙ ap (λ o. is_some o) none
+
     unfree : is_unfree User users t ≡ false
     unfree = or_false _ _ (or_left (is_reserved User (t.name ∷ [])) _ (either t.name may))
-        (or_false _ _ (or_right (is_reserved User (t.name ∷ [])) _ (either t.name may)) (taken_is c users rows l so t.name ∙ ap (λ o. is_some o) none))
+        (or_false _ _ (or_right (is_reserved User (t.name ∷ [])) _ (either t.name may)) free_there)
 
     alone : step User Postgresql (created t) users ≡ Ok (more, 0)
-    alone = accepted_one User users t unfree columns (settled_firm more (firm_new users so.holds.tracks.firm t none))
+    alone = accepted_one User users t unfree columns (settled_firm more (firm_new users so.tracks.firm t none))
+
+    tracks_more : Tracks (with_new c t.name (made_table t)) more the_log the_lock
+    tracks_more = beside t.name (made_table t) (not_log t.name may) (not_lock t.name may) c users the_log the_lock so.tracks (firm_new users so.tracks.firm t none)
+
+    free_beside : is_taken Postgresql t.name c ≡ false
+    free_beside = free_here c users the_log the_lock so.tracks t.name (not_log t.name may) (not_lock t.name may) (no_log_names log so.log_next rows t.name) (no_lock_names lock row so.lock_next l t.name (not_key t.name may)) free_there
 
     pub created_run : step Program Postgresql (created t) c ≡ Ok (with_new c t.name (made_table t), 0)
-    created_run = created_by_program t c (with_new c t.name (made_table t), 0) (made_run c users rows l so.holds t (more, 0) alone)
+    created_run = accepted_one Program c t (or_false _ _ refl (or_false _ _ refl free_beside)) columns (settled (with_new c t.name (made_table t)) more the_log the_lock tracks_more)
 
-    pub created_kept : IsKept (with_new c t.name (made_table t)) more rows l
+    pub created_kept : with_users (with_new c t.name (made_table t)) more
     created_kept = record {
-      holds = made_holds c users rows l so.holds t (more, 0) alone;
+      log_next = so.log_next;
+      lock_next = so.lock_next;
+      tracks = tracks_more;
       bare = all_insert is_bare users.tables t.name (made_table t) so.bare refl;
       views = so.views;
       sequences = so.sequences;
+      keyless = lookup-insert_entry users.tables t.name (made_table t) (lock_key_name Postgresql)
+          ∙ ap (λ b. cond b (Some (made_table t)) (table_of users (lock_key_name Postgresql))) (other_way t.name (lock_key_name Postgresql) (not_key t.name may)) ∙ so.keyless;
       sound = statement_keeps Postgresql (created t) User users more 0 stated so.sound alone;
-      differ = so.differ;
       placed = so.placed;
+      few = so.few;
+      rowless = so.rowless;
+      lockless = so.lockless;
+      unlocked = so.unlocked;
     }
 
   pub created_asks : (t : CreatedTable) (x : Catalogue × ℕ) → may_name t.name ≡ true → step Program Postgresql (created t) c ≡ Ok x
@@ -168,7 +209,7 @@ module _ (c users : Catalogue) (rows : List Tracked) (l : Lock) (so : IsKept c u
       let ok = accepted (create_table Program Postgresql t.name (map def_of t.columns) None [] [] c) x.0 x.1 h in
       let free = or_left (is_taken Postgresql t.name c) _ ok.exists in
       let twice : lists_twice (new_table (map def_of t.columns) None [] []) ≡ false = or_right (is_taken Postgresql t.name c) _ ok.exists in (
-        table_same c users log lock so.holds.tracks t.name (not_log t.name may) (not_lock t.name may) ∙ free_of Postgresql t.name c free,
+        table_same c users the_log the_lock so.tracks t.name (not_log t.name may) (not_lock t.name may) ∙ free_of Postgresql t.name c free,
         repeats_same (map (λ (d : CreatedColumn). d.name) t.columns) ∙ sym (ap repeats_name (names_are t.columns)) ∙ or_left (repeats_name (column_names (new_table (map def_of t.columns) None [] []))) _ twice,
       )
 
@@ -204,35 +245,45 @@ module _ (c users : Catalogue) (rows : List Tracked) (l : Lock) (so : IsKept c u
     gone : table_of less n ≡ None
     gone = lookup-remove_entry n users.tables n sorted ∙ ap (λ b. cond b None (lookup (is_named n) users.tables)) (named_itself n)
 
-    tracks : Tracks (without_table c n) less log lock
-    tracks = without_it n it (not_log n may) (not_lock n may) c less log lock
-        (subst (λ u. Tracks c u log lock) (ap (λ es. record users { tables = es }) (restored n it users.tables sorted there)) so.holds.tracks) (sound_firm less sound_less) gone
+    tracks : Tracks (without_table c n) less the_log the_lock
+    tracks = without_it n it (not_log n may) (not_lock n may) c less the_log the_lock
+        (subst (λ u. Tracks c u the_log the_lock) (ap (λ es. record users { tables = es }) (restored n it users.tables sorted there)) so.tracks) (sound_firm less sound_less) gone
 
     there_here : table_of c n ≡ Some it
-    there_here = sym (table_same c users log lock so.holds.tracks n (not_log n may) (not_lock n may)) ∙ there
+    there_here = sym (table_same c users the_log the_lock so.tracks n (not_log n may) (not_lock n may)) ∙ there
 
     none_views : is_viewed c n ≡ false
-    none_views = ap (λ (u : Catalogue). is_viewed u n) so.holds.tracks.users_are ∙ unviewed n
+    none_views = ap (λ (u : Catalogue). is_viewed u n) so.tracks.users_are ∙ unviewed n
 
     none_targets : is_targeted c n ≡ false
-    none_targets = none_has c users log lock so.holds.tracks (λ (e : Name × Table). not (is_named n e.0) && targets_table n e.1) (λ k. and_no_right (not (is_named n k)) _ refl) (λ k. and_no_right (not (is_named n k)) _ refl) (untargeted n)
+    none_targets = none_has c users the_log the_lock so.tracks (λ (e : Name × Table). not (is_named n e.0) && targets_table n e.1) (none_there log so.log_next rows n) (none_at_lock lock row so.lock_next l n) (untargeted n)
 
     pub dropped_run : step Program Postgresql (DropTable n) c ≡ Ok (without_table c n, 0)
-    dropped_run = settles (drop_table Program Postgresql n c) (tables.settled (without_table c n) less log lock tracks)
+    dropped_run = settles (drop_table Program Postgresql n c) (settled (without_table c n) less the_log the_lock tracks)
         (record { reserved = refl; missing = ap (λ o. is_none o) there_here; exists = refl; depends = or_false _ _ none_views none_targets; wrong = refl; wide = refl })
 
-    pub dropped_kept : IsKept (without_table c n) less rows l
+    key_gone : (b : Bool) → cond b None (table_of users (lock_key_name Postgresql)) ≡ None
+    key_gone true = refl
+    key_gone false = so.keyless
+
+    pub dropped_kept : with_users (without_table c n) less
     dropped_kept = record {
-      holds = record { stored = so.holds.stored; log_next = so.holds.log_next; lock_next = so.holds.lock_next; order = so.holds.order; placed = so.holds.placed; few = so.holds.few; tracks = tracks };
+      log_next = so.log_next;
+      lock_next = so.lock_next;
+      tracks = tracks;
       bare = bare_less;
       views = so.views;
       sequences = so.sequences;
+      keyless = lookup-remove_entry n users.tables (lock_key_name Postgresql) sorted ∙ key_gone (is_named n (lock_key_name Postgresql));
       sound = sound_less;
-      differ = so.differ;
       placed = so.placed;
+      few = so.few;
+      rowless = so.rowless;
+      lockless = so.lockless;
+      unlocked = so.unlocked;
     }
 
   pub dropped_asks : (n : Name) (x : Catalogue × ℕ) → may_name n ≡ true → step Program Postgresql (DropTable n) c ≡ Ok x → is_some (table_of users n) ≡ true
   dropped_asks n x may h =
       let ok = accepted (drop_table Program Postgresql n c) x.0 x.1 h in
-      some_if (table_of users n) (ap (λ o. is_none o) (table_same c users log lock so.holds.tracks n (not_log n may) (not_lock n may)) ∙ ok.missing)
+      some_if (table_of users n) (ap (λ o. is_none o) (table_same c users the_log the_lock so.tracks n (not_log n may) (not_lock n may)) ∙ ok.missing)

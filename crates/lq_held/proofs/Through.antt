@@ -2,16 +2,14 @@
 use Rattle.std.proofs.Common.{ap, sym, ◌∙◌}
 use Rattle.std.proofs.Math.Path.{subst}
 use Rattle.std.specs.List.{flat_map, list_all}
-use Rattle.std.specs.Prelude.{Bool, Err, List, None, Ok, Result, Some, [], map, option_and_then, refl, true, ℕ, ◌&&◌, ◌++◌, ◌∷◌, ◌≡◌}
+use Rattle.std.specs.Prelude.{Err, List, None, Ok, Result, Some, [], map, option_and_then, refl, true, ℕ, ◌++◌, ◌∷◌, ◌≡◌}
 use Rattle.lq_base.specs.declared.dialect.Dialect.TheVariants.{Postgresql}
 use Rattle.lq_base.specs.declared.literal.Literal.{Literal}
 use Rattle.lq_base.specs.declared.reason.Reason.{Reason}
 use Rattle.lq_base.specs.declared.tracking.Lock.{Lock}
-use Rattle.lq_base.specs.declared.tracking.Tracked.{Tracked}
 use Rattle.lq_model.proofs.Decide.{accepted}
-use Rattle.lq_model.proofs.Lists.{and_left, and_right, true_false, whether}
-use Rattle.lq_model.proofs.Maps.{not_some, some_same}
-use Rattle.lq_model.specs.Catalogue.{Catalogue, no_objects}
+use Rattle.lq_model.proofs.Lists.{and_left, and_right, true_false}
+use Rattle.lq_model.specs.Catalogue.{Catalogue}
 use Rattle.lq_model.specs.CreateTable.{create_table}
 use Rattle.lq_model.specs.Delete.{delete}
 use Rattle.lq_model.specs.Insert.{insert}
@@ -26,14 +24,12 @@ use Rattle.lq_track.specs.Log.{log_column, log_name, log_order, log_table, log_v
 use Rattle.lq_track.specs.Statements.{lock_test, row_test}
 use Rattle.lq_track.specs.declared.lock_column.LockColumn.{LockColumn}
 use Rattle.lq_track.specs.declared.lock_column.LockColumn.TheVariants as lock
-use Rattle.lq_create.proofs.Holds.{database}
 use Rattle.lq_create.proofs.RunMade.{not_ok, ok_same, run_on}
 use Rattle.lq_create.specs.Committed.{run_commits, run_made}
-use Rattle.lq_held.proofs.Follows.{goes_on, rows_read, statement_same, stays, taken_over}
-use Rattle.lq_held.proofs.Kept.{IsKept}
+use Rattle.lq_held.proofs.Follows.{statement_same}
 use Rattle.lq_held.proofs.TablesKept.{created_by_program, dropped_by_program}
-use Rattle.lq_held.specs.Goes.{created_table, goes, gone}
-use Rattle.lq_held.specs.Held.{after_all, is_due}
+use Rattle.lq_held.specs.Goes.{created_table}
+use Rattle.lq_held.specs.Held.{after_all, catalogue_in}
 use Rattle.lq_written.specs.Written.{TellsEach, is_written, statement_of, tracked_of}
 use Rattle.lq_written.specs.declared.written.Written.{Written}
 use Rattle.lq_written.specs.declared.written.Written.TheVariants.{LockFreed, LockMade, LockRowMade, LockTaken, LogMade, RowDeleted, RowInserted, TableCreated, TableDropped}
@@ -66,18 +62,6 @@ AreThose (m ∷ ms) (w ∷ ws) = (m.1 ≡ statement_of w) × AreThose ms ws
 AreThose [] (w ∷ ws) = ⊥
 AreThose (m ∷ ms) [] = ⊥
 
-abbrev rows_then : Written → List Tracked → List Tracked
-rows_then w rows = (gone w (database no_objects rows free)).rows
-
--- each row goes behind those that are there
-abbrev pub all_due : List Written → List Tracked → Bool
-all_due [] rows = true
-all_due (w ∷ ws) rows = is_due w (Some rows) && all_due ws (rows_then w rows)
-
-rows_same : (w : Written) (users : Catalogue) (rows : List Tracked) (l : Lock) → rows_then w rows ≡ (gone w (database users rows l)).rows
-rows_same (RowInserted row) users rows l = refl
-rows_same w users rows l = refl
-
 abbrev next : List Made → Result (Catalogue × ℕ) Reason → Result Catalogue Reason
 next ms (Ok x) = run_made Postgresql ms x.0
 next ms (Err r) = Err r
@@ -88,23 +72,14 @@ first m ms c e h = at (step m.0 Postgresql m.1 c) refl h where
   at (Ok x) is q = (x, is, q)
   at (Err r) is q = absurd (not_ok q)
 
-pub through : (made : List Made) (ws : List Written) → AreThose made ws → list_all is_written ws ≡ true → (c e users : Catalogue) (rows : List Tracked) (l : Lock) → IsKept c users rows l → all_due ws rows ≡ true
-    → run_made Postgresql made c ≡ Ok e → after_all ws c ≡ Some e
-through [] [] those written c e users rows l so due ran = ap Some (ok_same ran)
-through [] (w ∷ ws) those written c e users rows l so due ran = absurd those
-through (m ∷ ms) [] those written c e users rows l so due ran = absurd those
-through (m ∷ ms) (w ∷ ws) those written c e users rows l so due ran =
-    let here = database users rows l in
+pub through : (made : List Made) (ws : List Written) → AreThose made ws → (c e : Catalogue) → run_made Postgresql made c ≡ Ok e → after_all ws c ≡ Some e
+through [] [] those c e ran = ap Some (ok_same ran)
+through [] (w ∷ ws) those c e ran = absurd those
+through (m ∷ ms) [] those c e ran = absurd those
+through (m ∷ ms) (w ∷ ws) those c e ran =
     let one = first m ms c e ran in
     let mine = by_program m.0 w c one.0 (ap (λ s. step m.0 Postgresql s c) (sym those.0) ∙ one.1) in
-    let is = taken_over w c one.0.0 one.0.1 (ap (is_due w) (rows_read c users rows l so) ∙ and_left (is_due w (Some rows)) _ due) mine in
-    whether (goes w here)
-    (λ g. let on = goes_on c users rows l so w (and_left (is_written w) _ written) g in
-    ap (option_and_then (after_all ws)) is
-    ∙ through ms ws those.1 (and_right (is_written w) _ written) one.0.0 e (gone w here).users (gone w here).rows (gone w here).lock
-    (subst (λ z. IsKept z (gone w here).users (gone w here).rows (gone w here).lock) (some_same (sym on.1 ∙ is)) on.2)
-    (ap (all_due ws) (sym (rows_same w users rows l)) ∙ and_right (is_due w (Some rows)) _ due) one.2)
-    (λ g. not_some (sym is ∙ stays c users rows l so w (and_left (is_written w) _ written) g))
+    ap (λ r. option_and_then (after_all ws) (catalogue_in r)) mine ∙ through ms ws those.1 one.0.0 e one.2
 
 -- commits one after another
 

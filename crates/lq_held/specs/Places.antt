@@ -1,8 +1,8 @@
--- The identities of rows in a set, and rows in the order of their places.
+-- The identities of rows in sets.
 use Rattle.std.specs.BTreeSet.{BTreeSet, contains}
-use Rattle.std.specs.List.{list_all, list_any}
+use Rattle.std.specs.List.{list_any}
 use Rattle.std.specs.Ordering.{ordering_then}
-use Rattle.std.specs.Prelude.{Bool, List, [], nat_lt, true, ℕ, ◌&&◌, ◌∷◌, ◌≡◌}
+use Rattle.std.specs.Prelude.{Bool, List, [], false, nat_eq, ℕ, ◌&&◌, ◌||◌, ◌∷◌, ◌≡◌}
 use Rattle.std.specs.declared.cmp.Ordering.{Ordering}
 use Rattle.lq_base.specs.Text.{text_cmp}
 use Rattle.lq_base.specs.declared.identity.Identity.{Identity}
@@ -30,7 +30,16 @@ has_row rows p = list_any (λ r. same_identity (identity_of r) (identity_at p)) 
 abbrev pub HasPlaces : List Tracked → BTreeSet Place → Type 0
 HasPlaces rows places = (p : Place) → contains place_cmp places p ≡ has_row rows p
 
--- each row's place is behind those before it
-abbrev pub is_rising : List Tracked → Bool
-is_rising [] = true
-is_rising (r ∷ rs) = list_all (λ s. nat_lt r.order s.order) rs && is_rising rs
+-- whether two rows have the identity
+abbrev pub has_twice : List Tracked → Place → Bool
+has_twice [] p = false
+has_twice (r ∷ rs) p = (same_identity (identity_of r) (identity_at p) && has_row rs p) || has_twice rs p
+
+-- whether two rows have one place in run order
+abbrev pub repeats_place : List Tracked → Bool
+repeats_place [] = false
+repeats_place (r ∷ rs) = list_any (λ s. nat_eq r.order s.order) rs || repeats_place rs
+
+-- the set has the identities that two rows have
+abbrev pub HasTwins : List Tracked → BTreeSet Place → Type 0
+HasTwins rows twins = (p : Place) → contains place_cmp twins p ≡ has_twice rows p

@@ -6,6 +6,7 @@ use Rattle.lq_base.specs.declared.name.Name.{Name}
 use Rattle.lq_model.specs.Catalogue.{Catalogue, table_of}
 use Rattle.lq_track.specs.Database.{Database}
 use Rattle.lq_track.specs.Lock.{free}
+use Rattle.lq_create.specs.Started.{tracking_of}
 use Rattle.lq_held.specs.declared.held.Held.{Held}
 
 -- the set has the names of the tables
@@ -13,7 +14,7 @@ abbrev pub HasTables : Catalogue → BTreeSet Name → Type 0
 HasTables users tables = (n : Name) → contains name_cmp tables n ≡ is_some (table_of users n)
 
 pub record Shows (it : Database) (held : Held) : Type 0 where
-  pub made : held.made ≡ it.has_log
+  pub tracking : held.tracking ≡ tracking_of it
   pub tables : HasTables it.users held.tables
   pub rows : held.rows ≡ it.rows
   pub locked : held.locked ≡ it.lock.locked

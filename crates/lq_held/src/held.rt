@@ -2,14 +2,15 @@ ghost use Rattle.lq_create.specs.Started.{no_database};
 ghost use Rattle.lq_held.specs.Shows.{Shows};
 
 use lq_base::{Items, Name, Tracked};
+use lq_create::TrackingTables;
 use std::alloc::Global;
 use std::collections::BTreeSet;
 
 /// The database that a journal holds, as far as the commands need it.
 #[derive(Drop)]
 pub struct Held {
-    /// Whether the tracking tables are made.
-    pub made: bool,
+    /// What is there of the tracking tables.
+    pub tracking: TrackingTables,
     /// The names of the users' tables.
     pub tables: BTreeSet<Name>,
     /// In run order.
@@ -24,7 +25,11 @@ impl Held {
         ensures { Shows no_database result }
     {
         Held {
-            made: false,
+            tracking: TrackingTables {
+                log: false,
+                lock: false,
+                lock_row: false,
+            },
             tables: BTreeSet::new(alloc),
             rows: Items::new(alloc),
             locked: false,

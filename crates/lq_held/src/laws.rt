@@ -5,8 +5,7 @@ pub fn held_once()
     ensures { HeldOnce }
 {}
 
-/// What a journal holds is a database, and a catalogue is it: either that of no objects, or one with
-/// the tracking tables.
+/// What a journal holds is a database, and a catalogue is it, of whose objects the users' are tables.
 pub fn held_is()
     ensures { HeldIs }
 {}

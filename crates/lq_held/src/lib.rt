@@ -5,6 +5,8 @@
 mod held;
 mod laws;
 mod loading;
+mod order;
+mod places;
 mod read;
 mod rows;
 mod tables;

@@ -1,16 +1,15 @@
 ghost use Rattle.std.specs.Prelude.{◌≡◌, ℕ, ℤ, IfOk, List, true};
-ghost use Rattle.lq_base.specs.declared.dialect.Dialect.TheVariants.{Postgresql};
-ghost use Rattle.lq_track.specs.Database.{Database, IsDatabase};
-ghost use Rattle.lq_held.specs.Goes.{goes, gone};
-ghost use Rattle.lq_held.specs.Held.{is_last};
-ghost use Rattle.lq_held.specs.Loads.{Loads, Next, begun_database};
-ghost use Rattle.lq_written.specs.Written.{is_row, is_written, tracked_of};
-ghost use Rattle.lq_written.specs.declared.written.Written.TheVariants.{LockFreed, LockTaken, RowDeleted, RowInserted, TableCreated, TableDropped};
+ghost use Rattle.lq_track.specs.Database.{Database};
+ghost use Rattle.lq_create.specs.Started.{no_database};
+ghost use Rattle.lq_held.specs.Goes.{goes};
+ghost use Rattle.lq_held.specs.Loads.{Ends, Loads, Next};
+ghost use Rattle.lq_written.specs.Written.{is_row, is_written};
+ghost use Rattle.lq_written.specs.declared.written.Written.TheVariants.{LockFreed, LockMade, LockRowMade, LockTaken, LogMade, RowDeleted, RowInserted, TableCreated, TableDropped};
 
 use crate::held::Held;
-use crate::rows::{
-    Place, add_place, delete_row, fits, has_place, has_room, is_behind, is_placed, tracked_of,
-};
+use crate::order::in_run_order;
+use crate::places::{Place, add_place, are_none, delete_rows};
+use crate::rows::{fits, has_room, tracked_of};
 use crate::tables::{add_table, remove_table, repeats_name};
 use lq_base::{Identity, Items, Name, NoMemory};
 use lq_written::{Written, WrittenColumn, WrittenRow};
@@ -20,42 +19,86 @@ use std::collections::BTreeSet;
 /// What is kept while a journal is read.
 #[derive(Drop)]
 pub struct Loading {
+    /// With its rows in the order in which they went in.
     pub held: Held,
     /// The identities of the rows.
     pub places: BTreeSet<Place>,
+    /// Those that two rows have.
+    pub twins: BTreeSet<Place>,
 }
 
 impl Loading {
-    /// What is kept of the database in which the tracking tables alone were made.
-    pub fn begun(alloc: Global) -> Loading
-        ensures { Loads begun_database result }
+    /// What is kept of the database of no objects.
+    pub fn nothing(alloc: Global) -> Loading
+        ensures { Loads no_database result }
     {
         Loading {
-            held: Held {
-                made: true,
-                tables: BTreeSet::new(alloc),
-                rows: Items::new(alloc),
-                locked: false,
-            },
+            held: Held::nothing(alloc),
             places: BTreeSet::new(alloc),
+            twins: BTreeSet::new(alloc),
         }
     }
 }
 
-fn locked(loading: Loading) -> Loading
-    ensures { (it : Database) (at : ℤ) (by : List ℕ) → Loads it loading → Loads (gone (LockTaken at by) it) result }
+fn log_made(loading: Loading) -> Option<Loading>
+    ensures { Next LogMade loading result }
 {
     let mut loading = loading;
-    loading.held.locked = true;
-    loading
+    if loading.held.tracking.log {
+        return None;
+    }
+    loading.held.tracking.log = true;
+    Some(loading)
 }
 
-fn freed(loading: Loading) -> Loading
-    ensures { (it : Database) → Loads it loading → Loads (gone LockFreed it) result }
+fn lock_made(loading: Loading) -> Option<Loading>
+    ensures { Next LockMade loading result }
 {
     let mut loading = loading;
+    if loading.held.tracking.lock {
+        return None;
+    }
+    loading.held.tracking.lock = true;
+    Some(loading)
+}
+
+fn lock_row_made(loading: Loading) -> Option<Loading>
+    ensures { Next LockRowMade loading result }
+{
+    let mut loading = loading;
+    if !loading.held.tracking.lock {
+        return None;
+    }
+    if loading.held.tracking.lock_row {
+        return None;
+    }
+    loading.held.tracking.lock_row = true;
+    Some(loading)
+}
+
+// Without its row the lock stays free.
+fn locked(loading: Loading) -> Option<Loading>
+    ensures { (at : ℤ) (by : List ℕ) → Next (LockTaken at by) loading result }
+{
+    let mut loading = loading;
+    if !loading.held.tracking.lock {
+        return None;
+    }
+    if loading.held.tracking.lock_row {
+        loading.held.locked = true;
+    }
+    Some(loading)
+}
+
+fn freed(loading: Loading) -> Option<Loading>
+    ensures { Next LockFreed loading result }
+{
+    let mut loading = loading;
+    if !loading.held.tracking.lock {
+        return None;
+    }
     loading.held.locked = false;
-    loading
+    Some(loading)
 }
 
 fn created(
@@ -86,30 +129,16 @@ fn dropped(loading: Loading, table: &Name) -> Option<Loading>
     Some(loading)
 }
 
-fn is_last(loading: &Loading, alloc: Global, row: &WrittenRow) -> Result<bool, NoMemory>
-    ensures { IfOk result (λ last. (it : Database) → Loads it loading.now → last ≡ is_last (tracked_of row.now) it.rows) }
+fn may_insert(loading: &Loading, row: &WrittenRow) -> bool
+    ensures { (it : Database) → Loads it loading.now → result ≡ goes (RowInserted row.now) it }
 {
-    if !is_placed(row.order) {
-        return Ok(false);
+    if !loading.held.tracking.log {
+        return false;
     }
-    if !is_behind(loading.held.rows.as_slice(), row.order) {
-        return Ok(false);
-    }
-    let found = has_place(&loading.places, alloc, &row.identity)?;
-    Ok(!found)
-}
-
-fn may_insert(loading: &Loading, alloc: Global, row: &WrittenRow) -> Result<bool, NoMemory>
-    ensures { IfOk result (λ may. (it : Database) → Loads it loading.now → may ≡ goes (RowInserted row.now) it) }
-{
     if !fits(row) {
-        return Ok(false);
+        return false;
     }
-    if !has_room(&loading.held.rows) {
-        return Ok(false);
-    }
-    let last = is_last(loading, alloc, row)?;
-    Ok(last)
+    has_room(&loading.held.rows)
 }
 
 fn inserted(loading: Loading, alloc: Global, row: &WrittenRow) -> Result<Option<Loading>, NoMemory>
@@ -117,21 +146,34 @@ fn inserted(loading: Loading, alloc: Global, row: &WrittenRow) -> Result<Option<
     ensures { IfOk result (Next (RowInserted row.now) loading) }
 {
     let mut loading = loading;
-    if !may_insert(&loading, alloc, row)? {
+    if !may_insert(&loading, row) {
         return Ok(None);
     }
     let tracked = tracked_of(alloc, row)?;
-    add_place(&mut loading.places, alloc, &row.identity)?;
+    add_place(
+        &mut loading.places,
+        &mut loading.twins,
+        alloc,
+        &row.identity,
+    )?;
     loading.held.rows.push(tracked)?;
     Ok(Some(loading))
 }
 
-fn deleted(loading: Loading, of: Identity) -> Loading
-    ensures { (it : Database) → IsDatabase Postgresql it → Loads it loading → Loads (gone (RowDeleted of) it) result }
+fn deleted(loading: Loading, of: Identity) -> Option<Loading>
+    ensures { Next (RowDeleted of) loading result }
 {
     let mut loading = loading;
-    delete_row(&mut loading.held.rows, &mut loading.places, of);
-    loading
+    if !loading.held.tracking.log {
+        return None;
+    }
+    delete_rows(
+        &mut loading.held.rows,
+        &mut loading.places,
+        &mut loading.twins,
+        of,
+    );
+    Some(loading)
 }
 
 /// What is kept after a statement, or nothing where the database does not take it.
@@ -144,14 +186,43 @@ pub fn applied(
     ensures { IfOk result (Next written loading) }
 {
     match written {
-        Written::LogMade => Ok(None),
-        Written::LockMade => Ok(None),
-        Written::LockRowMade => Ok(None),
-        Written::LockTaken { at: _, by: _ } => Ok(Some(locked(loading))),
-        Written::LockFreed => Ok(Some(freed(loading))),
+        Written::LogMade => Ok(log_made(loading)),
+        Written::LockMade => Ok(lock_made(loading)),
+        Written::LockRowMade => Ok(lock_row_made(loading)),
+        Written::LockTaken { at: _, by: _ } => Ok(locked(loading)),
+        Written::LockFreed => Ok(freed(loading)),
         Written::TableCreated { table, columns } => created(loading, table, columns),
         Written::TableDropped { table } => Ok(dropped(loading, &table)),
         Written::RowInserted(row) => inserted(loading, alloc, &row),
-        Written::RowDeleted(of) => Ok(Some(deleted(loading, of))),
+        Written::RowDeleted(of) => Ok(deleted(loading, of)),
     }
+}
+
+/// What is held in the end, or nothing where two rows have one identity or one place.
+pub fn ended(loading: Loading, alloc: Global) -> Result<Option<Held>, NoMemory>
+    ensures { IfOk result (Ends loading) }
+{
+    let Loading {
+        held,
+        places: _,
+        twins,
+    } = loading;
+    if !are_none(&twins) {
+        return Ok(None);
+    }
+    let Held {
+        tracking,
+        tables,
+        rows,
+        locked,
+    } = held;
+    let Some(rows) = in_run_order(alloc, rows)? else {
+        return Ok(None);
+    };
+    Ok(Some(Held {
+        tracking,
+        tables,
+        rows,
+        locked,
+    }))
 }

@@ -29,6 +29,9 @@ const ROW_1: &str =
 const ROW_2: &str =
     r#"INSERT INTO "DATABASECHANGELOG" ("ID", "AUTHOR", "FILENAME", "DATEEXECUTED", "ORDEREXECUTED", "EXECTYPE", "MD5SUM", "DESCRIPTION", "COMMENTS", "TAG", "LIQUIBASE", "CONTEXTS", "LABELS", "DEPLOYMENT_ID") VALUES ('it''s', 'bob', 'db/r1.json', '1970-01-01 00:00:01.000', 2, 'EXECUTED', 'P1:523b4522d9155c48ac5b766135b5b916', 'createTable', '', NULL, 'profile-1', '', '', '0000001000')"#;
 
+const ROW_AT_1: &str =
+    r#"INSERT INTO "DATABASECHANGELOG" ("ID", "AUTHOR", "FILENAME", "DATEEXECUTED", "ORDEREXECUTED", "EXECTYPE", "MD5SUM", "DESCRIPTION", "COMMENTS", "TAG", "LIQUIBASE", "CONTEXTS", "LABELS", "DEPLOYMENT_ID") VALUES ('it''s', 'bob', 'db/r1.json', '1970-01-01 00:00:01.000', 1, 'EXECUTED', 'P1:523b4522d9155c48ac5b766135b5b916', 'createTable', '', NULL, 'profile-1', '', '', '0000001000')"#;
+
 const DELETE_1: &str =
     r#"DELETE FROM "DATABASECHANGELOG" WHERE (("ID" = '1' AND "AUTHOR" = 'ann') AND "FILENAME" = 'db/r1.json')"#;
 
@@ -43,9 +46,17 @@ fn entries_of(alloc: Global, texts: &[&str]) -> Result<Items<Entry>, Fail> {
     Ok(entries)
 }
 
+// Of the log, the lock and its row, which are there.
+fn show_tracking(shown: &mut String, held: &Held) -> Result<(), Fail> {
+    let there = &held.tracking;
+    write!(shown, "{} {} {}", there.log, there.lock, there.lock_row)?;
+    Ok(())
+}
+
 fn show(alloc: Global, held: &Held) -> Result<String, Fail> {
     let mut shown = String::new(alloc);
-    write!(shown, "{} {} {}", held.made, held.locked, held.tables.len())?;
+    show_tracking(&mut shown, held)?;
+    write!(shown, " {} {}", held.locked, held.tables.len())?;
     for row in held.rows.as_slice() {
         write!(shown, " {}@{}", row.id.as_str(), row.order)?;
     }
@@ -64,30 +75,57 @@ fn told(alloc: Global, texts: &[&str]) -> Result<String, Fail> {
 fn tells_what_a_journal_holds(rt: HostRuntime) -> Result<(), Fail> {
     let alloc = rt.alloc();
     let rows: [(&[&str], &str); 9] = [
-        (&[], "false false 0"),
-        (&[LOG, LOCK, LOCK_ROW], "true false 0"),
-        (&[LOG, LOCK, LOCK_ROW, TAKEN], "true true 0"),
+        (&[], "false false false false 0"),
+        (&[LOG, LOCK, LOCK_ROW], "true true true false 0"),
+        (&[LOG, LOCK, LOCK_ROW, TAKEN], "true true true true 0"),
         (
             &[LOG, LOCK, LOCK_ROW, TAKEN, TABLE_T, ROW_1, FREED],
-            "true false 1 1@1",
+            "true true true false 1 1@1",
         ),
         (
             &[LOG, LOCK, LOCK_ROW, ROW_1, ROW_2],
-            "true false 0 1@1 it's@2",
+            "true true true false 0 1@1 it's@2",
         ),
         (
             &[LOG, LOCK, LOCK_ROW, ROW_1, ROW_2, DELETE_1],
-            "true false 0 it's@2",
+            "true true true false 0 it's@2",
         ),
         (
             &[LOG, LOCK, LOCK_ROW, TABLE_T, ROW_1, DROP_T, DELETE_1],
-            "true false 0",
+            "true true true false 0",
         ),
         (
             &[LOG, LOCK, LOCK_ROW, ROW_1, DELETE_1, ROW_1],
-            "true false 0 1@1",
+            "true true true false 0 1@1",
         ),
-        (&[LOG, LOCK, LOCK_ROW, DELETE_1], "true false 0"),
+        (&[LOG, LOCK, LOCK_ROW, DELETE_1], "true true true false 0"),
+    ];
+    for (texts, shown) in rows {
+        assert_eq!(rt; told(alloc, texts)?.as_str(), shown);
+    }
+    Ok(())
+}
+
+#[test]
+fn takes_statements_in_any_order(rt: HostRuntime) -> Result<(), Fail> {
+    let alloc = rt.alloc();
+    let rows: [(&[&str], &str); 10] = [
+        (&[LOG], "true false false false 0"),
+        (&[LOCK, TAKEN], "false true false false 0"),
+        (&[LOCK, LOCK_ROW, TAKEN], "false true true true 0"),
+        (&[LOCK, LOG, LOCK_ROW], "true true true false 0"),
+        (&[TABLE_T, LOG, LOCK, LOCK_ROW], "true true true false 1"),
+        (&[TABLE_T], "false false false false 1"),
+        (&[LOG, ROW_2, ROW_1], "true false false false 0 1@1 it's@2"),
+        (&[LOG, ROW_1, ROW_1, DELETE_1], "true false false false 0"),
+        (
+            &[LOG, ROW_1, ROW_2, ROW_1, DELETE_1],
+            "true false false false 0 it's@2",
+        ),
+        (
+            &[LOG, ROW_1, ROW_1, DELETE_1, ROW_1],
+            "true false false false 0 1@1",
+        ),
     ];
     for (texts, shown) in rows {
         assert_eq!(rt; told(alloc, texts)?.as_str(), shown);
@@ -98,17 +136,21 @@ fn tells_what_a_journal_holds(rt: HostRuntime) -> Result<(), Fail> {
 #[test]
 fn tells_that_a_journal_holds_none(rt: HostRuntime) -> Result<(), Fail> {
     let alloc = rt.alloc();
-    let rows: [&[&str]; 10] = [
-        &[LOG],
-        &[LOG, LOCK],
-        &[LOCK, LOG, LOCK_ROW],
-        &[TABLE_T, LOG, LOCK, LOCK_ROW],
-        &[LOG, LOCK, LOCK_ROW, LOG],
+    let rows: [&[&str]; 14] = [
+        &[LOCK_ROW],
+        &[LOG, LOCK_ROW],
+        &[TAKEN],
+        &[LOG, FREED],
+        &[ROW_1],
+        &[LOCK, DELETE_1],
+        &[LOG, LOG],
+        &[LOG, LOCK, LOCK_ROW, LOCK],
         &[LOG, LOCK, LOCK_ROW, LOCK_ROW],
-        &[LOG, LOCK, LOCK_ROW, TABLE_T, TABLE_T],
-        &[LOG, LOCK, LOCK_ROW, DROP_T],
-        &[LOG, LOCK, LOCK_ROW, ROW_2, ROW_1],
-        &[LOG, LOCK, LOCK_ROW, ROW_1, ROW_1],
+        &[TABLE_T, TABLE_T],
+        &[DROP_T],
+        &[LOG, ROW_1, ROW_1],
+        &[LOG, ROW_1, ROW_2, ROW_1],
+        &[LOG, ROW_1, ROW_AT_1],
     ];
     for texts in rows {
         assert_eq!(rt; told(alloc, texts)?.as_str(), "none");

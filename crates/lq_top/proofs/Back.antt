@@ -1,10 +1,10 @@
 -- What ran since a point is what the last rows are of.
 use native.Mathlib.Omega.{arith}
-use Rattle.std.proofs.Common.{◌≡◌, ◌∙◌, ◌+◌, ◌<◌, ◌≤◌, ap, sym, refl, subst, Bool, true, false, cond, not, ◌&&◌, ◌||◌, ℕ, zero, suc, List, [], ◌∷◌, ◌++◌, length, drop, map, Option, Some, None, Ok, is_some}
+use Rattle.std.proofs.Common.{◌≡◌, ◌∙◌, ◌<◌, ap, sym, refl, Bool, true, false, cond, ◌&&◌, ℕ, zero, suc, List, [], ◌∷◌, ◌++◌, length, drop, map, Option, Some, None, Ok, is_some}
 use Rattle.std.proofs.Math.Seq.{drop-append_seam}
 use Rattle.std.proofs.lemmas.List.{append-nil, reverse-append}
 use Rattle.std.proofs.lemmas.List.Elements.{filter_map-append}
-use Rattle.std.specs.List.{All, IsAmong, cons_option, filter_map, find, list_all, list_any}
+use Rattle.std.specs.List.{All, IsAmong, cons_option, filter_map, list_all, list_any}
 use Rattle.std.specs.Prelude.{reverse, slice_index_or}
 use Rattle.lq_base.specs.Name.{is_named}
 use Rattle.lq_base.specs.Text.{is_text}
@@ -29,7 +29,8 @@ use Rattle.lq_create.specs.declared.changelog.ChangeSet.{ChangeSet}
 use Rattle.lq_create.specs.declared.changelog.CreatedTable.{CreatedTable}
 use Rattle.lq_top.proofs.Indexed.{text_same}
 use Rattle.lq_top.proofs.Planned.{all_both}
-use Rattle.lq_top.specs.Fit.{are_there, set_of, taken_back}
+use Rattle.lq_create.specs.Refused.{are_there}
+use Rattle.lq_top.specs.Fit.{set_of, taken_back}
 
 -- the changeset of a row
 

@@ -12,17 +12,19 @@ use Rattle.lq_track.specs.Lock.{free}
 use Rattle.lq_create.proofs.NewSets.{new_are_new}
 use Rattle.lq_create.specs.Changelog.{is_label}
 use Rattle.lq_create.specs.Script.{greatest, has_row, new_sets, update_script}
+use Rattle.lq_create.specs.Started.{tracking_of}
 use Rattle.lq_create.specs.Updated.{AreNew, updated_from}
 use Rattle.lq_create.specs.declared.changelog.ChangeSet.{ChangeSet}
 use Rattle.lq_create.specs.declared.stamp.Stamp.{Stamp}
 use Rattle.lq_held.proofs.Added.{update_held}
+use Rattle.lq_held.proofs.Journal.{held_is}
 use Rattle.lq_held.specs.Held.{HoldsDatabase}
 use Rattle.lq_top.proofs.Named.{left_named}
-use Rattle.lq_top.proofs.Unlocked.{unlocked}
-use Rattle.lq_top.specs.Fit.{are_known, fits, has_places, is_in_way, written}
+use Rattle.lq_create.specs.Refused.{has_places, is_in_way}
+use Rattle.lq_top.specs.Fit.{are_known, fits, written}
 use Rattle.lq_top.specs.Given.{AreRead, stamp_of, texts as texts_of}
 use Rattle.lq_top.specs.Held.{HoldsIn, HoldsSame, all}
-use Rattle.lq_top.specs.Journal.{Gains, IsJournal, journal, with_more}
+use Rattle.lq_top.specs.Journal.{Gains, IsJournal, with_more}
 use Rattle.lq_top.specs.Run.{WasDone, WasUpdated}
 use Rattle.lq_top.specs.Work.{Work}
 use Rattle.lq_top.specs.declared.words.Job.{Job}
@@ -75,7 +77,7 @@ least a b h = search (rules, tests)
 module _ (path : List ℕ) (sets : List ChangeSet) (database : Database) (texts : List T) (holds : HoldsDatabase (all texts) database) where
   module _ (job : Job) (fit : fits job path sets database ≡ true) where
     pub free_lock : database.lock ≡ free
-    free_lock = unlocked (all texts) database holds (not_false database.lock.locked (and_left (not database.lock.locked) _ fit))
+    free_lock = (held_is (all texts) database holds).unlocked (not_false database.lock.locked (and_left (not database.lock.locked) _ fit))
 
   module _ (fit : fits Update path sets database ≡ true) (read : AreRead sets) where
     turning : (has_places database.rows (new_sets path database.rows sets) && not (is_in_way database.users (new_sets path database.rows sets))) ≡ true
@@ -92,11 +94,11 @@ module _ (path : List ℕ) (sets : List ChangeSet) (database : Database) (texts 
         (least _ _ (and_right (nat_le (length database.rows + length (new_sets path database.rows sets)) 100000) _ places))
 
     pub updated_held : (stamp : Stamp) → stamp.reading ≤ 253402300799999 → is_label path ≡ true
-        → HoldsDatabase (all (texts ++ written Update stamp path sets database.has_log database.rows)) (updated_from stamp path (new_sets path database.rows sets) database)
+        → HoldsDatabase (all (texts ++ written Update stamp path sets (tracking_of database) database.rows)) (updated_from stamp path (new_sets path database.rows sets) database)
     updated_held stamp early label =
         let new = new_sets path database.rows sets in
         subst (λ ts. HoldsDatabase ts (updated_from stamp path new database))
-        (sym (all_both texts (written Update stamp path sets database.has_log database.rows) ∙ ap (λ more. all texts ++ more) (all_printed (entries (update_script database.has_log stamp path (greatest database.rows + 1) new)))))
+        (sym (all_both texts (written Update stamp path sets (tracking_of database) database.rows) ∙ ap (λ more. all texts ++ more) (all_printed (entries (update_script (tracking_of database) stamp path (greatest database.rows + 1) new)))))
         (update_held stamp path new (all texts) database early label holds (free_lock Update fit) are_new (left_named (λ s. not (has_row path database.rows s)) sets read))
 
 -- an update leaves the updated database
@@ -105,7 +107,7 @@ pub was_updated : (words : List (List ℕ)) (who : List ℕ) (files : Option (Li
 was_updated words who files reading before after w done = λ job.
     let it = w.task.database in
     let stamp = stamp_of who reading in
-    let entries = written Update stamp w.asks.path w.sets it.has_log it.rows in
-    let now = subst (λ j. Gains (written j stamp w.asks.path w.sets it.has_log it.rows) before after) job done.now in
+    let entries = written Update stamp w.asks.path w.sets (tracking_of it) it.rows in
+    let now = subst (λ j. Gains (written j stamp w.asks.path w.sets (tracking_of it) it.rows) before after) job done.now in
     holds_in (w.task.texts ++ entries) after (updated_from stamp w.asks.path (new_sets w.asks.path it.rows w.sets) it) (gained entries w.task.texts before after now w.task.journal_is)
     (updated_held w.asks.path w.sets it w.task.texts w.task.holds (subst (λ j. fits j w.asks.path w.sets it ≡ true) job w.task.fit) w.sets_are stamp (in_time reading) w.path_is)

@@ -1,5 +1,5 @@
 -- A rollback to a point restores the database of that point, and is not refused.
-use Rattle.std.proofs.Common.{◌≡◌, ◌∙◌, ◌+◌, ◌≤◌, ap, sym, refl, subst, Bool, true, false, cond, not, ℕ, List, [], ◌∷◌, ◌++◌, length, nat_lt, option_and_then, Option, Some, None, Result, Ok, IfSome, inl, inr}
+use Rattle.std.proofs.Common.{◌≡◌, ◌∙◌, ◌≤◌, ap, sym, refl, subst, Bool, true, false, cond, not, ℕ, List, [], ◌∷◌, ◌++◌, length, nat_lt, option_and_then, Option, Some, None, Result, Ok, IfSome, inl, inr}
 use Rattle.std.proofs.lemmas.List.{append-nil}
 use Rattle.std.specs.Prelude.{reverse}
 use Rattle.lq_base.proofs.ValueLemmas.{and_then_some}
@@ -17,17 +17,17 @@ use Rattle.lq_create.proofs.RunMade.{ok_same}
 use Rattle.lq_create.specs.Changelog.{is_label}
 use Rattle.lq_create.specs.Script.{rollback_script}
 use Rattle.lq_create.specs.Since.{AreRowsOf, RanSince}
+use Rattle.lq_create.specs.Started.{tracking_of}
 use Rattle.lq_create.specs.declared.changelog.ChangeSet.{ChangeSet}
 use Rattle.lq_create.specs.declared.stamp.Stamp.{Stamp}
 use Rattle.lq_held.proofs.Added.{rollback_held}
-use Rattle.lq_held.proofs.Journal.{held_is}
 use Rattle.lq_held.specs.Held.{HoldsDatabase}
 use Rattle.lq_held.specs.Laws.{HeldOnce, HoldsSame as LeadsBack, are_named}
 use Rattle.lq_top.proofs.Back.{tables_there, taken_is}
 use Rattle.lq_top.proofs.Named.{among_named}
-use Rattle.lq_top.proofs.Unlocked.{unlocked}
 use Rattle.lq_top.specs.Back.{GoesBack}
-use Rattle.lq_top.specs.Fit.{are_there, fits, taken_back, written}
+use Rattle.lq_create.specs.Refused.{are_there}
+use Rattle.lq_top.specs.Fit.{fits, taken_back, written}
 use Rattle.lq_top.proofs.Sets.{read_sets}
 use Rattle.lq_top.specs.Given.{AreRead, given, sets_in, sets_of, stamp_of, texts as texts_of}
 use Rattle.lq_top.specs.Held.{Holds, HoldsIn, HoldsSame, all}
@@ -42,16 +42,8 @@ no_rows : (path : List ℕ) (added : List Tracked) → AreRowsOf path [] added �
 no_rows path [] are = refl
 no_rows path (row ∷ added) are = absurd are
 
-not_nil : (rows : List Tracked) (row : Tracked) (added : List Tracked) → [] ≡ rows ++ row ∷ added → ⊥
-not_nil [] row added e = Prim.cc
-not_nil (r ∷ rows) row added e = Prim.cc
-
-some_rows : (path : List ℕ) (s : ChangeSet) (ran : List ChangeSet) (rows added : List Tracked) → AreRowsOf path (s ∷ ran) added → [] ≡ rows ++ added → ⊥
-some_rows path s ran rows [] are e = absurd are
-some_rows path s ran rows (row ∷ added) are e = not_nil rows row added e
-
 restored : (stamp : Stamp) (path : List ℕ) (since database : Database) (ran : List ChangeSet) (texts : List T) → stamp.reading ≤ 253402300799999 → HoldsDatabase (all texts) database → database.lock ≡ free
-    → RanSince path since ran database → are_named ran ≡ true → LeadsBack (all (texts ++ texts_of (entries (rollback_script stamp path (reverse ran))))) since
+    → RanSince path since ran database → are_named ran ≡ true → LeadsBack (all (texts ++ texts_of (entries (rollback_script (tracking_of database) stamp path (reverse ran))))) since
 restored stamp path since database [] texts early holds free is named = record {
   after = database;
   holds = subst (λ ts. HoldsDatabase (all ts) database) (sym (append-nil texts)) holds;
@@ -62,13 +54,9 @@ restored stamp path since database [] texts early holds free is named = record {
   };
 }
 restored stamp path since database (s ∷ ran) texts early holds free is named =
-    let made : database.has_log ≡ true = elim ((held_is (all texts) database holds).made) as (λ _. database.has_log ≡ true) [
-      | inl none ↦ absurd (some_rows path s ran since.rows is.added is.are_theirs (sym (ap (λ (x : Database). x.rows) none) ∙ is.rows))
-      | inr both ↦ both.0
-    ] in
     subst (λ ts. LeadsBack ts since)
-    (sym (all_both texts (texts_of (entries (rollback_script stamp path (reverse (s ∷ ran))))) ∙ ap (λ more. all texts ++ more) (all_printed (entries (rollback_script stamp path (reverse (s ∷ ran)))))))
-    (rollback_held stamp path since database (s ∷ ran) (all texts) early holds made free is named)
+    (sym (all_both texts (texts_of (entries (rollback_script (tracking_of database) stamp path (reverse (s ∷ ran))))) ∙ ap (λ more. all texts ++ more) (all_printed (entries (rollback_script (tracking_of database) stamp path (reverse (s ∷ ran)))))))
+    (rollback_held stamp path since database (s ∷ ran) (all texts) early holds free is named)
 
 -- a changelog that is given was read from a tree
 
@@ -117,20 +105,20 @@ module _ (once : HeldOnce) (words : List (List ℕ)) (files : Option (List ℕ �
 
   -- the entries of the work are those of the rollback to the point
   its_entries : (stamp : Stamp) (w : Work words files before)
-      → written w.asks.job stamp w.asks.path w.sets w.task.database.has_log w.task.database.rows ≡ texts_of (entries (rollback_script stamp g.asks.path (reverse g.ran)))
+      → written w.asks.job stamp w.asks.path w.sets (tracking_of w.task.database) w.task.database.rows ≡ texts_of (entries (rollback_script (tracking_of g.database) stamp g.asks.path (reverse g.ran)))
   its_entries stamp w =
       let it = w.task.database in
-      ap (λ (a : Asked). written a.job stamp a.path w.sets it.has_log it.rows) (same_asks w.asks w.asked_is)
-      ∙ (ap (λ (s : List ChangeSet). written g.asks.job stamp g.asks.path s it.has_log it.rows) (same_sets w.asks w.asked_is w.sets w.given_is)
-      ∙ (ap (λ (d : Database). written g.asks.job stamp g.asks.path g.sets d.has_log d.rows) (same_database w.task.texts it w.task.journal_is w.task.holds)
-      ∙ (ap (λ j. written j stamp g.asks.path g.sets g.database.has_log g.database.rows) g.job_is
-      ∙ ap (λ ss. texts_of (entries (rollback_script stamp g.asks.path ss))) taken)))
+      ap (λ (a : Asked). written a.job stamp a.path w.sets (tracking_of it) it.rows) (same_asks w.asks w.asked_is)
+      ∙ (ap (λ (s : List ChangeSet). written g.asks.job stamp g.asks.path s (tracking_of it) it.rows) (same_sets w.asks w.asked_is w.sets w.given_is)
+      ∙ (ap (λ (d : Database). written g.asks.job stamp g.asks.path g.sets (tracking_of d) d.rows) (same_database w.task.texts it w.task.journal_is w.task.holds)
+      ∙ (ap (λ j. written j stamp g.asks.path g.sets (tracking_of g.database) g.database.rows) g.job_is
+      ∙ ap (λ ss. texts_of (entries (rollback_script (tracking_of g.database) stamp g.asks.path ss))) taken)))
 
   -- after it the bytes hold the database of the point
   pub went_back : (who : List ℕ) (reading : ℕ) (after : Option (List ℕ)) (w : Work words files before) → WasDone words who files reading before w after → HoldsSame (record g.since { lock = free }) after
   went_back who reading after w done =
       let stamp = stamp_of who reading in
-      let more = texts_of (entries (rollback_script stamp g.asks.path (reverse g.ran))) in
+      let more = texts_of (entries (rollback_script (tracking_of g.database) stamp g.asks.path (reverse g.ran))) in
       let now = subst (λ es. Gains es before after) (its_entries stamp w) done.now in
       let led = restored stamp g.asks.path g.since g.database g.ran g.holds.texts (in_time reading) g.holds.holds g.unlocked g.ran_since (among_named g.sets g.ran read g.among) in
       same_in (g.holds.texts ++ more) after (record g.since { lock = free }) led.after (gained more g.holds.texts before after now journal_is) led.holds led.same

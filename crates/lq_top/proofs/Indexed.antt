@@ -10,7 +10,6 @@ use Rattle.std.specs.declared.cmp.Ordering.TheVariants.{Less, Equal, Greater}
 use Rattle.lq_base.specs.Text.{is_text, text_cmp}
 use Rattle.lq_base.specs.declared.tracking.Tracked.{Tracked}
 use Rattle.lq_model.proofs.Lists.{named_itself, other_way, same_name}
-use Rattle.lq_create.specs.Script.{is_row_of}
 use Rattle.lq_create.specs.declared.changelog.ChangeSet.{ChangeSet}
 use Rattle.lq_top.specs.Fit.{set_of}
 use Rattle.lq_top.specs.Index.{HasSets, IsPartly, KeepsAlso, Key, is_keyed, kept, key_cmp}

@@ -13,5 +13,4 @@ pub mod Runs
 pub mod Sets
 pub mod Starts
 pub mod Statuses
-pub mod Unlocked
 pub mod Worked

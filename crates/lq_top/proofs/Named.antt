@@ -1,6 +1,6 @@
 -- The changesets of a tree have names and kinds that can be written.
 use native.Mathlib.Omega.{arith}
-use Rattle.std.proofs.Common.{◌≡◌, ◌∙◌, ◌+◌, ◌<◌, ap, sym, refl, subst, Bool, true, false, cond, not, ◌&&◌, IsTrue, ℕ, zero, suc, List, [], ◌∷◌, length, Option, Some, None, codes, option_and_then}
+use Rattle.std.proofs.Common.{◌≡◌, ◌∙◌, ◌<◌, ap, sym, refl, subst, Bool, true, false, cond, not, ◌&&◌, ℕ, zero, suc, List, [], ◌∷◌, length, Option, Some, codes, option_and_then}
 use Rattle.std.specs.List.{All, IsAmong, filter, list_all, list_any}
 use Rattle.std.specs.Prelude.{slice_index_or}
 use Rattle.lq_base.proofs.KindSpelled.{kind_of-names}
@@ -12,10 +12,9 @@ use Rattle.lq_base.specs.declared.kind.Kind.{Kind}
 use Rattle.lq_base.specs.declared.kind.Kind.TheVariants as kind
 use Rattle.lq_base.specs.declared.name.Name.{Name}
 use Rattle.lq_model.proofs.Lists.{and_left, and_right, and_true, or_false, or_left, or_right}
-use Rattle.lq_model.specs.Reserved.{takes_lock_key}
 use Rattle.lq_tree.specs.Look.{list_of as items_of, printed_of, value_at}
 use Rattle.lq_tree.specs.declared.node.Node.{Node}
-use Rattle.lq_create.proofs.Given.{AreGiven, given, if_some, is_named_reserved, map_some, some_same}
+use Rattle.lq_create.proofs.Given.{given, if_some, is_named_reserved, map_some, some_same}
 use Rattle.lq_create.proofs.Unreserved.{leaves_key, unreserved}
 use Rattle.lq_create.specs.Changelog.{are_columns, are_sets, changelog_of, column_in, column_of, columns_of, if_so, is_some_list, kind_of, label_of, list_of, name_of, nullable_of, set_in, set_of, table_in, table_of, tables_of, unwrapped}
 use Rattle.lq_create.specs.Distinct.{created_tables}

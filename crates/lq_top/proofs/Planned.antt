@@ -8,12 +8,13 @@ use Rattle.lq_model.specs.Catalogue.{table_of}
 use Rattle.lq_model.specs.NameSpaces.{is_taken}
 use Rattle.lq_track.specs.Database.{Database}
 use Rattle.lq_create.specs.Distinct.{created_tables}
+use Rattle.lq_create.specs.Started.{tracking_of}
 use Rattle.lq_create.specs.declared.changelog.ChangeSet.{ChangeSet}
 use Rattle.lq_create.specs.declared.changelog.CreatedTable.{CreatedTable}
 use Rattle.lq_create.specs.declared.stamp.Stamp.{Stamp}
-use Rattle.lq_top.specs.Fit.{are_known, can_turn, fits, has_places, shown, turns, written}
-use Rattle.lq_held.proofs.Journal.{kept_here}
-use Rattle.lq_held.proofs.Kept.{taken_is}
+use Rattle.lq_create.specs.Refused.{has_places}
+use Rattle.lq_top.specs.Fit.{are_known, can_turn, fits, shown, turns, written}
+use Rattle.lq_held.proofs.Journal.{held_is}
 use Rattle.lq_held.specs.Held.{HoldsDatabase, all_texts}
 use Rattle.lq_journal.specs.declared.entry.Entry.{Entry}
 use Rattle.lq_top.specs.Held.{HoldsIn, all}
@@ -57,8 +58,7 @@ all_same p q same (t ∷ ts) = rw (same t, all_same p q same ts) refl
 
 -- only tables have names
 taken_there : (texts : List (List ℕ)) (database : Database) → HoldsDatabase texts database → (n : Name) → is_some (table_of database.users n) ≡ is_taken Postgresql n database.users
-taken_there texts database (inl none) n = subst (λ (d : Database). is_some (table_of d.users n) ≡ is_taken Postgresql n d.users) (sym none.1) refl
-taken_there texts database (inr led) n = sym (taken_is led.catalogue database.users database.rows database.lock (kept_here texts database led).0 n)
+taken_there texts database holds n = sym ((held_is texts database holds).tables n)
 
 module _ (texts : List (List ℕ)) (database : Database) (holds : HoldsDatabase texts database) (held : Held) (so : Shows database held) where
   takes_same : (job : Job) (sets : List ChangeSet) → takes job sets held ≡ can_turn job sets database
@@ -89,11 +89,11 @@ module _ (job : Job) (stamp : Stamp) (path : List ℕ) (sets : List ChangeSet) (
   -- what is planned by what is kept
   pub planned_of : (told : Option (List ℕ)) (start : ℕ) (held : Held) (plan : Plan) → (database : Database) × (HoldsDatabase (all texts) database × Shows database held)
       → IsJournal texts told → start ≡ place_after texts → fits_held job path sets held ≡ true
-      → plan.entries ≡ written job stamp path sets held.made held.rows → plan.text ≡ shown job path sets held.rows → IsPlanned job stamp path sets told start plan
+      → plan.entries ≡ written job stamp path sets held.tracking held.rows → plan.text ≡ shown job path sets held.rows → IsPlanned job stamp path sets told start plan
   planned_of told start held plan found is place fit entries text = record {
     task = record { texts = texts; database = found.0; journal_is = is; holds = found.1.0; fit = sym (fits_same (all texts) found.0 found.1.0 held found.1.1 job path sets) ∙ fit };
     place = place;
-    entries = entries ∙ (ap (λ made. written job stamp path sets made held.rows) found.1.1.made ∙ ap (written job stamp path sets found.0.has_log) found.1.1.rows);
+    entries = entries ∙ (ap (λ there. written job stamp path sets there held.rows) found.1.1.tracking ∙ ap (written job stamp path sets (tracking_of found.0)) found.1.1.rows);
     text = text ∙ ap (shown job path sets) found.1.1.rows;
   }
 

@@ -1,6 +1,6 @@
 -- What the texts of a journal's entries tell of it.
 use native.Mathlib.Omega.{arith}
-use Rattle.std.proofs.Common.{◌≡◌, ◌+◌, ℕ, List, [], ◌∷◌, map, Result, Ok, Err, Option, Some, None, IfSome, refl, sym, ap, ◌∙◌}
+use Rattle.std.proofs.Common.{◌≡◌, ◌+◌, ℕ, List, [], ◌∷◌, map, Ok, Option, Some, None, IfSome, refl, sym, ap, ◌∙◌}
 use Rattle.std.proofs.lemmas.List.Sums.{sum_by-append}
 use Rattle.std.specs.List.{sum_by}
 use Rattle.lq_base.specs.declared.dialect.Dialect.TheVariants.{Postgresql}

@@ -1,5 +1,5 @@
 -- The entries of a command: none, or one that takes the lock, one for each turn, and the one that frees it.
-use Rattle.std.proofs.Common.{◌≡◌, ◌+◌, ℕ, Bool, true, List, [], ◌∷◌, ◌++◌, map, sym, subst}
+use Rattle.std.proofs.Common.{◌≡◌, ◌+◌, ℕ, List, [], ◌∷◌, ◌++◌, map, sym, subst}
 use Rattle.std.proofs.lemmas.List.{map-append}
 use Rattle.lq_base.specs.declared.dialect.Dialect.TheVariants.{Postgresql}
 use Rattle.lq_base.specs.declared.tracking.Tracked.{Tracked}
@@ -9,22 +9,23 @@ use Rattle.lq_create.proofs.Entries.{script_entries}
 use Rattle.lq_create.specs.Script.{Turn, closing, entry_of, greatest, rollback_turn, script, update_turns}
 use Rattle.lq_create.specs.declared.changelog.ChangeSet.{ChangeSet}
 use Rattle.lq_create.specs.declared.stamp.Stamp.{Stamp}
+use Rattle.lq_create.specs.declared.tracking.TrackingTables.{TrackingTables}
 use Rattle.lq_top.specs.Left.{IsRun, freeing}
 use Rattle.lq_top.specs.Fit.{turns, written}
 use Rattle.lq_top.specs.Given.{texts}
 use Rattle.lq_top.specs.declared.words.Job.{Job}
 use Rattle.lq_top.specs.declared.words.Job.TheVariants.{RollbackCount, Update}
 
-a_run : (made : Bool) (stamp : Stamp) (turns : List Turn) → IsRun (texts (entries (script made stamp turns)))
-a_run made stamp [] = tt
-a_run made stamp (turn ∷ turns) =
-    subst (λ all. IsRun (texts all)) (sym (script_entries made stamp turn turns))
+a_run : (there : TrackingTables) (stamp : Stamp) (turns : List Turn) → IsRun (texts (entries (script there stamp turns)))
+a_run there stamp [] = tt
+a_run there stamp (turn ∷ turns) =
+    subst (λ all. IsRun (texts all)) (sym (script_entries there stamp turn turns))
     (texts (map entry_of (turn ∷ turns)), map-append (map (text_of Postgresql)) (map entry_of (turn ∷ turns)) (closing ∷ []))
 
 -- so are those of each command
-pub is_run : (job : Job) (stamp : Stamp) (path : List ℕ) (sets : List ChangeSet) (made : Bool) (rows : List Tracked) → IsRun (written job stamp path sets made rows)
-is_run Update stamp path sets made rows = a_run made stamp (update_turns stamp path (greatest rows + 1) (turns Update path sets rows))
-is_run (RollbackCount count) stamp path sets made rows = a_run true stamp (map (rollback_turn path) (turns (RollbackCount count) path sets rows))
+pub is_run : (job : Job) (stamp : Stamp) (path : List ℕ) (sets : List ChangeSet) (there : TrackingTables) (rows : List Tracked) → IsRun (written job stamp path sets there rows)
+is_run Update stamp path sets there rows = a_run there stamp (update_turns stamp path (greatest rows + 1) (turns Update path sets rows))
+is_run (RollbackCount count) stamp path sets there rows = a_run there stamp (map (rollback_turn path) (turns (RollbackCount count) path sets rows))
 
 abbrev T : Type 0
 T = List (List ℕ)

@@ -1,11 +1,9 @@
 -- Changesets that were read, and the lists of statements of their update.
 use native.Mathlib.Omega.{arith}
-use Rattle.std.proofs.Common.{◌≡◌, ◌≤◌, true, false, List, [], ◌∷◌, ◌++◌, map, length, Result, Ok, Err, Option, Some, None, option_and_then, codes, cond, refl, rules, subst}
+use Rattle.std.proofs.Common.{◌≡◌, List, [], ◌∷◌, ◌++◌, map, Result, Ok, Err, Option, Some, None}
 use Rattle.lq_model.specs.Script.{Call, Made, alone, begin, execute, commit, abort, commits_after, entries, if_any, statements_in}
 use Rattle.lq_tree.specs.declared.node.Node.{Node}
 use Rattle.lq_tree.specs.declared.node.TreeFault.{TreeFault}
-use Rattle.lq_create.specs.Changelog.{are_sets, changelog_of, if_so, list_of, set_of}
-use Rattle.lq_create.specs.Parts.{only}
 use Rattle.lq_create.specs.declared.changelog.ChangeSet.{ChangeSet}
 use Rattle.lq_top.specs.Given.{AreRead, AreSome, sets_in}
 

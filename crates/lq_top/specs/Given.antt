@@ -1,5 +1,5 @@
 -- What a command is given: the changesets of a file, and its stamp.
-use Rattle.std.specs.Prelude.{◌≡◌, ◌<◌, false, true, ℕ, List, [], ◌∷◌, map, min, length, Option, Some, None, IfSome, option_and_then, if◌then◌else◌, nat_lt, Result, Ok, Err}
+use Rattle.std.specs.Prelude.{◌≡◌, ◌<◌, ℕ, List, [], ◌∷◌, map, min, length, Option, Some, None, option_and_then, if◌then◌else◌, nat_lt, Result, Ok, Err}
 use Rattle.lq_base.specs.declared.dialect.Dialect.TheVariants.{Postgresql}
 use Rattle.lq_model.specs.StatementText.{text_of}
 use Rattle.lq_model.specs.declared.statement.Statement.{Statement}

@@ -6,7 +6,8 @@ use Rattle.lq_base.specs.Name.{name_cmp}
 use Rattle.lq_base.specs.declared.name.Name.{Name}
 use Rattle.lq_create.specs.Distinct.{created_tables}
 use Rattle.lq_create.specs.declared.changelog.ChangeSet.{ChangeSet}
-use Rattle.lq_top.specs.Fit.{are_known, has_places, turns}
+use Rattle.lq_create.specs.Refused.{has_places}
+use Rattle.lq_top.specs.Fit.{are_known, turns}
 use Rattle.lq_held.specs.declared.held.Held.{Held}
 use Rattle.lq_top.specs.declared.words.Job.{Job}
 use Rattle.lq_top.specs.declared.words.Job.TheVariants.{RollbackCount, Update}

@@ -2,6 +2,7 @@
 use Rattle.std.specs.Prelude.{◌≡◌, ◌⊎◌, false, true, ℕ, List, Option, Some, None, IfSome}
 use Rattle.lq_track.specs.Database.{Database}
 use Rattle.lq_create.specs.Changelog.{is_label}
+use Rattle.lq_create.specs.Started.{tracking_of}
 use Rattle.lq_create.specs.declared.changelog.ChangeSet.{ChangeSet}
 use Rattle.lq_create.specs.declared.stamp.Stamp.{Stamp}
 use Rattle.lq_top.specs.Fit.{fits, shown, written}
@@ -38,7 +39,7 @@ module _ (job : Job) (path : List ℕ) (sets : List ChangeSet) (before : Option 
 module _ {job : Job} {path : List ℕ} {sets : List ChangeSet} {before : Option (List ℕ)} where
   -- the entries that it writes, as their texts
   abbrev pub entries_on : Stamp → Task job path sets before → List (List (List ℕ))
-  entries_on stamp t = written job stamp path sets t.database.has_log t.database.rows
+  entries_on stamp t = written job stamp path sets (tracking_of t.database) t.database.rows
 
   -- what it prints
   abbrev pub output_on : Task job path sets before → List ℕ

@@ -2,7 +2,8 @@ ghost use Rattle.std.specs.Prelude.{◌≡◌, ◌≤◌, ◌+◌, IfOk, IfErr, 
 ghost use Rattle.std.specs.List.{list_all, list_any};
 ghost use Rattle.lq_create.specs.Script.{greatest};
 ghost use Rattle.lq_model.specs.Script.{entries};
-ghost use Rattle.lq_top.specs.Fit.{has_places, printed, script_of, turns, written, shown};
+ghost use Rattle.lq_create.specs.Refused.{has_places};
+ghost use Rattle.lq_top.specs.Fit.{printed, script_of, turns, written, shown};
 ghost use Rattle.lq_top.specs.HeldFit.{fits_held, has_all, has_some, has_table, takes};
 ghost use Rattle.lq_top.specs.Given.{texts};
 ghost use Rattle.lq_top.specs.Index.{IsIndexed};
@@ -126,14 +127,14 @@ fn statements_of(
 ) -> Result<Items<Items<Statement>>, NoMemory>
     requires reading { stamp.now.reading ≤ 253402300799999 }
     requires takes { takes job (map (λ set. set.now) sets.now) held.now ≡ true }
-    ensures { IfOk result (λ all. all ≡ entries (script_of job stamp.now path.now (map (λ set. set.now) sets.now) held.now.made held.now.rows)) }
+    ensures { IfOk result (λ all. all ≡ entries (script_of job stamp.now path.now (map (λ set. set.now) sets.now) held.now.tracking held.now.rows)) }
 {
     match job {
         Job::Update => {
             let order = greatest(held.rows.as_slice()) + 1;
-            update_entries(alloc, held.made, stamp, path, order, sets)
+            update_entries(alloc, held.tracking, stamp, path, order, sets)
         }
-        Job::RollbackCount(_) => rollback_entries(alloc, stamp, path, sets),
+        Job::RollbackCount(_) => rollback_entries(alloc, held.tracking, stamp, path, sets),
     }
 }
 
@@ -158,7 +159,7 @@ fn plan_of(
 ) -> Result<Plan, NoMemory>
     requires reading { stamp.now.reading ≤ 253402300799999 }
     requires takes { takes job (map (λ set. set.now) sets.now) held.now ≡ true }
-    ensures entries { IfOk result (λ plan. plan.entries ≡ texts (entries (script_of job stamp.now path.now (map (λ set. set.now) sets.now) held.now.made held.now.rows))) }
+    ensures entries { IfOk result (λ plan. plan.entries ≡ texts (entries (script_of job stamp.now path.now (map (λ set. set.now) sets.now) held.now.tracking held.now.rows))) }
     ensures text { IfOk result (λ plan. plan.text ≡ printed job path.now (map (λ set. set.now) sets.now)) }
 {
     let statements = statements_of(alloc, job, stamp, path, sets, held)?;
@@ -178,7 +179,7 @@ pub fn planned<'a>(
 ) -> Result<Option<Plan>, NoMemory>
     requires reading { stamp.now.reading ≤ 253402300799999 }
     ensures fits { IfOk result (λ found. fits_held job path.now sets.now held.now ≡ is_some found) }
-    ensures entries { IfOk result (λ found. IfSome found (λ plan. plan.entries ≡ written job stamp.now path.now sets.now held.now.made held.now.rows)) }
+    ensures entries { IfOk result (λ found. IfSome found (λ plan. plan.entries ≡ written job stamp.now path.now sets.now held.now.tracking held.now.rows)) }
     ensures text { IfOk result (λ found. IfSome found (λ plan. plan.text ≡ shown job path.now sets.now held.now.rows)) }
 {
     let rows = held.rows.as_slice();

@@ -421,6 +421,26 @@ fn not_taken(rt: HostRuntime) {
     assert!(rt; ran.status == Status::Done);
 }
 
+// Each of the tracking tables is made where it is missing.
+#[test]
+fn opened_partly(rt: HostRuntime) {
+    let [log, lock, row] = TABLES;
+    let cases: [(&[&str], &[&str]); 3] = [
+        (&[log, ""], &[lock, row, TAKEN]),
+        (&[lock, ""], &[log, row, TAKEN]),
+        (&[lock, row, "", log, ""], &[TAKEN]),
+    ];
+    for (texts, opening) in cases {
+        let bytes = journal_of(&rt, rt.alloc(), texts);
+        let before = entries_of(&rt, rt.alloc(), &bytes).len();
+        let ran = run_over(&rt, rt.alloc(), &UPDATE, ONE, &bytes, NONE);
+        assert!(rt; ran.status == Status::Done);
+        let entries = entries_of(&rt, rt.alloc(), &ran.bytes);
+        assert_eq!(rt; entries.len(), before + 3);
+        assert_texts(&rt, &entries.as_slice()[before], opening);
+    }
+}
+
 #[test]
 fn nothing_to_do(rt: HostRuntime) {
     let empty = r#"{"databaseChangeLog":[]}"#;

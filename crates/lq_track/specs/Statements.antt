@@ -34,13 +34,20 @@ row_test of = And (And (log_holds log.Id of.id) (log_holds log.Author of.author)
 abbrev pub lock_test : Test
 lock_test = holds (lock_name lock.Id) (literal.Int (pos 1))
 
--- the tables, and the lock's row, free
+-- makes the table of rows
+abbrev pub log_made : Statement
+log_made = CreateTable log_table (map log_column log_order) None [] []
+
+-- makes the table of the lock
+abbrev pub lock_made : Dialect → Statement
+lock_made d = CreateTable lock_table (map lock_column lock_order) (Some (lock_key d)) [] []
+
+-- makes the lock's row, free
+abbrev pub lock_row_made : Statement
+lock_row_made = Insert lock_table (map lock_name lock_order) (map (lock_value free) lock_order)
+
 abbrev pub tables : Dialect → List Statement
-tables d =
-    CreateTable log_table (map log_column log_order) None [] []
-    ∷ CreateTable lock_table (map lock_column lock_order) (Some (lock_key d)) [] []
-    ∷ Insert lock_table (map lock_name lock_order) (map (lock_value free) lock_order)
-    ∷ []
+tables d = log_made ∷ lock_made d ∷ lock_row_made ∷ []
 
 abbrev pub row_inserted : Tracked → Statement
 row_inserted row = Insert log_table (map log_name log_order) (map (log_value row) log_order)

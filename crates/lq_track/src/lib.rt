@@ -17,7 +17,7 @@ pub use lock_table::{free_lock, mark_lock, take_lock};
 pub use log_column::LogColumn;
 pub use log_table::{again_row, delete_row, fill_sum, insert_row, set_tag};
 pub use row::{Ran, row_of};
-pub use tables::make_tables;
+pub use tables::{make_lock, make_lock_row, make_log, make_tables};
 
 #[cfg(test)]
 mod tests;

@@ -1,8 +1,6 @@
-ghost use Rattle.std.specs.Prelude.{◌≡◌, ◌∷◌, [], map, IfOk, Some};
-ghost use Rattle.lq_model.specs.declared.statement.Statement.TheVariants as statement;
-ghost use Rattle.lq_track.specs.Lock.{lock_column, lock_name, lock_order, lock_table, lock_key, lock_value, free};
-ghost use Rattle.lq_track.specs.Log.{log_column, log_order, log_table};
-ghost use Rattle.lq_track.specs.Statements.{tables};
+ghost use Rattle.std.specs.Prelude.{◌≡◌, map, IfOk};
+ghost use Rattle.lq_track.specs.Lock.{lock_order, lock_value, free};
+ghost use Rattle.lq_track.specs.Statements.{lock_made, lock_row_made, log_made, tables};
 
 use crate::lock_column::LockColumn;
 use crate::lock_table::{lock_defs, lock_key, lock_names, lock_table};
@@ -23,9 +21,10 @@ pub fn make_tables(alloc: Global, dialect: Dialect) -> Result<Items<Statement>, 
     Ok(made)
 }
 
+/// Makes the table of rows.
 #[tactic(auto, unfolding(crate::specs::Log::log_order))]
-fn make_log(alloc: Global) -> Result<Statement, NoMemory>
-    ensures { IfOk result (λ s. s ≡ statement.CreateTable log_table (map log_column log_order) None [] []) }
+pub fn make_log(alloc: Global) -> Result<Statement, NoMemory>
+    ensures { IfOk result (λ s. s ≡ log_made) }
 {
     Ok(Statement::CreateTable {
         table: log_table(alloc)?,
@@ -36,9 +35,10 @@ fn make_log(alloc: Global) -> Result<Statement, NoMemory>
     })
 }
 
+/// Makes the table of the lock.
 #[tactic(auto, unfolding(crate::specs::Lock::lock_order))]
-fn make_lock(alloc: Global, dialect: Dialect) -> Result<Statement, NoMemory>
-    ensures { IfOk result (λ s. s ≡ statement.CreateTable lock_table (map lock_column lock_order) (Some (lock_key dialect)) [] []) }
+pub fn make_lock(alloc: Global, dialect: Dialect) -> Result<Statement, NoMemory>
+    ensures { IfOk result (λ s. s ≡ lock_made dialect) }
 {
     Ok(Statement::CreateTable {
         table: lock_table(alloc)?,
@@ -49,9 +49,10 @@ fn make_lock(alloc: Global, dialect: Dialect) -> Result<Statement, NoMemory>
     })
 }
 
+/// Makes the lock's row, which is free.
 #[tactic(auto, unfolding(crate::specs::Lock::lock_order, crate::specs::Lock::lock_value))]
-fn make_lock_row(alloc: Global) -> Result<Statement, NoMemory>
-    ensures { IfOk result (λ s. s ≡ statement.Insert lock_table (map lock_name lock_order) (map (lock_value free) lock_order)) }
+pub fn make_lock_row(alloc: Global) -> Result<Statement, NoMemory>
+    ensures { IfOk result (λ s. s ≡ lock_row_made) }
 {
     Ok(Statement::Insert {
         table: lock_table(alloc)?,

@@ -1,5 +1,6 @@
 -- Each statement is read from its canonical text.
-use Rattle.std.proofs.Common.{Err, IfOk, IfSome, Ok, Result, bytes_eq, cond, subst, ◌≡◌, ◌≤◌, ◌==◌, ◌∙◌, Bool, List, None, Option, Some, [], ap, append-nil, append_assoc, arith, codes, false, leb, length, length-append, map, option_and_then, option_map, pos, refl, rules, suc, sym, tests, true, zero, ℕ, ℤ, ◌++◌, ◌∷◌}
+use Rattle.std.specs.Prelude.{nat_lt}
+use Rattle.std.proofs.Common.{Err, IfOk, IfSome, Ok, Result, bytes_eq, cond, subst, ◌≡◌, ◌≤◌, ◌==◌, ◌∙◌, Bool, List, None, Option, Some, [], ◌&&◌, ap, append-nil, append_assoc, arith, codes, false, leb, length, length-append, map, option_and_then, option_map, pos, refl, rules, suc, sym, tests, true, zero, ℕ, ℤ, ◌++◌, ◌∷◌}
 use Rattle.std.proofs.lemmas.Bool.{and_parts, leb-true}
 use Rattle.std.specs.Fmt.{decimal}
 use Rattle.std.specs.List.{list_all}
@@ -205,9 +206,8 @@ date_fits n fits = let small : n ≤ 253_402_300_799_999 = leb-true _ _ fits in 
 pub inserted_read : (row : WrittenRow) → is_row row ≡ true → Reads (RowInserted row)
 unfolding words name_text string_text candidate created_in name_after after fixed_in taken_in moment_after inserted_in row_words identity_after front_date front_order front_texts log_table log_column log_order log_value literal_text
 inserted_read row fits =
-    let parts = and_parts (leb row.date 253_402_300_799_999) (leb row.order 4_294_967_295) fits in
-    let small : leb row.order 4_294_967_295 ≡ true = parts.1 in
-    let few : row.order ≤ 4_294_967_295 = leb-true _ _ parts.1 in
+    let parts = and_parts (leb row.date 253_402_300_799_999) (nat_lt 0 row.order && leb row.order 4_294_967_295) fits in
+    let few : row.order ≤ 4_294_967_295 = leb-true _ _ (and_parts (nat_lt 0 row.order) (leb row.order 4_294_967_295) parts.1).1 in
     let it : Tracked = tracked_of row in
     let close : List ℕ = codes ")" in
     rw (
@@ -217,7 +217,7 @@ inserted_read row fits =
       quoted_two 39 (moment_text (pos row.date)) (behind it (log.OrderExecuted ∷ log.ExecType ∷ log.Md5Sum ∷ log.Description ∷ last_columns)) close refl,
       moment_of-moment_text (pos row.date) (date_fits row.date parts.0),
       number_front 44 row.order ((decimal row.order ++ behind it (log.ExecType ∷ log.Md5Sum ∷ log.Description ∷ last_columns)) ++ close) (32 ∷ ((string_text Postgresql (codes "EXECUTED") ++ behind it (log.Md5Sum ∷ log.Description ∷ last_columns)) ++ close)) (omega arith) (omega arith) (append_assoc (decimal row.order) (behind it (log.ExecType ∷ log.Md5Sum ∷ log.Description ∷ last_columns)) close),
-      small,
+      parts.1,
       quoted_two 39 row.sum (behind it (log.Description ∷ last_columns)) close refl,
       quoted_two 39 row.description (behind it last_columns) close refl,
     ) refl

@@ -1,5 +1,5 @@
 -- What a text tells where it is the canonical one of a statement that the commands write. Of another text this says nothing.
-use Rattle.std.specs.Prelude.{ℕ, zero, suc, ℤ, pos, negsuc, Bool, true, false, nat_le, ◌&&◌, List, [], ◌∷◌, length, Option, Some, None, option_map, option_and_then, if◌then◌else◌, codes}
+use Rattle.std.specs.Prelude.{ℕ, zero, suc, ℤ, pos, negsuc, Bool, true, false, nat_le, nat_lt, ◌&&◌, List, [], ◌∷◌, length, Option, Some, None, option_map, option_and_then, if◌then◌else◌, codes}
 use Rattle.lq_base.specs.Moment.{moment_of}
 use Rattle.lq_base.specs.Name.{is_name}
 use Rattle.lq_base.specs.declared.identity.Identity.{Identity}
@@ -140,12 +140,12 @@ natural_of (negsuc n, rest) = None
 unfoldable pub front_date : List ℕ → Option (ℕ × List ℕ)
 front_date text = option_and_then natural_of (moment_after (codes ", '") text)
 
-abbrev small : ℕ × List ℕ → Option (ℕ × List ℕ)
-small parts = if nat_le parts.0 4294967295 then Some parts else None
+abbrev placed : ℕ × List ℕ → Option (ℕ × List ℕ)
+placed parts = if nat_lt 0 parts.0 && nat_le parts.0 4294967295 then Some parts else None
 
--- a row's order, of 32 bits, with the comma behind it
+-- a row's place, of 32 bits, with the comma behind it
 unfoldable pub front_order : List ℕ → Option (ℕ × List ℕ)
-front_order text = option_and_then small (number_after (codes ", ") 44 text)
+front_order text = option_and_then placed (number_after (codes ", ") 44 text)
 
 -- a row's checksum and description
 unfoldable pub front_texts : List ℕ → Option (List ℕ × List ℕ)

@@ -9,6 +9,7 @@ use Rattle.lq_create.specs.declared.changelog.ChangeSet.{ChangeSet}
 use Rattle.lq_create.specs.declared.changelog.CreatedColumn.{CreatedColumn}
 use Rattle.lq_create.specs.declared.changelog.CreatedTable.{CreatedTable}
 use Rattle.lq_create.specs.declared.stamp.Stamp.{Stamp}
+use Rattle.lq_create.specs.declared.tracking.TrackingTables.{TrackingTables}
 use Rattle.lq_written.specs.Written.{are_columns, is_users, is_written, statement_of}
 use Rattle.lq_written.specs.declared.written.Written.{Written}
 use Rattle.lq_written.specs.declared.written.WrittenColumn.{WrittenColumn}
@@ -29,13 +30,13 @@ is_table t = is_users t.name && are_columns (map column_of t.columns)
 abbrev pub are_tables : List ChangeSet → Bool
 are_tables sets = list_all (λ s. list_all is_table s.tables) sets
 
--- an update of changesets with such tables, in places of at most 32 bits
+-- an update of changesets with such tables, in places from 1 on, of at most 32 bits
 abbrev pub UpdateIsWritten : Type 0
-UpdateIsWritten = (made : Bool) (stamp : Stamp) (path : List ℕ) (order : ℕ) (sets : List ChangeSet)
-    → stamp.reading ≤ 253402300799999 → order + length sets ≤ 4294967296 → are_tables sets ≡ true
-    → AreWritten (entries (update_script made stamp path order sets))
+UpdateIsWritten = (there : TrackingTables) (stamp : Stamp) (path : List ℕ) (order : ℕ) (sets : List ChangeSet)
+    → stamp.reading ≤ 253402300799999 → 1 ≤ order → order + length sets ≤ 4294967296 → are_tables sets ≡ true
+    → AreWritten (entries (update_script there stamp path order sets))
 
 -- taking such changesets back
 abbrev pub RollbackIsWritten : Type 0
-RollbackIsWritten = (stamp : Stamp) (path : List ℕ) (sets : List ChangeSet)
-    → stamp.reading ≤ 253402300799999 → are_tables sets ≡ true → AreWritten (entries (rollback_script stamp path sets))
+RollbackIsWritten = (there : TrackingTables) (stamp : Stamp) (path : List ℕ) (sets : List ChangeSet)
+    → stamp.reading ≤ 253402300799999 → are_tables sets ≡ true → AreWritten (entries (rollback_script there stamp path sets))

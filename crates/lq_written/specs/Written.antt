@@ -1,6 +1,6 @@
 -- The statements that the commands write, and their texts.
 use Rattle.std.specs.List.{list_all}
-use Rattle.std.specs.Prelude.{ℕ, pos, Bool, true, false, not, ◌&&◌, ◌||◌, nat_le, List, [], ◌∷◌, map, None, Some, codes, ◌≡◌}
+use Rattle.std.specs.Prelude.{ℕ, pos, Bool, true, false, not, ◌&&◌, ◌||◌, nat_le, nat_lt, List, [], ◌∷◌, map, None, Some, codes, ◌≡◌}
 use Rattle.lq_base.specs.Kind.{is_kind}
 use Rattle.lq_base.specs.Moment.{is_moment}
 use Rattle.lq_base.specs.Name.{is_name}
@@ -72,9 +72,9 @@ abbrev pub are_columns : List WrittenColumn → Bool
 are_columns [] = false
 are_columns (c ∷ cs) = list_all is_column (c ∷ cs)
 
--- a date of the years up to 9999, an order of 32 bits
+-- a date of the years up to 9999, a place of 32 bits, the first of which is 1
 abbrev pub is_row : WrittenRow → Bool
-is_row row = nat_le row.date 253402300799999 && nat_le row.order 4294967295
+is_row row = nat_le row.date 253402300799999 && (nat_lt 0 row.order && nat_le row.order 4294967295)
 
 -- the values are ones that the commands write
 abbrev pub is_written : Written → Bool

@@ -148,7 +148,7 @@ fn front_order(text: &str) -> Option<(u32, &str)>
     ensures { option_map (λ parts. (parts.0, parts.1.now)) result ≡ front_order text.now }
 {
     let (order, rest) = number_after(", ", ',', text)?;
-    if order <= 4_294_967_295 {
+    if order > 0 && order <= 4_294_967_295 {
         Some((order as u32, rest))
     } else {
         None

@@ -81,10 +81,7 @@ pub fn is_written(written: &Written) -> bool
             is_users(table) && are_columns(columns.as_slice())
         }
         Written::TableDropped { table } => is_users(table),
-        Written::RowInserted(row) => {
-            let _order = row.order;
-            row.date <= 253_402_300_799_999
-        }
+        Written::RowInserted(row) => row.date <= 253_402_300_799_999 && row.order > 0,
         _ => true,
     }
 }

@@ -1,4 +1,4 @@
-use Rattle.lq_held.proofs.Once.{once}
+use Rattle.lq_held.proofs.Journal.{once}
 use Rattle.lq_held.proofs.laws.held_once.Goals as goal
 
 pub returns : goal.returns

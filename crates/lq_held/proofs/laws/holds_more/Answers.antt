@@ -1,4 +1,4 @@
-use Rattle.lq_held.proofs.Once.{more}
+use Rattle.lq_held.proofs.Journal.{more}
 use Rattle.lq_held.proofs.laws.holds_more.Goals as goal
 
 pub returns : goal.returns

@@ -8,8 +8,8 @@ use Rattle.lq_written.specs.declared.written.WrittenColumn.{WrittenColumn}
 use Rattle.lq_held.proofs.loading.created.Goals as goal
 
 pub returns : goal.returns
-returns c = λ it is kept. (
+returns c = λ it sound kept. (
   create_goes it c.args.loading kept c.args.table c.args.columns (sym c.contains.ensures ∙ c.if-contains.false)
       (sym (c.repeats_name.ensures ∙ ap (λ cs. repeats is_text (map (λ (d : WrittenColumn). d.name) cs)) c.as_slice.ensures) ∙ c.if-repeats_name.false),
-  create_loads it c.args.loading kept c.args.table c.args.columns c.add_table.new.tables (c.in_ok-add_table.ensures it.users (made_table (created_table c.args.table c.args.columns)) (sorted_users it is) kept.shows.tables),
+  create_loads it c.args.loading kept c.args.table c.args.columns c.add_table.new.tables (c.in_ok-add_table.ensures it.users (made_table (created_table c.args.table c.args.columns)) (sorted_users it sound) kept.shows.tables),
 )

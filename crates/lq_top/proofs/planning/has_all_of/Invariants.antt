@@ -1,6 +1,6 @@
-use Rattle.std.proofs.Common.{length, map, ◌≡◌}
-use Rattle.std.specs.List.{list_all, list_any}
-use Rattle.lq_top.specs.HeldFit.{has_all, has_some, has_table}
+use Rattle.std.proofs.Common.{length, ◌≡◌}
+use Rattle.std.specs.List.{list_all}
+use Rattle.lq_top.specs.HeldFit.{has_table}
 use Rattle.lq_top.proofs.planning.has_all_of.Given as goal
 
 abbrev pub invariant-loop-rest : goal.invariant-loop-rest

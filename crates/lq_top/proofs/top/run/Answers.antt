@@ -3,7 +3,7 @@ use Rattle.lq_outside.specs.Sink.{IsPart}
 use Rattle.lq_top.proofs.Barred.{barred_words, barred_work}
 use Rattle.lq_top.proofs.Became.{was_updated}
 use Rattle.lq_top.proofs.GoneBack.{no_refusal, some_words, went_back}
-use Rattle.lq_held.proofs.Once.{once}
+use Rattle.lq_held.proofs.Journal.{once}
 use Rattle.lq_top.proofs.Statuses.{barred_of, left_of, not_worked, taken_of, usage_only}
 use Rattle.lq_top.specs.Work.{output_on}
 use Rattle.lq_top.proofs.top.run.Goals as goal

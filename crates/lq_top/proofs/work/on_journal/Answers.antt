@@ -1,5 +1,6 @@
 use Rattle.std.proofs.Common.{subst, sym}
 use Rattle.lq_journal.specs.State.{disk_of, used_of}
+use Rattle.lq_create.specs.Started.{tracking_of}
 use Rattle.lq_top.proofs.Planned.{carried_of, undone_of}
 use Rattle.lq_top.proofs.Runs.{is_run}
 use Rattle.lq_top.specs.Left.{IsRun}
@@ -8,7 +9,7 @@ use Rattle.lq_top.proofs.work.on_journal.Goals as goal
 pub carry-requires-clause-run : goal.carry-requires-clause-run
 carry-requires-clause-run g c =
     let is = c.in-Ok.ensures.planned (g.D.Disk.told (disk_of c.args.journal)) (used_of c.args.journal) c.requires.journal c.requires.used in
-    subst IsRun (sym is.entries) (is_run c.args.job c.args.stamp.now c.args.path.now c.args.sets.now is.task.database.has_log is.task.database.rows)
+    subst IsRun (sym is.entries) (is_run c.args.job c.args.stamp.now c.args.path.now c.args.sets.now (tracking_of is.task.database) is.task.database.rows)
 
 pub returns-in-Ok-clause-done : goal.returns-in-Ok-clause-done
 returns-in-Ok-clause-done g c =
