@@ -421,24 +421,26 @@ fn not_taken(rt: HostRuntime) {
     assert!(rt; ran.status == Status::Done);
 }
 
+// Updates the database of a journal with these texts: the first entry of the update has these.
+fn assert_opens(rt: &impl Abort, alloc: Global, texts: &[&str], opening: &[&str]) {
+    let bytes = journal_of(rt, alloc, texts);
+    let before = entries_of(rt, alloc, &bytes).len();
+    let ran = run_over(rt, alloc, &UPDATE, ONE, &bytes, NONE);
+    assert!(rt; ran.status == Status::Done);
+    let entries = entries_of(rt, alloc, &ran.bytes);
+    match entries.as_slice().get(before) {
+        Some(entry) => assert_texts(rt, entry, opening),
+        None => assert!(rt; false, "an opening"),
+    }
+}
+
 // Each of the tracking tables is made where it is missing.
 #[test]
 fn opened_partly(rt: HostRuntime) {
     let [log, lock, row] = TABLES;
-    let cases: [(&[&str], &[&str]); 3] = [
-        (&[log, ""], &[lock, row, TAKEN]),
-        (&[lock, ""], &[log, row, TAKEN]),
-        (&[lock, row, "", log, ""], &[TAKEN]),
-    ];
-    for (texts, opening) in cases {
-        let bytes = journal_of(&rt, rt.alloc(), texts);
-        let before = entries_of(&rt, rt.alloc(), &bytes).len();
-        let ran = run_over(&rt, rt.alloc(), &UPDATE, ONE, &bytes, NONE);
-        assert!(rt; ran.status == Status::Done);
-        let entries = entries_of(&rt, rt.alloc(), &ran.bytes);
-        assert_eq!(rt; entries.len(), before + 3);
-        assert_texts(&rt, &entries.as_slice()[before], opening);
-    }
+    assert_opens(&rt, rt.alloc(), &[log, ""], &[lock, row, TAKEN]);
+    assert_opens(&rt, rt.alloc(), &[lock, ""], &[log, row, TAKEN]);
+    assert_opens(&rt, rt.alloc(), &[lock, row, "", log, ""], &[TAKEN]);
 }
 
 #[test]
