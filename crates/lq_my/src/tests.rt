@@ -1,6 +1,10 @@
+ghost use Rattle.std.specs.Prelude.{◌≡◌, true};
+ghost use Rattle.lq_model.specs.Statement.{is_statement};
+
 use crate::My;
-use lq_base::Name;
+use lq_base::{Name, NoMemory, Text};
 use lq_model::{ParseFault, SqlText, Statement};
+use std::alloc::Global;
 use std::process::Abort;
 
 // What an answer is, in a word.
@@ -12,11 +16,21 @@ fn told<T: Drop>(answer: Result<T, ParseFault>) -> &'static str {
     }
 }
 
+// The statement goes where its text is made.
+fn printed<P: SqlText>(sql: &P, alloc: Global, statement: Statement) -> Result<Text, NoMemory>
+    requires { is_statement P.dialect statement ≡ true }
+{
+    sql.print(alloc, &statement)
+}
+
+fn drop_text(alloc: Global, table: Name) -> Result<Text, NoMemory> {
+    printed(&My, alloc, Statement::DropTable { table })
+}
+
 #[test]
 fn prints_a_statement(rt: HostRuntime) {
     let table = Name::new(rt.alloc(), "t").expect(&rt, "a name");
-    let statement = Statement::DropTable { table };
-    let text = My.print(rt.alloc(), &statement).expect(&rt, "memory");
+    let text = drop_text(rt.alloc(), table).expect(&rt, "memory");
     assert_eq!(rt; text.as_str(), "DROP TABLE `t`");
 }
 
