@@ -108,7 +108,7 @@ no_is op.Ge rest = refl
 
 -- where a loop of the grammar does nothing
 
-no_not : (p : Parser Test) (i : List Word) → sees word.Not i ≡ false → negation most p i ≡ p i
+pub no_not : (p : Parser Test) (i : List Word) → sees word.Not i ≡ false → negation most p i ≡ p i
 unfolding negation after
 no_not p i h = rw h refl
 
@@ -134,17 +134,17 @@ sum_one : (p : Parser Test) (i j : List Word) (t : Test) → sees word.Not i ≡
 unfolding sum product term
 sum_one p i j t n e end = rw (no_not p i n, e, no_and (negation most p) t j end.and, no_or (product p) t j end.or) refl
 
-fewer_not : (m : ℕ) (p : Parser Test) (i : List Word) → sees word.Not i ≡ false → negation m p i ≡ p i
+pub fewer_not : (m : ℕ) (p : Parser Test) (i : List Word) → sees word.Not i ≡ false → negation m p i ≡ p i
 unfolding negation after
 fewer_not zero p i h = refl
 fewer_not (suc m) p i h = rw h refl
 
-and_stops : (p : Parser Test) (m : ℕ) (t : Test) (i : List Word) → sees word.And i ≡ false → conjunction p m t i ≡ Some (t, i)
+pub and_stops : (p : Parser Test) (m : ℕ) (t : Test) (i : List Word) → sees word.And i ≡ false → conjunction p m t i ≡ Some (t, i)
 unfolding conjunction after
 and_stops p zero t i h = refl
 and_stops p (suc m) t i h = rw h refl
 
-or_stops : (p : Parser Test) (m : ℕ) (t : Test) (i : List Word) → sees word.Or i ≡ false → disjunction p m t i ≡ Some (t, i)
+pub or_stops : (p : Parser Test) (m : ℕ) (t : Test) (i : List Word) → sees word.Or i ≡ false → disjunction p m t i ≡ Some (t, i)
 unfolding disjunction after
 or_stops p zero t i h = refl
 or_stops p (suc m) t i h = rw h refl
@@ -188,7 +188,7 @@ operand_begins (side.Literal (constant.Text s)) rest = (refl, refl)
 operand_begins (side.Literal (constant.Int n)) rest = (refl, refl)
 operand_begins (side.Literal (constant.Fixed u s)) rest = (refl, refl)
 
-begins : (t : Test) (rest : List Word) → sees word.Not (test_words t rest) ≡ false
+pub begins : (t : Test) (rest : List Word) → sees word.Not (test_words t rest) ≡ false
 unfolding sees same_kind
 begins (Compare o x y) rest = (operand_begins x _).0
 begins (IsNull x) rest = (operand_begins x _).0

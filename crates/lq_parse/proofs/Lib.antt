@@ -1,6 +1,7 @@
 pub mod Again
 pub mod Bytes
 pub mod CanWrite
+pub mod Escapes
 pub mod Fronts
 pub mod Levels
 pub mod Lists
@@ -9,6 +10,7 @@ pub mod Makes
 pub mod Meaning
 pub mod NumberMakes
 pub mod Numbers
+pub mod Precedence
 pub mod QueryAgain
 pub mod Quotes
 pub mod ReadBack

@@ -1,21 +1,26 @@
 -- What changes nothing in what a text means.
-use Rattle.std.proofs.Common.{◌≡◌, ℕ, false, List, [], ◌∷◌, ◌++◌, map, Some, option_map, cond, ap, ◌∙◌, sym, refl}
+use Rattle.std.proofs.Common.{◌≡◌, ℕ, Bool, true, false, if◌then◌else◌, List, [], ◌∷◌, ◌++◌, map, Some, None, option_map, cond, ap, ◌∙◌, sym, refl}
+use Rattle.std.specs.Char.{to_ascii_lowercase}
 use Rattle.std.specs.List.{flat_map}
+use Rattle.std.specs.Prelude.{codes}
 use Rattle.std.specs.Str.{bytes_eq, str_eq_ignore_ascii_case, str_to_ascii_lowercase}
 use Rattle.std.proofs.lemmas.Slice.Eq.{bytes_eq-Decides}
+use Rattle.std.proofs.lemmas.Str.Ascii.{lowercase-lowercase}
 use Rattle.lq_base.specs.SqlLexeme.{lexemes}
 use Rattle.lq_base.specs.declared.dialect.Dialect.{Dialect}
-use Rattle.lq_base.specs.declared.dialect.Dialect.TheVariants.{Postgresql}
+use Rattle.lq_base.specs.declared.dialect.Dialect.TheVariants.{Mysql, Postgresql}
 use Rattle.lq_base.specs.declared.lexeme.LexemeSort.{LexemeSort}
 use Rattle.lq_base.specs.declared.lexeme.LexemeSort.TheVariants as sort
+use Rattle.lq_model.specs.SqlParser.{after, expect, same_kind, sees}
 use Rattle.lq_model.specs.SqlPart.{name}
+use Rattle.lq_model.specs.SqlQuery.{count, query, sees_count, selected}
 use Rattle.lq_model.specs.SqlText.{query_in, test_in}
-use Rattle.lq_model.specs.SqlWord.{folded, kind_in, kind_of_word, may_be_name, unquoted_word, words, words_of}
+use Rattle.lq_model.specs.SqlWord.{bare, folded, kind_in, kind_of_word, may_be_name, unquoted_word, with_text, words, words_of}
 use Rattle.lq_model.specs.declared.word.TheConstants.{SPELLINGS}
 use Rattle.lq_model.specs.declared.word.Word.{Word}
 use Rattle.lq_model.specs.declared.word.WordKind.{WordKind}
 use Rattle.lq_model.specs.declared.word.WordKind.TheVariants as word
-use Rattle.lq_parse.specs.Laws.{BlanksChangeNothing, CaseChangesNothing, NamesNeedNoQuotes, ReservedWordsInAnyCase, UnequalIsOneMark, WordsInAnyCase, without_trivia}
+use Rattle.lq_parse.specs.Laws.{BlanksChangeNothing, CaseChangesNothing, CountInAnyCase, KeywordsInAnyCase, NamesNeedNoQuotes, ReservedWordsInAnyCase, SpellingsChangeNothing, UnequalIsOneMark, WordsAreTheMeaning, WordsInAnyCase, plain, plain_bytes, without_trivia}
 
 abbrev all_words : Dialect → List (LexemeSort × List ℕ) → List Word
 all_words d = flat_map (λ lexeme. words_of d lexeme.0 lexeme.1)
@@ -43,11 +48,12 @@ words_same d a b found other is_a is_b same =
     ∙ ap (λ ws. Some ws) (kept_same d found ∙ ap (all_words d) same ∙ sym (kept_same d other))
     ∙ sym (ap (option_map (all_words d)) is_b)
 
-pub blanks_change_nothing : BlanksChangeNothing
+pub words_are_the_meaning : WordsAreTheMeaning
 unfolding test_in query_in
-blanks_change_nothing d a b found other is_a is_b same =
-    let equal = words_same d a b found other is_a is_b same in
-    (rw equal refl, rw equal refl)
+words_are_the_meaning d e a b same = (rw same refl, rw same refl)
+
+pub blanks_change_nothing : BlanksChangeNothing
+blanks_change_nothing d a b found other is_a is_b same = words_are_the_meaning d d a b (words_same d a b found other is_a is_b same)
 
 -- the kind depends on the word in small letters alone
 kind_by : (spellings : List (List ℕ × WordKind)) (other : WordKind) (a b : List ℕ) → str_to_ascii_lowercase a ≡ str_to_ascii_lowercase b → kind_in spellings other a ≡ kind_in spellings other b
@@ -80,3 +86,83 @@ unequal_is_one_mark = refl
 pub names_need_no_quotes : NamesNeedNoQuotes
 unfolding name
 names_need_no_quotes kind said rest is = rw is refl
+
+-- an unquoted word is of its kind, whether or not it may be a name
+kind_is : (k : WordKind) (name : List ℕ) → (unquoted_word k name).kind ≡ k
+kind_is k name =
+    by (may_be_name k)
+  where
+    by : (can : Bool) → (if can then with_text k name else bare k).kind ≡ k
+    by true = refl
+    by false = refl
+
+pub keywords_in_any_case : KeywordsInAnyCase
+unfolding sees expect
+keywords_in_any_case d k a b rest same =
+    let alike : (unquoted_word (kind_of_word word.Plain a) (folded d a)).kind ≡ (unquoted_word (kind_of_word word.Plain b) (folded d b)).kind =
+    kind_is (kind_of_word word.Plain a) (folded d a) ∙ case_changes_nothing word.Plain a b same ∙ sym (kind_is (kind_of_word word.Plain b) (folded d b)) in
+    (ap (λ found. same_kind found k) alike, ap (λ found. if same_kind found k then Some (tt, rest) else None) alike)
+
+counts_same : (a b : List ℕ) (rest : List Word) → query (bare word.Select ∷ with_text word.Count a ∷ bare word.Open ∷ rest) ≡ query (bare word.Select ∷ with_text word.Count b ∷ bare word.Open ∷ rest)
+unfolding query selected sees_count count sees after expect same_kind
+counts_same a b rest = refl
+
+count_word : kind_of_word word.Plain (codes "COUNT") ≡ word.Count
+unfolding kind_of_word
+count_word = refl
+
+count_by : (d : Dialect) (a : List ℕ) (rest : List Word) → kind_of_word word.Plain a ≡ word.Count
+    → query (bare word.Select ∷ (words_of d sort.Word a ++ (bare word.Open ∷ rest))) ≡ query (bare word.Select ∷ with_text word.Count (folded d a) ∷ bare word.Open ∷ rest)
+count_by d a rest is = ap (λ k. query (bare word.Select ∷ unquoted_word k (folded d a) ∷ bare word.Open ∷ rest)) is
+
+pub count_in_any_case : CountInAnyCase
+count_in_any_case d a rest same =
+    count_by d a rest (case_changes_nothing word.Plain a (codes "COUNT") same ∙ count_word)
+    ∙ counts_same (folded d a) (folded d (codes "COUNT")) rest
+    ∙ sym (count_by d (codes "COUNT") rest count_word)
+
+-- the plain spelling has the same words
+
+small_twice : (bytes : List ℕ) → map to_ascii_lowercase (map to_ascii_lowercase bytes) ≡ map to_ascii_lowercase bytes
+small_twice [] = refl
+small_twice (b ∷ bytes) = rw (lowercase-lowercase b, small_twice bytes) refl
+
+small_same : (bytes : List ℕ) → str_eq_ignore_ascii_case bytes (map to_ascii_lowercase bytes) ≡ true
+small_same bytes = (bytes_eq-Decides (str_to_ascii_lowercase bytes) (str_to_ascii_lowercase (map to_ascii_lowercase bytes))).1 (sym (small_twice bytes))
+
+plain_word : (d : Dialect) (bytes : List ℕ) (can : Bool) → may_be_name (kind_of_word word.Plain bytes) ≡ can
+    → words_of d sort.Word bytes ≡ words_of d sort.Word (if can then folded d bytes else map to_ascii_lowercase bytes)
+plain_word Postgresql bytes true is = words_in_any_case bytes (map to_ascii_lowercase bytes) (small_same bytes)
+plain_word Mysql bytes true is = refl
+plain_word d bytes false is = reserved_words_in_any_case d bytes (map to_ascii_lowercase bytes) (small_same bytes) is
+
+plain_mark : (d : Dialect) (bytes : List ℕ) (unequal : Bool) → bytes_eq bytes (codes "!=") ≡ unequal → words_of d sort.Mark bytes ≡ words_of d sort.Mark (if unequal then codes "<>" else bytes)
+plain_mark d bytes true is =
+    ap (λ found. words_of d sort.Mark found) ((bytes_eq-Decides bytes (codes "!=")).0 is) ∙ ap (λ k. bare k ∷ []) unequal_is_one_mark
+plain_mark d bytes false is = refl
+
+plain_same : (d : Dialect) (s : LexemeSort) (bytes : List ℕ) → words_of d s bytes ≡ words_of d s (plain_bytes d s bytes)
+plain_same d sort.Word bytes = plain_word d bytes (may_be_name (kind_of_word word.Plain bytes)) refl
+plain_same d sort.Mark bytes = plain_mark d bytes (bytes_eq bytes (codes "!=")) refl
+plain_same d sort.Blank bytes = refl
+plain_same d sort.LineComment bytes = refl
+plain_same d sort.BlockComment bytes = refl
+plain_same d sort.Name bytes = refl
+plain_same d sort.Text bytes = refl
+plain_same d sort.Number bytes = refl
+
+all_plain : (d : Dialect) (found : List (LexemeSort × List ℕ)) → all_words d found ≡ all_words d (map (plain d) found)
+all_plain d [] = refl
+all_plain d (lexeme ∷ more) =
+    ap (λ ws. ws ++ all_words d more) (plain_same d lexeme.0 lexeme.1) ∙ ap (λ ws. words_of d lexeme.0 (plain_bytes d lexeme.0 lexeme.1) ++ ws) (all_plain d more)
+
+pub spellings_change_nothing : SpellingsChangeNothing
+unfolding words
+spellings_change_nothing d a b found other is_a is_b same =
+    words_are_the_meaning d d a b
+    (ap (option_map (all_words d)) is_a
+    ∙ ap (λ ws. Some ws) (plainly found ∙ ap (all_words d) same ∙ sym (plainly other))
+    ∙ sym (ap (option_map (all_words d)) is_b))
+  where
+    plainly : (lexemes : List (LexemeSort × List ℕ)) → all_words d lexemes ≡ all_words d (map (plain d) (without_trivia lexemes))
+    plainly lexemes = kept_same d lexemes ∙ all_plain d (without_trivia lexemes)

@@ -79,11 +79,11 @@ op_says below Mysql op.Ge rest = between below Mysql (codes ">=") rest word.AtLe
 
 -- words
 
-and_says : Below → (d : Dialect) (rest : List ℕ) → Says d (text.words phrase.And) (λ ws. bare word.And ∷ ws) rest
+pub and_says : Below → (d : Dialect) (rest : List ℕ) → Says d (text.words phrase.And) (λ ws. bare word.And ∷ ws) rest
 unfolding text.words kind_of_word
 and_says below d rest = blank_says below.go_on d (codes "AND " ++ rest) ∙ keyword_says below.go_on d 65 (codes "ND") rest (bare word.And) refl refl
 
-or_says : Below → (d : Dialect) (rest : List ℕ) → Says d (text.words phrase.Or) (λ ws. bare word.Or ∷ ws) rest
+pub or_says : Below → (d : Dialect) (rest : List ℕ) → Says d (text.words phrase.Or) (λ ws. bare word.Or ∷ ws) rest
 unfolding text.words kind_of_word
 or_says below d rest = blank_says below.go_on d (codes "OR " ++ rest) ∙ keyword_says below.go_on d 79 (codes "R") rest (bare word.Or) refl refl
 
