@@ -20,7 +20,7 @@ pub neither : (x y : Bool) → (x || y) ≡ false → (x ≡ false) × (y ≡ fa
 neither true y e = absurd cc
 neither false y e = (refl, e)
 
-together : (x y : Bool) → (x || y) ≡ true → ((x && x) || y) ≡ true
+pub together : (x y : Bool) → (x || y) ≡ true → ((x && x) || y) ≡ true
 together true y e = refl
 together false y e = e
 

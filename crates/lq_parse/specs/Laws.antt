@@ -70,8 +70,9 @@ escape_meanings =
 
 -- in a string of mysql, between any two texts, these bytes stand for that text
 abbrev pub StandsFor : List ℕ → List ℕ → Type 0
-StandsFor bytes meant = (quote : ℕ) (front back : List ℕ) →
-    words_of Mysql sort.Text (quote ∷ (doubled true quote front ++ (bytes ++ (doubled true quote back ++ quote ∷ [])))) ≡ with_text word.Text (front ++ (meant ++ back)) ∷ []
+StandsFor bytes meant = (quote : ℕ) (front back rest : List ℕ) → is_text_quote Mysql quote ≡ true → (slice_index rest 0 == quote) ≡ false
+    → words Mysql ((quote ∷ (doubled true quote front ++ (bytes ++ (doubled true quote back ++ quote ∷ [])))) ++ rest)
+    ≡ option_map (λ more. with_text word.Text (front ++ (meant ++ back)) ∷ more) (words Mysql rest)
 
 abbrev pub EscapesAreRead : Type 0
 EscapesAreRead = All (λ escape. StandsFor escape.0 escape.1) escape_meanings

@@ -112,12 +112,16 @@ pub fn quoted_names_are_one_word()
 /// What the escapes of strings in mysql stand for.
 pub fn escapes_are_read()
     ensures { EscapesAreRead }
-{}
+{
+    lexemes_go_on();
+}
 
 /// In mysql a backslash says nothing before a character that makes no escape with it.
 pub fn other_backslashes_fall_away()
     ensures { OtherBackslashesFallAway }
-{}
+{
+    lexemes_go_on();
+}
 
 /// NOT binds tighter than AND, and AND tighter than OR; AND and OR bind to the left.
 pub fn not_and_or_bind_in_turn()
