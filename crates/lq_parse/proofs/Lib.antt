@@ -12,6 +12,7 @@ pub mod NumberMakes
 pub mod Numbers
 pub mod Precedence
 pub mod QueryAgain
+pub mod QuotedNames
 pub mod Quotes
 pub mod ReadBack
 pub mod Spoken

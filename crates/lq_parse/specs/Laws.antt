@@ -111,6 +111,14 @@ UnequalIsOneMark = kind_of_word word.Unknown (codes "!=") ≡ kind_of_word word.
 abbrev pub NamesNeedNoQuotes : Type 0
 NamesNeedNoQuotes = (kind : WordKind) (said : List ℕ) (rest : List Word) → may_be_name kind ≡ true → name (with_text kind said ∷ rest) ≡ name (with_text word.Quoted said ∷ rest)
 
+-- a word that may be a name, as that name in its quotes
+abbrev pub in_its_quotes : Word → Word
+in_its_quotes said = if may_be_name said.kind then with_text word.Quoted said.text else said
+
+-- so in a test each name may stand in its quotes or without
+abbrev pub QuotesChangeNoTest : Type 0
+QuotesChangeNoTest = (d e : Dialect) (a b : List ℕ) → option_map (map in_its_quotes) (words d a) ≡ option_map (map in_its_quotes) (words e b) → test_in d a ≡ test_in e b
+
 -- a lexeme in its plain spelling: reserved words in small letters, in postgresql all unquoted words, and `<>` for `!=`
 abbrev pub plain_bytes : Dialect → LexemeSort → List ℕ → List ℕ
 plain_bytes d sort.Word bytes = if may_be_name (kind_of_word word.Plain bytes) then folded d bytes else map to_ascii_lowercase bytes
