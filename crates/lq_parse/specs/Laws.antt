@@ -10,7 +10,7 @@ use Rattle.lq_base.specs.declared.dialect.Dialect.TheVariants.{Mysql, Postgresql
 use Rattle.lq_base.specs.declared.lexeme.LexemeSort.{LexemeSort}
 use Rattle.lq_base.specs.declared.lexeme.LexemeSort.TheVariants as sort
 use Rattle.lq_model.specs.SqlText.{query_in, test_in}
-use Rattle.lq_model.specs.SqlParser.{expect, sees}
+use Rattle.lq_model.specs.SqlParser.{expect, same_kind, sees}
 use Rattle.lq_model.specs.SqlPart.{name}
 use Rattle.lq_model.specs.SqlQuery.{query}
 use Rattle.lq_model.specs.SqlWord.{bare, folded, kind_of_word, may_be_name, with_text, words, words_of}
@@ -118,6 +118,14 @@ in_its_quotes said = if may_be_name said.kind then with_text word.Quoted said.te
 -- so in a test each name may stand in its quotes or without
 abbrev pub QuotesChangeNoTest : Type 0
 QuotesChangeNoTest = (d e : Dialect) (a b : List ℕ) → option_map (map in_its_quotes) (words d a) ≡ option_map (map in_its_quotes) (words e b) → test_in d a ≡ test_in e b
+
+-- COUNT stays what it is, since it may be the count
+abbrev pub but_count : Word → Word
+but_count said = if same_kind said.kind word.Count then said else in_its_quotes said
+
+-- likewise in a query, but for COUNT
+abbrev pub QuotesChangeNoQuery : Type 0
+QuotesChangeNoQuery = (d e : Dialect) (a b : List ℕ) → option_map (map but_count) (words d a) ≡ option_map (map but_count) (words e b) → query_in d a ≡ query_in e b
 
 -- a lexeme in its plain spelling: reserved words in small letters, in postgresql all unquoted words, and `<>` for `!=`
 abbrev pub plain_bytes : Dialect → LexemeSort → List ℕ → List ℕ

@@ -1,7 +1,7 @@
 //! What holds of the definitions that the contracts cite. Each function calls those whose laws it
 //! stands on, and its contract is the law.
 
-ghost use Rattle.lq_parse.specs.Laws.{BlanksChangeNothing, CaseChangesNothing, CountInAnyCase, EscapesAreRead, KeywordsInAnyCase, NamesNeedNoQuotes, NotAndOrBindInTurn, OtherBackslashesFallAway, QueriesCanBeWritten, QueriesReadBack, QuotedNamesAreOneWord, QuotesChangeNoTest, ReservedWordsInAnyCase, SpellingsChangeNothing, StringsAreOneWord, TestsCanBeWritten, TestsReadBack, UnequalIsOneMark, WordsAreTheMeaning, WordsInAnyCase};
+ghost use Rattle.lq_parse.specs.Laws.{BlanksChangeNothing, CaseChangesNothing, CountInAnyCase, EscapesAreRead, KeywordsInAnyCase, NamesNeedNoQuotes, NotAndOrBindInTurn, OtherBackslashesFallAway, QueriesCanBeWritten, QueriesReadBack, QuotedNamesAreOneWord, QuotesChangeNoQuery, QuotesChangeNoTest, ReservedWordsInAnyCase, SpellingsChangeNothing, StringsAreOneWord, TestsCanBeWritten, TestsReadBack, UnequalIsOneMark, WordsAreTheMeaning, WordsInAnyCase};
 
 use lq_base::laws::{fixed_reads_back, number_of_spells, spells_gives_number_of};
 use lq_sqllex::laws::{lexemes_go_on, names_are_read, texts_are_read};
@@ -137,4 +137,9 @@ pub fn not_and_or_bind_in_turn()
 /// In a test each name may stand in its quotes or, where it is no reserved word, without.
 pub fn quotes_change_no_test()
     ensures { QuotesChangeNoTest }
+{}
+
+/// In a query too each name but COUNT may stand in its quotes or without.
+pub fn quotes_change_no_query()
+    ensures { QuotesChangeNoQuery }
 {}
