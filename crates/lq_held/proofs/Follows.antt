@@ -55,7 +55,7 @@ defs_stated (c ∷ cs) h =
     let here = and_left (is_column c) _ h in
     and_true _ _ (and_true _ _ (and_left (is_name c.name) _ here) (and_true _ _ (and_right (is_name c.name) _ here) refl)) (defs_stated cs (and_right (is_column c) _ h))
 
-table_stated : (table : Name) (cs : List WrittenColumn) → is_written (TableCreated table cs) ≡ true → is_statement Postgresql (statement_of (TableCreated table cs)) ≡ true
+pub table_stated : (table : Name) (cs : List WrittenColumn) → is_written (TableCreated table cs) ≡ true → is_statement Postgresql (statement_of (TableCreated table cs)) ≡ true
 table_stated table [] h = true_false (and_right (is_users table) _ h) refl
 table_stated table (c ∷ cs) h =
     and_true _ _ (and_left (is_name table) _ (and_left (is_users table) _ h)) (and_true _ _ (defs_stated (c ∷ cs) (and_right (is_users table) _ h)) refl)

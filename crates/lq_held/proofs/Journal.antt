@@ -3,24 +3,29 @@ use Rattle.std.proofs.Common.{ap, sym, ◌∙◌, arith}
 use Rattle.std.proofs.Math.Path.{subst}
 use Rattle.std.specs.List.{list_all, list_any}
 use Rattle.std.specs.List.Sorted.{IsStrictlySortedBy}
-use Rattle.std.specs.Prelude.{Bool, List, None, Option, Some, [], cond, false, is_some, length, nat_eq, nat_lt, not, option_and_then, refl, true, ℕ, ◌&&◌, ◌++◌, ◌||◌, ◌∷◌, ◌≡◌}
+use Rattle.std.specs.Prelude.{Bool, List, None, Option, Some, [], cond, false, is_some, nat_eq, nat_lt, not, option_and_then, refl, true, ℕ, ◌&&◌, ◌++◌, ◌||◌, ◌∷◌, ◌≡◌}
 use Rattle.lq_base.specs.declared.dialect.Dialect.TheVariants.{Postgresql}
 use Rattle.lq_base.specs.declared.tracking.Tracked.{Tracked}
-use Rattle.lq_model.proofs.Lists.{and_left, and_right, and_true, any_less, or_left, or_right, true_false, whether}
+use Rattle.lq_model.proofs.Lists.{all_more, and_left, and_right, and_true, any_less, or_left, or_right, true_false, whether}
 use Rattle.lq_model.proofs.Maps.{not_some, some_same}
 use Rattle.lq_base.specs.declared.identity.Identity.{Identity}
 use Rattle.lq_model.specs.Catalogue.{Catalogue, no_objects, table_of}
 use Rattle.lq_model.specs.NameSpaces.{is_taken}
+use Rattle.lq_model.specs.Names.{is_empty}
 use Rattle.lq_model.specs.Sound.{IsSound}
+use Rattle.lq_model.specs.TableNames.{inner_names}
 use Rattle.lq_track.specs.Database.{Database, database_of, has_twin_rows, in_run_order, placed, same_identity}
 use Rattle.lq_track.specs.Lock.{free, lock_key_name, lock_table, taken}
 use Rattle.lq_track.specs.Log.{identity_of, log_table}
 use Rattle.lq_create.proofs.Firm.{sound_firm}
+use Rattle.lq_create.proofs.RefusedRoom.{has_room}
 use Rattle.lq_create.proofs.RunOrder.{as_many, filter_ran}
+use Rattle.lq_create.specs.Created.{is_plain, is_plain_table}
 use Rattle.lq_create.specs.Started.{StandsFor, no_database}
 use Rattle.lq_held.proofs.Follows.{Ends, all_kept, goes_on, stays}
-use Rattle.lq_held.proofs.Kept.{Kept, names_free, stands, taken_is}
+use Rattle.lq_held.proofs.Kept.{Kept, is_bare, names_free, stands, taken_is}
 use Rattle.lq_held.proofs.Ordered.{all_in_order, any_ran, last_placed, ran_again, twin, twins_last, twins_ran}
+use Rattle.lq_held.proofs.SoundKept.{all_sound}
 use Rattle.lq_held.specs.Goes.{fits, goes, gone, in_order, others, then_all}
 use Rattle.lq_held.specs.Held.{HoldsDatabase, after, after_all}
 use Rattle.lq_held.specs.Laws.{HeldIs, HeldOnce, HeldStarts, HoldsMore}
@@ -149,9 +154,11 @@ held_is texts database h =
         ordered = ap (λ (x : Database). list_all (λ r. nat_lt 0 r.order) x.rows) k.is ∙ all_in_order (λ r. nat_lt 0 r.order) it.rows so.placed;
       };
       catalogue = h.catalogue;
+      sound = all_sound h.written no_objects h.catalogue (told_written texts h.written h.told) nothing_sound h.led;
       stands = stands_in texts database h;
-      few = let same : length database.rows ≡ length it.rows = ap (λ (x : Database). length x.rows) k.is ∙ as_many it.rows in omega (arith, same, so.few);
       unlocked = subst (λ (x : Database). x.lock.locked ≡ false → x.lock ≡ free) (sym k.is) (freed_all h.written no_database it (λ p. refl) k.led);
+      plain = subst (λ (x : Database). is_plain x.users ≡ true) (sym k.is) (all_more (λ e. is_bare e.1) (λ e. is_plain_table e.1) it.users.tables (λ e bare. and_right (is_empty (inner_names e.1)) _ bare) so.bare);
+      views = ap (λ (x : Database). x.users.views) k.is ∙ so.views;
       tables = λ n. subst (λ (x : Database). is_taken Postgresql n x.users ≡ is_some (table_of x.users n)) (sym k.is) (taken_is h.catalogue it.users it.rows it.lock it.has_log it.has_lock it.has_lock_row so n);
     }
 
@@ -164,7 +171,7 @@ held_starts texts database h unlocked =
       users = sound_firm database.users is.is.users;
       names = ap (λ (x : Database). list_any (λ n. is_taken Postgresql n x.users) (log_table ∷ lock_table ∷ lock_key_name Postgresql ∷ [])) k.is
           ∙ names_free h.catalogue it.users it.rows it.lock it.has_log it.has_lock it.has_lock_row k.kept;
-      few = is.few;
+      few = (has_room database is.catalogue is.sound is.stands).0;
       unlocked = unlocked;
     }
 

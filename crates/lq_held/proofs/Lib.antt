@@ -10,6 +10,7 @@ pub mod ReadOn
 pub mod RowsGo
 pub mod RowsIn
 pub mod RowsKept
+pub mod SoundKept
 pub mod TablesKept
 pub mod TablesSet
 pub mod Added

@@ -1,6 +1,6 @@
 -- Laws of what a journal holds.
 use Rattle.std.specs.List.{flat_map, list_all}
-use Rattle.std.specs.Prelude.{Bool, List, [], false, is_some, length, map, not, reverse, true, ℕ, ◌&&◌, ◌+◌, ◌++◌, ◌∷◌, ◌≡◌, ◌≤◌}
+use Rattle.std.specs.Prelude.{Bool, List, [], false, is_some, map, not, reverse, true, ℕ, ◌&&◌, ◌+◌, ◌++◌, ◌∷◌, ◌≡◌, ◌≤◌}
 use Rattle.lq_base.specs.Kind.{is_kind}
 use Rattle.lq_base.specs.Name.{is_name}
 use Rattle.lq_base.specs.declared.dialect.Dialect.TheVariants.{Postgresql}
@@ -8,10 +8,12 @@ use Rattle.lq_base.specs.declared.name.Name.{Name}
 use Rattle.lq_model.specs.Catalogue.{Catalogue, table_of}
 use Rattle.lq_model.specs.NameSpaces.{is_taken}
 use Rattle.lq_model.specs.Script.{Call, entries}
+use Rattle.lq_model.specs.Sound.{IsSound}
 use Rattle.lq_model.specs.StatementText.{text_of}
 use Rattle.lq_track.specs.Database.{Database, IsDatabase, SameDatabase, has_twin_rows}
 use Rattle.lq_track.specs.Lock.{free}
 use Rattle.lq_create.specs.Changelog.{is_label}
+use Rattle.lq_create.specs.Created.{is_plain}
 use Rattle.lq_create.specs.Distinct.{created_tables}
 use Rattle.lq_create.specs.Script.{greatest, rollback_script, update_script}
 use Rattle.lq_create.specs.Since.{RanSince}
@@ -30,13 +32,16 @@ use Rattle.lq_written.specs.declared.written.Written.{Written}
 abbrev pub HeldOnce : Type 0
 HeldOnce = (texts : List (List ℕ)) (one other : Database) → HoldsDatabase texts one → HoldsDatabase texts other → one ≡ other
 
--- What a journal holds: a database, which a catalogue is, with at most 100,000 rows and, where the lock is not held, a free lock; of the users' objects it has tables alone.
+-- What a journal holds: a database, which a sound catalogue is. Where the lock is not held, it is free, and the users' objects are plain tables alone.
 pub record IsHeld (database : Database) : Type 0 where
   pub is : IsDatabase Postgresql database
   pub catalogue : Catalogue
+  pub sound : IsSound Postgresql catalogue
   pub stands : StandsFor catalogue database
-  pub few : length database.rows ≤ 100000
   pub unlocked : database.lock.locked ≡ false → database.lock ≡ free
+  pub plain : is_plain database.users ≡ true
+  pub views : database.users.views ≡ []
+  -- only tables have names
   pub tables : (n : Name) → is_taken Postgresql n database.users ≡ is_some (table_of database.users n)
 
 abbrev pub HeldIs : Type 0

@@ -5,7 +5,8 @@ pub fn held_once()
     ensures { HeldOnce }
 {}
 
-/// What a journal holds is a database, and a catalogue is it, of whose objects the users' are tables.
+/// What a journal holds is a database, and a sound catalogue is it, of whose objects the users' are
+/// plain tables alone.
 pub fn held_is()
     ensures { HeldIs }
 {}
