@@ -1,3 +1,4 @@
+pub mod Accepted
 pub mod Back
 pub mod Fault
 pub mod Fit

@@ -5,6 +5,7 @@ mod carrying;
 mod changelog;
 mod changesets;
 mod fault;
+pub mod laws;
 mod log;
 mod opening;
 mod planning;
