@@ -14,7 +14,8 @@ use Rattle.lq_track.specs.Database.{has_twin_rows, in_run_order, placed, same_id
 use Rattle.lq_track.specs.Log.{identity_of}
 use Rattle.lq_held.proofs.Ordered.{any_ran, same_turned, twin}
 use Rattle.lq_held.proofs.RowsKept.{itself, same_is}
-use Rattle.lq_held.specs.Places.{Place, has_row, has_twice, identity_at, place_of, repeats_place}
+use Rattle.lq_held.specs.Identities.{IdentityKey, has_row, has_twice, identity_at, key_of}
+use Rattle.lq_held.specs.Order.{repeats_place}
 
 abbrev pub pairs : List Tracked → List (ℕ × Tracked)
 pairs rows = map (λ r. (r.order, r)) rows
@@ -95,19 +96,19 @@ behind_all all old entries none b =
 
 -- no two rows are twins where none have one identity, nor one place
 
-own_place : (r s : Tracked) → same_identity (identity_of s) (identity_at (place_of (identity_of r))) ≡ same_identity (identity_of r) (identity_of s)
-own_place r s = same_turned (identity_of s) (identity_of r)
+own_key : (r s : Tracked) → same_identity (identity_of s) (identity_at (key_of (identity_of r))) ≡ same_identity (identity_of r) (identity_of s)
+own_key r s = same_turned (identity_of s) (identity_of r)
 
-none_like : (r : Tracked) (rs : List Tracked) → has_row rs (place_of (identity_of r)) ≡ false → list_any (λ s. nat_eq r.order s.order) rs ≡ false → list_any (twin r) rs ≡ false
+none_like : (r : Tracked) (rs : List Tracked) → has_row rs (key_of (identity_of r)) ≡ false → list_any (λ s. nat_eq r.order s.order) rs ≡ false → list_any (twin r) rs ≡ false
 none_like r [] a b = refl
 none_like r (s ∷ rs) a b =
-    or_false _ _ (or_false _ _ (sym (own_place r s) ∙ or_left (same_identity (identity_of s) (identity_of r)) _ a) (or_left (nat_eq r.order s.order) _ b))
+    or_false _ _ (or_false _ _ (sym (own_key r s) ∙ or_left (same_identity (identity_of s) (identity_of r)) _ a) (or_left (nat_eq r.order s.order) _ b))
     (none_like r rs (or_right (same_identity (identity_of s) (identity_of r)) _ a) (or_right (nat_eq r.order s.order) _ b))
 
-pub no_twins : (rows : List Tracked) → ((p : Place) → has_twice rows p ≡ false) → repeats_place rows ≡ false → has_twin_rows rows ≡ false
+pub no_twins : (rows : List Tracked) → ((p : IdentityKey) → has_twice rows p ≡ false) → repeats_place rows ≡ false → has_twin_rows rows ≡ false
 no_twins [] once apart = refl
 no_twins (r ∷ rows) once apart =
-    let p = place_of (identity_of r) in
+    let p = key_of (identity_of r) in
     let mine = or_left (same_identity (identity_of r) (identity_of r) && has_row rows p) _ (once p) in
     or_false _ _ (none_like r rows (sym (ap (λ b. b && has_row rows p) (itself (identity_of r))) ∙ mine) (or_left (list_any (λ s. nat_eq r.order s.order) rows) _ apart))
     (no_twins rows (λ q. or_right (same_identity (identity_of r) (identity_at q) && has_row rows q) _ (once q)) (or_right (list_any (λ s. nat_eq r.order s.order) rows) _ apart))
@@ -133,12 +134,12 @@ pub twins_by_place : (rows : List Tracked) → repeats_place rows ≡ true → h
 twins_by_place [] h = h
 twins_by_place (r ∷ rows) h = or_both (list_any (λ s. nat_eq r.order s.order) rows) _ (list_any (twin r) rows) _ (some_like r rows) (twins_by_place rows) h
 
-like_rows : (r : Tracked) (rs : List Tracked) (p : Place) → same_identity (identity_of r) (identity_at p) ≡ true → has_row rs p ≡ true → list_any (twin r) rs ≡ true
+like_rows : (r : Tracked) (rs : List Tracked) (p : IdentityKey) → same_identity (identity_of r) (identity_at p) ≡ true → has_row rs p ≡ true → list_any (twin r) rs ≡ true
 like_rows r [] p is h = h
 like_rows r (s ∷ rs) p is h = or_both (same_identity (identity_of s) (identity_at p)) _ (twin r s) _
     (λ there. ap (λ b. b || nat_eq r.order s.order) (ap (λ i. same_identity i (identity_of s)) (same_is (identity_of r) (identity_at p) is) ∙ same_turned (identity_at p) (identity_of s) ∙ there)) (like_rows r rs p is) h
 
-pub twins_by_identity : (rows : List Tracked) (p : Place) → has_twice rows p ≡ true → has_twin_rows rows ≡ true
+pub twins_by_identity : (rows : List Tracked) (p : IdentityKey) → has_twice rows p ≡ true → has_twin_rows rows ≡ true
 twins_by_identity [] p h = h
 twins_by_identity (r ∷ rows) p h = or_both (same_identity (identity_of r) (identity_at p) && has_row rows p) _ (list_any (twin r) rows) _
     (λ both. like_rows r rows p (and_left (same_identity (identity_of r) (identity_at p)) _ both) (and_right (same_identity (identity_of r) (identity_at p)) _ both)) (λ more. twins_by_identity rows p more) h

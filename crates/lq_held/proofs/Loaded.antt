@@ -20,7 +20,7 @@ use Rattle.lq_create.specs.Distinct.{repeats}
 use Rattle.lq_create.specs.declared.tracking.TrackingTables.{TrackingTables}
 use Rattle.lq_held.specs.Goes.{fits, goes, gone, in_order, others}
 use Rattle.lq_held.specs.Loads.{Loads}
-use Rattle.lq_held.specs.Places.{HasPlaces, HasTwins, Place}
+use Rattle.lq_held.specs.Identities.{HasIdentities, HasTwins, IdentityKey}
 use Rattle.lq_held.specs.Shows.{HasTables, Shows}
 use Rattle.lq_held.specs.declared.loading.Loading.{Loading}
 use Rattle.lq_written.specs.Written.{tracked_of}
@@ -50,21 +50,21 @@ module _ (it : Database) (loading : Loading) (kept : Loads it loading) where
   pub log_loads : Loads (gone LogMade it) (record loading { held = record loading.held { tracking = record loading.held.tracking { log = true } } })
   log_loads = record {
     shows = record { tracking = ap (λ (t : TrackingTables). record t { log = true }) kept.shows.tracking; tables = kept.shows.tables; rows = kept.shows.rows; locked = kept.shows.locked; free = kept.shows.free };
-    places = kept.places;
+    identities = kept.identities;
     twins = kept.twins;
   }
 
   pub lock_loads : Loads (gone LockMade it) (record loading { held = record loading.held { tracking = record loading.held.tracking { lock = true } } })
   lock_loads = record {
     shows = record { tracking = ap (λ (t : TrackingTables). record t { lock = true }) kept.shows.tracking; tables = kept.shows.tables; rows = kept.shows.rows; locked = kept.shows.locked; free = kept.shows.free };
-    places = kept.places;
+    identities = kept.identities;
     twins = kept.twins;
   }
 
   pub row_loads : Loads (gone LockRowMade it) (record loading { held = record loading.held { tracking = record loading.held.tracking { lock_row = true } } })
   row_loads = record {
     shows = record { tracking = ap (λ (t : TrackingTables). record t { lock_row = true }) kept.shows.tracking; tables = kept.shows.tables; rows = kept.shows.rows; locked = kept.shows.locked; free = kept.shows.free };
-    places = kept.places;
+    identities = kept.identities;
     twins = kept.twins;
   }
 
@@ -88,7 +88,7 @@ module _ (it : Database) (loading : Loading) (kept : Loads it loading) where
       locked = ap (λ b. (cond b (taken at by) it.lock).locked) (sym (sym row_is ∙ there));
       free = λ h. true_false refl h;
     };
-    places = kept.places;
+    identities = kept.identities;
     twins = kept.twins;
   }
 
@@ -97,12 +97,12 @@ module _ (it : Database) (loading : Loading) (kept : Loads it loading) where
       let same : cond it.has_lock_row (taken at by) it.lock ≡ it.lock = ap (λ b. cond b (taken at by) it.lock) (sym row_is ∙ none) in
       record {
         shows = record { tracking = kept.shows.tracking; tables = kept.shows.tables; rows = kept.shows.rows; locked = kept.shows.locked ∙ ap (λ l. l.locked) (sym same); free = λ h. same ∙ kept.shows.free h };
-        places = kept.places;
+        identities = kept.identities;
         twins = kept.twins;
       }
 
   pub freed_loads : Loads (gone LockFreed it) (record loading { held = record loading.held { locked = false } })
-  freed_loads = record { shows = record { tracking = kept.shows.tracking; tables = kept.shows.tables; rows = kept.shows.rows; locked = refl; free = λ h. refl }; places = kept.places; twins = kept.twins }
+  freed_loads = record { shows = record { tracking = kept.shows.tracking; tables = kept.shows.tables; rows = kept.shows.rows; locked = refl; free = λ h. refl }; identities = kept.identities; twins = kept.twins }
 
   -- a table is created
 
@@ -126,18 +126,18 @@ module _ (it : Database) (loading : Loading) (kept : Loads it loading) where
       at (Some x) p = true_false refl p
 
     pub create_loads : (new : BTreeSet Name) → HasTables (gone (TableCreated table columns) it).users new → Loads (gone (TableCreated table columns) it) (record loading { held = record loading.held { tables = new } })
-    create_loads new has = record { shows = record { tracking = kept.shows.tracking; tables = has; rows = kept.shows.rows; locked = kept.shows.locked; free = kept.shows.free }; places = kept.places; twins = kept.twins }
+    create_loads new has = record { shows = record { tracking = kept.shows.tracking; tables = has; rows = kept.shows.rows; locked = kept.shows.locked; free = kept.shows.free }; identities = kept.identities; twins = kept.twins }
 
   -- a table is dropped
 
   pub drop_loads : (table : Name) (new : BTreeSet Name) → HasTables (gone (TableDropped table) it).users new → Loads (gone (TableDropped table) it) (record loading { held = record loading.held { tables = new } })
-  drop_loads table new has = record { shows = record { tracking = kept.shows.tracking; tables = has; rows = kept.shows.rows; locked = kept.shows.locked; free = kept.shows.free }; places = kept.places; twins = kept.twins }
+  drop_loads table new has = record { shows = record { tracking = kept.shows.tracking; tables = has; rows = kept.shows.rows; locked = kept.shows.locked; free = kept.shows.free }; identities = kept.identities; twins = kept.twins }
 
   -- rows go in and out
 
-  pub inserted_loads : (row : WrittenRow) (rows : List Tracked) (tracked : Tracked) (places twins : BTreeSet Place) → tracked ≡ tracked_of row → rows ≡ loading.held.rows ++ tracked ∷ []
-      → HasPlaces (it.rows ++ tracked_of row ∷ []) places → HasTwins (it.rows ++ tracked_of row ∷ []) twins → Loads (gone (RowInserted row) it) (record { held = record loading.held { rows = rows }; places = places; twins = twins })
-  inserted_loads row rows tracked places twins is are has several = record {
+  pub inserted_loads : (row : WrittenRow) (rows : List Tracked) (tracked : Tracked) (identities twins : BTreeSet IdentityKey) → tracked ≡ tracked_of row → rows ≡ loading.held.rows ++ tracked ∷ []
+      → HasIdentities (it.rows ++ tracked_of row ∷ []) identities → HasTwins (it.rows ++ tracked_of row ∷ []) twins → Loads (gone (RowInserted row) it) (record { held = record loading.held { rows = rows }; identities = identities; twins = twins })
+  inserted_loads row rows tracked identities twins is are has several = record {
     shows = record {
       tracking = kept.shows.tracking;
       tables = kept.shows.tables;
@@ -145,21 +145,21 @@ module _ (it : Database) (loading : Loading) (kept : Loads it loading) where
       locked = kept.shows.locked;
       free = kept.shows.free;
     };
-    places = has;
+    identities = has;
     twins = several;
   }
 
-  pub places_there : HasPlaces loading.held.rows loading.places
-  places_there = subst (λ rs. HasPlaces rs loading.places) (sym kept.shows.rows) kept.places
+  pub identities_there : HasIdentities loading.held.rows loading.identities
+  identities_there = subst (λ rs. HasIdentities rs loading.identities) (sym kept.shows.rows) kept.identities
 
   pub twins_there : HasTwins loading.held.rows loading.twins
   twins_there = subst (λ rs. HasTwins rs loading.twins) (sym kept.shows.rows) kept.twins
 
-  pub others_load : (of : Identity) (rows : List Tracked) (places twins : BTreeSet Place) → rows ≡ others of loading.held.rows → HasPlaces (others of loading.held.rows) places → HasTwins (others of loading.held.rows) twins
-      → Loads (gone (RowDeleted of) it) (record { held = record loading.held { rows = rows }; places = places; twins = twins })
-  others_load of rows places twins is has several = record {
+  pub others_load : (of : Identity) (rows : List Tracked) (identities twins : BTreeSet IdentityKey) → rows ≡ others of loading.held.rows → HasIdentities (others of loading.held.rows) identities → HasTwins (others of loading.held.rows) twins
+      → Loads (gone (RowDeleted of) it) (record { held = record loading.held { rows = rows }; identities = identities; twins = twins })
+  others_load of rows identities twins is has several = record {
     shows = record { tracking = kept.shows.tracking; tables = kept.shows.tables; rows = is ∙ ap (others of) kept.shows.rows; locked = kept.shows.locked; free = kept.shows.free };
-    places = subst (λ rs. HasPlaces (others of rs) places) kept.shows.rows has;
+    identities = subst (λ rs. HasIdentities (others of rs) identities) kept.shows.rows has;
     twins = subst (λ rs. HasTwins (others of rs) twins) kept.shows.rows several;
   }
 

@@ -8,7 +8,7 @@ use Rattle.lq_base.specs.declared.tracking.Tracked.{Tracked}
 use Rattle.lq_model.proofs.Lists.{and_left, and_right, and_true, any-append, or_false, or_left, or_right, other_way, same_name, whether}
 use Rattle.lq_track.specs.Database.{has_twin_rows, in_run_order, placed, same_identity}
 use Rattle.lq_track.specs.Log.{identity_of}
-use Rattle.lq_held.specs.Places.{repeats_place}
+use Rattle.lq_held.specs.Order.{repeats_place}
 
 -- what holds of all rows holds of them in run order
 

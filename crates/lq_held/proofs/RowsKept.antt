@@ -18,7 +18,7 @@ use Rattle.lq_track.specs.Database.{same_identity}
 use Rattle.lq_track.specs.Log.{identity_of}
 use Rattle.lq_track.specs.Row.{cut}
 use Rattle.lq_held.specs.Goes.{others}
-use Rattle.lq_held.specs.Places.{HasPlaces, HasTwins, Place, has_row, has_twice, identity_at, place_cmp}
+use Rattle.lq_held.specs.Identities.{HasIdentities, HasTwins, IdentityKey, has_row, has_twice, identity_at, key_cmp}
 
 -- the same identity
 
@@ -47,8 +47,8 @@ all_equal Equal Less q = refl
 all_equal Equal Greater q = refl
 all_equal Equal Equal q = refl
 
-pub at_place : (p q : Place) → is_at (place_cmp p) q ≡ same_identity (identity_at p) (identity_at q)
-at_place p q = all_equal (text_cmp p.0 q.0) (text_cmp p.1 q.1) (text_cmp p.2 q.2)
+pub at_key : (p q : IdentityKey) → is_at (key_cmp p) q ≡ same_identity (identity_at p) (identity_at q)
+at_key p q = all_equal (text_cmp p.0 q.0) (text_cmp p.1 q.1) (text_cmp p.2 q.2)
 
 as_or : (a b : Bool) → cond a true b ≡ (b || (a || false))
 as_or true true = refl
@@ -56,19 +56,19 @@ as_or true false = refl
 as_or false true = refl
 as_or false false = refl
 
-pub place_added : (rows : List Tracked) (row : Tracked) (p : Place) (old new : BTreeSet Place) → identity_of row ≡ identity_at p → UpdatesBy place_cmp (place_cmp p) old new true → HasPlaces rows old → HasPlaces (rows ++ row ∷ []) new
-place_added rows row p old new is up has q =
+pub identity_added : (rows : List Tracked) (row : Tracked) (p : IdentityKey) (old new : BTreeSet IdentityKey) → identity_of row ≡ identity_at p → UpdatesBy key_cmp (key_cmp p) old new true → HasIdentities rows old → HasIdentities (rows ++ row ∷ []) new
+identity_added rows row p old new is up has q =
     up.0 q
-    ∙ as_or (is_at (place_cmp p) q) (contains place_cmp old q)
-    ∙ ap (λ b. b || (is_at (place_cmp p) q || false)) (has q)
-    ∙ ap (λ b. has_row rows q || (b || false)) (at_place p q ∙ ap (λ i. same_identity i (identity_at q)) (sym is))
+    ∙ as_or (is_at (key_cmp p) q) (contains key_cmp old q)
+    ∙ ap (λ b. b || (is_at (key_cmp p) q || false)) (has q)
+    ∙ ap (λ b. has_row rows q || (b || false)) (at_key p q ∙ ap (λ i. same_identity i (identity_at q)) (sym is))
     ∙ sym (any-append (λ (r : Tracked). same_identity (identity_of r) (identity_at q)) rows (row ∷ []))
 
 pub itself : (i : Identity) → same_identity i i ≡ true
 itself i = rw (named_itself i.file, named_itself i.id, named_itself i.author) refl
 
 -- another identity's row stays
-left_has : (p q : Place) (rows : List Tracked) → has_row (others (identity_at p) rows) q ≡ cond (same_identity (identity_at p) (identity_at q)) false (has_row rows q)
+left_has : (p q : IdentityKey) (rows : List Tracked) → has_row (others (identity_at p) rows) q ≡ cond (same_identity (identity_at p) (identity_at q)) false (has_row rows q)
 left_has p q [] = elim (same_identity (identity_at p) (identity_at q)) as (λ b. false ≡ cond b false false) [ true ↦ refl | false ↦ refl ]
 left_has p q (r ∷ rows) = at (same_identity (identity_of r) (identity_at p)) refl (left_has p q rows) where
   both : (b : Bool) → same_identity (identity_at p) (identity_at q) ≡ b → same_identity (identity_of r) (identity_at p) ≡ true → has_row (others (identity_at p) rows) q ≡ cond b false (has_row rows q)
@@ -86,8 +86,8 @@ left_has p q (r ∷ rows) = at (same_identity (identity_of r) (identity_at p)) r
   at true is more = both (same_identity (identity_at p) (identity_at q)) refl is more
   at false is more = apart (same_identity (identity_at p) (identity_at q)) refl is more
 
-pub place_gone : (rows : List Tracked) (p : Place) (old new : BTreeSet Place) → UpdatesBy place_cmp (place_cmp p) old new false → HasPlaces rows old → HasPlaces (others (identity_at p) rows) new
-place_gone rows p old new up has q = up.0 q ∙ ap (λ b. cond b false (contains place_cmp old q)) (at_place p q) ∙ ap (cond (same_identity (identity_at p) (identity_at q)) false) (has q) ∙ sym (left_has p q rows)
+pub identity_gone : (rows : List Tracked) (p : IdentityKey) (old new : BTreeSet IdentityKey) → UpdatesBy key_cmp (key_cmp p) old new false → HasIdentities rows old → HasIdentities (others (identity_at p) rows) new
+identity_gone rows p old new up has q = up.0 q ∙ ap (λ b. cond b false (contains key_cmp old q)) (at_key p q) ∙ ap (cond (same_identity (identity_at p) (identity_at q)) false) (has q) ∙ sym (left_has p q rows)
 
 -- nothing is cut of nothing
 pub cut_nothing : cut [] ≡ []
@@ -95,11 +95,11 @@ cut_nothing = ap (λ cs. encode_utf8_all (take 255 cs)) chars-nil
 
 -- a row of an identity that is there
 
-row_at : (rows : List Tracked) (p q : Place) → same_identity (identity_at p) (identity_at q) ≡ true → has_row rows q ≡ has_row rows p
+row_at : (rows : List Tracked) (p q : IdentityKey) → same_identity (identity_at p) (identity_at q) ≡ true → has_row rows q ≡ has_row rows p
 row_at rows p q same = ap (λ i. list_any (λ (r : Tracked). same_identity (identity_of r) i) rows) (sym (same_is (identity_at p) (identity_at q) same))
 
-pub place_known : (rows : List Tracked) (row : Tracked) (p : Place) (old : BTreeSet Place) → identity_of row ≡ identity_at p → contains place_cmp old p ≡ true → HasPlaces rows old → HasPlaces (rows ++ row ∷ []) old
-place_known rows row p old is there has q =
+pub identity_known : (rows : List Tracked) (row : Tracked) (p : IdentityKey) (old : BTreeSet IdentityKey) → identity_of row ≡ identity_at p → contains key_cmp old p ≡ true → HasIdentities rows old → HasIdentities (rows ++ row ∷ []) old
+identity_known rows row p old is there has q =
     has q ∙ at (same_identity (identity_at p) (identity_at q)) refl
     ∙ ap (λ i. has_row rows q || (same_identity i (identity_at q) || false)) (sym is)
     ∙ sym (any-append (λ (r : Tracked). same_identity (identity_of r) (identity_at q)) rows (row ∷ []))
@@ -123,23 +123,23 @@ mixed false h true false = refl
 mixed false h false true = refl
 mixed false h false false = refl
 
-twice_last : (rows : List Tracked) (row : Tracked) (q : Place) → has_twice (rows ++ row ∷ []) q ≡ (has_twice rows q || (same_identity (identity_of row) (identity_at q) && has_row rows q))
+twice_last : (rows : List Tracked) (row : Tracked) (q : IdentityKey) → has_twice (rows ++ row ∷ []) q ≡ (has_twice rows q || (same_identity (identity_of row) (identity_at q) && has_row rows q))
 twice_last [] row q = elim (same_identity (identity_of row) (identity_at q)) as (λ b. ((b && false) || false) ≡ (b && false)) [ true ↦ refl | false ↦ refl ]
 twice_last (r ∷ rows) row q =
     ap (λ b. (same_identity (identity_of r) (identity_at q) && b) || has_twice (rows ++ row ∷ []) q) (any-append (λ (s : Tracked). same_identity (identity_of s) (identity_at q)) rows (row ∷ []))
     ∙ ap (λ b. (same_identity (identity_of r) (identity_at q) && (has_row rows q || (same_identity (identity_of row) (identity_at q) || false))) || b) (twice_last rows row q)
     ∙ mixed (same_identity (identity_of r) (identity_at q)) (has_row rows q) (same_identity (identity_of row) (identity_at q)) (has_twice rows q)
 
-module _ (rows : List Tracked) (row : Tracked) (p : Place) (places : BTreeSet Place) (is : identity_of row ≡ identity_at p) (has : HasPlaces rows places) where
-  either : (q : Place) → has_twice (rows ++ row ∷ []) q ≡ (has_twice rows q || (same_identity (identity_at p) (identity_at q) && has_row rows p))
+module _ (rows : List Tracked) (row : Tracked) (p : IdentityKey) (identities : BTreeSet IdentityKey) (is : identity_of row ≡ identity_at p) (has : HasIdentities rows identities) where
+  either : (q : IdentityKey) → has_twice (rows ++ row ∷ []) q ≡ (has_twice rows q || (same_identity (identity_at p) (identity_at q) && has_row rows p))
   either q = twice_last rows row q ∙ ap (λ i. has_twice rows q || (same_identity i (identity_at q) && has_row rows q)) is ∙ at (same_identity (identity_at p) (identity_at q)) refl where
     at : (b : Bool) → same_identity (identity_at p) (identity_at q) ≡ b → (has_twice rows q || (same_identity (identity_at p) (identity_at q) && has_row rows q)) ≡ (has_twice rows q || (same_identity (identity_at p) (identity_at q) && has_row rows p))
     at true same = ap (λ b. has_twice rows q || (same_identity (identity_at p) (identity_at q) && b)) (row_at rows p q same)
     at false same = rw (same) refl
 
-  pub twin_added : (old new : BTreeSet Place) → contains place_cmp places p ≡ true → UpdatesBy place_cmp (place_cmp p) old new true → HasTwins rows old → HasTwins (rows ++ row ∷ []) new
+  pub twin_added : (old new : BTreeSet IdentityKey) → contains key_cmp identities p ≡ true → UpdatesBy key_cmp (key_cmp p) old new true → HasTwins rows old → HasTwins (rows ++ row ∷ []) new
   twin_added old new there up twins q =
-      up.0 q ∙ ap (λ b. cond b true (contains place_cmp old q)) (at_place p q) ∙ ap (cond (same_identity (identity_at p) (identity_at q)) true) (twins q)
+      up.0 q ∙ ap (λ b. cond b true (contains key_cmp old q)) (at_key p q) ∙ ap (cond (same_identity (identity_at p) (identity_at q)) true) (twins q)
       ∙ turned (same_identity (identity_at p) (identity_at q)) (has_twice rows q)
       ∙ ap (λ b. has_twice rows q || (same_identity (identity_at p) (identity_at q) && b)) (sym (sym (has p) ∙ there)) ∙ sym (either q)
     where
@@ -149,7 +149,7 @@ module _ (rows : List Tracked) (row : Tracked) (p : Place) (places : BTreeSet Pl
       turned false true = refl
       turned false false = refl
 
-  pub twin_kept : (old : BTreeSet Place) → contains place_cmp places p ≡ false → HasTwins rows old → HasTwins (rows ++ row ∷ []) old
+  pub twin_kept : (old : BTreeSet IdentityKey) → contains key_cmp identities p ≡ false → HasTwins rows old → HasTwins (rows ++ row ∷ []) old
   twin_kept old there twins q =
       twins q ∙ turned (same_identity (identity_at p) (identity_at q)) (has_twice rows q)
       ∙ ap (λ b. has_twice rows q || (same_identity (identity_at p) (identity_at q) && b)) (sym (sym (has p) ∙ there)) ∙ sym (either q)
@@ -162,7 +162,7 @@ module _ (rows : List Tracked) (row : Tracked) (p : Place) (places : BTreeSet Pl
 
 -- without the rows of an identity
 
-left_twice : (p q : Place) (rows : List Tracked) → has_twice (others (identity_at p) rows) q ≡ cond (same_identity (identity_at p) (identity_at q)) false (has_twice rows q)
+left_twice : (p q : IdentityKey) (rows : List Tracked) → has_twice (others (identity_at p) rows) q ≡ cond (same_identity (identity_at p) (identity_at q)) false (has_twice rows q)
 left_twice p q [] = elim (same_identity (identity_at p) (identity_at q)) as (λ b. false ≡ cond b false false) [ true ↦ refl | false ↦ refl ]
 left_twice p q (r ∷ rows) = at (same_identity (identity_of r) (identity_at p)) (same_identity (identity_at p) (identity_at q)) refl refl (left_twice p q rows) where
   apart : same_identity (identity_of r) (identity_at p) ≡ true → same_identity (identity_of r) (identity_at q) ≡ same_identity (identity_at p) (identity_at q)
@@ -181,12 +181,12 @@ left_twice p q (r ∷ rows) = at (same_identity (identity_of r) (identity_at p))
       ap (λ x. (same_identity (identity_of r) (identity_at q) && x) || has_twice (others (identity_at p) rows) q) (left_has p q rows ∙ ap (λ x. cond x false (has_row rows q)) same)
       ∙ ap (λ x. (same_identity (identity_of r) (identity_at q) && has_row rows q) || x) (more ∙ ap (λ x. cond x false (has_twice rows q)) same)
 
-pub twin_gone : (rows : List Tracked) (p : Place) (old new : BTreeSet Place) → UpdatesBy place_cmp (place_cmp p) old new false → HasTwins rows old → HasTwins (others (identity_at p) rows) new
-twin_gone rows p old new up twins q = up.0 q ∙ ap (λ b. cond b false (contains place_cmp old q)) (at_place p q) ∙ ap (cond (same_identity (identity_at p) (identity_at q)) false) (twins q) ∙ sym (left_twice p q rows)
+pub twin_gone : (rows : List Tracked) (p : IdentityKey) (old new : BTreeSet IdentityKey) → UpdatesBy key_cmp (key_cmp p) old new false → HasTwins rows old → HasTwins (others (identity_at p) rows) new
+twin_gone rows p old new up twins q = up.0 q ∙ ap (λ b. cond b false (contains key_cmp old q)) (at_key p q) ∙ ap (cond (same_identity (identity_at p) (identity_at q)) false) (twins q) ∙ sym (left_twice p q rows)
 
 -- from the end on
 
--- the rows behind a place without those of the identity
+-- the rows behind an index without those of the identity
 pub record Cut (of : Identity) (old now : List Tracked) (end : ℕ) : Type 0 where
   pub front : List Tracked
   pub back : List Tracked
@@ -261,7 +261,7 @@ module _ (of : Identity) (old now : List Tracked) (end : ℕ) (d : Tracked) (som
 
 -- where no two rows have the identity, one goes
 
-no_front : (p : Place) (front back : List Tracked) (row : Tracked) → same_identity (identity_of row) (identity_at p) ≡ true → has_twice (front ++ row ∷ back) p ≡ false → has_row front p ≡ false
+no_front : (p : IdentityKey) (front back : List Tracked) (row : Tracked) → same_identity (identity_of row) (identity_at p) ≡ true → has_twice (front ++ row ∷ back) p ≡ false → has_row front p ≡ false
 no_front p [] back row is once = refl
 no_front p (r ∷ front) back row is once =
     or_false _ _ (at (same_identity (identity_of r) (identity_at p)) (or_left (same_identity (identity_of r) (identity_at p) && has_row (front ++ row ∷ back) p) _ once))
@@ -278,7 +278,7 @@ no_front p (r ∷ front) back row is once =
     at true h = true_false there h
     at false h = refl
 
-pub cut_once : (p : Place) (old now : List Tracked) (end : ℕ) (d : Tracked) (some : 0 < end) → Cut (identity_at p) old now end → same_identity (identity_of (get_or now (end - 1) d)) (identity_at p) ≡ true → has_twice old p ≡ false → remove now (end - 1) ≡ others (identity_at p) old
+pub cut_once : (p : IdentityKey) (old now : List Tracked) (end : ℕ) (d : Tracked) (some : 0 < end) → Cut (identity_at p) old now end → same_identity (identity_of (get_or now (end - 1) d)) (identity_at p) ≡ true → has_twice old p ≡ false → remove now (end - 1) ≡ others (identity_at p) old
 cut_once p old now end d some c its once =
     let of = identity_at p in
     let e = last of old now end d some c in
@@ -290,5 +290,5 @@ cut_once p old now end d some c its once =
     ∙ ap (λ rs. rs ++ others of (e.row ∷ c.back)) (none_stay of e.first none) ∙ ap (λ rs. e.first ++ rs) (back_is of old now end d some c true its))
 
 -- the first of a set is in it
-pub some_twin : (twins : BTreeSet Place) (k : Place) (rows : List Tracked) → contains place_cmp twins k ≡ true → HasTwins rows twins → (p : Place) × (has_twice rows p ≡ true)
+pub some_twin : (twins : BTreeSet IdentityKey) (k : IdentityKey) (rows : List Tracked) → contains key_cmp twins k ≡ true → HasTwins rows twins → (p : IdentityKey) × (has_twice rows p ≡ true)
 some_twin twins k rows is has = (k, sym (has k) ∙ is)

@@ -1,7 +1,8 @@
 pub mod Goes
 pub mod Held
+pub mod Identities
 pub mod Laws
 pub mod Loads
-pub mod Places
+pub mod Order
 pub mod Reads
 pub mod Shows

@@ -4,7 +4,7 @@ use Rattle.lq_base.specs.declared.dialect.Dialect.TheVariants.{Postgresql}
 use Rattle.lq_model.specs.Sound.{IsSound}
 use Rattle.lq_track.specs.Database.{Database, has_twin_rows}
 use Rattle.lq_held.specs.Goes.{goes, gone, in_order}
-use Rattle.lq_held.specs.Places.{HasPlaces, HasTwins}
+use Rattle.lq_held.specs.Identities.{HasIdentities, HasTwins}
 use Rattle.lq_held.specs.Shows.{Shows}
 use Rattle.lq_held.specs.declared.held.Held.{Held}
 use Rattle.lq_held.specs.declared.loading.Loading.{Loading}
@@ -12,7 +12,7 @@ use Rattle.lq_written.specs.declared.written.Written.{Written}
 
 pub record Loads (it : Database) (loading : Loading) : Type 0 where
   pub shows : Shows it loading.held
-  pub places : HasPlaces it.rows loading.places
+  pub identities : HasIdentities it.rows loading.identities
   pub twins : HasTwins it.rows loading.twins
 
 -- what is kept after a statement that the database takes, and nothing where it does not

@@ -3,10 +3,10 @@
 #![tactic(auto)]
 
 mod held;
+mod identities;
 mod laws;
 mod loading;
 mod order;
-mod places;
 mod read;
 mod rows;
 mod tables;

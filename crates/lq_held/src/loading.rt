@@ -7,8 +7,8 @@ ghost use Rattle.lq_written.specs.Written.{is_row, is_written};
 ghost use Rattle.lq_written.specs.declared.written.Written.TheVariants.{LockFreed, LockMade, LockRowMade, LockTaken, LogMade, RowDeleted, RowInserted, TableCreated, TableDropped};
 
 use crate::held::Held;
+use crate::identities::{IdentityKey, add_identity, are_none, delete_rows};
 use crate::order::in_run_order;
-use crate::places::{Place, add_place, are_none, delete_rows};
 use crate::rows::{fits, has_room, tracked_of};
 use crate::tables::{add_table, remove_table, repeats_name};
 use lq_base::{Identity, Items, Name, NoMemory};
@@ -22,9 +22,9 @@ pub struct Loading {
     /// With its rows in the order in which they went in.
     pub held: Held,
     /// The identities of the rows.
-    pub places: BTreeSet<Place>,
+    pub identities: BTreeSet<IdentityKey>,
     /// Those that two rows have.
-    pub twins: BTreeSet<Place>,
+    pub twins: BTreeSet<IdentityKey>,
 }
 
 impl Loading {
@@ -34,7 +34,7 @@ impl Loading {
     {
         Loading {
             held: Held::nothing(alloc),
-            places: BTreeSet::new(alloc),
+            identities: BTreeSet::new(alloc),
             twins: BTreeSet::new(alloc),
         }
     }
@@ -150,8 +150,8 @@ fn inserted(loading: Loading, alloc: Global, row: &WrittenRow) -> Result<Option<
         return Ok(None);
     }
     let tracked = tracked_of(alloc, row)?;
-    add_place(
-        &mut loading.places,
+    add_identity(
+        &mut loading.identities,
         &mut loading.twins,
         alloc,
         &row.identity,
@@ -169,7 +169,7 @@ fn deleted(loading: Loading, of: Identity) -> Option<Loading>
     }
     delete_rows(
         &mut loading.held.rows,
-        &mut loading.places,
+        &mut loading.identities,
         &mut loading.twins,
         of,
     );
@@ -204,7 +204,7 @@ pub fn ended(loading: Loading, alloc: Global) -> Result<Option<Held>, NoMemory>
 {
     let Loading {
         held,
-        places: _,
+        identities: _,
         twins,
     } = loading;
     if !are_none(&twins) {

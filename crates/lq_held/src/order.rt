@@ -1,7 +1,7 @@
 ghost use Rattle.std.specs.Prelude.{◌≡◌, IfOk, MatchOption, false, true};
 ghost use Rattle.std.specs.BTreeMap.{values};
 ghost use Rattle.lq_track.specs.Database.{in_run_order};
-ghost use Rattle.lq_held.specs.Places.{repeats_place};
+ghost use Rattle.lq_held.specs.Order.{repeats_place};
 
 use lq_base::{Items, NoMemory, Tracked};
 use std::alloc::Global;

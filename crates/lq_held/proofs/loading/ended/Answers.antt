@@ -1,7 +1,7 @@
 use Rattle.std.proofs.Common.{ap, sym, ◌∙◌}
 use Rattle.lq_held.proofs.ByPlace.{no_twins, ran_none, ran_some, twins_by_identity, twins_by_place}
 use Rattle.lq_held.proofs.Loaded.{end_shows}
-use Rattle.lq_held.specs.Places.{repeats_place}
+use Rattle.lq_held.specs.Order.{repeats_place}
 use Rattle.lq_held.proofs.loading.ended.Goals as goal
 
 pub returns-then-not-are_none : goal.returns-then-not-are_none
