@@ -16,7 +16,7 @@ pub enum Reason {
     Duplicate,
     /// A row without its parent.
     NoParent,
-    /// A row of another table would lose its parent.
+    /// A row of another table would lose its parent, or after a Delete one of the same table.
     HasChildren,
     /// A value that is out of its kind.
     TooWide,

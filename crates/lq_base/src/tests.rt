@@ -273,6 +273,11 @@ fn numbers_into_kinds(rt: HostRuntime) {
             Ok(9_223_372_036_854_775_807),
         ),
         (9_223_372_036_854_775_808, Kind::BigInt, wide),
+        (
+            -9_223_372_036_854_775_808,
+            Kind::BigInt,
+            Ok(-9_223_372_036_854_775_808),
+        ),
         (-9_223_372_036_854_775_809, Kind::BigInt, wide),
         (1, Kind::Varchar(10), wrong),
         (1, Kind::Text, wrong),
@@ -280,6 +285,10 @@ fn numbers_into_kinds(rt: HostRuntime) {
         (2, Kind::Boolean, wrong),
         (100, Kind::Decimal(3, 1), wide),
         (i128::MIN, Kind::Decimal(38, 0), wide),
+        (i128::MAX, Kind::Decimal(38, 0), wide),
+        (i128::MAX, Kind::Int, wide),
+        (i128::MAX, Kind::BigInt, wide),
+        (i128::MAX, Kind::Boolean, wrong),
     ];
     for (number, kind, want) in cases {
         let want = match want {
@@ -317,7 +326,24 @@ fn decimals_into_kinds(rt: HostRuntime) {
         (-99, 0, 3, 1, Ok(-990)),
         (105, 1, 3, 1, Ok(105)),
         (105, 2, 3, 1, wide),
+        (150, 2, 3, 1, wide),
         (1000, 1, 3, 1, wide),
+        (7, 0, 1, 0, Ok(7)),
+        (10, 0, 1, 0, wide),
+        (
+            99_999_999_999_999_999_999_999_999_999_999_999_999,
+            0,
+            38,
+            0,
+            Ok(99_999_999_999_999_999_999_999_999_999_999_999_999),
+        ),
+        (
+            100_000_000_000_000_000_000_000_000_000_000_000_000,
+            0,
+            38,
+            0,
+            wide,
+        ),
         (1, 0, 38, 38, wide),
         (
             9,
@@ -327,6 +353,8 @@ fn decimals_into_kinds(rt: HostRuntime) {
             Ok(90_000_000_000_000_000_000_000_000_000_000_000_000),
         ),
         (0, 0, 38, 38, Ok(0)),
+        (-1, 38, 38, 38, Ok(-1)),
+        (-1, 38, 38, 37, wide),
     ];
     for (units, scale, digits, places, want) in cases {
         let literal = if scale == 0 {
@@ -368,6 +396,13 @@ fn texts_into_kinds(rt: HostRuntime) -> Result<(), Fail> {
         ("1.5", Kind::Int, Err(IntoFault::WrongKind)),
         ("2147483648", Kind::Int, Err(IntoFault::TooWide)),
         (
+            "9223372036854775807",
+            Kind::BigInt,
+            Ok(Value::Int(9_223_372_036_854_775_807)),
+        ),
+        ("9223372036854775808", Kind::BigInt, Err(IntoFault::TooWide)),
+        ("9 ", Kind::BigInt, Err(IntoFault::WrongKind)),
+        (
             "-1.5",
             Kind::Decimal(3, 1),
             Ok(Value::Fixed {
@@ -376,6 +411,7 @@ fn texts_into_kinds(rt: HostRuntime) -> Result<(), Fail> {
             }),
         ),
         ("1.55", Kind::Decimal(3, 1), Err(IntoFault::TooWide)),
+        ("1.50", Kind::Decimal(3, 1), Err(IntoFault::TooWide)),
         ("TRUE", Kind::Boolean, Ok(Value::Bool(true))),
         ("1", Kind::Boolean, Ok(Value::Bool(true))),
         ("False", Kind::Boolean, Ok(Value::Bool(false))),
