@@ -71,6 +71,12 @@ impl<T: Same> Same for Option<T> {
     }
 }
 
+impl<A: Same, B: Same> Same for (A, B) {
+    fn same(&self, other: &(A, B)) -> bool {
+        self.0.same(&other.0) && self.1.same(&other.1)
+    }
+}
+
 fn same_items<T: Same>(a: &[T], b: &[T]) -> bool
     ensures { IsTrue result ↔ (a.now ≡ b.now) }
 {

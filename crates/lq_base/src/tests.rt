@@ -515,10 +515,17 @@ fn copies(rt: HostRuntime) -> Result<(), Fail> {
     assert!(rt; happened.duplicate(alloc)?.same(&happened));
     let boxed = Boxed::new(alloc, Literal::Fixed { units: 5, scale: 1 })?;
     assert!(rt; boxed.duplicate(alloc)?.same(&boxed));
-    let pair = (Text::new(alloc, "a")?, Value::Int(1));
-    let copy = pair.duplicate(alloc)?;
-    assert!(rt; copy.0.same(&pair.0) && copy.1.same(&pair.1));
-    let row = Tracked {
+    Ok(())
+}
+
+/// Whether a copy is the same as what it was made of, and not the same as another.
+fn is_copied<T: Duplicate + Same + Drop>(alloc: Global, it: &T, other: &T) -> Result<bool, Fail> {
+    let copy = it.duplicate(alloc)?;
+    Ok(copy.same(it) && !copy.same(other))
+}
+
+fn tracked(alloc: Global, deployment: &str) -> Result<Tracked, Fail> {
+    Ok(Tracked {
         id: Text::new(alloc, "1")?,
         author: Text::new(alloc, "ann")?,
         filename: Text::new(alloc, "db/a.json")?,
@@ -532,8 +539,26 @@ fn copies(rt: HostRuntime) -> Result<(), Fail> {
         tool: Text::new(alloc, "profile-1")?,
         contexts: Text::new(alloc, "")?,
         labels: Text::new(alloc, "")?,
-        deployment: Text::new(alloc, "0000001000")?,
-    };
-    assert!(rt; row.duplicate(alloc)?.deployment.same(&row.deployment));
+        deployment: Text::new(alloc, deployment)?,
+    })
+}
+
+#[test]
+fn copies_of_rows(rt: HostRuntime) -> Result<(), Fail> {
+    let alloc = rt.alloc();
+    let row = tracked(alloc, "0000001000")?;
+    let other = tracked(alloc, "0000002000")?;
+    assert!(rt; is_copied(alloc, &row, &other)?);
+    Ok(())
+}
+
+#[test]
+fn copies_of_pairs(rt: HostRuntime) -> Result<(), Fail> {
+    let alloc = rt.alloc();
+    let pair = (Text::new(alloc, "a")?, Value::Int(1));
+    let other = (Text::new(alloc, "a")?, Value::Int(2));
+    assert!(rt; is_copied(alloc, &pair, &other)?);
+    let third = (Text::new(alloc, "b")?, Value::Int(1));
+    assert!(rt; is_copied(alloc, &pair, &third)?);
     Ok(())
 }

@@ -96,3 +96,22 @@ impl Duplicate for Tracked {
         })
     }
 }
+
+impl Same for Tracked {
+    fn same(&self, other: &Tracked) -> bool {
+        self.id.same(&other.id)
+            && self.author.same(&other.author)
+            && self.filename.same(&other.filename)
+            && self.date == other.date
+            && self.order == other.order
+            && self.exec == other.exec
+            && self.md5sum.same(&other.md5sum)
+            && self.description.same(&other.description)
+            && self.comments.same(&other.comments)
+            && self.tag.same(&other.tag)
+            && self.tool.same(&other.tool)
+            && self.contexts.same(&other.contexts)
+            && self.labels.same(&other.labels)
+            && self.deployment.same(&other.deployment)
+    }
+}
