@@ -70,6 +70,10 @@ accepted p c n e =
       result = ap (λ r. r.0) f.1;
     }
 
+pub counted : (p : Plan) (c : Catalogue) (n : ℕ) → decide p ≡ Ok (c, n) → p.count ≡ n
+unfolding decide
+counted p c n e = ap (λ r. r.1) (none_from_unless (against p) (p.result, p.count) (c, n) e).1
+
 -- nothing that the statement itself does is against it
 pub record IsFree (p : Plan) : Type 0 where
   pub reserved : p.reserved ≡ false

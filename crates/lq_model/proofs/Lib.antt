@@ -30,6 +30,7 @@ pub mod Matrix
 pub mod ModifyKeeps
 pub mod MovedEntries
 pub mod NameCounts
+pub mod NoRowTaken
 pub mod RenameColumnKeeps
 pub mod RenameEither
 pub mod RenameTables
@@ -51,3 +52,4 @@ pub mod Views
 pub mod ExamplesStatements
 pub mod Texts
 mod PlainText
+pub mod WentBack

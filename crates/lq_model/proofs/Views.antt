@@ -102,11 +102,20 @@ reserved_one : (by : By) (a b : Name) → is_reserved by (a ∷ b ∷ []) ≡ fa
 reserved_one User a b h = or_false _ _ (or_left (is_tracking a) _ h) refl
 reserved_one Program a b h = refl
 
-pub drop_view_after : (d : Dialect) (v : Name) (q : Query) (replace : Bool) (by : By) (c e : Catalogue) (k : ℕ) → IsSound d c → no_view_yet v c ≡ true → step by d (CreateView v q replace) c ≡ Ok (e, k) → step by d (DropView v) e ≡ Ok (c, 0)
+none_at : (o : Option View) → is_none o ≡ true → o ≡ None
+none_at None h = refl
+none_at (Some x) h = true_false h refl
+
+-- where none is replaced, the name was free
+none_before : (by : By) (d : Dialect) (v : Name) (q : Query) (replace : Bool) (c : Catalogue) → (not replace || no_view_yet v c) ≡ true → (create_view by d v q replace c).exists ≡ false → view_of c v ≡ None
+none_before by d v q true c fresh free = none_at (view_of c v) fresh
+none_before by d v q false c fresh free = free_view d v c (or_left (is_taken d v c) (takes_lock_key by d (v ∷ [])) (or_left (is_taken d v c || takes_lock_key by d (v ∷ [])) _ free))
+
+pub drop_view_after : (d : Dialect) (v : Name) (q : Query) (replace : Bool) (by : By) (c e : Catalogue) (k : ℕ) → IsSound d c → (not replace || no_view_yet v c) ≡ true → step by d (CreateView v q replace) c ≡ Ok (e, k) → step by d (DropView v) e ≡ Ok (c, 0)
 drop_view_after d v q replace by c e k sound fresh made =
     let it = new_view q (the_table c q.table) in
     let ok = accepted (create_view by d v q replace c) e k made in
-    let none = none_at (view_of c v) fresh in
+    let none = none_before by d v q replace c fresh ok.exists in
     ap (step by d (DropView v)) (sym ok.result)
     ∙ accepts d (drop_view by d v (with_view c v it)) c sound (ap (λ vs. record c { views = vs }) (remove_entry-insert_entry v it c.views none))
     (record {
@@ -117,10 +126,6 @@ drop_view_after d v q replace by c e k sound fresh made =
       wrong = refl;
       wide = refl;
     })
-  where
-    none_at : (o : Option View) → is_none o ≡ true → o ≡ None
-    none_at None h = refl
-    none_at (Some x) h = true_false h refl
 
 -- CREATE VIEW
 

@@ -77,6 +77,13 @@ pub record Writing : Type 0 where
   pub written : List ℕ
   pub begun : List Begun
 
+-- what was written is a front of what is written now, and what was begun is not ended
+pub record GoesOn (before now : Writing) : Type 0 where
+  pub more : List ℕ
+  pub opened : List Begun
+  pub written : now.written ≡ before.written ++ more
+  pub begun : now.begun ≡ opened ++ before.begun
+
 -- what was begun last and is not ended
 abbrev pub innermost : List Begun → Option Begun
 innermost [] = None

@@ -33,6 +33,6 @@ TakeBack {Key} is_for effect fresh inverse =
     (d : Dialect) (x : Key) (c e : Catalogue) (undoing : List Statement) → is_for d x ≡ true → IsSound d c
     → fresh d x c ≡ true → effect d x c ≡ Ok e → inverse d x ≡ Some undoing → run User d undoing e ≡ Ok c
 
--- two different changes have different canonical texts
-abbrev pub AreTold : {Key : Type 0} → (Key → CanonicalChange) → Type 0
-AreTold {Key} canonical = (x y : Key) → canonical_change (canonical x) ≡ canonical_change (canonical y) → x ≡ y
+-- two different changes that are read for one dialect have different canonical texts
+abbrev pub AreTold : {Key : Type 0} → (Dialect → Key → Bool) → (Key → CanonicalChange) → Type 0
+AreTold {Key} is_for canonical = (d : Dialect) (x y : Key) → is_for d x ≡ true → is_for d y ≡ true → canonical_change (canonical x) ≡ canonical_change (canonical y) → x ≡ y

@@ -15,6 +15,7 @@ pub mod Literals
 pub mod NameSpaces
 pub mod Names
 pub mod Needs
+pub mod NoRow
 pub mod Phrase
 pub mod Plan
 pub mod Query

@@ -113,7 +113,7 @@ abbrev pub no_view_yet : Name → Catalogue → Bool
 no_view_yet v c = is_none (view_of c v)
 
 abbrev pub DropViewTakesBack : Type 0
-DropViewTakesBack = (d : Dialect) (v : Name) (q : Query) (replace : Bool) → TakesBackWhere d (no_view_yet v) (CreateView v q replace) (DropView v)
+DropViewTakesBack = (d : Dialect) (v : Name) (q : Query) (replace : Bool) → TakesBackWhere d (λ c. not replace || no_view_yet v c) (CreateView v q replace) (DropView v)
 
 abbrev pub DropSequenceTakesBack : Type 0
 DropSequenceTakesBack = (d : Dialect) (s : Name) (start size : ℤ) → TakesBack d (CreateSequence s start size) (DropSequence s)

@@ -1,5 +1,5 @@
-ghost use Rattle.std.specs.Prelude.{◌≡◌, ◌++◌, ◌∷◌, [], Bool, IfOk, OnOk, OnErr, Some, codes, string_bytes};
-ghost use Rattle.lq_model.specs.Canon.{atom, canonical, innermost, number, numeral, signed_numeral, text, truth, without_innermost};
+ghost use Rattle.std.specs.Prelude.{◌≡◌, ◌++◌, ◌∷◌, [], Bool, IfOk, OnOk, OnErr, Some, codes, length, string_bytes};
+ghost use Rattle.lq_model.specs.Canon.{GoesOn, Writing, atom, canonical, innermost, number, numeral, signed_numeral, text, truth, without_innermost};
 ghost use Rattle.lq_model.specs.declared.canon.Begun.TheVariants as begun_of;
 
 use lq_base::NoMemory;
@@ -11,6 +11,15 @@ use std::marker::Model;
 pub enum Begun {
     List,
     Map,
+}
+
+/// A place in what a writer writes, to which it can go back.
+#[derive(Clone, Copy, Debug)]
+pub struct Mark {
+    /// How many bytes were written.
+    pub written: usize,
+    /// How many lists and maps were begun and not ended.
+    pub begun: usize,
 }
 
 /// The writer of canonical text, of which the checksum of a changeset is taken.
@@ -54,6 +63,25 @@ impl Canon {
         ensures { result.now ≡ self.now.written }
     {
         self.written.as_slice()
+    }
+
+    /// Where the writer stands.
+    pub fn mark(&self) -> Mark
+        ensures written { result.written ≡ length self.now.written }
+        ensures begun { result.begun ≡ length self.now.begun }
+    {
+        Mark {
+            written: self.written.len(),
+            begun: self.begun.len(),
+        }
+    }
+
+    /// Takes back what was written since `mark`.
+    pub fn go_back(&mut self, mark: Mark)
+        ensures { (before : Writing) → GoesOn before self.old → mark.written ≡ length before.written → mark.begun ≡ length before.begun → self.new ≡ before }
+    {
+        self.written.truncate(mark.written);
+        self.begun.truncate(mark.begun);
     }
 
     pub fn begin_map(&mut self) -> Result<(), NoMemory>
@@ -217,6 +245,20 @@ mod tests {
         let wanted =
             "[9:dropTable{9:tableNamet10:größer t5:emptyt0:4:list[n1:0n40:-170141183460469231731687303715884105728n7:1000000]3:yesb12:nob0}]";
         assert_eq!(rt; canon.written(), wanted.as_bytes());
+        Ok(())
+    }
+
+    #[test]
+    fn goes_back_to_a_mark(rt: HostRuntime) -> Result<(), Fail> {
+        let mut canon = Canon::new(rt.alloc());
+        canon.begin_list()?;
+        let mark = canon.mark();
+        canon.key("dropTable")?;
+        canon.begin_map()?;
+        canon.go_back(mark);
+        assert_eq!(rt; canon.mark().begun, 1);
+        canon.text("t")?;
+        assert_eq!(rt; canon.written(), "[t1:t".as_bytes());
         Ok(())
     }
 

@@ -1,4 +1,4 @@
-ghost use Rattle.std.specs.Prelude.{◌≡◌, ◌++◌, Bool, IfOk, List, OnOk, Option, Result, true};
+ghost use Rattle.std.specs.Prelude.{◌≡◌, ◌++◌, Bool, IfOk, List, OnErr, OnOk, Option, Result, true};
 ghost use Rattle.lq_base.specs.declared.dialect.Dialect.{Dialect};
 ghost use Rattle.lq_base.specs.declared.reason.Reason.{Reason};
 ghost use Rattle.lq_model.specs.Canon.{CanonicalChange, canonical_change};
@@ -37,7 +37,7 @@ pub trait Change {
     /// The catalogue that it gives, or the first reason against it.
     ghost effect: { Dialect → Key → Catalogue → Result Catalogue Reason };
 
-    /// What it makes was not there in any part, so that taking it back loses nothing.
+    /// Where what is generated gives the catalogue back. True where nothing is generated.
     ghost fresh: { Dialect → Key → Catalogue → Bool };
 
     /// Its statements in order.
@@ -49,7 +49,7 @@ pub trait Change {
     /// Its type's name and the pairs of its map.
     ghost canonical: { Key → CanonicalChange };
 
-    /// Appends its statements.
+    /// Appends its statements, or none of them where there is no memory.
     fn statements(
         &self,
         alloc: Global,
@@ -57,7 +57,8 @@ pub trait Change {
         to: &mut Items<Statement>,
     ) -> Result<(), NoMemory>
         requires { is_for dialect (key self.now) ≡ true }
-        ensures { OnOk result (to.new ≡ to.old ++ gives dialect (key self.now)) };
+        ensures given { OnOk result (to.new ≡ to.old ++ gives dialect (key self.now)) }
+        ensures unchanged { OnErr result (to.new ≡ to.old) };
 
     /// `Absent` exactly where none are generated.
     fn undo(&self, alloc: Global, dialect: Dialect) -> Result<Undo, NoMemory>
@@ -70,10 +71,11 @@ pub trait Change {
         requires { is_for dialect (key self.now) ≡ true }
         ensures { result ≡ fresh dialect (key self.now) (K.catalogue look.now) };
 
-    /// Appends its canonical text.
+    /// Appends its canonical text, or nothing where there is no memory.
     fn canon(&self, to: &mut Canon) -> Result<(), NoMemory>
         ensures written { OnOk result (to.new.written ≡ to.old.written ++ canonical_change (canonical (key self.now))) }
-        ensures begun { OnOk result (to.new.begun ≡ to.old.begun) };
+        ensures begun { OnOk result (to.new.begun ≡ to.old.begun) }
+        ensures unchanged { OnErr result (to.new ≡ to.old) };
 
     /// Its statements are statements of the dialect.
     ghost spelled: { AreStatements is_for gives };
@@ -84,6 +86,6 @@ pub trait Change {
     /// What is generated takes it back where it is fresh.
     ghost restores: { TakeBack is_for effect fresh inverse };
 
-    /// Its text tells it.
-    ghost told: { AreTold canonical };
+    /// Its text tells it, among those that were read for its dialect.
+    ghost told: { AreTold is_for canonical };
 }

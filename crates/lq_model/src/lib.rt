@@ -11,6 +11,7 @@ mod fault;
 mod index;
 mod keeps_sound;
 mod look;
+mod no_row;
 mod phrase;
 mod query;
 mod sql_text;
@@ -22,7 +23,7 @@ mod view_queries;
 mod word;
 
 pub use caller::{By, ByText, Room};
-pub use canon::{Begun, Canon};
+pub use canon::{Begun, Canon, Mark};
 pub use canon_laws::{
     atoms_are_read_one_way, text_tells_change, text_tells_changes, text_tells_value,
 };
@@ -33,6 +34,7 @@ pub use fault::{AskFault, KindFault, ParseFault, StoreFault};
 pub use index::Index;
 pub use keeps_sound::statement_keeps_sound;
 pub use look::Look;
+pub use no_row::update_of_no_row_changes_nothing;
 pub use phrase::Phrase;
 pub use query::{Answered, Query, Wanted};
 pub use sql_text::SqlText;

@@ -77,7 +77,7 @@ pub fn drop_index_takes_back()
     ensures { DropIndexTakesBack }
 {}
 
-/// DROP VIEW takes CREATE VIEW back, where no view of the name was there.
+/// DROP VIEW takes CREATE VIEW back, and CREATE OR REPLACE VIEW where no view of the name was there.
 pub fn drop_view_takes_back()
     ensures { DropViewTakesBack }
 {}
