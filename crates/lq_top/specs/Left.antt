@@ -28,10 +28,11 @@ end_before (entry ∷ rest) = ordinary
 pub record HasRoom (start : ℕ) (entries : List (List (List ℕ))) : Type 0 where
   pub fits : (made rest : List (List (List ℕ))) (next : List (List ℕ)) → entries ≡ made ++ next ∷ rest → start + room_of made + size_of next ≤ end_before rest
 
--- behind a place the journal got these entries, for each of which there was room
+-- behind a place the journal got these entries, for each of which there was room; where there are none, no byte changed
 pub record IsDone (start : ℕ) (entries : List (List (List ℕ))) (before after : Option (List ℕ)) : Type 0 where
   pub now : Gains entries before after
   pub room : HasRoom start entries
+  pub unchanged : entries ≡ [] → after ≡ before
 
 -- What the journal got before an entry for which there is no room: nothing where that is the first. Otherwise the lock is freed, exactly where there is room for that.
 abbrev pub IsLeftFull : List (List (List ℕ)) → ℕ → Option (List ℕ) → Option (List ℕ) → Type 0

@@ -1,5 +1,6 @@
 pub mod Accepted
 pub mod Back
+pub mod Clock
 pub mod Fault
 pub mod Fit
 pub mod Given

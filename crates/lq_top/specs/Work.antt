@@ -65,10 +65,16 @@ IsNoWork asks files before =
 abbrev pub IsNotBuilt : List (List ℕ) → Option (List ℕ → Option (List ℕ)) → Option (List ℕ) → Type 0
 IsNotBuilt words files before = (asks : Asked) × (asked words ≡ Some asks) × IsNoWork asks files before
 
--- the same, of files and a disk that tell what they hold
-pub record IsBarred (words : List (List ℕ)) (files : Option (List ℕ → Option (List ℕ))) (before : Option (List ℕ)) : Type 0 where
-  pub held : List ℕ → Option (List ℕ)
+-- the disk tells bytes for which there is no such task
+pub record HasNoTask (asks : Asked) (sets : List ChangeSet) (before : Option (List ℕ)) : Type 0 where
   pub bytes : List ℕ
-  pub files_are : files ≡ Some held
   pub bytes_are : before ≡ Some bytes
-  pub barred : IsNotBuilt words files before
+  pub none : IsNoTask asks.job asks.path sets before
+
+-- The words ask for a command, and the files tell that they give no such changelog, or give one for which the bytes that the disk tells have no such task.
+pub record IsBarred (words : List (List ℕ)) (files : Option (List ℕ → Option (List ℕ))) (before : Option (List ℕ)) : Type 0 where
+  pub asks : Asked
+  pub asked_is : asked words ≡ Some asks
+  pub held : List ℕ → Option (List ℕ)
+  pub files_are : files ≡ Some held
+  pub barred : (given held asks.path ≡ None) ⊎ ((sets : List ChangeSet) × ((given held asks.path ≡ Some sets) × HasNoTask asks sets before))

@@ -93,6 +93,7 @@ pub fn write<D: Disk>(journal: Journal<D>, entries: &[EncodedEntry]) -> Written<
     requires run { IsRun entries.now }
     ensures gains { OnOk result.done (Gains entries.now (D.told (disk_of journal)) (D.told result.disk)) }
     ensures room { OnOk result.done (HasRoom (used_of journal) entries.now) }
+    ensures unchanged { entries.now ≡ [] → D.told result.disk ≡ D.told (disk_of journal) }
     ensures unfinished { IfErr result.done (λ fault. IsUnfinished (fault_of_append fault) (used_of journal) entries.now (D.told (disk_of journal)) (D.told result.disk)) }
     ensures later { D.faults (disk_of journal) ≤ D.faults result.disk }
     ensures disk { result.done ≡ Err AppendFault.Disk → Rose (D.faults (disk_of journal)) (D.faults result.disk) }

@@ -5,6 +5,7 @@ ghost use Rattle.lq_outside.specs.Sink.{IsPart};
 ghost use Rattle.lq_top.specs.Fault.{status_of};
 ghost use Rattle.lq_track.specs.Lock.{free};
 ghost use Rattle.lq_top.specs.Back.{GoesBack};
+ghost use Rattle.lq_top.specs.Clock.{ReadAtMostOnce, ReadOnce};
 ghost use Rattle.lq_top.specs.Held.{HoldsSame};
 ghost use Rattle.lq_top.specs.Run.{IsRefusal, IsSilent, IsTaken, IsWorked, WasDone, WasLeft, WasUpdated};
 ghost use Rattle.lq_top.specs.Status.{IsFixed, log_text};
@@ -102,8 +103,13 @@ pub fn run<F: Files, D: Disk, C: Clock, O: Sink, L: Sink>(
     ensures not_built_only { IsBarred (map (λ word. string_bytes word) words.now) (F.told files.old) (D.told disk) → (Rose (F.faults files.old) (F.faults files.new) → ⊥) → (Rose (D.faults disk) (D.faults result.disk) → ⊥)
         → (result.status ≡ Status.NotBuilt) ⊎ (result.status ≡ Status.OutOfMemory) }
 
-    // A refusal changes no byte.
+    // A refusal changes no byte, and one for the words or the files leaves the disk as it was given.
     ensures refusals { IsRefusal result.status → D.told result.disk ≡ D.told disk }
+    ensures untouched { (result.status ≡ Status.Usage) ⊎ (result.status ≡ Status.ReadFault) → result.disk ≡ disk }
+
+    // The clock is read once where the work was done, and never twice.
+    ensures once { IsWorked result.status → ReadOnce (C.to_come clock.old) (C.to_come clock.new) (C.last clock.new) }
+    ensures at_most_once { ReadAtMostOnce (C.to_come clock.old) (C.to_come clock.new) (C.last clock.new) }
 
     // The journal got the work's entries, and its text is printed, or for a write fault a front of it.
     ensures done { result.status ≡ Status.Done → (w : Work (map (λ word. string_bytes word) words.now) (F.told files.old) (D.told disk))

@@ -1,6 +1,7 @@
-ghost use Rattle.std.specs.Prelude.{◌≡◌, ◌≤◌, List, Option, ℕ, IfOk, IfErr, Err, None, length, map, min, string_bytes};
+ghost use Rattle.std.specs.Prelude.{◌≡◌, ◌≤◌, ◌⊎◌, List, Option, ℕ, IfOk, IfErr, Err, None, length, map, min, string_bytes};
 ghost use Rattle.lq_journal.specs.State.{disk_of, used_of};
 ghost use Rattle.lq_outside.specs.Count.{Rose};
+ghost use Rattle.lq_top.specs.Clock.{ReadAtMostOnce, ReadOnce};
 ghost use Rattle.lq_top.specs.Given.{stamp_of};
 ghost use Rattle.lq_top.specs.Journal.{IsJournal, place_after};
 ghost use Rattle.lq_top.specs.Left.{IsDone, IsRun, IsUnfinished};
@@ -137,6 +138,8 @@ fn on_disk<D: Disk, C: Clock>(
 ) -> Worked<D>
     ensures done { IfOk result.done (IsCarried line.entry.job (stamp_of who.now (C.last clock.new)) line.entry.path.now sets.now (D.told disk) (D.told result.disk)) }
     ensures undone { IfErr result.done (λ fault. IsUndone line.entry.job (stamp_of who.now (C.last clock.new)) line.entry.path.now sets.now (D.told disk) fault (D.told result.disk)) }
+    ensures once { IfOk result.done (λ text. ReadOnce (C.to_come clock.old) (C.to_come clock.new) (C.last clock.new)) }
+    ensures at_most_once { ReadAtMostOnce (C.to_come clock.old) (C.to_come clock.new) (C.last clock.new) }
     ensures later { D.faults disk ≤ D.faults result.disk }
     ensures disk { result.done ≡ Err Fault.Disk → Rose (D.faults disk) (D.faults result.disk) }
 {
@@ -179,6 +182,9 @@ pub fn work<F: Files, D: Disk, C: Clock>(
     ensures done { IfOk result.done (λ text. (w : Work (map (λ word. string_bytes word) words.now) (F.told files.old) (D.told disk))
         × (WasDone (map (λ word. string_bytes word) words.now) who.now (F.told files.old) (C.last clock.new) (D.told disk) w (D.told result.disk) × (text ≡ output_on w.task))) }
     ensures undone { IfErr result.done (λ fault. WasNotDone (map (λ word. string_bytes word) words.now) who.now (F.told files.old) (C.last clock.new) (D.told disk) fault (D.told result.disk)) }
+    ensures untouched { (result.done ≡ Err Fault.Usage) ⊎ (result.done ≡ Err Fault.Read) → result.disk ≡ disk }
+    ensures once { IfOk result.done (λ text. ReadOnce (C.to_come clock.old) (C.to_come clock.new) (C.last clock.new)) }
+    ensures at_most_once { ReadAtMostOnce (C.to_come clock.old) (C.to_come clock.new) (C.last clock.new) }
     ensures read { result.done ≡ Err Fault.Read → Rose (F.faults files.old) (F.faults files.new) }
     ensures disk { result.done ≡ Err Fault.Disk → Rose (D.faults disk) (D.faults result.disk) }
 {
