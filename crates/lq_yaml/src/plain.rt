@@ -1,10 +1,10 @@
 ghost use Rattle.std.specs.Prelude.{◌≡◌, ◌≤◌, ◌&&◌, length, cond, Some, None};
 ghost use Rattle.std.specs.Str.Parse.{signed_digits_value};
-ghost use Rattle.lq_yaml.specs.Scalar.{stops, plain_length, plain_text, is_plain, begins_otherwise, ends_with_colon};
+ghost use Rattle.lq_yaml.specs.Scalar.{stops, plain_length, is_plain, begins_otherwise, ends_with_colon};
 ghost use Rattle.lq_yaml.specs.Meaning.{is_mark, is_whole, is_begun, is_digit, fits_128, plain_node};
 ghost use Rattle.std.specs.List.{list_all};
 
-use crate::chars::{begins_with, is_word_end, trimmed};
+use crate::chars::{begins_with, is_word_end};
 use lq_base::Text;
 use lq_tree::Node;
 
@@ -29,14 +29,6 @@ fn stops(c: char, more: &[char]) -> bool
     ensures { result ≡ stops c more.now }
 {
     (c == ':' && is_word_end(more)) || (c == ' ' && begins_with('#', more))
-}
-
-/// The plain scalar at the front, whatever it begins with.
-pub fn plain_text(from: &[char]) -> &[char]
-    ensures { result.now ≡ plain_text from.now }
-{
-    let length = plain_length(from);
-    trimmed(&from[..length])
 }
 
 /// Whether a plain scalar may begin so.
