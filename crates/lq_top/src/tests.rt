@@ -3,7 +3,7 @@ use crate::writing::append_all;
 use crate::{Status, run};
 use lq_base::{Dialect, Items, Text};
 use lq_journal::{EncodedEntry, Entry, Journal};
-use lq_outside::{MemDisk, MemFiles, MemSink, SetClock};
+use lq_outside::{Clock, MemDisk, MemFiles, MemSink, SetClock};
 use std::alloc::Global;
 use std::process::Abort;
 
@@ -54,13 +54,14 @@ const NONE: Failing = Failing {
     log: 0,
 };
 
-/// What a run left.
+/// What a run left, and what its clock answers next.
 #[derive(Drop)]
 struct Ran {
     status: Status,
     bytes: Vec<u8>,
     out: Vec<u8>,
     log: Vec<u8>,
+    next: u64,
 }
 
 fn one_call(rt: &impl Abort, alloc: Global, number: u64) -> Vec<u64> {
@@ -92,7 +93,8 @@ fn words_of(rt: &impl Abort, alloc: Global, given: &[&str]) -> Vec<String> {
     words
 }
 
-// Runs a command over a changelog at `db/r1.json` and a database file of these bytes.
+// Runs a command over a changelog at `db/r1.json` and a database file of these bytes, a second after
+// 1970 began.
 fn run_over(
     rt: &impl Abort,
     alloc: Global,
@@ -101,11 +103,23 @@ fn run_over(
     bytes: &[u8],
     failing: Failing,
 ) -> Ran {
+    run_at(rt, alloc, words, changelog, bytes, failing, [1000, 1000])
+}
+
+// The same with a clock of two answers.
+fn run_at(
+    rt: &impl Abort,
+    alloc: Global,
+    words: &[&str],
+    changelog: &str,
+    bytes: &[u8],
+    failing: Failing,
+    readings: [u64; 2],
+) -> Ran {
     let words = words_of(rt, alloc, words);
     let mut files = files_of(rt, alloc, changelog, failing.files);
     let disk = MemDisk::new(copied(rt, alloc, bytes), one_call(rt, alloc, failing.disk));
-    let readings = Vec::from_slice(alloc, &[1000]).expect(rt, "memory");
-    let mut clock = SetClock::new(readings);
+    let mut clock = SetClock::new(Vec::from_slice(alloc, &readings).expect(rt, "memory"));
     let mut out = MemSink::new(alloc, one_call(rt, alloc, failing.out));
     let mut log = MemSink::new(alloc, one_call(rt, alloc, failing.log));
     let ended = run(
@@ -116,6 +130,7 @@ fn run_over(
         bytes: copied(rt, alloc, ended.disk.bytes()),
         out: copied(rt, alloc, out.bytes()),
         log: copied(rt, alloc, log.bytes()),
+        next: clock.now(),
     }
 }
 
@@ -188,6 +203,17 @@ fn two_changesets(rt: HostRuntime) {
     assert_texts(&rt, second, &[tables[2], tables[3], ROWS_OF_TWO[1]]);
 }
 
+#[test]
+fn two_readings(rt: HostRuntime) {
+    let ran = run_at(&rt, rt.alloc(), &UPDATE, TWO, b"", NONE, [1000, 2000]);
+    assert!(rt; ran.status == Status::Done);
+    assert_eq!(rt; ran.next, 2000);
+    let once = run_over(&rt, rt.alloc(), &UPDATE, TWO, b"", NONE);
+    assert!(rt; ran.bytes == once.bytes);
+    let late = run_at(&rt, rt.alloc(), &UPDATE, TWO, b"", NONE, [2000, 2000]);
+    assert!(rt; ran.bytes != late.bytes);
+}
+
 const THREE: &str = r#"{"databaseChangeLog":[
 {"changeSet":{"id":"1","author":"ann","changes":[{"createTable":{"tableName":"t","columns":[{"column":{"name":"id","type":"int"}}]}}]}},
 {"changeSet":{"id":"2","author":"ann","changes":[
@@ -203,6 +229,8 @@ const DELETED: &str =
     r#"DELETE FROM "DATABASECHANGELOG" WHERE (("ID" = '1' AND "AUTHOR" = 'ann') AND "FILENAME" = 'db/r1.json')"#;
 
 const MADE: &str = r#"CREATE TABLE "t" ("id" INTEGER)"#;
+
+const NOTHING_RAN: &str = "update: 0 ran, 0 ran again, 0 marked, 0 skipped, 0 not fresh\n";
 
 fn back(count: &str) -> [&str; 4] {
     [
@@ -242,8 +270,7 @@ fn none_back(rt: HostRuntime) {
     assert_done(&rt, &ran, "rollback: 0 rolled back\n");
     assert!(rt; ran.bytes == first.bytes);
     let ran = run_over(&rt, rt.alloc(), &UPDATE, ONE, &first.bytes, NONE);
-    let wanted = "update: 0 ran, 0 ran again, 0 marked, 0 skipped, 0 not fresh\n";
-    assert_done(&rt, &ran, wanted);
+    assert_done(&rt, &ran, NOTHING_RAN);
     assert!(rt; ran.bytes == first.bytes);
 }
 
@@ -421,16 +448,28 @@ fn not_taken(rt: HostRuntime) {
     assert!(rt; ran.status == Status::Done);
 }
 
-// Updates the database of a journal with these texts: the first entry of the update has these.
+// Updates the database of a journal with these texts: the first entry of the update has these, and
+// the database is updated then.
 fn assert_opens(rt: &impl Abort, alloc: Global, texts: &[&str], opening: &[&str]) {
     let bytes = journal_of(rt, alloc, texts);
     let before = entries_of(rt, alloc, &bytes).len();
     let ran = run_over(rt, alloc, &UPDATE, ONE, &bytes, NONE);
     assert!(rt; ran.status == Status::Done);
     let entries = entries_of(rt, alloc, &ran.bytes);
-    match entries.as_slice().get(before) {
-        Some(entry) => assert_texts(rt, entry, opening),
-        None => assert!(rt; false, "an opening"),
+    let mut new = entries.as_slice().iter().skip(before);
+    assert_next(rt, new.next(), opening);
+    assert_next(rt, new.next(), &[MADE, ROW_OF_ONE]);
+    assert_next(rt, new.next(), &[FREED]);
+    assert!(rt; new.next().is_none());
+    let again = run_over(rt, alloc, &UPDATE, ONE, &ran.bytes, NONE);
+    assert_done(rt, &again, NOTHING_RAN);
+    assert!(rt; again.bytes == ran.bytes);
+}
+
+fn assert_next(rt: &impl Abort, entry: Option<&Entry>, wanted: &[&str]) {
+    match entry {
+        Some(entry) => assert_texts(rt, entry, wanted),
+        None => assert!(rt; false, "an entry"),
     }
 }
 
@@ -446,66 +485,104 @@ fn opened_partly(rt: HostRuntime) {
 #[test]
 fn nothing_to_do(rt: HostRuntime) {
     let empty = r#"{"databaseChangeLog":[]}"#;
-    let ran = run_over(&rt, rt.alloc(), &UPDATE, empty, b"", NONE);
-    assert!(rt; ran.status == Status::Done);
-    let wanted = "update: 0 ran, 0 ran again, 0 marked, 0 skipped, 0 not fresh\n";
-    assert!(rt; ran.out.as_slice() == wanted.as_bytes());
-    assert!(rt; ran.bytes.is_empty());
+    let none = back("--count=0");
+    let nothing_back = "rollback: 0 rolled back\n";
+    let short = [
+        b"".as_slice(),
+        b"ten bytes.".as_slice(),
+        b"12345678901234567".as_slice(),
+    ];
+    for bytes in short {
+        let ran = run_over(&rt, rt.alloc(), &UPDATE, empty, bytes, NONE);
+        assert_done(&rt, &ran, NOTHING_RAN);
+        assert!(rt; ran.bytes.as_slice() == bytes);
+        let ran = run_over(&rt, rt.alloc(), &none, empty, bytes, NONE);
+        assert_done(&rt, &ran, nothing_back);
+        assert!(rt; ran.bytes.as_slice() == bytes);
+    }
 }
 
-fn status_with(rt: &impl Abort, alloc: Global, failing: Failing) -> Status {
-    run_over(rt, alloc, &UPDATE, ONE, b"", failing).status
+// Runs a command on a database file of these bytes: its file fails, and its output.
+fn assert_faults(rt: &impl Abort, alloc: Global, words: &[&str], bytes: &[u8]) {
+    let good = run_over(rt, alloc, words, ONE, bytes, NONE);
+    assert!(rt; good.status == Status::Done);
+    let failing = Failing { files: 1, ..NONE };
+    let ran = run_over(rt, alloc, words, ONE, bytes, failing);
+    assert!(rt; ran.status == Status::ReadFault);
+    assert!(rt; ran.bytes.as_slice() == bytes && ran.out.is_empty());
+    let failing = Failing { out: 1, ..NONE };
+    let ran = run_over(rt, alloc, words, ONE, bytes, failing);
+    assert!(rt; ran.status == Status::WriteFault);
+    assert!(rt; ran.bytes == good.bytes && ran.out.is_empty());
 }
 
 #[test]
 fn failing_calls(rt: HostRuntime) {
-    let failing = Failing { files: 1, ..NONE };
-    assert!(rt; status_with(&rt, rt.alloc(), failing) == Status::ReadFault);
+    let first = run_over(&rt, rt.alloc(), &UPDATE, ONE, b"", NONE);
+    assert_faults(&rt, rt.alloc(), &UPDATE, b"");
+    assert_faults(&rt, rt.alloc(), &back("--count=1"), &first.bytes);
+}
+
+// A fault of the log leaves all but the log the same.
+fn assert_log_aside(
+    rt: &impl Abort,
+    alloc: Global,
+    words: &[&str],
+    changelog: &str,
+    failing: Failing,
+    status: Status,
+) {
+    let good = run_over(rt, alloc, words, changelog, b"", failing);
+    assert!(rt; good.status == status && !good.log.is_empty());
+    let failing = Failing { log: 1, ..failing };
+    let ran = run_over(rt, alloc, words, changelog, b"", failing);
+    assert!(rt; ran.status == status && ran.log.is_empty());
+    assert!(rt; ran.bytes == good.bytes && ran.out == good.out);
+}
+
+#[test]
+fn failing_log(rt: HostRuntime) {
+    let wrong = ["update"];
+    assert_log_aside(&rt, rt.alloc(), &wrong, ONE, NONE, Status::Usage);
+    assert_log_aside(&rt, rt.alloc(), &UPDATE, "{", NONE, Status::NotBuilt);
     let failing = Failing { out: 1, ..NONE };
-    assert!(rt; status_with(&rt, rt.alloc(), failing) == Status::WriteFault);
-    let failing = Failing { log: 1, ..NONE };
-    assert!(rt; status_with(&rt, rt.alloc(), failing) == Status::Done);
+    let write = Status::WriteFault;
+    assert_log_aside(&rt, rt.alloc(), &UPDATE, ONE, failing, write);
+}
+
+fn is_front(found: &[Entry], whole: &[Entry]) -> bool {
+    found.len() <= whole.len()
+        && found.iter().zip(whole).all(|(one, other)| one.texts.as_slice()
+            == other.texts.as_slice())
+}
+
+// Runs a command on a database file of these bytes: each of so many calls of the disk fails in turn,
+// and the next is none of the command's.
+fn assert_cuts(rt: &impl Abort, alloc: Global, words: &[&str], bytes: &[u8], calls: u64) {
+    let start = entries_of(rt, alloc, bytes).len();
+    let good = run_over(rt, alloc, words, ONE, bytes, NONE);
+    let whole = entries_of(rt, alloc, &good.bytes);
+    for disk in 1..=calls {
+        let ran = run_over(rt, alloc, words, ONE, bytes, Failing { disk, ..NONE });
+        assert!(rt; ran.status == Status::DiskFault && ran.out.is_empty());
+        let found = entries_of(rt, alloc, &ran.bytes);
+        assert!(rt; start <= found.len());
+        assert!(rt; is_front(found.as_slice(), whole.as_slice()));
+    }
+    let disk = calls.saturating_add(1);
+    let ran = run_over(rt, alloc, words, ONE, bytes, Failing { disk, ..NONE });
+    assert!(rt; ran.status == Status::Done && ran.bytes == good.bytes);
 }
 
 #[test]
 fn failing_disk_calls(rt: HostRuntime) {
     // sync, size, read; header, sync; and for each of three entries two writes and two syncs.
-    for number in 1..19u64 {
-        let failing = Failing {
-            disk: number,
-            ..NONE
-        };
-        let wanted = if number <= 17 {
-            Status::DiskFault
-        } else {
-            Status::Done
-        };
-        assert!(rt; status_with(&rt, rt.alloc(), failing) == wanted);
-    }
+    assert_cuts(&rt, rt.alloc(), &UPDATE, b"", 17);
 }
 
 #[test]
 fn failing_disk_calls_of_a_rollback(rt: HostRuntime) {
     let first = run_over(&rt, rt.alloc(), &UPDATE, ONE, b"", NONE);
     // sync, size, read; and for each of three entries two writes and two syncs.
-    for number in 1..17u64 {
-        let failing = Failing {
-            disk: number,
-            ..NONE
-        };
-        let ran = run_over(
-            &rt,
-            rt.alloc(),
-            &back("--count=1"),
-            ONE,
-            &first.bytes,
-            failing,
-        );
-        let wanted = if number <= 15 {
-            Status::DiskFault
-        } else {
-            Status::Done
-        };
-        assert!(rt; ran.status == wanted);
-    }
+    assert_cuts(&rt, rt.alloc(), &back("--count=1"), &first.bytes, 15);
 }
