@@ -1,4 +1,4 @@
--- Blanks that are cut off a text's front change none of its words.
+-- Spaces that are cut off a text's front change none of its words.
 use Rattle.std.proofs.Common.{◌≡◌, ℕ, List, [], ◌∷◌, drop, ◌∙◌, ap, sym, refl}
 use Rattle.std.specs.Str.Pattern.{CutsPrefixes, FindsCharPrefix, HasCharAt}
 use lib.Utf8.{encode}

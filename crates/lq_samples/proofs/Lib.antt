@@ -1,3 +1,4 @@
 pub mod Lower
 pub mod Pushed
-pub mod FrontBlanks
+pub mod FrontSpaces
+pub mod WentOn

@@ -2,7 +2,7 @@
 use Rattle.std.proofs.Common.{ap, sym, ◌∙◌, arith, tests}
 use Rattle.std.proofs.lemmas.Slice.Eq.{bytes_eq-Decides}
 use Rattle.std.specs.Char.{to_ascii_lowercase}
-use Rattle.std.specs.Prelude.{Bool, List, [], bytes_eq, codes, map, refl, ℕ, ◌||◌, ◌∷◌, ◌≡◌}
+use Rattle.std.specs.Prelude.{List, [], bytes_eq, codes, map, refl, ℕ, ◌||◌, ◌∷◌, ◌≡◌}
 use Rattle.std.specs.Str.{str_eq_ignore_ascii_case, str_to_ascii_lowercase}
 use Rattle.lq_base.specs.Name.{is_named}
 use Rattle.lq_model.specs.Reserved.{is_tracking, lower}

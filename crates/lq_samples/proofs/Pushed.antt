@@ -1,7 +1,7 @@
 -- Four parts written one after another.
-use Rattle.std.proofs.Common.{ap, ◌∙◌, rules}
+use Rattle.std.proofs.Common.{rules}
 use Rattle.std.proofs.lemmas.List.{append_assoc}
-use Rattle.std.specs.Prelude.{List, [], ◌++◌, refl, ℕ, ◌≡◌}
+use Rattle.std.specs.Prelude.{List, [], ◌++◌, ℕ, ◌≡◌}
 
 regrouped : (o a b x y : List ℕ) → ((o ++ a) ++ b) ++ x ++ y ≡ o ++ (a ++ (b ++ x ++ []) ++ y)
 regrouped o a b x y = search (rules, append_assoc)

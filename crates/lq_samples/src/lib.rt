@@ -1,5 +1,5 @@
 //! Small implementations of lq_model's traits, which show that the traits can be met: a look at a
-//! catalogue without objects, a change that makes a sequence, and SQL text without blanks at its front.
+//! catalogue without objects, a change that makes a sequence, and SQL text without spaces at its front.
 #![tactic(auto)]
 
 mod new_sequence;

@@ -1,5 +1,6 @@
-ghost use Rattle.std.specs.Prelude.{◌≡◌, ◌++◌, OnOk, codes};
-ghost use Rattle.lq_model.specs.Canon.{canonical, map_of, no_pairs, pair, text};
+ghost use Rattle.std.specs.Prelude.{◌≡◌, ◌++◌, OnErr, OnOk, codes};
+ghost use Rattle.lq_model.specs.Canon.{GoesOn, canonical, canonical_change, map_of, no_pairs, pair, text};
+ghost use Rattle.lq_samples.specs.NewSequence.{canonical_of};
 
 use lq_base::{Dialect, Duplicate, Items, Name, NoMemory};
 use lq_model::{Canon, Change, Look, Statement, Undo};
@@ -11,15 +12,27 @@ pub struct NewSequence {
     pub name: Name,
 }
 
-/// The map of the change's one key.
+/// The map of the change's one key, or a front of it where there is no memory.
 fn write_name(to: &mut Canon, name: &str) -> Result<(), NoMemory>
     ensures written { OnOk result (to.new.written ≡ to.old.written ++ canonical (map_of (pair (codes "sequenceName") (text name.now) no_pairs))) }
     ensures begun { OnOk result (to.new.begun ≡ to.old.begun) }
+    ensures front { OnErr result (GoesOn to.old to.new) }
 {
     to.begin_map()?;
     to.key("sequenceName")?;
     to.text(name)?;
     to.end_map()?;
+    Ok(())
+}
+
+/// The change of that name, or a front of it where there is no memory.
+fn write_change(to: &mut Canon, name: &str) -> Result<(), NoMemory>
+    ensures written { OnOk result (to.new.written ≡ to.old.written ++ canonical_change (canonical_of name.now)) }
+    ensures begun { OnOk result (to.new.begun ≡ to.old.begun) }
+    ensures front { OnErr result (GoesOn to.old to.new) }
+{
+    to.key("createSequence")?;
+    write_name(to, name)?;
     Ok(())
 }
 
@@ -71,8 +84,11 @@ impl Change for NewSequence {
     }
 
     fn canon(&self, to: &mut Canon) -> Result<(), NoMemory> {
-        to.key("createSequence")?;
-        write_name(to, self.name.as_key())?;
+        let mark = to.mark();
+        if write_change(to, self.name.as_key()).is_err() {
+            to.go_back(mark);
+            return Err(NoMemory);
+        }
         Ok(())
     }
 

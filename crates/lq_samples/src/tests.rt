@@ -86,7 +86,7 @@ fn is_query<P: SqlText>(sql: &P, alloc: Global, text: &str) -> bool {
 }
 
 #[test]
-fn blanks_at_the_front_are_dropped(rt: HostRuntime) {
+fn spaces_at_the_front_are_dropped(rt: HostRuntime) {
     let sql = Trimmed {
         reader: WithoutStatements,
     };

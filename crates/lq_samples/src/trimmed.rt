@@ -7,14 +7,14 @@ use lq_model::{ParseFault, Query, SqlText, Statement, Test};
 use lq_sqllex::laws::lexemes_go_on;
 use std::alloc::Global;
 
-/// SQL text of a reader's dialect, handed to that reader without the blanks at its front.
+/// SQL text of a reader's dialect, handed to that reader without the spaces at its front.
 #[derive(Clone, Copy, Debug)]
 pub struct Trimmed<P> {
     pub reader: P,
 }
 
-/// The text behind the blanks at its front, which spells the same.
-fn without_blanks(text: &str) -> &str
+/// The text behind the spaces at its front, which spells the same.
+fn without_spaces(text: &str) -> &str
     ensures statement { (d : Dialect) → statement_in d result.now ≡ statement_in d text.now }
     ensures query { (d : Dialect) → query_in d result.now ≡ query_in d text.now }
     ensures test { (d : Dialect) → test_in d result.now ≡ test_in d text.now }
@@ -31,14 +31,14 @@ impl<P: SqlText> SqlText for Trimmed<P> {
     }
 
     fn parse(&self, alloc: Global, text: &str) -> Result<Statement, ParseFault> {
-        self.reader.parse(alloc, without_blanks(text))
+        self.reader.parse(alloc, without_spaces(text))
     }
 
     fn parse_query(&self, alloc: Global, text: &str) -> Result<Query, ParseFault> {
-        self.reader.parse_query(alloc, without_blanks(text))
+        self.reader.parse_query(alloc, without_spaces(text))
     }
 
     fn parse_test(&self, alloc: Global, text: &str) -> Result<Test, ParseFault> {
-        self.reader.parse_test(alloc, without_blanks(text))
+        self.reader.parse_test(alloc, without_spaces(text))
     }
 }
