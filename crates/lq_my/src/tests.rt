@@ -16,6 +16,21 @@ fn told<T: Drop>(answer: Result<T, ParseFault>) -> &'static str {
     }
 }
 
+fn is_drop(statement: &Statement, table: &str) -> bool {
+    match statement {
+        Statement::DropTable { table: name } => name.as_key() == table,
+        _ => false,
+    }
+}
+
+// Whether it is the statement that drops this table.
+fn drops(answer: Result<Statement, ParseFault>, table: &str) -> bool {
+    match answer {
+        Ok(statement) => is_drop(&statement, table),
+        Err(_) => false,
+    }
+}
+
 // The statement goes where its text is made.
 fn printed<P: SqlText>(sql: &P, alloc: Global, statement: Statement) -> Result<Text, NoMemory>
     requires { is_statement P.dialect statement ≡ true }
@@ -36,7 +51,7 @@ fn prints_a_statement(rt: HostRuntime) {
 
 #[test]
 fn reads_a_statement(rt: HostRuntime) {
-    assert_eq!(rt; told(My.parse(rt.alloc(), "drop table T")), "read");
+    assert!(rt; drops(My.parse(rt.alloc(), "drop table T"), "T"));
 }
 
 #[test]
@@ -55,4 +70,14 @@ fn reads_a_query(rt: HostRuntime) {
 #[test]
 fn reads_a_test(rt: HostRuntime) {
     assert_eq!(rt; told(My.parse_test(rt.alloc(), "`a` = 1")), "read");
+}
+
+#[test]
+fn tells_what_is_no_query(rt: HostRuntime) {
+    assert_eq!(rt; told(My.parse_query(rt.alloc(), "SELEC")), "not SQL");
+}
+
+#[test]
+fn tells_what_is_no_test(rt: HostRuntime) {
+    assert_eq!(rt; told(My.parse_test(rt.alloc(), "SELEC")), "not SQL");
 }
