@@ -153,6 +153,14 @@ fn postgresql_reads_other_spellings(rt: HostRuntime) {
             "INSERT INTO \"t\" VALUES (12, 'it''s')",
         ),
         (
+            "insert into count (a) values (1)",
+            "INSERT INTO \"count\" (\"a\") VALUES (1)",
+        ),
+        (
+            "create table count (a int)",
+            "CREATE TABLE \"count\" (\"a\" INTEGER)",
+        ),
+        (
             "update index set key = 1 where no != 2",
             "UPDATE \"index\" SET \"key\" = 1 WHERE \"no\" <> 2",
         ),
