@@ -6,6 +6,8 @@ mod file_disk;
 mod host_clock;
 mod host_files;
 mod stream;
+#[cfg(test)]
+mod tests;
 mod walk;
 
 use file_disk::FileDisk;
