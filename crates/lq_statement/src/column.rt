@@ -1,6 +1,8 @@
 ghost use Rattle.std.specs.Prelude.{◌≡◌};
+ghost use Rattle.lq_base.specs.declared.dialect.Dialect.TheVariants.{Postgresql};
 ghost use Rattle.lq_model.specs.Reads.{Gives, Reads};
 ghost use Rattle.lq_model.specs.SqlColumn as spec;
+ghost use Rattle.lq_model.specs.declared.word.WordKind.TheVariants as word;
 
 use crate::given::given;
 use crate::kind::column_kind;
@@ -108,6 +110,48 @@ fn target(alloc: Global, words: &mut Words<'_>) -> Result<Target, ParseFault>
     Ok(Target { table, column })
 }
 
+// The column with the clause that begins with one word, which is the same in both dialects.
+
+fn not_null(words: &mut Words<'_>, column: StatedColumn) -> Result<StatedColumn, ParseFault>
+    ensures { Reads (spec.clause_by Postgresql column word.Not words.old) result words.new }
+{
+    words.skip();
+    words.expect(WordKind::Null)?;
+    given(with_nullable(column, false))
+}
+
+fn defaulted(
+    alloc: Global,
+    words: &mut Words<'_>,
+    column: StatedColumn,
+) -> Result<StatedColumn, ParseFault>
+    ensures { Reads (spec.clause_by Postgresql column word.Default words.old) result words.new }
+{
+    words.skip();
+    let default = literal(alloc, words)?;
+    given(with_default(column, default))
+}
+
+fn primary_key(words: &mut Words<'_>, column: StatedColumn) -> Result<StatedColumn, ParseFault>
+    ensures { Reads (spec.clause_by Postgresql column word.Primary words.old) result words.new }
+{
+    words.skip();
+    words.expect(WordKind::Key)?;
+    given(with_key(column))
+}
+
+fn references(
+    alloc: Global,
+    words: &mut Words<'_>,
+    column: StatedColumn,
+) -> Result<StatedColumn, ParseFault>
+    ensures { Reads (spec.clause_by Postgresql column word.References words.old) result words.new }
+{
+    words.skip();
+    let target = target(alloc, words)?;
+    given(with_target(column, target))
+}
+
 // The column with the clause that comes next, or as it is where none comes.
 #[tactic(auto, unfolding(lq_model::specs::SqlColumn::clause))]
 fn clause(
@@ -119,34 +163,18 @@ fn clause(
     ensures { Reads (spec.clause dialect column words.old) result words.new }
 {
     match (dialect, words.peek()) {
-        (_, WordKind::Not) => {
-            words.skip();
-            words.expect(WordKind::Null)?;
-            given(with_nullable(column, false))
-        }
+        (_, WordKind::Not) => not_null(words, column),
         (_, WordKind::Null) => {
             words.skip();
             given(with_nullable(column, true))
         }
-        (_, WordKind::Default) => {
-            words.skip();
-            let default = literal(alloc, words)?;
-            given(with_default(column, default))
-        }
-        (_, WordKind::Primary) => {
-            words.skip();
-            words.expect(WordKind::Key)?;
-            given(with_key(column))
-        }
+        (_, WordKind::Default) => defaulted(alloc, words, column),
+        (_, WordKind::Primary) => primary_key(words, column),
         (_, WordKind::Unique) => {
             words.skip();
             given(with_unique(column))
         }
-        (_, WordKind::References) => {
-            words.skip();
-            let target = target(alloc, words)?;
-            given(with_target(column, target))
-        }
+        (_, WordKind::References) => references(alloc, words, column),
         (Dialect::Postgresql, WordKind::Generated) => {
             identity(words)?;
             given(with_number(column))
