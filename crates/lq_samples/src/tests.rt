@@ -1,10 +1,15 @@
+ghost use Rattle.std.specs.Prelude.{◌≡◌, true};
+ghost use Rattle.lq_model.specs.Statement.{is_statement};
+
 use crate::{NewSequence, NoObjects, Trimmed};
 use lq_base::{Dialect, Items, Name, NoMemory, Reason, Text};
 use lq_model::{
     AskFault, By, Canon, Change, Look, ParseFault, Query, SqlText, Statement, Test, Undo, Wanted,
 };
 use lq_parse::{parse_query, parse_test};
+use lq_sql::print;
 use std::alloc::Global;
+use std::process::Abort;
 use std::test::Fail;
 
 fn new_sequence(alloc: Global) -> Result<NewSequence, NoMemory> {
@@ -51,17 +56,17 @@ fn drops_one(undo: &Undo) -> bool {
     }
 }
 
-// A reader of queries and tests, which finds no memory for statements.
+// Texts of PostgreSQL, but that no memory is found for a statement that is read.
 #[derive(Drop)]
-struct WithoutStatements;
+struct Postgres;
 
-impl SqlText for WithoutStatements {
+impl SqlText for Postgres {
     ghost use Rattle.lq_base.specs.declared.dialect.Dialect.TheVariants.{Postgresql};
 
     ghost dialect = { Postgresql };
 
-    fn print(&self, _alloc: Global, _statement: &Statement) -> Result<Text, NoMemory> {
-        Err(NoMemory)
+    fn print(&self, alloc: Global, statement: &Statement) -> Result<Text, NoMemory> {
+        print(alloc, Dialect::Postgresql, statement)
     }
 
     fn parse(&self, _alloc: Global, _text: &str) -> Result<Statement, ParseFault> {
@@ -77,6 +82,18 @@ impl SqlText for WithoutStatements {
     }
 }
 
+// The statement goes where its text is made.
+fn printed<P: SqlText>(sql: &P, alloc: Global, statement: Statement) -> Result<Text, NoMemory>
+    requires { is_statement P.dialect statement ≡ true }
+{
+    sql.print(alloc, &statement)
+}
+
+fn drop_text(alloc: Global, table: Name) -> Result<Text, NoMemory> {
+    let sql = Trimmed { reader: Postgres };
+    printed(&sql, alloc, Statement::DropTable { table })
+}
+
 fn is_test<P: SqlText>(sql: &P, alloc: Global, text: &str) -> bool {
     sql.parse_test(alloc, text).is_ok()
 }
@@ -87,12 +104,17 @@ fn is_query<P: SqlText>(sql: &P, alloc: Global, text: &str) -> bool {
 
 #[test]
 fn spaces_at_the_front_are_dropped(rt: HostRuntime) {
-    let sql = Trimmed {
-        reader: WithoutStatements,
-    };
+    let sql = Trimmed { reader: Postgres };
     assert!(rt; is_test(&sql, rt.alloc(), "  a = 1"));
     assert!(rt; is_query(&sql, rt.alloc(), " select * from t"));
     assert!(rt; !is_query(&sql, rt.alloc(), " selec"));
+}
+
+#[test]
+fn a_statement_is_printed(rt: HostRuntime) {
+    let table = Name::new(rt.alloc(), "t").expect(&rt, "a name");
+    let text = drop_text(rt.alloc(), table).expect(&rt, "memory");
+    assert_eq!(rt; text.as_str(), "DROP TABLE \"t\"");
 }
 
 #[test]
