@@ -8,6 +8,7 @@ use lq_model::{
 };
 use lq_parse::{parse_query, parse_test};
 use lq_sql::print;
+use lq_statement::parse;
 use std::alloc::Global;
 use std::process::Abort;
 use std::test::Fail;
@@ -56,7 +57,7 @@ fn drops_one(undo: &Undo) -> bool {
     }
 }
 
-// Texts of PostgreSQL, but that no memory is found for a statement that is read.
+// Texts of PostgreSQL.
 #[derive(Drop)]
 struct Postgres;
 
@@ -69,8 +70,8 @@ impl SqlText for Postgres {
         print(alloc, Dialect::Postgresql, statement)
     }
 
-    fn parse(&self, _alloc: Global, _text: &str) -> Result<Statement, ParseFault> {
-        Err(ParseFault::OutOfMemory)
+    fn parse(&self, alloc: Global, text: &str) -> Result<Statement, ParseFault> {
+        parse(alloc, Dialect::Postgresql, text)
     }
 
     fn parse_query(&self, alloc: Global, text: &str) -> Result<Query, ParseFault> {
@@ -94,6 +95,21 @@ fn drop_text(alloc: Global, table: Name) -> Result<Text, NoMemory> {
     printed(&sql, alloc, Statement::DropTable { table })
 }
 
+fn is_drop(statement: &Statement, table: &str) -> bool {
+    match statement {
+        Statement::DropTable { table: name } => name.as_key() == table,
+        _ => false,
+    }
+}
+
+// Whether it is read as the statement that drops this table.
+fn drops<P: SqlText>(sql: &P, alloc: Global, text: &str, table: &str) -> bool {
+    match sql.parse(alloc, text) {
+        Ok(statement) => is_drop(&statement, table),
+        Err(_) => false,
+    }
+}
+
 fn is_test<P: SqlText>(sql: &P, alloc: Global, text: &str) -> bool {
     sql.parse_test(alloc, text).is_ok()
 }
@@ -115,6 +131,12 @@ fn a_statement_is_printed(rt: HostRuntime) {
     let table = Name::new(rt.alloc(), "t").expect(&rt, "a name");
     let text = drop_text(rt.alloc(), table).expect(&rt, "memory");
     assert_eq!(rt; text.as_str(), "DROP TABLE \"t\"");
+}
+
+#[test]
+fn a_statement_is_read(rt: HostRuntime) {
+    let sql = Trimmed { reader: Postgres };
+    assert!(rt; drops(&sql, rt.alloc(), "  drop table T", "t"));
 }
 
 #[test]
