@@ -1,7 +1,8 @@
 -- The grammar of tests: NOT binds tighter than AND, and AND tighter than OR, both to the left.
-use Rattle.std.specs.Prelude.{ℕ, zero, suc, Bool, true, false, if◌then◌else◌, nat_le, Option, Some, None}
+use Rattle.std.specs.Prelude.{ℕ, zero, suc, Bool, true, false, if◌then◌else◌, nat_le, [], ◌∷◌, Option, Some, None}
+use Rattle.std.specs.List.{fold}
 use Rattle.lq_model.specs.Spelled.{levels}
-use Rattle.lq_model.specs.SqlParser.{Parser, ◌>>=◌, ◌>>◌, pure, refuse, peek, skip, eat, expect}
+use Rattle.lq_model.specs.SqlParser.{Parser, and_then, ◌>>=◌, ◌>>◌, pure, refuse, same_kind, peek, skip, eat, expect, many, led_by}
 use Rattle.lq_model.specs.SqlPart.{name, literal}
 use Rattle.lq_model.specs.declared.test.Op.{Op}
 use Rattle.lq_model.specs.declared.test.Op.TheVariants as op
@@ -51,44 +52,28 @@ comparison = do
   is ← eat word.Is
   if is then nullness x else (do o ← operator; y ← operand; pure (test.Compare o x y))
 
--- at most so many NOT
-unfoldable pub negation : ℕ → Parser Test → Parser Test
-negation zero inner = inner
-negation (suc nots) inner = do
-  negated ← eat word.Not
-  if negated then (do t ← negation nots inner; pure (test.Not t)) else inner
-
--- what stands to the left, and at most so many further tests after AND
-unfoldable pub conjunction : Parser Test → ℕ → Test → Parser Test
-conjunction inner zero left = pure left
-conjunction inner (suc turns) left = do
-  more ← eat word.And
-  if more then (do right ← inner; conjunction inner turns (test.And left right)) else pure left
-
--- likewise after OR
-unfoldable pub disjunction : Parser Test → ℕ → Test → Parser Test
-disjunction inner zero left = pure left
-disjunction inner (suc turns) left = do
-  more ← eat word.Or
-  if more then (do right ← inner; disjunction inner turns (test.Or left right)) else pure left
-
 -- how many parentheses, and how many AND, OR and NOT, may stand in one another
 abbrev pub most : ℕ
 most = 64
 
 module _ (primary : Parser Test) where
+  -- a test after any number of NOT
   unfoldable pub term : Parser Test
-  term = negation most primary
+  term [] = primary []
+  term (w ∷ ws) = if same_kind w.kind word.Not then and_then (term ws) (λ t. pure (test.Not t)) else primary (w ∷ ws)
 
+  -- AND and OR join to the left
   unfoldable pub product : Parser Test
   product = do
     first ← term
-    conjunction term most first
+    more ← many (led_by word.And term)
+    pure (fold test.And first more)
 
   unfoldable pub sum : Parser Test
   sum = do
     first ← product
-    disjunction product most first
+    more ← many (led_by word.Or product)
+    pure (fold test.Or first more)
 
 -- a comparison, or a test in parentheses, with at most so many parentheses in one another
 unfoldable pub primary : ℕ → Parser Test
