@@ -12,9 +12,9 @@ use Rattle.lq_model.specs.Quoting.{name_text, string_text}
 use Rattle.lq_model.specs.TestText.{literal_text, test_text}
 use Rattle.lq_model.specs.SqlText.{test_in}
 use Rattle.lq_model.specs.SqlWord.{words, kind_of_word, unquoted}
-use Rattle.lq_model.specs.SqlParser.{same_kind, sees, after, expect, ended}
+use Rattle.lq_model.specs.SqlParser.{same_kind, sees, after, expect, ended, many, many_of, led_by}
 use Rattle.lq_model.specs.SqlPart.{name, name_of, literal as literal_rule, number as number_rule}
-use Rattle.lq_model.specs.SqlTest.{any_test, comparison, conjunction, disjunction, negation, nullness, operand, operator, primary, product, sum, term}
+use Rattle.lq_model.specs.SqlTest.{any_test, comparison, nullness, operand, operator, primary, product, sum, term}
 use Rattle.lq_model.specs.declared.test.Op.TheVariants.{Eq, Ge, Gt, Le, Lt, Ne}
 use Rattle.lq_model.specs.declared.test.Operand.TheVariants as side
 use Rattle.lq_model.specs.declared.test.Test.{And, Compare, IsNull, Not, NotNull, Or, Test}
@@ -56,7 +56,7 @@ pub tests_spelled :
     ∷ (NotNull (side.Column up), codes "`up` IS NOT NULL")
     ∷ (Not (Or (And a b) (Not c)), codes "(NOT ((`a` = 1 AND `b` = 2) OR (NOT `c` IS NULL)))")
     ∷ [])
-unfolding digits phrase_words name_text string_text literal_text test_text Rattle.lq_model.specs.declared.test.Test.TheBlock.hidden-the_row-Test-0 denote.Hole.Carrier.hidden test_in words kind_of_word unquoted any_test comparison conjunction disjunction negation nullness operand operator primary product sum term literal_rule number_rule number_of same_kind sees after expect ended name name_of lexemes length_at
+unfolding digits phrase_words name_text string_text literal_text test_text Rattle.lq_model.specs.declared.test.Test.TheBlock.hidden-the_row-Test-0 denote.Hole.Carrier.hidden test_in words kind_of_word unquoted any_test comparison nullness operand operator primary product sum term literal_rule number_rule number_of many many_of led_by same_kind sees after expect ended name name_of lexemes length_at
 tests_spelled = ((refl, refl, refl), (refl, refl, refl))
 
 -- NOT binds first, then AND, then OR, both to the left; `!=` is `<>`; a `;` may stand at the end
@@ -73,7 +73,7 @@ pub tests_read :
     codes "" ∷ codes "a" ∷ codes "a =" ∷ codes "= 1" ∷ codes "a = 1 b = 2" ∷ codes "a = 1 and" ∷ codes "(a = 1" ∷ codes "a = 1)" ∷ codes "a is" ∷ codes "a not null" ∷ codes "a == 1" ∷ codes "a = b = c" ∷ codes "a is not not null"
     ∷ codes "a < = 1" ∷ codes "a ! = 1" ∷ codes "a = (1)" ∷ codes "not" ∷ codes "true" ∷ codes "a = default" ∷ codes "SELEC" ∷ [])
     ≡ replicate 20 None)
-unfolding test_in words kind_of_word unquoted Rattle.lq_model.specs.declared.test.Test.TheBlock.hidden-the_row-Test-0 denote.Hole.Carrier.hidden any_test comparison conjunction disjunction negation nullness operand operator primary product sum term literal_rule number_rule same_kind sees after expect ended name name_of lexemes length_at
+unfolding test_in words kind_of_word unquoted Rattle.lq_model.specs.declared.test.Test.TheBlock.hidden-the_row-Test-0 denote.Hole.Carrier.hidden any_test comparison nullness operand operator primary product sum term literal_rule number_rule many many_of led_by same_kind sees after expect ended name name_of lexemes length_at
 tests_read = (refl, refl, refl)
 
 -- so many tests in one another
@@ -94,5 +94,5 @@ pub levels_read :
     × (test_in Postgresql (nots 65 ++ codes "c is null") ≡ None)
     × (test_in Postgresql (in_parentheses 64) ≡ Some c)
     × (test_in Postgresql (in_parentheses 65) ≡ None)
-unfolding test_in words kind_of_word unquoted Rattle.lq_model.specs.declared.test.Test.TheBlock.hidden-the_row-Test-0 denote.Hole.Carrier.hidden any_test comparison conjunction disjunction negation nullness operand operator primary product sum term same_kind sees after expect ended name name_of lexemes length_at
+unfolding test_in words kind_of_word unquoted Rattle.lq_model.specs.declared.test.Test.TheBlock.hidden-the_row-Test-0 denote.Hole.Carrier.hidden any_test comparison nullness operand operator primary product sum term many many_of led_by same_kind sees after expect ended name name_of lexemes length_at
 levels_read = (refl, refl, refl, refl)
