@@ -1,0 +1,2 @@
+pub mod ServeKinds
+pub mod ServeParts

@@ -1,0 +1,4 @@
+//! How the text of a statement may be spelled.
+#![tactic(auto)]
+
+pub mod laws;
