@@ -1,2 +1,4 @@
 pub mod ServeKinds
+pub mod ServeNames
 pub mod ServeParts
+pub mod ServeTests
