@@ -1,5 +1,5 @@
-use Rattle.lq_spelling.proofs.ServeParts.{serves_given}
+use Rattle.lq_spelling.proofs.ServeLaws.{query_words_serve}
 use Rattle.lq_spelling.proofs.laws.query_words_serve.Goals as goal
 
 pub returns : goal.returns
-returns c = ?
+returns c = query_words_serve
