@@ -1,5 +1,5 @@
 -- The kinds of unquoted words that are not reserved.
-use Rattle.std.proofs.Common.{◌≡◌, Bool, true, false, if◌then◌else◌, ap, refl, rules}
+use Rattle.std.proofs.Common.{◌≡◌, Bool, true, false, ap, refl, rules}
 use denote.Enum.Bare.{same_true}
 use Rattle.lq_model.specs.SqlParser.{same_kind}
 use Rattle.lq_model.specs.SqlWord.{may_be_name}

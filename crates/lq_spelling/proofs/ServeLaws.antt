@@ -1,5 +1,5 @@
 -- What an unquoted word that is not reserved serves as, in the text of a statement and of a query.
-use Rattle.std.proofs.Common.{◌≡◌, ℕ, Bool, true, false, List, ◌∷◌, ◌++◌, Option, Some, None, ◌⊎◌, inl, inr, ap, subst, ◌∙◌, sym, refl}
+use Rattle.std.proofs.Common.{◌≡◌, ℕ, true, false, List, ◌∷◌, ◌++◌, Some, None, ◌⊎◌, inl, inr, ap, subst, ◌∙◌, sym, refl}
 use Rattle.std.specs.Option.{option_and_then}
 use Rattle.lq_base.specs.declared.dialect.Dialect.{Dialect}
 use Rattle.lq_model.specs.SqlParser.{Outcome, Parser, ended, same_kind, to_end}
@@ -40,6 +40,7 @@ module _ {A : Type 0} (p : Parser A) (serves : Serves p) (d : Dialect) (a : List
       as_it_went r rest same (named_there named) = inl (λ b quoted. reads b (with_text word.Quoted said) quoted ∙ ap read named ∙ same)
       as_it_went r rest same (said_there each) =
           inr (λ b v cased other. reads b v other ∙ ap (λ k. read (ending (with_text k v.text))) cased.0 ∙ ap read (each v.text cased.1) ∙ same)
+
       by : (o : Outcome A) → ending (with_text (kind_of l) said) ≡ o → read o ≡ Some x
           → ((b : List ℕ) → words d b ≡ Some (front ++ with_text word.Quoted said ∷ back) → whole p d b ≡ Some x)
           ⊎ ((b : List ℕ) (v : Word) → InAnyCase (with_text (kind_of l) said) v → words d b ≡ Some (front ++ v ∷ back) → whole p d b ≡ Some x)

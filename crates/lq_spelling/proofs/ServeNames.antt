@@ -1,16 +1,16 @@
 -- Names, literals and kinds: an unquoted word that is not reserved is a name there, or the word of a kind.
-use Rattle.std.proofs.Common.{◌≡◌, ℕ, Bool, true, false, if◌then◌else◌, List, [], ◌∷◌, ◌++◌, Some, None, inl, inr, cond, ap, ◌∙◌, sym, refl}
+use Rattle.std.proofs.Common.{◌≡◌, ℕ, Bool, true, false, if◌then◌else◌, List, [], ◌∷◌, ◌++◌, Some, None, inl, ap, ◌∙◌, sym, refl}
 use Rattle.std.specs.Map.{lookup}
-use Rattle.std.specs.Prelude.{◌==◌, ◌&&◌, ◌||◌, codes, Option}
+use Rattle.std.specs.Prelude.{◌==◌, ◌&&◌, ◌||◌, codes}
 use Rattle.std.specs.Str.{bytes_eq, str_eq_ignore_ascii_case, str_to_ascii_lowercase}
 use Rattle.std.proofs.lemmas.Slice.Eq.{bytes_eq-Decides}
 use Rattle.lq_base.specs.Kind.{decimal_kind, is_kind, kind_words, plain_kind, plain_number, sized_kind}
 use Rattle.lq_base.specs.declared.kind.Kind.{Kind}
 use Rattle.lq_base.specs.declared.kind.Kind.TheVariants.{Decimal, Moment, Varchar}
 use Rattle.lq_base.specs.declared.literal.Literal.TheVariants as constant
-use Rattle.lq_model.specs.SqlParser.{Outcome, Parser, ◌>>=◌, and_then, eat, expect, given, kind, peek, pure, refuse, same_kind, skip, taken}
+use Rattle.lq_model.specs.SqlParser.{Outcome, Parser, ◌>>=◌, and_then, eat, expect, given, refuse, same_kind, skip, taken}
 use Rattle.lq_model.specs.SqlPart.{column_kind, decimal_with, kind_number, kind_with, literal, literal_by, name, name_of, number, sized_with}
-use Rattle.lq_model.specs.SqlWord.{may_be_name, with_text}
+use Rattle.lq_model.specs.SqlWord.{may_be_name}
 use Rattle.lq_model.specs.declared.word.Word.{Word}
 use Rattle.lq_model.specs.declared.word.WordKind.{WordKind}
 use Rattle.lq_model.specs.declared.word.WordKind.TheVariants as word
@@ -32,6 +32,7 @@ serves_literal =
     tells : Tells literal_by
     tells loose.Plain = inl (λ i. refl)
     tells _ = inl (λ i. refl)
+
     by : (k : WordKind) → Serves (literal_by k)
     by word.Null = serves_then skip _ serves_skip (λ it. serves_pure constant.Null)
     by word.True = serves_then skip _ serves_skip (λ it. serves_pure (constant.Bool true))

@@ -1,7 +1,7 @@
 -- How a parser comes over an unquoted word that is not reserved: it does not reach it, or it takes it as a word of the statements, or as a name.
 use Rattle.std.proofs.Common.{◌≡◌, ℕ, zero, suc, Bool, true, false, if◌then◌else◌, List, [], ◌∷◌, ◌++◌, length, Option, Some, None, ◌⊎◌, inl, inr, ap, ◌∙◌, sym, refl}
 use Rattle.std.specs.Str.{str_eq_ignore_ascii_case}
-use Rattle.lq_model.specs.SqlParser.{Outcome, Parser, ◌>>=◌, after, and_more, and_then, eat, enclosed, ended, expect, given, kind, led_by, many, many_of, next, peek, pure, refuse, same_kind, sees, separated, skip, taken, text}
+use Rattle.lq_model.specs.SqlParser.{Outcome, Parser, ◌>>=◌, after, and_more, and_then, eat, enclosed, ended, expect, given, led_by, many, many_of, peek, pure, refuse, same_kind, sees, separated, skip, taken}
 use Rattle.lq_model.specs.SqlWord.{may_be_name, with_text}
 use Rattle.lq_model.specs.declared.word.Word.{Word}
 use Rattle.lq_model.specs.declared.word.WordKind.{WordKind}
@@ -62,6 +62,7 @@ then_at l said back {A = A} {B = B} o f first more r rest is =
         (ap (λ found. and_then found f) (each true said) ∙ ap (f a) (sym there) ∙ h)
     joined a i (said_there each) h = said_there (λ t cased. ap (λ found. and_then found f) (each t cased) ∙ h)
     joined a i (named_there named) h = named_there (ap (λ found. and_then found f) named ∙ h)
+
     by : (found : Outcome A) → o (with_text (kind_of l) said) ≡ found → and_then found f ≡ Some (r, rest) → Went l said back (λ w. and_then (o w) f) r rest
     by None e h = absurd (cc)
     by (Some found) e h = joined found.0 found.1 (first found.0 found.1 e) h
@@ -104,6 +105,7 @@ serves_eat k reserved =
         → Goes l said back (λ w. Some (flag, if flag then front ++ w ∷ back else y ∷ (front ++ w ∷ back)))
     by_flag l said y front back true = not_reached l said back _ true front (λ unquoted t. refl)
     by_flag l said y front back false = not_reached l said back _ false (y ∷ front) (λ unquoted t. refl)
+
     by : (l : Loose) (said : List ℕ) (front back : List Word) → Goes l said back (λ w. eat k (front ++ w ∷ back))
     by l said [] back = not_reached l said back _ false [] (λ unquoted t. rw (apart l unquoted k reserved) refl)
     by l said (y ∷ front) back = by_flag l said y front back (same_kind y.kind k)
@@ -116,6 +118,7 @@ serves_expect k =
     by_flag : (l : Loose) (said : List ℕ) (front back : List Word) (flag : Bool) → Goes l said back (λ w. if flag then Some (tt {0}, front ++ w ∷ back) else None)
     by_flag l said front back true = not_reached l said back _ tt front (λ unquoted t. refl)
     by_flag l said front back false = refused l said back _ refl
+
     by : (l : Loose) (said : List ℕ) (front back : List Word) → Goes l said back (λ w. expect k (front ++ w ∷ back))
     by l said [] back = λ r rest is. said_there (λ t cased. is)
     by l said (y ∷ front) back = by_flag l said front back (same_kind y.kind k)
@@ -132,12 +135,14 @@ serves_peek {A = A} f tells each =
     kinds : (l : Loose) → ((i : List Word) → f word.Quoted i ≡ f (kind_of l) i) → (unquoted : Bool) (i : List Word) → f (kind_at l unquoted) i ≡ f (kind_of l) i
     kinds l same true i = refl
     kinds l same false i = same i
+
     first : (l : Loose) (said : List ℕ) (back : List Word) → ((i : List Word) → f word.Quoted i ≡ f (kind_of l) i)
         ⊎ ((said other : List ℕ) (back : List Word) → f (kind_of l) (with_text (kind_of l) other ∷ back) ≡ f (kind_of l) (with_text (kind_of l) said ∷ back))
         → Goes l said back (λ w. f w.kind (w ∷ back))
     first l said back (inl same) =
         alike l said back (λ w. f w.kind (w ∷ back)) (λ w. f (kind_of l) (w ∷ back)) (λ unquoted t. kinds l same unquoted (with_text (kind_at l unquoted) t ∷ back)) ((each (kind_of l)).at l said [] back)
     first l said back (inr takes) = λ r rest is. said_there (λ t cased. takes said t back ∙ is)
+
     by : (l : Loose) (said : List ℕ) (front back : List Word) → Goes l said back (λ w. (peek >>= f) (front ++ w ∷ back))
     by l said [] back = first l said back (tells l)
     by l said (y ∷ front) back = (each y.kind).at l said (y ∷ front) back

@@ -1,5 +1,5 @@
 -- Statements over an unquoted word that is not reserved.
-use Rattle.std.proofs.Common.{◌≡◌, ℕ, Bool, true, false, if◌then◌else◌, List, [], ◌∷◌, ◌++◌, Option, Some, None, ◌⊎◌, inl, inr, ap, subst, ◌∙◌, sym, refl, pos}
+use Rattle.std.proofs.Common.{◌≡◌, Bool, true, false, if◌then◌else◌, [], Some, None, inl, inr, ap, ◌∙◌, sym, refl, pos}
 use Rattle.std.specs.Ordering.{int_eq}
 use Rattle.lq_base.specs.declared.dialect.Dialect.{Dialect}
 use Rattle.lq_base.specs.declared.dialect.Dialect.TheVariants.{Mysql, Postgresql}
@@ -11,21 +11,19 @@ use Rattle.lq_model.specs.SqlColumn.{added_column}
 use Rattle.lq_model.specs.SqlConstraint.{begins_constraint, table_constraint}
 use Rattle.lq_model.specs.SqlCreate.{create, create_by, create_index, create_sequence, create_view, step, whole, whole_of}
 use Rattle.lq_model.specs.SqlDrop.{drop_index, drop_object, drop_object_by, rename_table}
-use Rattle.lq_model.specs.SqlParser.{Outcome, Parser, ◌>>=◌, ◌>>◌, eat, enclosed, ended, expect, peek, pure, refuse, same_kind, sees, separated, skip, to_end}
+use Rattle.lq_model.specs.SqlParser.{◌>>=◌, eat, enclosed, expect, pure, same_kind, sees, separated, skip}
 use Rattle.lq_model.specs.SqlPart.{column_kind, literal, name}
 use Rattle.lq_model.specs.SqlQuery.{query}
 use Rattle.lq_model.specs.SqlRows.{assignment, delete, insert, stated_columns, update}
 use Rattle.lq_model.specs.SqlStatement.{statement, statement_by}
-use Rattle.lq_model.specs.SqlTable.{create_table}
 use Rattle.lq_model.specs.SqlTest.{where_test}
-use Rattle.lq_model.specs.declared.statement.Statement.{Statement}
 use Rattle.lq_model.specs.declared.statement.Statement.TheVariants.{AddColumn, CreateIndex, CreateSequence, CreateView, Delete, DropColumn, DropConstraint, DropDefault, DropForeignKey, DropIndex, DropNotNull, DropPrimaryKey, DropSequence, DropTable, DropUnique, DropView, Insert, Modify, RenameColumn, RenameSequence, RenameTable, RenameView, SetDefault, SetNotNull, Update}
 use Rattle.lq_model.specs.declared.word.WordKind.{WordKind}
 use Rattle.lq_model.specs.declared.word.WordKind.TheVariants as word
 use Rattle.lq_spelling.proofs.ServeKinds as loose
 use Rattle.lq_spelling.proofs.ServeKinds.{IsLoose, Loose, apart, kind_of, loose_of}
 use Rattle.lq_spelling.proofs.ServeNames.{serves_kind, serves_literal, serves_name}
-use Rattle.lq_spelling.proofs.ServeParts.{Goes, Serves, Tells, Went, before, named_there, said_there, serves_eat, serves_enclosed, serves_ended, serves_expect, serves_if, serves_peek, serves_pure, serves_refuse, serves_separated, serves_skip, serves_then}
+use Rattle.lq_spelling.proofs.ServeParts.{Serves, Tells, serves_eat, serves_enclosed, serves_expect, serves_if, serves_peek, serves_pure, serves_refuse, serves_separated, serves_skip, serves_then}
 use Rattle.lq_spelling.proofs.ServeTables.{serves_added, serves_constraint, serves_table, starts_same}
 use Rattle.lq_spelling.proofs.ServeTests.{serves_query, serves_where}
 
@@ -56,6 +54,7 @@ serves_drop_part d table =
     tells Mysql loose.Index = inr (λ said other back. refl)
     tells Postgresql loose.Plain = inl (λ i. refl)
     tells _ _ = inl (λ i. refl)
+
     by : (d : Dialect) (k : WordKind) → Serves (drop_part_by d table k)
     by d word.Column = serves_then skip _ serves_skip (λ a. serves_named (DropColumn table))
     by Postgresql word.Constraint = serves_then skip _ serves_skip (λ a. serves_named (DropConstraint table))
@@ -73,6 +72,7 @@ serves_set_part d table column =
     tells Postgresql loose.Plain = inl (λ i. refl)
     tells Mysql loose.Plain = inl (λ i. refl)
     tells _ _ = inl (λ i. refl)
+
     by : (d : Dialect) (k : WordKind) → Serves (set_by d table column k)
     by Postgresql word.Not = serves_then skip _ serves_skip (λ a. serves_then (expect word.Null) _ (serves_expect word.Null) (λ b. serves_pure (SetNotNull table column)))
     by d word.Default = serves_then skip _ serves_skip (λ a. serves_then literal _ serves_literal (λ value. serves_pure (SetDefault table column value)))
@@ -87,6 +87,7 @@ serves_unset_part d table column =
     tells Postgresql loose.Plain = inl (λ i. refl)
     tells Mysql loose.Plain = inl (λ i. refl)
     tells _ _ = inl (λ i. refl)
+
     by : (d : Dialect) (k : WordKind) → Serves (unset_by d table column k)
     by Postgresql word.Not = serves_then skip _ serves_skip (λ a. serves_then (expect word.Null) _ (serves_expect word.Null) (λ b. serves_pure (DropNotNull table column)))
     by d word.Default = serves_then skip _ serves_skip (λ a. serves_pure (DropDefault table column))
@@ -100,6 +101,7 @@ serves_alter_column d table =
     tells : (column : Name) → Tells (alter_column_by d table column)
     tells column loose.Plain = inl (λ i. refl)
     tells column _ = inl (λ i. refl)
+
     by : (column : Name) (k : WordKind) → Serves (alter_column_by d table column k)
     by column word.Set = serves_then skip _ serves_skip (λ a. serves_set_part d table column)
     by column word.Drop = serves_then skip _ serves_skip (λ a. serves_unset_part d table column)
@@ -130,6 +132,7 @@ serves_alter_table d =
     tells d table loose.Rename = inr (λ said other back. refl)
     tells Mysql table loose.Modify = inr (λ said other back. refl)
     tells d table _ = inl (λ i. refl)
+
     by : (d : Dialect) (table : Name) (k : WordKind) → Serves (alter_table_by d table k)
     by d table word.Add = serves_then skip _ serves_skip (λ a. serves_add d table)
     by d table word.Alter = serves_then skip _ serves_skip (λ a. serves_alter_column d table)
@@ -148,6 +151,7 @@ serves_alter d =
     tells Postgresql loose.Sequence = inr (λ said other back. refl)
     tells Mysql loose.Plain = inl (λ i. refl)
     tells d _ = inl (λ i. refl)
+
     by : (d : Dialect) (k : WordKind) → Serves (alter_by d k)
     by d word.Table = serves_then skip _ serves_skip (λ a. serves_alter_table d)
     by Postgresql word.View =
@@ -199,6 +203,7 @@ serves_create d =
     tells d loose.View = inr (λ said other back. refl)
     tells Postgresql loose.Sequence = inr (λ said other back. refl)
     tells d _ = inl (λ i. refl)
+
     by : (d : Dialect) (k : WordKind) → Serves (create_by d k)
     by d word.Table = serves_then skip _ serves_skip (λ a. serves_table d)
     by d word.Index = serves_index false
@@ -226,6 +231,7 @@ serves_drop d =
     tells d loose.View = inr (λ said other back. refl)
     tells Postgresql loose.Sequence = inr (λ said other back. refl)
     tells d _ = inl (λ i. refl)
+
     by : (d : Dialect) (k : WordKind) → Serves (drop_object_by d k)
     by d word.Table = serves_then skip _ serves_skip (λ a. serves_named DropTable)
     by d word.Index = serves_then skip _ serves_skip (λ a. serves_drop_index d)
@@ -281,6 +287,7 @@ serves_statement d =
     tells Mysql loose.Rename = inr (λ said other back. refl)
     tells Postgresql loose.Plain = inl (λ i. refl)
     tells d _ = inl (λ i. refl)
+
     by : (d : Dialect) (k : WordKind) → Serves (statement_by d k)
     by d word.Create = serves_then skip _ serves_skip (λ a. serves_create d)
     by d word.Drop = serves_then skip _ serves_skip (λ a. serves_drop d)

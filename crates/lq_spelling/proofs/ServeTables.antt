@@ -1,12 +1,12 @@
 -- Columns, constraints and tables over an unquoted word that is not reserved.
-use Rattle.std.proofs.Common.{◌≡◌, Bool, true, false, if◌then◌else◌, List, [], ◌∷◌, Option, Some, None, inl, inr, ap, refl}
+use Rattle.std.proofs.Common.{◌≡◌, true, false, if◌then◌else◌, [], ◌∷◌, Option, Some, None, inl, inr, ap, refl}
 use Rattle.lq_base.specs.declared.dialect.Dialect.{Dialect}
 use Rattle.lq_base.specs.declared.dialect.Dialect.TheVariants.{Mysql, Postgresql}
 use Rattle.lq_base.specs.declared.name.Name.{Name}
 use Rattle.lq_model.specs.DefaultName.{foreign_name, key_name, unique_name}
 use Rattle.lq_model.specs.SqlColumn.{added_column, clause_by, column_clause, column_foreign, column_key, column_of, column_unique, column_with, differ, foreign_to, has_constraint, identity, stated_column, target}
 use Rattle.lq_model.specs.SqlConstraint.{begins_constraint, constraint_by, foreign, key, key_name_or, name_or, on_delete, on_delete_by, stated_name, table_constraint, unique}
-use Rattle.lq_model.specs.SqlParser.{Parser, ◌>>=◌, ◌>>◌, eat, enclosed, expect, given, many, peek, pure, refuse, sees, skip}
+use Rattle.lq_model.specs.SqlParser.{◌>>=◌, eat, enclosed, expect, given, many, pure, sees, skip}
 use Rattle.lq_model.specs.SqlPart.{column_kind, literal, name, name_of}
 use Rattle.lq_model.specs.SqlTable.{column_item, create_table, table_item, table_of}
 use Rattle.lq_model.specs.declared.table_item.ColumnClause.TheVariants as clause
@@ -44,6 +44,7 @@ serves_clause d =
     tells Postgresql loose.Generated = inr (λ said other back. refl)
     tells Mysql loose.AutoIncrement = inr (λ said other back. refl)
     tells _ _ = inl (λ i. refl)
+
     by : (d : Dialect) (k : WordKind) → Serves (clause_by d k)
     by d word.Not = serves_then skip _ serves_skip (λ a. serves_then (expect word.Null) _ (serves_expect word.Null) (λ b. serves_pure (Some (clause.Nullable false))))
     by d word.Null = serves_then skip _ serves_skip (λ a. serves_pure (Some (clause.Nullable true)))
@@ -117,6 +118,7 @@ serves_on_delete =
     tells loose.Restrict = inr (λ said other back. refl)
     tells loose.No = inr (λ said other back. refl)
     tells _ = inl (λ i. refl)
+
     by : (k : WordKind) → Serves (on_delete_by k)
     by word.Cascade = serves_then skip _ serves_skip (λ a. serves_pure true)
     by word.Restrict = serves_then skip _ serves_skip (λ a. serves_pure false)
@@ -145,6 +147,7 @@ serves_constraint d table =
     tells : (stated : Option Name) → Tells (constraint_by d table stated)
     tells stated loose.Plain = inl (λ i. refl)
     tells stated _ = inl (λ i. refl)
+
     by : (stated : Option Name) (k : WordKind) → Serves (constraint_by d table stated k)
     by stated word.Primary = serves_then (key d table stated) _ (serves_key d table stated) (λ found. serves_pure (constraint.Key found))
     by stated word.Unique = serves_then (unique table stated) _ (serves_unique table stated) (λ found. serves_pure (constraint.Unique found))

@@ -1,8 +1,8 @@
 -- Tests and queries over an unquoted word that is not reserved.
-use Rattle.std.proofs.Common.{◌≡◌, ℕ, zero, suc, Bool, true, false, nat_le, if◌then◌else◌, List, [], ◌∷◌, ◌++◌, ◌&&◌, Some, None, inl, inr, ap, ◌∙◌, sym, refl}
+use Rattle.std.proofs.Common.{◌≡◌, ℕ, zero, suc, Bool, true, false, nat_le, if◌then◌else◌, List, [], ◌∷◌, ◌++◌, ◌&&◌, Some, None, inl, ap, ◌∙◌, sym, refl}
 use Rattle.std.specs.List.{fold}
 use Rattle.lq_model.specs.Spelled.{levels}
-use Rattle.lq_model.specs.SqlParser.{Outcome, Parser, ◌>>=◌, and_then, eat, expect, kind, led_by, many, next, peek, pure, refuse, same_kind, sees, separated, skip}
+use Rattle.lq_model.specs.SqlParser.{Parser, ◌>>=◌, and_then, eat, expect, led_by, many, pure, same_kind, sees, separated, skip}
 use Rattle.lq_model.specs.SqlPart.{literal, name}
 use Rattle.lq_model.specs.SqlQuery.{columns, count, peek_count, query, sees_count, selected}
 use Rattle.lq_model.specs.SqlTest.{any_test, begins_literal, comparison, most, nullness, operand, operator, operator_by, primary, product, sum, term, where_test}
@@ -40,6 +40,7 @@ serves_operator =
     tells : Tells operator_by
     tells loose.Plain = inl (λ i. refl)
     tells _ = inl (λ i. refl)
+
     by : (k : WordKind) → Serves (operator_by k)
     by word.Equal = serves_then skip _ serves_skip (λ it. serves_pure op.Eq)
     by word.Unequal = serves_then skip _ serves_skip (λ it. serves_pure op.Ne)
@@ -67,10 +68,12 @@ serves_term p is =
   where
     no_not : (l : Loose) (back : List Word) (unquoted : Bool) (t : List ℕ) → term p (with_text (kind_at l unquoted) t ∷ back) ≡ p (with_text (kind_at l unquoted) t ∷ back)
     no_not l back unquoted t = rw (apart l unquoted word.Not refl) refl
+
     by_flag : (l : Loose) (said : List ℕ) (y : Word) (front back : List Word) → Goes l said back (λ w. term p (front ++ w ∷ back)) → (negated : Bool)
         → Goes l said back (λ w. if negated then and_then (term p (front ++ w ∷ back)) (λ t. pure (test.Not t)) else p (y ∷ (front ++ w ∷ back)))
     by_flag l said y front back more true = then_at l said back (λ w. term p (front ++ w ∷ back)) _ more (λ t. serves_pure (test.Not t))
     by_flag l said y front back more false = is.at l said (y ∷ front) back
+
     by : (l : Loose) (said : List ℕ) (front back : List Word) → Goes l said back (λ w. term p (front ++ w ∷ back))
     by l said [] back = alike l said back (λ w. term p (w ∷ back)) (λ w. p (w ∷ back)) (no_not l back) (is.at l said [] back)
     by l said (y ∷ front) back = by_flag l said y front back (by l said front back) (same_kind y.kind word.Not)
@@ -125,7 +128,6 @@ count_same : (l : Loose) (said t : List ℕ) (back : List Word) → count (with_
 unfolding count expect sees
 count_same l said t back = refl
 
--- at such a word: `(` behind it makes COUNT the count, in any case
 sees_here : (l : Loose) (t : List ℕ) (back : List Word) → sees_count (with_text (kind_of l) t ∷ back) ≡ (same_kind (kind_of l) word.Count && sees word.Open back)
 unfolding sees_count sees
 sees_here l t back = refl
@@ -137,20 +139,23 @@ sees_quoted t back = refl
 chosen_by : (counted : Bool) (i : List Word) → sees_count i ≡ counted → chosen i ≡ (if counted then count else columns) i
 chosen_by counted i is = ap (λ c. (if c then count else columns) i) is
 
+-- at such a word: `(` behind it makes COUNT the count, in any case
 chosen_here : (l : Loose) (said : List ℕ) (back : List Word) → Goes l said back (λ w. chosen (w ∷ back))
 chosen_here l said back =
     by (same_kind (kind_of l) word.Count && sees word.Open back) refl
   where
     at_form : (counted : Bool) → (same_kind (kind_of l) word.Count && sees word.Open back) ≡ counted → (t : List ℕ) → chosen (with_text (kind_of l) t ∷ back) ≡ (if counted then count else columns) (with_text (kind_of l) t ∷ back)
     at_form counted is t = chosen_by counted (with_text (kind_of l) t ∷ back) (sees_here l t back ∙ is)
+
     as_columns : (same_kind (kind_of l) word.Count && sees word.Open back) ≡ false → (unquoted : Bool) (t : List ℕ) → chosen (with_text (kind_at l unquoted) t ∷ back) ≡ columns (with_text (kind_at l unquoted) t ∷ back)
     as_columns is true t = at_form false is t
     as_columns is false t = chosen_by false (with_text word.Quoted t ∷ back) (sees_quoted t back)
+
     by : (counted : Bool) → (same_kind (kind_of l) word.Count && sees word.Open back) ≡ counted → Goes l said back (λ w. chosen (w ∷ back))
     by true is = λ r rest h. said_there (λ t cased. at_form true is t ∙ count_same l said t back ∙ sym (at_form true is said) ∙ h)
     by false is = alike l said back (λ w. chosen (w ∷ back)) (λ w. columns (w ∷ back)) (as_columns is) (serves_columns.at l said [] back)
 
--- before such a word
+-- before such a word the next two are alike, whatever its form
 next_same : (l : Loose) (y : Word) (front back : List Word) (unquoted : Bool) (t : List ℕ) → sees_count (y ∷ (front ++ with_text (kind_at l unquoted) t ∷ back)) ≡ sees_count (y ∷ (front ++ with_text word.Quoted [] ∷ back))
 unfolding sees_count sees
 next_same l y [] back unquoted t = ap (λ opened. same_kind y.kind word.Count && opened) (apart l unquoted word.Open refl ∙ sym (apart l false word.Open refl))
@@ -162,6 +167,7 @@ serves_chosen =
   where
     either : (counted : Bool) → Serves (if counted then count else columns)
     either counted = serves_if counted _ _ serves_count serves_columns
+
     by : (l : Loose) (said : List ℕ) (front back : List Word) → Goes l said back (λ w. chosen (front ++ w ∷ back))
     by l said [] back = chosen_here l said back
     by l said (y ∷ front) back =
