@@ -1,3 +1,10 @@
+pub mod QuoteAlter
+pub mod QuoteLaws
+pub mod QuoteLists
+pub mod QuoteParts
+pub mod QuoteStatements
+pub mod QuoteTables
+pub mod QuoteTests
 pub mod ServeKinds
 pub mod ServeLaws
 pub mod ServeNames
