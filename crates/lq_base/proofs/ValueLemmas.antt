@@ -1,5 +1,5 @@
 -- What a literal becomes in a kind is a value of the kind.
-use Rattle.std.proofs.Common.{◌≡◌, ℕ, zero, suc, ◌+◌, ◌-◌, ◌*◌, ◌^◌, ◌<◌, ◌≤◌, Bool, true, false, cond, ◌&&◌, nat_lt, nat_le, ◌==◌, refl, arith, tests, rules, ℤ, pos, neg_ℤ, ◌+ℤ◌, ◌*ℤ◌, ◌≤ℤ◌, unsigned_abs, List, [], ◌∷◌, length, take, drop, Option, Some, None, Result, Ok, Err, option_and_then, option_map, subst, ◌⊎◌, inl, inr}
+use Rattle.std.proofs.Common.{◌≡◌, ℕ, zero, suc, ◌+◌, ◌-◌, ◌*◌, ◌^◌, ◌<◌, ◌≤◌, Bool, true, false, cond, ◌&&◌, nat_lt, nat_le, ◌==◌, refl, arith, tests, rules, ℤ, pos, neg_ℤ, ◌+ℤ◌, ◌*ℤ◌, ◌≤ℤ◌, unsigned_abs, List, [], ◌∷◌, length, take, drop, Option, Some, None, Result, Ok, Err, option_and_then, option_map, ap, subst, ◌⊎◌, inl, inr}
 use Rattle.std.specs.Int.{is_negative, is_in_range, IsInRange}
 use Rattle.std.specs.Char.{is_ascii_digit, digit_value}
 use Rattle.std.specs.List.{list_all}
@@ -22,7 +22,7 @@ use Rattle.lq_base.specs.declared.value.Value.{Value}
 use Rattle.lq_base.specs.declared.value.Value.TheVariants as value
 use Rattle.lq_base.specs.Moment.{IsMoment, is_moment, digits_at, has_marks, day_number, day_of, clock_number, clock_of, moment_of}
 use Rattle.lq_base.specs.Number.{has_digits, signed, number_of}
-use Rattle.lq_base.specs.Value.{is_int32, is_int64, is_value_of, decimal_into, truth_of_number, int_into, fixed_into, spelled_into, truth_of_text, moment_value, text_into, bool_into, into_kind}
+use Rattle.lq_base.specs.Value.{is_int32, is_int64, is_value_of, truth_of_number, said_by_number, truth_of_text, said_by_text, said_in, has_width, within_width, into_kind}
 use Rattle.lq_base.proofs.DayLemmas.{first_day_le}
 use Rattle.lq_base.proofs.NumberLemmas.{both_true, next_digit_fits, ten_pow_le}
 
@@ -31,24 +31,17 @@ pub passed : (test : Bool) (x y : Value) (r : Reason) → cond test (let ok : Re
 passed true x y r e = (refl, cc)
 passed false x y r e = absurd cc
 
-passed_second : (first second : Bool) (x y : Value) (r : Reason) → cond first (let wrong : Result Value Reason = Err r in wrong) (cond second (Ok x) (Err r)) ≡ Ok y → (second ≡ true) × (x ≡ y)
-passed_second true second x y r e = absurd cc
-passed_second false second x y r e = passed second x y r e
+pub passed_some : {A : Type 0} (test : Bool) (x y : A) → cond test (Some x) None ≡ Some y → (test ≡ true) × (x ≡ y)
+passed_some true x y e = (refl, cc)
+passed_some false x y e = absurd cc
 
-passed_either : (first second : Bool) (x y z : Value) (r : Reason) → cond first (let ok : Result Value Reason = Ok x in ok) (cond second (Ok y) (Err r)) ≡ Ok z → (x ≡ z) ⊎ (y ≡ z)
-passed_either true second x y z r e = inl cc
-passed_either false second x y z r e = inr (passed second y z r e).1
-
-and_true : (a b : Bool) → a ≡ true → b ≡ true → (a && b) ≡ true
-and_true a b p q = rw (p, q) refl
+passed_either : {A : Type 0} (first second : Bool) (x y z : A) → cond first (Some x) (cond second (Some y) None) ≡ Some z → (x ≡ z) ⊎ (y ≡ z)
+passed_either true second x y z e = inl cc
+passed_either false second x y z e = inr (passed_some second y z e).1
 
 pub and_then_some : {A B : Type 0} (f : A → Option B) (o : Option A) (y : B) → option_and_then f o ≡ Some y → (x : A) × (o ≡ Some x) × (f x ≡ Some y)
 and_then_some f None y e = absurd cc
 and_then_some f (Some x) y e = (x, refl, e)
-
-pub passed_some : {A : Type 0} (test : Bool) (x y : A) → cond test (Some x) None ≡ Some y → (test ≡ true) × (x ≡ y)
-passed_some true x y e = (refl, cc)
-passed_some false x y e = absurd cc
 
 -- digits write less than ten to the power of their number
 pub digits_below : (v : ℕ) (ds : List ℕ) → list_all is_ascii_digit ds ≡ true → digits_value_after 10 v ds + 1 ≤ (v + 1) * 10 ^ length ds
@@ -129,98 +122,112 @@ moment_of-IsMoment text ms e =
 is_moment-from_IsMoment : (ms : ℤ) → IsMoment ms → is_moment ms ≡ true
 is_moment-from_IsMoment ms h = grind (arith, ints, tests)
 
-abs-signed : (negative : Bool) (n : ℕ) → unsigned_abs (signed negative n) ≡ n
-abs-signed true zero = refl
-abs-signed true (suc n) = refl
-abs-signed false n = refl
+-- what a literal says in a kind is a value of the kind, where the width is right
 
-decimal_into-is_value : (units : ℤ) (scale digits places : ℕ) (v : Value) → decimal_into units scale digits places ≡ Ok v → is_value_of (kind.Decimal digits places) v ≡ true
+truth_is_value : (first second : Bool) (a b : Bool) (v : Value) → cond first (Some (value.Bool a)) (cond second (Some (value.Bool b)) None) ≡ Some v → is_value_of kind.Boolean v ≡ true
 unfolding is_value_of
-decimal_into-is_value units scale digits places v e =
-    let scaled = unsigned_abs units * 10 ^ (places - scale) in
-    let is = passed_second (nat_lt places scale) (has_digits digits scaled) (value.Fixed (signed (is_negative units) scaled) places) v TooWide e in
-    let same : (places == places) ≡ true = search (rules, tests) in
-    let few : has_digits digits (unsigned_abs (signed (is_negative units) scaled)) ≡ true = rw abs-signed is.0 in
-    subst (λ w. is_value_of (kind.Decimal digits places) w ≡ true) is.1 (and_true _ _ same few)
-
-truth_of_number-is_value : (n : ℤ) (v : Value) → truth_of_number n ≡ Ok v → is_value_of kind.Boolean v ≡ true
-unfolding is_value_of
-truth_of_number-is_value n v e =
-    elim (passed_either (int_eq n (pos 0)) (int_eq n (pos 1)) (value.Bool false) (value.Bool true) v WrongKind e) [
+truth_is_value first second a b v e =
+    elim (passed_either first second (value.Bool a) (value.Bool b) v e) [
       | inl is ↦ subst (λ w. is_value_of kind.Boolean w ≡ true) is refl
       | inr is ↦ subst (λ w. is_value_of kind.Boolean w ≡ true) is refl
     ]
 
-truth_of_text-is_value : (text : List ℕ) (v : Value) → truth_of_text text ≡ Ok v → is_value_of kind.Boolean v ≡ true
+fixed_is_value : (wide : Bool) (units more : ℤ) (scale places digits : ℕ) (v : Value) → Some (cond wide (value.Fixed units scale) (value.Fixed more places)) ≡ Some v
+    → has_width (kind.Decimal digits places) v ≡ true → is_value_of (kind.Decimal digits places) v ≡ true
 unfolding is_value_of
-truth_of_text-is_value text v e =
-    elim (passed_either _ _ (value.Bool true) (value.Bool false) v WrongKind e) [
-      | inl is ↦ subst (λ w. is_value_of kind.Boolean w ≡ true) is refl
-      | inr is ↦ subst (λ w. is_value_of kind.Boolean w ≡ true) is refl
-    ]
+fixed_is_value true units more scale places digits v e h = let is : value.Fixed units scale ≡ v = cc in subst (λ w. has_width (kind.Decimal digits places) w ≡ true → is_value_of (kind.Decimal digits places) w ≡ true) is (λ width. width) h
+fixed_is_value false units more scale places digits v e h = let is : value.Fixed more places ≡ v = cc in subst (λ w. has_width (kind.Decimal digits places) w ≡ true → is_value_of (kind.Decimal digits places) w ≡ true) is (λ width. width) h
 
-moment_value-is_value : (spelled : Option ℤ) (v : Value) → ((ms : ℤ) → spelled ≡ Some ms → IsMoment ms) → moment_value spelled ≡ Ok v → is_value_of kind.Moment v ≡ true
+int_is_value : (n : ℤ) (k : Kind) (v : Value) → said_by_number k (literal.Int n) ≡ Some v → has_width k v ≡ true → is_value_of k v ≡ true
 unfolding is_value_of
-moment_value-is_value None v h e = absurd cc
-moment_value-is_value (Some ms) v h e =
-    let is : value.Moment ms ≡ v = cc in
-    subst (λ w. is_value_of kind.Moment w ≡ true) is (is_moment-from_IsMoment ms (h ms refl))
+int_is_value n kind.Int v e h = let is : value.Int n ≡ v = cc in subst (λ w. has_width kind.Int w ≡ true → is_value_of kind.Int w ≡ true) is (λ width. width) h
+int_is_value n kind.BigInt v e h = let is : value.Int n ≡ v = cc in subst (λ w. has_width kind.BigInt w ≡ true → is_value_of kind.BigInt w ≡ true) is (λ width. width) h
+int_is_value n kind.Boolean v e h = truth_is_value _ _ false true v e
+int_is_value n (kind.Varchar most) v e h = absurd cc
+int_is_value n kind.Text v e h = absurd cc
+int_is_value n kind.Moment v e h = absurd cc
+int_is_value n (kind.Decimal digits places) v e h = fixed_is_value _ n _ 0 places digits v e h
 
-int_into-is_value : (n : ℤ) (k : Kind) (v : Value) → int_into n k ≡ Ok v → is_value_of k v ≡ true
+decimal_is_value : (units : ℤ) (scale : ℕ) (k : Kind) (v : Value) → said_by_number k (literal.Fixed units scale) ≡ Some v → has_width k v ≡ true → is_value_of k v ≡ true
+decimal_is_value units scale kind.Int v e h = absurd cc
+decimal_is_value units scale kind.BigInt v e h = absurd cc
+decimal_is_value units scale kind.Boolean v e h = absurd cc
+decimal_is_value units scale (kind.Varchar most) v e h = absurd cc
+decimal_is_value units scale kind.Text v e h = absurd cc
+decimal_is_value units scale kind.Moment v e h = absurd cc
+decimal_is_value units scale (kind.Decimal digits places) v e h = fixed_is_value _ units _ scale places digits v e h
+
+number_is_value : (number : Literal) (k : Kind) (v : Value) → said_by_number k number ≡ Some v → has_width k v ≡ true → is_value_of k v ≡ true
+number_is_value literal.Null kind.Int v e h = absurd cc
+number_is_value literal.Null kind.BigInt v e h = absurd cc
+number_is_value literal.Null kind.Boolean v e h = absurd cc
+number_is_value literal.Null (kind.Varchar most) v e h = absurd cc
+number_is_value literal.Null kind.Text v e h = absurd cc
+number_is_value literal.Null kind.Moment v e h = absurd cc
+number_is_value literal.Null (kind.Decimal digits places) v e h = absurd cc
+number_is_value (literal.Int n) k v e h = int_is_value n k v e h
+number_is_value (literal.Fixed units scale) k v e h = decimal_is_value units scale k v e h
+number_is_value (literal.Text text) kind.Int v e h = absurd cc
+number_is_value (literal.Text text) kind.BigInt v e h = absurd cc
+number_is_value (literal.Text text) kind.Boolean v e h = absurd cc
+number_is_value (literal.Text text) (kind.Varchar most) v e h = absurd cc
+number_is_value (literal.Text text) kind.Text v e h = absurd cc
+number_is_value (literal.Text text) kind.Moment v e h = absurd cc
+number_is_value (literal.Text text) (kind.Decimal digits places) v e h = absurd cc
+number_is_value (literal.Bool b) kind.Int v e h = absurd cc
+number_is_value (literal.Bool b) kind.BigInt v e h = absurd cc
+number_is_value (literal.Bool b) kind.Boolean v e h = absurd cc
+number_is_value (literal.Bool b) (kind.Varchar most) v e h = absurd cc
+number_is_value (literal.Bool b) kind.Text v e h = absurd cc
+number_is_value (literal.Bool b) kind.Moment v e h = absurd cc
+number_is_value (literal.Bool b) (kind.Decimal digits places) v e h = absurd cc
+
+spelled_is_value : (k : Kind) (number : Option Literal) (v : Value) → option_and_then (said_by_number k) number ≡ Some v → has_width k v ≡ true → is_value_of k v ≡ true
+spelled_is_value k number v e h = let is = and_then_some (said_by_number k) number v e in number_is_value is.0 k v is.2 h
+
+moment_is_value : (text : List ℕ) (v : Value) → option_map value.Moment (moment_of text) ≡ Some v → is_value_of kind.Moment v ≡ true
 unfolding is_value_of
-int_into-is_value n kind.Int v e = let is = passed (is_int32 n) (value.Int n) v TooWide e in subst (λ w. is_value_of kind.Int w ≡ true) is.1 is.0
-int_into-is_value n kind.BigInt v e = let is = passed (is_int64 n) (value.Int n) v TooWide e in subst (λ w. is_value_of kind.BigInt w ≡ true) is.1 is.0
-int_into-is_value n kind.Boolean v e = truth_of_number-is_value n v e
-int_into-is_value n (kind.Varchar most) v e = absurd cc
-int_into-is_value n kind.Text v e = absurd cc
-int_into-is_value n kind.Moment v e = absurd cc
-int_into-is_value n (kind.Decimal digits places) v e = decimal_into-is_value n 0 digits places v e
+moment_is_value text v e =
+    let is = map_some value.Moment (moment_of text) v e in
+    subst (λ w. is_value_of kind.Moment w ≡ true) is.2 (is_moment-from_IsMoment is.0 (moment_of-IsMoment text is.0 is.1))
 
-fixed_into-is_value : (units : ℤ) (scale : ℕ) (k : Kind) (v : Value) → fixed_into units scale k ≡ Ok v → is_value_of k v ≡ true
-fixed_into-is_value units scale kind.Int v e = absurd cc
-fixed_into-is_value units scale kind.BigInt v e = absurd cc
-fixed_into-is_value units scale kind.Boolean v e = absurd cc
-fixed_into-is_value units scale (kind.Varchar most) v e = absurd cc
-fixed_into-is_value units scale kind.Text v e = absurd cc
-fixed_into-is_value units scale kind.Moment v e = absurd cc
-fixed_into-is_value units scale (kind.Decimal digits places) v e = decimal_into-is_value units scale digits places v e
-
-spelled_into-is_value : (number : Option Literal) (k : Kind) (v : Value) → spelled_into number k ≡ Ok v → is_value_of k v ≡ true
-spelled_into-is_value None k v e = absurd cc
-spelled_into-is_value (Some literal.Null) k v e = absurd cc
-spelled_into-is_value (Some (literal.Int n)) k v e = int_into-is_value n k v e
-spelled_into-is_value (Some (literal.Fixed units scale)) k v e = fixed_into-is_value units scale k v e
-spelled_into-is_value (Some (literal.Text text)) k v e = absurd cc
-spelled_into-is_value (Some (literal.Bool b)) k v e = absurd cc
-
-text_into-is_value : (text : List ℕ) (k : Kind) (v : Value) → text_into text k ≡ Ok v → is_value_of k v ≡ true
+text_is_value : (text : List ℕ) (k : Kind) (v : Value) → said_by_text k text ≡ Some v → has_width k v ≡ true → is_value_of k v ≡ true
 unfolding is_value_of
-text_into-is_value text kind.Int v e = spelled_into-is_value (number_of text) kind.Int v e
-text_into-is_value text kind.BigInt v e = spelled_into-is_value (number_of text) kind.BigInt v e
-text_into-is_value text kind.Boolean v e = truth_of_text-is_value text v e
-text_into-is_value text (kind.Varchar most) v e = let is = passed _ (value.Text text) v TooWide e in subst (λ w. is_value_of (kind.Varchar most) w ≡ true) is.1 is.0
-text_into-is_value text kind.Text v e = let is : value.Text text ≡ v = cc in subst (λ w. is_value_of kind.Text w ≡ true) is refl
-text_into-is_value text kind.Moment v e = moment_value-is_value (moment_of text) v (moment_of-IsMoment text) e
-text_into-is_value text (kind.Decimal digits places) v e = spelled_into-is_value (number_of text) (kind.Decimal digits places) v e
+text_is_value text kind.Int v e h = spelled_is_value kind.Int (number_of text) v e h
+text_is_value text kind.BigInt v e h = spelled_is_value kind.BigInt (number_of text) v e h
+text_is_value text kind.Boolean v e h = truth_is_value _ _ true false v e
+text_is_value text (kind.Varchar most) v e h = let is : value.Text text ≡ v = cc in subst (λ w. has_width (kind.Varchar most) w ≡ true → is_value_of (kind.Varchar most) w ≡ true) is (λ width. width) h
+text_is_value text kind.Text v e h = let is : value.Text text ≡ v = cc in subst (λ w. is_value_of kind.Text w ≡ true) is refl
+text_is_value text kind.Moment v e h = moment_is_value text v e
+text_is_value text (kind.Decimal digits places) v e h = spelled_is_value (kind.Decimal digits places) (number_of text) v e h
 
-bool_into-is_value : (b : Bool) (k : Kind) (v : Value) → bool_into b k ≡ Ok v → is_value_of k v ≡ true
+truth_said : (b : Bool) (k : Kind) (v : Value) → said_in k (literal.Bool b) ≡ Some v → is_value_of k v ≡ true
 unfolding is_value_of
-bool_into-is_value b kind.Int v e = absurd cc
-bool_into-is_value b kind.BigInt v e = absurd cc
-bool_into-is_value b kind.Boolean v e = let is : value.Bool b ≡ v = cc in subst (λ w. is_value_of kind.Boolean w ≡ true) is refl
-bool_into-is_value b (kind.Varchar most) v e = absurd cc
-bool_into-is_value b kind.Text v e = absurd cc
-bool_into-is_value b kind.Moment v e = absurd cc
-bool_into-is_value b (kind.Decimal digits places) v e = absurd cc
+truth_said b kind.Int v e = absurd cc
+truth_said b kind.BigInt v e = absurd cc
+truth_said b kind.Boolean v e = let is : value.Bool b ≡ v = cc in subst (λ w. is_value_of kind.Boolean w ≡ true) is refl
+truth_said b (kind.Varchar most) v e = absurd cc
+truth_said b kind.Text v e = absurd cc
+truth_said b kind.Moment v e = absurd cc
+truth_said b (kind.Decimal digits places) v e = absurd cc
 
-null-is_value : (k : Kind) → is_value_of k value.Null ≡ true
+null_said : (k : Kind) (v : Value) → said_in k literal.Null ≡ Some v → is_value_of k v ≡ true
 unfolding is_value_of
-null-is_value k = refl
+null_said k v e = let is : value.Null ≡ v = cc in subst (λ w. is_value_of k w ≡ true) is refl
+
+said_is_value : (l : Literal) (k : Kind) (v : Value) → said_in k l ≡ Some v → has_width k v ≡ true → is_value_of k v ≡ true
+said_is_value literal.Null k v e h = null_said k v e
+said_is_value (literal.Int n) k v e h = int_is_value n k v e h
+said_is_value (literal.Fixed units scale) k v e h = decimal_is_value units scale k v e h
+said_is_value (literal.Text text) k v e h = text_is_value text k v e h
+said_is_value (literal.Bool b) k v e h = truth_said b k v e
+
+within_passed : (k : Kind) (said : Option Value) (v : Value) → within_width k said ≡ Ok v → (said ≡ Some v) × (has_width k v ≡ true)
+within_passed k None v e = absurd cc
+within_passed k (Some x) v e =
+    let is = passed (has_width k x) x v TooWide e in
+    (ap (λ y. Some y) is.1, subst (λ y. has_width k y ≡ true) is.1 is.0)
 
 pub into_kind-is_value : (l : Literal) (k : Kind) (v : Value) → into_kind l k ≡ Ok v → is_value_of k v ≡ true
 unfolding into_kind
-into_kind-is_value literal.Null k v e = let is : value.Null ≡ v = cc in subst (λ w. is_value_of k w ≡ true) is (null-is_value k)
-into_kind-is_value (literal.Int n) k v e = int_into-is_value n k v e
-into_kind-is_value (literal.Fixed units scale) k v e = fixed_into-is_value units scale k v e
-into_kind-is_value (literal.Text text) k v e = text_into-is_value text k v e
-into_kind-is_value (literal.Bool b) k v e = bool_into-is_value b k v e
+into_kind-is_value l k v e = let is = within_passed k (said_in k l) v e in said_is_value l k v is.0 is.1

@@ -1,5 +1,6 @@
 -- Which values are of a kind, and what a literal becomes in one.
-use Rattle.std.specs.Prelude.{ℕ, ◌-◌, ◌*◌, ◌^◌, ◌==◌, ◌&&◌, ◌||◌, nat_lt, nat_le, Bool, true, false, if◌then◌else◌, ℤ, pos, neg_ℤ, int_le, unsigned_abs, List, codes, Option, Some, None, Result, Ok, Err}
+use Rattle.std.specs.Prelude.{ℕ, ◌-◌, ◌*◌, ◌^◌, ◌==◌, ◌&&◌, ◌||◌, nat_lt, nat_le, Bool, true, false, if◌then◌else◌, ℤ, pos, neg_ℤ, int_le, unsigned_abs, List, codes, Option, Some, None, option_map, Result, Ok, Err}
+use Rattle.std.specs.Option.{option_and_then}
 use Rattle.std.specs.Int.{is_negative}
 use Rattle.std.specs.Ordering.{int_eq}
 use Rattle.std.specs.Str.{str_eq_ignore_ascii_case}
@@ -34,62 +35,63 @@ is_value_of kind.Moment (value.Moment ms) = is_moment ms
 is_value_of (kind.Decimal digits places) (value.Fixed units scale) = scale == places && has_digits digits (unsigned_abs units)
 is_value_of k v = false
 
--- a number with `scale` decimals into a decimal with `places` of them: no decimal is lost
-abbrev pub decimal_into : ℤ → ℕ → ℕ → ℕ → Result Value Reason
-decimal_into units scale digits places =
-    if nat_lt places scale then Err TooWide
-    else (if has_digits digits (unsigned_abs units * 10 ^ (places - scale))
-    then Ok (value.Fixed (signed (is_negative units) (unsigned_abs units * 10 ^ (places - scale))) places)
-    else Err TooWide)
+-- What a literal says in a kind, whatever its width: none where literals of its sort do not go into the kind.
+
+-- a number with `places` decimals; one that has more of them stays as it is
+abbrev pub with_decimals : ℕ → ℤ → ℕ → Value
+with_decimals places units scale =
+    if nat_lt places scale then value.Fixed units scale
+    else value.Fixed (signed (is_negative units) (unsigned_abs units * 10 ^ (places - scale))) places
 
 -- 0 is false and 1 is true
-abbrev pub truth_of_number : ℤ → Result Value Reason
+abbrev pub truth_of_number : ℤ → Option Value
 truth_of_number n =
-    if int_eq n (pos 0) then Ok (value.Bool false) else (if int_eq n (pos 1) then Ok (value.Bool true) else Err WrongKind)
+    if int_eq n (pos 0) then Some (value.Bool false) else (if int_eq n (pos 1) then Some (value.Bool true) else None)
 
-abbrev pub int_into : ℤ → Kind → Result Value Reason
-int_into n kind.Int = if is_int32 n then Ok (value.Int n) else Err TooWide
-int_into n kind.BigInt = if is_int64 n then Ok (value.Int n) else Err TooWide
-int_into n kind.Boolean = truth_of_number n
-int_into n (kind.Decimal digits places) = decimal_into n 0 digits places
-int_into n k = Err WrongKind
-
-abbrev pub fixed_into : ℤ → ℕ → Kind → Result Value Reason
-fixed_into units scale (kind.Decimal digits places) = decimal_into units scale digits places
-fixed_into units scale k = Err WrongKind
-
--- a text that spells a number, as that number
-abbrev pub spelled_into : Option Literal → Kind → Result Value Reason
-spelled_into (Some (literal.Int n)) k = int_into n k
-spelled_into (Some (literal.Fixed units scale)) k = fixed_into units scale k
-spelled_into number k = Err WrongKind
+-- a number goes into the number kinds, one with decimals into Decimal alone; 0 and 1 go into Boolean
+abbrev pub said_by_number : Kind → Literal → Option Value
+said_by_number kind.Int (literal.Int n) = Some (value.Int n)
+said_by_number kind.BigInt (literal.Int n) = Some (value.Int n)
+said_by_number kind.Boolean (literal.Int n) = truth_of_number n
+said_by_number (kind.Decimal digits places) (literal.Int n) = Some (with_decimals places n 0)
+said_by_number (kind.Decimal digits places) (literal.Fixed units scale) = Some (with_decimals places units scale)
+said_by_number k number = None
 
 -- `true`, `false`, `1` and `0`, in any case
-abbrev pub truth_of_text : List ℕ → Result Value Reason
+abbrev pub truth_of_text : List ℕ → Option Value
 truth_of_text text =
-    if str_eq_ignore_ascii_case text (codes "true") || str_eq_ignore_ascii_case text (codes "1") then Ok (value.Bool true)
-    else (if str_eq_ignore_ascii_case text (codes "false") || str_eq_ignore_ascii_case text (codes "0") then Ok (value.Bool false)
-    else Err WrongKind)
+    if str_eq_ignore_ascii_case text (codes "true") || str_eq_ignore_ascii_case text (codes "1") then Some (value.Bool true)
+    else (if str_eq_ignore_ascii_case text (codes "false") || str_eq_ignore_ascii_case text (codes "0") then Some (value.Bool false)
+    else None)
 
-abbrev pub moment_value : Option ℤ → Result Value Reason
-moment_value (Some ms) = Ok (value.Moment ms)
-moment_value None = Err WrongKind
+-- a text goes into the text kinds; into Boolean as the truth value, into Moment as the moment, and into the number kinds as the number that it spells
+abbrev pub said_by_text : Kind → List ℕ → Option Value
+said_by_text kind.Text text = Some (value.Text text)
+said_by_text (kind.Varchar most) text = Some (value.Text text)
+said_by_text kind.Boolean text = truth_of_text text
+said_by_text kind.Moment text = option_map value.Moment (moment_of text)
+said_by_text k text = option_and_then (said_by_number k) (number_of text)
 
-abbrev pub text_into : List ℕ → Kind → Result Value Reason
-text_into text kind.Text = Ok (value.Text text)
-text_into text (kind.Varchar most) = if nat_le (char_count text) most then Ok (value.Text text) else Err TooWide
-text_into text kind.Boolean = truth_of_text text
-text_into text kind.Moment = moment_value (moment_of text)
-text_into text k = spelled_into (number_of text) k
+-- null goes into every kind, a truth value into Boolean
+abbrev pub said_in : Kind → Literal → Option Value
+said_in k literal.Null = Some value.Null
+said_in k (literal.Text text) = said_by_text k text
+said_in kind.Boolean (literal.Bool b) = Some (value.Bool b)
+said_in k (literal.Bool b) = None
+said_in k number = said_by_number k number
 
-abbrev pub bool_into : Bool → Kind → Result Value Reason
-bool_into b kind.Boolean = Ok (value.Bool b)
-bool_into b k = Err WrongKind
+-- within the kind's width: 32 and 64 bits, so many characters, just so many decimals and at most so many digits
+abbrev pub has_width : Kind → Value → Bool
+has_width kind.Int (value.Int n) = is_int32 n
+has_width kind.BigInt (value.Int n) = is_int64 n
+has_width (kind.Varchar most) (value.Text text) = nat_le (char_count text) most
+has_width (kind.Decimal digits places) (value.Fixed units scale) = scale == places && has_digits digits (unsigned_abs units)
+has_width k v = true
+
+abbrev pub within_width : Kind → Option Value → Result Value Reason
+within_width k None = Err WrongKind
+within_width k (Some v) = if has_width k v then Ok v else Err TooWide
 
 -- the value that the literal becomes in the kind, or the reason why it becomes none
 unfoldable pub into_kind : Literal → Kind → Result Value Reason
-into_kind literal.Null k = Ok value.Null
-into_kind (literal.Int n) k = int_into n k
-into_kind (literal.Fixed units scale) k = fixed_into units scale k
-into_kind (literal.Text text) k = text_into text k
-into_kind (literal.Bool b) k = bool_into b k
+into_kind l k = within_width k (said_in k l)

@@ -2,7 +2,8 @@ ghost use Rattle.std.specs.Prelude.{◌≡◌, List, ℕ, Ok, ◌*◌, ◌^◌, 
 ghost use Rattle.lq_base.specs.Into.{Goes, GoesAs, is_number_kind};
 ghost use Rattle.lq_base.specs.Number.{has_digits};
 ghost use Rattle.lq_base.specs.Spells.{SpellsMoment, SpellsNumber};
-ghost use Rattle.lq_base.specs.Value.{decimal_into, truth_of_number, int_into, fixed_into, spelled_into, truth_of_text, moment_value, text_into, bool_into, into_kind, is_value_of};
+ghost use Rattle.std.specs.Option.{option_and_then};
+ghost use Rattle.lq_base.specs.Value.{into_kind, is_value_of, said_by_number, said_by_text, truth_of_text, with_decimals, within_width};
 
 use crate::character::char_count;
 use crate::kind::{Kind, is_word};
@@ -71,7 +72,7 @@ fn converted(alloc: Global, literal: &Literal, kind: Kind) -> Result<Value, Into
 }
 
 fn int_into(number: i128, kind: Kind) -> Result<Value, IntoFault>
-    ensures { Goes (int_into number kind) result }
+    ensures { Goes (within_width kind (said_by_number kind (Literal.Int number))) result }
 {
     match kind {
         Kind::Int => {
@@ -93,7 +94,7 @@ fn int_into(number: i128, kind: Kind) -> Result<Value, IntoFault>
 }
 
 fn truth_of_number(number: i128) -> Result<Value, IntoFault>
-    ensures { Goes (truth_of_number number) result }
+    ensures { Goes (within_width Kind.Boolean (said_by_number Kind.Boolean (Literal.Int number))) result }
 {
     if number == 0 {
         return Ok(Value::Bool(false));
@@ -105,7 +106,7 @@ fn truth_of_number(number: i128) -> Result<Value, IntoFault>
 }
 
 fn fixed_into(units: i128, scale: u8, kind: Kind) -> Result<Value, IntoFault>
-    ensures { Goes (fixed_into units scale kind) result }
+    ensures { Goes (within_width kind (said_by_number kind (Literal.Fixed units scale))) result }
 {
     match kind {
         Kind::Decimal(digits, places) => decimal_into(units, scale, digits, places),
@@ -114,7 +115,7 @@ fn fixed_into(units: i128, scale: u8, kind: Kind) -> Result<Value, IntoFault>
 }
 
 fn decimal_into(units: i128, scale: u8, digits: u8, places: u8) -> Result<Value, IntoFault>
-    ensures { Goes (decimal_into units scale digits places) result }
+    ensures { Goes (within_width (Kind.Decimal digits places) (Some (with_decimals places units scale))) result }
 {
     if places < scale {
         return Err(IntoFault::TooWide);
@@ -154,7 +155,7 @@ fn within(magnitude: u128, digits: u8) -> Option<u128>
 }
 
 fn text_into(alloc: Global, text: &str, kind: Kind) -> Result<Value, IntoFault>
-    ensures { Goes (text_into text.now kind) result }
+    ensures { Goes (within_width kind (said_by_text kind text.now)) result }
 {
     match kind {
         Kind::Text => Ok(Value::Text(Text::new(alloc, text)?)),
@@ -174,7 +175,7 @@ fn text_into(alloc: Global, text: &str, kind: Kind) -> Result<Value, IntoFault>
 }
 
 fn truth_of_text(text: &str) -> Result<Value, IntoFault>
-    ensures { Goes (truth_of_text text.now) result }
+    ensures { Goes (within_width Kind.Boolean (truth_of_text text.now)) result }
 {
     let bytes = text.as_bytes();
     if is_word(bytes, "true") || is_word(bytes, "1") {
@@ -187,7 +188,7 @@ fn truth_of_text(text: &str) -> Result<Value, IntoFault>
 }
 
 fn spelled_into(number: Option<Literal>, kind: Kind) -> Result<Value, IntoFault>
-    ensures { Goes (spelled_into number kind) result }
+    ensures { Goes (within_width kind (option_and_then (said_by_number kind) number)) result }
 {
     match number {
         Some(Literal::Int(number)) => int_into(number, kind),
@@ -196,8 +197,9 @@ fn spelled_into(number: Option<Literal>, kind: Kind) -> Result<Value, IntoFault>
     }
 }
 
+#[tactic(auto, unfolding(crate::specs::Value::into_kind))]
 fn bool_into(truth: bool, kind: Kind) -> Result<Value, IntoFault>
-    ensures { Goes (bool_into truth kind) result }
+    ensures { Goes (into_kind (Literal.Bool truth) kind) result }
 {
     match kind {
         Kind::Boolean => Ok(Value::Bool(truth)),
