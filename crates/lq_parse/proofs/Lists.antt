@@ -30,28 +30,43 @@ pub record IsAgain {A : Type 0} (P : A → Type 0) (p : Parser A) (w : A → Lis
   pub read : (x : A) (rest : List Word) → P x → p (w x rest) ≡ Some (x, rest)
   pub long : (x : A) (rest : List Word) → suc (length rest) ≤ length (w x rest)
 
+-- the same where only some words may come behind an item
+pub record IsAgainBefore {A : Type 0} (Ends : List Word → Type 0) (P : A → Type 0) (p : Parser A) (w : A → List Word → List Word) : Type 0 where
+  pub read : (x : A) (rest : List Word) → P x → Ends rest → p (w x rest) ≡ Some (x, rest)
+  pub long : (x : A) (rest : List Word) → suc (length rest) ≤ length (w x rest)
+  pub comma : (rest : List Word) → Ends (bare word.Comma ∷ rest)
+
 comma_here : (rest : List Word) → sees word.Comma (bare word.Comma ∷ rest) ≡ true
 unfolding sees same_kind
 comma_here rest = refl
 
-tail_again : {A : Type 0} (P : A → Type 0) (p : Parser A) (w : A → List Word → List Word) (it : IsAgain P p w) (xs : List A) (n : ℕ) (rest : List Word)
-    → EachItem P xs → length xs ≤ n → sees word.Comma rest ≡ false → many_of (led_by word.Comma p) n (tail_words w xs rest) ≡ Some (xs, rest)
-tail_again P p w it [] n rest each enough end = many_end (led_by word.Comma p) n rest (led_none word.Comma p rest end)
-tail_again P p w it (x ∷ xs) zero rest each enough end = absurd (omega arith)
-tail_again P p w it (x ∷ xs) (suc n) rest each enough end =
-    many_next (led_by word.Comma p) n x xs _ (tail_words w xs rest) rest
-    (led_next word.Comma p (bare word.Comma) x (w x (tail_words w xs rest)) (tail_words w xs rest) (comma_here (w x (tail_words w xs rest))) (it.read x (tail_words w xs rest) each.0))
-    (tail_again P p w it xs n rest each.1 (omega arith) end)
+module _ {A : Type 0} (Ends : List Word → Type 0) (P : A → Type 0) (p : Parser A) (w : A → List Word → List Word) (it : IsAgainBefore Ends P p w) where
+  tail_ends : (xs : List A) (rest : List Word) → Ends rest → Ends (tail_words w xs rest)
+  tail_ends [] rest end = end
+  tail_ends (x ∷ xs) rest end = it.comma (w x (tail_words w xs rest))
 
-tail_long : {A : Type 0} (P : A → Type 0) (p : Parser A) (w : A → List Word → List Word) (it : IsAgain P p w) (xs : List A) (rest : List Word) → length xs ≤ length (tail_words w xs rest)
-tail_long P p w it [] rest = omega arith
-tail_long P p w it (x ∷ xs) rest = omega (arith, it.long x (tail_words w xs rest), tail_long P p w it xs rest)
+  tail_again : (xs : List A) (n : ℕ) (rest : List Word) → EachItem P xs → length xs ≤ n → Ends rest → sees word.Comma rest ≡ false → many_of (led_by word.Comma p) n (tail_words w xs rest) ≡ Some (xs, rest)
+  tail_again [] n rest each enough end last = many_end (led_by word.Comma p) n rest (led_none word.Comma p rest last)
+  tail_again (x ∷ xs) zero rest each enough end last = absurd (omega arith)
+  tail_again (x ∷ xs) (suc n) rest each enough end last =
+      let more = tail_words w xs rest in
+      many_next (led_by word.Comma p) n x xs _ more rest
+      (led_next word.Comma p (bare word.Comma) x (w x more) more (comma_here (w x more)) (it.read x more each.0 (tail_ends xs rest end)))
+      (tail_again xs n rest each.1 (omega arith) end last)
+
+  tail_long : (xs : List A) (rest : List Word) → length xs ≤ length (tail_words w xs rest)
+  tail_long [] rest = omega arith
+  tail_long (x ∷ xs) rest = omega (arith, it.long x (tail_words w xs rest), tail_long xs rest)
+
+  pub separated_before : (x : A) (xs : List A) (rest : List Word) → P x → EachItem P xs → Ends rest → sees word.Comma rest ≡ false → separated p (w x (tail_words w xs rest)) ≡ Some (x ∷ xs, rest)
+  unfolding separated many
+  separated_before x xs rest one each end last =
+      rw (it.read x (tail_words w xs rest) one (tail_ends xs rest end), tail_again xs (length (tail_words w xs rest)) rest each (tail_long xs rest) end last) refl
 
 pub separated_again : {A : Type 0} (P : A → Type 0) (p : Parser A) (w : A → List Word → List Word) (it : IsAgain P p w) (x : A) (xs : List A) (rest : List Word)
     → P x → EachItem P xs → sees word.Comma rest ≡ false → separated p (w x (tail_words w xs rest)) ≡ Some (x ∷ xs, rest)
-unfolding separated many
 separated_again P p w it x xs rest one each end =
-    rw (it.read x (tail_words w xs rest) one, tail_again P p w it xs (length (tail_words w xs rest)) rest each (tail_long P p w it xs rest) end) refl
+    separated_before (λ more. Unit {0}) P p w (record { read = λ y more is any. it.read y more is; long = it.long; comma = λ more. tt }) x xs rest one each tt end
 
 -- the canonical text of a list has these words
 
