@@ -63,7 +63,7 @@ no_or_at_end : sees word.Or [] ≡ false
 unfolding sees same_kind
 no_or_at_end = refl
 
--- the second of three tests has a word
+-- chains; of three tests the second has a word, so that there are words enough for two more
 three : (i j k : List Word) (a b c : Test) → 0 < length j → terms i ≡ Some (a, bare word.And ∷ j) → terms j ≡ Some (b, bare word.And ∷ k) → terms k ≡ Some (c, []) → product inner i ≡ Some (And (And a b) c, [])
 three i j k a b c some is_a is_b is_c =
     product_of inner i (bare word.And ∷ j) [] a (b ∷ c ∷ []) is_a
@@ -73,12 +73,6 @@ any_of : (i j k : List Word) (a b c : Test) → 0 < length j → product inner i
 any_of i j k a b c some is_a is_b is_c =
     sum_of inner i (bare word.Or ∷ j) [] a (b ∷ c ∷ []) is_a
     (many_two word.Or (product inner) (bare word.Or) (bare word.Or) b c j k [] some (or_here j) is_b (or_here k) is_c no_or_at_end)
-
-one : (i j : List Word) (t : Test) → terms i ≡ Some (t, j) → sees word.And j ≡ false → product inner i ≡ Some (t, j)
-one i j t is stop = product_one inner i j t is stop
-
-two : (i j k : List Word) (a b : Test) → terms i ≡ Some (a, bare word.And ∷ j) → terms j ≡ Some (b, k) → sees word.And k ≡ false → product inner i ≡ Some (And a b, k)
-two i j k a b is_a is_b stop = product_two inner i j k a b is_a is_b stop
 
 alone : (i : List Word) (t : Test) → product inner i ≡ Some (t, []) → sum inner i ≡ Some (t, [])
 alone i t is = sum_one inner i [] t is no_or_at_end
@@ -99,27 +93,27 @@ unfolding Rattle.lq_model.specs.declared.test.Test.TheBlock.hidden-the_row-Test-
 not_and_or_bind_in_turn below d a b c = (
   λ can. let facts = where_facts (And (Not a) b) can in let parts = test_fact below (And (Not a) b) facts.0 in
       reads d _ (And (Not a) b) _ (after_not below d _ _ (before_and below d a _ _ parts.1.0 (at_last below d b parts.1.1)))
-      (alone _ _ (two _ _ [] (Not a) b (not_again a _ parts.0.0 (omega (arith, facts.2))) (term_again b [] parts.0.1 (omega (arith, facts.2))) no_and_at_end)) facts.1,
+      (alone _ _ (product_two inner _ _ [] (Not a) b (not_again a _ parts.0.0 (omega (arith, facts.2))) (term_again b [] parts.0.1 (omega (arith, facts.2))) no_and_at_end)) facts.1,
   λ can. let facts = where_facts (Or (Not a) b) can in let parts = test_fact below (Or (Not a) b) facts.0 in
       reads d _ (Or (Not a) b) _ (after_not below d _ _ (before_or below d a _ _ parts.1.0 (at_last below d b parts.1.1)))
-      (either _ _ (Not a) b (one _ _ (Not a) (not_again a _ parts.0.0 (omega (arith, facts.2))) (no_and_at_or _)) (one _ [] b (term_again b [] parts.0.1 (omega (arith, facts.2))) no_and_at_end)) facts.1,
+      (either _ _ (Not a) b (product_one inner _ _ (Not a) (not_again a _ parts.0.0 (omega (arith, facts.2))) (no_and_at_or _)) (product_one inner _ [] b (term_again b [] parts.0.1 (omega (arith, facts.2))) no_and_at_end)) facts.1,
   λ can. let facts = where_facts (Or (And a b) c) can in let parts = test_fact below (Or (And a b) c) facts.0 in
       reads d _ (Or (And a b) c) _ (before_and below d a _ _ parts.1.0.0 (before_or below d b _ _ parts.1.0.1 (at_last below d c parts.1.1)))
       (either _ _ (And a b) c
-      (two _ _ _ a b (term_again a _ parts.0.0.0 (omega (arith, facts.2))) (term_again b _ parts.0.0.1 (omega (arith, facts.2))) (no_and_at_or _))
-      (one _ [] c (term_again c [] parts.0.1 (omega (arith, facts.2))) no_and_at_end)) facts.1,
+      (product_two inner _ _ _ a b (term_again a _ parts.0.0.0 (omega (arith, facts.2))) (term_again b _ parts.0.0.1 (omega (arith, facts.2))) (no_and_at_or _))
+      (product_one inner _ [] c (term_again c [] parts.0.1 (omega (arith, facts.2))) no_and_at_end)) facts.1,
   λ can. let facts = where_facts (Or a (And b c)) can in let parts = test_fact below (Or a (And b c)) facts.0 in
       reads d _ (Or a (And b c)) _ (before_or below d a _ _ parts.1.0 (before_and below d b _ _ parts.1.1.0 (at_last below d c parts.1.1.1)))
       (either _ _ a (And b c)
-      (one _ _ a (term_again a _ parts.0.0 (omega (arith, facts.2))) (no_and_at_or _))
-      (two _ _ [] b c (term_again b _ parts.0.1.0 (omega (arith, facts.2))) (term_again c [] parts.0.1.1 (omega (arith, facts.2))) no_and_at_end)) facts.1,
+      (product_one inner _ _ a (term_again a _ parts.0.0 (omega (arith, facts.2))) (no_and_at_or _))
+      (product_two inner _ _ [] b c (term_again b _ parts.0.1.0 (omega (arith, facts.2))) (term_again c [] parts.0.1.1 (omega (arith, facts.2))) no_and_at_end)) facts.1,
   λ can. let facts = where_facts (And (And a b) c) can in let parts = test_fact below (And (And a b) c) facts.0 in
       reads d _ (And (And a b) c) _ (before_and below d a _ _ parts.1.0.0 (before_and below d b _ _ parts.1.0.1 (at_last below d c parts.1.1)))
       (alone _ _ (three _ _ _ a b c (test_long b _) (term_again a _ parts.0.0.0 (omega (arith, facts.2))) (term_again b _ parts.0.0.1 (omega (arith, facts.2))) (term_again c [] parts.0.1 (omega (arith, facts.2))))) facts.1,
   λ can. let facts = where_facts (Or (Or a b) c) can in let parts = test_fact below (Or (Or a b) c) facts.0 in
       reads d _ (Or (Or a b) c) _ (before_or below d a _ _ parts.1.0.0 (before_or below d b _ _ parts.1.0.1 (at_last below d c parts.1.1)))
       (any_of _ _ _ a b c (test_long b _)
-      (one _ _ a (term_again a _ parts.0.0.0 (omega (arith, facts.2))) (no_and_at_or _))
-      (one _ _ b (term_again b _ parts.0.0.1 (omega (arith, facts.2))) (no_and_at_or _))
-      (one _ [] c (term_again c [] parts.0.1 (omega (arith, facts.2))) no_and_at_end)) facts.1,
+      (product_one inner _ _ a (term_again a _ parts.0.0.0 (omega (arith, facts.2))) (no_and_at_or _))
+      (product_one inner _ _ b (term_again b _ parts.0.0.1 (omega (arith, facts.2))) (no_and_at_or _))
+      (product_one inner _ [] c (term_again c [] parts.0.1 (omega (arith, facts.2))) no_and_at_end)) facts.1,
 )
