@@ -156,13 +156,16 @@ all_plain d [] = refl
 all_plain d (lexeme ∷ more) =
     ap (λ ws. ws ++ all_words d more) (plain_same d lexeme.0 lexeme.1) ∙ ap (λ ws. words_of d lexeme.0 (plain_bytes d lexeme.0 lexeme.1) ++ ws) (all_plain d more)
 
-pub spellings_change_nothing : SpellingsChangeNothing
+pub spelled_same : (d : Dialect) (a b : List ℕ) (found other : List (LexemeSort × List ℕ)) → lexemes d a ≡ Some found → lexemes d b ≡ Some other
+    → map (plain d) (without_trivia found) ≡ map (plain d) (without_trivia other) → words d a ≡ words d b
 unfolding words
-spellings_change_nothing d a b found other is_a is_b same =
-    words_are_the_meaning d d a b
-    (ap (option_map (all_words d)) is_a
+spelled_same d a b found other is_a is_b same =
+    ap (option_map (all_words d)) is_a
     ∙ ap (λ ws. Some ws) (plainly found ∙ ap (all_words d) same ∙ sym (plainly other))
-    ∙ sym (ap (option_map (all_words d)) is_b))
+    ∙ sym (ap (option_map (all_words d)) is_b)
   where
     plainly : (lexemes : List (LexemeSort × List ℕ)) → all_words d lexemes ≡ all_words d (map (plain d) (without_trivia lexemes))
     plainly lexemes = kept_same d lexemes ∙ all_plain d (without_trivia lexemes)
+
+pub spellings_change_nothing : SpellingsChangeNothing
+spellings_change_nothing d a b found other is_a is_b same = words_are_the_meaning d d a b (spelled_same d a b found other is_a is_b same)

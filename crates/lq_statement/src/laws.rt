@@ -1,7 +1,7 @@
 //! What holds of the definitions that the contracts cite. Each function calls those whose laws it
 //! stands on, and its contract is the law.
 
-ghost use Rattle.lq_statement.specs.Laws.{BlanksChangeNoStatement, StatementsCanBeWritten, StatementsReadBack};
+ghost use Rattle.lq_statement.specs.Laws.{BlanksChangeNoStatement, SpellingsChangeNoStatement, StatementsCanBeWritten, StatementsReadBack, WordsAreTheStatement};
 
 use lq_base::laws::{fixed_reads_back, number_of_spells, spells_gives_number_of};
 use lq_sqllex::laws::{lexemes_go_on, names_are_read, texts_are_read};
@@ -27,4 +27,15 @@ pub fn statements_can_be_written()
 /// Other blanks and comments between the words of a text change nothing.
 pub fn blanks_change_no_statement()
     ensures { BlanksChangeNoStatement }
+{}
+
+/// Nothing of a text counts but its words.
+pub fn words_are_the_statement()
+    ensures { WordsAreTheStatement }
+{}
+
+/// A text that differs in the case of words where it says nothing, in `!=` for `<>`, in blanks and
+/// in comments alone is read alike.
+pub fn spellings_change_no_statement()
+    ensures { SpellingsChangeNoStatement }
 {}
