@@ -24,13 +24,14 @@ pub fn separated<T: Drop, F: Fn(Global, &mut Words<'_>) -> Result<T, ParseFault>
     ensures { Reads (spec.separated p words.old) result words.new }
 {
     let mut found = Items::new(alloc);
+    found.push(item(alloc, words)?)?;
     for _turn in 0..words.left() {
-        found.push(item(alloc, words)?)?;
         if !words.eat(WordKind::Comma) {
             return Ok(found);
         }
+        found.push(item(alloc, words)?)?;
     }
-    Err(ParseFault::NotSql)
+    Ok(found)
 }
 
 /// One or more in parentheses, with commas between. `NotSql` where one of them is refused or a
