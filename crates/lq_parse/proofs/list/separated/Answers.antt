@@ -1,4 +1,4 @@
-use Rattle.std.proofs.Common.{rules, arith, ◌∙◌}
+use Rattle.std.proofs.Common.{◌-◌, ◌∙◌, rules, arith}
 use Rattle.std.proofs.lemmas.Grind.{common_steps}
 use Rattle.lq_model.specs.SqlParser.{led_by, many_of, separated}
 use Rattle.lq_parse.proofs.Steps.{list_begins, list_ends, list_from, list_goes_on, list_stops}
@@ -14,7 +14,7 @@ returns-in_err-item g c =
 pub loop-turn-init : goal.loop-turn-init
 loop-turn-init g c =
     let it = c.requires.1.1.1.reads _ _ _ _ c.item.ensures in
-    list_begins g.p c.left-turn-end.result c.push.new.self c.in_ok-item.field-0 c.args.words.now c.item.new.arg3 (search rules) (search rules) (omega (arith, c.left-turn-end.ensures))
+    list_begins g.p (c.left-turn-end.result - 0) c.push.new.self c.in_ok-item.field-0 c.args.words.now c.item.new.arg3 (search rules) (search rules) (omega (arith, c.left-turn-end.ensures))
 
 pub returns-then-not-eat : goal.returns-then-not-eat
 returns-then-not-eat g c =

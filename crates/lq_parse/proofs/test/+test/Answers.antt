@@ -2,7 +2,7 @@ use Rattle.std.proofs.Common.{rules, arith}
 use Rattle.lq_model.specs.SqlTest as spec
 use Rattle.lq_model.specs.declared.test.Test.TheVariants as test
 use Rattle.lq_model.specs.declared.word.WordKind.TheVariants as word
-use Rattle.lq_parse.proofs.Chains.{and_takes, joined_ends, joined_fault, joined_read, joined_too_deep, no_not, not_fault, not_opened, not_read, not_too_deep, or_takes, product_fault, product_read, sum_fault, sum_read}
+use Rattle.lq_parse.proofs.Bounded.{and_takes, joined_ends, joined_fault, joined_read, joined_too_deep, no_not, not_fault, not_opened, not_read, not_too_deep, or_takes, product_fault, product_read, sum_fault, sum_read}
 use Rattle.lq_parse.proofs.Levels.{and_deepens, and_deeper, or_deepens, or_deeper}
 use Rattle.lq_parse.proofs.test.+test.Goals as goal
 

@@ -1,5 +1,5 @@
 use Rattle.std.proofs.Common.{rules}
-use Rattle.lq_parse.proofs.Chains.{whole_fault}
+use Rattle.lq_parse.proofs.Bounded.{whole_fault}
 use Rattle.lq_parse.proofs.test.any_test.Goals as goal
 
 pub returns-in_err-test : goal.returns-in_err-test
