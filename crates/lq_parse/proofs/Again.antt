@@ -1,12 +1,13 @@
 -- What has words is read from them: tests and queries.
-use Rattle.std.proofs.Common.{◌≡◌, ◌≤◌, ℕ, zero, suc, true, false, nat_le, List, [], ◌∷◌, Some, ap, ◌∙◌, refl, arith}
+use Rattle.std.proofs.Common.{◌≡◌, ◌<◌, ◌≤◌, ℕ, zero, suc, true, false, nat_le, List, [], ◌∷◌, length, Some, ap, ◌∙◌, refl, arith}
+use Rattle.std.specs.List.{fold}
 use Rattle.lq_base.specs.declared.literal.Literal.{Literal}
 use Rattle.lq_base.specs.declared.literal.Literal.TheVariants as constant
 use Rattle.lq_base.specs.Number.{fixed_text, whole_text}
 use Rattle.lq_model.specs.Spelled.{levels}
-use Rattle.lq_model.specs.SqlParser.{Parser, after, ended, expect, same_kind, sees, to_end}
+use Rattle.lq_model.specs.SqlParser.{Parser, after, ended, expect, led_by, many, same_kind, sees, to_end}
 use Rattle.lq_model.specs.SqlPart.{literal, name, name_of, number}
-use Rattle.lq_model.specs.SqlTest.{any_test, comparison, conjunction, disjunction, most, negation, nullness, operand, operator, primary, product, sum, term}
+use Rattle.lq_model.specs.SqlTest.{any_test, comparison, most, nullness, operand, operator, primary, product, sum, term}
 use Rattle.lq_model.specs.SqlWord.{bare, with_text}
 use Rattle.lq_model.specs.Truth.{Both, Either, Turned}
 use Rattle.lq_model.specs.declared.test.Op.{Op}
@@ -17,6 +18,7 @@ use Rattle.lq_model.specs.declared.test.Test.{And, And', Compare, IsNull, Not, N
 use Rattle.lq_model.specs.declared.word.Word.{Word}
 use Rattle.lq_model.specs.declared.word.WordKind.{WordKind}
 use Rattle.lq_model.specs.declared.word.WordKind.TheVariants as word
+use Rattle.lq_parse.proofs.Chains.{many_none, many_one}
 
 -- the canonical words of a literal, of an operand and of a test, before others
 
@@ -106,19 +108,54 @@ no_is op.Le rest = refl
 no_is op.Gt rest = refl
 no_is op.Ge rest = refl
 
--- where a loop of the grammar does nothing
+-- a term is what stands there, or its contrary after NOT
 
-pub no_not : (p : Parser Test) (i : List Word) → sees word.Not i ≡ false → negation most p i ≡ p i
-unfolding negation after
-no_not p i h = rw h refl
+pub term_plain : (p : Parser Test) (i : List Word) → sees word.Not i ≡ false → term p i ≡ p i
+unfolding term sees
+term_plain p [] h = refl
+term_plain p (w ∷ i) h = rw h refl
 
-no_and : (p : Parser Test) (t : Test) (i : List Word) → sees word.And i ≡ false → conjunction p most t i ≡ Some (t, i)
-unfolding conjunction after
-no_and p t i h = rw h refl
+pub term_not : (p : Parser Test) (i j : List Word) (t : Test) → sees word.Not i ≡ false → p i ≡ Some (t, j) → term p (bare word.Not ∷ i) ≡ Some (Not t, j)
+unfolding term same_kind
+term_not p i j t n e = rw (term_plain p i n, e) refl
 
-no_or : (p : Parser Test) (t : Test) (i : List Word) → sees word.Or i ≡ false → disjunction p most t i ≡ Some (t, i)
-unfolding disjunction after
-no_or p t i h = rw h refl
+-- a product and a sum
+
+pub product_of : (p : Parser Test) (i j l : List Word) (t : Test) (ts : List Test) → term p i ≡ Some (t, j) → many (led_by word.And (term p)) j ≡ Some (ts, l) → product p i ≡ Some (fold And t ts, l)
+unfolding product
+product_of p i j l t ts is more = rw (is, more) refl
+
+pub sum_of : (p : Parser Test) (i j l : List Word) (t : Test) (ts : List Test) → product p i ≡ Some (t, j) → many (led_by word.Or (product p)) j ≡ Some (ts, l) → sum p i ≡ Some (fold Or t ts, l)
+unfolding sum
+sum_of p i j l t ts is more = rw (is, more) refl
+
+pub and_here : (i : List Word) → sees word.And (bare word.And ∷ i) ≡ true
+unfolding sees same_kind
+and_here i = refl
+
+pub or_here : (i : List Word) → sees word.Or (bare word.Or ∷ i) ≡ true
+unfolding sees same_kind
+or_here i = refl
+
+pub no_and_at_or : (i : List Word) → sees word.And (bare word.Or ∷ i) ≡ false
+unfolding sees same_kind
+no_and_at_or i = refl
+
+-- a product of one term and of two, before what is no AND
+
+pub product_one : (p : Parser Test) (i j : List Word) (t : Test) → term p i ≡ Some (t, j) → sees word.And j ≡ false → product p i ≡ Some (t, j)
+product_one p i j t is end = product_of p i j j t [] is (many_none word.And (term p) j end)
+
+pub product_two : (p : Parser Test) (i j l : List Word) (a b : Test) → term p i ≡ Some (a, bare word.And ∷ j) → term p j ≡ Some (b, l) → sees word.And l ≡ false → product p i ≡ Some (And a b, l)
+product_two p i j l a b is_a is_b end = product_of p i (bare word.And ∷ j) l a (b ∷ []) is_a (many_one word.And (term p) (bare word.And) b j l (and_here j) is_b end)
+
+-- likewise a sum, before what is no OR
+
+pub sum_one : (p : Parser Test) (i j : List Word) (t : Test) → product p i ≡ Some (t, j) → sees word.Or j ≡ false → sum p i ≡ Some (t, j)
+sum_one p i j t is end = sum_of p i j j t [] is (many_none word.Or (product p) j end)
+
+pub sum_two : (p : Parser Test) (i j l : List Word) (a b : Test) → product p i ≡ Some (a, bare word.Or ∷ j) → product p j ≡ Some (b, l) → sees word.Or l ≡ false → sum p i ≡ Some (Or a b, l)
+sum_two p i j l a b is_a is_b end = sum_of p i (bare word.Or ∷ j) l a (b ∷ []) is_a (many_one word.Or (product p) (bare word.Or) b j l (or_here j) is_b end)
 
 flat : (n : ℕ) (i : List Word) → sees word.Open i ≡ false → primary n i ≡ comparison i
 unfolding primary after
@@ -130,52 +167,17 @@ pub record Ends (i : List Word) : Type 0 where
   pub and : sees word.And i ≡ false
   pub or : sees word.Or i ≡ false
 
-sum_one : (p : Parser Test) (i j : List Word) (t : Test) → sees word.Not i ≡ false → p i ≡ Some (t, j) → Ends j → sum p i ≡ Some (t, j)
-unfolding sum product term
-sum_one p i j t n e end = rw (no_not p i n, e, no_and (negation most p) t j end.and, no_or (product p) t j end.or) refl
-
-pub fewer_not : (m : ℕ) (p : Parser Test) (i : List Word) → sees word.Not i ≡ false → negation m p i ≡ p i
-unfolding negation after
-fewer_not zero p i h = refl
-fewer_not (suc m) p i h = rw h refl
-
-pub and_stops : (p : Parser Test) (m : ℕ) (t : Test) (i : List Word) → sees word.And i ≡ false → conjunction p m t i ≡ Some (t, i)
-unfolding conjunction after
-and_stops p zero t i h = refl
-and_stops p (suc m) t i h = rw h refl
-
-pub or_stops : (p : Parser Test) (m : ℕ) (t : Test) (i : List Word) → sees word.Or i ≡ false → disjunction p m t i ≡ Some (t, i)
-unfolding disjunction after
-or_stops p zero t i h = refl
-or_stops p (suc m) t i h = rw h refl
-
-one_and : (p : Parser Test) (a b : Test) (i j : List Word) → p i ≡ Some (b, j) → sees word.And j ≡ false → conjunction p most a (bare word.And ∷ i) ≡ Some (And a b, j)
-unfolding conjunction sees after same_kind
-one_and p a b i j e h = rw e (and_stops p 63 (And a b) j h)
-
-one_or : (p : Parser Test) (a b : Test) (i j : List Word) → p i ≡ Some (b, j) → sees word.Or j ≡ false → disjunction p most a (bare word.Or ∷ i) ≡ Some (Or a b, j)
-unfolding disjunction sees after same_kind
-one_or p a b i j e h = rw e (or_stops p 63 (Or a b) j h)
-
-product_one : (p : Parser Test) (i j : List Word) (t : Test) → sees word.Not i ≡ false → p i ≡ Some (t, j) → sees word.And j ≡ false → product p i ≡ Some (t, j)
-unfolding product term
-product_one p i j t n e h = rw (no_not p i n, e, no_and (negation most p) t j h) refl
-
-sum_not : (p : Parser Test) (i j : List Word) (t : Test) → sees word.Not i ≡ false → p i ≡ Some (t, j) → Ends j → sum p (bare word.Not ∷ i) ≡ Some (Not t, j)
-unfolding sum product term negation sees after same_kind
-sum_not p i j t n e end = rw (fewer_not 63 p i n, e, no_and (negation most p) (Not t) j end.and, no_or (product p) (Not t) j end.or) refl
+sum_term : (p : Parser Test) (i j : List Word) (t : Test) → term p i ≡ Some (t, j) → Ends j → sum p i ≡ Some (t, j)
+sum_term p i j t e end = sum_one p i j t (product_one p i j t e end.and) end.or
 
 sum_and : (p : Parser Test) (i i2 j : List Word) (a b : Test) → sees word.Not i ≡ false → sees word.Not i2 ≡ false → p i ≡ Some (a, bare word.And ∷ i2) → p i2 ≡ Some (b, j) → Ends j
     → sum p i ≡ Some (And a b, j)
-unfolding sum product term
-sum_and p i i2 j a b n n2 e e2 end =
-    rw (no_not p i n, e, one_and (negation most p) a b i2 j (no_not p i2 n2 ∙ e2) end.and, no_or (product p) (And a b) j end.or) refl
+sum_and p i i2 j a b n n2 e e2 end = sum_one p i j (And a b) (product_two p i i2 j a b (term_plain p i n ∙ e) (term_plain p i2 n2 ∙ e2) end.and) end.or
 
 sum_or : (p : Parser Test) (i i2 j : List Word) (a b : Test) → sees word.Not i ≡ false → sees word.Not i2 ≡ false → p i ≡ Some (a, bare word.Or ∷ i2) → p i2 ≡ Some (b, j) → Ends j
     → sum p i ≡ Some (Or a b, j)
-unfolding sum product term sees same_kind
 sum_or p i i2 j a b n n2 e e2 end =
-    rw (no_not p i n, e, no_and (negation most p) a (bare word.Or ∷ i2) refl, one_or (product p) a b i2 j (product_one p i2 j b n2 e2 end.and) end.or) refl
+    sum_two p i i2 j a b (product_one p i (bare word.Or ∷ i2) a (term_plain p i n ∙ e) (no_and_at_or i2)) (product_one p i2 j b (term_plain p i2 n2 ∙ e2) end.and) end.or
 
 -- the first word of an operand or a test
 operand_begins : (x : Operand) (rest : List Word) → (sees word.Not (operand_words x rest) ≡ false) × (sees word.Open (operand_words x rest) ≡ false)
@@ -187,6 +189,24 @@ operand_begins (side.Literal (constant.Bool false)) rest = (refl, refl)
 operand_begins (side.Literal (constant.Text s)) rest = (refl, refl)
 operand_begins (side.Literal (constant.Int n)) rest = (refl, refl)
 operand_begins (side.Literal (constant.Fixed u s)) rest = (refl, refl)
+
+operand_long : (x : Operand) (rest : List Word) → 0 < length (operand_words x rest)
+operand_long (side.Column c) rest = omega arith
+operand_long (side.Literal constant.Null) rest = omega arith
+operand_long (side.Literal (constant.Bool true)) rest = omega arith
+operand_long (side.Literal (constant.Bool false)) rest = omega arith
+operand_long (side.Literal (constant.Text s)) rest = omega arith
+operand_long (side.Literal (constant.Int n)) rest = omega arith
+operand_long (side.Literal (constant.Fixed u s)) rest = omega arith
+
+-- a test has a word
+pub test_long : (t : Test) (rest : List Word) → 0 < length (test_words t rest)
+test_long (Compare o x y) rest = operand_long x _
+test_long (IsNull x) rest = operand_long x _
+test_long (NotNull x) rest = operand_long x _
+test_long (Both a b) rest = omega arith
+test_long (Either a b) rest = omega arith
+test_long (Turned a) rest = omega arith
 
 pub begins : (t : Test) (rest : List Word) → sees word.Not (test_words t rest) ≡ false
 unfolding sees same_kind
@@ -245,13 +265,13 @@ primary_again (Either a b) (suc n) rest g h =
     open_parens n _ _ _ (sum_or (primary n) _ _ _ a b (begins a _) (begins b _) (primary_again a n _ g.0 (omega arith)) (primary_again b n _ g.1 (omega arith)) (close_ends rest))
     ∙ ap (λ t. Some (t, rest)) (either_is a b)
 primary_again (Turned a) (suc n) rest g h =
-    open_parens n _ _ _ (sum_not (primary n) _ _ a (begins a _) (primary_again a n _ g (omega arith)) (close_ends rest))
+    open_parens n _ _ _ (sum_term (primary n) _ _ (Not a) (term_not (primary n) _ _ a (begins a _) (primary_again a n _ g (omega arith))) (close_ends rest))
     ∙ ap (λ t. Some (t, rest)) (turned_is a)
 
 -- a whole test, before what ends it
 pub any_test_again : (t : Test) (rest : List Word) → IsTest t → nat_le (levels t) 64 ≡ true → levels t ≤ 64 → Ends rest → any_test (test_words t rest) ≡ Some (t, rest)
 unfolding any_test
-any_test_again t rest g few below end = rw (sum_one (primary most) _ rest t (begins t rest) (primary_again t most rest g below) end, few) refl
+any_test_again t rest g few below end = rw (sum_term (primary most) _ rest t (term_plain (primary most) _ (begins t rest) ∙ primary_again t most rest g below) end, few) refl
 
 pub nothing_ends : Ends []
 unfolding sees same_kind

@@ -2,6 +2,7 @@ pub mod Again
 pub mod Bounded
 pub mod Bytes
 pub mod CanWrite
+pub mod Chains
 pub mod Escapes
 pub mod Fronts
 pub mod Levels

@@ -1,17 +1,18 @@
 -- Lists with commas: their canonical words, and that they are read from them.
-use Rattle.std.proofs.Common.{◌≡◌, ◌≤◌, ℕ, zero, suc, false, List, [], ◌∷◌, ◌++◌, length, map, Option, Some, None, option_map, ap, ◌∙◌, refl, arith, append_assoc}
+use Rattle.std.proofs.Common.{◌≡◌, ◌≤◌, ℕ, zero, suc, true, false, List, [], ◌∷◌, ◌++◌, length, map, Option, Some, None, option_map, ap, ◌∙◌, refl, arith}
 use Rattle.std.specs.Prelude.{codes}
 use Rattle.lq_base.specs.SqlLexeme.{length_at}
 use Rattle.lq_base.specs.declared.dialect.Dialect.{Dialect}
 use Rattle.lq_base.specs.declared.dialect.Dialect.TheVariants.{Postgresql, Mysql}
 use Rattle.lq_model.specs.Phrase as text
-use Rattle.lq_model.specs.SqlParser.{Parser, after, same_kind, sees, separated, separated_from}
+use Rattle.lq_model.specs.SqlParser.{Parser, led_by, many, many_of, same_kind, sees, separated}
 use Rattle.lq_model.specs.SqlWord.{bare, kind_of_word, words}
 use Rattle.lq_model.specs.TestText.{after_commas, listed}
 use Rattle.lq_model.specs.declared.phrase.Phrase.TheVariants as phrase
 use Rattle.lq_model.specs.declared.word.Word.{Word}
 use Rattle.lq_model.specs.declared.word.WordKind.TheVariants as word
 use Rattle.lq_parse.proofs.Bytes.{Stops}
+use Rattle.lq_parse.proofs.Chains.{led_next, led_none, many_end, many_next}
 use Rattle.lq_parse.proofs.Fronts.{Says, blank_says, mark_says}
 use Rattle.lq_parse.proofs.Spoken.{Below, then}
 
@@ -29,24 +30,43 @@ pub record IsAgain {A : Type 0} (P : A → Type 0) (p : Parser A) (w : A → Lis
   pub read : (x : A) (rest : List Word) → P x → p (w x rest) ≡ Some (x, rest)
   pub long : (x : A) (rest : List Word) → suc (length rest) ≤ length (w x rest)
 
-from_again : {A : Type 0} (P : A → Type 0) (p : Parser A) (w : A → List Word → List Word) (it : IsAgain P p w) (x : A) (xs : List A) (n : ℕ) (acc : List A) (rest : List Word)
-    → P x → EachItem P xs → suc (length xs) ≤ n → sees word.Comma rest ≡ false → separated_from p n acc (w x (tail_words w xs rest)) ≡ Some (acc ++ x ∷ xs, rest)
-unfolding separated_from sees after same_kind
-from_again P p w it x xs zero acc rest one each enough end = absurd (omega arith)
-from_again P p w it x [] (suc n) acc rest one each enough end = rw (it.read x rest one, end) refl
-from_again P p w it x (y ∷ ys) (suc n) acc rest one each enough end =
-    rw (it.read x (bare word.Comma ∷ w y (tail_words w ys rest)) one)
-    (from_again P p w it y ys n (acc ++ x ∷ []) rest each.0 each.1 (omega arith) end ∙ ap (λ v. Some (v, rest)) (append_assoc acc (x ∷ []) (y ∷ ys)))
+-- the same where only some words may come behind an item
+pub record IsAgainBefore {A : Type 0} (Ends : List Word → Type 0) (P : A → Type 0) (p : Parser A) (w : A → List Word → List Word) : Type 0 where
+  pub read : (x : A) (rest : List Word) → P x → Ends rest → p (w x rest) ≡ Some (x, rest)
+  pub long : (x : A) (rest : List Word) → suc (length rest) ≤ length (w x rest)
+  pub comma : (rest : List Word) → Ends (bare word.Comma ∷ rest)
 
-tail_long : {A : Type 0} (P : A → Type 0) (p : Parser A) (w : A → List Word → List Word) (it : IsAgain P p w) (xs : List A) (rest : List Word) → length xs ≤ length (tail_words w xs rest)
-tail_long P p w it [] rest = omega arith
-tail_long P p w it (x ∷ xs) rest = omega (arith, it.long x (tail_words w xs rest), tail_long P p w it xs rest)
+comma_here : (rest : List Word) → sees word.Comma (bare word.Comma ∷ rest) ≡ true
+unfolding sees same_kind
+comma_here rest = refl
+
+module _ {A : Type 0} (Ends : List Word → Type 0) (P : A → Type 0) (p : Parser A) (w : A → List Word → List Word) (it : IsAgainBefore Ends P p w) where
+  tail_ends : (xs : List A) (rest : List Word) → Ends rest → Ends (tail_words w xs rest)
+  tail_ends [] rest end = end
+  tail_ends (x ∷ xs) rest end = it.comma (w x (tail_words w xs rest))
+
+  tail_again : (xs : List A) (n : ℕ) (rest : List Word) → EachItem P xs → length xs ≤ n → Ends rest → sees word.Comma rest ≡ false → many_of (led_by word.Comma p) n (tail_words w xs rest) ≡ Some (xs, rest)
+  tail_again [] n rest each enough end last = many_end (led_by word.Comma p) n rest (led_none word.Comma p rest last)
+  tail_again (x ∷ xs) zero rest each enough end last = absurd (omega arith)
+  tail_again (x ∷ xs) (suc n) rest each enough end last =
+      let more = tail_words w xs rest in
+      many_next (led_by word.Comma p) n x xs _ more rest
+      (led_next word.Comma p (bare word.Comma) x (w x more) more (comma_here (w x more)) (it.read x more each.0 (tail_ends xs rest end)))
+      (tail_again xs n rest each.1 (omega arith) end last)
+
+  tail_long : (xs : List A) (rest : List Word) → length xs ≤ length (tail_words w xs rest)
+  tail_long [] rest = omega arith
+  tail_long (x ∷ xs) rest = omega (arith, it.long x (tail_words w xs rest), tail_long xs rest)
+
+  pub separated_before : (x : A) (xs : List A) (rest : List Word) → P x → EachItem P xs → Ends rest → sees word.Comma rest ≡ false → separated p (w x (tail_words w xs rest)) ≡ Some (x ∷ xs, rest)
+  unfolding separated many
+  separated_before x xs rest one each end last =
+      rw (it.read x (tail_words w xs rest) one (tail_ends xs rest end), tail_again xs (length (tail_words w xs rest)) rest each (tail_long xs rest) end last) refl
 
 pub separated_again : {A : Type 0} (P : A → Type 0) (p : Parser A) (w : A → List Word → List Word) (it : IsAgain P p w) (x : A) (xs : List A) (rest : List Word)
     → P x → EachItem P xs → sees word.Comma rest ≡ false → separated p (w x (tail_words w xs rest)) ≡ Some (x ∷ xs, rest)
-unfolding separated
 separated_again P p w it x xs rest one each end =
-    from_again P p w it x xs _ [] rest one each (omega (arith, it.long x (tail_words w xs rest), tail_long P p w it xs rest)) end
+    separated_before (λ more. Unit {0}) P p w (record { read = λ y more is any. it.read y more is; long = it.long; comma = λ more. tt }) x xs rest one each tt end
 
 -- the canonical text of a list has these words
 

@@ -1,15 +1,15 @@
 -- What is read can be written.
 use Rattle.std.proofs.Common.{◌≡◌, ℕ, zero, suc, Bool, true, false, nat_le, if◌then◌else◌, List, [], ◌∷◌, ◌++◌, length, Option, Some, None, IfSome, ◌∙◌, refl, tests}
-use Rattle.std.specs.List.{list_all}
+use Rattle.std.specs.List.{fold, list_all}
 use Rattle.std.proofs.lemmas.Bool.{and_from}
 use Rattle.std.proofs.lemmas.List.Folds.{list_all-append}
 use Rattle.lq_base.specs.Name.{is_name}
 use Rattle.lq_base.specs.declared.literal.Literal.{Literal}
 use Rattle.lq_base.specs.declared.literal.Literal.TheVariants as constant
 use Rattle.lq_model.specs.Spelled.{is_literal, levels, operand_literals, test_literals}
-use Rattle.lq_model.specs.SqlParser.{Parser, ◌>>=◌, and_then, after, eat, ended, expect, given, peek, pure, refuse, sees, separated, separated_from, skip, taken, to_end}
+use Rattle.lq_model.specs.SqlParser.{Outcome, Parser, ◌>>=◌, and_more, and_then, eat, ended, expect, given, led_by, many, many_of, peek, pure, refuse, same_kind, separated, skip, taken, to_end}
 use Rattle.lq_model.specs.SqlPart.{literal, literal_by, name, name_of, number}
-use Rattle.lq_model.specs.SqlTest.{any_test, begins_literal, comparison, conjunction, disjunction, most, negation, nullness, operand, operator, primary, product, sum, term, where_test}
+use Rattle.lq_model.specs.SqlTest.{any_test, begins_literal, comparison, most, nullness, operand, operator, primary, product, sum, term, where_test}
 use Rattle.lq_model.specs.SqlWord.{may_be_name}
 use Rattle.lq_model.specs.Truth.{operand_names, test_names}
 use Rattle.lq_model.specs.declared.test.Operand.{Operand}
@@ -90,34 +90,40 @@ abbrev pub AllSo : {A : Type 0} → (A → Type 0) → List A → Type 0
 AllSo P [] = Unit {0}
 AllSo P (x ∷ xs) = P x × AllSo P xs
 
-all_last : {A : Type 0} (P : A → Type 0) (xs : List A) (x : A) → AllSo P xs → P x → AllSo P (xs ++ x ∷ [])
-all_last P [] x h g = (g, tt)
-all_last P (y ∷ xs) x h g = (h.0, all_last P xs x h.1 g)
-
 -- some, and each is so
 abbrev pub SomeSo : {A : Type 0} → (A → Type 0) → List A → Type 0
 SomeSo P [] = ⊥
 SomeSo P (x ∷ xs) = AllSo P (x ∷ xs)
 
-some_last : {A : Type 0} (P : A → Type 0) (xs : List A) (x : A) → AllSo P xs → P x → SomeSo P (xs ++ x ∷ [])
-some_last P [] x h g = (g, tt)
-some_last P (y ∷ xs) x h g = all_last P (y ∷ xs) x h g
+-- what may have been found is so
+abbrev pub MaybeSo : {A : Type 0} → (A → Type 0) → Option A → Type 0
+MaybeSo P o = IfSome o P
 
-from_makes : {A : Type 0} (P : A → Type 0) (item : Parser A) (turns : ℕ) (found : List A) → Makes P item → AllSo P found → Makes (SomeSo P) (separated_from item turns found)
-unfolding separated_from
-from_makes P item zero found h so_far = makes_refuse (SomeSo P)
-from_makes P item (suc turns) found h so_far =
-    makes_then P (SomeSo P) item _ h (λ x is. record {
-      at = λ i.
-          elim (sees word.Comma i) as (λ more. IfSome ((if more then separated_from item turns (found ++ x ∷ []) else pure (found ++ x ∷ [])) (after word.Comma i)) (λ made. SomeSo P made.0)) [
-            | true ↦ (from_makes P item turns (found ++ x ∷ []) h (all_last P found x so_far is)).at (after word.Comma i)
-            | false ↦ some_last P found x so_far is
-          ];
-    })
+more_makes : {A : Type 0} (P : A → Type 0) (found : Option A) (more : Parser (List A)) → MaybeSo P found → Makes (AllSo P) more → Makes (AllSo P) (and_more found more)
+more_makes P None more is h = makes_pure (AllSo P) [] tt
+more_makes P (Some x) more is h = makes_then (AllSo P) (AllSo P) more _ h (λ xs are. makes_pure (AllSo P) (x ∷ xs) (is, are))
+
+many_of_makes : {A : Type 0} (P : A → Type 0) (item : Parser (Option A)) (n : ℕ) → Makes (MaybeSo P) item → Makes (AllSo P) (many_of item n)
+unfolding many_of
+many_of_makes P item zero h = makes_pure (AllSo P) [] tt
+many_of_makes P item (suc n) h = makes_then (MaybeSo P) (AllSo P) item _ h (λ found is. more_makes P found (many_of item n) is (many_of_makes P item n h))
+
+pub many_makes : {A : Type 0} (P : A → Type 0) (item : Parser (Option A)) → Makes (MaybeSo P) item → Makes (AllSo P) (many item)
+unfolding many
+many_makes P item h = record { at = λ i. (many_of_makes P item (length i) h).at i }
+
+pub led_makes : {A : Type 0} (P : A → Type 0) (k : WordKind) (item : Parser A) → Makes P item → Makes (MaybeSo P) (led_by k item)
+unfolding led_by
+led_makes P k item h =
+    makes_after (MaybeSo P) (eat k) _ (λ led. makes_if (MaybeSo P) led _ _
+    (makes_then P (MaybeSo P) item _ h (λ x is. makes_pure (MaybeSo P) (Some x) is))
+    (makes_pure (MaybeSo P) None tt))
 
 pub separated_makes : {A : Type 0} (P : A → Type 0) (item : Parser A) → Makes P item → Makes (SomeSo P) (separated item)
 unfolding separated
-separated_makes P item h = record { at = λ i. (from_makes P item (length i) [] h tt).at i }
+separated_makes P item h =
+    makes_then P (SomeSo P) item _ h (λ x is. makes_then (AllSo P) (SomeSo P) (many (led_by word.Comma item)) _ (many_makes P (led_by word.Comma item) (led_makes P word.Comma item h)) (λ xs are.
+    makes_pure (SomeSo P) (x ∷ xs) (is, are)))
 
 -- literals
 
@@ -193,41 +199,40 @@ comparison_makes operands =
     (makes_after IsTestText operator _ (λ o. makes_then IsOperandText IsTestText operand _ operands (λ y g. makes_pure IsTestText (test.Compare o x y)
     (facts_join (operand_names x) (operand_names y) (operand_literals x) (operand_literals y) f g))))))
 
-negation_makes : (nots : ℕ) (inner : Parser Test) → Makes IsTestText inner → Makes IsTestText (negation nots inner)
-unfolding negation
-negation_makes zero inner h = h
-negation_makes (suc nots) inner h =
-    makes_after IsTestText (eat word.Not) _ (λ negated. makes_if IsTestText negated _ _
-    (makes_then IsTestText IsTestText (negation nots inner) _ (negation_makes nots inner h) (λ t f. makes_pure IsTestText (test.Not t) (not_text t f)))
-    h)
+turned_makes : (found : Outcome Test) → IfSome found (λ it. IsTestText it.0) → IfSome (and_then found (λ t. pure (test.Not t))) (λ it. IsTestText it.0)
+turned_makes None h = tt
+turned_makes (Some found) h = not_text found.0 h
 
-conjunction_makes : (inner : Parser Test) (turns : ℕ) (left : Test) → Makes IsTestText inner → IsTestText left → Makes IsTestText (conjunction inner turns left)
-unfolding conjunction
-conjunction_makes inner zero left h f = makes_pure IsTestText left f
-conjunction_makes inner (suc turns) left h f =
-    makes_after IsTestText (eat word.And) _ (λ more. makes_if IsTestText more _ _
-    (makes_then IsTestText IsTestText inner _ h (λ right g. conjunction_makes inner turns (test.And left right) h (and_text left right f g)))
-    (makes_pure IsTestText left f))
+term_at : (p : Parser Test) → Makes IsTestText p → (i : List Word) → IfSome (term p i) (λ it. IsTestText it.0)
+unfolding term
+term_at p h [] = h.at []
+term_at p h (w ∷ i) =
+    elim (same_kind w.kind word.Not) as (λ negated. IfSome (if negated then and_then (term p i) (λ t. pure (test.Not t)) else p (w ∷ i)) (λ it. IsTestText it.0)) [
+      | true ↦ turned_makes (term p i) (term_at p h i)
+      | false ↦ h.at (w ∷ i)
+    ]
 
-disjunction_makes : (inner : Parser Test) (turns : ℕ) (left : Test) → Makes IsTestText inner → IsTestText left → Makes IsTestText (disjunction inner turns left)
-unfolding disjunction
-disjunction_makes inner zero left h f = makes_pure IsTestText left f
-disjunction_makes inner (suc turns) left h f =
-    makes_after IsTestText (eat word.Or) _ (λ more. makes_if IsTestText more _ _
-    (makes_then IsTestText IsTestText inner _ h (λ right g. disjunction_makes inner turns (test.Or left right) h (or_text left right f g)))
-    (makes_pure IsTestText left f))
+term_makes : (p : Parser Test) → Makes IsTestText p → Makes IsTestText (term p)
+term_makes p h = record { at = λ i. term_at p h i }
+
+-- tests that are joined to the left
+fold_text : (join : Test → Test → Test) → ((a b : Test) → IsTestText a → IsTestText b → IsTestText (join a b)) → (ts : List Test) (t : Test) → IsTestText t → AllSo IsTestText ts → IsTestText (fold join t ts)
+fold_text join joined [] t f each = f
+fold_text join joined (u ∷ ts) t f each = fold_text join joined ts (join t u) (joined t u f each.0) each.1
 
 product_makes : (p : Parser Test) → Makes IsTestText p → Makes IsTestText (product p)
-unfolding product term
+unfolding product
 product_makes p h =
-    let inner = negation_makes most p h in
-    makes_then IsTestText IsTestText (negation most p) _ inner (λ first f. conjunction_makes (negation most p) most first inner f)
+    let inner = term_makes p h in
+    makes_then IsTestText IsTestText (term p) _ inner (λ first f. makes_then (AllSo IsTestText) IsTestText (many (led_by word.And (term p))) _ (many_makes IsTestText (led_by word.And (term p)) (led_makes IsTestText word.And (term p) inner)) (λ more each.
+    makes_pure IsTestText (fold test.And first more) (fold_text test.And and_text more first f each)))
 
 sum_makes : (p : Parser Test) → Makes IsTestText p → Makes IsTestText (sum p)
 unfolding sum
 sum_makes p h =
     let inner = product_makes p h in
-    makes_then IsTestText IsTestText (product p) _ inner (λ first f. disjunction_makes (product p) most first inner f)
+    makes_then IsTestText IsTestText (product p) _ inner (λ first f. makes_then (AllSo IsTestText) IsTestText (many (led_by word.Or (product p))) _ (many_makes IsTestText (led_by word.Or (product p)) (led_makes IsTestText word.Or (product p) inner)) (λ more each.
+    makes_pure IsTestText (fold test.Or first more) (fold_text test.Or or_text more first f each)))
 
 primary_makes : Makes IsTestText comparison → (parentheses : ℕ) → Makes IsTestText (primary parentheses)
 unfolding primary

@@ -1,11 +1,11 @@
 -- How NOT, AND and OR bind where no parentheses stand.
-use Rattle.std.proofs.Common.{◌≡◌, ◌≤◌, ℕ, suc, true, false, nat_le, List, [], ◌∷◌, ◌++◌, Some, option_map, ap, ◌∙◌, refl, arith}
+use Rattle.std.proofs.Common.{◌≡◌, ◌<◌, ◌≤◌, ℕ, true, false, nat_le, List, [], ◌∷◌, ◌++◌, length, Some, option_map, ap, ◌∙◌, refl, arith}
 use Rattle.std.specs.Prelude.{codes}
 use Rattle.lq_base.specs.declared.dialect.Dialect.{Dialect}
 use Rattle.lq_model.specs.Phrase as text
 use Rattle.lq_model.specs.Spelled.{levels}
-use Rattle.lq_model.specs.SqlParser.{Outcome, Parser, after, ended, expect, same_kind, sees, to_end}
-use Rattle.lq_model.specs.SqlTest.{any_test, conjunction, disjunction, most, negation, primary, product, sum, term}
+use Rattle.lq_model.specs.SqlParser.{Parser, after, ended, expect, same_kind, sees, to_end}
+use Rattle.lq_model.specs.SqlTest.{any_test, most, primary, product, sum, term}
 use Rattle.lq_model.specs.SqlText.{test_in}
 use Rattle.lq_model.specs.SqlWord.{bare, kind_of_word, words}
 use Rattle.lq_model.specs.TestText.{test_text}
@@ -13,7 +13,8 @@ use Rattle.lq_model.specs.declared.test.Test.{And, Not, Or, Test}
 use Rattle.lq_model.specs.declared.word.Word.{Word}
 use Rattle.lq_model.specs.declared.word.WordKind.TheVariants as word
 use Rattle.lq_parse.specs.Laws.{NotAndOrBindInTurn}
-use Rattle.lq_parse.proofs.Again.{IsTest, and_stops, begins, fewer_not, no_not, or_stops, primary_again, test_words}
+use Rattle.lq_parse.proofs.Again.{IsTest, and_here, begins, no_and_at_or, or_here, primary_again, product_of, product_one, product_two, sum_of, sum_one, sum_two, term_not, term_plain, test_long, test_words}
+use Rattle.lq_parse.proofs.Chains.{many_two}
 use Rattle.lq_parse.proofs.Fronts.{keyword_says}
 use Rattle.lq_parse.proofs.ReadBack.{all_words, where_facts, whole_is}
 use Rattle.lq_parse.proofs.Spoken.{Below, TestHasLiterals, and_says, or_says, test_says}
@@ -46,34 +47,13 @@ abbrev inner : Parser Test
 inner = primary most
 
 abbrev terms : Parser Test
-terms = negation most inner
+terms = term inner
 
 term_again : (t : Test) (rest : List Word) → IsTest t → levels t ≤ 64 → terms (test_words t rest) ≡ Some (t, rest)
-term_again t rest g below = no_not inner (test_words t rest) (begins t rest) ∙ primary_again t most rest g below
+term_again t rest g below = term_plain inner (test_words t rest) (begins t rest) ∙ primary_again t most rest g below
 
 not_again : (t : Test) (rest : List Word) → IsTest t → levels t ≤ 64 → terms (bare word.Not ∷ test_words t rest) ≡ Some (Not t, rest)
-unfolding negation sees after same_kind
-not_again t rest g below = rw (fewer_not 63 inner (test_words t rest) (begins t rest), primary_again t most rest g below) refl
-
-one_more_and : (m : ℕ) (a b : Test) (i j : List Word) → terms i ≡ Some (b, j) → conjunction terms (suc m) a (bare word.And ∷ i) ≡ conjunction terms m (And a b) j
-unfolding conjunction sees after same_kind
-one_more_and m a b i j is = rw is refl
-
-one_more_or : (m : ℕ) (a b : Test) (i j : List Word) → product inner i ≡ Some (b, j) → disjunction (product inner) (suc m) a (bare word.Or ∷ i) ≡ disjunction (product inner) m (Or a b) j
-unfolding disjunction sees after same_kind
-one_more_or m a b i j is = rw is refl
-
-product_of : (i j : List Word) (t : Test) (found : Outcome Test) → terms i ≡ Some (t, j) → conjunction terms most t j ≡ found → product inner i ≡ found
-unfolding product term
-product_of i j t found is more = rw is more
-
-sum_of : (i j : List Word) (t : Test) (found : Outcome Test) → product inner i ≡ Some (t, j) → disjunction (product inner) most t j ≡ found → sum inner i ≡ found
-unfolding sum
-sum_of i j t found is more = rw is more
-
-no_and_at_or : (ws : List Word) → sees word.And (bare word.Or ∷ ws) ≡ false
-unfolding sees same_kind
-no_and_at_or ws = refl
+not_again t rest g below = term_not inner (test_words t rest) rest t (begins t rest) (primary_again t most rest g below)
 
 no_and_at_end : sees word.And [] ≡ false
 unfolding sees same_kind
@@ -83,29 +63,22 @@ no_or_at_end : sees word.Or [] ≡ false
 unfolding sees same_kind
 no_or_at_end = refl
 
--- one test, and two with AND between them, before what is no AND
-one : (i j : List Word) (t : Test) → terms i ≡ Some (t, j) → sees word.And j ≡ false → product inner i ≡ Some (t, j)
-one i j t is stop = product_of i j t _ is (and_stops terms most t j stop)
+-- chains; of three tests the second has a word, so that there are words enough for two more
+three : (i j k : List Word) (a b c : Test) → 0 < length j → terms i ≡ Some (a, bare word.And ∷ j) → terms j ≡ Some (b, bare word.And ∷ k) → terms k ≡ Some (c, []) → product inner i ≡ Some (And (And a b) c, [])
+three i j k a b c some is_a is_b is_c =
+    product_of inner i (bare word.And ∷ j) [] a (b ∷ c ∷ []) is_a
+    (many_two word.And terms (bare word.And) (bare word.And) b c j k [] some (and_here j) is_b (and_here k) is_c no_and_at_end)
 
-two : (i j k : List Word) (a b : Test) → terms i ≡ Some (a, bare word.And ∷ j) → terms j ≡ Some (b, k) → sees word.And k ≡ false → product inner i ≡ Some (And a b, k)
-two i j k a b is_a is_b stop = product_of i (bare word.And ∷ j) a _ is_a (one_more_and 63 a b j k is_b ∙ and_stops terms 63 (And a b) k stop)
+any_of : (i j k : List Word) (a b c : Test) → 0 < length j → product inner i ≡ Some (a, bare word.Or ∷ j) → product inner j ≡ Some (b, bare word.Or ∷ k) → product inner k ≡ Some (c, []) → sum inner i ≡ Some (Or (Or a b) c, [])
+any_of i j k a b c some is_a is_b is_c =
+    sum_of inner i (bare word.Or ∷ j) [] a (b ∷ c ∷ []) is_a
+    (many_two word.Or (product inner) (bare word.Or) (bare word.Or) b c j k [] some (or_here j) is_b (or_here k) is_c no_or_at_end)
 
-three : (i j k : List Word) (a b c : Test) → terms i ≡ Some (a, bare word.And ∷ j) → terms j ≡ Some (b, bare word.And ∷ k) → terms k ≡ Some (c, []) → product inner i ≡ Some (And (And a b) c, [])
-three i j k a b c is_a is_b is_c =
-    product_of i (bare word.And ∷ j) a _ is_a
-    (one_more_and 63 a b j (bare word.And ∷ k) is_b ∙ one_more_and 62 (And a b) c k [] is_c ∙ and_stops terms 62 (And (And a b) c) [] no_and_at_end)
-
--- the same with OR
 alone : (i : List Word) (t : Test) → product inner i ≡ Some (t, []) → sum inner i ≡ Some (t, [])
-alone i t is = sum_of i [] t _ is (or_stops (product inner) most t [] no_or_at_end)
+alone i t is = sum_one inner i [] t is no_or_at_end
 
 either : (i j : List Word) (a b : Test) → product inner i ≡ Some (a, bare word.Or ∷ j) → product inner j ≡ Some (b, []) → sum inner i ≡ Some (Or a b, [])
-either i j a b is_a is_b = sum_of i (bare word.Or ∷ j) a _ is_a (one_more_or 63 a b j [] is_b ∙ or_stops (product inner) 63 (Or a b) [] no_or_at_end)
-
-any_of : (i j k : List Word) (a b c : Test) → product inner i ≡ Some (a, bare word.Or ∷ j) → product inner j ≡ Some (b, bare word.Or ∷ k) → product inner k ≡ Some (c, []) → sum inner i ≡ Some (Or (Or a b) c, [])
-any_of i j k a b c is_a is_b is_c =
-    sum_of i (bare word.Or ∷ j) a _ is_a
-    (one_more_or 63 a b j (bare word.Or ∷ k) is_b ∙ one_more_or 62 (Or a b) c k [] is_c ∙ or_stops (product inner) 62 (Or (Or a b) c) [] no_or_at_end)
+either i j a b is_a is_b = sum_two inner i j [] a b is_a is_b no_or_at_end
 
 to_the_end : (t : Test) (i : List Word) → sum inner i ≡ Some (t, []) → nat_le (levels t) 64 ≡ true → to_end any_test i ≡ Some (t, [])
 unfolding any_test ended expect sees after same_kind
@@ -120,27 +93,27 @@ unfolding Rattle.lq_model.specs.declared.test.Test.TheBlock.hidden-the_row-Test-
 not_and_or_bind_in_turn below d a b c = (
   λ can. let facts = where_facts (And (Not a) b) can in let parts = test_fact below (And (Not a) b) facts.0 in
       reads d _ (And (Not a) b) _ (after_not below d _ _ (before_and below d a _ _ parts.1.0 (at_last below d b parts.1.1)))
-      (alone _ _ (two _ _ [] (Not a) b (not_again a _ parts.0.0 (omega (arith, facts.2))) (term_again b [] parts.0.1 (omega (arith, facts.2))) no_and_at_end)) facts.1,
+      (alone _ _ (product_two inner _ _ [] (Not a) b (not_again a _ parts.0.0 (omega (arith, facts.2))) (term_again b [] parts.0.1 (omega (arith, facts.2))) no_and_at_end)) facts.1,
   λ can. let facts = where_facts (Or (Not a) b) can in let parts = test_fact below (Or (Not a) b) facts.0 in
       reads d _ (Or (Not a) b) _ (after_not below d _ _ (before_or below d a _ _ parts.1.0 (at_last below d b parts.1.1)))
-      (either _ _ (Not a) b (one _ _ (Not a) (not_again a _ parts.0.0 (omega (arith, facts.2))) (no_and_at_or _)) (one _ [] b (term_again b [] parts.0.1 (omega (arith, facts.2))) no_and_at_end)) facts.1,
+      (either _ _ (Not a) b (product_one inner _ _ (Not a) (not_again a _ parts.0.0 (omega (arith, facts.2))) (no_and_at_or _)) (product_one inner _ [] b (term_again b [] parts.0.1 (omega (arith, facts.2))) no_and_at_end)) facts.1,
   λ can. let facts = where_facts (Or (And a b) c) can in let parts = test_fact below (Or (And a b) c) facts.0 in
       reads d _ (Or (And a b) c) _ (before_and below d a _ _ parts.1.0.0 (before_or below d b _ _ parts.1.0.1 (at_last below d c parts.1.1)))
       (either _ _ (And a b) c
-      (two _ _ _ a b (term_again a _ parts.0.0.0 (omega (arith, facts.2))) (term_again b _ parts.0.0.1 (omega (arith, facts.2))) (no_and_at_or _))
-      (one _ [] c (term_again c [] parts.0.1 (omega (arith, facts.2))) no_and_at_end)) facts.1,
+      (product_two inner _ _ _ a b (term_again a _ parts.0.0.0 (omega (arith, facts.2))) (term_again b _ parts.0.0.1 (omega (arith, facts.2))) (no_and_at_or _))
+      (product_one inner _ [] c (term_again c [] parts.0.1 (omega (arith, facts.2))) no_and_at_end)) facts.1,
   λ can. let facts = where_facts (Or a (And b c)) can in let parts = test_fact below (Or a (And b c)) facts.0 in
       reads d _ (Or a (And b c)) _ (before_or below d a _ _ parts.1.0 (before_and below d b _ _ parts.1.1.0 (at_last below d c parts.1.1.1)))
       (either _ _ a (And b c)
-      (one _ _ a (term_again a _ parts.0.0 (omega (arith, facts.2))) (no_and_at_or _))
-      (two _ _ [] b c (term_again b _ parts.0.1.0 (omega (arith, facts.2))) (term_again c [] parts.0.1.1 (omega (arith, facts.2))) no_and_at_end)) facts.1,
+      (product_one inner _ _ a (term_again a _ parts.0.0 (omega (arith, facts.2))) (no_and_at_or _))
+      (product_two inner _ _ [] b c (term_again b _ parts.0.1.0 (omega (arith, facts.2))) (term_again c [] parts.0.1.1 (omega (arith, facts.2))) no_and_at_end)) facts.1,
   λ can. let facts = where_facts (And (And a b) c) can in let parts = test_fact below (And (And a b) c) facts.0 in
       reads d _ (And (And a b) c) _ (before_and below d a _ _ parts.1.0.0 (before_and below d b _ _ parts.1.0.1 (at_last below d c parts.1.1)))
-      (alone _ _ (three _ _ _ a b c (term_again a _ parts.0.0.0 (omega (arith, facts.2))) (term_again b _ parts.0.0.1 (omega (arith, facts.2))) (term_again c [] parts.0.1 (omega (arith, facts.2))))) facts.1,
+      (alone _ _ (three _ _ _ a b c (test_long b _) (term_again a _ parts.0.0.0 (omega (arith, facts.2))) (term_again b _ parts.0.0.1 (omega (arith, facts.2))) (term_again c [] parts.0.1 (omega (arith, facts.2))))) facts.1,
   λ can. let facts = where_facts (Or (Or a b) c) can in let parts = test_fact below (Or (Or a b) c) facts.0 in
       reads d _ (Or (Or a b) c) _ (before_or below d a _ _ parts.1.0.0 (before_or below d b _ _ parts.1.0.1 (at_last below d c parts.1.1)))
-      (any_of _ _ _ a b c
-      (one _ _ a (term_again a _ parts.0.0.0 (omega (arith, facts.2))) (no_and_at_or _))
-      (one _ _ b (term_again b _ parts.0.0.1 (omega (arith, facts.2))) (no_and_at_or _))
-      (one _ [] c (term_again c [] parts.0.1 (omega (arith, facts.2))) no_and_at_end)) facts.1,
+      (any_of _ _ _ a b c (test_long b _)
+      (product_one inner _ _ a (term_again a _ parts.0.0.0 (omega (arith, facts.2))) (no_and_at_or _))
+      (product_one inner _ _ b (term_again b _ parts.0.0.1 (omega (arith, facts.2))) (no_and_at_or _))
+      (product_one inner _ [] c (term_again c [] parts.0.1 (omega (arith, facts.2))) no_and_at_end)) facts.1,
 )

@@ -1,14 +1,15 @@
 -- A test and a query are read alike whether their names stand in their quotes or not.
-use Rattle.std.proofs.Common.{◌≡◌, ℕ, zero, suc, Bool, true, false, nat_le, if◌then◌else◌, List, [], ◌∷◌, ◌++◌, length, map, ◌&&◌, Option, Some, None, option_map, ap, ◌∙◌, sym, refl}
+use Rattle.std.proofs.Common.{◌≡◌, ℕ, zero, suc, Bool, true, false, nat_le, if◌then◌else◌, List, [], ◌∷◌, length, map, ◌&&◌, Option, Some, None, option_map, ap, ◌∙◌, sym, refl}
+use Rattle.std.specs.List.{fold}
 use Rattle.std.specs.Option.{option_and_then}
 use Rattle.std.proofs.lemmas.List.{length-map}
 use Rattle.lq_base.specs.declared.dialect.Dialect.{Dialect}
 use Rattle.lq_base.specs.declared.literal.Literal.TheVariants as constant
 use Rattle.lq_model.specs.Spelled.{levels}
-use Rattle.lq_model.specs.SqlParser.{Outcome, Parser, ◌>>=◌, after, and_then, eat, ended, expect, given, kind, next, peek, pure, refuse, same_kind, sees, separated, separated_from, skip, taken, text, to_end}
+use Rattle.lq_model.specs.SqlParser.{Outcome, Parser, ◌>>=◌, after, and_more, and_then, eat, ended, expect, given, kind, led_by, many, many_of, next, peek, pure, refuse, same_kind, sees, separated, skip, taken, text, to_end}
 use Rattle.lq_model.specs.SqlPart.{literal, literal_by, name, name_of, number}
 use Rattle.lq_model.specs.SqlQuery.{columns, count, peek_count, query, sees_count, selected}
-use Rattle.lq_model.specs.SqlTest.{any_test, begins_literal, comparison, conjunction, disjunction, most, negation, nullness, operand, operator, operator_by, primary, product, sum, term, where_test}
+use Rattle.lq_model.specs.SqlTest.{any_test, begins_literal, comparison, most, nullness, operand, operator, operator_by, primary, product, sum, term, where_test}
 use Rattle.lq_model.specs.SqlText.{query_in, read, test_in, whole}
 use Rattle.lq_model.specs.SqlWord.{may_be_name, with_text, words}
 use Rattle.lq_model.specs.declared.query.Wanted.TheVariants as wanted
@@ -187,38 +188,57 @@ module _ (turn : Word → Word) (kinds : WordKind → WordKind) (it : Turns turn
       blind_then operand _ blind_operand (λ x. blind_then (eat word.Is) _ (blind_eat word.Is (λ n. (it.no_names n).3)) (λ found. blind_if found _ _ (blind_nullness x)
       (blind_then operator _ blind_operator (λ o. blind_then operand _ blind_operand (λ y. blind_pure (test.Compare o x y))))))
 
-  blind_negation : (n : ℕ) (inner : Parser Test) → Blind turn inner → Blind turn (negation n inner)
-  unfolding negation
-  blind_negation zero inner is = is
-  blind_negation (suc n) inner is =
-      blind_then (eat word.Not) _ (blind_eat word.Not (λ k. (it.no_names k).2)) (λ negated.
-      blind_if negated _ _ (blind_then (negation n inner) _ (blind_negation n inner is) (λ t. blind_pure (test.Not t))) is)
+  blind_more : {A : Type 0} (found : Option A) (more : Parser (List A)) → Blind turn more → Blind turn (and_more found more)
+  blind_more None more is = blind_pure []
+  blind_more (Some x) more is = blind_then more _ is (λ xs. blind_pure (x ∷ xs))
 
-  blind_conjunction : (inner : Parser Test) → Blind turn inner → (n : ℕ) (left : Test) → Blind turn (conjunction inner n left)
-  unfolding conjunction
-  blind_conjunction inner is zero left = blind_pure left
-  blind_conjunction inner is (suc n) left =
-      blind_then (eat word.And) _ (blind_eat word.And (λ k. (it.no_names k).0)) (λ more.
-      blind_if more _ _ (blind_then inner _ is (λ right. blind_conjunction inner is n (test.And left right))) (blind_pure left))
+  blind_many_of : {A : Type 0} (item : Parser (Option A)) → Blind turn item → (n : ℕ) → Blind turn (many_of item n)
+  unfolding many_of
+  blind_many_of item is zero = blind_pure []
+  blind_many_of item is (suc n) = blind_then item _ is (λ found. blind_more found (many_of item n) (blind_many_of item is n))
 
-  blind_disjunction : (inner : Parser Test) → Blind turn inner → (n : ℕ) (left : Test) → Blind turn (disjunction inner n left)
-  unfolding disjunction
-  blind_disjunction inner is zero left = blind_pure left
-  blind_disjunction inner is (suc n) left =
-      blind_then (eat word.Or) _ (blind_eat word.Or (λ k. (it.no_names k).1)) (λ more.
-      blind_if more _ _ (blind_then inner _ is (λ right. blind_disjunction inner is n (test.Or left right))) (blind_pure left))
+  blind_many : {A : Type 0} (item : Parser (Option A)) → Blind turn item → Blind turn (many item)
+  unfolding many
+  blind_many item is = record { at = λ i. ap (λ n. many_of item n (quoted i)) (length-map i turn) ∙ (blind_many_of item is (length i)).at i }
+
+  blind_led : {A : Type 0} (k : WordKind) → NoName kinds k → (item : Parser A) → Blind turn item → Blind turn (led_by k item)
+  unfolding led_by
+  blind_led k other item is = blind_then (eat k) _ (blind_eat k other) (λ led. blind_if led _ _ (blind_then item _ is (λ x. blind_pure (Some x))) (blind_pure None))
+
+  not_quoted : (w : Word) → same_kind (turn w).kind word.Not ≡ same_kind w.kind word.Not
+  not_quoted w = ap (λ n. same_kind n word.Not) (it.kind_is w) ∙ (it.no_names w.kind).2
+
+  turned_quoted : (found : Outcome Test) → and_then (turned_rest turn found) (λ t. pure (test.Not t)) ≡ turned_rest turn (and_then found (λ t. pure (test.Not t)))
+  turned_quoted None = refl
+  turned_quoted (Some found) = refl
+
+  term_quoted : (p : Parser Test) → Blind turn p → (i : List Word) → term p (quoted i) ≡ turned_rest turn (term p i)
+  unfolding term
+  term_quoted p is [] = is.at []
+  term_quoted p is (w ∷ i) =
+      ap (λ negated. if negated then and_then (term p (quoted i)) (λ t. pure (test.Not t)) else p (quoted (w ∷ i))) (not_quoted w)
+      ∙ by (same_kind w.kind word.Not) (term_quoted p is i)
+    where
+      by : (negated : Bool) → term p (quoted i) ≡ turned_rest turn (term p i)
+          → (if negated then and_then (term p (quoted i)) (λ t. pure (test.Not t)) else p (quoted (w ∷ i)))
+          ≡ turned_rest turn (if negated then and_then (term p i) (λ t. pure (test.Not t)) else p (w ∷ i))
+      by true same = ap (λ found. and_then found (λ t. pure (test.Not t))) same ∙ turned_quoted (term p i)
+      by false same = is.at (w ∷ i)
 
   blind_term : (p : Parser Test) → Blind turn p → Blind turn (term p)
-  unfolding term
-  blind_term p is = blind_negation most p is
+  blind_term p is = record { at = λ i. term_quoted p is i }
 
   blind_product : (p : Parser Test) → Blind turn p → Blind turn (product p)
   unfolding product
-  blind_product p is = blind_then (term p) _ (blind_term p is) (λ first. blind_conjunction (term p) (blind_term p is) most first)
+  blind_product p is =
+      blind_then (term p) _ (blind_term p is) (λ first. blind_then (many (led_by word.And (term p))) _ (blind_many (led_by word.And (term p)) (blind_led word.And (λ k. (it.no_names k).0) (term p) (blind_term p is))) (λ more.
+      blind_pure (fold test.And first more)))
 
   blind_sum : (p : Parser Test) → Blind turn p → Blind turn (sum p)
   unfolding sum
-  blind_sum p is = blind_then (product p) _ (blind_product p is) (λ first. blind_disjunction (product p) (blind_product p is) most first)
+  blind_sum p is =
+      blind_then (product p) _ (blind_product p is) (λ first. blind_then (many (led_by word.Or (product p))) _ (blind_many (led_by word.Or (product p)) (blind_led word.Or (λ k. (it.no_names k).1) (product p) (blind_product p is))) (λ more.
+      blind_pure (fold test.Or first more)))
 
   blind_primary : (n : ℕ) → Blind turn (primary n)
   unfolding primary
@@ -240,16 +260,11 @@ module _ (turn : Word → Word) (kinds : WordKind → WordKind) (it : Turns turn
 
   -- queries
 
-  blind_from : {A : Type 0} (item : Parser A) → Blind turn item → (n : ℕ) (found : List A) → Blind turn (separated_from item n found)
-  unfolding separated_from
-  blind_from item is zero found = blind_refuse
-  blind_from item is (suc n) found =
-      blind_then item _ is (λ x. blind_then (eat word.Comma) _ (blind_eat word.Comma (λ k. (it.no_names k).9)) (λ more.
-      blind_if more _ _ (blind_from item is n (found ++ x ∷ [])) (blind_pure (found ++ x ∷ []))))
-
   blind_separated : {A : Type 0} (item : Parser A) → Blind turn item → Blind turn (separated item)
   unfolding separated
-  blind_separated item is = record { at = λ i. ap (λ n. separated_from item n [] (quoted i)) (length-map i turn) ∙ (blind_from item is (length i) []).at i }
+  blind_separated item is =
+      blind_then item _ is (λ first. blind_then (many (led_by word.Comma item)) _ (blind_many (led_by word.Comma item) (blind_led word.Comma (λ k. (it.no_names k).9) item is)) (λ more.
+      blind_pure (first ∷ more)))
 
   blind_where : Blind turn where_test
   unfolding where_test

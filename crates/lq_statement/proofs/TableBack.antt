@@ -1,5 +1,5 @@
 -- CREATE TABLE and what ADD adds are read from their texts.
-use Rattle.std.proofs.Common.{◌≡◌, ◌≤◌, ℕ, zero, suc, nat_le, Bool, true, false, List, [], ◌∷◌, ◌++◌, length, map, Option, Some, None, inl, inr, ap, ◌∙◌, sym, refl, arith, append_assoc, append-nil}
+use Rattle.std.proofs.Common.{◌≡◌, ◌≤◌, ℕ, suc, nat_le, Bool, true, false, List, [], ◌∷◌, ◌++◌, length, map, Option, Some, None, inl, inr, ap, ◌∙◌, sym, refl, arith, append_assoc, append-nil}
 use Rattle.std.specs.List.{flat_map}
 use Rattle.std.proofs.lemmas.Bool.{le-leb, leb-true}
 use Rattle.lq_base.specs.Kind.{is_kind}
@@ -12,7 +12,7 @@ use Rattle.lq_model.specs.Phrase as text
 use Rattle.lq_model.specs.SqlAlter.{add, add_column, add_constraint, alter, alter_table}
 use Rattle.lq_model.specs.SqlColumn.{column_foreign, column_key, column_unique}
 use Rattle.lq_model.specs.SqlCreate.{create}
-use Rattle.lq_model.specs.SqlParser.{after, enclosed, ended, expect, same_kind, sees, separated, separated_from}
+use Rattle.lq_model.specs.SqlParser.{after, enclosed, ended, expect, same_kind, sees}
 use Rattle.lq_model.specs.SqlPart.{name}
 use Rattle.lq_model.specs.SqlStatement.{statement}
 use Rattle.lq_model.specs.SqlTable.{are_ordered_from, column_item, columns_in, create_table, foreign_in, keys_in, only, rank, table_item, table_of, uniques_in}
@@ -33,7 +33,7 @@ use Rattle.lq_model.specs.declared.word.Word.{Word}
 use Rattle.lq_model.specs.declared.word.WordKind.TheVariants as word
 use Rattle.lq_parse.proofs.Bytes.{Stops}
 use Rattle.lq_parse.proofs.Fronts.{Says}
-use Rattle.lq_parse.proofs.Lists.{EachItem, listed_says, tail_says, tail_stops, tail_words}
+use Rattle.lq_parse.proofs.Lists.{EachItem, IsAgainBefore, listed_says, separated_before, tail_says, tail_stops, tail_words}
 use Rattle.lq_parse.proofs.QueryAgain.{IsReadName, name_word, names_words}
 use Rattle.lq_parse.proofs.Spoken.{Below}
 use Rattle.lq_statement.proofs.ColumnAgain.{CanDefault, EndsItem, IsDefault, added_again, column_same, column_says, column_words, default_words, null_words, number_words, stated_again}
@@ -109,20 +109,6 @@ item_again d t (item.Column c (Some k) unique foreign) rest h end = let no : Som
 item_again d t (item.Column c None (Some u) foreign) rest h end = let no : Some u ≡ None = h.1.1.0 in absurd cc
 item_again d t (item.Column c None None (Some f)) rest h end = let no : Some f ≡ None = h.1.1.1 in absurd cc
 
--- lists of items, each before what ends one
-
-before_comma : (rest : List Word) → EndsItem (bare word.Comma ∷ rest)
-before_comma rest = inl refl
-
-from_again : (d : Dialect) (t : List ℕ) (x : TableItem) (xs : List TableItem) (n : ℕ) (acc : List TableItem) (rest : List Word) → IsItem d x → EachItem (IsItem d) xs → suc (length xs) ≤ n
-    → separated_from (table_item d t) n acc (item_words d x (tail_words (item_words d) xs (bare word.Close ∷ rest))) ≡ Some (acc ++ x ∷ xs, bare word.Close ∷ rest)
-unfolding separated_from sees after same_kind
-from_again d t x xs zero acc rest one each enough = absurd (omega arith)
-from_again d t x [] (suc n) acc rest one each enough = rw (item_again d t x (bare word.Close ∷ rest) one (inr (inl refl))) refl
-from_again d t x (y ∷ ys) (suc n) acc rest one each enough =
-    rw (item_again d t x (bare word.Comma ∷ item_words d y (tail_words (item_words d) ys (bare word.Close ∷ rest))) one (inl refl))
-    (from_again d t y ys n (acc ++ x ∷ []) rest each.0 each.1 (omega arith) ∙ ap (λ v. Some (v, bare word.Close ∷ rest)) (append_assoc acc (x ∷ []) (y ∷ ys)))
-
 -- each item has a word at least
 names_long : (ns : List (List ℕ)) (rest : List Word) → length rest ≤ length (names_words ns rest)
 names_long [] rest = omega arith
@@ -176,17 +162,20 @@ item_long d (item.Constraint (constraint.Foreign f)) rest =
     let e = names_long f.columns (bare word.Close ∷ bare word.References ∷ name_word f.table (bare word.Open ∷ names_words f.targets (bare word.Close ∷ cascade_words d f.cascade rest))) in
     omega (arith, a, b, e)
 
-tail_long : (d : Dialect) (xs : List TableItem) (rest : List Word) → length xs ≤ length (tail_words (item_words d) xs rest)
-tail_long d [] rest = omega arith
-tail_long d (x ∷ xs) rest = let a = item_long d x (tail_words (item_words d) xs rest) in let b = tail_long d xs rest in omega (arith, a, b)
+-- lists of items, each before what ends one
+
+items_are_again : (d : Dialect) (t : List ℕ) → IsAgainBefore EndsItem (IsItem d) (table_item d t) (item_words d)
+items_are_again d t = record { read = λ i rest is end. item_again d t i rest is end; long = item_long d; comma = λ rest. inl refl }
+
+no_comma : (rest : List Word) → sees word.Comma (bare word.Close ∷ rest) ≡ false
+unfolding sees same_kind
+no_comma rest = refl
 
 items_again : (d : Dialect) (t : List ℕ) (x : TableItem) (xs : List TableItem) (rest : List Word) → IsItem d x → EachItem (IsItem d) xs
     → enclosed (table_item d t) (bare word.Open ∷ item_words d x (tail_words (item_words d) xs (bare word.Close ∷ rest))) ≡ Some (x ∷ xs, rest)
-unfolding enclosed separated expect sees after same_kind
+unfolding enclosed expect sees same_kind
 items_again d t x xs rest one each =
-    let a = item_long d x (tail_words (item_words d) xs (bare word.Close ∷ rest)) in
-    let b = tail_long d xs (bare word.Close ∷ rest) in
-    rw (from_again d t x xs (length (item_words d x (tail_words (item_words d) xs (bare word.Close ∷ rest)))) [] rest one each (omega (arith, a, b))) refl
+    rw (separated_before EndsItem (IsItem d) (table_item d t) (item_words d) (items_are_again d t) x xs (bare word.Close ∷ rest) one each (inr (inl refl)) (no_comma rest)) refl
 
 -- all the items of a table
 
