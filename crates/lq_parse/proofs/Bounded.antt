@@ -1,6 +1,5 @@
 -- How tests are read of which at most 64 levels are made.
-use Rattle.std.proofs.Common.{◌≡◌, ◌≤◌, ◌<◌, ◌-◌, ℕ, zero, suc, Bool, true, false, nat_le, if◌then◌else◌, List, [], ◌∷◌, Option, Some, None, Result, Ok, Err, ap, subst, ◌∙◌, sym, refl, arith}
-use Rattle.std.proofs.lemmas.Bool.{leb-true}
+use Rattle.std.proofs.Common.{◌≡◌, ◌≤◌, ◌<◌, ◌-◌, ℕ, zero, suc, true, false, nat_le, if◌then◌else◌, List, [], ◌∷◌, Some, None, Result, Ok, Err, ap, subst, ◌∙◌, sym, refl, arith}
 use Rattle.std.specs.List.{fold}
 use Rattle.lq_model.specs.Reads.{Reads}
 use Rattle.lq_model.specs.Spelled.{levels}
@@ -14,7 +13,7 @@ use Rattle.lq_model.specs.declared.word.Word.{Word}
 use Rattle.lq_model.specs.declared.word.WordKind.{WordKind}
 use Rattle.lq_model.specs.declared.word.WordKind.TheVariants as word
 use Rattle.lq_parse.proofs.Levels.{Deepens, and_deepens, fold_deepens, none_past, not_deepens, or_deepens}
-use Rattle.lq_parse.proofs.Many.{Shortens, Takes, led_by_takes, many_turn, shortens_primary, shortens_product, shortens_term}
+use Rattle.lq_parse.proofs.Many.{Takes, led_by_takes, many_turn, shortens_primary, shortens_product, shortens_term}
 use Rattle.lq_parse.specs.UpTo.{Exceeds, ReadsUpTo, joined}
 
 -- what exceeds a bound

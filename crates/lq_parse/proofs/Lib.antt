@@ -4,6 +4,7 @@ pub mod Bytes
 pub mod CanWrite
 pub mod Chains
 pub mod Escapes
+pub mod Found
 pub mod Fronts
 pub mod Levels
 pub mod Lists

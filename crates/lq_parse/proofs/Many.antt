@@ -1,12 +1,11 @@
 -- No parser gives words back, and each item of `many` takes one: so `many` goes on as long as an item comes.
-use Rattle.std.proofs.Common.{◌≡◌, ◌≤◌, ◌<◌, ℕ, zero, suc, Bool, true, false, if◌then◌else◌, List, [], ◌∷◌, length, Option, Some, None, IfSome, ap, ◌∙◌, sym, refl, arith}
+use Rattle.std.proofs.Common.{◌≡◌, ◌≤◌, ℕ, zero, suc, Bool, true, false, if◌then◌else◌, List, [], ◌∷◌, length, Option, Some, None, IfSome, ap, refl, arith}
 use Rattle.std.specs.List.{fold}
 use Rattle.lq_base.specs.declared.literal.Literal.TheVariants as constant
 use Rattle.lq_model.specs.SqlParser.{Outcome, Parser, ◌>>=◌, and_more, and_then, after, eat, expect, given, led_by, many, many_of, next, peek, pure, refuse, same_kind, sees, separated, skip, taken}
 use Rattle.lq_model.specs.SqlPart.{literal, literal_by, name, name_of, number}
 use Rattle.lq_model.specs.SqlTest.{begins_literal, comparison, nullness, operand, operator, operator_by, primary, product, sum, term}
 use Rattle.lq_model.specs.SqlWord.{may_be_name}
-use Rattle.lq_model.specs.declared.test.Op.{Op}
 use Rattle.lq_model.specs.declared.test.Op.TheVariants as op
 use Rattle.lq_model.specs.declared.test.Operand.{Operand}
 use Rattle.lq_model.specs.declared.test.Operand.TheVariants as side

@@ -1,5 +1,5 @@
 -- One more turn of the loop of a list.
-use Rattle.std.proofs.Common.{◌≡◌, ℕ, zero, suc, true, false, List, [], ◌∷◌, ◌++◌, length, Option, Some, None, Result, Err, ap, ◌∙◌, sym, refl, append_assoc, append-nil}
+use Rattle.std.proofs.Common.{◌≡◌, ℕ, suc, true, false, List, [], ◌∷◌, ◌++◌, length, Some, None, ap, sym, refl, append_assoc, append-nil}
 use Rattle.lq_model.specs.SqlParser.{Outcome, Parser, after, and_then, led_by, many, many_of, pure, sees, separated}
 use Rattle.lq_model.specs.declared.word.Word.{Word}
 use Rattle.lq_model.specs.declared.word.WordKind.TheVariants as word
