@@ -1,6 +1,7 @@
 -- How deep the parts of a test may be.
-use Rattle.std.proofs.Common.{◌≡◌, ℕ, ◌+◌, ◌-◌, ◌<◌, Bool, true, false, ◌&&◌, nat_le, max, refl, ap, ◌∙◌, sym, arith}
+use Rattle.std.proofs.Common.{◌≡◌, ℕ, suc, ◌+◌, ◌-◌, ◌<◌, ◌≤◌, List, [], ◌∷◌, Bool, true, false, ◌&&◌, nat_le, max, refl, ap, ◌∙◌, sym, arith}
 use Rattle.std.proofs.lemmas.Bool.{le-leb, leb-true}
+use Rattle.std.specs.List.{fold}
 use Rattle.lq_model.specs.Spelled.{levels}
 use Rattle.lq_model.specs.declared.test.Test.{And, Not, Or, Test}
 
@@ -53,6 +54,9 @@ within_not a n some = ap (λ k. nat_le k n) (levels_of_not a) ∙ one_more (leve
 none_within : (a : ℕ) → nat_le (a + 1) 0 ≡ false
 none_within a = same_tests (nat_le (a + 1) 0) false (λ is. let le = leb-true (a + 1) 0 is in absurd (omega arith)) (λ is. absurd cc)
 
+pub none_past : (a n : ℕ) → n < a → nat_le a n ≡ false
+none_past a n past = same_tests (nat_le a n) false (λ is. let le = leb-true a n is in absurd (omega arith)) (λ is. absurd cc)
+
 pub none_and : (a b : Test) → nat_le (levels (And a b)) 0 ≡ false
 none_and a b = ap (λ k. nat_le k 0) (levels_of_and a b) ∙ none_within (max (levels a) (levels b))
 
@@ -69,3 +73,43 @@ and_second test a b n r is some first second =
 pub or_second : (test a b : Test) (n : ℕ) (r : Bool) → test ≡ Or a b → 0 < n → nat_le (levels a) (n - 1) ≡ true → r ≡ nat_le (levels b) (n - 1) → r ≡ nat_le (levels test) n
 or_second test a b n r is some first second =
     second ∙ sym (ap (λ x. x && nat_le (levels b) (n - 1)) first) ∙ sym (within_or a b n some) ∙ sym (ap (λ t. nat_le (levels t) n) is)
+
+-- what is joined is deeper than its parts
+pub record Deepens (join : Test → Test → Test) : Type 0 where
+  pub left : (a b : Test) → suc (levels a) ≤ levels (join a b)
+  pub right : (a b : Test) → suc (levels b) ≤ levels (join a b)
+
+and_left : (a b : Test) → suc (levels a) ≤ levels (And a b)
+and_left a b = let is = levels_of_and a b in omega arith
+
+and_right : (a b : Test) → suc (levels b) ≤ levels (And a b)
+and_right a b = let is = levels_of_and a b in omega arith
+
+or_left : (a b : Test) → suc (levels a) ≤ levels (Or a b)
+or_left a b = let is = levels_of_or a b in omega arith
+
+or_right : (a b : Test) → suc (levels b) ≤ levels (Or a b)
+or_right a b = let is = levels_of_or a b in omega arith
+
+pub and_deepens : Deepens And
+and_deepens = record { left = and_left; right = and_right }
+
+pub or_deepens : Deepens Or
+or_deepens = record { left = or_left; right = or_right }
+
+pub not_deepens : (a : Test) → levels (Not a) ≡ suc (levels a)
+not_deepens a = let is = levels_of_not a in omega arith
+
+deeper : (join : Test → Test → Test) (a b both : Test) (n : ℕ) → Deepens join → 0 < n → 64 ≤ levels a + n → both ≡ join a b → 64 ≤ levels both + (n - 1)
+deeper join a b both n d some deep is = let more = d.left a b in let same : levels both ≡ levels (join a b) = ap levels is in omega arith
+
+pub and_deeper : (a b both : Test) (n : ℕ) → 0 < n → 64 ≤ levels a + n → both ≡ And a b → 64 ≤ levels both + (n - 1)
+and_deeper a b both n some deep is = deeper And a b both n and_deepens some deep is
+
+pub or_deeper : (a b both : Test) (n : ℕ) → 0 < n → 64 ≤ levels a + n → both ≡ Or a b → 64 ≤ levels both + (n - 1)
+or_deeper a b both n some deep is = deeper Or a b both n or_deepens some deep is
+
+-- so a chain is no less deep than its first
+pub fold_deepens : (join : Test → Test → Test) (a : Test) (more : List Test) → Deepens join → levels a ≤ levels (fold join a more)
+fold_deepens join a [] d = omega arith
+fold_deepens join a (b ∷ more) d = omega (arith, d.left a b, fold_deepens join (join a b) more d)

@@ -1,13 +1,16 @@
 pub mod Again
+pub mod Bounded
 pub mod Bytes
 pub mod CanWrite
 pub mod Chains
 pub mod Escapes
+pub mod Found
 pub mod Fronts
 pub mod Levels
 pub mod Lists
 pub mod Magnitudes
 pub mod Makes
+pub mod Many
 pub mod Meaning
 pub mod NumberMakes
 pub mod Numbers

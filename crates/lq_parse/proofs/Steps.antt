@@ -1,23 +1,31 @@
--- One more turn of the loops of a test.
-use Rattle.std.proofs.Common.{◌≡◌, ◌<◌, ◌-◌, ℕ, true, List, Some, Result}
-use Rattle.lq_model.specs.declared.fault.ParseFault.{ParseFault}
-use Rattle.lq_model.specs.declared.word.WordKind.TheVariants as word
-use Rattle.lq_model.specs.SqlParser.{Parser, sees, after}
+-- One more turn of the loop of a list.
+use Rattle.std.proofs.Common.{◌≡◌, ℕ, suc, true, false, List, [], ◌∷◌, ◌++◌, length, Some, None, ap, sym, refl, append_assoc, append-nil}
+use Rattle.lq_model.specs.SqlParser.{Outcome, Parser, after, and_then, led_by, many, many_of, pure, sees, separated}
 use Rattle.lq_model.specs.declared.word.Word.{Word}
-use Rattle.lq_model.specs.Reads.{Reads}
-use Rattle.lq_model.specs.declared.test.Test.{Test}
-use Rattle.lq_model.specs.declared.test.Test.TheVariants as test
-use Rattle.lq_model.specs.SqlTest.{conjunction, disjunction}
-use Rattle.lq_parse.proofs.Turns.{deeper}
+use Rattle.lq_model.specs.declared.word.WordKind.TheVariants as word
 
-pub conjunction_more : (inner : Parser Test) (n : ℕ) (left right both : Test) (i j : List Word) (r : Result Test ParseFault) (new : List Word)
-    → 0 < n → sees word.And i ≡ true → inner (after word.And i) ≡ Some (right, j) → both ≡ test.And left right
-    → Reads (conjunction inner (n - 1) both j) r new → Reads (conjunction inner n left i) r new
-unfolding conjunction
-conjunction_more inner n left right both i j r new some seen read made h = rw (deeper (λ n. conjunction inner n left i) n some, seen, read) (rw made at h)
+-- what a list is, of which some were found, with so many turns to come
+abbrev pub list_from : {A : Type 0} → Parser A → ℕ → List A → Parser (List A)
+list_from p n found i = and_then (many_of (led_by word.Comma p) n i) (λ more. pure (found ++ more))
 
-pub disjunction_more : (inner : Parser Test) (n : ℕ) (left right both : Test) (i j : List Word) (r : Result Test ParseFault) (new : List Word)
-    → 0 < n → sees word.Or i ≡ true → inner (after word.Or i) ≡ Some (right, j) → both ≡ test.Or left right
-    → Reads (disjunction inner (n - 1) both j) r new → Reads (disjunction inner n left i) r new
-unfolding disjunction
-disjunction_more inner n left right both i j r new some seen read made h = rw (deeper (λ n. disjunction inner n left i) n some, seen, read) (rw made at h)
+pub list_begins : {A : Type 0} (p : Parser A) (n : ℕ) (found : List A) (x : A) (i j : List Word) → p i ≡ Some (x, j) → found ≡ [] ++ x ∷ [] → n ≡ length j → separated p i ≡ list_from p n found j
+unfolding separated many
+list_begins p n found x i j e is many_left = rw (e, is, many_left) refl
+
+pub list_ends : {A : Type 0} (p : Parser A) (found : List A) (i : List Word) → list_from p 0 found i ≡ Some (found, i)
+unfolding many_of
+list_ends p found i = ap (λ xs. Some (xs, i)) (append-nil found)
+
+pub list_stops : {A : Type 0} (p : Parser A) (n : ℕ) (found : List A) (i : List Word) → sees word.Comma i ≡ false → list_from p (suc n) found i ≡ Some (found, after word.Comma i)
+unfolding many_of led_by
+list_stops p n found i none = rw (none) (ap (λ xs. Some (xs, after word.Comma i)) (append-nil found))
+
+joins : {A : Type 0} (o : Outcome (List A)) (found : List A) (x : A)
+    → and_then (and_then o (λ xs. pure (x ∷ xs))) (λ more. pure (found ++ more)) ≡ and_then o (λ more. pure (found ++ x ∷ [] ++ more))
+joins None found x = refl
+joins (Some read) found x = ap (λ xs. Some (xs, read.1)) (sym (append_assoc found (x ∷ []) read.0))
+
+pub list_goes_on : {A : Type 0} (p : Parser A) (n : ℕ) (found more : List A) (x : A) (i j : List Word) → sees word.Comma i ≡ true → p (after word.Comma i) ≡ Some (x, j) → more ≡ found ++ x ∷ []
+    → list_from p (suc n) found i ≡ list_from p n more j
+unfolding many_of led_by
+list_goes_on p n found more x i j seen e is = rw (seen, e, is) (joins (many_of (led_by word.Comma p) n j) found x)

@@ -1,3 +1,4 @@
 pub mod Laws
 pub mod Meets
+pub mod UpTo
 pub mod Words

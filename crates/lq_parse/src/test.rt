@@ -1,7 +1,10 @@
-ghost use Rattle.std.specs.Prelude.{◌≡◌, ◌≤◌, nat_le, IfOk};
+ghost use Rattle.std.specs.Prelude.{◌≡◌, ◌≤◌, ◌+◌, nat_le, IfOk};
 ghost use Rattle.lq_model.specs.Reads.{Reads};
 ghost use Rattle.lq_model.specs.Spelled.{levels};
 ghost use Rattle.lq_model.specs.SqlTest as spec;
+ghost use Rattle.lq_model.specs.declared.test.Test.TheVariants as test;
+ghost use Rattle.lq_model.specs.declared.word.WordKind.TheVariants as word;
+ghost use Rattle.lq_parse.specs.UpTo.{ReadsUpTo, joined};
 
 use crate::cursor::Words;
 use crate::part::{literal, name};
@@ -83,7 +86,6 @@ fn comparison(alloc: Global, words: &mut Words<'_>) -> Result<Boxed<Test>, Parse
 const MOST: usize = 64;
 
 #[cycle(test)]
-#[tactic(auto, unfolding(lq_model::specs::SqlTest::negation, lq_model::specs::SqlTest::conjunction, lq_model::specs::SqlTest::disjunction, lq_model::specs::SqlTest::term, lq_model::specs::SqlTest::product, lq_model::specs::SqlTest::sum, lq_model::specs::SqlTest::primary))]
 fn negation(
     alloc: Global,
     words: &mut Words<'_>,
@@ -91,21 +93,19 @@ fn negation(
     parentheses: usize,
 ) -> Result<Boxed<Test>, ParseFault>
     requires { nots ≤ 64 }
-    ensures { Reads (spec.negation nots (spec.primary parentheses) words.old) result words.new }
+    ensures { ReadsUpTo nots (spec.term (spec.primary parentheses) words.old) result words.new }
 {
-    if nots == 0 {
+    if !words.eat(WordKind::Not) {
         return primary(alloc, words, parentheses);
     }
-    if words.eat(WordKind::Not) {
-        let inner = negation(alloc, words, nots - 1, parentheses)?;
-        Ok(boxed(alloc, Test::Not(inner))?)
-    } else {
-        primary(alloc, words, parentheses)
+    if nots == 0 {
+        return Err(ParseFault::NotSql);
     }
+    let inner = negation(alloc, words, nots - 1, parentheses)?;
+    Ok(boxed(alloc, Test::Not(inner))?)
 }
 
 #[cycle(test)]
-#[tactic(auto, unfolding(lq_model::specs::SqlTest::negation, lq_model::specs::SqlTest::conjunction, lq_model::specs::SqlTest::disjunction, lq_model::specs::SqlTest::term, lq_model::specs::SqlTest::product, lq_model::specs::SqlTest::sum, lq_model::specs::SqlTest::primary))]
 fn conjunction(
     alloc: Global,
     words: &mut Words<'_>,
@@ -113,14 +113,15 @@ fn conjunction(
     turns: usize,
     left: Boxed<Test>,
 ) -> Result<Boxed<Test>, ParseFault>
-    requires { turns ≤ 64 }
-    ensures { Reads (spec.conjunction (spec.term (spec.primary parentheses)) turns left words.old) result words.new }
+    requires bounded { turns ≤ 64 }
+    requires deep { 64 ≤ levels left + turns }
+    ensures { ReadsUpTo 64 (joined test.And word.And (spec.term (spec.primary parentheses)) left words.old) result words.new }
 {
-    if turns == 0 {
-        return Ok(left);
-    }
     if !words.eat(WordKind::And) {
         return Ok(left);
+    }
+    if turns == 0 {
+        return Err(ParseFault::NotSql);
     }
     let right = negation(alloc, words, MOST, parentheses)?;
     let both = boxed(alloc, Test::And(left, right))?;
@@ -128,20 +129,18 @@ fn conjunction(
 }
 
 #[cycle(test)]
-#[tactic(auto, unfolding(lq_model::specs::SqlTest::negation, lq_model::specs::SqlTest::conjunction, lq_model::specs::SqlTest::disjunction, lq_model::specs::SqlTest::term, lq_model::specs::SqlTest::product, lq_model::specs::SqlTest::sum, lq_model::specs::SqlTest::primary))]
 fn product(
     alloc: Global,
     words: &mut Words<'_>,
     parentheses: usize,
 ) -> Result<Boxed<Test>, ParseFault>
-    ensures { Reads (spec.product (spec.primary parentheses) words.old) result words.new }
+    ensures { ReadsUpTo 64 (spec.product (spec.primary parentheses) words.old) result words.new }
 {
     let first = negation(alloc, words, MOST, parentheses)?;
     conjunction(alloc, words, parentheses, MOST, first)
 }
 
 #[cycle(test)]
-#[tactic(auto, unfolding(lq_model::specs::SqlTest::negation, lq_model::specs::SqlTest::conjunction, lq_model::specs::SqlTest::disjunction, lq_model::specs::SqlTest::term, lq_model::specs::SqlTest::product, lq_model::specs::SqlTest::sum, lq_model::specs::SqlTest::primary))]
 fn disjunction(
     alloc: Global,
     words: &mut Words<'_>,
@@ -149,14 +148,15 @@ fn disjunction(
     turns: usize,
     left: Boxed<Test>,
 ) -> Result<Boxed<Test>, ParseFault>
-    requires { turns ≤ 64 }
-    ensures { Reads (spec.disjunction (spec.product (spec.primary parentheses)) turns left words.old) result words.new }
+    requires bounded { turns ≤ 64 }
+    requires deep { 64 ≤ levels left + turns }
+    ensures { ReadsUpTo 64 (joined test.Or word.Or (spec.product (spec.primary parentheses)) left words.old) result words.new }
 {
-    if turns == 0 {
-        return Ok(left);
-    }
     if !words.eat(WordKind::Or) {
         return Ok(left);
+    }
+    if turns == 0 {
+        return Err(ParseFault::NotSql);
     }
     let right = product(alloc, words, parentheses)?;
     let both = boxed(alloc, Test::Or(left, right))?;
@@ -164,22 +164,21 @@ fn disjunction(
 }
 
 #[cycle(test)]
-#[tactic(auto, unfolding(lq_model::specs::SqlTest::negation, lq_model::specs::SqlTest::conjunction, lq_model::specs::SqlTest::disjunction, lq_model::specs::SqlTest::term, lq_model::specs::SqlTest::product, lq_model::specs::SqlTest::sum, lq_model::specs::SqlTest::primary))]
 fn sum(alloc: Global, words: &mut Words<'_>, parentheses: usize) -> Result<Boxed<Test>, ParseFault>
-    ensures { Reads (spec.sum (spec.primary parentheses) words.old) result words.new }
+    ensures { ReadsUpTo 64 (spec.sum (spec.primary parentheses) words.old) result words.new }
 {
     let first = product(alloc, words, parentheses)?;
     disjunction(alloc, words, parentheses, MOST, first)
 }
 
 #[cycle(test)]
-#[tactic(auto, unfolding(lq_model::specs::SqlTest::negation, lq_model::specs::SqlTest::conjunction, lq_model::specs::SqlTest::disjunction, lq_model::specs::SqlTest::term, lq_model::specs::SqlTest::product, lq_model::specs::SqlTest::sum, lq_model::specs::SqlTest::primary))]
+#[tactic(auto, unfolding(lq_model::specs::SqlTest::primary))]
 fn primary(
     alloc: Global,
     words: &mut Words<'_>,
     parentheses: usize,
 ) -> Result<Boxed<Test>, ParseFault>
-    ensures { Reads (spec.primary parentheses words.old) result words.new }
+    ensures { ReadsUpTo 64 (spec.primary parentheses words.old) result words.new }
 {
     if parentheses == 0 {
         return comparison(alloc, words);
