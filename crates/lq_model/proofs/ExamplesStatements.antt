@@ -12,13 +12,13 @@ use Rattle.lq_model.specs.SqlText.{statement_in}
 use Rattle.lq_model.specs.SqlWord.{words, kind_of_word, unquoted}
 use Rattle.lq_model.specs.SqlStatement.{statement}
 use Rattle.lq_model.specs.SqlAlter.{alter, alter_table, add, add_column, add_constraint, rename_part, rename_table_to, new_name}
-use Rattle.lq_model.specs.SqlColumn.{added_column, stated_column, clauses, clause, identity, target, column_key, column_unique, column_foreign, foreign_to as foreign_stated}
+use Rattle.lq_model.specs.SqlColumn.{added_column, stated_column, column_clause, identity, target, column_key, column_unique, column_foreign, foreign_to as foreign_stated}
 use Rattle.lq_model.specs.SqlConstraint.{table_constraint, stated_name, key, foreign, on_delete}
 use Rattle.lq_model.specs.SqlCreate.{create, create_sequence, whole, step}
 use Rattle.lq_model.specs.SqlDrop.{drop_object, drop_index, rename_table}
 use Rattle.lq_model.specs.SqlRows.{insert, stated_columns}
 use Rattle.lq_model.specs.SqlTable.{create_table, table_item, column_item, table_of}
-use Rattle.lq_model.specs.SqlParser.{same_kind, sees, after, expect, ended, enclosed, separated, separated_from}
+use Rattle.lq_model.specs.SqlParser.{same_kind, sees, after, expect, ended, enclosed, separated, separated_from, many, many_of, led_by}
 use Rattle.lq_model.specs.SqlPart.{name, name_of, column_kind, kind_with, sized_with, kind_number, literal as literal_rule, number as number_rule}
 use Rattle.lq_model.specs.declared.statement.Statement.TheVariants.{AddColumn, AddForeignKey, CreateSequence, CreateTable, DropIndex, DropTable, Insert, RenameTable}
 
@@ -82,7 +82,7 @@ pub add_is_read :
     × (statement_in Postgresql (codes "alter table t add column id int null null") ≡ None)
     × (statement_in Postgresql (codes "alter table t add column id int primary key") ≡ None)
     × (statement_in Postgresql (codes "alter table t add column id varchar(03)") ≡ None)
-unfolding statement_in words kind_of_word unquoted statement alter alter_table add add_column added_column stated_column clauses clause column_kind kind_with sized_with kind_number plain_kind sized_kind literal_rule number_rule same_kind sees after expect ended name name_of lexemes length_at
+unfolding statement_in words kind_of_word unquoted statement alter alter_table add add_column added_column stated_column column_clause many many_of led_by column_kind kind_with sized_with kind_number plain_kind sized_kind literal_rule number_rule same_kind sees after expect ended name name_of lexemes length_at
 add_is_read = (
   refl,
   refl,
@@ -99,7 +99,7 @@ pub create_is_read :
     × (statement_in Mysql (codes "create table t (id int, constraint k primary key (id))") ≡ Some (CreateTable (codes "t") (def id kind.Int None ∷ []) (Some (key_on (codes "PRIMARY") (id ∷ []))) [] []))
     × (statement_in Postgresql (codes "create table t (id int primary key, primary key (id))") ≡ None)
     × (statement_in Postgresql (codes "create table t (primary key (id), id int)") ≡ None)
-unfolding statement_in words kind_of_word unquoted statement create create_table table_item column_item table_of stated_column clauses clause identity target column_kind plain_kind column_key column_unique column_foreign foreign_stated key_name unique_name foreign_name table_constraint stated_name key foreign on_delete enclosed separated separated_from same_kind sees after expect ended name name_of lexemes length_at
+unfolding statement_in words kind_of_word unquoted statement create create_table table_item column_item table_of stated_column column_clause many many_of led_by identity target column_kind plain_kind column_key column_unique column_foreign foreign_stated key_name unique_name foreign_name table_constraint stated_name key foreign on_delete enclosed separated separated_from same_kind sees after expect ended name name_of lexemes length_at
 create_is_read = (
   rw (plain_cut (codes "pk_t") refl refl) refl,
   rw (plain_cut (codes "uq_t_up") refl refl, plain_cut (codes "fk_t_up") refl refl) refl,

@@ -1,41 +1,25 @@
 -- The grammar of a column: `q KIND`, and its clauses in any order, each at most once.
-use Rattle.std.specs.Prelude.{Bool, true, false, ◌||◌, if◌then◌else◌, [], ◌∷◌, Option, Some, None, is_some}
-use Rattle.std.specs.Option.{unwrap_or}
+use Rattle.std.specs.Prelude.{Bool, true, false, not, ◌&&◌, ◌||◌, if◌then◌else◌, List, [], ◌∷◌, Option, Some, None, is_some}
+use Rattle.std.specs.List.{list_any}
+use Rattle.std.specs.Option.{option_or, unwrap_or}
 use Rattle.lq_base.specs.declared.dialect.Dialect.{Dialect}
 use Rattle.lq_base.specs.declared.dialect.Dialect.TheVariants.{Postgresql, Mysql}
+use Rattle.lq_base.specs.declared.kind.Kind.{Kind}
 use Rattle.lq_base.specs.declared.literal.Literal.{Literal}
 use Rattle.lq_base.specs.declared.name.Name.{Name}
 use Rattle.lq_model.specs.DefaultName.{key_name, unique_name, foreign_name}
-use Rattle.lq_model.specs.SqlParser.{Parser, ◌>>=◌, ◌>>◌, pure, refuse, given, peek, skip, expect}
+use Rattle.lq_model.specs.SqlParser.{Parser, ◌>>=◌, ◌>>◌, pure, refuse, given, peek, skip, expect, many}
 use Rattle.lq_model.specs.SqlPart.{name, name_of, literal, column_kind}
 use Rattle.lq_model.specs.declared.column.ColumnDef.{ColumnDef}
 use Rattle.lq_model.specs.declared.constraint.ForeignKey.{ForeignKey}
 use Rattle.lq_model.specs.declared.constraint.Key.{Key}
 use Rattle.lq_model.specs.declared.constraint.Unique.{Unique}
+use Rattle.lq_model.specs.declared.table_item.ColumnClause.{ColumnClause}
+use Rattle.lq_model.specs.declared.table_item.ColumnClause.TheVariants as clause
 use Rattle.lq_model.specs.declared.table_item.StatedColumn.{StatedColumn}
 use Rattle.lq_model.specs.declared.table_item.Target.{Target}
 use Rattle.lq_model.specs.declared.word.WordKind.{WordKind}
 use Rattle.lq_model.specs.declared.word.WordKind.TheVariants as word
-
--- what a clause adds to what was stated before, where that has none of its sort; NULL and NOT NULL are of one sort
-
-abbrev pub with_nullable : StatedColumn → Bool → Option StatedColumn
-with_nullable c it = if is_some c.nullable then None else Some (record { name = c.name; kind = c.kind; nullable = Some it; default = c.default; numbered = c.numbered; key = c.key; unique = c.unique; target = c.target })
-
-abbrev pub with_default : StatedColumn → Literal → Option StatedColumn
-with_default c it = if is_some c.default then None else Some (record { name = c.name; kind = c.kind; nullable = c.nullable; default = Some it; numbered = c.numbered; key = c.key; unique = c.unique; target = c.target })
-
-abbrev pub with_number : StatedColumn → Option StatedColumn
-with_number c = if c.numbered then None else Some (record { name = c.name; kind = c.kind; nullable = c.nullable; default = c.default; numbered = true; key = c.key; unique = c.unique; target = c.target })
-
-abbrev pub with_key : StatedColumn → Option StatedColumn
-with_key c = if c.key then None else Some (record { name = c.name; kind = c.kind; nullable = c.nullable; default = c.default; numbered = c.numbered; key = true; unique = c.unique; target = c.target })
-
-abbrev pub with_unique : StatedColumn → Option StatedColumn
-with_unique c = if c.unique then None else Some (record { name = c.name; kind = c.kind; nullable = c.nullable; default = c.default; numbered = c.numbered; key = c.key; unique = true; target = c.target })
-
-abbrev pub with_target : StatedColumn → Target → Option StatedColumn
-with_target c it = if is_some c.target then None else Some (record { name = c.name; kind = c.kind; nullable = c.nullable; default = c.default; numbered = c.numbered; key = c.key; unique = c.unique; target = Some it })
 
 -- clauses
 
@@ -57,30 +41,85 @@ target = do
   expect word.Close
   pure (record { table = table; column = column })
 
--- the clause that comes next, or nothing
-abbrev pub clause_by : Dialect → StatedColumn → WordKind → Parser StatedColumn
-clause_by d c word.Not = skip >> (expect word.Null >> given (with_nullable c false))
-clause_by d c word.Null = skip >> given (with_nullable c true)
-clause_by d c word.Default = skip >> (literal >>= (λ it. given (with_default c it)))
-clause_by d c word.Primary = skip >> (expect word.Key >> given (with_key c))
-clause_by d c word.Unique = skip >> given (with_unique c)
-clause_by d c word.References = skip >> (target >>= (λ it. given (with_target c it)))
-clause_by Postgresql c word.Generated = identity >> given (with_number c)
-clause_by Mysql c word.AutoIncrement = skip >> given (with_number c)
-clause_by d c _ = pure c
+-- the clause that comes next, or none
+abbrev pub clause_by : Dialect → WordKind → Parser (Option ColumnClause)
+clause_by d word.Not = skip >> (expect word.Null >> pure (Some (clause.Nullable false)))
+clause_by d word.Null = skip >> pure (Some (clause.Nullable true))
+clause_by d word.Default = skip >> (literal >>= (λ it. pure (Some (clause.Default it))))
+clause_by d word.Primary = skip >> (expect word.Key >> pure (Some clause.PrimaryKey))
+clause_by d word.Unique = skip >> pure (Some clause.Unique)
+clause_by d word.References = skip >> (target >>= (λ it. pure (Some (clause.References it))))
+clause_by Postgresql word.Generated = identity >> pure (Some clause.Numbered)
+clause_by Mysql word.AutoIncrement = skip >> pure (Some clause.Numbered)
+clause_by d _ = pure None
 
-unfoldable pub clause : Dialect → StatedColumn → Parser StatedColumn
-clause d c = peek >>= clause_by d c
+unfoldable pub column_clause : Dialect → Parser (Option ColumnClause)
+column_clause d = peek >>= clause_by d
 
--- of the six sorts
-unfoldable pub clauses : Dialect → StatedColumn → Parser StatedColumn
-clauses d c = clause d c >>= clause d >>= clause d >>= clause d >>= clause d >>= clause d
+-- NULL and NOT NULL are of one sort
+abbrev pub same_sort : ColumnClause → ColumnClause → Bool
+same_sort (clause.Nullable a) (clause.Nullable b) = true
+same_sort (clause.Default a) (clause.Default b) = true
+same_sort clause.Numbered clause.Numbered = true
+same_sort clause.PrimaryKey clause.PrimaryKey = true
+same_sort clause.Unique clause.Unique = true
+same_sort (clause.References a) (clause.References b) = true
+same_sort _ _ = false
 
+-- no two are of one sort
+abbrev pub differ : List ColumnClause → Bool
+differ [] = true
+differ (c ∷ cs) = not (list_any (same_sort c) cs) && differ cs
+
+-- what one clause says of the column
+
+abbrev pub nullable_by : ColumnClause → Option Bool
+nullable_by (clause.Nullable it) = Some it
+nullable_by _ = None
+
+abbrev pub default_by : ColumnClause → Option Literal
+default_by (clause.Default it) = Some it
+default_by _ = None
+
+abbrev pub target_by : ColumnClause → Option Target
+target_by (clause.References it) = Some it
+target_by _ = None
+
+abbrev pub is_numbered : ColumnClause → Bool
+is_numbered clause.Numbered = true
+is_numbered _ = false
+
+abbrev pub is_primary_key : ColumnClause → Bool
+is_primary_key clause.PrimaryKey = true
+is_primary_key _ = false
+
+abbrev pub is_unique : ColumnClause → Bool
+is_unique clause.Unique = true
+is_unique _ = false
+
+-- what the first clause says that says such a thing
+abbrev pub first_said : {A : Type 0} → (ColumnClause → Option A) → List ColumnClause → Option A
+first_said said [] = None
+first_said said (c ∷ cs) = option_or (said c) (first_said said cs)
+
+abbrev pub column_with : Name → Kind → List ColumnClause → StatedColumn
+column_with named kind cs = record {
+  name = named; kind = kind;
+  nullable = first_said nullable_by cs;
+  default = first_said default_by cs;
+  numbered = list_any is_numbered cs;
+  key = list_any is_primary_key cs;
+  unique = list_any is_unique cs;
+  target = first_said target_by cs;
+}
+
+-- `q KIND` and its clauses in any order, each at most once
 unfoldable pub stated_column : Dialect → Parser StatedColumn
 stated_column d = do
   named ← name
   kind ← column_kind
-  clauses d (record { name = named; kind = kind; nullable = None; default = None; numbered = false; key = false; unique = false; target = None })
+  found ← many (column_clause d)
+  if differ found then pure (column_with named kind found) else refuse
 
 -- what the clauses say
 

@@ -77,6 +77,27 @@ expect k = λ i. if sees k i then Some (tt, next i) else None
 abbrev pub taken : Parser (List ℕ)
 taken = λ i. Some (text i, next i)
 
+-- what was found, and then those, or none
+abbrev pub and_more : {A : Type 0} → Option A → Parser (List A) → Parser (List A)
+and_more None more = pure []
+and_more (Some x) more = do
+  xs ← more
+  pure (x ∷ xs)
+
+-- what comes as often as it stands there; it takes words, so that it comes at most so often
+unfoldable pub many_of : {A : Type 0} → Parser (Option A) → ℕ → Parser (List A)
+many_of item zero = pure []
+many_of item (suc more) = item >>= (λ found. and_more found (many_of item more))
+
+unfoldable pub many : {A : Type 0} → Parser (Option A) → Parser (List A)
+many item = λ i. many_of item (length i) i
+
+-- a word of this kind and what follows it, or nothing
+unfoldable pub led_by : {A : Type 0} → WordKind → Parser A → Parser (Option A)
+led_by k item = do
+  led ← eat k
+  if led then (do x ← item; pure (Some x)) else pure None
+
 -- The number bounds the turns, and each takes a word.
 unfoldable pub separated_from : {A : Type 0} → Parser A → ℕ → List A → Parser (List A)
 separated_from item zero found = refuse

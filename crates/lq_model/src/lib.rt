@@ -39,7 +39,7 @@ pub use phrase::Phrase;
 pub use query::{Answered, Query, Wanted};
 pub use sql_text::SqlText;
 pub use statement::Statement;
-pub use table_item::{StatedColumn, TableConstraint, TableItem, Target};
+pub use table_item::{ColumnClause, StatedColumn, TableConstraint, TableItem, Target};
 pub use takes_back::{
     drop_column_takes_back, drop_column_takes_back_widened, drop_constraint_takes_back_foreign_key,
     drop_constraint_takes_back_key, drop_constraint_takes_back_unique, drop_default_takes_back,

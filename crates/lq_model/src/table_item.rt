@@ -29,7 +29,20 @@ pub struct Target {
     pub column: Name,
 }
 
-/// A column with the clauses that an SQL text has stated of it.
+/// What one clause of a column states.
+#[derive(Debug, Drop)]
+pub enum ColumnClause {
+    /// True for NULL, false for NOT NULL.
+    Nullable(bool),
+    Default(Literal),
+    /// The column gets the next number where a row states none.
+    Numbered,
+    PrimaryKey,
+    Unique,
+    References(Target),
+}
+
+/// A column with what its clauses in an SQL text state of it.
 #[derive(Debug, Drop)]
 pub struct StatedColumn {
     pub name: Name,

@@ -15,11 +15,11 @@ use Rattle.lq_model.specs.SqlText.{statement_in}
 use Rattle.lq_model.specs.SqlWord.{words, kind_of_word, unquoted}
 use Rattle.lq_model.specs.SqlStatement.{statement}
 use Rattle.lq_model.specs.SqlAlter.{alter, alter_table, add, add_constraint, drop_part}
-use Rattle.lq_model.specs.SqlColumn.{stated_column, clauses, clause, target, column_key, column_unique, column_foreign, foreign_to as foreign_stated}
+use Rattle.lq_model.specs.SqlColumn.{stated_column, column_clause, target, column_key, column_unique, column_foreign, foreign_to as foreign_stated}
 use Rattle.lq_model.specs.SqlConstraint.{table_constraint, stated_name, key, unique, foreign, on_delete}
 use Rattle.lq_model.specs.SqlCreate.{create}
 use Rattle.lq_model.specs.SqlTable.{create_table, table_item, column_item, table_of}
-use Rattle.lq_model.specs.SqlParser.{same_kind, sees, after, expect, ended, enclosed, separated, separated_from}
+use Rattle.lq_model.specs.SqlParser.{same_kind, sees, after, expect, ended, enclosed, separated, separated_from, many, many_of, led_by}
 use Rattle.lq_model.specs.SqlPart.{name, name_of, column_kind}
 use Rattle.lq_model.specs.declared.statement.Statement.TheVariants.{AddForeignKey, AddPrimaryKey, AddUnique, CreateTable, DropConstraint, DropForeignKey, DropPrimaryKey, DropUnique}
 
@@ -82,7 +82,7 @@ pub names_by_default :
     ≡ Some (CreateTable (codes "t") (def id kind.Int None ∷ []) (Some (key_on (codes "pk_t") (id ∷ []))) [] (foreign_to (codes "fk_t_id") (id ∷ []) (codes "q") (codes "a" ∷ []) false ∷ [])))
     × (statement_in Mysql (codes "create table t (id int primary key unique references q (a))")
     ≡ Some (CreateTable (codes "t") (def id kind.Int None ∷ []) (Some (key_on (codes "PRIMARY") (id ∷ []))) (unique_on (codes "uq_t_id") (id ∷ []) ∷ []) (foreign_to (codes "fk_t_id") (id ∷ []) (codes "q") (codes "a" ∷ []) false ∷ [])))
-unfolding statement_in words kind_of_word unquoted statement alter alter_table add add_constraint create create_table table_item column_item table_of stated_column clauses clause target column_kind plain_kind column_key column_unique column_foreign foreign_stated key_name unique_name foreign_name table_constraint stated_name key unique foreign on_delete enclosed separated separated_from same_kind sees after expect ended name name_of lexemes length_at
+unfolding statement_in words kind_of_word unquoted statement alter alter_table add add_constraint create create_table table_item column_item table_of stated_column column_clause many many_of led_by target column_kind plain_kind column_key column_unique column_foreign foreign_stated key_name unique_name foreign_name table_constraint stated_name key unique foreign on_delete enclosed separated separated_from same_kind sees after expect ended name name_of lexemes length_at
 names_by_default = (
   rw (plain_cut (codes "pk_t") refl refl) refl,
   rw (plain_front (codes "pk_" ++ replicate 63 110) refl) refl,
