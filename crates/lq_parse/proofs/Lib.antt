@@ -7,6 +7,7 @@ pub mod Levels
 pub mod Lists
 pub mod Magnitudes
 pub mod Makes
+pub mod Many
 pub mod Meaning
 pub mod NumberMakes
 pub mod Numbers

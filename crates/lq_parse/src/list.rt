@@ -4,7 +4,7 @@ ghost use Rattle.lq_model.specs.SqlParser as spec;
 ghost use Rattle.lq_model.specs.SqlParser.{Parser};
 ghost use Rattle.lq_model.specs.Reads.{Reads};
 ghost use Rattle.lq_model.specs.declared.word.Word.{Word};
-ghost use Rattle.std.specs.Prelude.{List};
+ghost use Rattle.std.specs.Prelude.{List, Option};
 ghost use Rattle.lq_parse.specs.Meets.{Meets};
 
 use crate::cursor::Words;
@@ -49,5 +49,26 @@ pub fn enclosed<T: Drop, F: Fn(Global, &mut Words<'_>) -> Result<T, ParseFault>>
     words.expect(WordKind::Open)?;
     let found = separated(alloc, words, item)?;
     words.expect(WordKind::Close)?;
+    Ok(found)
+}
+
+/// As many as stand there, up to where the item finds none. `NotSql` where one of them is refused.
+pub fn many<T: Drop, F: Fn(Global, &mut Words<'_>) -> Result<Option<T>, ParseFault>>(
+    alloc: Global,
+    words: &mut Words<'_>,
+    item: &F,
+) -> Result<Items<T>, ParseFault>
+    ghost p: { Parser (Option T) }
+    requires callable { (alloc : Global) (old : MutBor (List Word)) → F.pre item.now alloc old }
+    requires meets { Meets p (F.post item.now) }
+    ensures { Reads (spec.many p words.old) result words.new }
+{
+    let mut found = Items::new(alloc);
+    for _turn in 0..words.left() {
+        match item(alloc, words)? {
+            Some(it) => found.push(it)?,
+            None => return Ok(found),
+        }
+    }
     Ok(found)
 }
