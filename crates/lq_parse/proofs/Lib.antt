@@ -2,12 +2,12 @@ pub mod Again
 pub mod Bytes
 pub mod CanWrite
 pub mod Escapes
+pub mod Found
 pub mod Fronts
 pub mod Levels
 pub mod Lists
 pub mod Magnitudes
 pub mod Makes
-pub mod Many
 pub mod Meaning
 pub mod NumberMakes
 pub mod Numbers

@@ -1,7 +1,7 @@
 use Rattle.std.proofs.Common.{◌+◌, ◌-◌, ◌∙◌, rules, arith}
 use Rattle.std.proofs.lemmas.Grind.{common_steps}
 use Rattle.lq_model.specs.SqlParser.{many, many_of}
-use Rattle.lq_parse.proofs.Many.{behind, behind_none, found_end, found_more, none_behind}
+use Rattle.lq_parse.proofs.Found.{behind, behind_none, found_end, found_more, none_behind}
 use Rattle.lq_parse.proofs.Turns.{one_more, no_more}
 use Rattle.lq_parse.proofs.list.many.Goals as goal
 

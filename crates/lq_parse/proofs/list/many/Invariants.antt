@@ -1,6 +1,6 @@
 use Rattle.std.proofs.Common.{◌≡◌, ◌-◌}
 use Rattle.lq_model.specs.SqlParser.{many, many_of}
-use Rattle.lq_parse.proofs.Many.{behind}
+use Rattle.lq_parse.proofs.Found.{behind}
 use Rattle.lq_parse.proofs.list.many.Given as goal
 
 abbrev pub invariant-loop-turn : goal.invariant-loop-turn
