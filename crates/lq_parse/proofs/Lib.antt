@@ -1,6 +1,7 @@
 pub mod Again
 pub mod Bytes
 pub mod CanWrite
+pub mod Chains
 pub mod Escapes
 pub mod Found
 pub mod Fronts

@@ -7,7 +7,7 @@ use Rattle.lq_base.specs.Name.{is_name}
 use Rattle.lq_base.specs.declared.literal.Literal.{Literal}
 use Rattle.lq_base.specs.declared.literal.Literal.TheVariants as constant
 use Rattle.lq_model.specs.Spelled.{is_literal, levels, operand_literals, test_literals}
-use Rattle.lq_model.specs.SqlParser.{Parser, ◌>>=◌, and_then, after, eat, ended, expect, given, peek, pure, refuse, sees, separated, separated_from, skip, taken, to_end}
+use Rattle.lq_model.specs.SqlParser.{Parser, ◌>>=◌, and_more, and_then, after, eat, ended, expect, given, many, many_of, peek, pure, refuse, sees, separated, separated_from, skip, taken, to_end}
 use Rattle.lq_model.specs.SqlPart.{literal, literal_by, name, name_of, number}
 use Rattle.lq_model.specs.SqlTest.{any_test, begins_literal, comparison, conjunction, disjunction, most, negation, nullness, operand, operator, primary, product, sum, term, where_test}
 use Rattle.lq_model.specs.SqlWord.{may_be_name}
@@ -118,6 +118,23 @@ from_makes P item (suc turns) found h so_far =
 pub separated_makes : {A : Type 0} (P : A → Type 0) (item : Parser A) → Makes P item → Makes (SomeSo P) (separated item)
 unfolding separated
 separated_makes P item h = record { at = λ i. (from_makes P item (length i) [] h tt).at i }
+
+-- what may have been found is so
+abbrev pub MaybeSo : {A : Type 0} → (A → Type 0) → Option A → Type 0
+MaybeSo P o = IfSome o P
+
+more_makes : {A : Type 0} (P : A → Type 0) (found : Option A) (more : Parser (List A)) → MaybeSo P found → Makes (AllSo P) more → Makes (AllSo P) (and_more found more)
+more_makes P None more is h = makes_pure (AllSo P) [] tt
+more_makes P (Some x) more is h = makes_then (AllSo P) (AllSo P) more _ h (λ xs are. makes_pure (AllSo P) (x ∷ xs) (is, are))
+
+many_of_makes : {A : Type 0} (P : A → Type 0) (item : Parser (Option A)) (n : ℕ) → Makes (MaybeSo P) item → Makes (AllSo P) (many_of item n)
+unfolding many_of
+many_of_makes P item zero h = makes_pure (AllSo P) [] tt
+many_of_makes P item (suc n) h = makes_then (MaybeSo P) (AllSo P) item _ h (λ found is. more_makes P found (many_of item n) is (many_of_makes P item n h))
+
+pub many_makes : {A : Type 0} (P : A → Type 0) (item : Parser (Option A)) → Makes (MaybeSo P) item → Makes (AllSo P) (many item)
+unfolding many
+many_makes P item h = record { at = λ i. (many_of_makes P item (length i) h).at i }
 
 -- literals
 
