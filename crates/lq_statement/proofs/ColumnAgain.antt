@@ -1,5 +1,5 @@
 -- The text of a column has its words, and is read from them.
-use Rattle.std.proofs.Common.{◌≡◌, ◌⊎◌, ℕ, Bool, true, false, not, List, ◌∷◌, ◌++◌, Option, Some, None, inl, inr, ap, refl}
+use Rattle.std.proofs.Common.{◌≡◌, ◌⊎◌, ◌≤◌, ℕ, zero, suc, Bool, true, false, not, if◌then◌else◌, List, [], ◌∷◌, ◌++◌, length, Option, Some, None, inl, inr, ap, refl, arith}
 use Rattle.std.specs.Option.{unwrap_or}
 use Rattle.std.specs.Prelude.{codes}
 use Rattle.lq_base.specs.Kind.{is_kind}
@@ -9,17 +9,20 @@ use Rattle.lq_base.specs.declared.kind.Kind.{Kind}
 use Rattle.lq_base.specs.declared.literal.Literal.{Literal}
 use Rattle.lq_model.specs.Phrase as text
 use Rattle.lq_model.specs.Spelled.{is_literal}
-use Rattle.lq_model.specs.SqlColumn.{added_column, clause, clauses, column_of, identity, stated_column}
-use Rattle.lq_model.specs.SqlParser.{expect, kind, same_kind, sees}
+use Rattle.lq_model.specs.SqlColumn.{added_column, column_clause, column_of, column_with, differ, identity, stated_column}
+use Rattle.lq_model.specs.SqlParser.{expect, kind, many, many_of, pure, refuse, same_kind, sees}
 use Rattle.lq_model.specs.SqlPart.{name}
 use Rattle.lq_model.specs.SqlWord.{bare, folded, kind_of_word, with_text, words}
 use Rattle.lq_model.specs.StatementText.{column_text, default_text, numbering, words_if}
 use Rattle.lq_model.specs.declared.column.ColumnDef.{ColumnDef}
 use Rattle.lq_model.specs.declared.phrase.Phrase.TheVariants as phrase
+use Rattle.lq_model.specs.declared.table_item.ColumnClause.{ColumnClause}
+use Rattle.lq_model.specs.declared.table_item.ColumnClause.TheVariants as clause
 use Rattle.lq_model.specs.declared.word.Word.{Word}
 use Rattle.lq_model.specs.declared.word.WordKind.TheVariants as word
 use Rattle.lq_parse.proofs.Again.{IsLiteral, literal_again, literal_words}
 use Rattle.lq_parse.proofs.Bytes.{Stops}
+use Rattle.lq_parse.proofs.Chains.{many_end, many_next}
 use Rattle.lq_parse.proofs.Fronts.{Says}
 use Rattle.lq_parse.proofs.QueryAgain.{IsReadName, name_word}
 use Rattle.lq_parse.proofs.Spoken.{Below}
@@ -117,64 +120,112 @@ abbrev null_of : Bool → Option Bool
 null_of true = None
 null_of false = Some false
 
-clauses_again : (d : Dialect) (n : List ℕ) (k : Kind) (numbered nullable : Bool) (default : Option Literal) (rest : List Word) → IsDefault default → EndsItem rest
-    → clauses d (record { name = n; kind = k; nullable = None; default = None; numbered = false; key = false; unique = false; target = None }) (number_words d numbered (null_words nullable (default_words default rest)))
+-- the clauses that are written
+
+abbrev number_clause : Bool → List ColumnClause → List ColumnClause
+number_clause true cs = clause.Numbered ∷ cs
+number_clause false cs = cs
+
+abbrev null_clause : Bool → List ColumnClause → List ColumnClause
+null_clause true cs = cs
+null_clause false cs = clause.Nullable false ∷ cs
+
+abbrev default_clause : Option Literal → List ColumnClause
+default_clause None = []
+default_clause (Some l) = clause.Default l ∷ []
+
+abbrev written : Bool → Bool → Option Literal → List ColumnClause
+written numbered nullable default = number_clause numbered (null_clause nullable (default_clause default))
+
+clause_end : (d : Dialect) (rest : List Word) → EndsItem rest → column_clause d rest ≡ Some (None, rest)
+unfolding column_clause
+clause_end Postgresql rest (inl e) = rw e refl
+clause_end Postgresql rest (inr (inl e)) = rw e refl
+clause_end Postgresql rest (inr (inr e)) = rw e refl
+clause_end Mysql rest (inl e) = rw e refl
+clause_end Mysql rest (inr (inl e)) = rw e refl
+clause_end Mysql rest (inr (inr e)) = rw e refl
+
+default_again : (d : Dialect) (l : Literal) (rest : List Word) → IsLiteral l → column_clause d (bare word.Default ∷ literal_words l rest) ≡ Some (Some (clause.Default l), rest)
+unfolding column_clause
+default_again Postgresql l rest is = rw (literal_again l rest is) refl
+default_again Mysql l rest is = rw (literal_again l rest is) refl
+
+null_again : (d : Dialect) (rest : List Word) → column_clause d (bare word.Not ∷ bare word.Null ∷ rest) ≡ Some (Some (clause.Nullable false), rest)
+unfolding column_clause expect sees same_kind
+null_again Postgresql rest = refl
+null_again Mysql rest = refl
+
+number_again : (d : Dialect) (rest : List Word) → column_clause d (number_words d true rest) ≡ Some (Some clause.Numbered, rest)
+unfolding column_clause identity expect sees same_kind
+number_again Postgresql rest = refl
+number_again Mysql rest = refl
+
+-- in as many turns as there are clauses, or more
+abbrev Found : Dialect → List Word → List ColumnClause → List Word → Type 0
+Found d i cs rest = (n : ℕ) → length cs ≤ n → many_of (column_clause d) n i ≡ Some (cs, rest)
+
+found_next : (d : Dialect) (x : ColumnClause) (cs : List ColumnClause) (i j rest : List Word) → column_clause d i ≡ Some (Some x, j) → Found d j cs rest → Found d i (x ∷ cs) rest
+found_next d x cs i j rest is more zero enough = absurd (omega arith)
+found_next d x cs i j rest is more (suc n) enough = many_next (column_clause d) n x cs i j rest is (more n (omega arith))
+
+found_end : (d : Dialect) (rest : List Word) → EndsItem rest → Found d rest [] rest
+found_end d rest end n enough = many_end (column_clause d) n rest (clause_end d rest end)
+
+default_found : (d : Dialect) (default : Option Literal) (rest : List Word) → IsDefault default → EndsItem rest → Found d (default_words default rest) (default_clause default) rest
+default_found d None rest is end = found_end d rest end
+default_found d (Some l) rest is end = found_next d (clause.Default l) [] _ rest rest (default_again d l rest is) (found_end d rest end)
+
+null_found : (d : Dialect) (nullable : Bool) (cs : List ColumnClause) (i rest : List Word) → Found d i cs rest → Found d (null_words nullable i) (null_clause nullable cs) rest
+null_found d true cs i rest more = more
+null_found d false cs i rest more = found_next d (clause.Nullable false) cs _ i rest (null_again d i) more
+
+number_found : (d : Dialect) (numbered : Bool) (cs : List ColumnClause) (i rest : List Word) → Found d i cs rest → Found d (number_words d numbered i) (number_clause numbered cs) rest
+number_found d true cs i rest more = found_next d clause.Numbered cs _ i rest (number_again d i) more
+number_found d false cs i rest more = more
+
+-- each has a word at least
+
+default_count : (default : Option Literal) (rest : List Word) → length (default_clause default) ≤ length (default_words default rest)
+default_count None rest = omega arith
+default_count (Some l) rest = omega arith
+
+null_count : (nullable : Bool) (cs : List ColumnClause) (i : List Word) → length cs ≤ length i → length (null_clause nullable cs) ≤ length (null_words nullable i)
+null_count true cs i enough = enough
+null_count false cs i enough = omega arith
+
+number_count : (d : Dialect) (numbered : Bool) (cs : List ColumnClause) (i : List Word) → length cs ≤ length i → length (number_clause numbered cs) ≤ length (number_words d numbered i)
+number_count d false cs i enough = enough
+number_count Postgresql true cs i enough = omega arith
+number_count Mysql true cs i enough = omega arith
+
+clauses_again : (d : Dialect) (numbered nullable : Bool) (default : Option Literal) (rest : List Word) → IsDefault default → EndsItem rest
+    → many (column_clause d) (number_words d numbered (null_words nullable (default_words default rest))) ≡ Some (written numbered nullable default, rest)
+unfolding many
+clauses_again d numbered nullable default rest is end =
+    let nulls = null_words nullable (default_words default rest) in
+    let said = null_clause nullable (default_clause default) in
+    number_found d numbered said nulls rest (null_found d nullable (default_clause default) (default_words default rest) rest (default_found d default rest is end))
+    (length (number_words d numbered nulls)) (number_count d numbered said nulls (null_count nullable (default_clause default) (default_words default rest) (default_count default rest)))
+
+column_again : (n : List ℕ) (k : Kind) (numbered nullable : Bool) (default : Option Literal) (rest : List Word)
+    → (if differ (written numbered nullable default) then pure (column_with n k (written numbered nullable default)) else refuse) rest
     ≡ Some (record { name = n; kind = k; nullable = null_of nullable; default = default; numbered = numbered; key = false; unique = false; target = None }, rest)
-unfolding clauses clause identity expect sees same_kind
-clauses_again Postgresql n k true true None rest is (inl e) = rw (e, e, e, e, e) refl
-clauses_again Postgresql n k true true None rest is (inr (inl e)) = rw (e, e, e, e, e) refl
-clauses_again Postgresql n k true true None rest is (inr (inr e)) = rw (e, e, e, e, e) refl
-clauses_again Postgresql n k true true (Some l) rest is (inl e) = rw (literal_again l rest is, e, e, e, e) refl
-clauses_again Postgresql n k true true (Some l) rest is (inr (inl e)) = rw (literal_again l rest is, e, e, e, e) refl
-clauses_again Postgresql n k true true (Some l) rest is (inr (inr e)) = rw (literal_again l rest is, e, e, e, e) refl
-clauses_again Postgresql n k true false None rest is (inl e) = rw (e, e, e, e) refl
-clauses_again Postgresql n k true false None rest is (inr (inl e)) = rw (e, e, e, e) refl
-clauses_again Postgresql n k true false None rest is (inr (inr e)) = rw (e, e, e, e) refl
-clauses_again Postgresql n k true false (Some l) rest is (inl e) = rw (literal_again l rest is, e, e, e) refl
-clauses_again Postgresql n k true false (Some l) rest is (inr (inl e)) = rw (literal_again l rest is, e, e, e) refl
-clauses_again Postgresql n k true false (Some l) rest is (inr (inr e)) = rw (literal_again l rest is, e, e, e) refl
-clauses_again Postgresql n k false true None rest is (inl e) = rw (e, e, e, e, e, e) refl
-clauses_again Postgresql n k false true None rest is (inr (inl e)) = rw (e, e, e, e, e, e) refl
-clauses_again Postgresql n k false true None rest is (inr (inr e)) = rw (e, e, e, e, e, e) refl
-clauses_again Postgresql n k false true (Some l) rest is (inl e) = rw (literal_again l rest is, e, e, e, e, e) refl
-clauses_again Postgresql n k false true (Some l) rest is (inr (inl e)) = rw (literal_again l rest is, e, e, e, e, e) refl
-clauses_again Postgresql n k false true (Some l) rest is (inr (inr e)) = rw (literal_again l rest is, e, e, e, e, e) refl
-clauses_again Postgresql n k false false None rest is (inl e) = rw (e, e, e, e, e) refl
-clauses_again Postgresql n k false false None rest is (inr (inl e)) = rw (e, e, e, e, e) refl
-clauses_again Postgresql n k false false None rest is (inr (inr e)) = rw (e, e, e, e, e) refl
-clauses_again Postgresql n k false false (Some l) rest is (inl e) = rw (literal_again l rest is, e, e, e, e) refl
-clauses_again Postgresql n k false false (Some l) rest is (inr (inl e)) = rw (literal_again l rest is, e, e, e, e) refl
-clauses_again Postgresql n k false false (Some l) rest is (inr (inr e)) = rw (literal_again l rest is, e, e, e, e) refl
-clauses_again Mysql n k true true None rest is (inl e) = rw (e, e, e, e, e) refl
-clauses_again Mysql n k true true None rest is (inr (inl e)) = rw (e, e, e, e, e) refl
-clauses_again Mysql n k true true None rest is (inr (inr e)) = rw (e, e, e, e, e) refl
-clauses_again Mysql n k true true (Some l) rest is (inl e) = rw (literal_again l rest is, e, e, e, e) refl
-clauses_again Mysql n k true true (Some l) rest is (inr (inl e)) = rw (literal_again l rest is, e, e, e, e) refl
-clauses_again Mysql n k true true (Some l) rest is (inr (inr e)) = rw (literal_again l rest is, e, e, e, e) refl
-clauses_again Mysql n k true false None rest is (inl e) = rw (e, e, e, e) refl
-clauses_again Mysql n k true false None rest is (inr (inl e)) = rw (e, e, e, e) refl
-clauses_again Mysql n k true false None rest is (inr (inr e)) = rw (e, e, e, e) refl
-clauses_again Mysql n k true false (Some l) rest is (inl e) = rw (literal_again l rest is, e, e, e) refl
-clauses_again Mysql n k true false (Some l) rest is (inr (inl e)) = rw (literal_again l rest is, e, e, e) refl
-clauses_again Mysql n k true false (Some l) rest is (inr (inr e)) = rw (literal_again l rest is, e, e, e) refl
-clauses_again Mysql n k false true None rest is (inl e) = rw (e, e, e, e, e, e) refl
-clauses_again Mysql n k false true None rest is (inr (inl e)) = rw (e, e, e, e, e, e) refl
-clauses_again Mysql n k false true None rest is (inr (inr e)) = rw (e, e, e, e, e, e) refl
-clauses_again Mysql n k false true (Some l) rest is (inl e) = rw (literal_again l rest is, e, e, e, e, e) refl
-clauses_again Mysql n k false true (Some l) rest is (inr (inl e)) = rw (literal_again l rest is, e, e, e, e, e) refl
-clauses_again Mysql n k false true (Some l) rest is (inr (inr e)) = rw (literal_again l rest is, e, e, e, e, e) refl
-clauses_again Mysql n k false false None rest is (inl e) = rw (e, e, e, e, e) refl
-clauses_again Mysql n k false false None rest is (inr (inl e)) = rw (e, e, e, e, e) refl
-clauses_again Mysql n k false false None rest is (inr (inr e)) = rw (e, e, e, e, e) refl
-clauses_again Mysql n k false false (Some l) rest is (inl e) = rw (literal_again l rest is, e, e, e, e) refl
-clauses_again Mysql n k false false (Some l) rest is (inr (inl e)) = rw (literal_again l rest is, e, e, e, e) refl
-clauses_again Mysql n k false false (Some l) rest is (inr (inr e)) = rw (literal_again l rest is, e, e, e, e) refl
+column_again n k true true None rest = refl
+column_again n k true true (Some l) rest = refl
+column_again n k true false None rest = refl
+column_again n k true false (Some l) rest = refl
+column_again n k false true None rest = refl
+column_again n k false true (Some l) rest = refl
+column_again n k false false None rest = refl
+column_again n k false false (Some l) rest = refl
 
 pub stated_again : (d : Dialect) (c : ColumnDef) (rest : List Word) → IsReadName c.name → is_kind c.kind ≡ true → IsDefault c.default → EndsItem rest
     → stated_column d (column_words d c rest) ≡ Some (record { name = c.name; kind = c.kind; nullable = null_of c.nullable; default = c.default; numbered = c.numbered; key = false; unique = false; target = None }, rest)
 unfolding stated_column name
 stated_again d c rest one is default end =
-    rw (one, kind_again d c.kind (number_words d c.numbered (null_words c.nullable (default_words c.default rest))) is (no_open d c.numbered c.nullable c.default rest end)) (clauses_again d c.name c.kind c.numbered c.nullable c.default rest default end)
+    rw (one, kind_again d c.kind (number_words d c.numbered (null_words c.nullable (default_words c.default rest))) is (no_open d c.numbered c.nullable c.default rest end), clauses_again d c.numbered c.nullable c.default rest default end)
+    (column_again c.name c.kind c.numbered c.nullable c.default rest)
 
 null_same : (nullable : Bool) → unwrap_or (null_of nullable) true ≡ nullable
 null_same true = refl

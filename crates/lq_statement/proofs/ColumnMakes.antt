@@ -1,5 +1,6 @@
 -- The columns that are read are those of a statement.
-use Rattle.std.proofs.Common.{◌≡◌, ℕ, Bool, true, false, if◌then◌else◌, List, [], ◌∷◌, Option, Some, None, is_some, IfSome, refl}
+use Rattle.std.proofs.Common.{◌≡◌, ℕ, true, false, List, [], ◌∷◌, Option, Some, None, IfSome, refl}
+use Rattle.std.specs.Option.{option_or}
 use Rattle.std.proofs.lemmas.Bool.{and_from}
 use Rattle.lq_base.specs.Kind.{is_kind}
 use Rattle.lq_base.specs.Laws.{NumberOfSpells}
@@ -7,20 +8,22 @@ use Rattle.lq_base.specs.declared.dialect.Dialect.{Dialect}
 use Rattle.lq_base.specs.declared.dialect.Dialect.TheVariants.{Postgresql, Mysql}
 use Rattle.lq_base.specs.declared.literal.Literal.{Literal}
 use Rattle.lq_model.specs.DefaultName.{foreign_name, key_name, unique_name}
-use Rattle.lq_model.specs.SqlColumn.{added_column, clause, clause_by, clauses, column_foreign, column_key, column_of, column_unique, foreign_to, has_constraint, identity, stated_column, target, with_default, with_key, with_nullable, with_number, with_target, with_unique}
-use Rattle.lq_model.specs.SqlParser.{expect, given, peek, skip}
+use Rattle.lq_model.specs.SqlColumn.{added_column, clause_by, column_clause, column_foreign, column_key, column_of, column_unique, column_with, default_by, differ, first_said, foreign_to, has_constraint, identity, stated_column, target, target_by}
+use Rattle.lq_model.specs.SqlParser.{expect, given, many, peek, skip}
 use Rattle.lq_model.specs.SqlPart.{column_kind, literal, name, name_of}
 use Rattle.lq_model.specs.Statement.{is_column_def}
 use Rattle.lq_model.specs.declared.column.ColumnDef.{ColumnDef}
 use Rattle.lq_model.specs.declared.constraint.ForeignKey.{ForeignKey}
 use Rattle.lq_model.specs.declared.constraint.Key.{Key}
 use Rattle.lq_model.specs.declared.constraint.Unique.{Unique}
+use Rattle.lq_model.specs.declared.table_item.ColumnClause.{ColumnClause}
+use Rattle.lq_model.specs.declared.table_item.ColumnClause.TheVariants as clause
 use Rattle.lq_model.specs.declared.table_item.StatedColumn.{StatedColumn}
 use Rattle.lq_model.specs.declared.table_item.Target.{Target}
 use Rattle.lq_model.specs.declared.word.WordKind.{WordKind}
 use Rattle.lq_model.specs.declared.word.WordKind.TheVariants as word
 use Rattle.lq_parse.proofs.CanWrite.{literals}
-use Rattle.lq_parse.proofs.Makes.{IsLiteralText, IsNameText, Makes, makes_after, makes_given, makes_if, makes_pure, makes_refuse, makes_then, name_makes, name_of_makes}
+use Rattle.lq_parse.proofs.Makes.{AllSo, IsLiteralText, IsNameText, Makes, MaybeSo, makes_after, makes_given, makes_if, makes_pure, makes_refuse, makes_then, many_makes, name_makes, name_of_makes}
 use Rattle.lq_statement.proofs.ConstraintMakes.{IsForeignText, IsKeyName, IsKeyText, IsUniqueText, foreign_is, key_is, key_name_is, unique_is}
 use Rattle.lq_statement.proofs.KindMakes.{IsKind, kind_makes}
 use Rattle.lq_statement.proofs.Parts.{join}
@@ -34,53 +37,58 @@ pub record IsStated (c : StatedColumn) : Type 0 where
   pub default : IfSome c.default IsLiteralText
   pub target : IfSome c.target IsTarget
 
-unless : {A : Type 0} (P : A → Type 0) (b : Bool) (x : A) → P x → IfSome (if b then None else Some x) P
-unless P true x h = tt
-unless P false x h = h
-
 target_makes : Makes IsTarget target
 unfolding target
 target_makes =
     makes_then IsNameText IsTarget name _ name_makes (λ t h. makes_after IsTarget (expect word.Open) _ (λ a. makes_then IsNameText IsTarget name _ name_makes (λ c g. makes_after IsTarget (expect word.Close) _ (λ b.
     makes_pure IsTarget (record { table = t; column = c }) (h, g)))))
 
-nullable_makes : (c : StatedColumn) (it : Bool) → IsStated c → Makes IsStated (given (with_nullable c it))
-nullable_makes c it is = makes_given IsStated (with_nullable c it) (unless IsStated (is_some c.nullable) _ (record { name = is.name; kind = is.kind; default = is.default; target = is.target }))
+-- what a clause states of a default and of a target
+pub record IsClause (c : ColumnClause) : Type 0 where
+  pub default : IfSome (default_by c) IsLiteralText
+  pub target : IfSome (target_by c) IsTarget
 
-number_makes : (c : StatedColumn) → IsStated c → Makes IsStated (given (with_number c))
-number_makes c is = makes_given IsStated (with_number c) (unless IsStated c.numbered _ (record { name = is.name; kind = is.kind; default = is.default; target = is.target }))
-
-clause_makes : NumberOfSpells → (d : Dialect) (c : StatedColumn) → IsStated c → Makes IsStated (clause d c)
-unfolding clause
-clause_makes spells d c is = makes_after IsStated peek (clause_by d c) (by d)
+clause_makes : NumberOfSpells → (d : Dialect) → Makes (MaybeSo IsClause) (column_clause d)
+unfolding column_clause
+clause_makes spells d = makes_after (MaybeSo IsClause) peek (clause_by d) (by d)
   where
-    by : (d : Dialect) (k : WordKind) → Makes IsStated (clause_by d c k)
-    by d word.Not = makes_after IsStated skip _ (λ a. makes_after IsStated (expect word.Null) _ (λ b. nullable_makes c false is))
-    by d word.Null = makes_after IsStated skip _ (λ a. nullable_makes c true is)
-    by d word.Default =
-        makes_after IsStated skip _ (λ a. makes_then IsLiteralText IsStated literal _ (literals spells) (λ it h.
-        makes_given IsStated (with_default c it) (unless IsStated (is_some c.default) _ (record { name = is.name; kind = is.kind; default = h; target = is.target }))))
-    by d word.Primary =
-        makes_after IsStated skip _ (λ a. makes_after IsStated (expect word.Key) _ (λ b.
-        makes_given IsStated (with_key c) (unless IsStated c.key _ (record { name = is.name; kind = is.kind; default = is.default; target = is.target }))))
-    by d word.Unique = makes_after IsStated skip _ (λ a. makes_given IsStated (with_unique c) (unless IsStated c.unique _ (record { name = is.name; kind = is.kind; default = is.default; target = is.target })))
-    by d word.References =
-        makes_after IsStated skip _ (λ a. makes_then IsTarget IsStated target _ target_makes (λ it h.
-        makes_given IsStated (with_target c it) (unless IsStated (is_some c.target) _ (record { name = is.name; kind = is.kind; default = is.default; target = h }))))
-    by Postgresql word.Generated = makes_after IsStated identity _ (λ a. number_makes c is)
-    by Mysql word.AutoIncrement = makes_after IsStated skip _ (λ a. number_makes c is)
-    by d _ = makes_pure IsStated c is
+    plain : (c : ColumnClause) → default_by c ≡ None → target_by c ≡ None → MaybeSo IsClause (Some c)
+    plain c h g = record { default = rw h tt; target = rw g tt }
 
-clauses_make : NumberOfSpells → (d : Dialect) (c : StatedColumn) → IsStated c → Makes IsStated (clauses d c)
-unfolding clauses
-clauses_make spells d c is =
-    let next = clause_makes spells d in
-    makes_then IsStated IsStated _ (clause d) (makes_then IsStated IsStated _ (clause d) (makes_then IsStated IsStated _ (clause d) (makes_then IsStated IsStated _ (clause d) (makes_then IsStated IsStated (clause d c) (clause d) (next c is) next) next) next) next) next
+    by : (d : Dialect) (k : WordKind) → Makes (MaybeSo IsClause) (clause_by d k)
+    by d word.Not = makes_after (MaybeSo IsClause) skip _ (λ a. makes_after (MaybeSo IsClause) (expect word.Null) _ (λ b. makes_pure (MaybeSo IsClause) (Some (clause.Nullable false)) (plain (clause.Nullable false) refl refl)))
+    by d word.Null = makes_after (MaybeSo IsClause) skip _ (λ a. makes_pure (MaybeSo IsClause) (Some (clause.Nullable true)) (plain (clause.Nullable true) refl refl))
+    by d word.Default =
+        makes_after (MaybeSo IsClause) skip _ (λ a. makes_then IsLiteralText (MaybeSo IsClause) literal _ (literals spells) (λ it h.
+        makes_pure (MaybeSo IsClause) (Some (clause.Default it)) (record { default = h; target = tt })))
+    by d word.Primary = makes_after (MaybeSo IsClause) skip _ (λ a. makes_after (MaybeSo IsClause) (expect word.Key) _ (λ b. makes_pure (MaybeSo IsClause) (Some clause.PrimaryKey) (plain clause.PrimaryKey refl refl)))
+    by d word.Unique = makes_after (MaybeSo IsClause) skip _ (λ a. makes_pure (MaybeSo IsClause) (Some clause.Unique) (plain clause.Unique refl refl))
+    by d word.References =
+        makes_after (MaybeSo IsClause) skip _ (λ a. makes_then IsTarget (MaybeSo IsClause) target _ target_makes (λ it h.
+        makes_pure (MaybeSo IsClause) (Some (clause.References it)) (record { default = tt; target = h })))
+    by Postgresql word.Generated = makes_after (MaybeSo IsClause) identity _ (λ a. makes_pure (MaybeSo IsClause) (Some clause.Numbered) (plain clause.Numbered refl refl))
+    by Mysql word.AutoIncrement = makes_after (MaybeSo IsClause) skip _ (λ a. makes_pure (MaybeSo IsClause) (Some clause.Numbered) (plain clause.Numbered refl refl))
+    by d _ = makes_pure (MaybeSo IsClause) None tt
+
+-- the first that says such a thing
+
+first_of_two : {A : Type 0} (P : A → Type 0) (o p : Option A) → IfSome o P → IfSome p P → IfSome (option_or o p) P
+first_of_two P None p h g = g
+first_of_two P (Some x) p h g = h
+
+default_is : (cs : List ColumnClause) → AllSo IsClause cs → IfSome (first_said default_by cs) IsLiteralText
+default_is [] are = tt
+default_is (c ∷ cs) are = first_of_two IsLiteralText (default_by c) (first_said default_by cs) are.0.default (default_is cs are.1)
+
+target_is : (cs : List ColumnClause) → AllSo IsClause cs → IfSome (first_said target_by cs) IsTarget
+target_is [] are = tt
+target_is (c ∷ cs) are = first_of_two IsTarget (target_by c) (first_said target_by cs) are.0.target (target_is cs are.1)
 
 pub stated_makes : NumberOfSpells → (d : Dialect) → Makes IsStated (stated_column d)
 unfolding stated_column
 stated_makes spells d =
-    makes_then IsNameText IsStated name _ name_makes (λ n h. makes_then IsKind IsStated column_kind _ kind_makes (λ k g. clauses_make spells d _ (record { name = h; kind = g; default = tt; target = tt })))
+    makes_then IsNameText IsStated name _ name_makes (λ n h. makes_then IsKind IsStated column_kind _ kind_makes (λ k g. makes_then (AllSo IsClause) IsStated (many (column_clause d)) _ (many_makes IsClause (column_clause d) (clause_makes spells d)) (λ cs are.
+    makes_if IsStated (differ cs) _ _ (makes_pure IsStated (column_with n k cs) (record { name = h; kind = g; default = default_is cs are; target = target_is cs are })) (makes_refuse IsStated))))
 
 abbrev pub IsDef : ColumnDef → Type 0
 IsDef c = is_column_def c ≡ true

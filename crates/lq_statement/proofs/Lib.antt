@@ -1,4 +1,5 @@
 mod AlterMakes
+mod Clauses
 mod ColumnAgain
 mod ColumnMakes
 mod ConstraintAgain

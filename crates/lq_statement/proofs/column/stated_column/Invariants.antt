@@ -1,0 +1,5 @@
+use Rattle.lq_model.specs.SqlColumn.{column_clause}
+use Rattle.lq_statement.proofs.column.stated_column.Given as goal
+
+abbrev pub ghost-many : goal.ghost-many
+ghost-many a = column_clause a.item.now.0.now
