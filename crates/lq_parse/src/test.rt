@@ -83,8 +83,11 @@ fn comparison(alloc: Global, words: &mut Words<'_>) -> Result<Boxed<Test>, Parse
     Ok(boxed(alloc, Test::Compare { op, x, y })?)
 }
 
+// No more levels are made than a test may have: past them NotSql may stand for a test, which
+// `any_test` refuses too.
 const MOST: usize = 64;
 
+// A test after NOT, of which at most `nots` follow.
 #[cycle(test)]
 fn negation(
     alloc: Global,
@@ -105,6 +108,7 @@ fn negation(
     Ok(boxed(alloc, Test::Not(inner))?)
 }
 
+// What AND joins to `left`, which is so deep that at most `turns` levels are left.
 #[cycle(test)]
 fn conjunction(
     alloc: Global,
@@ -140,6 +144,7 @@ fn product(
     conjunction(alloc, words, parentheses, MOST, first)
 }
 
+// The same of OR.
 #[cycle(test)]
 fn disjunction(
     alloc: Global,
