@@ -104,7 +104,8 @@ first_said said (c ∷ cs) = option_or (said c) (first_said said cs)
 
 abbrev pub column_with : Name → Kind → List ColumnClause → StatedColumn
 column_with named kind cs = record {
-  name = named; kind = kind;
+  name = named;
+  kind = kind;
   nullable = first_said nullable_by cs;
   default = first_said default_by cs;
   numbered = list_any is_numbered cs;
