@@ -3,11 +3,12 @@ use Rattle.std.proofs.Common.{◌≡◌, ℕ, ◌<◌, ◌≤◌, ◌+◌, max, 
 use Rattle.std.proofs.lemmas.List.{append-nil}
 use Rattle.std.proofs.lemmas.Bool.Decides.{nat_tests}
 use Rattle.lq_tree.specs.declared.node.Node.{Node, Text as TextNode, the_lemmas}
+use Rattle.lq_yaml.specs.declared.token.Chomping.{Chomping}
 use Rattle.lq_yaml.specs.declared.token.Head.{Head}
 use Rattle.lq_yaml.specs.declared.token.Token.{Token}
-use Rattle.lq_yaml.specs.declared.token.Token.TheVariants.{Begin, Value, Bar}
-use Rattle.lq_yaml.specs.Tree.{Tree, leaf, empty, group, Entries, no_entries, entry, node_of, group_node, levels, entry_levels, value_levels}
-use Rattle.lq_yaml.specs.Layout.{IsFull, Inside, Group, Layout, IsLeaf, block_text, raws}
+use Rattle.lq_yaml.specs.declared.token.Token.TheVariants.{Begin, Value, LiteralHeader}
+use Rattle.lq_yaml.specs.Tree.{Tree, leaf, empty, collection, Entries, no_entries, entry, node_of, collection_node, levels, entry_levels, value_levels}
+use Rattle.lq_yaml.specs.Layout.{IsFull, Inside, AreEntries, Layout, IsLeaf, block_text, literal_lines}
 use Rattle.lq_yaml.specs.Machine.{Frame, Place, Cell, none, done, block, place, start, cell_node, begun, fits, filled, next, frame, settled, made, begin, step, run, finish, level_at, reach, reach_by}
 use Rattle.lq_yaml.proofs.Parts.{Tells, tells_begun, tells_next, collected, collected_none, collected_begun, collected_next}
 
@@ -85,18 +86,18 @@ step_value q v f fs lt =
     let le : f.rank ≤ q = omega arith in
     rw (not_above q f.rank le, above f.rank q lt) refl
 
-step_bar : (q : ℕ) (keep : Bool) (f : Frame) (fs : List Frame) → f.rank < q → step (Bar q keep) (place none (f ∷ fs)) ≡ Some (place (block keep []) (f ∷ fs))
-step_bar q keep f fs lt =
+step_header : (q : ℕ) (chomping : Chomping) (f : Frame) (fs : List Frame) → f.rank < q → step (LiteralHeader q chomping) (place none (f ∷ fs)) ≡ Some (place (block chomping []) (f ∷ fs))
+step_header q chomping f fs lt =
     let le : f.rank ≤ q = omega arith in
     rw (not_above q f.rank le, above f.rank q lt) refl
 
-run_raws : (ls before : List (List ℕ)) (keep : Bool) (fs : List Frame) → run (raws ls) (place (block keep before) fs) ≡ Some (place (block keep (before ++ ls)) fs)
-run_raws [] before keep fs = ap (λ (l : List (List ℕ)). Some (place (block keep l) fs)) (sym (append-nil before))
-run_raws (l ∷ ls) before keep fs = run_raws ls (before ++ l ∷ []) keep fs ∙ ap (λ (m : List (List ℕ)). Some (place (block keep m) fs)) (append_assoc before (l ∷ []) ls)
+run_literal_lines : (ls before : List (List ℕ)) (chomping : Chomping) (fs : List Frame) → run (literal_lines ls) (place (block chomping before) fs) ≡ Some (place (block chomping (before ++ ls)) fs)
+run_literal_lines [] before chomping fs = ap (λ (l : List (List ℕ)). Some (place (block chomping l) fs)) (sym (append-nil before))
+run_literal_lines (l ∷ ls) before chomping fs = run_literal_lines ls (before ++ l ∷ []) chomping fs ∙ ap (λ (m : List (List ℕ)). Some (place (block chomping m) fs)) (append_assoc before (l ∷ []) ls)
 
-reach_raws : (ls before : List (List ℕ)) (keep : Bool) (fs : List Frame) → reach (raws ls) (place (block keep before) fs) ≡ 0
-reach_raws [] before keep fs = refl
-reach_raws (l ∷ ls) before keep fs = ap (λ (k : ℕ). max 0 k) (reach_raws ls (before ++ l ∷ []) keep fs)
+reach_literal_lines : (ls before : List (List ℕ)) (chomping : Chomping) (fs : List Frame) → reach (literal_lines ls) (place (block chomping before) fs) ≡ 0
+reach_literal_lines [] before chomping fs = refl
+reach_literal_lines (l ∷ ls) before chomping fs = ap (λ (k : ℕ). max 0 k) (reach_literal_lines ls (before ++ l ∷ []) chomping fs)
 
 -- the next head of a collection
 step_next : (h : Head) (s : Place) (c : Cell) (f : Frame) (fs : List Frame) → settled f.rank s.cell s.frames ≡ settled f.rank c (f ∷ fs) → fits h f.part ≡ true
@@ -127,22 +128,22 @@ leafs v r q toks f fs lt (inl is) =
       same = λ p h. refl;
       deep = ap (λ (o : Option Place). max (length (f ∷ fs)) (reach_by (Value q v) (λ n. reach [] n) o)) (step_value q v f fs lt) ∙ max_value (length (f ∷ fs)) (value_levels v);
     })
-leafs v r q toks f fs lt (inr (keep, ls, is, text)) =
+leafs v r q toks f fs lt (inr (chomping, ls, is, text)) =
     subst (λ (ts : List Token). Goes (place none (f ∷ fs)) ts (suc r) v (f ∷ fs) (length (f ∷ fs)) (value_levels v)) (sym is)
     (record {
-      at = place (block keep ls) (f ∷ fs);
-      runs = ap (λ (o : Option Place). option_and_then (λ n. run (raws ls) n) o) (step_bar q keep f fs lt) ∙ run_raws ls [] keep (f ∷ fs);
-      cell = block keep ls;
+      at = place (block chomping ls) (f ∷ fs);
+      runs = ap (λ (o : Option Place). option_and_then (λ n. run (literal_lines ls) n) o) (step_header q chomping f fs lt) ∙ run_literal_lines ls [] chomping (f ∷ fs);
+      cell = block chomping ls;
       means = sym text;
       same = λ p h. refl;
-      deep = ap (λ (o : Option Place). max (length (f ∷ fs)) (reach_by (Bar q keep) (λ n. reach (raws ls) n) o)) (step_bar q keep f fs lt)
-          ∙ ap (λ (k : ℕ). max (length (f ∷ fs)) (max 0 k)) (reach_raws ls [] keep (f ∷ fs)) ∙ max_none (length (f ∷ fs))
-          ∙ ap (λ (k : ℕ). length (f ∷ fs) + k) (sym (text_levels (block_text keep ls)) ∙ ap value_levels (sym text));
+      deep = ap (λ (o : Option Place). max (length (f ∷ fs)) (reach_by (LiteralHeader q chomping) (λ n. reach (literal_lines ls) n) o)) (step_header q chomping f fs lt)
+          ∙ ap (λ (k : ℕ). max (length (f ∷ fs)) (max 0 k)) (reach_literal_lines ls [] chomping (f ∷ fs)) ∙ max_none (length (f ∷ fs))
+          ∙ ap (λ (k : ℕ). length (f ∷ fs) + k) (sym (text_levels (block_text chomping ls)) ∙ ap value_levels (sym text));
     })
 
 -- the levels of an entry and of those after it
-deep_group : (n a b t es all : ℕ) → max n a ≡ n + t → max n b ≡ n + es → all ≡ max n (max a b) → max n all ≡ n + max t es
-deep_group n a b t es all x y z = omega (arith, x, y, z)
+deep_collection : (n a b t es all : ℕ) → max n a ≡ n + t → max n b ≡ n + es → all ≡ max n (max a b) → max n all ≡ n + max t es
+deep_collection n a b t es all x y z = omega (arith, x, y, z)
 
 deep_begun : (n a b t es all : ℕ) → max (suc n) a ≡ suc n + t → max (suc n) b ≡ suc n + es → all ≡ max (suc n) (max a b) → max n all ≡ n + (max t es + 1)
 deep_begun n a b t es all x y z = omega (arith, x, y, z)
@@ -163,10 +164,10 @@ mutual
         same = λ p h. refl;
         deep = ap (λ (ts : List Token). max (length (f ∷ fs)) (reach ts (place none (f ∷ fs)))) b ∙ max_least (length (f ∷ fs));
       }
-  complete_below (group es) r toks f fs e b = opened es b.0 r toks f fs e b.1 b.2 b.3
+  complete_below (collection es) r toks f fs e b = opened es b.0 r toks f fs e b.1 b.2 b.3
 
-  opened : (es : Entries) (q r : ℕ) (toks : List Token) (f : Frame) (fs : List Frame) → f.rank ≡ r → r < q → IsFull es → Group q [] toks es
-      → Goes (place none (f ∷ fs)) toks (suc r) (group_node es) (f ∷ fs) (length (f ∷ fs)) (entry_levels es + 1)
+  opened : (es : Entries) (q r : ℕ) (toks : List Token) (f : Frame) (fs : List Frame) → f.rank ≡ r → r < q → IsFull es → AreEntries q [] toks es
+      → Goes (place none (f ∷ fs)) toks (suc r) (collection_node es) (f ∷ fs) (length (f ∷ fs)) (entry_levels es + 1)
   opened no_entries q r toks f fs e lt full g = absurd full
   opened (entry h t es) q r toks f fs e lt full g =
       let lt' : f.rank < q = omega arith in
@@ -174,36 +175,36 @@ mutual
       let m = place none (frame q (begun h) ∷ f ∷ fs) in
       let stepped = step_inside q h f fs lt' in
       let inner = complete_below t q g.0 (frame q (begun h)) (f ∷ fs) refl g.4 in
-      let rest = complete_group es q (h ∷ []) g.1 inner.at inner.cell (frame q (begun h)) (f ∷ fs) refl (tells_begun h) inner.same g.5 in
+      let rest = complete_collection es q (h ∷ []) g.1 inner.at inner.cell (frame q (begun h)) (f ∷ fs) refl (tells_begun h) inner.same g.5 in
       let reaches = then_reach s m inner.at (Begin q h) g.0 g.1 stepped inner.runs in
-      subst (λ (ts : List Token). Goes (place none (f ∷ fs)) ts (suc r) (group_node (entry h t es)) (f ∷ fs) (length (f ∷ fs)) (entry_levels (entry h t es) + 1)) (sym g.2)
+      subst (λ (ts : List Token). Goes (place none (f ∷ fs)) ts (suc r) (collection_node (entry h t es)) (f ∷ fs) (length (f ∷ fs)) (entry_levels (entry h t es) + 1)) (sym g.2)
       (record {
         at = rest.at;
         runs = then_runs s m inner.at (Begin q h) g.0 g.1 stepped inner.runs ∙ rest.runs;
-        cell = done (group_node (entry h t es));
+        cell = done (collection_node (entry h t es));
         means = refl;
         same = λ p le. rest.same p (omega arith) ∙ ap (λ (n : Node). settled p (done n) (f ∷ fs)) (ap (λ (n : Node). collected (begun h) n es) inner.means ∙ collected_begun h t es);
         deep = deep_begun (length (f ∷ fs)) (reach g.0 m) (reach g.1 inner.at) (levels t) (entry_levels es) _ inner.deep rest.deep reaches;
       })
 
-  complete_group : (es : Entries) (q : ℕ) (seen : List Head) (toks : List Token) (s : Place) (c : Cell) (f : Frame) (fs : List Frame)
-      → f.rank ≡ q → Tells f.part seen → ((p : ℕ) → p < suc q → settled p s.cell s.frames ≡ settled p c (f ∷ fs)) → Group q seen toks es
+  complete_collection : (es : Entries) (q : ℕ) (seen : List Head) (toks : List Token) (s : Place) (c : Cell) (f : Frame) (fs : List Frame)
+      → f.rank ≡ q → Tells f.part seen → ((p : ℕ) → p < suc q → settled p s.cell s.frames ≡ settled p c (f ∷ fs)) → AreEntries q seen toks es
       → Collects s toks q (collected f.part (cell_node c) es) fs (length (f ∷ fs)) (entry_levels es)
-  complete_group no_entries q seen toks s c f fs e tells same g =
+  complete_collection no_entries q seen toks s c f fs e tells same g =
       record {
         at = s;
         runs = ap (λ (ts : List Token). run ts s) g;
         same = λ p lt. same p (omega arith) ∙ settled_more p c f fs (omega arith) ∙ ap (λ (n : Node). settled p (done n) fs) (sym (collected_none f.part (cell_node c)));
         deep = ap (λ (ts : List Token). max (length (f ∷ fs)) (reach ts s)) g ∙ max_least (length (f ∷ fs));
       }
-  complete_group (entry h t es) q seen toks s c f fs e tells same g =
+  complete_collection (entry h t es) q seen toks s c f fs e tells same g =
       let new : fits h f.part ≡ true = tells h ∙ g.3 in
       let at : settled f.rank s.cell s.frames ≡ settled f.rank c (f ∷ fs) = same f.rank (omega arith) in
       let f' = frame f.rank (next h f.part (cell_node c)) in
       let m = place none (f' ∷ fs) in
       let stepped = step_next h s c f fs at new in
       let inner = complete_below t q g.0 f' fs e g.4 in
-      let rest = complete_group es q (seen ++ h ∷ []) g.1 inner.at inner.cell f' fs e (tells_next h f.part (cell_node c) seen tells g.3) inner.same g.5 in
+      let rest = complete_collection es q (seen ++ h ∷ []) g.1 inner.at inner.cell f' fs e (tells_next h f.part (cell_node c) seen tells g.3) inner.same g.5 in
       let reaches = then_reach s m inner.at (Begin f.rank h) g.0 g.1 stepped inner.runs in
       let toks_are : ((Begin f.rank h ∷ g.0) ++ g.1) ≡ toks = ap (λ (k : ℕ). (Begin k h ∷ g.0) ++ g.1) e ∙ sym g.2 in
       subst (λ (ts : List Token). Collects s ts q (collected f.part (cell_node c) (entry h t es)) fs (length (f ∷ fs)) (entry_levels (entry h t es))) toks_are
@@ -211,7 +212,7 @@ mutual
         at = rest.at;
         runs = then_runs s m inner.at (Begin f.rank h) g.0 g.1 stepped inner.runs ∙ rest.runs;
         same = λ p lt. rest.same p lt ∙ ap (λ (n : Node). settled p (done n) fs) (ap (λ (n : Node). collected (next h f.part (cell_node c)) n es) inner.means ∙ collected_next h f.part (cell_node c) t es new);
-        deep = deep_group (length (f ∷ fs)) (reach g.0 m) (reach g.1 inner.at) (levels t) (entry_levels es) _ inner.deep rest.deep reaches;
+        deep = deep_collection (length (f ∷ fs)) (reach g.0 m) (reach g.1 inner.at) (levels t) (entry_levels es) _ inner.deep rest.deep reaches;
       })
 
 deep_root : (a b t es all : ℕ) → max 1 a ≡ 1 + t → max 1 b ≡ 1 + es → all ≡ max 1 (max a b) → all ≡ max t es + 1
@@ -231,19 +232,19 @@ begins_at q h lt = ap (λ (w : Bool). cond w (Some (place none (frame q (begun h
 pub complete : (t : Tree) (toks : List Token) → Layout toks t → Reads toks t
 complete (leaf v) toks h = absurd h.0
 complete empty toks h = absurd h.0
-complete (group no_entries) toks w = absurd w.1.2
-complete (group (entry h t es)) toks w =
+complete (collection no_entries) toks w = absurd w.1.2
+complete (collection (entry h t es)) toks w =
     let b = w.1 in
     let g = b.3 in
     let q = b.0 in
     let m = place none (frame q (begun h) ∷ []) in
     let stepped = begins_at q h b.1 in
     let inner = complete_below t q g.0 (frame q (begun h)) [] refl g.4 in
-    let rest = complete_group es q (h ∷ []) g.1 inner.at inner.cell (frame q (begun h)) [] refl (tells_begun h) inner.same g.5 in
+    let rest = complete_collection es q (h ∷ []) g.1 inner.at inner.cell (frame q (begun h)) [] refl (tells_begun h) inner.same g.5 in
     let reaches = then_reach start m inner.at (Begin q h) g.0 g.1 stepped inner.runs in
-    let is : settled 0 rest.at.cell rest.at.frames ≡ place (done (group_node (entry h t es))) [] =
+    let is : settled 0 rest.at.cell rest.at.frames ≡ place (done (collection_node (entry h t es))) [] =
     rest.same 0 b.1 ∙ ap (λ (n : Node). place (done n) []) (ap (λ (n : Node). collected (begun h) n es) inner.means ∙ collected_begun h t es) in
-    subst (λ (ts : List Token). Reads ts (group (entry h t es))) (sym g.2)
+    subst (λ (ts : List Token). Reads ts (collection (entry h t es))) (sym g.2)
     (record {
       at = rest.at;
       runs = then_runs start m inner.at (Begin q h) g.0 g.1 stepped inner.runs ∙ rest.runs;

@@ -4,14 +4,16 @@ use Rattle.std.proofs.lemmas.Bool.{eqb-true, ne_eqb}
 use Rattle.std.proofs.lemmas.List.{append-nil}
 use Rattle.std.specs.List.{list_all}
 use Rattle.lq_tree.specs.declared.node.Node.{Node, Text as TextNode}
+use Rattle.lq_yaml.specs.declared.token.Chomping.{Chomping}
+use Rattle.lq_yaml.specs.declared.token.Chomping.TheVariants.{Clip, Strip}
 use Rattle.lq_yaml.specs.declared.token.Head.TheVariants.{Dash, Key}
 use Rattle.lq_yaml.specs.declared.token.Token.{Token}
-use Rattle.lq_yaml.specs.declared.token.Token.TheVariants.{Begin, Value, Bar}
+use Rattle.lq_yaml.specs.declared.token.Token.TheVariants.{Begin, Value, LiteralHeader}
 use Rattle.lq_yaml.specs.Chars.{is_blank, unless_last}
 use Rattle.lq_yaml.specs.Scan.{trimmed, begins_with, is_word_end, without_blanks}
 use Rattle.lq_yaml.specs.Line.{is_end, colon, value_if, scalar_token, behind_pair, header, value_by, value_token, value_tokens, behind_key, entry_by, entry_tokens, is_dash, tokens_at}
 use Rattle.lq_yaml.specs.Line.{key as key_of}
-use Rattle.lq_yaml.specs.Made.{spaced, IsTail, IsPlainTail, IsValue, empty_list, empty_map, quoted, plain, keeping, stripping, IsEntry, value, key, pair, IsContent, entry, dash, item}
+use Rattle.lq_yaml.specs.Made.{spaced, IsTail, IsPlainTail, IsValue, empty_list, empty_map, quoted, plain, clipping, stripping, IsEntry, value, key, pair, IsContent, entry, dash, item}
 use Rattle.lq_yaml.specs.MadeLaws.{IsStop, IsFront, in_single, in_double, as_plain, ContentsAreFound}
 use Rattle.lq_yaml.specs.Scalar.{Front, front, scalar_node, plain_front, plain_text, plain_length, is_plain}
 use Rattle.lq_yaml.specs.Meaning.{plain_node, is_mark}
@@ -138,16 +140,16 @@ pair_is j k (c ∷ d ∷ cs) rest is =
     let b = both_of (c == j) (d == k) h.0 in
     ap (λ (i : ℕ). i ∷ d ∷ cs) (eqb-true c j b.0) ∙ ap (λ (i : ℕ). j ∷ i ∷ cs) (eqb-true d k b.1) ∙ ap (λ (l : List ℕ). j ∷ k ∷ l) h.1
 
-header_is : (rank : ℕ) (x : List ℕ) (keep : Bool) (token : Token) → header x ≡ Some keep → Bar rank keep ≡ token → IsValue rank x token
-header_is rank [] keep token is same = absurd cc
-header_is rank (c ∷ []) keep token is same =
-    let h = only_true (c == 124) true keep is in
-    keeping (ap (λ (i : ℕ). i ∷ []) (eqb-true c 124 h.0)) (sym same ∙ ap (λ (b : Bool). Bar rank b) (sym h.1))
-header_is rank (c ∷ d ∷ []) keep token is same =
-    let h = only_true (c == 124 && d == 45) false keep is in
+header_is : (rank : ℕ) (x : List ℕ) (chomping : Chomping) (token : Token) → header x ≡ Some chomping → LiteralHeader rank chomping ≡ token → IsValue rank x token
+header_is rank [] chomping token is same = absurd cc
+header_is rank (c ∷ []) chomping token is same =
+    let h = only_true (c == 124) Clip chomping is in
+    clipping (ap (λ (i : ℕ). i ∷ []) (eqb-true c 124 h.0)) (sym same ∙ ap (λ (k : Chomping). LiteralHeader rank k) (sym h.1))
+header_is rank (c ∷ d ∷ []) chomping token is same =
+    let h = only_true (c == 124 && d == 45) Strip chomping is in
     let b = both_of (c == 124) (d == 45) h.0 in
-    stripping (ap (λ (i : ℕ). i ∷ d ∷ []) (eqb-true c 124 b.0) ∙ ap (λ (i : ℕ). 124 ∷ i ∷ []) (eqb-true d 45 b.1)) (sym same ∙ ap (λ (b : Bool). Bar rank b) (sym h.1))
-header_is rank (c ∷ d ∷ e ∷ cs) keep token is same = absurd cc
+    stripping (ap (λ (i : ℕ). i ∷ d ∷ []) (eqb-true c 124 b.0) ∙ ap (λ (i : ℕ). 124 ∷ i ∷ []) (eqb-true d 45 b.1)) (sym same ∙ ap (λ (k : Chomping). LiteralHeader rank k) (sym h.1))
+header_is rank (c ∷ d ∷ e ∷ cs) chomping token is same = absurd cc
 
 scalar_text : (f : Front) → f.plain ≡ false → scalar_node f ≡ TextNode (encode_utf8_all f.chars)
 scalar_text f is = rw is refl
@@ -184,7 +186,7 @@ scalar_by rank x token f whole (as_plain gap is p h stop plainly) ends same =
     plain f.chars (gap ++ f.rest) is p (plain_tail f.chars gap f.rest p h stop ends (subst Ended is whole))
     (sym same ∙ ap (λ (v : Node). Value rank v) (scalar_plain f plainly))
 
-value_found_by : (rank c : ℕ) (cs : List ℕ) (token : Token) (a b : Option (List ℕ)) (h : Option Bool) → is_blank c ≡ false → Ended (c ∷ cs)
+value_found_by : (rank c : ℕ) (cs : List ℕ) (token : Token) (a b : Option (List ℕ)) (h : Option Chomping) → is_blank c ≡ false → Ended (c ∷ cs)
     → behind_pair 91 93 (c ∷ cs) ≡ a → behind_pair 123 125 (c ∷ cs) ≡ b → header (c ∷ cs) ≡ h → value_by rank (c ∷ cs) a b h ≡ Some token → IsValue rank (c ∷ cs) token
 value_found_by rank c cs token (Some rest) b h dark whole ea eb eh is =
     let k = only_true (is_end rest) _ token is in
@@ -192,7 +194,7 @@ value_found_by rank c cs token (Some rest) b h dark whole ea eb eh is =
 value_found_by rank c cs token None (Some rest) h dark whole ea eb eh is =
     let k = only_true (is_end rest) _ token is in
     empty_map rest (pair_is 123 125 (c ∷ cs) rest eb) (tail_is rest k.0) (sym k.1)
-value_found_by rank c cs token None None (Some keep) dark whole ea eb eh is = let same : Bar rank keep ≡ token = cc in header_is rank (c ∷ cs) keep token eh same
+value_found_by rank c cs token None None (Some chomping) dark whole ea eb eh is = let same : LiteralHeader rank chomping ≡ token = cc in header_is rank (c ∷ cs) chomping token eh same
 value_found_by rank c cs token None None None dark whole ea eb eh is =
     let x = then_of (λ f. value_if rank (scalar_node f) f.rest) (front (c ∷ cs)) token is in
     let k = only_true (is_end x.0.rest) _ token x.2 in
@@ -289,7 +291,7 @@ only_scalar rank c cs a b h =
     let x = c ∷ cs in
     ap (λ (o : Option (List ℕ)). value_by rank x o (behind_pair 123 125 x) (header x)) (pair_none 91 93 c cs a)
     ∙ ap (λ (o : Option (List ℕ)). value_by rank x None o (header x)) (pair_none 123 125 c cs b)
-    ∙ ap (λ (o : Option Bool). value_by rank x None None o) (header_none c cs h)
+    ∙ ap (λ (o : Option Chomping). value_by rank x None None o) (header_none c cs h)
 
 no_key : (x : List ℕ) → front x ≡ None → key_of x ≡ None
 no_key x is = ap (λ (o : Option Front). option_and_then (λ f. option_map {U = List ℕ × List ℕ} (λ rest. (f.chars, rest)) (colon (without_blanks f.rest))) o) is
@@ -330,7 +332,7 @@ first_value rank text token (empty_list tail is h at) = record { first = 91; res
 first_value rank text token (empty_map tail is h at) = record { first = 123; rest = _; is = is; dark = refl; words = refl }
 first_value rank text token (quoted scalar tail chars is q h at) = first_more scalar tail text is (first_quoted scalar chars q)
 first_value rank text token (plain scalar tail is p h at) = first_more scalar tail text is (first_plain scalar p)
-first_value rank text token (keeping is at) = record { first = 124; rest = _; is = is; dark = refl; words = refl }
+first_value rank text token (clipping is at) = record { first = 124; rest = _; is = is; dark = refl; words = refl }
 first_value rank text token (stripping is at) = record { first = 124; rest = _; is = is; dark = refl; words = refl }
 
 first_entry : (column : ℕ) (text : List ℕ) (tokens : List Token) → IsEntry column text tokens → First text
@@ -484,7 +486,7 @@ reads rank x token (empty_map tail is t at) =
 reads rank x token (quoted scalar tail chars is q t at) = reads_quoted rank x scalar tail chars token is q t at
 reads rank x token (plain scalar tail is p (inl e) at) = reads_plain rank x scalar [] [] token (is ∙ ap (λ (l : List ℕ). scalar ++ l) e) p refl tt refl refl at
 reads rank x token (plain scalar tail is p (inr h) at) = reads_plain rank x scalar h.0 (32 ∷ 35 ∷ h.1) token (is ∙ ap (λ (l : List ℕ). scalar ++ l) h.2) p h.3 refl refl refl at
-reads rank x token (keeping is at) = reads_at rank x _ token is (ap (λ (t : Token). Some t) (sym at), no_key (124 ∷ []) (mark_none 124 [] refl refl refl refl refl))
+reads rank x token (clipping is at) = reads_at rank x _ token is (ap (λ (t : Token). Some t) (sym at), no_key (124 ∷ []) (mark_none 124 [] refl refl refl refl refl))
 reads rank x token (stripping is at) = reads_at rank x _ token is (ap (λ (t : Token). Some t) (sym at), no_key (124 ∷ 45 ∷ []) (mark_none 124 (45 ∷ []) refl refl refl refl refl))
 
 gap_no_quote : (gap rest : List ℕ) → AreBlanks gap → begins_with 39 (gap ++ 58 ∷ rest) ≡ false
@@ -557,7 +559,7 @@ value_no_dash rank x token (empty_list tail is h at) = other_first x 91 _ is ref
 value_no_dash rank x token (empty_map tail is h at) = other_first x 123 _ is refl
 value_no_dash rank x token (quoted scalar tail chars is q h at) = quoted_no_dash x scalar tail chars is q
 value_no_dash rank x token (plain scalar tail is p h at) = plain_no_dash x scalar tail p is
-value_no_dash rank x token (keeping is at) = other_first x 124 _ is refl
+value_no_dash rank x token (clipping is at) = other_first x 124 _ is refl
 value_no_dash rank x token (stripping is at) = other_first x 124 _ is refl
 
 key_no_dash : (x name more chars : List ℕ) → x ≡ name ++ more → IsKey name chars → NoDash x

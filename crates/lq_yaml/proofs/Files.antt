@@ -13,7 +13,7 @@ use Rattle.lq_tree.specs.declared.node.Node.{Node}
 use Rattle.lq_yaml.specs.declared.fault.YamlFault.{YamlFault}
 use Rattle.lq_yaml.specs.declared.fault.YamlFault.TheVariants.{NotUtf8, Line, TooDeep, OutOfMemory}
 use Rattle.lq_yaml.specs.declared.mode.Mode.{Mode}
-use Rattle.lq_yaml.specs.declared.mode.Mode.TheVariants.{Fresh, Between, Headed, Within}
+use Rattle.lq_yaml.specs.declared.mode.Mode.TheVariants.{Fresh, Between, AfterHeader, InLiteral}
 use Rattle.lq_yaml.specs.declared.token.Head.TheVariants.{Dash}
 use Rattle.lq_yaml.specs.declared.token.Token.{Token}
 use Rattle.lq_yaml.specs.declared.token.Token.TheVariants.{Begin}
@@ -89,8 +89,8 @@ one_tree ls t u a b =
 dash_line : (m : Mode) → line_tokens m (45 ∷ []) ≡ Some (Begin 2 Dash ∷ [], Between 0)
 dash_line Fresh = refl
 dash_line (Between p) = refl
-dash_line (Headed p) = rw (not_above p 0 (omega arith)) refl
-dash_line (Within p b) = rw (not_above p 0 (omega arith)) refl
+dash_line (AfterHeader p) = rw (not_above p 0 (omega arith)) refl
+dash_line (InLiteral p b) = rw (not_above p 0 (omega arith)) refl
 
 -- some layout begins so, as deep as was counted or of one level
 pub record Begun (ls : List (List ℕ)) (deepest : ℕ) : Type 0 where

@@ -4,14 +4,14 @@ use Rattle.std.proofs.lemmas.Bool.{eqb-true, ltb-true, ltb-false, leb-true, leb-
 use Rattle.std.proofs.lemmas.List.{append-nil, length-replicate, replicate-append-replicate}
 use Rattle.std.proofs.Math.Seq.{drop-append_seam}
 use Rattle.lq_yaml.specs.declared.mode.Mode.{Mode}
-use Rattle.lq_yaml.specs.declared.mode.Mode.TheVariants.{Fresh, Between, Headed, Within}
+use Rattle.lq_yaml.specs.declared.mode.Mode.TheVariants.{Fresh, Between, AfterHeader, InLiteral}
 use Rattle.lq_yaml.specs.declared.token.Token.{Token}
-use Rattle.lq_yaml.specs.declared.token.Token.TheVariants.{Raw}
+use Rattle.lq_yaml.specs.declared.token.Token.TheVariants.{LiteralLine}
 use Rattle.lq_yaml.specs.Chars.{is_blank, is_nil}
 use Rattle.lq_yaml.specs.Scan.{trimmed, begins_with, spaces, without_spaces, without_blanks}
-use Rattle.lq_yaml.specs.Layout.{raws}
+use Rattle.lq_yaml.specs.Layout.{literal_lines}
 use Rattle.lq_yaml.specs.Line.{Lexed, tokens_at, base_of, parent_of, without_block, blank_tokens, is_marker, mode_after, has_tab, line_by, line_tokens, tokens_of}
-use Rattle.lq_yaml.specs.Made.{spaced, IsValue, empty_list, empty_map, quoted, plain, keeping, stripping, IsEntry, value, key, pair, IsContent, entry, dash, item, IsLine, IsComment, IsSkipped, IsMarker, column_after, opens_block, HasIndent, IsBase, IsBlockLine, AreBlockLines, EndsBlock, AreLines, no_lines, skipped, with_tokens, with_block, AreSkipped, IsUnmarked, IsFile, marked, unmarked}
+use Rattle.lq_yaml.specs.Made.{spaced, IsValue, empty_list, empty_map, quoted, plain, clipping, stripping, IsEntry, value, key, pair, IsContent, entry, dash, item, IsLine, IsComment, IsSkipped, IsMarker, column_after, opens_block, HasIndent, IsBlockIndent, IsBlockLine, AreBlockLines, EndsBlock, AreLines, no_lines, skipped, with_tokens, with_block, AreSkipped, IsUnmarked, IsFile, marked, unmarked}
 use Rattle.lq_yaml.specs.MadeLaws.{FilesAreFound, LinesMeanOne}
 use Rattle.lq_yaml.specs.Written.{AreBlanks, BeginsWith}
 use Rattle.lq_yaml.proofs.ContentForms.{split, passed, all_passed, none_passed, begun_with, first_content, content_read, content_written}
@@ -154,7 +154,7 @@ marker_read l h =
 -- ---- the mode after a line
 
 abbrev pub mode_of : Bool → ℕ → Mode
-mode_of true column = Headed column
+mode_of true column = AfterHeader column
 mode_of false column = Between column
 
 abbrev Moves : List Token → Type 0
@@ -165,7 +165,7 @@ moves_value rank x token (empty_list tail is h at) = subst (λ (t : Token). Move
 moves_value rank x token (empty_map tail is h at) = subst (λ (t : Token). Moves (t ∷ [])) (sym at) (λ p. refl)
 moves_value rank x token (quoted scalar tail chars is q h at) = subst (λ (t : Token). Moves (t ∷ [])) (sym at) (λ p. refl)
 moves_value rank x token (plain scalar tail is q h at) = subst (λ (t : Token). Moves (t ∷ [])) (sym at) (λ p. refl)
-moves_value rank x token (keeping is at) = subst (λ (t : Token). Moves (t ∷ [])) (sym at) (λ p. refl)
+moves_value rank x token (clipping is at) = subst (λ (t : Token). Moves (t ∷ [])) (sym at) (λ p. refl)
 moves_value rank x token (stripping is at) = subst (λ (t : Token). Moves (t ∷ [])) (sym at) (λ p. refl)
 
 moves_entry : (column : ℕ) (x : List ℕ) (ts : List Token) → IsEntry column x ts → Moves ts
@@ -256,8 +256,8 @@ ends_as : (m : Mode) (column : ℕ) (l : List ℕ) → without_block m ≡ Betwe
     → line_tokens m l ≡ line_tokens (Between column) l
 ends_as Fresh column l w p some at = absurd cc
 ends_as (Between q) column l w p some at = ap (λ (k : ℕ). line_tokens (Between k) l) p
-ends_as (Headed q) column l w p some at = rw (some, at, p) refl
-ends_as (Within q b) column l w p some at = rw (some, at, p) refl
+ends_as (AfterHeader q) column l w p some at = rw (some, at, p) refl
+ends_as (InLiteral q b) column l w p some at = rw (some, at, p) refl
 
 below : (base n : ℕ) (y l : List ℕ) → l ≡ spaced (base + n) ++ y → BeginsWith (spaced base) l
 below base n y l is = (spaced n ++ y, is ∙ ap (λ (r : List ℕ). r ++ y) (sym (replicate-append-replicate base n 32)) ∙ append_assoc (spaced base) (spaced n) y)
@@ -274,23 +274,23 @@ fewer base l less = false_from_ne_true (nat_le base (spaces l)) (λ t. less (has
 not_nil : (l : List ℕ) → (AreBlanks l → ⊥) → is_nil (without_blanks l) ≡ false
 not_nil l h = false_from_ne_true (is_nil (without_blanks l)) (λ t. h (blank_found l t))
 
-ended_headed : (column : ℕ) (rest : List (List ℕ)) → EndsBlock (column + 1) rest → tokens_of (Headed column) rest ≡ tokens_of (Between column) rest
-ended_headed column [] h = refl
-ended_headed column (l ∷ ls) h =
+ended_after_header : (column : ℕ) (rest : List (List ℕ)) → EndsBlock (column + 1) rest → tokens_of (AfterHeader column) rest ≡ tokens_of (Between column) rest
+ended_after_header column [] h = refl
+ended_after_header column (l ∷ ls) h =
     let less = leb-false (column + 1) (spaces l) (fewer (column + 1) l h.1) in
     let none : nat_lt column (spaces l) ≡ false = false_from_ne_true (nat_lt column (spaces l)) (λ t. absurd (omega (arith, ltb-true column (spaces l) t, less))) in
-    let same = ends_as (Headed column) column l refl refl (not_nil l h.0) (rw none refl) in
+    let same = ends_as (AfterHeader column) column l refl refl (not_nil l h.0) (rw none refl) in
     ap (λ (o : Option Lexed). option_and_then (λ x. option_map (λ ts. x.0 ++ ts) (tokens_of x.1 ls)) o) same
 
 no_and : (a b : Bool) → b ≡ false → (a && b) ≡ false
 no_and true b is = is
 no_and false b is = refl
 
-ended_within : (column base : ℕ) (rest : List (List ℕ)) → EndsBlock base rest → tokens_of (Within column base) rest ≡ tokens_of (Between column) rest
-ended_within column base [] h = refl
-ended_within column base (l ∷ ls) h =
+ended_in_literal : (column base : ℕ) (rest : List (List ℕ)) → EndsBlock base rest → tokens_of (InLiteral column base) rest ≡ tokens_of (Between column) rest
+ended_in_literal column base [] h = refl
+ended_in_literal column base (l ∷ ls) h =
     let none : (nat_lt column (spaces l) && nat_le base (spaces l)) ≡ false = no_and (nat_lt column (spaces l)) (nat_le base (spaces l)) (fewer base l h.1) in
-    let same = ends_as (Within column base) column l refl refl (not_nil l h.0) (rw none refl) in
+    let same = ends_as (InLiteral column base) column l refl refl (not_nil l h.0) (rw none refl) in
     ap (λ (o : Option Lexed). option_and_then (λ x. option_map (λ ts. x.0 ++ ts) (tokens_of x.1 ls)) o) same
 
 -- what stands behind the indent of a block's line
@@ -312,8 +312,8 @@ in_block l chars text base n is h at =
     let t = told l (base + n) h.0 h.1 whole h.3 in
     record { some = t.some; tab = t.tab; far = omega (arith, t.count); is = ap encode_utf8_all (dropped base l chars is) ∙ sym at }
 
-by_block : (m : Mode) (l text : List ℕ) (base : ℕ) → InBlock l base text → base_of m (spaces l) ≡ Some base → line_tokens m l ≡ Some (Raw text ∷ [], Within (parent_of m) base)
-by_block m l text base k at = rw (k.some, at, k.tab) (ap (λ (t : List ℕ). Some (Raw t ∷ [], Within (parent_of m) base)) k.is)
+by_block : (m : Mode) (l text : List ℕ) (base : ℕ) → InBlock l base text → base_of m (spaces l) ≡ Some base → line_tokens m l ≡ Some (LiteralLine text ∷ [], InLiteral (parent_of m) base)
+by_block m l text base k at = rw (k.some, at, k.tab) (ap (λ (t : List ℕ). Some (LiteralLine t ∷ [], InLiteral (parent_of m) base)) k.is)
 
 blank_indent : (l : List ℕ) (n : ℕ) → AreBlanks l → HasIndent n l → ⊥
 blank_indent l n blank h =
@@ -326,36 +326,36 @@ blank_block l chars base n blank is h =
     let bad : true ≡ false = sym (blank_line l blank) ∙ (in_block l chars (encode_utf8_all chars) base n is h refl).some in
     absurd cc
 
-within_written : (column base : ℕ) (block texts rest : List (List ℕ)) (more : List Token) → column < base → AreBlockLines base block texts → EndsBlock base rest
-    → tokens_of (Between column) rest ≡ Some more → tokens_of (Within column base) (block ++ rest) ≡ Some (raws texts ++ more)
-within_written column base [] texts rest more lt h ends is = ended_within column base rest ends ∙ is ∙ ap (λ (l : List (List ℕ)). Some (raws l ++ more)) (sym h)
-within_written column base (l ∷ block) texts rest more lt (text, others, at, inl (blank, none), h) ends is =
-    after_line (Within column base) (Within column base) l (block ++ rest) (Raw [] ∷ []) (raws others ++ more) (by_blank (Within column base) l blank) (within_written column base block others rest more lt h ends is)
-    ∙ ap (λ (t : List ℕ). Some (Raw t ∷ (raws others ++ more))) (sym none) ∙ ap (λ (l : List (List ℕ)). Some (raws l ++ more)) (sym at)
-within_written column base (l ∷ block) texts rest more lt (text, others, at, inr (n, chars, apart, indent, means), h) ends is =
+in_literal_written : (column base : ℕ) (block texts rest : List (List ℕ)) (more : List Token) → column < base → AreBlockLines base block texts → EndsBlock base rest
+    → tokens_of (Between column) rest ≡ Some more → tokens_of (InLiteral column base) (block ++ rest) ≡ Some (literal_lines texts ++ more)
+in_literal_written column base [] texts rest more lt h ends is = ended_in_literal column base rest ends ∙ is ∙ ap (λ (l : List (List ℕ)). Some (literal_lines l ++ more)) (sym h)
+in_literal_written column base (l ∷ block) texts rest more lt (text, others, at, inl (blank, none), h) ends is =
+    after_line (InLiteral column base) (InLiteral column base) l (block ++ rest) (LiteralLine [] ∷ []) (literal_lines others ++ more) (by_blank (InLiteral column base) l blank) (in_literal_written column base block others rest more lt h ends is)
+    ∙ ap (λ (t : List ℕ). Some (LiteralLine t ∷ (literal_lines others ++ more))) (sym none) ∙ ap (λ (l : List (List ℕ)). Some (literal_lines l ++ more)) (sym at)
+in_literal_written column base (l ∷ block) texts rest more lt (text, others, at, inr (n, chars, apart, indent, means), h) ends is =
     let k = in_block l chars text base n apart indent means in
     let far : nat_lt column (spaces l) ≡ true = lt-ltb column (spaces l) (omega (arith, lt, k.far)) in
     let deep : nat_le base (spaces l) ≡ true = le-leb base (spaces l) k.far in
-    after_line (Within column base) (Within column base) l (block ++ rest) (Raw text ∷ []) (raws others ++ more) (by_block (Within column base) l text base k (rw (far, deep) refl))
-    (within_written column base block others rest more lt h ends is)
-    ∙ ap (λ (l : List (List ℕ)). Some (raws l ++ more)) (sym at)
+    after_line (InLiteral column base) (InLiteral column base) l (block ++ rest) (LiteralLine text ∷ []) (literal_lines others ++ more) (by_block (InLiteral column base) l text base k (rw (far, deep) refl))
+    (in_literal_written column base block others rest more lt h ends is)
+    ∙ ap (λ (l : List (List ℕ)). Some (literal_lines l ++ more)) (sym at)
 
-block_written : (column base : ℕ) (block texts rest : List (List ℕ)) (more : List Token) → IsBase column base block → AreBlockLines base block texts → EndsBlock base rest
-    → tokens_of (Between column) rest ≡ Some more → tokens_of (Headed column) (block ++ rest) ≡ Some (raws texts ++ more)
+block_written : (column base : ℕ) (block texts rest : List (List ℕ)) (more : List Token) → IsBlockIndent column base block → AreBlockLines base block texts → EndsBlock base rest
+    → tokens_of (Between column) rest ≡ Some more → tokens_of (AfterHeader column) (block ++ rest) ≡ Some (literal_lines texts ++ more)
 block_written column base [] texts rest more b h ends is =
-    ended_headed column rest (subst (λ (k : ℕ). EndsBlock k rest) b ends) ∙ is ∙ ap (λ (l : List (List ℕ)). Some (raws l ++ more)) (sym h)
+    ended_after_header column rest (subst (λ (k : ℕ). EndsBlock k rest) b ends) ∙ is ∙ ap (λ (l : List (List ℕ)). Some (literal_lines l ++ more)) (sym h)
 block_written column base (l ∷ block) texts rest more (inl b) (text, others, at, inl (blank, none), h) ends is =
-    after_line (Headed column) (Headed column) l (block ++ rest) (Raw [] ∷ []) (raws others ++ more) (by_blank (Headed column) l blank) (block_written column base block others rest more b.1 h ends is)
-    ∙ ap (λ (t : List ℕ). Some (Raw t ∷ (raws others ++ more))) (sym none) ∙ ap (λ (l : List (List ℕ)). Some (raws l ++ more)) (sym at)
+    after_line (AfterHeader column) (AfterHeader column) l (block ++ rest) (LiteralLine [] ∷ []) (literal_lines others ++ more) (by_blank (AfterHeader column) l blank) (block_written column base block others rest more b.1 h ends is)
+    ∙ ap (λ (t : List ℕ). Some (LiteralLine t ∷ (literal_lines others ++ more))) (sym none) ∙ ap (λ (l : List (List ℕ)). Some (literal_lines l ++ more)) (sym at)
 block_written column base (l ∷ block) texts rest more (inl b) (text, others, at, inr (n, chars, apart, indent, means), h) ends is = absurd (blank_block l chars base n b.0 apart indent)
 block_written column base (l ∷ block) texts rest more (inr b) (text, others, at, inl (blank, none), h) ends is = absurd (blank_indent l base blank b.0)
 block_written column base (l ∷ block) texts rest more (inr b) (text, others, at, inr (n, chars, apart, indent, means), h) ends is =
     let k = in_block l chars text base n apart indent means in
     let t = told l base b.0.0 b.0.1 b.0.2 b.0.3 in
     let far : nat_lt column (spaces l) ≡ true = lt-ltb column (spaces l) (omega (arith, b.1, k.far)) in
-    after_line (Headed column) (Within column base) l (block ++ rest) (Raw text ∷ []) (raws others ++ more)
-    (by_block (Headed column) l text base k (rw far (ap (λ (n : ℕ). Some n) t.count))) (within_written column base block others rest more b.1 h ends is)
-    ∙ ap (λ (l : List (List ℕ)). Some (raws l ++ more)) (sym at)
+    after_line (AfterHeader column) (InLiteral column base) l (block ++ rest) (LiteralLine text ∷ []) (literal_lines others ++ more)
+    (by_block (AfterHeader column) l text base k (rw far (ap (λ (n : ℕ). Some n) t.count))) (in_literal_written column base block others rest more b.1 h ends is)
+    ∙ ap (λ (l : List (List ℕ)). Some (literal_lines l ++ more)) (sym at)
 
 lines_written : {column : ℕ} {lines : List (List ℕ)} {tokens : List Token} → AreLines column lines tokens → tokens_of (Between column) lines ≡ Some tokens
 lines_written {column} {lines} {tokens} (no_lines none empty) = ap (tokens_of (Between column)) none ∙ ap (λ (l : List Token). Some l) (sym empty)
@@ -367,7 +367,7 @@ lines_written {column} {lines} {tokens} (with_tokens l own rest more is at h clo
     ∙ ap (λ (l : List Token). Some l) (sym at)
 lines_written {column} {lines} {tokens} (with_block l own base block texts rest more is at h opened b are ends after) =
     ap (tokens_of (Between column)) is
-    ∙ after_line (Between column) (Headed (column_after column own)) l (block ++ rest) own (raws texts ++ more) (by_tokens column l own h ∙ ap (λ (b : Bool). Some (own, mode_of b (column_after column own))) opened)
+    ∙ after_line (Between column) (AfterHeader (column_after column own)) l (block ++ rest) own (literal_lines texts ++ more) (by_tokens column l own h ∙ ap (λ (b : Bool). Some (own, mode_of b (column_after column own))) opened)
     (block_written (column_after column own) base block texts rest more b are ends (lines_written after))
     ∙ ap (λ (l : List Token). Some l) (sym at)
 
@@ -402,7 +402,7 @@ pub record Blocked (column base : ℕ) (lines : List (List ℕ)) (tokens : List 
   pub rest : List (List ℕ)
   pub more : List Token
   pub lines_are : lines ≡ block ++ rest
-  pub tokens_are : tokens ≡ raws texts ++ more
+  pub tokens_are : tokens ≡ literal_lines texts ++ more
   pub are : AreBlockLines base block texts
   pub ends : EndsBlock base rest
   pub after : AreLines column rest more
@@ -411,11 +411,11 @@ pub record Blocked (column base : ℕ) (lines : List (List ℕ)) (tokens : List 
 abbrev Made : Mode → List (List ℕ) → List Token → Type 0
 Made Fresh lines tokens = IsFile lines tokens
 Made (Between column) lines tokens = AreLines column lines tokens
-Made (Headed column) lines tokens = (base : ℕ) × (k : Blocked column base lines tokens) × IsBase column base k.block
-Made (Within column base) lines tokens = Blocked column base lines tokens
+Made (AfterHeader column) lines tokens = (base : ℕ) × (k : Blocked column base lines tokens) × IsBlockIndent column base k.block
+Made (InLiteral column base) lines tokens = Blocked column base lines tokens
 
 abbrev Valid : Mode → Type 0
-Valid (Within column base) = column < base
+Valid (InLiteral column base) = column < base
 Valid _ = Unit {0}
 
 abbrev Later : List (List ℕ) → Type 0
@@ -455,7 +455,7 @@ opened_by : (column : ℕ) (l : List ℕ) (ls : List (List ℕ)) (x : Lexed) (ts
 opened_by column l ls x ts tokens false closed line at is all h =
     with_tokens l x.0 ls ts refl (sym all) line closed (later_at ls x.1 (Between (column_after column x.0)) ts h tt at is)
 opened_by column l ls x ts tokens true opened line at is all h =
-    let k = later_at ls x.1 (Headed (column_after column x.0)) ts h tt at is in
+    let k = later_at ls x.1 (AfterHeader (column_after column x.0)) ts h tt at is in
     with_block l x.0 k.0 k.1.block k.1.texts k.1.rest k.1.more (ap (λ (r : List (List ℕ)). l ∷ r) k.1.lines_are) (sym all ∙ ap (λ (r : List Token). x.0 ++ r) k.1.tokens_are) line opened k.2
     k.1.are k.1.ends k.1.after
 
@@ -469,14 +469,14 @@ open_step column l ls x ts tokens (inr s) is all h =
 
 -- ---- a line of a block
 
-abbrev block_more : (column base : ℕ) (l text : List ℕ) (ls : List (List ℕ)) (ts : List Token) → IsBlockLine base l text → Blocked column base ls ts → Blocked column base (l ∷ ls) (Raw text ∷ ts)
+abbrev block_more : (column base : ℕ) (l text : List ℕ) (ls : List (List ℕ)) (ts : List Token) → IsBlockLine base l text → Blocked column base ls ts → Blocked column base (l ∷ ls) (LiteralLine text ∷ ts)
 block_more column base l text ls ts line k = record {
   block = l ∷ k.block;
   texts = text ∷ k.texts;
   rest = k.rest;
   more = k.more;
   lines_are = ap (λ (r : List (List ℕ)). l ∷ r) k.lines_are;
-  tokens_are = ap (λ (r : List Token). Raw text ∷ r) k.tokens_are;
+  tokens_are = ap (λ (r : List Token). LiteralLine text ∷ r) k.tokens_are;
   are = (text, k.texts, refl, line, k.are);
   ends = k.ends;
   after = k.after;
@@ -506,29 +506,29 @@ block_line base l some tab le =
 abbrev Own : List Token → Mode → Lexed
 Own own m = (own, m)
 
-headed_by : (column : ℕ) (l : List ℕ) (ls : List (List ℕ)) (x : Lexed) (ts tokens : List Token) (blank far tab : Bool) → line_tokens (Headed column) l ≡ Some x
+after_header_by : (column : ℕ) (l : List ℕ) (ls : List (List ℕ)) (x : Lexed) (ts tokens : List Token) (blank far tab : Bool) → line_tokens (AfterHeader column) l ≡ Some x
     → is_nil (without_blanks l) ≡ blank → nat_lt column (spaces l) ≡ far → has_tab l ≡ tab
-    → (if blank then Some (Own (Raw [] ∷ []) (Headed column)) else (cond far (if tab then None else Some (Own (Raw (encode_utf8_all (drop (spaces l) l)) ∷ []) (Within column (spaces l))))
-    (line_by (Headed column) l None))) ≡ Some x
-    → tokens_of x.1 ls ≡ Some ts → x.0 ++ ts ≡ tokens → Later ls → Made (Headed column) (l ∷ ls) tokens
-headed_by column l ls x ts tokens true far tab orig is_blank is_far has is on all h =
-    let same : Own (Raw [] ∷ []) (Headed column) ≡ x = cc in
-    let k = later_at ls x.1 (Headed column) ts h tt (sym (ap (λ (y : Lexed). y.1) same)) on in
+    → (if blank then Some (Own (LiteralLine [] ∷ []) (AfterHeader column)) else (cond far (if tab then None else Some (Own (LiteralLine (encode_utf8_all (drop (spaces l) l)) ∷ []) (InLiteral column (spaces l))))
+    (line_by (AfterHeader column) l None))) ≡ Some x
+    → tokens_of x.1 ls ≡ Some ts → x.0 ++ ts ≡ tokens → Later ls → Made (AfterHeader column) (l ∷ ls) tokens
+after_header_by column l ls x ts tokens true far tab orig is_blank is_far has is on all h =
+    let same : Own (LiteralLine [] ∷ []) (AfterHeader column) ≡ x = cc in
+    let k = later_at ls x.1 (AfterHeader column) ts h tt (sym (ap (λ (y : Lexed). y.1) same)) on in
     let blank = blank_found l is_blank in
-    subst (λ (tokens : List Token). Made (Headed column) (l ∷ ls) tokens) (ap (λ (y : Lexed). y.0 ++ ts) same ∙ all)
+    subst (λ (tokens : List Token). Made (AfterHeader column) (l ∷ ls) tokens) (ap (λ (y : Lexed). y.0 ++ ts) same ∙ all)
     (k.0, block_more column k.0 l [] ls ts (inl (blank, refl)) k.1, inl (blank, k.2))
-headed_by column l ls x ts tokens false true true orig is_blank is_far has is on all h = absurd cc
-headed_by column l ls x ts tokens false true false orig is_blank is_far has is on all h =
+after_header_by column l ls x ts tokens false true true orig is_blank is_far has is on all h = absurd cc
+after_header_by column l ls x ts tokens false true false orig is_blank is_far has is on all h =
     let base = spaces l in
-    let same : Own (Raw (encode_utf8_all (drop base l)) ∷ []) (Within column base) ≡ x = cc in
+    let same : Own (LiteralLine (encode_utf8_all (drop base l)) ∷ []) (InLiteral column base) ≡ x = cc in
     let lt : column < base = ltb-true column base is_far in
-    let k = later_at ls x.1 (Within column base) ts h lt (sym (ap (λ (y : Lexed). y.1) same)) on in
+    let k = later_at ls x.1 (InLiteral column base) ts h lt (sym (ap (λ (y : Lexed). y.1) same)) on in
     let i = indented l is_blank has in
-    subst (λ (tokens : List Token). Made (Headed column) (l ∷ ls) tokens) (ap (λ (y : Lexed). y.0 ++ ts) same ∙ all)
+    subst (λ (tokens : List Token). Made (AfterHeader column) (l ∷ ls) tokens) (ap (λ (y : Lexed). y.0 ++ ts) same ∙ all)
     (base, block_more column base l (encode_utf8_all (drop base l)) ls ts (block_line base l is_blank has (omega arith)) k, inr ((i.first, i.rest, indent_is l i, i.dark), lt))
-headed_by column l ls x ts tokens false false tab orig is_blank is_far has is on all h =
+after_header_by column l ls x ts tokens false false tab orig is_blank is_far has is on all h =
     let le : spaces l ≤ column = ltb-false column (spaces l) is_far in
-    let at : line_tokens (Between column) l ≡ Some x = sym (ends_as (Headed column) column l refl refl is_blank (rw is_far refl)) ∙ orig in
+    let at : line_tokens (Between column) l ≡ Some x = sym (ends_as (AfterHeader column) column l refl refl is_blank (rw is_far refl)) ∙ orig in
     let lines = open_step column l ls x ts tokens (open_found column l x at) on all h in
     (column + 1, block_ends column (column + 1) (l ∷ ls) tokens (line_ends (column + 1) l ls is_blank (omega (arith, le))) lines, refl)
 
@@ -540,25 +540,25 @@ less_than column base n lt is = below_by (nat_lt column n) (nat_le base n) refl 
     below_by true false ea eb h = leb-false base n eb
     below_by false b ea eb h = let le : n ≤ column = ltb-false column n ea in omega arith
 
-within_by : (column base : ℕ) (l : List ℕ) (ls : List (List ℕ)) (x : Lexed) (ts tokens : List Token) (blank far tab : Bool) → column < base → line_tokens (Within column base) l ≡ Some x
+in_literal_by : (column base : ℕ) (l : List ℕ) (ls : List (List ℕ)) (x : Lexed) (ts tokens : List Token) (blank far tab : Bool) → column < base → line_tokens (InLiteral column base) l ≡ Some x
     → is_nil (without_blanks l) ≡ blank → (nat_lt column (spaces l) && nat_le base (spaces l)) ≡ far → has_tab l ≡ tab
-    → (if blank then Some (Own (Raw [] ∷ []) (Within column base)) else (cond far (if tab then None else Some (Own (Raw (encode_utf8_all (drop base l)) ∷ []) (Within column base)))
-    (line_by (Within column base) l None))) ≡ Some x
+    → (if blank then Some (Own (LiteralLine [] ∷ []) (InLiteral column base)) else (cond far (if tab then None else Some (Own (LiteralLine (encode_utf8_all (drop base l)) ∷ []) (InLiteral column base)))
+    (line_by (InLiteral column base) l None))) ≡ Some x
     → tokens_of x.1 ls ≡ Some ts → x.0 ++ ts ≡ tokens → Later ls → Blocked column base (l ∷ ls) tokens
-within_by column base l ls x ts tokens true far tab lt orig is_blank is_far has is on all h =
-    let same : Own (Raw [] ∷ []) (Within column base) ≡ x = cc in
-    let k = later_at ls x.1 (Within column base) ts h lt (sym (ap (λ (y : Lexed). y.1) same)) on in
+in_literal_by column base l ls x ts tokens true far tab lt orig is_blank is_far has is on all h =
+    let same : Own (LiteralLine [] ∷ []) (InLiteral column base) ≡ x = cc in
+    let k = later_at ls x.1 (InLiteral column base) ts h lt (sym (ap (λ (y : Lexed). y.1) same)) on in
     subst (λ (tokens : List Token). Blocked column base (l ∷ ls) tokens) (ap (λ (y : Lexed). y.0 ++ ts) same ∙ all)
     (block_more column base l [] ls ts (inl (blank_found l is_blank, refl)) k)
-within_by column base l ls x ts tokens false true true lt orig is_blank is_far has is on all h = absurd cc
-within_by column base l ls x ts tokens false true false lt orig is_blank is_far has is on all h =
-    let same : Own (Raw (encode_utf8_all (drop base l)) ∷ []) (Within column base) ≡ x = cc in
-    let k = later_at ls x.1 (Within column base) ts h lt (sym (ap (λ (y : Lexed). y.1) same)) on in
+in_literal_by column base l ls x ts tokens false true true lt orig is_blank is_far has is on all h = absurd cc
+in_literal_by column base l ls x ts tokens false true false lt orig is_blank is_far has is on all h =
+    let same : Own (LiteralLine (encode_utf8_all (drop base l)) ∷ []) (InLiteral column base) ≡ x = cc in
+    let k = later_at ls x.1 (InLiteral column base) ts h lt (sym (ap (λ (y : Lexed). y.1) same)) on in
     let le : base ≤ spaces l = leb-true base (spaces l) (both_of (nat_lt column (spaces l)) (nat_le base (spaces l)) is_far).1 in
     subst (λ (tokens : List Token). Blocked column base (l ∷ ls) tokens) (ap (λ (y : Lexed). y.0 ++ ts) same ∙ all)
     (block_more column base l (encode_utf8_all (drop base l)) ls ts (block_line base l is_blank has le) k)
-within_by column base l ls x ts tokens false false tab lt orig is_blank is_far has is on all h =
-    let at : line_tokens (Between column) l ≡ Some x = sym (ends_as (Within column base) column l refl refl is_blank (rw is_far refl)) ∙ orig in
+in_literal_by column base l ls x ts tokens false false tab lt orig is_blank is_far has is on all h =
+    let at : line_tokens (Between column) l ≡ Some x = sym (ends_as (InLiteral column base) column l refl refl is_blank (rw is_far refl)) ∙ orig in
     let lines = open_step column l ls x ts tokens (open_found column l x at) on all h in
     block_ends column base (l ∷ ls) tokens (line_ends base l ls is_blank (less_than column base (spaces l) lt is_far)) lines
 
@@ -607,18 +607,18 @@ one_step : (m : Mode) (l : List ℕ) (ls : List (List ℕ)) (x : Lexed) (ts toke
 one_step Fresh l ls x ts tokens valid is on all h =
     fresh_by l ls x ts tokens (is_nil (without_blanks l)) (begins_with 35 (without_blanks l)) (has_tab l) (is_marker Fresh (spaces l) (trimmed (without_spaces l))) is refl refl refl refl is on all h
 one_step (Between column) l ls x ts tokens valid is on all h = open_step column l ls x ts tokens (open_found column l x is) on all h
-one_step (Headed column) l ls x ts tokens valid is on all h =
-    headed_by column l ls x ts tokens (is_nil (without_blanks l)) (nat_lt column (spaces l)) (has_tab l) is refl refl refl
-    (ap (λ (o : Option Lexed). if is_nil (without_blanks l) then Some (Own (Raw [] ∷ []) (Headed column)) else o) (sym (by_cond (Headed column) l (spaces l) (nat_lt column (spaces l)))) ∙ is) on all h
-one_step (Within column base) l ls x ts tokens valid is on all h =
-    within_by column base l ls x ts tokens (is_nil (without_blanks l)) (nat_lt column (spaces l) && nat_le base (spaces l)) (has_tab l) valid is refl refl refl
-    (ap (λ (o : Option Lexed). if is_nil (without_blanks l) then Some (Own (Raw [] ∷ []) (Within column base)) else o) (sym (by_cond (Within column base) l base (nat_lt column (spaces l) && nat_le base (spaces l)))) ∙ is) on all h
+one_step (AfterHeader column) l ls x ts tokens valid is on all h =
+    after_header_by column l ls x ts tokens (is_nil (without_blanks l)) (nat_lt column (spaces l)) (has_tab l) is refl refl refl
+    (ap (λ (o : Option Lexed). if is_nil (without_blanks l) then Some (Own (LiteralLine [] ∷ []) (AfterHeader column)) else o) (sym (by_cond (AfterHeader column) l (spaces l) (nat_lt column (spaces l)))) ∙ is) on all h
+one_step (InLiteral column base) l ls x ts tokens valid is on all h =
+    in_literal_by column base l ls x ts tokens (is_nil (without_blanks l)) (nat_lt column (spaces l) && nat_le base (spaces l)) (has_tab l) valid is refl refl refl
+    (ap (λ (o : Option Lexed). if is_nil (without_blanks l) then Some (Own (LiteralLine [] ∷ []) (InLiteral column base)) else o) (sym (by_cond (InLiteral column base) l base (nat_lt column (spaces l) && nat_le base (spaces l)))) ∙ is) on all h
 
 no_more : (m : Mode) (tokens : List Token) → [] ≡ tokens → Made m [] tokens
 no_more Fresh tokens is = unmarked [] [] refl tt tt (no_lines refl (sym is))
 no_more (Between column) tokens is = no_lines refl (sym is)
-no_more (Headed column) tokens is = (column + 1, block_ends column (column + 1) [] tokens tt (no_lines refl (sym is)), refl)
-no_more (Within column base) tokens is = block_ends column base [] tokens tt (no_lines refl (sym is))
+no_more (AfterHeader column) tokens is = (column + 1, block_ends column (column + 1) [] tokens tt (no_lines refl (sym is)), refl)
+no_more (InLiteral column base) tokens is = block_ends column base [] tokens tt (no_lines refl (sym is))
 
 made : (ls : List (List ℕ)) (m : Mode) (tokens : List Token) → Valid m → tokens_of m ls ≡ Some tokens → Made m ls tokens
 made [] m tokens valid is = let same : [] ≡ tokens = cc in no_more m tokens same

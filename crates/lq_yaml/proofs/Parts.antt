@@ -8,7 +8,7 @@ use Rattle.lq_base.specs.Text.{text_cmp, is_text}
 use Rattle.lq_tree.specs.declared.node.Node.{Node, List as ListNode, Map as MapNode}
 use Rattle.lq_yaml.specs.declared.token.Head.{Head}
 use Rattle.lq_yaml.specs.declared.token.Head.TheVariants.{Dash, Key}
-use Rattle.lq_yaml.specs.Tree.{Tree, Entries, no_entries, entry, node_of, group_node, items_of, put_all}
+use Rattle.lq_yaml.specs.Tree.{Tree, Entries, no_entries, entry, node_of, collection_node, items_of, put_all}
 use Rattle.lq_yaml.specs.Layout.{goes_with, goes_with_all}
 use Rattle.lq_yaml.specs.Machine.{Part, items, entries, begun, fits, filled, next}
 
@@ -101,7 +101,7 @@ pub collected_none : (p : Part) (n : Node) → collected p n no_entries ≡ fill
 collected_none (items ns) n = refl
 collected_none (entries among k) n = refl
 
-pub collected_begun : (h : Head) (t : Tree) (es : Entries) → collected (begun h) (node_of t) es ≡ group_node (entry h t es)
+pub collected_begun : (h : Head) (t : Tree) (es : Entries) → collected (begun h) (node_of t) es ≡ collection_node (entry h t es)
 collected_begun Dash t es = refl
 collected_begun (Key k) t es = refl
 

@@ -2,7 +2,7 @@
 use Rattle.std.proofs.Common.{◌≡◌, ℕ, ◌≤◌, ◌+◌, max, length, arith, List, [], ◌∷◌, ◌++◌, Option, Some, None, option_and_then, option_map, refl, sym, ap, ◌∙◌}
 use Rattle.lq_yaml.specs.declared.mode.Mode.{Mode}
 use Rattle.lq_yaml.specs.declared.token.Token.{Token}
-use Rattle.lq_yaml.specs.declared.token.Token.TheVariants.{Begin, Value, Bar, Raw}
+use Rattle.lq_yaml.specs.declared.token.Token.TheVariants.{Begin, Value, LiteralHeader, LiteralLine}
 use Rattle.lq_yaml.specs.Deep.{Deep, deep, own_levels, deeper, deep_step, deep_run}
 use Rattle.lq_yaml.specs.Line.{Lexed, line_tokens, tokens_of}
 use Rattle.lq_yaml.specs.LineMachine.{State, state, line_step, run_lines}
@@ -19,8 +19,8 @@ plus_zero k n = omega arith
 deeper_is : (k : ℕ) (t : Token) (n : Place) → deeper k (length n.frames) (own_levels t) ≡ max k (level_at t n)
 deeper_is k (Begin q h) n = plus_zero k (length n.frames)
 deeper_is k (Value q v) n = refl
-deeper_is k (Bar q keep) n = max_zero k
-deeper_is k (Raw l) n = max_zero k
+deeper_is k (LiteralHeader q chomping) n = max_zero k
+deeper_is k (LiteralLine l) n = max_zero k
 
 abbrev pub deepened : ℕ → ℕ → Option Place → Option Deep
 deepened k reached o = option_map (λ p. deep p (max k reached)) o

@@ -4,9 +4,9 @@ use Rattle.std.proofs.lemmas.List.{append-nil}
 use Rattle.lq_tree.specs.declared.node.Node.{Node, Text as TextNode}
 use Rattle.lq_yaml.specs.declared.token.Head.{Head}
 use Rattle.lq_yaml.specs.declared.token.Token.{Token}
-use Rattle.lq_yaml.specs.declared.token.Token.TheVariants.{Begin, Value, Bar, Raw}
-use Rattle.lq_yaml.specs.Tree.{Tree, leaf, empty, group, Entries, no_entries, entry, node_of, group_node}
-use Rattle.lq_yaml.specs.Layout.{goes_with_all, IsFull, Inside, Group, IsGroup, Layout, block_text, raws}
+use Rattle.lq_yaml.specs.declared.token.Token.TheVariants.{Begin, Value, LiteralHeader, LiteralLine}
+use Rattle.lq_yaml.specs.Tree.{Tree, leaf, empty, collection, Entries, no_entries, entry, node_of, collection_node}
+use Rattle.lq_yaml.specs.Layout.{goes_with_all, IsFull, Inside, AreEntries, IsCollection, Layout, block_text, literal_lines}
 use Rattle.lq_yaml.specs.Machine.{Frame, Place, Cell, none, done, block, place, start, cell_node, begun, fits, filled, next, frame, top, again, settled, put, open_more, add_line, made, step, run, finish}
 use Rattle.lq_yaml.proofs.Parts.{Tells, tells_begun, tells_next, collected, collected_none, collected_begun, collected_next}
 use Rattle.lq_yaml.proofs.Complete.{complete}
@@ -15,14 +15,14 @@ use Rattle.lq_yaml.proofs.Complete.{complete}
 pub record Whole (q : ℕ) (toks : List Token) (node : Node) : Type 0 where
   pub entries : Entries
   pub full : IsFull entries
-  pub stands : Group q [] toks entries
-  pub means : group_node entries ≡ node
+  pub stands : AreEntries q [] toks entries
+  pub means : collection_node entries ≡ node
 
 -- whatever stands behind the open head, and the entries after it, complete the collection
 pub record Parts (f : Frame) (mine : List Token) : Type 0 where
   pub seen : List Head
   pub tells : Tells f.part seen
-  pub completes : (a b : List Token) (t : Tree) (es : Entries) → Inside f.rank a t → Group f.rank seen b es → Whole f.rank (mine ++ (a ++ b)) (collected f.part (node_of t) es)
+  pub completes : (a b : List Token) (t : Tree) (es : Entries) → Inside f.rank a t → AreEntries f.rank seen b es → Whole f.rank (mine ++ (a ++ b)) (collected f.part (node_of t) es)
 
 abbrev pub Open : List Frame → List Token → Type 0
 Open [] toks = toks ≡ []
@@ -30,7 +30,7 @@ Open (f ∷ fs) toks = (before mine : List Token) × (toks ≡ before ++ mine) �
 
 -- outside of all collections stands a collection
 abbrev pub Rooted : List Frame → Tree → Type 0
-Rooted [] t = IsGroup t
+Rooted [] t = IsCollection t
 Rooted (f ∷ fs) t = Unit {0}
 
 abbrev pub Within : List Frame → Type 0
@@ -41,7 +41,7 @@ Within (f ∷ fs) = Unit {0}
 abbrev pub FilledBy : List Frame → List Token → Cell → Type 0
 FilledBy fs inner none = inner ≡ []
 FilledBy fs inner (done n) = (t : Tree) × (node_of t ≡ n) × Inside (top fs) inner t × Rooted fs t
-FilledBy fs inner (block keep ls) = (q : ℕ) × (top fs < q) × (inner ≡ Bar q keep ∷ raws ls) × Within fs
+FilledBy fs inner (block chomping ls) = (q : ℕ) × (top fs < q) × (inner ≡ LiteralHeader q chomping ∷ literal_lines ls) × Within fs
 
 -- the tree behind the innermost open head
 record Behind (r : ℕ) (inner : List Token) (c : Cell) : Type 0 where
@@ -52,7 +52,7 @@ record Behind (r : ℕ) (inner : List Token) (c : Cell) : Type 0 where
 behind : (fs : List Frame) (inner : List Token) (c : Cell) → FilledBy fs inner c → Behind (top fs) inner c
 behind fs inner none h = record { tree = empty; means = refl; stands = h }
 behind fs inner (done n) h = record { tree = h.0; means = h.1; stands = h.2 }
-behind fs inner (block keep ls) h = record { tree = leaf (TextNode (block_text keep ls)); means = refl; stands = (h.0, h.1, inr (keep, ls, h.2, refl)) }
+behind fs inner (block chomping ls) h = record { tree = leaf (TextNode (block_text chomping ls)); means = refl; stands = (h.0, h.1, inr (chomping, ls, h.2, refl)) }
 
 -- the tokens are those up to the innermost open head, and those of what stands behind it
 pub record Stands (c : Cell) (fs : List Frame) (toks : List Token) : Type 0 where
@@ -62,9 +62,9 @@ pub record Stands (c : Cell) (fs : List Frame) (toks : List Token) : Type 0 wher
   pub opens : Open fs before
   pub filled_by : FilledBy fs inner c
 
-rooted_group : (es : Entries) (fs : List Frame) → Rooted fs (group es)
-rooted_group es [] = tt
-rooted_group es (f ∷ fs) = tt
+rooted_collection : (es : Entries) (fs : List Frame) → Rooted fs (collection es)
+rooted_collection es [] = tt
+rooted_collection es (f ∷ fs) = tt
 
 -- the innermost collection is closed
 closed : (c : Cell) (f : Frame) (fs : List Frame) (toks : List Token) → Stands c (f ∷ fs) toks → Stands (done (filled f.part (cell_node c))) fs toks
@@ -78,10 +78,10 @@ closed c f fs toks s =
       whole = s.whole ∙ ap (λ (l : List Token). l ++ s.inner) o.2 ∙ append_assoc o.0 o.1 s.inner;
       opens = o.3;
       filled_by = (
-        group w.entries,
+        collection w.entries,
         w.means ∙ ap (λ (n : Node). collected f.part n no_entries) x.means ∙ collected_none f.part (cell_node c),
-        (f.rank, o.4, w.full, subst (λ (l : List Token). Group f.rank [] (o.1 ++ l) w.entries) (append-nil s.inner) w.stands),
-        rooted_group w.entries fs,
+        (f.rank, o.4, w.full, subst (λ (l : List Token). AreEntries f.rank [] (o.1 ++ l) w.entries) (append-nil s.inner) w.stands),
+        rooted_collection w.entries fs,
       );
     }
 
@@ -124,7 +124,7 @@ opened q h none fs toks n s lt is =
       filled_by = refl;
     })
 opened q h (done t) fs toks n s lt is = absurd cc
-opened q h (block keep ls) fs toks n s lt is = absurd cc
+opened q h (block chomping ls) fs toks n s lt is = absurd cc
 
 parts_next : (h : Head) (c : Cell) (f : Frame) (fs : List Frame) (mine inner : List Token) → Parts f mine → FilledBy (f ∷ fs) inner c → fits h f.part ≡ true
     → Parts (frame f.rank (next h f.part (cell_node c))) ((mine ++ inner) ++ Begin f.rank h ∷ [])
@@ -140,7 +140,7 @@ parts_next h c f fs mine inner p filled_by new =
           record {
             entries = w.entries;
             full = w.full;
-            stands = subst (λ (l : List Token). Group f.rank [] l w.entries) regroup w.stands;
+            stands = subst (λ (l : List Token). AreEntries f.rank [] l w.entries) regroup w.stands;
             means = w.means ∙ ap (λ (n : Node). collected f.part n (entry h t es)) x.means ∙ sym (collected_next h f.part (cell_node c) t es new);
           };
     }
@@ -189,35 +189,35 @@ put_all : (q : ℕ) (k : Token) (v : Cell) (c : Cell) (fs : List Frame) (toks : 
 put_all q k v none [] toks n fill s is = absurd cc
 put_all q k v none (f ∷ fs) toks n fill s is = put_by q k v f fs toks n (fill f fs) s (nat_lt f.rank q) refl is
 put_all q k v (done t) fs toks n fill s is = absurd cc
-put_all q k v (block keep ls) fs toks n fill s is = absurd cc
+put_all q k v (block chomping ls) fs toks n fill s is = absurd cc
 
-raws_snoc : (ls : List (List ℕ)) (l : List ℕ) → raws (ls ++ l ∷ []) ≡ raws ls ++ Raw l ∷ []
-raws_snoc [] l = refl
-raws_snoc (m ∷ ls) l = ap (λ (ts : List Token). Raw m ∷ ts) (raws_snoc ls l)
+literal_lines_snoc : (ls : List (List ℕ)) (l : List ℕ) → literal_lines (ls ++ l ∷ []) ≡ literal_lines ls ++ LiteralLine l ∷ []
+literal_lines_snoc [] l = refl
+literal_lines_snoc (m ∷ ls) l = ap (λ (ts : List Token). LiteralLine m ∷ ts) (literal_lines_snoc ls l)
 
-added : (l : List ℕ) (c : Cell) (fs : List Frame) (toks : List Token) (n : Place) → Stands c fs toks → add_line l c fs ≡ Some n → Stands n.cell n.frames (toks ++ Raw l ∷ [])
+added : (l : List ℕ) (c : Cell) (fs : List Frame) (toks : List Token) (n : Place) → Stands c fs toks → add_line l c fs ≡ Some n → Stands n.cell n.frames (toks ++ LiteralLine l ∷ [])
 added l none fs toks n s is = absurd cc
 added l (done t) fs toks n s is = absurd cc
-added l (block keep ls) fs toks n s is =
-    let same : place (block keep (ls ++ l ∷ [])) fs ≡ n = cc in
+added l (block chomping ls) fs toks n s is =
+    let same : place (block chomping (ls ++ l ∷ [])) fs ≡ n = cc in
     let h = s.filled_by in
-    subst (λ (n : Place). Stands n.cell n.frames (toks ++ Raw l ∷ [])) same
+    subst (λ (n : Place). Stands n.cell n.frames (toks ++ LiteralLine l ∷ [])) same
     (record {
       before = s.before;
-      inner = s.inner ++ Raw l ∷ [];
-      whole = ap (λ (ts : List Token). ts ++ Raw l ∷ []) s.whole ∙ append_assoc s.before s.inner (Raw l ∷ []);
+      inner = s.inner ++ LiteralLine l ∷ [];
+      whole = ap (λ (ts : List Token). ts ++ LiteralLine l ∷ []) s.whole ∙ append_assoc s.before s.inner (LiteralLine l ∷ []);
       opens = s.opens;
-      filled_by = (h.0, h.1, ap (λ (ts : List Token). ts ++ Raw l ∷ []) h.2 ∙ ap (λ (ts : List Token). Bar h.0 keep ∷ ts) (sym (raws_snoc ls l)), h.3);
+      filled_by = (h.0, h.1, ap (λ (ts : List Token). ts ++ LiteralLine l ∷ []) h.2 ∙ ap (λ (ts : List Token). LiteralHeader h.0 chomping ∷ ts) (sym (literal_lines_snoc ls l)), h.3);
     })
 
 pub sound_step : (t : Token) (s n : Place) (toks : List Token) → Stands s.cell s.frames toks → step t s ≡ Some n → Stands n.cell n.frames (toks ++ t ∷ [])
 sound_step (Value q v) s n toks h is =
     let k = settles q s.cell s.frames toks h in
     put_all q (Value q v) (done v) _ _ toks n (λ f fs lt. (leaf v, refl, (q, lt, inl refl), tt)) k.stands is
-sound_step (Bar q keep) s n toks h is =
+sound_step (LiteralHeader q chomping) s n toks h is =
     let k = settles q s.cell s.frames toks h in
-    put_all q (Bar q keep) (block keep []) _ _ toks n (λ f fs lt. (q, lt, refl, tt)) k.stands is
-sound_step (Raw l) s n toks h is = added l s.cell s.frames toks n h is
+    put_all q (LiteralHeader q chomping) (block chomping []) _ _ toks n (λ f fs lt. (q, lt, refl, tt)) k.stands is
+sound_step (LiteralLine l) s n toks h is = added l s.cell s.frames toks n h is
 sound_step (Begin q d) s n toks h is =
     let k = settles q s.cell s.frames toks h in
     begin_by q d _ _ toks n k.stands k.below _ refl is
@@ -247,7 +247,7 @@ pub record Lays (toks : List Token) (node : Node) : Type 0 where
 -- at the end: all is closed
 ended : (c : Cell) (fs : List Frame) (toks : List Token) (n : Node) → Stands c fs toks → top fs ≤ 0 → made c ≡ Some n → Lays toks n
 ended none fs toks n s le is = absurd cc
-ended (block keep ls) fs toks n s le is = absurd cc
+ended (block chomping ls) fs toks n s le is = absurd cc
 ended (done m) (f ∷ fs) toks n s le is = absurd (omega (arith, s.opens.4))
 ended (done m) [] toks n s le is =
     let same : m ≡ n = cc in
@@ -260,9 +260,9 @@ ended (done m) [] toks n s le is =
 
 nothing : (c : Cell) (fs : List Frame) (toks : List Token) → Stands c fs toks → top fs ≤ 0 → made c ≡ None → toks ≡ []
 nothing none [] toks s le is = s.whole ∙ ap (λ (l : List Token). l ++ s.inner) s.opens ∙ s.filled_by
-nothing (block keep ls) [] toks s le is = absurd s.filled_by.3
+nothing (block chomping ls) [] toks s le is = absurd s.filled_by.3
 nothing none (f ∷ fs) toks s le is = absurd (omega (arith, s.opens.4))
-nothing (block keep ls) (f ∷ fs) toks s le is = absurd (omega (arith, s.opens.4))
+nothing (block chomping ls) (f ∷ fs) toks s le is = absurd (omega (arith, s.opens.4))
 nothing (done t) fs toks s le is = absurd cc
 
 -- what was read is laid out

@@ -12,19 +12,20 @@ use Rattle.lq_tree.specs.declared.node.Node.{Node, Null, Truth, Whole, Text as T
 use Rattle.lq_tree.specs.Tree.{rises, is_tree, IsTree}
 use Rattle.lq_yaml.specs.declared.fault.YamlFault.{YamlFault}
 use Rattle.lq_yaml.specs.declared.mode.Mode.{Mode}
-use Rattle.lq_yaml.specs.declared.mode.Mode.TheVariants.{Fresh, Between, Headed, Within}
+use Rattle.lq_yaml.specs.declared.mode.Mode.TheVariants.{Fresh, Between, AfterHeader, InLiteral}
+use Rattle.lq_yaml.specs.declared.token.Chomping.{Chomping}
 use Rattle.lq_yaml.specs.declared.token.Head.{Head}
 use Rattle.lq_yaml.specs.declared.token.Head.TheVariants.{Dash, Key}
 use Rattle.lq_yaml.specs.declared.token.Token.{Token}
-use Rattle.lq_yaml.specs.declared.token.Token.TheVariants.{Begin, Value, Raw}
+use Rattle.lq_yaml.specs.declared.token.Token.TheVariants.{Begin, Value, LiteralLine}
 use Rattle.lq_yaml.specs.Chars.{is_nil}
 use Rattle.lq_yaml.specs.Scan.{begins_with, spaces, trimmed, without_blanks, without_spaces}
 use Rattle.lq_yaml.specs.File.{IsRead}
-use Rattle.lq_yaml.specs.Layout.{Inside, Group, IsLeaf}
+use Rattle.lq_yaml.specs.Layout.{Inside, AreEntries, IsLeaf}
 use Rattle.lq_yaml.specs.Line.{Lexed, is_end, value_if, value_by, value_token, value_tokens, header, behind_pair, key, behind_key, entry_by, entry_tokens, is_dash, tokens_at, base_of, blank_tokens, is_marker, content_tokens, has_tab, line_by, line_tokens, mode_after, parent_of, without_block, tokens_of}
 use Rattle.lq_yaml.specs.Scalar.{Front, front, scalar_node}
 use Rattle.lq_yaml.specs.Meaning.{plain_node}
-use Rattle.lq_yaml.specs.Tree.{Tree, leaf, empty, group, Entries, no_entries, entry, node_of, group_node, items_of, put_all}
+use Rattle.lq_yaml.specs.Tree.{Tree, leaf, empty, collection, Entries, no_entries, entry, node_of, collection_node, items_of, put_all}
 use Rattle.lq_yaml.proofs.LineForms.{file_written}
 
 -- ---- entries in order
@@ -106,7 +107,7 @@ abbrev mutual
   pub Flat : Tree → Type 0
   Flat (leaf v) = is_tree v ≡ true
   Flat empty = Unit {0}
-  Flat (group es) = FlatAll es
+  Flat (collection es) = FlatAll es
 
   pub FlatAll : Entries → Type 0
   FlatAll no_entries = Unit {0}
@@ -116,12 +117,12 @@ mutual
   in_order : (t : Tree) → Flat t → is_tree (node_of t) ≡ true
   in_order (leaf v) h = h
   in_order empty h = null_is
-  in_order (group es) h = group_in_order es h
+  in_order (collection es) h = collection_in_order es h
 
-  group_in_order : (es : Entries) → FlatAll es → is_tree (group_node es) ≡ true
-  group_in_order no_entries h = list_is []
-  group_in_order (entry Dash t es) h = list_is (node_of t ∷ items_of es) ∙ both _ _ (in_order t h.0) (items_in_order es h.1)
-  group_in_order (entry (Key k) t es) h =
+  collection_in_order : (es : Entries) → FlatAll es → is_tree (collection_node es) ≡ true
+  collection_in_order no_entries h = list_is []
+  collection_in_order (entry Dash t es) h = list_is (node_of t ∷ items_of es) ∙ both _ _ (in_order t h.0) (items_in_order es h.1)
+  collection_in_order (entry (Key k) t es) h =
       let all = put_in_order es ((k, node_of t) ∷ []) (tt, in_order t h.0, tt) h.1 in
       map_is (put_all ((k, node_of t) ∷ []) es) ∙ both _ _ (rise_is _ all) (values_are _ all)
 
@@ -158,19 +159,19 @@ flat_back (t ∷ a) b h = flat_back a b h.1
 
 flat_leaf : (q : ℕ) (toks : List Token) (v : Node) → AreFlat toks → IsLeaf q toks v → is_tree v ≡ true
 flat_leaf q toks v h (inl is) = (subst (λ (l : List Token). AreFlat l) is h).0
-flat_leaf q toks v h (inr (keep, ls, is, text)) = ap is_tree text ∙ text_is _
+flat_leaf q toks v h (inr (chomping, ls, is, text)) = ap is_tree text ∙ text_is _
 
 mutual
   flat_inside : (t : Tree) (r : ℕ) (toks : List Token) → AreFlat toks → Inside r toks t → Flat t
   flat_inside (leaf v) r toks h b = flat_leaf b.0 toks v h b.2
   flat_inside empty r toks h b = tt
-  flat_inside (group es) r toks h b = flat_group es b.0 [] toks h b.3
+  flat_inside (collection es) r toks h b = flat_collection es b.0 [] toks h b.3
 
-  flat_group : (es : Entries) (q : ℕ) (before : List Head) (toks : List Token) → AreFlat toks → Group q before toks es → FlatAll es
-  flat_group no_entries q before toks h g = tt
-  flat_group (entry d t es) q before toks h g =
+  flat_collection : (es : Entries) (q : ℕ) (before : List Head) (toks : List Token) → AreFlat toks → AreEntries q before toks es → FlatAll es
+  flat_collection no_entries q before toks h g = tt
+  flat_collection (entry d t es) q before toks h g =
       let all : AreFlat ((Begin q d ∷ g.0) ++ g.1) = subst (λ (l : List Token). AreFlat l) g.2 h in
-      (flat_inside t q g.0 (flat_front g.0 g.1 all.1) g.4, flat_group es q (before ++ d ∷ []) g.1 (flat_back g.0 g.1 all.1) g.5)
+      (flat_inside t q g.0 (flat_front g.0 g.1 all.1) g.4, flat_collection es q (before ++ d ∷ []) g.1 (flat_back g.0 g.1 all.1) g.5)
 
 -- ---- and the tokens of lines are such
 
@@ -204,10 +205,10 @@ scalar_is f = choice f.plain _ _ (plain_is (encode_utf8_all f.chars)) (text_is (
 value_if_flat : (q : ℕ) (v : Node) (rest : List ℕ) → is_tree v ≡ true → IfSome (value_if q v rest) IsFlat
 value_if_flat q v rest h = either IsFlat (is_end rest) (Some (Value q v)) None h tt
 
-value_flat : (q : ℕ) (cs : List ℕ) (a b : Option (List ℕ)) (h : Option Bool) → IfSome (value_by q cs a b h) IsFlat
+value_flat : (q : ℕ) (cs : List ℕ) (a b : Option (List ℕ)) (h : Option Chomping) → IfSome (value_by q cs a b h) IsFlat
 value_flat q cs (Some rest) b h = value_if_flat q (ListNode []) rest (list_is [])
 value_flat q cs None (Some rest) h = value_if_flat q (MapNode []) rest (map_is [])
-value_flat q cs None None (Some keep) = tt
+value_flat q cs None None (Some chomping) = tt
 value_flat q cs None None None =
     then_some (λ _. Unit {0}) IsFlat (λ f. value_if q (scalar_node f) f.rest) (front cs) (λ f u. value_if_flat q (scalar_node f) f.rest (scalar_is f)) (any (front cs))
 
@@ -241,7 +242,7 @@ content_flat m column cs =
     (map_some AreFlat HasFlat (λ ts. (ts, mode_after (parent_of m) ts)) (tokens_at column cs) (λ ts h. h) (at_flat column cs))
 
 line_flat : (m : Mode) (cs : List ℕ) (base : Option ℕ) → IfSome (line_by m cs base) HasFlat
-line_flat m cs (Some base) = either HasFlat (has_tab cs) None (Some (Raw (encode_utf8_all (drop base cs)) ∷ [], Within (parent_of m) base)) tt (tt, tt)
+line_flat m cs (Some base) = either HasFlat (has_tab cs) None (Some (LiteralLine (encode_utf8_all (drop base cs)) ∷ [], InLiteral (parent_of m) base)) tt (tt, tt)
 line_flat m cs None =
     either HasFlat (begins_with 35 (without_blanks cs)) (Some ([], without_block m))
     (cond (has_tab cs) None (content_tokens (without_block m) (spaces cs) (trimmed (without_spaces cs)))) tt
@@ -250,8 +251,8 @@ line_flat m cs None =
 blank_flat : (m : Mode) → AreFlat (blank_tokens m)
 blank_flat Fresh = tt
 blank_flat (Between p) = tt
-blank_flat (Headed p) = (tt, tt)
-blank_flat (Within p b) = (tt, tt)
+blank_flat (AfterHeader p) = (tt, tt)
+blank_flat (InLiteral p b) = (tt, tt)
 
 lines_flat : (m : Mode) (ls : List (List ℕ)) → IfSome (tokens_of m ls) AreFlat
 lines_flat m [] = tt

@@ -1,11 +1,13 @@
 -- What the code computes of a line and of all lines of a file. `Made` says what these find (the laws `contents` and `tokens`), so they need not be believed.
 use Rattle.std.specs.Prelude.{ℕ, ◌+◌, ◌-◌, ◌*◌, ◌/◌, ◌==◌, ◌&&◌, nat_lt, nat_le, Bool, true, false, cond, if◌then◌else◌, List, [], ◌∷◌, ◌++◌, drop, Option, Some, None, option_map, option_and_then, encode_utf8_all}
 use Rattle.lq_tree.specs.declared.node.Node.{Node, List as ListNode, Map as MapNode}
+use Rattle.lq_yaml.specs.declared.token.Chomping.{Chomping}
+use Rattle.lq_yaml.specs.declared.token.Chomping.TheVariants.{Clip, Strip}
 use Rattle.lq_yaml.specs.declared.token.Head.TheVariants.{Dash, Key}
 use Rattle.lq_yaml.specs.declared.token.Token.{Token}
-use Rattle.lq_yaml.specs.declared.token.Token.TheVariants.{Begin, Value, Bar, Raw}
+use Rattle.lq_yaml.specs.declared.token.Token.TheVariants.{Begin, Value, LiteralHeader, LiteralLine}
 use Rattle.lq_yaml.specs.declared.mode.Mode.{Mode}
-use Rattle.lq_yaml.specs.declared.mode.Mode.TheVariants.{Fresh, Between, Headed, Within}
+use Rattle.lq_yaml.specs.declared.mode.Mode.TheVariants.{Fresh, Between, AfterHeader, InLiteral}
 use Rattle.lq_yaml.specs.Chars.{is_blank, is_nil}
 use Rattle.lq_yaml.specs.Scan.{spaces, without_spaces, without_blanks, trimmed, begins_with, is_word_end}
 use Rattle.lq_yaml.specs.Scalar.{front, scalar_node}
@@ -32,16 +34,16 @@ abbrev pub behind_pair : ℕ → ℕ → List ℕ → Option (List ℕ)
 behind_pair first second (c ∷ d ∷ cs) = cond (c == first && d == second) (Some cs) None
 behind_pair first second _ = None
 
--- the header of a block, `|` or `|-`, and whether the last line feed is kept
-abbrev pub header : List ℕ → Option Bool
-header (c ∷ []) = cond (c == 124) (Some true) None
-header (c ∷ d ∷ []) = cond (c == 124 && d == 45) (Some false) None
+-- the header of a literal block, `|` or `|-`: its chomping
+abbrev pub header : List ℕ → Option Chomping
+header (c ∷ []) = cond (c == 124) (Some Clip) None
+header (c ∷ d ∷ []) = cond (c == 124 && d == 45) (Some Strip) None
 header _ = None
 
-abbrev pub value_by : ℕ → List ℕ → Option (List ℕ) → Option (List ℕ) → Option Bool → Option Token
+abbrev pub value_by : ℕ → List ℕ → Option (List ℕ) → Option (List ℕ) → Option Chomping → Option Token
 value_by q cs (Some rest) _ _ = value_if q (ListNode []) rest
 value_by q cs None (Some rest) _ = value_if q (MapNode []) rest
-value_by q cs None None (Some keep) = Some (Bar q keep)
+value_by q cs None None (Some chomping) = Some (LiteralHeader q chomping)
 value_by q cs None None None = scalar_token q cs
 
 -- a value in its line: `[]`, `{}`, the header of a block, or a scalar
@@ -84,16 +86,16 @@ tokens_at column (c ∷ cs) =
 
 -- how far the lines of the block that stands open are indented, if a line of that indent is one of them
 abbrev pub base_of : Mode → ℕ → Option ℕ
-base_of (Headed parent) indent = cond (nat_lt parent indent) (Some indent) None
-base_of (Within parent base) indent = cond (nat_lt parent indent && nat_le base indent) (Some base) None
+base_of (AfterHeader parent) indent = cond (nat_lt parent indent) (Some indent) None
+base_of (InLiteral parent base) indent = cond (nat_lt parent indent && nat_le base indent) (Some base) None
 base_of _ indent = None
 
 -- the column of the innermost collection
 abbrev pub parent_of : Mode → ℕ
 parent_of Fresh = 0
 parent_of (Between parent) = parent
-parent_of (Headed parent) = parent
-parent_of (Within parent base) = parent
+parent_of (AfterHeader parent) = parent
+parent_of (InLiteral parent base) = parent
 
 -- no block is open
 abbrev pub without_block : Mode → Mode
@@ -102,8 +104,8 @@ without_block m = Between (parent_of m)
 
 -- a blank line is an empty line of an open block, and else none
 abbrev pub blank_tokens : Mode → List Token
-blank_tokens (Headed parent) = Raw [] ∷ []
-blank_tokens (Within parent base) = Raw [] ∷ []
+blank_tokens (AfterHeader parent) = LiteralLine [] ∷ []
+blank_tokens (InLiteral parent base) = LiteralLine [] ∷ []
 blank_tokens _ = []
 
 -- `---`, before all others
@@ -115,7 +117,7 @@ is_marker _ _ _ = false
 abbrev pub mode_after : ℕ → List Token → Mode
 mode_after parent [] = Between parent
 mode_after parent (Begin rank h ∷ ts) = mode_after ((rank - 1) / 2) ts
-mode_after parent (Bar rank keep ∷ ts) = Headed parent
+mode_after parent (LiteralHeader rank chomping ∷ ts) = AfterHeader parent
 mode_after parent (t ∷ ts) = mode_after parent ts
 
 abbrev pub Lexed : Type 0
@@ -131,7 +133,7 @@ abbrev pub has_tab : List ℕ → Bool
 has_tab cs = begins_with 9 (without_spaces cs)
 
 abbrev pub line_by : Mode → List ℕ → Option ℕ → Option Lexed
-line_by m cs (Some base) = if has_tab cs then None else Some (Raw (encode_utf8_all (drop base cs)) ∷ [], Within (parent_of m) base)
+line_by m cs (Some base) = if has_tab cs then None else Some (LiteralLine (encode_utf8_all (drop base cs)) ∷ [], InLiteral (parent_of m) base)
 line_by m cs None =
     if begins_with 35 (without_blanks cs) then Some ([], without_block m)
     else (if has_tab cs then None else content_tokens (without_block m) (spaces cs) (trimmed (without_spaces cs)))

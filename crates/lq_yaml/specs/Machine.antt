@@ -4,10 +4,11 @@ use Rattle.std.specs.BTreeMap.{insert_entry, is_at}
 use Rattle.std.specs.Map.{lookup}
 use Rattle.lq_base.specs.Text.{text_cmp, is_text}
 use Rattle.lq_tree.specs.declared.node.Node.{Node, Null, Text as TextNode, List as ListNode, Map as MapNode}
+use Rattle.lq_yaml.specs.declared.token.Chomping.{Chomping}
 use Rattle.lq_yaml.specs.declared.token.Head.{Head}
 use Rattle.lq_yaml.specs.declared.token.Head.TheVariants.{Dash, Key}
 use Rattle.lq_yaml.specs.declared.token.Token.{Token}
-use Rattle.lq_yaml.specs.declared.token.Token.TheVariants.{Begin, Value, Bar, Raw}
+use Rattle.lq_yaml.specs.declared.token.Token.TheVariants.{Begin, Value, LiteralHeader, LiteralLine}
 use Rattle.lq_yaml.specs.Tree.{value_levels}
 use Rattle.lq_yaml.specs.Layout.{block_text}
 
@@ -24,7 +25,7 @@ pub record Frame : Type 0 where
 pub data Cell : Type 0 where
   none : Cell
   done : Node → Cell
-  block : Bool → List (List ℕ) → Cell
+  block : Chomping → List (List ℕ) → Cell
 
 -- what stands so far behind the innermost open head, and the open collections, innermost first
 pub record Place : Type 0 where
@@ -40,7 +41,7 @@ start = place none []
 abbrev pub cell_node : Cell → Node
 cell_node none = Null
 cell_node (done n) = n
-cell_node (block keep ls) = TextNode (block_text keep ls)
+cell_node (block chomping ls) = TextNode (block_text chomping ls)
 
 abbrev pub begun : Head → Part
 begun Dash = items []
@@ -81,7 +82,7 @@ open_more q h _ fs = None
 
 -- one more line of a block
 abbrev pub add_line : List ℕ → Cell → List Frame → Option Place
-add_line l (block keep ls) fs = Some (place (block keep (ls ++ l ∷ [])) fs)
+add_line l (block chomping ls) fs = Some (place (block chomping (ls ++ l ∷ [])) fs)
 add_line l _ fs = None
 
 -- the rank of the innermost open head
@@ -98,8 +99,8 @@ begin q h c fs = cond (nat_lt (top fs) q) (open_more q h c fs) (again h c fs)
 
 abbrev pub step : Token → Place → Option Place
 step (Value q v) s = let at = settled q s.cell s.frames in put q (done v) at.cell at.frames
-step (Bar q keep) s = let at = settled q s.cell s.frames in put q (block keep []) at.cell at.frames
-step (Raw l) s = add_line l s.cell s.frames
+step (LiteralHeader q chomping) s = let at = settled q s.cell s.frames in put q (block chomping []) at.cell at.frames
+step (LiteralLine l) s = add_line l s.cell s.frames
 step (Begin q h) s = let at = settled q s.cell s.frames in begin q h at.cell at.frames
 
 abbrev pub run : List Token → Place → Option Place

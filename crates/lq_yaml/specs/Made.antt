@@ -1,11 +1,12 @@
 -- What the lines of a file are made of, and their tokens. A token's rank tells how far to the right it stands: a key or a value at column c has 2c + 1, a dash 2c + 2, and a value behind its key 2c + 2.
 use Rattle.std.specs.Prelude.{◌≡◌, ℕ, ◌+◌, ◌-◌, ◌*◌, ◌/◌, ◌<◌, Bool, true, false, List, [], ◌∷◌, ◌++◌, replicate, codes, encode_utf8_all, ◌⊎◌}
 use Rattle.lq_tree.specs.declared.node.Node.{Text as TextNode, List as ListNode, Map as MapNode}
+use Rattle.lq_yaml.specs.declared.token.Chomping.TheVariants.{Clip, Strip}
 use Rattle.lq_yaml.specs.declared.token.Head.TheVariants.{Dash, Key}
 use Rattle.lq_yaml.specs.declared.token.Token.{Token}
-use Rattle.lq_yaml.specs.declared.token.Token.TheVariants.{Begin, Value, Bar}
+use Rattle.lq_yaml.specs.declared.token.Token.TheVariants.{Begin, Value, LiteralHeader}
 use Rattle.lq_yaml.specs.Chars.{is_blank}
-use Rattle.lq_yaml.specs.Layout.{raws}
+use Rattle.lq_yaml.specs.Layout.{literal_lines}
 use Rattle.lq_yaml.specs.Meaning.{plain_node}
 use Rattle.lq_yaml.specs.Written.{AreBlanks, BeginsWith, HasLast, IsQuoted, IsPlain, IsKey}
 
@@ -23,14 +24,14 @@ IsTail text = (text ≡ []) ⊎ ((b : ℕ) × (gap words : List ℕ) × (text �
 abbrev pub IsPlainTail : List ℕ → Type 0
 IsPlainTail text = (text ≡ []) ⊎ ((gap words : List ℕ) × (text ≡ gap ++ (codes " #" ++ words)) × AreBlanks gap)
 
--- a value in its line, of that rank: `[]`, `{}` or a scalar, and perhaps a comment; or `|` or `|-`
+-- a value in its line, of that rank: `[]`, `{}` or a scalar, and perhaps a comment; or the header of a literal block, `|` or `|-`
 pub data IsValue (rank : ℕ) (text : List ℕ) (token : Token) : Type 0 where
   empty_list : (tail : List ℕ) → text ≡ codes "[]" ++ tail → IsTail tail → token ≡ Value rank (ListNode []) → IsValue rank text token
   empty_map : (tail : List ℕ) → text ≡ codes "{}" ++ tail → IsTail tail → token ≡ Value rank (MapNode []) → IsValue rank text token
   quoted : (scalar tail chars : List ℕ) → text ≡ scalar ++ tail → IsQuoted scalar chars → IsTail tail → token ≡ Value rank (TextNode (encode_utf8_all chars)) → IsValue rank text token
   plain : (scalar tail : List ℕ) → text ≡ scalar ++ tail → IsPlain scalar → IsPlainTail tail → token ≡ Value rank (plain_node (encode_utf8_all scalar)) → IsValue rank text token
-  keeping : text ≡ codes "|" → token ≡ Bar rank true → IsValue rank text token
-  stripping : text ≡ codes "|-" → token ≡ Bar rank false → IsValue rank text token
+  clipping : text ≡ codes "|" → token ≡ LiteralHeader rank Clip → IsValue rank text token
+  stripping : text ≡ codes "|-" → token ≡ LiteralHeader rank Strip → IsValue rank text token
 
 -- at a column: a value, `KEY:` or `KEY: VALUE`; blanks around the `:` mean nothing
 pub data IsEntry (column : ℕ) (text : List ℕ) (tokens : List Token) : Type 0 where
@@ -77,7 +78,7 @@ column_after column (t ∷ tokens) = column_after column tokens
 -- whether the tokens of a line begin a literal block
 abbrev pub opens_block : List Token → Bool
 opens_block [] = false
-opens_block (Bar rank keep ∷ tokens) = true
+opens_block (LiteralHeader rank chomping ∷ tokens) = true
 opens_block (t ∷ tokens) = opens_block tokens
 
 -- the line has that indent: so many spaces, and then no blank
@@ -85,9 +86,9 @@ abbrev pub HasIndent : ℕ → List ℕ → Type 0
 HasIndent indent line = (c : ℕ) × (cs : List ℕ) × (line ≡ spaced indent ++ c ∷ cs) × (is_blank c ≡ false)
 
 -- the indent of a block: that of its first line that is not blank, and greater than the parent's; where all are blank, the least such
-abbrev pub IsBase : ℕ → ℕ → List (List ℕ) → Type 0
-IsBase parent base [] = base ≡ parent + 1
-IsBase parent base (line ∷ lines) = (AreBlanks line × IsBase parent base lines) ⊎ (HasIndent base line × (parent < base))
+abbrev pub IsBlockIndent : ℕ → ℕ → List (List ℕ) → Type 0
+IsBlockIndent parent base [] = base ≡ parent + 1
+IsBlockIndent parent base (line ∷ lines) = (AreBlanks line × IsBlockIndent parent base lines) ⊎ (HasIndent base line × (parent < base))
 
 -- a line of a block and its text: a blank line is an empty one, and else the block's indent is dropped
 abbrev pub IsBlockLine : ℕ → List ℕ → List ℕ → Type 0
@@ -111,8 +112,8 @@ pub data AreLines : ℕ → List (List ℕ) → List Token → Type 0 where
   with_tokens : {column : ℕ} {lines : List (List ℕ)} {tokens : List Token} (line : List ℕ) (own : List Token) (rest : List (List ℕ)) (more : List Token) → lines ≡ line ∷ rest → tokens ≡ own ++ more
       → IsLine line own → opens_block own ≡ false → AreLines (column_after column own) rest more → AreLines column lines tokens
   with_block : {column : ℕ} {lines : List (List ℕ)} {tokens : List Token} (line : List ℕ) (own : List Token) (base : ℕ) (block texts rest : List (List ℕ)) (more : List Token)
-      → lines ≡ line ∷ (block ++ rest) → tokens ≡ own ++ (raws texts ++ more) → IsLine line own → opens_block own ≡ true
-      → IsBase (column_after column own) base block → AreBlockLines base block texts → EndsBlock base rest → AreLines (column_after column own) rest more → AreLines column lines tokens
+      → lines ≡ line ∷ (block ++ rest) → tokens ≡ own ++ (literal_lines texts ++ more) → IsLine line own → opens_block own ≡ true
+      → IsBlockIndent (column_after column own) base block → AreBlockLines base block texts → EndsBlock base rest → AreLines (column_after column own) rest more → AreLines column lines tokens
 
 abbrev pub AreSkipped : List (List ℕ) → Type 0
 AreSkipped [] = Unit {0}

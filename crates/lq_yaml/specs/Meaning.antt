@@ -30,7 +30,7 @@ coded a b c d = option_and_then (λ w. option_and_then (λ x. option_and_then (�
 
 -- ---- plain scalars
 
--- no plain scalar begins with one of these, nor with a tab
+-- no plain scalar begins with one of these of YAML's indicators, nor with a tab
 abbrev pub marks : List ℕ
 marks = codes "[]{},&*#|>!%@\"'`" ++ 9 ∷ []
 

@@ -12,7 +12,7 @@ mutual
   pub data Tree : Type 0 where
     leaf : Node → Tree
     empty : Tree
-    group : Entries → Tree
+    collection : Entries → Tree
 
   pub data Entries : Type 0 where
     no_entries : Entries
@@ -23,13 +23,13 @@ abbrev mutual
   pub node_of : Tree → Node
   node_of (leaf v) = v
   node_of empty = Null
-  node_of (group es) = group_node es
+  node_of (collection es) = collection_node es
 
   -- entries with dashes are a list, those with keys a map
-  pub group_node : Entries → Node
-  group_node no_entries = ListNode []
-  group_node (entry Dash t es) = ListNode (node_of t ∷ items_of es)
-  group_node (entry (Key k) t es) = MapNode (put_all ((k, node_of t) ∷ []) es)
+  pub collection_node : Entries → Node
+  collection_node no_entries = ListNode []
+  collection_node (entry Dash t es) = ListNode (node_of t ∷ items_of es)
+  collection_node (entry (Key k) t es) = MapNode (put_all ((k, node_of t) ∷ []) es)
 
   pub items_of : Entries → List Node
   items_of no_entries = []
@@ -55,7 +55,7 @@ abbrev mutual
   pub levels : Tree → ℕ
   levels (leaf v) = value_levels v
   levels empty = 0
-  levels (group es) = entry_levels es + 1
+  levels (collection es) = entry_levels es + 1
 
   pub entry_levels : Entries → ℕ
   entry_levels no_entries = 0

@@ -18,7 +18,7 @@ frame_of f = record { rank = f.rank; part = part_of f.part }
 abbrev pub cell_of : code_cell.Cell → Cell
 cell_of code_cells.Empty = none
 cell_of (code_cells.Done n) = done n
-cell_of (code_cells.Block keep lines) = block keep lines
+cell_of (code_cells.Block chomping lines) = block chomping lines
 
 -- innermost first
 abbrev pub stack : List code_frame.Frame → List Frame

@@ -2,14 +2,15 @@ ghost use Rattle.std.specs.Prelude.{◌≡◌, IfOk};
 ghost use Rattle.lq_yaml.specs.Layout.{block_text, lines_text, line_end};
 ghost use Rattle.lq_yaml.specs.Chars.{is_nil, without_last};
 
+use crate::token::Chomping;
 use lq_base::{NoMemory, Text};
 use std::alloc::Global;
 
 /// The text of a literal block.
-pub fn block_text(alloc: Global, keep: bool, lines: &[Text]) -> Result<Text, NoMemory>
-    ensures { IfOk result (λ t. t ≡ block_text keep lines.now) }
+pub fn block_text(alloc: Global, chomping: Chomping, lines: &[Text]) -> Result<Text, NoMemory>
+    ensures { IfOk result (λ t. t ≡ block_text chomping lines.now) }
 {
-    lines_text(alloc, keep, without_last_empty(lines))
+    lines_text(alloc, chomping, without_last_empty(lines))
 }
 
 /// The lines without the empty ones at their end.
@@ -29,21 +30,25 @@ fn is_nothing(line: &Text) -> bool
     line.as_str().is_empty()
 }
 
-fn lines_text(alloc: Global, keep: bool, lines: &[Text]) -> Result<Text, NoMemory>
-    ensures { IfOk result (λ t. t ≡ lines_text keep lines.now) }
+fn lines_text(alloc: Global, chomping: Chomping, lines: &[Text]) -> Result<Text, NoMemory>
+    ensures { IfOk result (λ t. t ≡ lines_text chomping lines.now) }
 {
     let mut text = Text::new(alloc, "")?;
     let mut rest = lines;
     while let [line, more @ ..] = rest {
         text.push_str(line.as_str())?;
-        text.push_str(line_end(keep, more))?;
+        text.push_str(line_end(chomping, more))?;
         rest = more;
     }
     Ok(text)
 }
 
-fn line_end(keep: bool, more: &[Text]) -> &'static str
-    ensures { result.now ≡ line_end keep more.now }
+fn line_end(chomping: Chomping, more: &[Text]) -> &'static str
+    ensures { result.now ≡ line_end chomping more.now }
 {
-    if keep || !more.is_empty() { "\n" } else { "" }
+    if matches!(chomping, Chomping::Clip) || !more.is_empty() {
+        "\n"
+    } else {
+        ""
+    }
 }

@@ -4,7 +4,7 @@ ghost use Rattle.lq_yaml.specs.Follows.{Gives};
 
 use crate::chars::{begins_with, is_blank, is_word_end, text_of, without_blanks};
 use crate::front::front_of;
-use crate::token::{Head, Token};
+use crate::token::{Chomping, Head, Token};
 use lq_base::{Items, NoMemory};
 use lq_tree::Node;
 use std::alloc::Global;
@@ -57,13 +57,13 @@ fn behind_pair(first: char, second: char, from: &[char]) -> Option<&[char]>
     }
 }
 
-/// The header of a literal block.
-fn header(from: &[char]) -> Option<bool>
+/// The chomping that the header of a literal block says.
+fn header(from: &[char]) -> Option<Chomping>
     ensures { result ≡ header from.now }
 {
     match from {
-        ['|'] => Some(true),
-        ['|', '-'] => Some(false),
+        ['|'] => Some(Chomping::Clip),
+        ['|', '-'] => Some(Chomping::Strip),
         _ => None,
     }
 }
@@ -79,7 +79,7 @@ fn value_of(alloc: Global, rank: usize, from: &[char]) -> Result<Option<Token>, 
         return Ok(value_if(rank, Node::Map(Items::new(alloc)), rest));
     }
     match header(from) {
-        Some(keep) => Ok(Some(Token::Bar(rank, keep))),
+        Some(chomping) => Ok(Some(Token::LiteralHeader(rank, chomping))),
         None => scalar_of(alloc, rank, from),
     }
 }

@@ -36,8 +36,8 @@ fn blank_line(alloc: Global, mode: Mode) -> Result<Option<Line>, NoMemory>
     ensures { IfOk result (λ o. option_map shown_line o ≡ Some (blank_tokens mode, mode)) }
 {
     let mut tokens = Vec::new(alloc);
-    if matches!(mode, Mode::Headed(_) | Mode::Within(..)) {
-        tokens.push(Token::Raw(Text::new(alloc, "")?))?;
+    if matches!(mode, Mode::AfterHeader(_) | Mode::InLiteral(..)) {
+        tokens.push(Token::LiteralLine(Text::new(alloc, "")?))?;
     }
     Ok(Some(Line { tokens, mode }))
 }
@@ -56,10 +56,10 @@ fn block_line(
     }
     let text = text_of(alloc, &line[base..])?;
     let mut tokens = Vec::new(alloc);
-    tokens.push(Token::Raw(text))?;
+    tokens.push(Token::LiteralLine(text))?;
     Ok(Some(Line {
         tokens,
-        mode: Mode::Within(parent_of(mode), base),
+        mode: Mode::InLiteral(parent_of(mode), base),
     }))
 }
 
@@ -125,8 +125,8 @@ fn base_of(mode: Mode, indent: usize) -> Option<usize>
     ensures within { IfSome result (λ base. base ≤ indent) }
 {
     match mode {
-        Mode::Headed(parent) if parent < indent => Some(indent),
-        Mode::Within(parent, base) if parent < indent && base <= indent => Some(base),
+        Mode::AfterHeader(parent) if parent < indent => Some(indent),
+        Mode::InLiteral(parent, base) if parent < indent && base <= indent => Some(base),
         _ => None,
     }
 }
@@ -136,7 +136,7 @@ fn parent_of(mode: Mode) -> usize
 {
     match mode {
         Mode::Fresh => 0,
-        Mode::Between(parent) | Mode::Headed(parent) | Mode::Within(parent, _) => parent,
+        Mode::Between(parent) | Mode::AfterHeader(parent) | Mode::InLiteral(parent, _) => parent,
     }
 }
 
@@ -157,7 +157,7 @@ fn mode_after(parent: usize, tokens: &[Token]) -> Mode
     for token in tokens {
         match token {
             Token::Begin(rank, _) => parent = rank.saturating_sub(1) / 2,
-            Token::Bar(..) => return Mode::Headed(parent),
+            Token::LiteralHeader(..) => return Mode::AfterHeader(parent),
             _ => {}
         }
     }

@@ -3,9 +3,10 @@
 pub enum Mode {
     /// No line yet that isn't skipped.
     Fresh,
+    /// A line, without an open literal block.
     Between(usize),
     /// The header of a literal block, without a line yet that isn't blank.
-    Headed(usize),
+    AfterHeader(usize),
     /// A literal block, and the indent of its lines.
-    Within(usize, usize),
+    InLiteral(usize, usize),
 }

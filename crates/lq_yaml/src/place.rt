@@ -6,7 +6,7 @@ ghost use Rattle.lq_yaml.specs.View.{cell_of, stack, place_by, place_of, settled
 
 use crate::block::block_text;
 use crate::part::Part;
-use crate::token::{Head, Token};
+use crate::token::{Chomping, Head, Token};
 use lq_base::{Items, NoMemory, Text};
 use lq_tree::Node;
 use std::alloc::Global;
@@ -24,7 +24,7 @@ pub struct Frame {
 pub enum Cell {
     Empty,
     Done(Node),
-    Block(bool, Items<Text>),
+    Block(Chomping, Items<Text>),
 }
 
 /// What stands so far behind the innermost open head, and the open collections, the innermost last.
@@ -65,9 +65,9 @@ impl Place {
         match cell {
             Cell::Empty => Ok(Node::Null),
             Cell::Done(node) => Ok(node),
-            Cell::Block(keep, lines) => Ok(Node::Text(block_text(
+            Cell::Block(chomping, lines) => Ok(Node::Text(block_text(
                 self.alloc,
-                keep,
+                chomping,
                 lines.as_slice(),
             )?)),
         }
@@ -170,11 +170,11 @@ impl Place {
         match token {
             Token::Begin(rank, head) => self.begin(rank, head),
             Token::Value(rank, value) => self.put(rank, Cell::Done(value)),
-            Token::Bar(rank, keep) => {
+            Token::LiteralHeader(rank, chomping) => {
                 let lines = Items::new(self.alloc);
-                self.put(rank, Cell::Block(keep, lines))
+                self.put(rank, Cell::Block(chomping, lines))
             }
-            Token::Raw(line) => self.add_line(line),
+            Token::LiteralLine(line) => self.add_line(line),
         }
     }
 

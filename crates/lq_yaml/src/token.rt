@@ -8,6 +8,15 @@ pub enum Head {
     Key(Text),
 }
 
+/// How a literal block's last line ends.
+#[derive(Clone, Copy, Debug, PartialEq, Eq)]
+pub enum Chomping {
+    /// As `|` says: with a line feed.
+    Clip,
+    /// As `|-` says: without one.
+    Strip,
+}
+
 /// A part of a line. Its rank says how deep it stands: of two parts the one of greater rank is inside.
 /// At column `c` a key, or a value in a line of its own, has rank `2c + 1`, and a dash `2c + 2`.
 #[derive(Debug, Drop)]
@@ -15,8 +24,8 @@ pub enum Token {
     Begin(usize, Head),
     /// A scalar, `[]` or `{}`.
     Value(usize, Node),
-    /// The header of a literal block, and whether its last line ends with a line feed.
-    Bar(usize, bool),
+    /// The header of a literal block.
+    LiteralHeader(usize, Chomping),
     /// A line of a literal block, without its indent.
-    Raw(Text),
+    LiteralLine(Text),
 }
