@@ -11,9 +11,13 @@ use Rattle.std.specs.declared.cmp.Ordering.TheVariants.{Equal, Greater, Less}
 use Rattle.lq_base.specs.Text.{text_cmp}
 use Rattle.lq_base.specs.declared.tracking.Tracked.{Tracked}
 use Rattle.lq_create.specs.Distinct.{HasAlso}
-use Rattle.lq_create.specs.Rows.{Gathers, HasPlaces, Place, is_at_place, place_cmp}
+use Rattle.lq_create.specs.Rows.{HasPlaces, Place, is_at_place, place_cmp}
 use Rattle.lq_create.specs.Script.{has_row}
 use Rattle.lq_create.specs.declared.changelog.ChangeSet.{ChangeSet}
+
+-- with the places of the rest the set has those of all rows
+pub record Gathers (rows : List Tracked) (seen : BTreeSet Place) (rest : List Tracked) : Type 0 where
+  pub members : (p : Place) → (contains place_cmp seen p || list_any (is_at_place p) rest) ≡ list_any (is_at_place p) rows
 
 all_equal : (o p q : Ordering) → is_eq (ordering_then (ordering_then o p) q) ≡ ((is_eq o && is_eq p) && is_eq q)
 all_equal Less p q = refl

@@ -1,5 +1,5 @@
 use Rattle.std.proofs.Common.{drop}
-use Rattle.lq_create.specs.Rows.{Gathers}
+use Rattle.lq_create.proofs.Gathered.{Gathers}
 use Rattle.lq_create.proofs.rows.places_of.Given as goal
 
 abbrev pub invariant-loop-row : goal.invariant-loop-row
