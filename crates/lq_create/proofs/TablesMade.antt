@@ -11,8 +11,12 @@ use Rattle.lq_base.specs.Name.{is_named, name_cmp}
 use Rattle.lq_base.specs.Text.{is_text}
 use Rattle.lq_base.specs.Value.{into_kind}
 use Rattle.lq_base.specs.declared.dialect.Dialect.TheVariants.{Postgresql}
+use Rattle.lq_base.specs.declared.kind.Kind.{Kind}
+use Rattle.lq_base.specs.declared.kind.Kind.TheVariants as kind
+use Rattle.lq_base.specs.declared.literal.Literal.TheVariants as literal
 use Rattle.lq_base.specs.declared.name.Name.{Name}
 use Rattle.lq_base.specs.declared.reason.Reason.{Reason}
+use Rattle.lq_base.specs.declared.value.Value.TheVariants as value
 use Rattle.lq_model.proofs.Decide.{IsFree, IsSettled, settles}
 use Rattle.lq_model.proofs.Lists.{and_left, and_right, and_true, any_none, or_false, or_left, or_right, other_way}
 use Rattle.lq_model.specs.Catalogue.{Catalogue, Table, with_new}
@@ -138,6 +142,16 @@ unkeyed : (cs : List Column) → map (key_column None) cs ≡ cs
 unkeyed [] = refl
 unkeyed (c ∷ cs) = ap (λ r. c ∷ r) (unkeyed cs)
 
+null_goes_in : (k : Kind) → into_kind literal.Null k ≡ Ok value.Null
+unfolding into_kind
+null_goes_in kind.Int = refl
+null_goes_in kind.BigInt = refl
+null_goes_in kind.Boolean = refl
+null_goes_in (kind.Varchar most) = refl
+null_goes_in kind.Text = refl
+null_goes_in kind.Moment = refl
+null_goes_in (kind.Decimal digits places) = refl
+
 never_of : (p : ColumnDef → Bool) → ((c : CreatedColumn) → p (def_of c) ≡ false) → (cs : List CreatedColumn) → list_any p (map def_of cs) ≡ false
 never_of p h [] = refl
 never_of p h (c ∷ cs) = or_false _ _ (h c) (never_of p h cs)
@@ -179,12 +193,12 @@ module _ (by : By) (c : Catalogue) (t : CreatedTable) where
   not_dependent = never_of (depends_in None) (λ d. refl) t.columns
 
   not_wrong : list_any (λ e. is_wrong (into_kind (literal_of e) e.kind)) (map def_of t.columns) ≡ false
-  unfolding def_of into_kind
-  not_wrong = never_of (λ e. is_wrong (into_kind (literal_of e) e.kind)) (λ d. refl) t.columns
+  unfolding def_of
+  not_wrong = never_of (λ e. is_wrong (into_kind (literal_of e) e.kind)) (λ d. ap is_wrong (null_goes_in d.kind)) t.columns
 
   not_wide : list_any (λ e. is_wide (into_kind (literal_of e) e.kind)) (map def_of t.columns) ≡ false
-  unfolding def_of into_kind
-  not_wide = never_of (λ e. is_wide (into_kind (literal_of e) e.kind)) (λ d. refl) t.columns
+  unfolding def_of
+  not_wide = never_of (λ e. is_wide (into_kind (literal_of e) e.kind)) (λ d. ap is_wide (null_goes_in d.kind)) t.columns
 
   not_misnumbered : list_any numbers_wrongly (map def_of t.columns) ≡ false
   unfolding def_of
