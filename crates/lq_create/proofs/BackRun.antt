@@ -22,6 +22,7 @@ use Rattle.lq_create.proofs.Opened.{closes, opens}
 use Rattle.lq_create.proofs.RowDeleted.{is_of, others}
 use Rattle.lq_create.proofs.RunMade.{commit_run, ok_same, run_one}
 use Rattle.lq_create.proofs.TablesHeld.{run_tables, tables_back, tables_firm}
+use Rattle.lq_create.proofs.TablesRan.{tables_ran}
 use Rattle.lq_create.specs.Changelog.{is_some_list}
 use Rattle.lq_create.specs.Committed.{run_commits, run_made}
 use Rattle.lq_create.specs.Distinct.{created_tables, identities, is_same_identity, repeats}
@@ -139,15 +140,16 @@ pub restores : RollbackRestores
 restores stamp path since database [] c reading ready stands ran = record {
   after = database;
   leads = record { catalogue = c; accepted = refl; left = stands };
-  same = record { users = sym (ok_same ran.users); rows = ran.rows ∙ ap (λ rs. since.rows ++ rs) (no_rows path ran.added ran.are_theirs) ∙ append-nil since.rows; lock = ready.unlocked };
+  same = record { users = ran.users; rows = ran.rows ∙ ap (λ rs. since.rows ++ rs) (no_rows path ran.added ran.are_theirs) ∙ append-nil since.rows; lock = ready.unlocked };
   ready = ready;
 }
 restores stamp path since database (set ∷ sets) c reading ready stands ran =
     let all = set ∷ sets in
     let there = tracking_of database in
+    let made = tables_ran path since database all ran in
     let opened = opens stamp reading c database stands ready in
     let end = by_program closing ∷ [] in
-    let undone = sets_back path all opened.0 since.users database.users since.rows ran.added (taken (pos stamp.reading) stamp.who) end (subst (λ rs. Holds opened.0 database.users rs (taken (pos stamp.reading) stamp.who)) ran.rows opened.2) ran.firm ran.are_theirs ran.users ran.differ ran.new in
+    let undone = sets_back path all opened.0 since.users database.users since.rows ran.added (taken (pos stamp.reading) stamp.who) end (subst (λ rs. Holds opened.0 database.users rs (taken (pos stamp.reading) stamp.who)) ran.rows opened.2) ran.firm ran.are_theirs made ran.differ ran.new in
     let closed = closes undone.0 since.users since.rows (taken (pos stamp.reading) stamp.who) undone.2 in
     record {
       after = database_with since.users since.rows free;
@@ -161,5 +163,5 @@ restores stamp path since database (set ∷ sets) c reading ready stands ran =
         left = stood closed.0 since.users since.rows free closed.2;
       };
       same = record { users = refl; rows = refl; lock = refl };
-      ready = record { users = ran.firm; names = names_before (created_tables all) since.users database.users ran.users ready.names; few = omega (arith, ready.few, ap length ran.rows, length-append since.rows ran.added); unlocked = refl };
+      ready = record { users = ran.firm; names = names_before (created_tables all) since.users database.users made ready.names; few = omega (arith, ready.few, ap length ran.rows, length-append since.rows ran.added); unlocked = refl };
     }

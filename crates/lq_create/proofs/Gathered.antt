@@ -1,4 +1,4 @@
--- The places of rows come into a set one after another.
+-- The identities of rows come into a set one after another.
 use Rattle.std.proofs.Common.{add-one, ap, drop, false, get_or, length, refl, suc, true, ◌∙◌}
 use Rattle.std.proofs.Math.Seq.{drop-cons}
 use Rattle.std.specs.BTreeMap.{is_at}
@@ -11,9 +11,13 @@ use Rattle.std.specs.declared.cmp.Ordering.TheVariants.{Equal, Greater, Less}
 use Rattle.lq_base.specs.Text.{text_cmp}
 use Rattle.lq_base.specs.declared.tracking.Tracked.{Tracked}
 use Rattle.lq_create.specs.Distinct.{HasAlso}
-use Rattle.lq_create.specs.Rows.{Gathers, HasPlaces, Place, is_at_place, place_cmp}
+use Rattle.lq_create.specs.Rows.{HasKeys, IdentityKey, is_keyed, key_cmp}
 use Rattle.lq_create.specs.Script.{has_row}
 use Rattle.lq_create.specs.declared.changelog.ChangeSet.{ChangeSet}
+
+-- with the identities of the rest the set has those of all rows
+pub record Gathers (rows : List Tracked) (seen : BTreeSet IdentityKey) (rest : List Tracked) : Type 0 where
+  pub members : (p : IdentityKey) → (contains key_cmp seen p || list_any (is_keyed p) rest) ≡ list_any (is_keyed p) rows
 
 all_equal : (o p q : Ordering) → is_eq (ordering_then (ordering_then o p) q) ≡ ((is_eq o && is_eq p) && is_eq q)
 all_equal Less p q = refl
@@ -22,26 +26,26 @@ all_equal Equal Less q = refl
 all_equal Equal Greater q = refl
 all_equal Equal Equal q = refl
 
-same_place : (k p : Place) (row : Tracked) → k.0.now ≡ row.filename → k.1.now ≡ row.id → k.2.now ≡ row.author → is_at (place_cmp k) p ≡ is_at_place p row
-same_place k p row file i author = all_equal (text_cmp k.0.now p.0.now) (text_cmp k.1.now p.1.now) (text_cmp k.2.now p.2.now) ∙ rw (file, i, author) refl
+same_key : (k p : IdentityKey) (row : Tracked) → k.0.now ≡ row.filename → k.1.now ≡ row.id → k.2.now ≡ row.author → is_at (key_cmp k) p ≡ is_keyed p row
+same_key k p row file i author = all_equal (text_cmp k.0.now p.0.now) (text_cmp k.1.now p.1.now) (text_cmp k.2.now p.2.now) ∙ rw (file, i, author) refl
 
 gathered : (a b c : Bool) → ((a || b) || c) ≡ (b || (a || c))
 gathered true true c = refl
 gathered true false c = refl
 gathered false b c = refl
 
-pub gathers_none : (rows : List Tracked) (seen : BTreeSet Place) → seen.keys ≡ [] → Gathers rows seen rows
+pub gathers_none : (rows : List Tracked) (seen : BTreeSet IdentityKey) → seen.keys ≡ [] → Gathers rows seen rows
 gathers_none rows seen none = record { members = λ p. rw none refl }
 
-pub gathers_more : (rows : List Tracked) (i : ℕ) (d row : Tracked) (k : Place) (old new : BTreeSet Place) → i < length rows → row ≡ get_or rows i d
-    → k.0.now ≡ row.filename → k.1.now ≡ row.id → k.2.now ≡ row.author → Gathers rows old (drop i rows) → HasAlso place_cmp old new k → Gathers rows new (drop (i + 1) rows)
+pub gathers_more : (rows : List Tracked) (i : ℕ) (d row : Tracked) (k : IdentityKey) (old new : BTreeSet IdentityKey) → i < length rows → row ≡ get_or rows i d
+    → k.0.now ≡ row.filename → k.1.now ≡ row.id → k.2.now ≡ row.author → Gathers rows old (drop i rows) → HasAlso key_cmp old new k → Gathers rows new (drop (i + 1) rows)
 gathers_more rows i d row k old new within is file id author so grown = record { members = member } where
-  member : (p : Place) → (contains place_cmp new p || list_any (is_at_place p) (drop (i + 1) rows)) ≡ list_any (is_at_place p) rows
+  member : (p : IdentityKey) → (contains key_cmp new p || list_any (is_keyed p) (drop (i + 1) rows)) ≡ list_any (is_keyed p) rows
   member p =
       let split = rw (drop-cons rows i d, ← is) at so.members p in
-      rw add-one (rw (grown.members p, same_place k p row file id author) (gathered (is_at_place p row) (contains place_cmp old p) (list_any (is_at_place p) (drop (suc i) rows)) ∙ split))
+      rw add-one (rw (grown.members p, same_key k p row file id author) (gathered (is_keyed p row) (contains key_cmp old p) (list_any (is_keyed p) (drop (suc i) rows)) ∙ split))
 
 -- what the set tells of a changeset
-pub found_row : (rows : List Tracked) (seen : BTreeSet Place) (p : Place) (path : List ℕ) (set : ChangeSet) (found : Bool) → HasPlaces rows seen → found ≡ contains place_cmp seen p
+pub found_row : (rows : List Tracked) (seen : BTreeSet IdentityKey) (p : IdentityKey) (path : List ℕ) (set : ChangeSet) (found : Bool) → HasKeys rows seen → found ≡ contains key_cmp seen p
     → p.0.now ≡ path → p.1.now ≡ set.id → p.2.now ≡ set.author → not found ≡ not (has_row path rows set)
 found_row rows seen p path set found has is file id author = ap not (is ∙ (has.members p ∙ rw (file, id, author) refl))

@@ -1,4 +1,5 @@
 pub mod TablesMade
+pub mod TablesRan
 pub mod Described
 pub mod Each
 pub mod Entries

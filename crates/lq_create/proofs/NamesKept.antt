@@ -92,7 +92,7 @@ one_before n t users e is free =
     let gone : without_table (with_new users t.name (made_table t)) t.name ≡ users = ap (λ es. record users { tables = es }) (remove_entry-insert_entry t.name (made_table t) users.tables is.none) in
     sym (ap (is_taken Postgresql n) gone) ∙ less_taken n t.name (with_new users t.name (made_table t)) (sym (ap (is_taken Postgresql n) is.result) ∙ free)
 
-free_before : (n : Name) (ts : List CreatedTable) (users e : Catalogue) → run User Postgresql (map created ts) users ≡ Ok e → is_taken Postgresql n e ≡ false → is_taken Postgresql n users ≡ false
+pub free_before : (n : Name) (ts : List CreatedTable) (users e : Catalogue) → run User Postgresql (map created ts) users ≡ Ok e → is_taken Postgresql n e ≡ false → is_taken Postgresql n users ≡ false
 free_before n [] users e ran free = ap (is_taken Postgresql n) (ok_same ran) ∙ free
 free_before n (t ∷ ts) users e ran free =
     let one = run_first (created t) (map created ts) users e ran in

@@ -1,11 +1,11 @@
 -- The row of a changeset goes into DATABASECHANGELOG.
 use Rattle.std.proofs.Common.{ap, arith, tests}
 use Rattle.std.proofs.lemmas.Int.{ints}
-use Rattle.std.specs.Prelude.{Err, List, Ok, Result, [], codes, cond, nat_le, pos, refl, true, ℕ, ◌&&◌, ◌≡◌, ◌≤◌}
+use Rattle.std.specs.Prelude.{Err, List, Ok, Result, [], codes, cond, nat_le, option_map, pos, refl, true, ℕ, ◌&&◌, ◌≡◌, ◌≤◌}
 use Rattle.lq_base.proofs.MomentLemmas.{moment_of-moment_text}
 use Rattle.lq_base.specs.Character.{char_count}
 use Rattle.lq_base.specs.Moment.{moment_text}
-use Rattle.lq_base.specs.Value.{into_kind, is_int32, moment_value}
+use Rattle.lq_base.specs.Value.{into_kind, is_int32, within_width}
 use Rattle.lq_base.specs.declared.kind.Kind.TheVariants as kind
 use Rattle.lq_base.specs.declared.literal.Literal.TheVariants as literal
 use Rattle.lq_base.specs.declared.reason.Reason.{Reason}
@@ -31,7 +31,7 @@ label_goes text h = text_goes text 255 (and_left (nat_le (char_count text) 255) 
 
 pub moment_goes : (reading : ℕ) → reading ≤ 253402300799999 → into_kind (literal.Text (moment_text (pos reading))) kind.Moment ≡ Ok (value.Moment (pos reading))
 unfolding into_kind
-moment_goes reading h = ap moment_value (moment_of-moment_text (pos reading) (is_moment reading h))
+moment_goes reading h = ap (λ o. within_width kind.Moment (option_map value.Moment o)) (moment_of-moment_text (pos reading) (is_moment reading h))
 
 small : (order : ℕ) → order ≤ 2147483647 → is_int32 (pos order) ≡ true
 small order h = grind (arith, ints, tests)

@@ -61,12 +61,6 @@ run_tables (t ∷ ts) rest c e h =
     let more = run_tables ts rest one.0.0 e one.2 in
     (more.0, run_next User (created t) (map created ts) c one.0.0 one.0.1 one.1 ∙ more.1, more.2)
 
-pub run_both : (ts rest : List CreatedTable) (c x e : Catalogue) → run User Postgresql (map created ts) c ≡ Ok x → run User Postgresql (map created rest) x ≡ Ok e → run User Postgresql (map created (ts ++ rest)) c ≡ Ok e
-run_both [] rest c x e h k = ap (run User Postgresql (map created rest)) (ok_same h) ∙ k
-run_both (t ∷ ts) rest c x e h k =
-    let one = run_first (created t) (map created ts) c x h in
-    run_next User (created t) (map created (ts ++ rest)) c one.0.0 one.0.1 one.1 ∙ run_both ts rest one.0.0 x e one.2 k
-
 -- what an accepted createTable says
 
 pub record IsMade (users after : Catalogue) (t : CreatedTable) : Type 0 where

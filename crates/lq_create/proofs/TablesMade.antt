@@ -11,8 +11,12 @@ use Rattle.lq_base.specs.Name.{is_named, name_cmp}
 use Rattle.lq_base.specs.Text.{is_text}
 use Rattle.lq_base.specs.Value.{into_kind}
 use Rattle.lq_base.specs.declared.dialect.Dialect.TheVariants.{Postgresql}
+use Rattle.lq_base.specs.declared.kind.Kind.{Kind}
+use Rattle.lq_base.specs.declared.kind.Kind.TheVariants as kind
+use Rattle.lq_base.specs.declared.literal.Literal.TheVariants as literal
 use Rattle.lq_base.specs.declared.name.Name.{Name}
 use Rattle.lq_base.specs.declared.reason.Reason.{Reason}
+use Rattle.lq_base.specs.declared.value.Value.TheVariants as value
 use Rattle.lq_model.proofs.Decide.{IsFree, IsSettled, settles}
 use Rattle.lq_model.proofs.Lists.{and_left, and_right, and_true, any_none, or_false, or_left, or_right, other_way}
 use Rattle.lq_model.specs.Catalogue.{Catalogue, Table, with_new}
@@ -30,7 +34,7 @@ use Rattle.lq_model.specs.declared.column.Column.{Column}
 use Rattle.lq_model.specs.declared.column.ColumnDef.{ColumnDef}
 use Rattle.lq_model.specs.declared.statement.Statement.{Statement}
 use Rattle.lq_create.specs.Changelog.{are_columns}
-use Rattle.lq_create.specs.Created.{CreatesTables, is_plain, is_plain_table, is_unfree, made_column, made_table, with_tables}
+use Rattle.lq_create.specs.Created.{CreatesTables, has_twin_columns, is_plain, is_plain_table, is_unfree, made_column, made_table, with_tables}
 use Rattle.lq_create.specs.Distinct.{repeats}
 use Rattle.lq_create.specs.Statements.{created, def_of}
 use Rattle.lq_create.specs.declared.changelog.CreatedColumn.{CreatedColumn}
@@ -138,6 +142,16 @@ unkeyed : (cs : List Column) → map (key_column None) cs ≡ cs
 unkeyed [] = refl
 unkeyed (c ∷ cs) = ap (λ r. c ∷ r) (unkeyed cs)
 
+null_goes_in : (k : Kind) → into_kind literal.Null k ≡ Ok value.Null
+unfolding into_kind
+null_goes_in kind.Int = refl
+null_goes_in kind.BigInt = refl
+null_goes_in kind.Boolean = refl
+null_goes_in (kind.Varchar most) = refl
+null_goes_in kind.Text = refl
+null_goes_in kind.Moment = refl
+null_goes_in (kind.Decimal digits places) = refl
+
 never_of : (p : ColumnDef → Bool) → ((c : CreatedColumn) → p (def_of c) ≡ false) → (cs : List CreatedColumn) → list_any p (map def_of cs) ≡ false
 never_of p h [] = refl
 never_of p h (c ∷ cs) = or_false _ _ (h c) (never_of p h cs)
@@ -155,9 +169,14 @@ names_same : (cs : List CreatedColumn) → map (λ (d : Column). d.name) (map ma
 names_same [] = refl
 names_same (c ∷ cs) = ap (λ r. c.name ∷ r) (names_same cs)
 
-differing : (cs : List CreatedColumn) → are_columns cs ≡ true → repeats_name (map (λ (d : Column). d.name) (map made_column cs)) ≡ false
-differing [] h = refl
-differing (c ∷ cs) h = ap repeats_name (names_same (c ∷ cs)) ∙ (sym (repeats_same (map (λ (d : CreatedColumn). d.name) (c ∷ cs))) ∙ turned _ h)
+differing : (t : CreatedTable) → has_twin_columns t ≡ false → repeats_name (map (λ (d : Column). d.name) (map made_column t.columns)) ≡ false
+differing t h = ap repeats_name (names_same t.columns) ∙ (sym (repeats_same (map (λ (d : CreatedColumn). d.name) t.columns)) ∙ h)
+
+pub columns_differ : (t : CreatedTable) → are_columns t.columns ≡ true → has_twin_columns t ≡ false
+columns_differ t = at t.columns where
+  at : (cs : List CreatedColumn) → are_columns cs ≡ true → repeats is_text (map (λ (c : CreatedColumn). c.name) cs) ≡ false
+  at [] h = refl
+  at (c ∷ cs) h = turned _ h
 
 stated_columns : (cs : List CreatedColumn) → map (key_column None) (map column_of (map def_of cs)) ≡ map made_column cs
 stated_columns cs = unkeyed (map column_of (map def_of cs)) ∙ columns_same cs
@@ -174,19 +193,19 @@ module _ (by : By) (c : Catalogue) (t : CreatedTable) where
   not_dependent = never_of (depends_in None) (λ d. refl) t.columns
 
   not_wrong : list_any (λ e. is_wrong (into_kind (literal_of e) e.kind)) (map def_of t.columns) ≡ false
-  unfolding def_of into_kind
-  not_wrong = never_of (λ e. is_wrong (into_kind (literal_of e) e.kind)) (λ d. refl) t.columns
+  unfolding def_of
+  not_wrong = never_of (λ e. is_wrong (into_kind (literal_of e) e.kind)) (λ d. ap is_wrong (null_goes_in d.kind)) t.columns
 
   not_wide : list_any (λ e. is_wide (into_kind (literal_of e) e.kind)) (map def_of t.columns) ≡ false
-  unfolding def_of into_kind
-  not_wide = never_of (λ e. is_wide (into_kind (literal_of e) e.kind)) (λ d. refl) t.columns
+  unfolding def_of
+  not_wide = never_of (λ e. is_wide (into_kind (literal_of e) e.kind)) (λ d. ap is_wide (null_goes_in d.kind)) t.columns
 
   not_misnumbered : list_any numbers_wrongly (map def_of t.columns) ≡ false
   unfolding def_of
   not_misnumbered = never_of numbers_wrongly (λ d. refl) t.columns
 
-  named_once : are_columns t.columns ≡ true → repeats_name (map (λ (d : Column). d.name) (map (key_column None) (map column_of (map def_of t.columns)))) ≡ false
-  named_once h = ap (λ cs. repeats_name (map (λ (d : Column). d.name) cs)) (stated_columns t.columns) ∙ differing t.columns h
+  named_once : has_twin_columns t ≡ false → repeats_name (map (λ (d : Column). d.name) (map (key_column None) (map column_of (map def_of t.columns)))) ≡ false
+  named_once h = ap (λ cs. repeats_name (map (λ (d : Column). d.name) cs)) (stated_columns t.columns) ∙ differing t h
 
   pub stated_result : (create_table by Postgresql t.name (map def_of t.columns) None [] [] c).result ≡ with_new c t.name (made_table t)
   stated_result = ap (λ cs. with_new c t.name (bare cs)) (stated_columns t.columns)
@@ -195,7 +214,7 @@ module _ (by : By) (c : Catalogue) (t : CreatedTable) where
   unfolding the_plan
   result_same = stated_result
 
-  module _ (free : is_unfree by c t ≡ false) (columns : are_columns t.columns ≡ true) where
+  module _ (free : is_unfree by c t ≡ false) (columns : has_twin_columns t ≡ false) where
     nothing_against : IsFree the_plan
     unfolding the_plan
     nothing_against = record {
@@ -235,19 +254,20 @@ run_next by s ss c e n is = ap (λ (r : Result (Catalogue × ℕ) Reason). elim 
 -- where a catalogue passes the tests of a result, and does so with a table more
 module _ (by : By) (P : Catalogue → Type 0) (tested : (c : Catalogue) → P c → IsSettled c) (kept : (c : Catalogue) (t : CreatedTable) → P c → is_unfree by c t ≡ false → P (with_new c t.name (made_table t))) where
   pub creates_in : (tables : List CreatedTable) (c : Catalogue) → P c → list_any (is_unfree by c) tables ≡ false
-      → repeats is_text (map (λ (t : CreatedTable). t.name) tables) ≡ false → list_all (λ (t : CreatedTable). are_columns t.columns) tables ≡ true
+      → repeats is_text (map (λ (t : CreatedTable). t.name) tables) ≡ false → list_any has_twin_columns tables ≡ false
       → (run by Postgresql (map created tables) c ≡ Ok (with_tables tables c)) × P (with_tables tables c)
   creates_in [] c fine free differ columns = (refl, fine)
   creates_in (t ∷ ts) c fine free differ columns =
       let next = with_new c t.name (made_table t) in
       let mine = or_left (is_unfree by c t) _ free in
       let still = kept c t fine mine in
-      let one = accepted_one by c t mine (and_left (are_columns t.columns) _ columns) (tested next still) in
+      let one = accepted_one by c t mine (or_left (has_twin_columns t) _ columns) (tested next still) in
       let more = creates_in ts next still
       (unfree_after by c t ts (or_left (list_any (is_text t.name) (map (λ (x : CreatedTable). x.name) ts)) _ differ) (or_right (is_unfree by c t) _ free))
       (or_right (list_any (is_text t.name) (map (λ (x : CreatedTable). x.name) ts)) _ differ)
-      (and_right (are_columns t.columns) _ columns) in
+      (or_right (has_twin_columns t) _ columns) in
       (run_next by (created t) (map created ts) c next 0 one ∙ more.0, more.1)
 
 pub creates : CreatesTables
-creates by tables c plain = creates_in by (λ e. is_plain e ≡ true) plain_settled (λ e t h free. plain_after by e t h) tables c plain
+creates by tables c plain free differ columns =
+    creates_in by (λ e. is_plain e ≡ true) plain_settled (λ e t h free. plain_after by e t h) tables c plain free differ (any_none has_twin_columns (λ (t : CreatedTable). are_columns t.columns) tables columns_differ columns)

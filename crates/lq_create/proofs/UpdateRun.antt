@@ -7,11 +7,9 @@ use Rattle.std.specs.Prelude.{Bool, List, Ok, [], false, length, map, nat_le, na
 use Rattle.lq_base.specs.declared.dialect.Dialect.TheVariants.{Postgresql}
 use Rattle.lq_base.specs.declared.tracking.Lock.{Lock}
 use Rattle.lq_base.specs.declared.tracking.Tracked.{Tracked}
-use Rattle.lq_model.proofs.Absent.{free_of}
 use Rattle.lq_model.proofs.Kept.{never}
-use Rattle.lq_model.proofs.Lists.{all_more, all_one_more, and_left, and_right, and_true, or_false, or_left, or_right}
+use Rattle.lq_model.proofs.Lists.{all_more, all_one_more, and_left, any_none, and_right, and_true, or_false, or_left, or_right}
 use Rattle.lq_model.specs.Catalogue.{Catalogue, no_objects}
-use Rattle.lq_model.specs.Reserved.{is_reserved, takes_lock_key}
 use Rattle.lq_model.specs.Script.{Made}
 use Rattle.lq_model.specs.Step.{run}
 use Rattle.lq_model.specs.declared.caller.By.TheVariants.{Program, User}
@@ -19,7 +17,6 @@ use Rattle.lq_track.specs.Database.{Database}
 use Rattle.lq_track.specs.Lock.{free, taken}
 use Rattle.lq_track.specs.Statements.{row_inserted}
 use Rattle.lq_create.proofs.Entries.{by_user, commit_of, commits_of}
-use Rattle.lq_create.proofs.Firm.{firm_new, settled_firm}
 use Rattle.lq_create.proofs.Given.{AreGiven, given, is_named_reserved}
 use Rattle.lq_create.proofs.Holds.{Holds, database as database_with, is_placed, row_holds, row_run, stood, with_one}
 use Rattle.lq_create.proofs.NamesKept.{names_after}
@@ -27,11 +24,12 @@ use Rattle.lq_create.proofs.Opened.{closes, nothing_ready, nothing_stands, opens
 use Rattle.lq_create.proofs.RowFits.{row_fits}
 use Rattle.lq_create.proofs.RunMade.{commit_run, ok_same, run_one}
 use Rattle.lq_create.proofs.TablesHeld.{run_tables, tables_forth}
-use Rattle.lq_create.proofs.TablesMade.{creates_in}
+use Rattle.lq_create.proofs.TablesMade.{columns_differ}
+use Rattle.lq_create.proofs.TablesRan.{firm_creates}
 use Rattle.lq_create.proofs.Unreserved.{leaves_key, unreserved}
-use Rattle.lq_create.specs.Changelog.{is_label}
+use Rattle.lq_create.specs.Changelog.{are_columns, is_label}
 use Rattle.lq_create.specs.Committed.{run_commits, run_made}
-use Rattle.lq_create.specs.Created.{is_unfree, with_tables}
+use Rattle.lq_create.specs.Created.{has_twin_columns, is_unfree, with_tables}
 use Rattle.lq_create.specs.Distinct.{created_tables}
 use Rattle.lq_create.specs.Row.{row_after}
 use Rattle.lq_create.specs.Script.{by_program, closing, greatest, opening, update_script, update_turn, update_turns}
@@ -120,8 +118,7 @@ module _ (stamp : Stamp) (path : List ℕ) (reading : stamp.reading ≤ 25340230
 pub made_there : (path : List ℕ) (sets : List ChangeSet) (database : Database) → IsFirm database.users → AreNew path sets database
     → (run User Postgresql (map created (created_tables sets)) database.users ≡ Ok (with_tables (created_tables sets) database.users)) × IsFirm (with_tables (created_tables sets) database.users)
 made_there path sets database firm new =
-    creates_in User IsFirm settled_firm (λ e t fine free. firm_new e fine t (free_of Postgresql t.name e (or_right (takes_lock_key User Postgresql (t.name ∷ [])) _ (or_right (is_reserved User (t.name ∷ [])) _ free))))
-    (created_tables sets) database.users firm new.free new.names new.columns
+    firm_creates (created_tables sets) database.users firm new.free new.names (any_none has_twin_columns (λ (t : CreatedTable). are_columns t.columns) (created_tables sets) columns_differ new.columns)
 
 -- with the opening and the closing
 

@@ -31,6 +31,10 @@ abbrev pub with_tables : List CreatedTable → Catalogue → Catalogue
 with_tables [] c = c
 with_tables (t ∷ ts) c = with_tables ts (with_new c t.name (made_table t))
 
+-- two of its columns have one name
+abbrev pub has_twin_columns : CreatedTable → Bool
+has_twin_columns t = repeats is_text (map (λ c. c.name) t.columns)
+
 -- no foreign key, no null in a NOT NULL column, no equal rows in a key, and not too many rows
 abbrev pub is_plain_table : Table → Bool
 is_plain_table it = is_empty it.foreign && (not (table_has_null it) && (not (table_has_twins it) && not (is_full it)))

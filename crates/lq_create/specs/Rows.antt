@@ -2,26 +2,22 @@
 use Rattle.std.specs.BTreeSet.{BTreeSet, contains}
 use Rattle.std.specs.List.{list_any}
 use Rattle.std.specs.Ordering.{ordering_then}
-use Rattle.std.specs.Prelude.{Bool, List, ℕ, ◌&&◌, ◌||◌, ◌≡◌}
+use Rattle.std.specs.Prelude.{Bool, List, ℕ, ◌&&◌, ◌≡◌}
 use Rattle.std.specs.declared.cmp.Ordering.{Ordering}
 use Rattle.lq_base.specs.Text.{is_text, text_cmp}
 use Rattle.lq_base.specs.declared.tracking.Tracked.{Tracked}
 use denote.Ref.{Bor}
 
--- a file, an id and an author
-abbrev pub Place : Type 0
-Place = Bor (List ℕ) × Bor (List ℕ) × Bor (List ℕ)
+-- an identity as a key: a file, an id and an author
+abbrev pub IdentityKey : Type 0
+IdentityKey = Bor (List ℕ) × Bor (List ℕ) × Bor (List ℕ)
 
-abbrev pub place_cmp : Place → Place → Ordering
-place_cmp x y = ordering_then (ordering_then (text_cmp x.0.now y.0.now) (text_cmp x.1.now y.1.now)) (text_cmp x.2.now y.2.now)
+abbrev pub key_cmp : IdentityKey → IdentityKey → Ordering
+key_cmp x y = ordering_then (ordering_then (text_cmp x.0.now y.0.now) (text_cmp x.1.now y.1.now)) (text_cmp x.2.now y.2.now)
 
-abbrev pub is_at_place : Place → Tracked → Bool
-is_at_place p row = (is_text row.filename p.0.now && is_text row.id p.1.now) && is_text row.author p.2.now
+abbrev pub is_keyed : IdentityKey → Tracked → Bool
+is_keyed p row = (is_text row.filename p.0.now && is_text row.id p.1.now) && is_text row.author p.2.now
 
--- with the places of the rest the set has those of all rows
-pub record Gathers (rows : List Tracked) (seen : BTreeSet Place) (rest : List Tracked) : Type 0 where
-  pub members : (p : Place) → (contains place_cmp seen p || list_any (is_at_place p) rest) ≡ list_any (is_at_place p) rows
-
--- the set has the places of the rows
-pub record HasPlaces (rows : List Tracked) (seen : BTreeSet Place) : Type 0 where
-  pub members : (p : Place) → contains place_cmp seen p ≡ list_any (is_at_place p) rows
+-- the set has the identities of the rows
+pub record HasKeys (rows : List Tracked) (seen : BTreeSet IdentityKey) : Type 0 where
+  pub members : (p : IdentityKey) → contains key_cmp seen p ≡ list_any (is_keyed p) rows

@@ -1,19 +1,18 @@
 -- What ran since a point, and taking it back.
 use Rattle.std.specs.List.{list_any}
-use Rattle.std.specs.Prelude.{List, Ok, Option, [], false, length, map, reverse, ℕ, ◌++◌, ◌-◌, ◌∷◌, ◌≡◌, ◌≤◌}
-use Rattle.lq_base.specs.declared.dialect.Dialect.TheVariants.{Postgresql}
+use Rattle.std.specs.Prelude.{List, Option, [], false, length, reverse, ℕ, ◌++◌, ◌-◌, ◌∷◌, ◌≡◌, ◌≤◌}
+use Rattle.lq_base.specs.Text.{is_text}
 use Rattle.lq_base.specs.declared.tracking.Tracked.{Tracked}
 use Rattle.lq_model.specs.Catalogue.{Catalogue}
 use Rattle.lq_model.specs.Script.{Call}
-use Rattle.lq_model.specs.Step.{run}
 use Rattle.lq_model.specs.declared.caller.By.TheVariants.{User}
 use Rattle.lq_track.specs.Database.{Database, SameDatabase}
 use Rattle.lq_track.specs.Lock.{free}
-use Rattle.lq_create.specs.Distinct.{created_tables, identities, is_same_identity, repeats}
+use Rattle.lq_create.specs.Created.{has_twin_columns, is_unfree, with_tables}
+use Rattle.lq_create.specs.Distinct.{created_tables, identities, is_same_identity, repeats, table_names}
 use Rattle.lq_create.specs.Row.{row_after}
 use Rattle.lq_create.specs.Script.{has_row, rollback_script}
 use Rattle.lq_create.specs.Started.{IsFirm, IsReady, LeadsTo, StandsFor, tracking_of}
-use Rattle.lq_create.specs.Statements.{created}
 use Rattle.lq_create.specs.Updated.{AreNew, updated_from}
 use Rattle.lq_create.specs.declared.changelog.ChangeSet.{ChangeSet}
 use Rattle.lq_create.specs.declared.stamp.Stamp.{Stamp}
@@ -38,12 +37,16 @@ pub record RanSince (path : List ℕ) (since : Database) (sets : List ChangeSet)
   -- no two have one identity, and none had a row
   pub differ : repeats is_same_identity (identities sets) ≡ false
   pub new : list_any (has_row path since.rows) sets ≡ false
+  -- no two of their tables have one name, a user might give each name there, and no two columns of a table have one
+  pub names : repeats is_text (table_names sets) ≡ false
+  pub free : list_any (is_unfree User since.users) (created_tables sets) ≡ false
+  pub columns : list_any has_twin_columns (created_tables sets) ≡ false
   -- the rows are those before, followed by one for each
   pub added : List Tracked
   pub are_theirs : AreRowsOf path sets added
   pub rows : database.rows ≡ since.rows ++ added
-  -- the users' objects are those before, after their tables, none of which was refused
-  pub users : run User Postgresql (map created (created_tables sets)) since.users ≡ Ok database.users
+  -- the users' objects are those before, with the tables beside them
+  pub users : database.users ≡ with_tables (created_tables sets) since.users
 
 -- how many rows stay where so many changesets are taken back
 abbrev pub rows_kept : ℕ → List Tracked → ℕ

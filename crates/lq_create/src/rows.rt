@@ -1,6 +1,6 @@
 ghost use Rattle.std.specs.Prelude.{◌≡◌, ◌++◌, IfOk, OnOk, List, map, not};
 ghost use Rattle.lq_base.specs.declared.tracking.Tracked.{Tracked as TrackedValue};
-ghost use Rattle.lq_create.specs.Rows.{HasPlaces};
+ghost use Rattle.lq_create.specs.Rows.{HasKeys};
 ghost use Rattle.lq_create.specs.Script.{has_row, new_sets};
 
 use crate::changelog::ChangeSet;
@@ -9,23 +9,23 @@ use lq_base::{Items, NoMemory, Tracked};
 use std::alloc::Global;
 use std::collections::BTreeSet;
 
-// A file, an id and an author.
-type Place<'a> = (&'a str, &'a str, &'a str);
+// An identity as a key: a file, an id and an author.
+type IdentityKey<'a> = (&'a str, &'a str, &'a str);
 
-// The places of the rows, for looking up.
-fn places_of<'a>(alloc: Global, rows: &'a [Tracked]) -> Result<BTreeSet<Place<'a>>, NoMemory>
-    ensures { IfOk result (λ seen. HasPlaces rows.now seen) }
+// The identities of the rows, for looking up.
+fn keys_of<'a>(alloc: Global, rows: &'a [Tracked]) -> Result<BTreeSet<IdentityKey<'a>>, NoMemory>
+    ensures { IfOk result (λ seen. HasKeys rows.now seen) }
 {
     let mut seen = BTreeSet::new(alloc);
     for row in rows {
-        let place = (row.filename.as_str(), row.id.as_str(), row.author.as_str());
-        was_seen(&mut seen, &place)?;
+        let key = (row.filename.as_str(), row.id.as_str(), row.author.as_str());
+        was_seen(&mut seen, &key)?;
     }
     Ok(seen)
 }
 
-fn is_new<'a>(seen: &BTreeSet<Place<'a>>, path: &'a str, set: &'a ChangeSet) -> bool
-    ensures { (rows : List TrackedValue) → HasPlaces rows seen.now → result ≡ not (has_row path.now rows set.now) }
+fn is_new<'a>(seen: &BTreeSet<IdentityKey<'a>>, path: &'a str, set: &'a ChangeSet) -> bool
+    ensures { (rows : List TrackedValue) → HasKeys rows seen.now → result ≡ not (has_row path.now rows set.now) }
 {
     !seen.contains(&(path, set.id.as_str(), set.author.as_str()))
 }
@@ -39,7 +39,7 @@ pub fn new_sets<'a>(
 ) -> Result<Items<&'a ChangeSet>, NoMemory>
     ensures { IfOk result (λ new. map (λ s. s.now) new ≡ new_sets path.now rows.now sets.now) }
 {
-    let seen = places_of(alloc, rows)?;
+    let seen = keys_of(alloc, rows)?;
     let mut new = Items::new(alloc);
     let mut rest = sets;
     while let [set, after @ ..] = rest {

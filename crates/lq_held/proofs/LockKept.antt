@@ -4,16 +4,18 @@ use Rattle.std.proofs.Math.Path.{subst}
 use Rattle.std.proofs.lemmas.Int.{ints}
 use Rattle.std.specs.List.{list_any}
 use Rattle.std.specs.Option.{unwrap_or}
-use Rattle.std.specs.Prelude.{Bool, List, Ok, Some, [], false, is_none, map, refl, true, ℕ, ℤ, ◌||◌, ◌∷◌, ◌≡◌}
+use Rattle.std.specs.Prelude.{Bool, List, Ok, Some, [], false, is_none, map, option_map, refl, true, ℕ, ℤ, ◌||◌, ◌∷◌, ◌≡◌}
 use Rattle.lq_base.proofs.MomentLemmas.{moment_of-moment_text}
 use Rattle.lq_base.specs.Moment.{IsMoment, is_moment}
 use Rattle.lq_base.specs.Name.{is_named}
-use Rattle.lq_base.specs.Value.{into_kind, moment_value}
+use Rattle.lq_base.specs.Value.{into_kind, within_width}
 use Rattle.lq_base.specs.declared.dialect.Dialect.TheVariants.{Postgresql}
+use Rattle.lq_base.specs.declared.kind.Kind.TheVariants as kind
 use Rattle.lq_base.specs.declared.literal.Literal.{Literal}
 use Rattle.lq_base.specs.declared.name.Name.{Name}
 use Rattle.lq_base.specs.declared.tracking.Lock.{Lock}
 use Rattle.lq_base.specs.declared.tracking.Tracked.{Tracked}
+use Rattle.lq_base.specs.declared.value.Value.TheVariants as value
 use Rattle.lq_model.proofs.Decide.{IsFree, IsSettled, accepted, settles}
 use Rattle.lq_model.proofs.Lists.{or_false, or_left, true_false}
 use Rattle.lq_model.proofs.Maps.{set_value-itself}
@@ -48,7 +50,7 @@ a_moment at h = grind (arith, ints, tests)
 
 pub taken_goes : (at : ℤ) (by : List ℕ) → is_moment at ≡ true → LockGoesIn (taken at by)
 unfolding into_kind
-taken_goes at by h = record { granted = ap moment_value (moment_of-moment_text at (a_moment at h)); by = refl }
+taken_goes at by h = record { granted = ap (λ o. within_width kind.Moment (option_map value.Moment o)) (moment_of-moment_text at (a_moment at h)); by = refl }
 
 abbrev sets : Lock → List (Name × Literal)
 sets new = map (λ (c : LockColumn). (lock_name c, lock_value new c)) (lock_column_of.Locked ∷ lock_column_of.LockGranted ∷ lock_column_of.LockedBy ∷ [])

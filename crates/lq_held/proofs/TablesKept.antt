@@ -36,7 +36,7 @@ use Rattle.lq_model.specs.declared.statement.Statement.TheVariants.{DropTable}
 use Rattle.lq_track.specs.Lock.{lock_key_name, lock_table}
 use Rattle.lq_track.specs.Log.{log_table}
 use Rattle.lq_create.proofs.Firm.{firm_new, settled_firm, sound_firm}
-use Rattle.lq_create.proofs.TablesMade.{accepted_one, all_insert, no_foreign, no_keys, plain_settled}
+use Rattle.lq_create.proofs.TablesMade.{accepted_one, all_insert, columns_differ, no_foreign, no_keys, plain_settled}
 use Rattle.lq_create.proofs.TablesRead.{not_is}
 use Rattle.lq_create.proofs.TrackedTables.{Tracks, beside, free_here, holds_there, none_has, settled, table_same, without_it}
 use Rattle.lq_create.proofs.Unreserved.{apart_from_lock, apart_from_log}
@@ -174,7 +174,7 @@ module _ (c users : Catalogue) (rows : List Tracked) (l : Lock) (log lock row : 
         (or_false _ _ (or_right (is_reserved User (t.name ∷ [])) _ (either t.name may)) free_there)
 
     alone : step User Postgresql (created t) users ≡ Ok (more, 0)
-    alone = accepted_one User users t unfree columns (settled_firm more (firm_new users so.tracks.firm t none))
+    alone = accepted_one User users t unfree (columns_differ t columns) (settled_firm more (firm_new users so.tracks.firm t none))
 
     tracks_more : Tracks (with_new c t.name (made_table t)) more the_log the_lock
     tracks_more = beside t.name (made_table t) (not_log t.name may) (not_lock t.name may) c users the_log the_lock so.tracks (firm_new users so.tracks.firm t none)
@@ -183,7 +183,7 @@ module _ (c users : Catalogue) (rows : List Tracked) (l : Lock) (log lock row : 
     free_beside = free_here c users the_log the_lock so.tracks t.name (not_log t.name may) (not_lock t.name may) (no_log_names log so.log_next rows t.name) (no_lock_names lock row so.lock_next l t.name (not_key t.name may)) free_there
 
     pub created_run : step Program Postgresql (created t) c ≡ Ok (with_new c t.name (made_table t), 0)
-    created_run = accepted_one Program c t (or_false _ _ refl (or_false _ _ refl free_beside)) columns (settled (with_new c t.name (made_table t)) more the_log the_lock tracks_more)
+    created_run = accepted_one Program c t (or_false _ _ refl (or_false _ _ refl free_beside)) (columns_differ t columns) (settled (with_new c t.name (made_table t)) more the_log the_lock tracks_more)
 
     pub created_kept : with_users (with_new c t.name (made_table t)) more
     created_kept = record {

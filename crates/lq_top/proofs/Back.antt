@@ -20,6 +20,7 @@ use Rattle.lq_track.specs.Database.{Database}
 use Rattle.lq_create.proofs.BackRun.{theirs}
 use Rattle.lq_create.proofs.RunMade.{ok_same}
 use Rattle.lq_create.proofs.TablesHeld.{made, run_first}
+use Rattle.lq_create.proofs.TablesRan.{tables_ran}
 use Rattle.lq_create.specs.Created.{made_table}
 use Rattle.lq_create.specs.Distinct.{created_tables, identities, is_same_identity, repeats}
 use Rattle.lq_create.specs.Script.{is_row_of}
@@ -127,4 +128,4 @@ pub tables_there : (path : List ℕ) (since database : Database) (ran : List Cha
 tables_there path since database ran is =
     by_sets (λ (t : CreatedTable). is_some (table_of database.users t.name)) (reverse ran)
     ∙ all_reversed (λ (set : ChangeSet). list_all (λ (t : CreatedTable). is_some (table_of database.users t.name)) set.tables) ran
-    (sym (by_sets (λ (t : CreatedTable). is_some (table_of database.users t.name)) ran) ∙ all_there (created_tables ran) since.users database.users is.users)
+    (sym (by_sets (λ (t : CreatedTable). is_some (table_of database.users t.name)) ran) ∙ all_there (created_tables ran) since.users database.users (tables_ran path since database ran is))

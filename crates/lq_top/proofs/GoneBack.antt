@@ -13,7 +13,6 @@ use Rattle.lq_tree.specs.Json.{json_tree}
 use Rattle.lq_tree.specs.declared.node.Node.{Node}
 use Rattle.lq_tree.specs.declared.node.TreeFault.{TreeFault}
 use Rattle.lq_create.proofs.Given.{given as given_by, if_some}
-use Rattle.lq_create.proofs.RunMade.{ok_same}
 use Rattle.lq_create.specs.Changelog.{is_label}
 use Rattle.lq_create.specs.Script.{rollback_script}
 use Rattle.lq_create.specs.Since.{AreRowsOf, RanSince}
@@ -48,7 +47,7 @@ restored stamp path since database [] texts early holds free is named = record {
   after = database;
   holds = subst (λ ts. HoldsDatabase (all ts) database) (sym (append-nil texts)) holds;
   same = record {
-    users = sym (ok_same is.users);
+    users = is.users;
     rows = is.rows ∙ (ap (λ added. since.rows ++ added) (no_rows path is.added is.are_theirs) ∙ append-nil since.rows);
     lock = free;
   };

@@ -12,8 +12,12 @@ use Rattle.lq_base.specs.declared.tracking.Tracked.{Tracked}
 use Rattle.lq_model.proofs.Lists.{named_itself, other_way, same_name}
 use Rattle.lq_create.specs.declared.changelog.ChangeSet.{ChangeSet}
 use Rattle.lq_top.specs.Fit.{set_of}
-use Rattle.lq_top.specs.Index.{HasSets, IsPartly, KeepsAlso, Key, is_keyed, kept, key_cmp}
+use Rattle.lq_top.specs.Index.{HasSets, KeepsAlso, Key, is_keyed, kept, key_cmp}
 use denote.Ref.{Bor}
+
+-- behind the first ones the index has the rest
+pub record IsPartly (sets rest : List ChangeSet) (index : BTreeMap Key (Bor ChangeSet)) : Type 0 where
+  pub values : (key : Key) → option_or (find (is_keyed key) rest) (kept index key) ≡ find (is_keyed key) sets
 
 both_equal : (o p : Ordering) → is_eq (ordering_then o p) ≡ (is_eq o && is_eq p)
 both_equal Less p = refl

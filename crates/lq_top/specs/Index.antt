@@ -1,7 +1,6 @@
 -- The changesets of a file, for looking up.
 use Rattle.std.specs.BTreeMap.{BTreeMap, get}
 use Rattle.std.specs.List.{find}
-use Rattle.std.specs.Option.{option_or}
 use Rattle.std.specs.Ordering.{ordering_then}
 use Rattle.std.specs.Prelude.{Bool, List, Option, Some, cond, option_map, ℕ, ◌&&◌, ◌≡◌}
 use Rattle.std.specs.declared.cmp.Ordering.{Ordering}
@@ -26,10 +25,6 @@ kept index key = option_map (λ set. set.now) (get key_cmp index key)
 -- new has the changeset beside what old has
 pub record KeepsAlso (old new : BTreeMap Key (Bor ChangeSet)) (set : ChangeSet) : Type 0 where
   pub values : (key : Key) → kept new key ≡ cond (is_keyed key set) (Some set) (kept old key)
-
--- behind the first ones the index has the rest
-pub record IsPartly (sets rest : List ChangeSet) (index : BTreeMap Key (Bor ChangeSet)) : Type 0 where
-  pub values : (key : Key) → option_or (find (is_keyed key) rest) (kept index key) ≡ find (is_keyed key) sets
 
 -- the index has the first changeset of each id and author
 pub record HasSets (sets : List ChangeSet) (index : BTreeMap Key (Bor ChangeSet)) : Type 0 where

@@ -1,5 +1,5 @@
 use Rattle.std.proofs.Common.{length}
-use Rattle.lq_top.specs.Index.{IsPartly}
+use Rattle.lq_top.proofs.Indexed.{IsPartly}
 use Rattle.lq_top.proofs.changelog.index_of.Given as goal
 
 abbrev pub invariant-loop-set : goal.invariant-loop-set
