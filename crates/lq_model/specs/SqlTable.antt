@@ -1,6 +1,6 @@
 -- The grammar of CREATE TABLE.
 use Rattle.std.specs.Prelude.{ℕ, nat_le, Bool, true, ◌&&◌, not, if◌then◌else◌, List, [], ◌∷◌, Option, Some, None, option_map}
-use Rattle.std.specs.List.{flat_map}
+use Rattle.std.specs.List.{flat_map, list_all}
 use Rattle.std.specs.Option.{option_to_list}
 use Rattle.lq_base.specs.declared.dialect.Dialect.{Dialect}
 use Rattle.lq_base.specs.declared.name.Name.{Name}
@@ -62,9 +62,10 @@ rank (item.Constraint (constraint.Key key)) = 1
 rank (item.Constraint (constraint.Unique unique)) = 2
 rank (item.Constraint (constraint.Foreign foreign)) = 3
 
-abbrev pub are_ordered_from : ℕ → List TableItem → Bool
-are_ordered_from least [] = true
-are_ordered_from least (it ∷ items) = nat_le least (rank it) && are_ordered_from (rank it) items
+-- each stands before those that may come after it
+abbrev pub are_ordered : List TableItem → Bool
+are_ordered [] = true
+are_ordered (it ∷ items) = list_all (λ other. nat_le (rank it) (rank other)) items && are_ordered items
 
 -- at most one
 abbrev pub only : {A : Type 0} → List A → Option (Option A)
@@ -78,7 +79,7 @@ table_with table items key = CreateTable table (flat_map columns_in items) key (
 -- a column at least, and one key at most
 unfoldable pub table_of : Name → List TableItem → Option Statement
 table_of table items =
-    if are_ordered_from 0 items && not (is_empty (flat_map columns_in items))
+    if are_ordered items && not (is_empty (flat_map columns_in items))
     then option_map (table_with table items) (only (flat_map keys_in items)) else None
 
 -- `q (item, ..)`

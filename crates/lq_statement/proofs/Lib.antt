@@ -10,6 +10,7 @@ mod KindMakes
 mod KindTexts
 mod ListsAgain
 mod Named
+mod Order
 mod Parts
 mod Phrases
 mod ReadBack

@@ -15,7 +15,7 @@ use Rattle.lq_model.specs.SqlCreate.{create}
 use Rattle.lq_model.specs.SqlParser.{after, enclosed, ended, expect, same_kind, sees}
 use Rattle.lq_model.specs.SqlPart.{name}
 use Rattle.lq_model.specs.SqlStatement.{statement}
-use Rattle.lq_model.specs.SqlTable.{are_ordered_from, column_item, columns_in, create_table, foreign_in, keys_in, only, rank, table_item, table_of, uniques_in}
+use Rattle.lq_model.specs.SqlTable.{are_ordered, column_item, columns_in, create_table, foreign_in, keys_in, only, rank, table_item, table_of, uniques_in}
 use Rattle.lq_model.specs.SqlText.{statement_in}
 use Rattle.lq_model.specs.SqlWord.{bare, kind_of_word, words}
 use Rattle.lq_model.specs.StatementText.{column_text, foreign_text, key_in_table, table_text, text_of, unique_text}
@@ -36,6 +36,7 @@ use Rattle.lq_parse.proofs.Fronts.{Says}
 use Rattle.lq_parse.proofs.Lists.{EachItem, IsAgainBefore, listed_says, separated_before, tail_says, tail_stops, tail_words}
 use Rattle.lq_parse.proofs.QueryAgain.{IsReadName, name_word, names_words}
 use Rattle.lq_parse.proofs.Spoken.{Below}
+use Rattle.lq_statement.proofs.Order.{are_ordered_from, ordered_is}
 use Rattle.lq_statement.proofs.ColumnAgain.{CanDefault, EndsItem, IsDefault, added_again, column_same, column_says, column_words, default_words, null_words, number_words, stated_again}
 use Rattle.lq_statement.proofs.ConstraintAgain.{cascade_words, IsReadForeign, IsReadKey, IsReadUnique, foreign_again, foreign_says, foreign_words, key_again, key_says, key_words, unique_again, unique_says, unique_words}
 use Rattle.lq_statement.proofs.KindTexts.{kind_words}
@@ -235,9 +236,10 @@ foreign_ordered : (fs : List ForeignKey) (n : ℕ) → nat_le n 3 ≡ true → a
 foreign_ordered [] n le = refl
 foreign_ordered (f ∷ fs) n le = rw le (foreign_ordered fs 3 refl)
 
-items_ordered : (cs : List ColumnDef) (key : Option Key) (us : List Unique) (fs : List ForeignKey) → are_ordered_from 0 (all_items cs key us fs) ≡ true
+items_ordered : (cs : List ColumnDef) (key : Option Key) (us : List Unique) (fs : List ForeignKey) → are_ordered (all_items cs key us fs) ≡ true
 items_ordered cs key us fs =
-    ordered_after column_alone 0 (λ a. refl) _ (λ n le. ordered_after key_item 1 (λ a. refl) _ (λ m up. ordered_after unique_item 2 (λ a. refl) _ (λ l high. foreign_ordered fs l (nat_le_up l 2 3 (omega arith) high)) us m (nat_le_up m 1 2 (omega arith) up)) (key_list key) n (nat_le_up n 0 1 (omega arith) le)) cs 0 refl
+    sym (ordered_is (all_items cs key us fs))
+    ∙ ordered_after column_alone 0 (λ a. refl) _ (λ n le. ordered_after key_item 1 (λ a. refl) _ (λ m up. ordered_after unique_item 2 (λ a. refl) _ (λ l high. foreign_ordered fs l (nat_le_up l 2 3 (omega arith) high)) us m (nat_le_up m 1 2 (omega arith) up)) (key_list key) n (nat_le_up n 0 1 (omega arith) le)) cs 0 refl
 
 only_key : (key : Option Key) → only (key_list key) ≡ Some key
 only_key None = refl
@@ -248,7 +250,7 @@ unfolding table_of
 table_again t c cs key us fs =
     by (all_items (c ∷ cs) key us fs) (items_ordered (c ∷ cs) key us fs) (columns_of (c ∷ cs) key us fs) (keys_of (c ∷ cs) key us fs) (uniques_of (c ∷ cs) key us fs) (foreign_of (c ∷ cs) key us fs)
   where
-    by : (items : List TableItem) → are_ordered_from 0 items ≡ true → flat_map columns_in items ≡ c ∷ cs → flat_map keys_in items ≡ key_list key → flat_map uniques_in items ≡ us → flat_map foreign_in items ≡ fs
+    by : (items : List TableItem) → are_ordered items ≡ true → flat_map columns_in items ≡ c ∷ cs → flat_map keys_in items ≡ key_list key → flat_map uniques_in items ≡ us → flat_map foreign_in items ≡ fs
         → table_of t items ≡ Some (CreateTable t (c ∷ cs) key us fs)
     by items ordered is_c is_k is_u is_f = rw (ordered, is_c, is_k, only_key key, is_c, is_u, is_f) refl
 

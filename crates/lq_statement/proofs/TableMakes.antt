@@ -11,7 +11,7 @@ use Rattle.lq_model.specs.SqlColumn.{column_foreign, column_key, column_of, colu
 use Rattle.lq_model.specs.SqlConstraint.{begins_constraint, table_constraint}
 use Rattle.lq_model.specs.SqlParser.{enclosed, peek}
 use Rattle.lq_model.specs.SqlPart.{name}
-use Rattle.lq_model.specs.SqlTable.{are_ordered_from, column_item, columns_in, create_table, foreign_in, keys_in, only, table_item, table_of, table_with, uniques_in}
+use Rattle.lq_model.specs.SqlTable.{are_ordered, column_item, columns_in, create_table, foreign_in, keys_in, only, table_item, table_of, table_with, uniques_in}
 use Rattle.lq_model.specs.Statement.{is_column_def, is_foreign, is_key, is_unique}
 use Rattle.lq_model.specs.TableNames.{key_list}
 use Rattle.lq_model.specs.declared.constraint.Key.{Key}
@@ -96,8 +96,8 @@ table_is d table items h so =
     let keys = only_is (is_key d) (flat_map keys_in items) (all_of (is_key d) keys_in (IsItem d) (keys_are d) items so) in
     let uniques = all_of is_unique uniques_in (IsItem d) (uniques_are d) items so in
     let foreign = all_of is_foreign foreign_in (IsItem d) (foreign_are d) items so in
-    tested (Is d) (are_ordered_from 0 items && not (is_empty (flat_map columns_in items))) _ (λ can.
-    let some = (and_parts (are_ordered_from 0 items) (not (is_empty (flat_map columns_in items))) can).1 in
+    tested (Is d) (are_ordered items && not (is_empty (flat_map columns_in items))) _ (λ can.
+    let some = (and_parts (are_ordered items) (not (is_empty (flat_map columns_in items))) can).1 in
     mapped (Is d) (table_with table items) (only (flat_map keys_in items))
     (more_of (λ key. list_all (is_key d) (key_list key) ≡ true) (λ key. Is d (table_with table items key)) (λ key k.
     and_from (is_name table) _ h (and_from (not (is_empty (flat_map columns_in items))) _ some (and_from (list_all is_column_def (flat_map columns_in items)) _ defs (and_from (list_all (is_key d) (key_list key)) _ k

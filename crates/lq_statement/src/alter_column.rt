@@ -1,6 +1,5 @@
 ghost use Rattle.lq_model.specs.Reads.{Reads};
 ghost use Rattle.lq_model.specs.SqlAlter as spec;
-ghost use Rattle.std.specs.Prelude.{◌≡◌};
 
 use lq_base::{Dialect, Name};
 use lq_model::{ParseFault, Statement, WordKind};

@@ -2,6 +2,7 @@ ghost use Rattle.std.specs.Prelude.{◌≡◌};
 ghost use Rattle.lq_base.specs.declared.dialect.Dialect.TheVariants.{Postgresql};
 ghost use Rattle.lq_model.specs.Reads.{Reads};
 ghost use Rattle.lq_model.specs.SqlConstraint as spec;
+ghost use Rattle.lq_statement.specs.Settled.{Settles};
 
 use crate::name::{foreign_name, key_name, unique_name};
 use lq_base::{Dialect, Name};
@@ -15,11 +16,10 @@ use std::alloc::Global;
 fn key_name_or(
     alloc: Global,
     dialect: Dialect,
-    words: &mut Words<'_>,
     table: &Name,
     stated: Option<Name>,
 ) -> Result<Name, ParseFault>
-    ensures { Reads (spec.key_name_or dialect table.now stated words.old) result words.new }
+    ensures { Settles (spec.key_name_or dialect table.now stated) result }
 {
     match (dialect, stated) {
         (Dialect::Postgresql, Some(stated)) => Ok(stated),
@@ -40,7 +40,7 @@ fn key(
     words.expect(WordKind::Primary)?;
     words.expect(WordKind::Key)?;
     let columns = enclosed(alloc, words, &name)?;
-    let name = key_name_or(alloc, dialect, words, table, stated)?;
+    let name = key_name_or(alloc, dialect, table, stated)?;
     Ok(Key { name, columns })
 }
 
@@ -113,6 +113,7 @@ fn foreign(
     })
 }
 
+/// Whether a constraint that stands apart from the columns begins so.
 pub fn begins_constraint(kind: WordKind) -> bool
     ensures { result ≡ spec.begins_constraint kind }
 {

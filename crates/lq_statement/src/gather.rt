@@ -72,7 +72,7 @@ fn rank(item: &TableItem) -> u8
 }
 
 fn are_ordered(items: &[TableItem]) -> bool
-    ensures { result ≡ spec.are_ordered_from 0 items.now }
+    ensures { result ≡ spec.are_ordered items.now }
 {
     let mut least = 0;
     let mut rest = items;

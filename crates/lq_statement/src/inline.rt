@@ -1,11 +1,10 @@
 ghost use Rattle.std.specs.Prelude.{◌≡◌, [], ◌∷◌, IfOk, None};
-ghost use Rattle.lq_model.specs.Reads.{Reads};
 ghost use Rattle.lq_model.specs.SqlColumn as spec;
+ghost use Rattle.lq_statement.specs.Settled.{Settles};
 
 use crate::name::{foreign_name, key_name, unique_name};
 use lq_base::{Dialect, Duplicate, Items, Name, NoMemory};
 use lq_model::{ForeignKey, Key, ParseFault, StatedColumn, Target, Unique};
-use lq_parse::cursor::Words;
 use std::alloc::Global;
 
 fn one(alloc: Global, name: &Name) -> Result<Items<Name>, NoMemory>
@@ -21,11 +20,10 @@ fn one(alloc: Global, name: &Name) -> Result<Items<Name>, NoMemory>
 pub fn column_key(
     alloc: Global,
     dialect: Dialect,
-    words: &mut Words<'_>,
     table: &Name,
     column: &StatedColumn,
 ) -> Result<Option<Key>, ParseFault>
-    ensures { Reads (spec.column_key dialect table.now column.now words.old) result words.new }
+    ensures { Settles (spec.column_key dialect table.now column.now) result }
 {
     if !column.key {
         return Ok(None);
@@ -39,11 +37,10 @@ pub fn column_key(
 #[tactic(auto, unfolding(lq_model::specs::SqlColumn::column_unique))]
 pub fn column_unique(
     alloc: Global,
-    words: &mut Words<'_>,
     table: &Name,
     column: &StatedColumn,
 ) -> Result<Option<Unique>, ParseFault>
-    ensures { Reads (spec.column_unique table.now column.now words.old) result words.new }
+    ensures { Settles (spec.column_unique table.now column.now) result }
 {
     if !column.unique {
         return Ok(None);
@@ -56,12 +53,11 @@ pub fn column_unique(
 #[tactic(auto, unfolding(lq_model::specs::SqlColumn::foreign_to))]
 fn foreign_to(
     alloc: Global,
-    words: &mut Words<'_>,
     table: &Name,
     column: &Name,
     target: &Target,
 ) -> Result<Option<ForeignKey>, ParseFault>
-    ensures { Reads (spec.foreign_to table.now column.now target.now words.old) result words.new }
+    ensures { Settles (spec.foreign_to table.now column.now target.now) result }
 {
     let columns = one(alloc, column)?;
     let name = foreign_name(alloc, table, columns.as_slice())?;
@@ -78,14 +74,13 @@ fn foreign_to(
 #[tactic(auto, unfolding(lq_model::specs::SqlColumn::column_foreign))]
 pub fn column_foreign(
     alloc: Global,
-    words: &mut Words<'_>,
     table: &Name,
     column: &StatedColumn,
 ) -> Result<Option<ForeignKey>, ParseFault>
-    ensures { Reads (spec.column_foreign table.now column.now.name column.now.target words.old) result words.new }
+    ensures { Settles (spec.column_foreign table.now column.now.name column.now.target) result }
 {
     match &column.target {
         None => Ok(None),
-        Some(target) => foreign_to(alloc, words, table, &column.name, target),
+        Some(target) => foreign_to(alloc, table, &column.name, target),
     }
 }

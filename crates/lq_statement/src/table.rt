@@ -1,4 +1,3 @@
-ghost use Rattle.std.specs.Prelude.{◌≡◌};
 ghost use Rattle.lq_model.specs.Reads.{Reads};
 ghost use Rattle.lq_model.specs.SqlTable as spec;
 
@@ -24,9 +23,9 @@ fn column_item(
     ensures { Reads (spec.column_item dialect table.now words.old) result words.new }
 {
     let column = stated_column(alloc, dialect, words)?;
-    let key = column_key(alloc, dialect, words, table, &column)?;
-    let unique = column_unique(alloc, words, table, &column)?;
-    let foreign = column_foreign(alloc, words, table, &column)?;
+    let key = column_key(alloc, dialect, table, &column)?;
+    let unique = column_unique(alloc, table, &column)?;
+    let foreign = column_foreign(alloc, table, &column)?;
     Ok(TableItem::Column {
         column: column_of(column),
         key,
