@@ -4,6 +4,3 @@
 mod sql;
 
 pub use sql::My;
-
-#[cfg(test)]
-mod tests;

@@ -4,6 +4,3 @@
 mod sql;
 
 pub use sql::Pg;
-
-#[cfg(test)]
-mod tests;

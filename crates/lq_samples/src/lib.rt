@@ -5,6 +5,8 @@
 mod new_sequence;
 mod no_objects;
 #[cfg(test)]
+mod sql_tests;
+#[cfg(test)]
 mod tests;
 mod trimmed;
 

@@ -1,14 +1,6 @@
-ghost use Rattle.std.specs.Prelude.{◌≡◌, true};
-ghost use Rattle.lq_model.specs.Statement.{is_statement};
-
-use crate::{NewSequence, NoObjects, Trimmed};
-use lq_base::{Dialect, Items, Name, NoMemory, Reason, Text};
-use lq_model::{
-    AskFault, By, Canon, Change, Look, ParseFault, Query, SqlText, Statement, Test, Undo, Wanted,
-};
-use lq_parse::{parse_query, parse_test};
-use lq_sql::print;
-use lq_statement::parse;
+use crate::{NewSequence, NoObjects};
+use lq_base::{Dialect, Items, Name, NoMemory, Reason};
+use lq_model::{AskFault, By, Canon, Change, Look, Query, Statement, Undo, Wanted};
 use std::alloc::Global;
 use std::process::Abort;
 use std::test::Fail;
@@ -55,88 +47,6 @@ fn drops_one(undo: &Undo) -> bool {
         },
         Undo::Absent => false,
     }
-}
-
-// Texts of PostgreSQL.
-#[derive(Drop)]
-struct Postgres;
-
-impl SqlText for Postgres {
-    ghost use Rattle.lq_base.specs.declared.dialect.Dialect.TheVariants.{Postgresql};
-
-    ghost dialect = { Postgresql };
-
-    fn print(&self, alloc: Global, statement: &Statement) -> Result<Text, NoMemory> {
-        print(alloc, Dialect::Postgresql, statement)
-    }
-
-    fn parse(&self, alloc: Global, text: &str) -> Result<Statement, ParseFault> {
-        parse(alloc, Dialect::Postgresql, text)
-    }
-
-    fn parse_query(&self, alloc: Global, text: &str) -> Result<Query, ParseFault> {
-        parse_query(alloc, Dialect::Postgresql, text)
-    }
-
-    fn parse_test(&self, alloc: Global, text: &str) -> Result<Test, ParseFault> {
-        parse_test(alloc, Dialect::Postgresql, text)
-    }
-}
-
-// The statement goes where its text is made.
-fn printed<P: SqlText>(sql: &P, alloc: Global, statement: Statement) -> Result<Text, NoMemory>
-    requires { is_statement P.dialect statement ≡ true }
-{
-    sql.print(alloc, &statement)
-}
-
-fn drop_text(alloc: Global, table: Name) -> Result<Text, NoMemory> {
-    let sql = Trimmed { reader: Postgres };
-    printed(&sql, alloc, Statement::DropTable { table })
-}
-
-fn is_drop(statement: &Statement, table: &str) -> bool {
-    match statement {
-        Statement::DropTable { table: name } => name.as_key() == table,
-        _ => false,
-    }
-}
-
-// Whether it is read as the statement that drops this table.
-fn drops<P: SqlText>(sql: &P, alloc: Global, text: &str, table: &str) -> bool {
-    match sql.parse(alloc, text) {
-        Ok(statement) => is_drop(&statement, table),
-        Err(_) => false,
-    }
-}
-
-fn is_test<P: SqlText>(sql: &P, alloc: Global, text: &str) -> bool {
-    sql.parse_test(alloc, text).is_ok()
-}
-
-fn is_query<P: SqlText>(sql: &P, alloc: Global, text: &str) -> bool {
-    sql.parse_query(alloc, text).is_ok()
-}
-
-#[test]
-fn spaces_at_the_front_are_dropped(rt: HostRuntime) {
-    let sql = Trimmed { reader: Postgres };
-    assert!(rt; is_test(&sql, rt.alloc(), "  a = 1"));
-    assert!(rt; is_query(&sql, rt.alloc(), " select * from t"));
-    assert!(rt; !is_query(&sql, rt.alloc(), " selec"));
-}
-
-#[test]
-fn a_statement_is_printed(rt: HostRuntime) {
-    let table = Name::new(rt.alloc(), "t").expect(&rt, "a name");
-    let text = drop_text(rt.alloc(), table).expect(&rt, "memory");
-    assert_eq!(rt; text.as_str(), "DROP TABLE \"t\"");
-}
-
-#[test]
-fn a_statement_is_read(rt: HostRuntime) {
-    let sql = Trimmed { reader: Postgres };
-    assert!(rt; drops(&sql, rt.alloc(), "  drop table T", "t"));
 }
 
 #[test]
