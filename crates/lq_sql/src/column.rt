@@ -1,10 +1,9 @@
 ghost use Rattle.std.specs.Prelude.{◌≡◌, ◌++◌, OnOk};
 ghost use Rattle.lq_model.specs.StatementText.{column_text, default_text, numbering};
 
-use crate::spell::{Spell, say, say_if};
+use crate::spell::{Spell, Style, say, say_if};
 use lq_base::{Dialect, Literal, NoMemory, Text};
 use lq_model::{ColumnDef, Phrase};
-use std::alloc::Global;
 
 fn numbering(dialect: Dialect) -> Phrase
     ensures { result ≡ numbering dialect }
@@ -15,19 +14,14 @@ fn numbering(dialect: Dialect) -> Phrase
     }
 }
 
-fn spell_default(
-    alloc: Global,
-    dialect: Dialect,
-    to: &mut Text,
-    default: &Option<Literal>,
-) -> Result<(), NoMemory>
-    ensures { OnOk result (to.new ≡ to.old ++ default_text dialect default.now) }
+fn spell_default(style: Style, to: &mut Text, default: &Option<Literal>) -> Result<(), NoMemory>
+    ensures { OnOk result (to.new ≡ to.old ++ default_text style.dialect default.now) }
 {
     match default {
         None => Ok(()),
         Some(literal) => {
             say(to, Phrase::Default)?;
-            literal.spell(alloc, dialect, to)
+            literal.spell(style, to)
         }
     }
 }
@@ -36,12 +30,12 @@ impl Spell for ColumnDef {
     ghost text = { column_text };
 
     #[tactic(auto, unfolding(lq_model::specs::StatementText::column_text))]
-    fn spell(&self, alloc: Global, dialect: Dialect, to: &mut Text) -> Result<(), NoMemory> {
-        self.name.spell(alloc, dialect, to)?;
+    fn spell(&self, style: Style, to: &mut Text) -> Result<(), NoMemory> {
+        self.name.spell(style, to)?;
         say(to, Phrase::Blank)?;
-        self.kind.append_to(dialect, to)?;
-        say_if(to, self.numbered, numbering(dialect))?;
+        self.kind.append_to(style.dialect, to)?;
+        say_if(to, self.numbered, numbering(style.dialect))?;
         say_if(to, !self.nullable, Phrase::NotNull)?;
-        spell_default(alloc, dialect, to, &self.default)
+        spell_default(style, to, &self.default)
     }
 }

@@ -1,13 +1,16 @@
 //! SQL text of both profiles.
 #![tactic(auto)]
 
+mod alteration;
 mod column;
 mod constraint;
 mod literal;
 mod name;
+mod object;
 mod printer;
 mod query;
 mod quoting;
+mod rows;
 mod spell;
 mod statement;
 mod table;

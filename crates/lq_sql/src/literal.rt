@@ -3,10 +3,9 @@ ghost use Rattle.lq_model.specs.Quoting.{string_text};
 ghost use Rattle.lq_model.specs.TestText.{literal_text};
 
 use crate::quoting::{Twice, push_doubled};
-use crate::spell::{Spell, say};
+use crate::spell::{Spell, Style, say};
 use lq_base::{Dialect, Literal, NoMemory, Text, append_fixed, append_whole};
 use lq_model::Phrase;
-use std::alloc::Global;
 
 #[tactic(auto, unfolding(lq_model::specs::Quoting::string_text))]
 fn push_string(dialect: Dialect, to: &mut Text, text: &str) -> Result<(), NoMemory>
@@ -21,14 +20,14 @@ impl Spell for Literal {
     ghost text = { literal_text };
 
     #[tactic(auto, unfolding(lq_model::specs::TestText::literal_text))]
-    fn spell(&self, alloc: Global, dialect: Dialect, to: &mut Text) -> Result<(), NoMemory> {
+    fn spell(&self, style: Style, to: &mut Text) -> Result<(), NoMemory> {
         match self {
             Literal::Null => say(to, Phrase::Null),
             Literal::Bool(true) => say(to, Phrase::True),
             Literal::Bool(false) => say(to, Phrase::False),
             Literal::Int(n) => append_whole(*n, to),
-            Literal::Fixed { units, scale } => append_fixed(alloc, *units, *scale, to),
-            Literal::Text(text) => push_string(dialect, to, text.as_str()),
+            Literal::Fixed { units, scale } => append_fixed(style.alloc, *units, *scale, to),
+            Literal::Text(text) => push_string(style.dialect, to, text.as_str()),
         }
     }
 }

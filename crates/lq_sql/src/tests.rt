@@ -1,680 +1,139 @@
 use crate::{print, print_query, print_test};
 use lq_base::{Boxed, Dialect, Items, Kind, Literal, Name, NoMemory, Text};
-use lq_model::{
-    ColumnDef, ForeignKey, Index, Key, Op, Operand, Query, Statement, Test, Unique, Wanted,
-};
+use lq_model::{ColumnDef, ForeignKey, Key, Op, Operand, Query, Statement, Test, Unique};
 use std::alloc::Global;
 use std::process::Abort;
 
-const PG: Dialect = Dialect::Postgresql;
+mod columns;
+mod constraints;
+mod objects;
+mod queries;
+mod rows;
+mod tables;
 
-const MY: Dialect = Dialect::Mysql;
+// Makes what is printed; the test ends where memory is wanting.
+#[derive(Drop)]
+struct Maker<'a, R> {
+    rt: &'a R,
+    alloc: Global,
+}
 
-// The statement goes where its text is made.
+impl<'a, R: Abort> Maker<'a, R> {
+    fn new(rt: &'a R, alloc: Global) -> Maker<'a, R> {
+        Maker { rt, alloc }
+    }
+
+    fn name(&self, text: &str) -> Name {
+        Name::new(self.alloc, text).expect(self.rt, "a name")
+    }
+
+    fn pair(&self, first: &str, second: &str) -> (Name, Name) {
+        (self.name(first), self.name(second))
+    }
+
+    fn text(&self, text: &str) -> Literal {
+        Literal::Text(Text::new(self.alloc, text).expect(self.rt, "memory"))
+    }
+
+    fn one<T: Drop>(&self, it: T) -> Items<T> {
+        self.and(Items::new(self.alloc), it)
+    }
+
+    fn and<T: Drop>(&self, mut items: Items<T>, it: T) -> Items<T> {
+        items.push(it).expect(self.rt, "memory");
+        items
+    }
+
+    fn names(&self, first: &str, second: &str) -> Items<Name> {
+        self.and(self.one(self.name(first)), self.name(second))
+    }
+}
+
+// Columns and constraints.
+impl<'a, R: Abort> Maker<'a, R> {
+    fn column(&self, text: &str, kind: Kind, nullable: bool) -> ColumnDef {
+        ColumnDef {
+            name: self.name(text),
+            kind,
+            nullable,
+            default: None,
+            numbered: false,
+        }
+    }
+
+    fn key(&self, text: &str, column: &str) -> Key {
+        Key {
+            name: self.name(text),
+            columns: self.one(self.name(column)),
+        }
+    }
+
+    fn unique(&self, text: &str, first: &str, second: &str) -> Unique {
+        Unique {
+            name: self.name(text),
+            columns: self.names(first, second),
+        }
+    }
+
+    fn foreign(&self, text: &str, column: &str, cascade: bool) -> ForeignKey {
+        ForeignKey {
+            name: self.name(text),
+            columns: self.one(self.name(column)),
+            table: self.name("team"),
+            targets: self.one(self.name("id")),
+            cascade,
+        }
+    }
+}
+
+// Tests.
+impl<'a, R: Abort> Maker<'a, R> {
+    // A column beside a value.
+    fn compare(&self, text: &str, op: Op, value: Literal) -> Test {
+        Test::Compare {
+            op,
+            x: Operand::Column(self.name(text)),
+            y: Operand::Literal(value),
+        }
+    }
+
+    fn boxed(&self, test: Test) -> Boxed<Test> {
+        Boxed::new(self.alloc, test).expect(self.rt, "memory")
+    }
+
+    fn both(&self, a: Test, b: Test) -> Test {
+        Test::And(self.boxed(a), self.boxed(b))
+    }
+}
+
+// What is wanted.
+impl<'a, R: Abort> Maker<'a, R> {
+    fn shows(&self, text: Result<Text, NoMemory>, wanted: &str) {
+        let text = text.expect(self.rt, "memory");
+        assert_eq!(self.rt; text.as_str(), wanted);
+    }
+
+    fn pg(&self, statement: Statement, wanted: &str) {
+        self.shows(printed(self.alloc, Dialect::Postgresql, statement), wanted)
+    }
+
+    fn my(&self, statement: Statement, wanted: &str) {
+        self.shows(printed(self.alloc, Dialect::Mysql, statement), wanted)
+    }
+
+    fn query(&self, dialect: Dialect, query: Query, wanted: &str) {
+        self.shows(printed_query(self.alloc, dialect, query), wanted)
+    }
+
+    fn test(&self, dialect: Dialect, test: Test, wanted: &str) {
+        self.shows(printed_test(self.alloc, dialect, test), wanted)
+    }
+}
+
+// What is printed goes where its text is made.
+
 fn printed(alloc: Global, dialect: Dialect, statement: Statement) -> Result<Text, NoMemory> {
     print(alloc, dialect, &statement)
-}
-
-fn prints(rt: &impl Abort, alloc: Global, dialect: Dialect, statement: Statement, wanted: &str) {
-    let text = printed(alloc, dialect, statement).expect(rt, "memory");
-    assert_eq!(rt; text.as_str(), wanted);
-}
-
-fn name(rt: &impl Abort, alloc: Global, text: &str) -> Name {
-    Name::new(alloc, text).expect(rt, "a name")
-}
-
-fn one<T: Drop>(rt: &impl Abort, alloc: Global, it: T) -> Items<T> {
-    let mut items = Items::new(alloc);
-    items.push(it).expect(rt, "memory");
-    items
-}
-
-fn one_name(rt: &impl Abort, alloc: Global, text: &str) -> Items<Name> {
-    one(rt, alloc, name(rt, alloc, text))
-}
-
-fn two_names(rt: &impl Abort, alloc: Global, first: &str, second: &str) -> Items<Name> {
-    let mut names = one_name(rt, alloc, first);
-    names.push(name(rt, alloc, second)).expect(rt, "memory");
-    names
-}
-
-fn text_of(rt: &impl Abort, alloc: Global, text: &str) -> Literal {
-    Literal::Text(Text::new(alloc, text).expect(rt, "memory"))
-}
-
-fn column(rt: &impl Abort, alloc: Global, text: &str, kind: Kind, nullable: bool) -> ColumnDef {
-    ColumnDef {
-        name: name(rt, alloc, text),
-        kind,
-        nullable,
-        default: None,
-        numbered: false,
-    }
-}
-
-fn numbered(rt: &impl Abort, alloc: Global, text: &str) -> ColumnDef {
-    ColumnDef {
-        name: name(rt, alloc, text),
-        kind: Kind::BigInt,
-        nullable: false,
-        default: None,
-        numbered: true,
-    }
-}
-
-fn priced(rt: &impl Abort, alloc: Global, text: &str) -> ColumnDef {
-    ColumnDef {
-        name: name(rt, alloc, text),
-        kind: Kind::Decimal(5, 2),
-        nullable: false,
-        default: Some(Literal::Fixed {
-            units: -750,
-            scale: 2,
-        }),
-        numbered: false,
-    }
-}
-
-fn key(rt: &impl Abort, alloc: Global, text: &str, column: &str) -> Key {
-    Key {
-        name: name(rt, alloc, text),
-        columns: one_name(rt, alloc, column),
-    }
-}
-
-fn unique(rt: &impl Abort, alloc: Global, text: &str, first: &str, second: &str) -> Unique {
-    Unique {
-        name: name(rt, alloc, text),
-        columns: two_names(rt, alloc, first, second),
-    }
-}
-
-fn foreign(rt: &impl Abort, alloc: Global, text: &str, column: &str, cascade: bool) -> ForeignKey {
-    ForeignKey {
-        name: name(rt, alloc, text),
-        columns: one_name(rt, alloc, column),
-        table: name(rt, alloc, "team"),
-        targets: one_name(rt, alloc, "id"),
-        cascade,
-    }
-}
-
-fn team(rt: &impl Abort, alloc: Global) -> Statement {
-    let mut columns = one(rt, alloc, column(rt, alloc, "id", Kind::Int, false));
-    columns
-        .push(column(rt, alloc, "name", Kind::Varchar(40), false))
-        .expect(rt, "memory");
-    Statement::CreateTable {
-        table: name(rt, alloc, "team"),
-        columns,
-        key: Some(key(rt, alloc, "pk_team", "id")),
-        uniques: Items::new(alloc),
-        foreign: Items::new(alloc),
-    }
-}
-
-fn full_table(rt: &impl Abort, alloc: Global) -> Statement {
-    let mut columns = one(rt, alloc, numbered(rt, alloc, "id"));
-    columns
-        .push(column(rt, alloc, "when", Kind::Moment, true))
-        .expect(rt, "memory");
-    columns
-        .push(priced(rt, alloc, "price"))
-        .expect(rt, "memory");
-    Statement::CreateTable {
-        table: name(rt, alloc, "a\"b`c"),
-        columns,
-        key: Some(key(rt, alloc, "pk", "id")),
-        uniques: one(rt, alloc, unique(rt, alloc, "uq", "id", "price")),
-        foreign: one(rt, alloc, foreign(rt, alloc, "fk", "id", true)),
-    }
-}
-
-#[test]
-fn prints_tables(rt: HostRuntime) {
-    let alloc = rt.alloc();
-    let rt = &rt;
-    prints(
-        rt,
-        alloc,
-        PG,
-        team(rt, alloc),
-        "CREATE TABLE \"team\" (\"id\" INTEGER NOT NULL, \"name\" VARCHAR(40) NOT NULL, CONSTRAINT \"pk_team\" PRIMARY KEY (\"id\"))",
-    );
-    prints(
-        rt,
-        alloc,
-        MY,
-        team(rt, alloc),
-        "CREATE TABLE `team` (`id` INT NOT NULL, `name` VARCHAR(40) NOT NULL, PRIMARY KEY (`id`))",
-    );
-    prints(
-        rt,
-        alloc,
-        PG,
-        full_table(rt, alloc),
-        "CREATE TABLE \"a\"\"b`c\" (\"id\" BIGINT GENERATED BY DEFAULT AS IDENTITY NOT NULL, \"when\" TIMESTAMP, \"price\" DECIMAL(5, 2) NOT NULL DEFAULT -7.50, CONSTRAINT \"pk\" PRIMARY KEY (\"id\"), CONSTRAINT \"uq\" UNIQUE (\"id\", \"price\"), CONSTRAINT \"fk\" FOREIGN KEY (\"id\") REFERENCES \"team\" (\"id\") ON DELETE CASCADE)",
-    );
-    prints(
-        rt,
-        alloc,
-        MY,
-        full_table(rt, alloc),
-        "CREATE TABLE `a\"b``c` (`id` BIGINT AUTO_INCREMENT NOT NULL, `when` DATETIME(3), `price` DECIMAL(5, 2) NOT NULL DEFAULT -7.50, PRIMARY KEY (`id`), CONSTRAINT `uq` UNIQUE (`id`, `price`), CONSTRAINT `fk` FOREIGN KEY (`id`) REFERENCES `team` (`id`) ON DELETE CASCADE)",
-    )
-}
-
-#[test]
-fn prints_changes_of_tables(rt: HostRuntime) {
-    let alloc = rt.alloc();
-    let rt = &rt;
-    let table = "t";
-    for_columns(rt, alloc, table);
-    for_constraints(rt, alloc, table);
-    for_schemas(rt, alloc, table)
-}
-
-fn for_columns(rt: &impl Abort, alloc: Global, t: &str) {
-    prints(
-        rt,
-        alloc,
-        PG,
-        Statement::DropTable {
-            table: name(rt, alloc, t),
-        },
-        "DROP TABLE \"t\"",
-    );
-    prints(
-        rt,
-        alloc,
-        PG,
-        Statement::RenameTable {
-            table: name(rt, alloc, t),
-            to: name(rt, alloc, "u"),
-        },
-        "ALTER TABLE \"t\" RENAME TO \"u\"",
-    );
-    prints(
-        rt,
-        alloc,
-        MY,
-        Statement::RenameTable {
-            table: name(rt, alloc, t),
-            to: name(rt, alloc, "u"),
-        },
-        "RENAME TABLE `t` TO `u`",
-    );
-    prints(
-        rt,
-        alloc,
-        PG,
-        Statement::AddColumn {
-            table: name(rt, alloc, t),
-            column: column(rt, alloc, "c", Kind::Text, true),
-        },
-        "ALTER TABLE \"t\" ADD COLUMN \"c\" TEXT",
-    );
-    prints(
-        rt,
-        alloc,
-        PG,
-        Statement::DropColumn {
-            table: name(rt, alloc, t),
-            column: name(rt, alloc, "c"),
-        },
-        "ALTER TABLE \"t\" DROP COLUMN \"c\"",
-    );
-    prints(
-        rt,
-        alloc,
-        MY,
-        Statement::RenameColumn {
-            table: name(rt, alloc, t),
-            column: name(rt, alloc, "c"),
-            to: name(rt, alloc, "d"),
-        },
-        "ALTER TABLE `t` RENAME COLUMN `c` TO `d`",
-    );
-    prints(
-        rt,
-        alloc,
-        PG,
-        Statement::SetNotNull {
-            table: name(rt, alloc, t),
-            column: name(rt, alloc, "c"),
-        },
-        "ALTER TABLE \"t\" ALTER COLUMN \"c\" SET NOT NULL",
-    );
-    prints(
-        rt,
-        alloc,
-        PG,
-        Statement::DropNotNull {
-            table: name(rt, alloc, t),
-            column: name(rt, alloc, "c"),
-        },
-        "ALTER TABLE \"t\" ALTER COLUMN \"c\" DROP NOT NULL",
-    );
-    prints(
-        rt,
-        alloc,
-        MY,
-        Statement::Modify {
-            table: name(rt, alloc, t),
-            column: name(rt, alloc, "c"),
-            kind: Kind::Boolean,
-            nullable: false,
-        },
-        "ALTER TABLE `t` MODIFY `c` BOOLEAN NOT NULL",
-    );
-    prints(
-        rt,
-        alloc,
-        MY,
-        Statement::Modify {
-            table: name(rt, alloc, t),
-            column: name(rt, alloc, "c"),
-            kind: Kind::Int,
-            nullable: true,
-        },
-        "ALTER TABLE `t` MODIFY `c` INT NULL",
-    );
-    prints(
-        rt,
-        alloc,
-        MY,
-        Statement::SetDefault {
-            table: name(rt, alloc, t),
-            column: name(rt, alloc, "c"),
-            value: text_of(rt, alloc, "it's \\"),
-        },
-        "ALTER TABLE `t` ALTER COLUMN `c` SET DEFAULT 'it''s \\\\'",
-    );
-    prints(
-        rt,
-        alloc,
-        PG,
-        Statement::SetDefault {
-            table: name(rt, alloc, t),
-            column: name(rt, alloc, "c"),
-            value: text_of(rt, alloc, "it's \\"),
-        },
-        "ALTER TABLE \"t\" ALTER COLUMN \"c\" SET DEFAULT 'it''s \\'",
-    );
-    prints(
-        rt,
-        alloc,
-        PG,
-        Statement::DropDefault {
-            table: name(rt, alloc, t),
-            column: name(rt, alloc, "c"),
-        },
-        "ALTER TABLE \"t\" ALTER COLUMN \"c\" DROP DEFAULT",
-    )
-}
-
-fn for_constraints(rt: &impl Abort, alloc: Global, t: &str) {
-    prints(
-        rt,
-        alloc,
-        PG,
-        Statement::AddPrimaryKey {
-            table: name(rt, alloc, t),
-            key: key(rt, alloc, "pk_t", "id"),
-        },
-        "ALTER TABLE \"t\" ADD CONSTRAINT \"pk_t\" PRIMARY KEY (\"id\")",
-    );
-    prints(
-        rt,
-        alloc,
-        MY,
-        Statement::AddPrimaryKey {
-            table: name(rt, alloc, t),
-            key: key(rt, alloc, "PRIMARY", "id"),
-        },
-        "ALTER TABLE `t` ADD PRIMARY KEY (`id`)",
-    );
-    prints(
-        rt,
-        alloc,
-        PG,
-        Statement::AddUnique {
-            table: name(rt, alloc, t),
-            unique: unique(rt, alloc, "uq", "a", "b"),
-        },
-        "ALTER TABLE \"t\" ADD CONSTRAINT \"uq\" UNIQUE (\"a\", \"b\")",
-    );
-    prints(
-        rt,
-        alloc,
-        PG,
-        Statement::AddForeignKey {
-            table: name(rt, alloc, "player"),
-            foreign: foreign(rt, alloc, "fk_player_team", "team_id", false),
-        },
-        "ALTER TABLE \"player\" ADD CONSTRAINT \"fk_player_team\" FOREIGN KEY (\"team_id\") REFERENCES \"team\" (\"id\")",
-    );
-    prints(
-        rt,
-        alloc,
-        MY,
-        Statement::AddForeignKey {
-            table: name(rt, alloc, t),
-            foreign: foreign(rt, alloc, "fk", "c", true),
-        },
-        "ALTER TABLE `t` ADD CONSTRAINT `fk` FOREIGN KEY (`c`) REFERENCES `team` (`id`) ON DELETE CASCADE",
-    );
-    prints(
-        rt,
-        alloc,
-        PG,
-        Statement::DropConstraint {
-            table: name(rt, alloc, "player"),
-            name: name(rt, alloc, "fk_player_team"),
-        },
-        "ALTER TABLE \"player\" DROP CONSTRAINT \"fk_player_team\"",
-    );
-    prints(
-        rt,
-        alloc,
-        MY,
-        Statement::DropPrimaryKey {
-            table: name(rt, alloc, t),
-        },
-        "ALTER TABLE `t` DROP PRIMARY KEY",
-    );
-    prints(
-        rt,
-        alloc,
-        MY,
-        Statement::DropUnique {
-            table: name(rt, alloc, t),
-            name: name(rt, alloc, "uq"),
-        },
-        "ALTER TABLE `t` DROP INDEX `uq`",
-    );
-    prints(
-        rt,
-        alloc,
-        MY,
-        Statement::DropForeignKey {
-            table: name(rt, alloc, t),
-            name: name(rt, alloc, "fk"),
-        },
-        "ALTER TABLE `t` DROP FOREIGN KEY `fk`",
-    )
-}
-
-fn index(rt: &impl Abort, alloc: Global, text: &str, unique: bool) -> Index {
-    Index {
-        name: name(rt, alloc, text),
-        columns: one_name(rt, alloc, "team_id"),
-        unique,
-    }
-}
-
-fn for_schemas(rt: &impl Abort, alloc: Global, t: &str) {
-    prints(
-        rt,
-        alloc,
-        PG,
-        Statement::CreateIndex {
-            table: name(rt, alloc, "player"),
-            index: index(rt, alloc, "ix_player_team", false),
-        },
-        "CREATE INDEX \"ix_player_team\" ON \"player\" (\"team_id\")",
-    );
-    prints(
-        rt,
-        alloc,
-        MY,
-        Statement::CreateIndex {
-            table: name(rt, alloc, t),
-            index: index(rt, alloc, "ix", true),
-        },
-        "CREATE UNIQUE INDEX `ix` ON `t` (`team_id`)",
-    );
-    prints(
-        rt,
-        alloc,
-        PG,
-        Statement::DropIndex {
-            name: name(rt, alloc, "ix_player_team"),
-            table: None,
-        },
-        "DROP INDEX \"ix_player_team\"",
-    );
-    prints(
-        rt,
-        alloc,
-        MY,
-        Statement::DropIndex {
-            name: name(rt, alloc, "ix"),
-            table: Some(name(rt, alloc, t)),
-        },
-        "DROP INDEX `ix` ON `t`",
-    );
-    prints(
-        rt,
-        alloc,
-        PG,
-        Statement::CreateView {
-            view: name(rt, alloc, "v"),
-            query: names_of_teams(rt, alloc),
-            replace: false,
-        },
-        "CREATE VIEW \"v\" AS SELECT \"id\" FROM \"team\"",
-    );
-    prints(
-        rt,
-        alloc,
-        MY,
-        Statement::CreateView {
-            view: name(rt, alloc, "v"),
-            query: names_of_teams(rt, alloc),
-            replace: true,
-        },
-        "CREATE OR REPLACE VIEW `v` AS SELECT `id` FROM `team`",
-    );
-    prints(
-        rt,
-        alloc,
-        PG,
-        Statement::DropView {
-            view: name(rt, alloc, "v"),
-        },
-        "DROP VIEW \"v\"",
-    );
-    prints(
-        rt,
-        alloc,
-        PG,
-        Statement::RenameView {
-            view: name(rt, alloc, "v"),
-            to: name(rt, alloc, "w"),
-        },
-        "ALTER VIEW \"v\" RENAME TO \"w\"",
-    );
-    prints(
-        rt,
-        alloc,
-        PG,
-        Statement::CreateSequence {
-            name: name(rt, alloc, "s"),
-            start: 10,
-            step: -2,
-        },
-        "CREATE SEQUENCE \"s\" START WITH 10 INCREMENT BY -2",
-    );
-    prints(
-        rt,
-        alloc,
-        PG,
-        Statement::DropSequence {
-            name: name(rt, alloc, "s"),
-        },
-        "DROP SEQUENCE \"s\"",
-    );
-    prints(
-        rt,
-        alloc,
-        PG,
-        Statement::RenameSequence {
-            name: name(rt, alloc, "s"),
-            to: name(rt, alloc, "r"),
-        },
-        "ALTER SEQUENCE \"s\" RENAME TO \"r\"",
-    )
-}
-
-fn names_of_teams(rt: &impl Abort, alloc: Global) -> Query {
-    Query {
-        wanted: Wanted::Columns(one_name(rt, alloc, "id")),
-        table: name(rt, alloc, "team"),
-        test: None,
-    }
-}
-
-// `column = 'text'`
-fn holds(rt: &impl Abort, alloc: Global, text: &str, value: &str) -> Test {
-    Test::Compare {
-        op: Op::Eq,
-        x: Operand::Column(name(rt, alloc, text)),
-        y: Operand::Literal(text_of(rt, alloc, value)),
-    }
-}
-
-fn compares(rt: &impl Abort, alloc: Global, op: Op) -> Test {
-    Test::Compare {
-        op,
-        x: Operand::Column(name(rt, alloc, "n")),
-        y: Operand::Literal(Literal::Int(-170141183460469231731687303715884105728)),
-    }
-}
-
-fn both(rt: &impl Abort, alloc: Global, a: Test, b: Test) -> Test {
-    let a = Boxed::new(alloc, a).expect(rt, "memory");
-    let b = Boxed::new(alloc, b).expect(rt, "memory");
-    Test::And(a, b)
-}
-
-fn either(rt: &impl Abort, alloc: Global, a: Test, b: Test) -> Test {
-    let a = Boxed::new(alloc, a).expect(rt, "memory");
-    let b = Boxed::new(alloc, b).expect(rt, "memory");
-    Test::Or(a, b)
-}
-
-fn turned(rt: &impl Abort, alloc: Global, a: Test) -> Test {
-    Test::Not(Boxed::new(alloc, a).expect(rt, "memory"))
-}
-
-fn row_of(rt: &impl Abort, alloc: Global) -> Test {
-    let run = both(
-        rt,
-        alloc,
-        holds(rt, alloc, "ID", "1"),
-        holds(rt, alloc, "AUTHOR", "ann"),
-    );
-    both(rt, alloc, run, holds(rt, alloc, "FILENAME", "db/r1.json"))
-}
-
-fn lock_columns(rt: &impl Abort, alloc: Global) -> Items<Name> {
-    let mut names = two_names(rt, alloc, "ID", "LOCKED");
-    names
-        .push(name(rt, alloc, "LOCKGRANTED"))
-        .expect(rt, "memory");
-    names.push(name(rt, alloc, "LOCKEDBY")).expect(rt, "memory");
-    names
-}
-
-fn free_values(rt: &impl Abort, alloc: Global) -> Items<Literal> {
-    let mut values = one(rt, alloc, Literal::Int(1));
-    values.push(Literal::Bool(false)).expect(rt, "memory");
-    values.push(Literal::Null).expect(rt, "memory");
-    values.push(Literal::Null).expect(rt, "memory");
-    values
-}
-
-fn taken(rt: &impl Abort, alloc: Global) -> Items<(Name, Literal)> {
-    let mut sets = one(rt, alloc, (name(rt, alloc, "LOCKED"), Literal::Bool(true)));
-    sets.push((
-        name(rt, alloc, "LOCKGRANTED"),
-        text_of(rt, alloc, "1970-01-01 00:00:01.000"),
-    ))
-    .expect(rt, "memory");
-    sets.push((name(rt, alloc, "LOCKEDBY"), text_of(rt, alloc, "ci")))
-        .expect(rt, "memory");
-    sets
-}
-
-fn first_row(rt: &impl Abort, alloc: Global) -> Test {
-    Test::Compare {
-        op: Op::Eq,
-        x: Operand::Column(name(rt, alloc, "ID")),
-        y: Operand::Literal(Literal::Int(1)),
-    }
-}
-
-#[test]
-fn prints_rows(rt: HostRuntime) {
-    let alloc = rt.alloc();
-    let rt = &rt;
-    let lock = "DATABASECHANGELOGLOCK";
-    prints(
-        rt,
-        alloc,
-        PG,
-        Statement::Insert {
-            table: name(rt, alloc, lock),
-            columns: lock_columns(rt, alloc),
-            values: free_values(rt, alloc),
-        },
-        "INSERT INTO \"DATABASECHANGELOGLOCK\" (\"ID\", \"LOCKED\", \"LOCKGRANTED\", \"LOCKEDBY\") VALUES (1, FALSE, NULL, NULL)",
-    );
-    prints(
-        rt,
-        alloc,
-        MY,
-        Statement::Insert {
-            table: name(rt, alloc, "t"),
-            columns: Items::new(alloc),
-            values: free_values(rt, alloc),
-        },
-        "INSERT INTO `t` VALUES (1, FALSE, NULL, NULL)",
-    );
-    prints(
-        rt,
-        alloc,
-        PG,
-        Statement::Update {
-            table: name(rt, alloc, lock),
-            sets: taken(rt, alloc),
-            test: Some(first_row(rt, alloc)),
-        },
-        "UPDATE \"DATABASECHANGELOGLOCK\" SET \"LOCKED\" = TRUE, \"LOCKGRANTED\" = '1970-01-01 00:00:01.000', \"LOCKEDBY\" = 'ci' WHERE \"ID\" = 1",
-    );
-    prints(
-        rt,
-        alloc,
-        PG,
-        Statement::Delete {
-            table: name(rt, alloc, "DATABASECHANGELOG"),
-            test: Some(row_of(rt, alloc)),
-        },
-        "DELETE FROM \"DATABASECHANGELOG\" WHERE ((\"ID\" = '1' AND \"AUTHOR\" = 'ann') AND \"FILENAME\" = 'db/r1.json')",
-    );
-    prints(
-        rt,
-        alloc,
-        MY,
-        Statement::Delete {
-            table: name(rt, alloc, "t"),
-            test: None,
-        },
-        "DELETE FROM `t`",
-    )
 }
 
 fn printed_query(alloc: Global, dialect: Dialect, query: Query) -> Result<Text, NoMemory> {
@@ -683,86 +142,4 @@ fn printed_query(alloc: Global, dialect: Dialect, query: Query) -> Result<Text, 
 
 fn printed_test(alloc: Global, dialect: Dialect, test: Test) -> Result<Text, NoMemory> {
     print_test(alloc, dialect, &test)
-}
-
-fn counted(rt: &impl Abort, alloc: Global, test: Test) -> Query {
-    Query {
-        wanted: Wanted::Count,
-        table: name(rt, alloc, "t"),
-        test: Some(test),
-    }
-}
-
-fn all_of(rt: &impl Abort, alloc: Global) -> Query {
-    Query {
-        wanted: Wanted::All,
-        table: name(rt, alloc, "t"),
-        test: None,
-    }
-}
-
-#[test]
-fn prints_queries_and_tests(rt: HostRuntime) {
-    let alloc = rt.alloc();
-    let rt = &rt;
-    shows_query(rt, alloc, MY, all_of(rt, alloc), "SELECT * FROM `t`");
-    let null = turned(
-        rt,
-        alloc,
-        Test::IsNull(Operand::Column(name(rt, alloc, "a"))),
-    );
-    shows_query(
-        rt,
-        alloc,
-        PG,
-        counted(rt, alloc, null),
-        "SELECT COUNT(*) FROM \"t\" WHERE (NOT \"a\" IS NULL)",
-    );
-    let some = Test::NotNull(Operand::Literal(text_of(rt, alloc, "größer")));
-    let other = compares(rt, alloc, Op::Ne);
-    shows_test(
-        rt,
-        alloc,
-        PG,
-        either(rt, alloc, some, other),
-        "('größer' IS NOT NULL OR \"n\" <> -170141183460469231731687303715884105728)",
-    );
-    shows_test(
-        rt,
-        alloc,
-        MY,
-        compares(rt, alloc, Op::Lt),
-        "`n` < -170141183460469231731687303715884105728",
-    );
-    shows_test(
-        rt,
-        alloc,
-        MY,
-        compares(rt, alloc, Op::Le),
-        "`n` <= -170141183460469231731687303715884105728",
-    );
-    shows_test(
-        rt,
-        alloc,
-        MY,
-        compares(rt, alloc, Op::Gt),
-        "`n` > -170141183460469231731687303715884105728",
-    );
-    shows_test(
-        rt,
-        alloc,
-        MY,
-        compares(rt, alloc, Op::Ge),
-        "`n` >= -170141183460469231731687303715884105728",
-    );
-}
-
-fn shows_query(rt: &impl Abort, alloc: Global, dialect: Dialect, query: Query, wanted: &str) {
-    let text = printed_query(alloc, dialect, query).expect(rt, "memory");
-    assert_eq!(rt; text.as_str(), wanted);
-}
-
-fn shows_test(rt: &impl Abort, alloc: Global, dialect: Dialect, test: Test, wanted: &str) {
-    let text = printed_test(alloc, dialect, test).expect(rt, "memory");
-    assert_eq!(rt; text.as_str(), wanted);
 }
