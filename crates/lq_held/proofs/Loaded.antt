@@ -110,20 +110,11 @@ module _ (it : Database) (loading : Loading) (kept : Loads it loading) where
     abbrev same_names : Bool
     same_names = repeats is_text (map (λ (c : WrittenColumn). c.name) columns)
 
-    pub create_known : contains name_cmp loading.held.tables table ≡ true → goes (TableCreated table columns) it ≡ false
-    create_known h = at (table_of it.users table) (sym (kept.shows.tables table) ∙ h) where
-      at : (o : Option Table) → is_some o ≡ true → (is_none o && not same_names) ≡ false
-      at None p = true_false p refl
-      at (Some x) p = refl
-
-    pub create_alike : same_names ≡ true → goes (TableCreated table columns) it ≡ false
-    create_alike h = ap (λ b. is_none (table_of it.users table) && not b) h ∙ no_and (is_none (table_of it.users table))
-
-    pub create_goes : contains name_cmp loading.held.tables table ≡ false → same_names ≡ false → goes (TableCreated table columns) it ≡ true
-    create_goes h k = and_true _ _ (at (table_of it.users table) (sym (kept.shows.tables table) ∙ h)) (ap not k) where
-      at : (o : Option Table) → is_some o ≡ false → is_none o ≡ true
-      at None p = refl
-      at (Some x) p = true_false refl p
+    pub create_goes : goes (TableCreated table columns) it ≡ (not (contains name_cmp loading.held.tables table) && not same_names)
+    create_goes = ap (λ b. b && not same_names) (at (table_of it.users table) ∙ ap not (sym (kept.shows.tables table))) where
+      at : (o : Option Table) → is_none o ≡ not (is_some o)
+      at None = refl
+      at (Some x) = refl
 
     pub create_loads : (new : BTreeSet Name) → HasTables (gone (TableCreated table columns) it).users new → Loads (gone (TableCreated table columns) it) (record loading { held = record loading.held { tables = new } })
     create_loads new has = record { shows = record { tracking = kept.shows.tracking; tables = has; rows = kept.shows.rows; locked = kept.shows.locked; free = kept.shows.free }; identities = kept.identities; twins = kept.twins }

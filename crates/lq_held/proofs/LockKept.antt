@@ -33,7 +33,7 @@ use Rattle.lq_track.specs.Statements.{lock_test}
 use Rattle.lq_track.specs.declared.lock_column.LockColumn.{LockColumn}
 use Rattle.lq_track.specs.declared.lock_column.LockColumn.TheVariants as lock_column_of
 use Rattle.lq_create.proofs.LockChanged as changed
-use Rattle.lq_create.proofs.LockChanged.{LockGoesIn, lock_at, lock_put}
+use Rattle.lq_create.proofs.LockChanged.{LockGoesIn, lock_put}
 use Rattle.lq_create.proofs.MadeBefore.{lock_bare}
 use Rattle.lq_create.proofs.TrackedTables.{settled}
 use Rattle.lq_held.proofs.Kept.{IsKept, log_then}

@@ -10,7 +10,7 @@ use crate::held::Held;
 use crate::identities::{IdentityKey, add_identity, are_none, delete_rows};
 use crate::order::in_run_order;
 use crate::rows::{fits, has_room, tracked_of};
-use crate::tables::{add_table, remove_table, repeats_name};
+use crate::tables::{add_table, may_create, remove_table};
 use lq_base::{Identity, Items, Name, NoMemory};
 use lq_written::{Written, WrittenColumn, WrittenRow};
 use std::alloc::Global;
@@ -109,10 +109,7 @@ fn created(
     ensures { IfOk result (Next (TableCreated table columns) loading) }
 {
     let mut loading = loading;
-    if loading.held.tables.contains(&table) {
-        return Ok(None);
-    }
-    if repeats_name(columns.as_slice()) {
+    if !may_create(&loading.held.tables, &table, columns.as_slice()) {
         return Ok(None);
     }
     add_table(&mut loading.held.tables, table)?;

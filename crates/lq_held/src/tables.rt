@@ -1,4 +1,4 @@
-ghost use Rattle.std.specs.Prelude.{◌≡◌, OnOk, T, map};
+ghost use Rattle.std.specs.Prelude.{◌≡◌, ◌&&◌, not, OnOk, T, map};
 ghost use Rattle.std.specs.List.{list_any};
 ghost use Rattle.std.specs.BTreeSet.{contains};
 ghost use Rattle.std.specs.FinMap.Entries.{is_sorted};
@@ -25,8 +25,8 @@ fn has_name(columns: &[WrittenColumn], name: &Name) -> bool
     false
 }
 
-/// Whether two columns have one name.
-pub fn repeats_name(columns: &[WrittenColumn]) -> bool
+// Whether two columns have one name.
+fn repeats_name(columns: &[WrittenColumn]) -> bool
     ensures { result ≡ repeats is_text (map (λ c. c.name) columns.now) }
 {
     let mut rest = columns;
@@ -37,6 +37,13 @@ pub fn repeats_name(columns: &[WrittenColumn]) -> bool
         rest = after;
     }
     false
+}
+
+/// Whether a table of these columns may be created there.
+pub fn may_create(tables: &BTreeSet<Name>, table: &Name, columns: &[WrittenColumn]) -> bool
+    ensures { result ≡ (not (contains name_cmp tables.now table.now) && not (repeats is_text (map (λ c. c.name) columns.now))) }
+{
+    !tables.contains(table) && !repeats_name(columns)
 }
 
 /// Adds a table's name.
