@@ -17,9 +17,9 @@ use Rattle.lq_track.specs.Database.{moment_in, Database, has_rows, in_run_order,
 use Rattle.lq_track.specs.Lock.{lock_column, lock_key_name, lock_order, lock_table}
 use Rattle.lq_track.specs.Statements.{row_deleted, row_inserted}
 use Rattle.lq_create.proofs.LockChanged as lock_changed
-use Rattle.lq_create.proofs.LockChanged.{LockGoesIn, lock_accepted, lock_at, lock_plain, lock_row, moment_or_none}
+use Rattle.lq_create.proofs.LockChanged.{LockGoesIn, lock_accepted, lock_at, moment_or_none}
 use Rattle.lq_create.proofs.RowAdded as row_added
-use Rattle.lq_create.proofs.RowAdded.{GoesIn, log_at, log_plain, log_rows, row_accepted}
+use Rattle.lq_create.proofs.RowAdded.{GoesIn, log_at, log_rows, row_accepted}
 use Rattle.lq_create.proofs.RowDeleted as row_deleted
 use Rattle.lq_create.proofs.RowDeleted.{deletion_accepted, others}
 use Rattle.lq_create.proofs.RowsRead.{is_made_so, rows_back, text_back}

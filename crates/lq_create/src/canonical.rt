@@ -1,4 +1,4 @@
-ghost use Rattle.std.specs.Prelude.{◌≡◌, ◌++◌, IfOk, OnOk, codes, map};
+ghost use Rattle.std.specs.Prelude.{◌≡◌, ◌++◌, IfOk, OnOk, map};
 ghost use Rattle.lq_base.specs.Kind.{kind_text};
 ghost use Rattle.lq_base.specs.declared.dialect.Dialect.TheVariants.{Postgresql};
 ghost use Rattle.lq_model.specs.Canon.{IsFinished, atom, canonical, canonical_change, canonical_changes, canonical_each, canonical_pairs, canonical_values, text};

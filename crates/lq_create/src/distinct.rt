@@ -1,9 +1,8 @@
 ghost use Rattle.std.specs.Prelude.{◌≡◌, IfOk, OnOk, true, map, ◌++◌};
 ghost use Rattle.std.specs.BTreeSet.{contains};
-ghost use Rattle.std.specs.List.{list_any};
 ghost use Rattle.std.specs.Ordering.{eq_by_cmp};
 ghost use Rattle.lq_base.specs.Text.{is_text};
-ghost use Rattle.lq_create.specs.Distinct.{HasAlso, identities, is_reserved, is_same_identity, repeats, table_names, created_tables};
+ghost use Rattle.lq_create.specs.Distinct.{HasAlso, identities, is_same_identity, repeats, table_names};
 
 use crate::changelog::{ChangeSet, CreatedColumn, CreatedTable};
 use lq_base::{Items, NoMemory};

@@ -1,4 +1,4 @@
-ghost use Rattle.std.specs.Prelude.{◌≡◌, option_map};
+ghost use Rattle.std.specs.Prelude.{◌≡◌};
 ghost use Rattle.std.specs.Option.{option_copied};
 ghost use Rattle.lq_tree.specs.Look.{printed_of, truth_of, value_at};
 ghost use Rattle.lq_create.specs.Changelog.{is_label, kind_of, label_of, name_of, nullable_of};

@@ -1,4 +1,4 @@
-ghost use Rattle.std.specs.Prelude.{◌≡◌, IfOk, Some, None, Option, option_map, option_and_then, length};
+ghost use Rattle.std.specs.Prelude.{◌≡◌, IfOk, Some, None, Option};
 ghost use Rattle.lq_tree.specs.declared.node.Node.{Node};
 ghost use Rattle.lq_create.specs.Parts.{Reads, only};
 ghost use Rattle.lq_create.specs.Changelog.{are_sets, changelog_of, column_in, column_of, columns_of, list_of, set_in, set_of, sets_of, table_in, table_of, tables_of};

@@ -1,4 +1,4 @@
-ghost use Rattle.std.specs.Prelude.{◌≡◌, ◌≤◌, ◌++◌, IfOk, OnOk, OnErr};
+ghost use Rattle.std.specs.Prelude.{◌≡◌, ◌≤◌, ◌++◌, IfOk, OnOk};
 ghost use Rattle.lq_track.specs.Row.{row_of as track_row};
 ghost use Rattle.lq_create.specs.Row.{described, described_more, identity_of, row_after};
 

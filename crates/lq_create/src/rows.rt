@@ -1,4 +1,4 @@
-ghost use Rattle.std.specs.Prelude.{◌≡◌, ◌++◌, IfOk, OnOk, List, map, not};
+ghost use Rattle.std.specs.Prelude.{◌≡◌, IfOk, List, map, not};
 ghost use Rattle.lq_base.specs.declared.tracking.Tracked.{Tracked as TrackedValue};
 ghost use Rattle.lq_create.specs.Rows.{HasKeys};
 ghost use Rattle.lq_create.specs.Script.{has_row, new_sets};

@@ -1,4 +1,4 @@
-ghost use Rattle.std.specs.Prelude.{◌≡◌, ◌++◌, IfOk, OnOk, map, reverse};
+ghost use Rattle.std.specs.Prelude.{◌≡◌, IfOk, map};
 ghost use Rattle.lq_create.specs.Statements.{created, def_of, dropped, undoing};
 
 use crate::changelog::{CreatedColumn, CreatedTable};

@@ -80,17 +80,19 @@ const EVERYTHING: TrackingTables = TrackingTables {
     lock_row: true,
 };
 
+const PATH: &str = "db/two.json";
+
 #[test]
-fn two_changesets_and_back(rt: HostRuntime) -> Result<(), Fail> {
+fn two_changesets_run(rt: HostRuntime) -> Result<(), Fail> {
     let alloc = rt.alloc();
     let sets = read(alloc, TWO)?.unwrap_or(Items::new(alloc));
+    let refs = new_sets(alloc, PATH, &[], sets.as_slice())?;
+    assert_eq!(rt; refs.len(), 2);
     let stamp = Stamp {
         who: Text::new(alloc, "ci")?,
         reading: 1000,
     };
-    let path = Text::new(alloc, "db/two.json")?;
-    let refs = new_sets(alloc, path.as_str(), &[], sets.as_slice())?;
-    assert_eq!(rt; refs.len(), 2);
+    let path = Text::new(alloc, PATH)?;
     let entries = update_entries(alloc, NOTHING, &stamp, &path, 1, refs.as_slice())?;
     let mut shown = String::new(alloc);
     for entry in entries.as_slice() {
@@ -114,25 +116,46 @@ insert DATABASECHANGELOG '2' 'bob' 'db/two.json' '1970-01-01 00:00:01.000' 2 'EX
 update DATABASECHANGELOGLOCK
 "
     );
-    assert_eq!(rt;
-        update_text(alloc, "db/two.json", refs.as_slice())?.as_str(),
-        "ran db/two.json::1::ann
-ran db/two.json::2::bob
-update: 2 ran, 0 ran again, 0 marked, 0 skipped, 0 not fresh
-"
-    );
+    Ok(())
+}
+
+#[test]
+fn those_that_ran_are_not_new(rt: HostRuntime) -> Result<(), Fail> {
+    let alloc = rt.alloc();
+    let sets = read(alloc, TWO)?.unwrap_or(Items::new(alloc));
+    let refs = new_sets(alloc, PATH, &[], sets.as_slice())?;
+    assert_eq!(rt; refs.len(), 2);
+    let stamp = Stamp {
+        who: Text::new(alloc, "ci")?,
+        reading: 1000,
+    };
+    let path = Text::new(alloc, PATH)?;
     let rows = [row_after(alloc, &stamp, &path, 7, refs.as_slice()[0])?];
     assert_eq!(rt; greatest(&rows), 7);
-    let pending = new_sets(alloc, path.as_str(), &rows, sets.as_slice())?;
+    let pending = new_sets(alloc, PATH, &rows, sets.as_slice())?;
     assert_eq!(rt; pending.len(), 1);
     assert_eq!(rt; pending.as_slice()[0].id.as_str(), "2");
     assert_eq!(rt;
         new_sets(alloc, "db/other.json", &rows, sets.as_slice())?.len(),
         2
     );
-    let mut back = String::new(alloc);
+    Ok(())
+}
+
+#[test]
+fn the_last_changeset_is_taken_back(rt: HostRuntime) -> Result<(), Fail> {
+    let alloc = rt.alloc();
+    let sets = read(alloc, TWO)?.unwrap_or(Items::new(alloc));
+    let refs = new_sets(alloc, PATH, &[], sets.as_slice())?;
+    assert_eq!(rt; refs.len(), 2);
+    let stamp = Stamp {
+        who: Text::new(alloc, "ci")?,
+        reading: 1000,
+    };
+    let path = Text::new(alloc, PATH)?;
     let last = &refs.as_slice()[1..];
     let undone = rollback_entries(alloc, EVERYTHING, &stamp, &path, last)?;
+    let mut back = String::new(alloc);
     for entry in undone.as_slice() {
         show(&mut back, entry)?;
     }
@@ -145,8 +168,24 @@ delete DATABASECHANGELOG
 update DATABASECHANGELOGLOCK
 "
     );
+    Ok(())
+}
+
+#[test]
+fn what_is_done_is_told(rt: HostRuntime) -> Result<(), Fail> {
+    let alloc = rt.alloc();
+    let sets = read(alloc, TWO)?.unwrap_or(Items::new(alloc));
+    let refs = new_sets(alloc, PATH, &[], sets.as_slice())?;
+    assert_eq!(rt; refs.len(), 2);
     assert_eq!(rt;
-        rollback_text(alloc, "db/two.json", &refs.as_slice()[1..])?.as_str(),
+        update_text(alloc, PATH, refs.as_slice())?.as_str(),
+        "ran db/two.json::1::ann
+ran db/two.json::2::bob
+update: 2 ran, 0 ran again, 0 marked, 0 skipped, 0 not fresh
+"
+    );
+    assert_eq!(rt;
+        rollback_text(alloc, PATH, &refs.as_slice()[1..])?.as_str(),
         "rolled back db/two.json::2::bob
 rollback: 1 rolled back
 "
@@ -173,7 +212,7 @@ fn openings(alloc: Global, there: TrackingTables, set: &ChangeSet) -> Result<Str
         who: Text::new(alloc, "ci")?,
         reading: 1000,
     };
-    let path = Text::new(alloc, "db/two.json")?;
+    let path = Text::new(alloc, PATH)?;
     let mut shown = String::new(alloc);
     let update = update_entries(alloc, there, &stamp, &path, 1, &[set])?;
     let rollback = rollback_entries(alloc, there, &stamp, &path, &[set])?;
@@ -247,9 +286,8 @@ fn count_with(alloc: Global, inside: &str) -> Result<usize, NoMemory> {
 }
 
 #[test]
-fn tells_changelogs_from_others(rt: HostRuntime) -> Result<(), Fail> {
+fn tells_tables_from_others(rt: HostRuntime) -> Result<(), Fail> {
     let alloc = rt.alloc();
-    let column = r#""columns":[{"column":{"name":"x","type":"int"}}]"#;
     let good = [
         r#""tableName":"t","columns":[{"name":"x","type":"int"},{"name":"X","type":"int"}]"#,
         r#""tableName":7,"columns":[{"column":{"name":true,"type":"Text"}}]"#,
@@ -276,6 +314,13 @@ fn tells_changelogs_from_others(rt: HostRuntime) -> Result<(), Fail> {
     for inside in bad {
         assert_eq!(rt; count_with(alloc, inside)?, 0);
     }
+    Ok(())
+}
+
+#[test]
+fn tells_changesets_from_others(rt: HostRuntime) -> Result<(), Fail> {
+    let alloc = rt.alloc();
+    let column = r#""columns":[{"column":{"name":"x","type":"int"}}]"#;
     let one = format!(in alloc; "{{\"createTable\":{{\"tableName\":\"t\",{column}}}}}")?;
     let rest = format!(in alloc; ",\"author\":\"a\",\"changes\":[{one}]")?;
     let set = format!(in alloc; "\"id\":\"1\"{rest}")?;
@@ -293,6 +338,12 @@ fn tells_changelogs_from_others(rt: HostRuntime) -> Result<(), Fail> {
     for inside in others.as_slice() {
         assert_eq!(rt; count_in(alloc, inside.as_str())?, 0);
     }
+    Ok(())
+}
+
+#[test]
+fn tells_lists_from_others(rt: HostRuntime) -> Result<(), Fail> {
+    let alloc = rt.alloc();
     let empty = read(alloc, r#"{"databaseChangeLog":[]}"#)?;
     assert_eq!(rt; empty.map(|sets| sets.len()), Some(0));
     assert!(rt; read(alloc, r#"{"databaseChangeLog":{}}"#)?.is_none());
