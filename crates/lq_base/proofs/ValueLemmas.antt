@@ -1,9 +1,8 @@
 -- What a literal becomes in a kind is a value of the kind.
-use Rattle.std.proofs.Common.{◌≡◌, ℕ, zero, suc, ◌+◌, ◌-◌, ◌*◌, ◌^◌, ◌<◌, ◌≤◌, Bool, true, false, cond, ◌&&◌, nat_lt, nat_le, ◌==◌, refl, arith, tests, rules, ℤ, pos, neg_ℤ, ◌+ℤ◌, ◌*ℤ◌, ◌≤ℤ◌, unsigned_abs, List, [], ◌∷◌, length, take, drop, Option, Some, None, Result, Ok, Err, option_and_then, option_map, ap, subst, ◌⊎◌, inl, inr}
-use Rattle.std.specs.Int.{is_negative, is_in_range, IsInRange}
+use Rattle.std.proofs.Common.{◌≡◌, ℕ, ◌+◌, ◌-◌, ◌*◌, ◌^◌, ◌<◌, ◌≤◌, Bool, true, false, cond, ◌&&◌, nat_lt, nat_le, refl, arith, tests, rules, ℤ, pos, neg_ℤ, ◌+ℤ◌, ◌*ℤ◌, ◌≤ℤ◌, List, [], ◌∷◌, length, take, drop, Option, Some, None, Result, Ok, Err, option_and_then, option_map, ap, subst, ◌⊎◌, inl, inr}
+use Rattle.std.specs.Int.{is_in_range, IsInRange}
 use Rattle.std.specs.Char.{is_ascii_digit, digit_value}
 use Rattle.std.specs.List.{list_all}
-use Rattle.std.specs.Ordering.{int_eq}
 use Rattle.std.specs.Str.Parse.{digits_value_after}
 use Rattle.std.proofs.lemmas.Int.{ints}
 use Rattle.std.proofs.lemmas.List.{length-take}
@@ -17,12 +16,12 @@ use Rattle.lq_base.specs.declared.kind.Kind.TheVariants as kind
 use Rattle.lq_base.specs.declared.literal.Literal.{Literal}
 use Rattle.lq_base.specs.declared.literal.Literal.TheVariants as literal
 use Rattle.lq_base.specs.declared.reason.Reason.{Reason}
-use Rattle.lq_base.specs.declared.reason.Reason.TheVariants.{WrongKind, TooWide}
+use Rattle.lq_base.specs.declared.reason.Reason.TheVariants.{TooWide}
 use Rattle.lq_base.specs.declared.value.Value.{Value}
 use Rattle.lq_base.specs.declared.value.Value.TheVariants as value
 use Rattle.lq_base.specs.Moment.{IsMoment, is_moment, digits_at, has_marks, day_number, day_of, clock_number, clock_of, moment_of}
-use Rattle.lq_base.specs.Number.{has_digits, signed, number_of}
-use Rattle.lq_base.specs.Value.{is_int32, is_int64, is_value_of, truth_of_number, said_by_number, truth_of_text, said_by_text, said_in, has_width, within_width, into_kind}
+use Rattle.lq_base.specs.Number.{number_of}
+use Rattle.lq_base.specs.Value.{is_value_of, said_by_number, said_by_text, said_in, has_width, within_width, into_kind}
 use Rattle.lq_base.proofs.DayLemmas.{first_day_le}
 use Rattle.lq_base.proofs.NumberLemmas.{both_true, next_digit_fits, ten_pow_le}
 

@@ -1,4 +1,4 @@
-ghost use Rattle.std.specs.Prelude.{◌≡◌, List, ℕ, Ok, ◌*◌, ◌^◌, ◌<◌, ◌≤◌, if◌then◌else◌, Some, None, IfSome, IfOk, IsTrue};
+ghost use Rattle.std.specs.Prelude.{◌≡◌, List, ℕ, Ok, ◌*◌, ◌^◌, ◌<◌, if◌then◌else◌, Some, None, IfSome, IfOk, IsTrue};
 ghost use Rattle.lq_base.specs.Into.{Goes, GoesAs, is_number_kind};
 ghost use Rattle.lq_base.specs.Number.{has_digits};
 ghost use Rattle.lq_base.specs.Spells.{SpellsMoment, SpellsNumber};

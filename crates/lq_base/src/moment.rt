@@ -1,4 +1,4 @@
-ghost use Rattle.std.specs.Prelude.{◌≡◌, ◌↔◌, ◌<◌, ◌≤◌, ◌+◌, ◌*◌, ◌^◌, ◌%◌, ◌-◌, ◌++◌, ◌+ℤ◌, ◌*ℤ◌, ◌<ℤ◌, ◌≤ℤ◌, ℤ, pos, negsuc, neg_ℤ, unsigned_abs, ◌∷◌, take, drop, length, OnOk, OnErr, IfSome, ◌==◌, Some, None};
+ghost use Rattle.std.specs.Prelude.{◌≡◌, ◌↔◌, ◌<◌, ◌≤◌, ◌+◌, ◌*◌, ◌^◌, ◌%◌, ◌-◌, ◌++◌, ◌+ℤ◌, ◌*ℤ◌, ◌<ℤ◌, ◌≤ℤ◌, ℤ, pos, neg_ℤ, unsigned_abs, ◌∷◌, take, drop, length, OnOk, OnErr, IfSome, ◌==◌, Some, None};
 ghost use Rattle.jiff_core.specs.Date.{epoch_day};
 ghost use Rattle.lq_base.specs.Moment.{IsMoment, is_moment, has_byte, has_day_marks, has_clock_marks, has_marks, digits_at, day_number, day_of, clock_number, clock_of, moment_of, moment_text, text_since, clock_text, day_text, day_after, day_of_date};
 ghost use Rattle.lq_base.specs.Number.{last_digits};

@@ -1,9 +1,9 @@
-ghost use Rattle.std.specs.Prelude.{◌≡◌, ◌↔◌, ◌+◌, ◌*◌, ◌/◌, ◌^◌, ◌<◌, ◌≤◌, ◌==◌, ◌++◌, true, length, min, Some, None, OnOk, OnErr, string_bytes, unsigned_abs};
+ghost use Rattle.std.specs.Prelude.{◌≡◌, ◌↔◌, ◌+◌, ◌*◌, ◌/◌, ◌^◌, ◌<◌, ◌≤◌, ◌==◌, ◌++◌, true, length, min, Some, None, OnOk, OnErr, string_bytes};
 ghost use Rattle.std.specs.Bool.{OnTrue};
 ghost use Rattle.std.specs.Char.{is_ascii_digit};
 ghost use Rattle.std.specs.List.{list_all, position_or_len};
 ghost use Rattle.std.specs.Str.Parse.{digits_value_after, starts_with_minus};
-ghost use Rattle.lq_base.specs.Number.{signed, is_digits, is_dot, without_minus, whole_number, decimal_number, unsigned_number, number_of, has_digits, whole_text, last_digits, fixed_text};
+ghost use Rattle.lq_base.specs.Number.{signed, is_digits, without_minus, whole_number, decimal_number, unsigned_number, number_of, has_digits, whole_text, last_digits, fixed_text};
 ghost use Rattle.lq_base.specs.Spells.{SpellsNumber};
 ghost use Rattle.lq_base.specs.declared.literal.Literal.{Literal};
 

@@ -1,4 +1,4 @@
-ghost use Rattle.std.specs.Prelude.{◌≡◌, ◌⊎◌, ◌∷◌, ◌<◌, Err, length, OnSome, IfSome, option_map};
+ghost use Rattle.std.specs.Prelude.{◌≡◌, ◌⊎◌, ◌∷◌, ◌<◌, Err, length, IfSome, option_map};
 ghost use Rattle.lq_expr.specs.Cuts.{place, rest_of, negated, enclosed, is_close};
 ghost use Rattle.lq_expr.specs.Grammar as spec;
 ghost use Rattle.lq_expr.specs.Gives.{Gives};

@@ -1,5 +1,4 @@
 ghost use Rattle.std.specs.Prelude.{◌≡◌, ◌+◌, ◌<◌, ◌≤◌, ℕ, List, [], ◌∷◌, ◌++◌, length, take, drop, IfOk, OnOk, OnErr, vec_len, vec_capacity};
-ghost use Rattle.std.specs.Int.{w32, to_be_bytes};
 ghost use Rattle.lq_journal.specs.Body.{number, entry_of, size_of, AreTexts};
 
 use lq_base::{NoMemory, Text};

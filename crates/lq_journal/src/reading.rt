@@ -1,11 +1,9 @@
-ghost use Rattle.std.specs.Prelude.{◌≡◌, ◌+◌, ◌≤◌, ◌<◌, ◌^◌, ◌∷◌, ◌++◌, List, length, take, IfOk, IfErr, IsNone, MatchOption, Some, None, Ok, true, false};
-ghost use Rattle.std.specs.Option.{ForSome, option_map};
+ghost use Rattle.std.specs.Prelude.{◌≡◌, ◌+◌, ◌≤◌, ◌<◌, ◌^◌, ◌∷◌, ◌++◌, length, take, IfOk, IfErr, IsNone, MatchOption, Some, None, Ok, true, false};
+ghost use Rattle.std.specs.Option.{ForSome};
 ghost use Rattle.std.specs.Str.{is_utf8};
 ghost use Rattle.lq_journal.specs.Body.{front_number, with_text, texts_from, if_any, texts_of};
 ghost use Rattle.lq_journal.specs.Frames.{entry_len, header};
-ghost use Rattle.lq_journal.specs.Journal.{journal_of, used_by};
 ghost use Rattle.lq_journal.specs.Reading.{IsNext, IsEnd, IsStepFault, IsFound, IsReadFault};
-ghost use Rattle.lq_journal.specs.State.{Stands};
 
 use crate::entry::Entry;
 use crate::fault::LoadFault;

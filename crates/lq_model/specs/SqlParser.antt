@@ -1,5 +1,5 @@
 -- What the rules of the grammar are made of. A parser takes words from the front of some, or refuses them.
-use Rattle.std.specs.Prelude.{ℕ, zero, suc, Bool, if◌then◌else◌, List, [], ◌∷◌, ◌++◌, length, Option, Some, None}
+use Rattle.std.specs.Prelude.{ℕ, zero, suc, Bool, if◌then◌else◌, List, [], ◌∷◌, length, Option, Some, None}
 use denote.Enum.Bare.{sameb}
 use Rattle.lq_model.specs.contracts.word.WordKind.{the_type}
 use Rattle.lq_model.specs.declared.word.Word.{Word}

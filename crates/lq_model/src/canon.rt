@@ -1,4 +1,4 @@
-ghost use Rattle.std.specs.Prelude.{◌≡◌, ◌++◌, ◌∷◌, [], Bool, IfOk, OnOk, OnErr, Some, codes, length, string_bytes};
+ghost use Rattle.std.specs.Prelude.{◌≡◌, ◌++◌, ◌∷◌, [], IfOk, OnOk, OnErr, Some, codes, length, string_bytes};
 ghost use Rattle.lq_model.specs.Canon.{GoesOn, Writing, atom, canonical, innermost, number, numeral, signed_numeral, text, truth, without_innermost};
 ghost use Rattle.lq_model.specs.declared.canon.Begun.TheVariants as begun_of;
 

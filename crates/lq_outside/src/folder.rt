@@ -1,4 +1,4 @@
-ghost use Rattle.std.specs.Prelude.{◌≡◌, ◌++◌, ◌∷◌, [], ◌↔◌, IfOk, IsTrue, OnOk, Some, slice_get, List, ℕ};
+ghost use Rattle.std.specs.Prelude.{◌≡◌, ◌++◌, ◌∷◌, ◌↔◌, IfOk, IsTrue, OnOk, Some, slice_get, List, ℕ};
 ghost use Rattle.std.specs.List.{Contains};
 ghost use Rattle.lq_outside.specs.Folder.{held_in, IsFound, IsListing, IsUnder, Notes};
 

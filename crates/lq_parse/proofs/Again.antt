@@ -14,7 +14,7 @@ use Rattle.lq_model.specs.declared.test.Op.{Op}
 use Rattle.lq_model.specs.declared.test.Op.TheVariants as op
 use Rattle.lq_model.specs.declared.test.Operand.{Operand}
 use Rattle.lq_model.specs.declared.test.Operand.TheVariants as side
-use Rattle.lq_model.specs.declared.test.Test.{And, And', Compare, IsNull, Not, Not', NotNull, Or, Or', Test, end_of-Test, more_of-Test}
+use Rattle.lq_model.specs.declared.test.Test.{And, Compare, IsNull, Not, NotNull, Or, Test}
 use Rattle.lq_model.specs.declared.word.Word.{Word}
 use Rattle.lq_model.specs.declared.word.WordKind.{WordKind}
 use Rattle.lq_model.specs.declared.word.WordKind.TheVariants as word

@@ -7,7 +7,7 @@ use Rattle.lq_model.specs.SqlParser.{Outcome, Parser, after, and_more, and_then,
 use Rattle.lq_model.specs.SqlTest.{any_test, comparison, most, primary, product, sum, term}
 use Rattle.lq_model.specs.declared.fault.ParseFault.{ParseFault}
 use Rattle.lq_model.specs.declared.fault.ParseFault.TheVariants.{NotSql, OutOfMemory}
-use Rattle.lq_model.specs.declared.test.Test.{And, Not, Or, Test}
+use Rattle.lq_model.specs.declared.test.Test.{Test}
 use Rattle.lq_model.specs.declared.test.Test.TheVariants as test
 use Rattle.lq_model.specs.declared.word.Word.{Word}
 use Rattle.lq_model.specs.declared.word.WordKind.{WordKind}

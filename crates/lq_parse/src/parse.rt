@@ -1,4 +1,3 @@
-ghost use Rattle.std.specs.Prelude.{◌≡◌};
 ghost use Rattle.lq_model.specs.Reads.{Gives, Reads};
 ghost use Rattle.lq_model.specs.SqlParser as parser;
 ghost use Rattle.lq_model.specs.SqlQuery.{query};

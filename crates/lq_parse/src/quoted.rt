@@ -1,4 +1,4 @@
-ghost use Rattle.std.specs.Prelude.{◌≡◌, ◌++◌, slice_index, drop, IfOk, OnOk};
+ghost use Rattle.std.specs.Prelude.{◌≡◌, ◌++◌, IfOk, OnOk};
 ghost use Rattle.lq_base.specs.SqlQuoted.{is_pair};
 ghost use Rattle.lq_model.specs.SqlWord as spec;
 

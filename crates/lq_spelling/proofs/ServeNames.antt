@@ -15,7 +15,7 @@ use Rattle.lq_model.specs.declared.word.Word.{Word}
 use Rattle.lq_model.specs.declared.word.WordKind.{WordKind}
 use Rattle.lq_model.specs.declared.word.WordKind.TheVariants as word
 use Rattle.lq_spelling.proofs.ServeKinds as loose
-use Rattle.lq_spelling.proofs.ServeKinds.{Loose, apart, kind_at, kind_of, name_at}
+use Rattle.lq_spelling.proofs.ServeKinds.{Loose, apart, kind_of, name_at}
 use Rattle.lq_spelling.proofs.ServeParts.{Goes, Serves, Tells, said_there, serves_eat, serves_expect, serves_given, serves_if, serves_peek, serves_pure, serves_refuse, serves_skip, serves_taken, serves_then}
 
 pub serves_name : Serves name

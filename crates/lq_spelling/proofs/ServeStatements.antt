@@ -21,7 +21,7 @@ use Rattle.lq_model.specs.declared.statement.Statement.TheVariants.{AddColumn, C
 use Rattle.lq_model.specs.declared.word.WordKind.{WordKind}
 use Rattle.lq_model.specs.declared.word.WordKind.TheVariants as word
 use Rattle.lq_spelling.proofs.ServeKinds as loose
-use Rattle.lq_spelling.proofs.ServeKinds.{IsLoose, Loose, apart, kind_of, loose_of}
+use Rattle.lq_spelling.proofs.ServeKinds.{Loose, apart, kind_of}
 use Rattle.lq_spelling.proofs.ServeNames.{serves_kind, serves_literal, serves_name}
 use Rattle.lq_spelling.proofs.ServeParts.{Serves, Tells, serves_eat, serves_enclosed, serves_expect, serves_if, serves_peek, serves_pure, serves_refuse, serves_separated, serves_skip, serves_then}
 use Rattle.lq_spelling.proofs.ServeTables.{serves_added, serves_constraint, serves_table, starts_same}

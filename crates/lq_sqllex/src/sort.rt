@@ -1,4 +1,4 @@
-ghost use Rattle.std.specs.Prelude.{◌≡◌, slice_index};
+ghost use Rattle.std.specs.Prelude.{◌≡◌};
 ghost use Rattle.lq_base.specs.SqlLexeme.{begins_number, plain_sort, sort_at};
 
 use crate::byte::{byte_at, is_blank, is_name_quote, is_text_quote, is_word_byte};

@@ -1,4 +1,4 @@
-ghost use Rattle.std.specs.Prelude.{◌≡◌, ◌≤◌, ◌+◌, IfOk, IfErr, length, map, true, is_some, IfSome};
+ghost use Rattle.std.specs.Prelude.{◌≡◌, ◌≤◌, ◌+◌, IfOk, map, true, is_some, IfSome};
 ghost use Rattle.std.specs.List.{list_all, list_any};
 ghost use Rattle.lq_create.specs.Script.{greatest};
 ghost use Rattle.lq_model.specs.Script.{entries};

@@ -1,4 +1,4 @@
-ghost use Rattle.std.specs.Prelude.{◌≡◌, ◌≤◌, ◌⊎◌, List, Option, ℕ, IfOk, IfErr, Err, None, length, map, min, string_bytes};
+ghost use Rattle.std.specs.Prelude.{◌≡◌, ◌≤◌, ◌⊎◌, List, Option, ℕ, IfOk, IfErr, Err, None, map, string_bytes};
 ghost use Rattle.lq_journal.specs.State.{disk_of, used_of};
 ghost use Rattle.lq_outside.specs.Count.{Rose};
 ghost use Rattle.lq_top.specs.Clock.{ReadAtMostOnce, ReadOnce};

@@ -1,6 +1,4 @@
-ghost use Rattle.std.specs.Prelude.{◌≡◌, ◌∷◌, [], map, IfOk, Some, ℕ, List};
-ghost use Rattle.lq_base.specs.declared.literal.Literal.TheVariants as literal;
-ghost use Rattle.lq_model.specs.declared.statement.Statement.TheVariants as statement;
+ghost use Rattle.std.specs.Prelude.{◌≡◌, map, IfOk, Some};
 ghost use Rattle.lq_track.specs.Log.{log_column, log_name, log_table, log_value, log_set};
 ghost use Rattle.lq_base.specs.Moment.{IsMoment};
 ghost use Rattle.lq_track.specs.Statements.{log_holds, row_test, row_inserted, row_again, row_deleted, row_set, tag_set, sum_filled};

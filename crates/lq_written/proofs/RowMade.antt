@@ -1,5 +1,5 @@
 -- The row that is made from what a statement tells.
-use Rattle.std.proofs.Common.{◌≡◌, ◌∙◌, ℕ, List, [], None, Some, codes, pos, refl}
+use Rattle.std.proofs.Common.{◌≡◌, ℕ, List, [], None, Some, codes, pos, refl}
 use Rattle.std.specs.Str.{chars}
 use Rattle.lq_base.specs.Number.{last_digits}
 use Rattle.lq_base.specs.declared.tracking.Exec.TheVariants.{Executed}

@@ -1,4 +1,4 @@
-ghost use Rattle.std.specs.Prelude.{◌≡◌, ℕ, ◌+◌, ◌*◌, ◌<◌, ◌^◌, IfOk, length, option_map, List, [], ◌∷◌, ◌++◌};
+ghost use Rattle.std.specs.Prelude.{◌≡◌, ◌+◌, ◌*◌, ◌<◌, ◌^◌, IfOk, length, option_map, List, [], ◌++◌};
 ghost use Rattle.lq_yaml.specs.Line.{is_end, colon, value_if, scalar_token, behind_pair, header, value_token, value_tokens, key, behind_key, entry_tokens, is_dash, tokens_at};
 ghost use Rattle.lq_yaml.specs.Follows.{Gives};
 

@@ -1,4 +1,4 @@
-ghost use Rattle.std.specs.Prelude.{◌≡◌, IfOk, IsTrue};
+ghost use Rattle.std.specs.Prelude.{◌≡◌, IfOk};
 ghost use Rattle.lq_yaml.specs.Machine.{begun, fits, filled, next};
 ghost use Rattle.lq_yaml.specs.View.{part_of};
 

@@ -1,8 +1,8 @@
-ghost use Rattle.std.specs.Prelude.{◌≡◌, ℕ, ◌<◌, IfOk, OnOk, length, [], option_map};
+ghost use Rattle.std.specs.Prelude.{◌≡◌, ℕ, ◌<◌, IfOk, OnOk, length};
 ghost use Rattle.lq_yaml.specs.Machine.{cell_node, top, start, step, again, add_line, finish, put};
 ghost use Rattle.lq_yaml.specs.declared.place.Cell.TheVariants.{Empty};
 ghost use Rattle.lq_yaml.specs.declared.token.Token.TheVariants.{Begin};
-ghost use Rattle.lq_yaml.specs.View.{cell_of, stack, place_by, place_of, settled_place, Takes};
+ghost use Rattle.lq_yaml.specs.View.{cell_of, stack, place_of, settled_place, Takes};
 
 use crate::block::block_text;
 use crate::part::Part;

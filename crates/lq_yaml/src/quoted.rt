@@ -1,4 +1,4 @@
-ghost use Rattle.std.specs.Prelude.{◌≡◌, ◌≤◌, ◌<◌, IfOk, IfSome, length};
+ghost use Rattle.std.specs.Prelude.{◌≡◌, ◌<◌, IfOk, IfSome, length};
 ghost use Rattle.lq_yaml.specs.Scalar.{single, double, by_code, by_escape};
 ghost use Rattle.lq_yaml.specs.Meaning.{escaped, hex_digit, coded};
 ghost use Rattle.lq_yaml.specs.Follows.{one, Gives, Follows};

@@ -1,4 +1,4 @@
-use Rattle.std.proofs.Common.{rules, ◌≡◌, ◌-◌, Some, None, arith, codes, suc, sym, zero}
+use Rattle.std.proofs.Common.{rules, ◌≡◌, ◌-◌, Some, None, arith, codes, sym, zero}
 use Rattle.lq_written.specs.Front.{after}
 use Rattle.lq_written.specs.Reading.{front_column}
 use Rattle.lq_written.proofs.ColumnSteps.{columns_end, columns_none, columns_over, columns_step}
