@@ -16,3 +16,4 @@ pub mod SqlQuoted
 pub mod SqlComment
 pub mod SqlLexeme
 pub mod Units
+pub mod Options

@@ -1,4 +1,5 @@
-use lq_base::{Dialect, NoMemory, Reason, Text};
+pub use lq_base::KindFault;
+use lq_base::{NoMemory, Reason};
 use std::alloc::AllocError;
 use thiserror::Error;
 
@@ -40,22 +41,6 @@ impl From<AllocError> for ParseFault {
     fn from(_: AllocError) -> ParseFault {
         ParseFault::OutOfMemory
     }
-}
-
-/// Why a node is no change or condition. A key is given by its path from the node, as
-/// `columns[0].column.type`.
-#[derive(Debug, Drop, Error)]
-pub enum KindFault {
-    #[error("a key is missing")]
-    Missing(Text),
-    #[error("a key is unknown")]
-    Unknown(Text),
-    #[error("a key's value is bad")]
-    Bad(Text),
-    #[error("the change is not for this dialect")]
-    NotFor(Dialect),
-    #[error("out of memory")]
-    OutOfMemory,
 }
 
 /// Why a call of the store did not do what was asked.
