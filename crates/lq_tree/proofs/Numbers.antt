@@ -1,5 +1,5 @@
 -- A decimal number that a text spells has a digit on both sides of the point, and at most 38 digits.
-use Rattle.std.proofs.Common.{◌≡◌, ◌+◌, ◌<◌, ◌≤◌, ◌^◌, ◌-◌, ℕ, ℤ, List, Bool, Option, Some, true, false, ap, arith, length, ltb, refl, rules, sym, tests, zero, suc, ◌++◌, ◌∙◌, subst, length-append}
+use Rattle.std.proofs.Common.{◌≡◌, ◌<◌, ◌≤◌, ◌^◌, ◌-◌, ℕ, ℤ, List, Bool, Option, Some, true, false, ap, arith, length, ltb, refl, sym, zero, suc, ◌++◌, ◌∙◌, subst, length-append}
 use Rattle.std.specs.Prelude.{unsigned_abs}
 use Rattle.std.specs.Char.{is_ascii_digit}
 use Rattle.std.specs.List.{list_all}
@@ -8,7 +8,7 @@ use Rattle.std.proofs.Math.Nat.{pow-le-pow_right}
 use Rattle.std.proofs.lemmas.Bool.{and_from, and_parts, le-leb, lt-ltb, ltb-true}
 use Rattle.std.proofs.lemmas.Int.Digits.{digits_value-lt}
 use Rattle.std.proofs.lemmas.List.Folds.{list_all-append}
-use Rattle.lq_base.specs.Number.{is_digits, number_of, signed}
+use Rattle.lq_base.specs.Number.{number_of, signed}
 use Rattle.lq_base.specs.Spells.{IsPointed, IsWhole, SpellsNumber}
 use Rattle.lq_base.specs.declared.literal.Literal.{Literal}
 use Rattle.lq_base.specs.declared.literal.Literal.TheVariants as literal

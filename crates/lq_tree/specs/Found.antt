@@ -60,3 +60,16 @@ placed key OutOfMemory = OutOfMemory
 abbrev pub within : {A : Type 0} → List ℕ → Found A → Found A
 within key (Ok a) = Ok a
 within key (Err fault) = Err (placed key fault)
+
+-- the fault of a list as that of the map in which it stands at `key`: its path is empty or begins with the place of an item
+abbrev pub placed_list : List ℕ → KindFault → KindFault
+placed_list key (Missing path) = Missing (key ++ path)
+placed_list key (Unknown path) = Unknown (key ++ path)
+placed_list key (Bad path) = Bad (key ++ path)
+placed_list key (NotFor path d) = NotFor (key ++ path) d
+placed_list key OutOfMemory = OutOfMemory
+
+-- what is read of a list, as read of the map in which it stands at `key`
+abbrev pub within_list : {A : Type 0} → List ℕ → Found A → Found A
+within_list key (Ok a) = Ok a
+within_list key (Err fault) = Err (placed_list key fault)

@@ -1,7 +1,7 @@
-ghost use Rattle.std.specs.Prelude.{◌≡◌, IfOk, List, [], ℕ};
+ghost use Rattle.std.specs.Prelude.{◌≡◌, ◌++◌, IfOk, List, [], ℕ};
 ghost use Rattle.lq_base.specs.declared.dialect.Dialect.{Dialect};
 ghost use Rattle.lq_base.specs.declared.fault.KindFault.TheVariants.{Bad, Missing, NotFor, Unknown};
-ghost use Rattle.lq_tree.specs.Found.{Tells, below, placed};
+ghost use Rattle.lq_tree.specs.Found.{Tells, below, placed, placed_list};
 
 use lq_base::{Dialect, KindFault, NoMemory, Text};
 use std::alloc::Global;
@@ -28,6 +28,30 @@ pub fn placed(alloc: Global, key: &str, fault: KindFault) -> KindFault
         KindFault::Bad(path) => bad_at(below(alloc, key, path.as_str())),
         KindFault::NotFor { path, dialect } => {
             not_for_at(below(alloc, key, path.as_str()), dialect)
+        }
+        KindFault::OutOfMemory => KindFault::OutOfMemory,
+    }
+}
+
+fn joined(alloc: Global, key: &str, path: &str) -> Result<Text, NoMemory>
+    ensures { IfOk result (λ made. made ≡ key.now ++ path.now) }
+{
+    let mut made = Text::new(alloc, key)?;
+    made.push_str(path)?;
+    Ok(made)
+}
+
+/// The fault of a list as that of the map in which it stands at `key`: the place of an item follows
+/// the key without a dot, as in `preConditions[0].onFail`.
+pub fn placed_list(alloc: Global, key: &str, fault: KindFault) -> KindFault
+    ensures { Tells (placed_list key.now fault) result }
+{
+    match fault {
+        KindFault::Missing(path) => missing_at(joined(alloc, key, path.as_str())),
+        KindFault::Unknown(path) => unknown_at(joined(alloc, key, path.as_str())),
+        KindFault::Bad(path) => bad_at(joined(alloc, key, path.as_str())),
+        KindFault::NotFor { path, dialect } => {
+            not_for_at(joined(alloc, key, path.as_str()), dialect)
         }
         KindFault::OutOfMemory => KindFault::OutOfMemory,
     }

@@ -35,7 +35,8 @@ fn item<R: Reader>(
     read_at(alloc, path.as_str(), node, reader)
 }
 
-/// Each node of the list that stands at `key`, in order.
+/// Each node of the list that stands at `key`, in order. The path of a fault begins with the key and
+/// the item's place, as `columns[0]`; with an empty key it begins with the place, `[0]`.
 pub fn each_item<R: Reader>(
     alloc: Global,
     key: &str,

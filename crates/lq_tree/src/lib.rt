@@ -17,7 +17,7 @@ mod values;
 
 pub use blanks::{comma_parts, without_blanks};
 pub use columns::required_columns;
-pub use found::{bad, bad_key, missing, not_for, placed, unknown};
+pub use found::{bad, bad_key, missing, not_for, placed, placed_list, unknown};
 pub use given::Given;
 pub use items::{each_item, optional_items, required_items};
 pub use keys::{known, optional, public, required, required_unless};
