@@ -287,35 +287,35 @@ module _ {Key : Type 0} (d : Dialect) (m : Meaning Key) (keeps : IsKept m) (stam
       again false false e = Prim.cc
 
   module _ (x : Set Key) (fine : is_fitting d m stamp x ≡ true) where
-    short : is_short (row_for stamp 1 exec.Executed x) ≡ true
+    short : is_short (row_for stamp.reading 1 exec.Executed x) ≡ true
     short = and_right (list_all (m.is_for d) x.changes) _ fine
 
-    row_fits : (w : What) (e : Exec) (rows : List Tracked) → Once rows → fits_rows (record_in stamp w e x rows) rows ≡ true
+    row_fits : (w : What) (e : Exec) (rows : List Tracked) → Once rows → fits_rows (record_in stamp.reading w e x rows) rows ≡ true
     row_fits New e rows once = and_true _ _ short (next_place (greatest rows))
-    row_fits Again e rows once = and_true _ _ (and_left (is_stamped (row_for stamp 1 exec.Executed x)) _ short) (and_true _ _ (next_place (greatest rows)) (at_most (length (theirs x.identity rows)) (once x.identity)))
-    row_fits Fill e rows once = and_true _ _ (and_left (is_stamped (row_for stamp 1 exec.Executed x)) _ short) (and_true _ _ (next_place (greatest rows)) (at_most (length (theirs x.identity rows)) (once x.identity)))
+    row_fits Again e rows once = and_true _ _ (and_left (is_stamped (row_for stamp.reading 1 exec.Executed x)) _ short) (and_true _ _ (next_place (greatest rows)) (at_most (length (theirs x.identity rows)) (once x.identity)))
+    row_fits Fill e rows once = and_true _ _ (and_left (is_stamped (row_for stamp.reading 1 exec.Executed x)) _ short) (and_true _ _ (next_place (greatest rows)) (at_most (length (theirs x.identity rows)) (once x.identity)))
 
-    is_right : (w : What) (e : Exec) (rows : List Tracked) → IsNew w x rows → IsRight (record_in stamp w e x rows) rows
+    is_right : (w : What) (e : Exec) (rows : List Tracked) → IsNew w x rows → IsRight (record_in stamp.reading w e x rows) rows
     is_right New e rows new = new
     is_right Again e rows new = tt
     is_right Fill e rows new = tt
 
     sum_short : nat_le (char_count x.sum) 35 ≡ true
-    sum_short = and_left (is_within 35 (Some x.sum)) _ (and_right (is_moment (pos stamp.reading)) _ (and_left (is_stamped (row_for stamp 1 exec.Executed x)) _ short))
+    sum_short = and_left (is_within 35 (Some x.sum)) _ (and_right (is_moment (pos stamp.reading)) _ (and_left (is_stamped (row_for stamp.reading 1 exec.Executed x)) _ short))
 
     -- the turn fits
     set_fits : (c : Contents) (q : Choice) (s : Session) → Once c.rows → IsReady c s.seen → calls_fit d (calls_of_turn d m stamp (turn_by d m stamp x c.rows q) c) s ≡ true
-    set_fits c Fills s once ready = turn_fits d stamp.who (fill_turn d m stamp x) c s refl sum_short ready
-    set_fits c (Marks by) s once ready = turn_fits d stamp.who (mark_turn d m stamp by x c.rows) c s refl (row_fits by exec.MarkRan c.rows once) ready
-    set_fits c (Runs by why) s once ready = turn_fits d stamp.who (run_turn d m stamp by x c.rows) c s (all_spelled m keeps d x.changes (and_left (list_all (m.is_for d) x.changes) _ fine)) (row_fits by (exec_of by) c.rows once) ready
+    set_fits c Fills s once ready = turn_fits d stamp.who (fill_turn x) c s refl sum_short ready
+    set_fits c (Marks by) s once ready = turn_fits d stamp.who (mark_turn stamp.reading by x c.rows) c s refl (row_fits by exec.MarkRan c.rows once) ready
+    set_fits c (Runs by why) s once ready = turn_fits d stamp.who (run_turn d m stamp.reading by x c.rows) c s (all_spelled m keeps d x.changes (and_left (list_all (m.is_for d) x.changes) _ fine)) (row_fits by (exec_of by) c.rows once) ready
     set_fits c Passes s once ready = refl
     set_fits c Skips s once ready = refl
     set_fits c (Halts why) s once ready = refl
 
     still_once : (c : Contents) (q : Choice) → Chosen q x c.rows → Once c.rows → Once (turn_left d (turn_by d m stamp x c.rows q) c).rows
-    still_once c Fills chosen once = once_ending d (fill_turn d m stamp x) c tt once
-    still_once c (Marks by) chosen once = once_ending d (mark_turn d m stamp by x c.rows) c (is_right by exec.MarkRan c.rows chosen) once
-    still_once c (Runs by why) chosen once = once_ending d (run_turn d m stamp by x c.rows) c (is_right by (exec_of by) c.rows chosen) once
+    still_once c Fills chosen once = once_ending d (fill_turn x) c tt once
+    still_once c (Marks by) chosen once = once_ending d (mark_turn stamp.reading by x c.rows) c (is_right by exec.MarkRan c.rows chosen) once
+    still_once c (Runs by why) chosen once = once_ending d (run_turn d m stamp.reading by x c.rows) c (is_right by (exec_of by) c.rows chosen) once
     still_once c Passes chosen once = once
     still_once c Skips chosen once = once
     still_once c (Halts why) chosen once = once
@@ -329,16 +329,16 @@ module _ {Key : Type 0} (d : Dialect) (m : Meaning Key) (keeps : IsKept m) (stam
       let now = subst (λ (e : Contents). At (all_called d (set_calls d m stamp x c) s) (twice e)) (sym is) (taken_by d m keeps stamp (turn_by d m stamp x c.rows (choice x c)) c s at) in
       let still = subst (λ (e : Contents). IsSound d e.users) (sym is) (sound_by d m keeps stamp x c (choice x c) first sound) in
       let few = subst (λ (e : Contents). Once e.rows) (sym is) (still_once x this c (choice x c) (chosen_of x c (what x c.rows) refl) once) in
-      let more = sets_fit xs (settle d m stamp x c).contents (all_called d (set_calls d m stamp x c) s) (and_right (is_fitting d m stamp x) _ fine) still few now (calls_have d (set_calls d m stamp x c) s has) in
-      fits_both d (set_calls d m stamp x c) (calls_unless (settle d m stamp x c).stop (sets_calls d m stamp xs (settle d m stamp x c).contents)) s
+      let more = sets_fit xs (settle d m stamp.reading x c).contents (all_called d (set_calls d m stamp x c) s) (and_right (is_fitting d m stamp x) _ fine) still few now (calls_have d (set_calls d m stamp x c) s has) in
+      fits_both d (set_calls d m stamp x c) (calls_unless (settle d m stamp.reading x c).stop (sets_calls d m stamp xs (settle d m stamp.reading x c).contents)) s
       (set_fits x this c (choice x c) s once (record { contents = at.seen; log = has.1.log; row = has.1.row }))
-      (elim (settle d m stamp x c).stop as (λ (q : Option Stop). calls_fit d (calls_unless q (sets_calls d m stamp xs (settle d m stamp x c).contents)) (all_called d (set_calls d m stamp x c) s) ≡ true) [
+      (elim (settle d m stamp.reading x c).stop as (λ (q : Option Stop). calls_fit d (calls_unless q (sets_calls d m stamp xs (settle d m stamp.reading x c).contents)) (all_called d (set_calls d m stamp x c) s) ≡ true) [
         | None ↦ more
         | Some stop ↦ refl
       ])
 
 pub update_fits : {Key : Type 0} (m : Meaning Key) → IsKept m → UpdateFits m
-update_fits m keeps d stamp g database sound once bound fine = by (has_work d m stamp g.sets database.rows && not (is_halt (own_choice g (contents_of database)))) where
+update_fits m keeps d stamp g database sound once bound fine = by (has_work g.sets database.rows && not (is_halt (own_choice g (contents_of database)))) where
   by : (b : Bool) → calls_fit d (if b then with_lock stamp database (sets_calls d m stamp g.sets (contents_of database)) else []) (session_on database) ≡ true
   by false = refl
   by true =

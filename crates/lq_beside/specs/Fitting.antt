@@ -22,7 +22,7 @@ Once rows = (of : Identity) → length (theirs of rows) ≤ 1
 
 -- its changes were read for the dialect, and what its row will hold goes into the columns
 abbrev pub is_fitting : {Key : Type 0} → Dialect → Meaning Key → Stamp → Set Key → Bool
-is_fitting d m stamp x = list_all (m.is_for d) x.changes && is_short (row_for stamp 1 exec.Executed x)
+is_fitting d m stamp x = list_all (m.is_for d) x.changes && is_short (row_for stamp.reading 1 exec.Executed x)
 
 abbrev pub UpdateFits : {Key : Type 0} → Meaning Key → Type 0
 UpdateFits {Key} m = (d : Dialect) (stamp : Stamp) (g : Changelog Key) (database : Database) → IsSound d database.users → Once database.rows → nat_le stamp.reading 253402300799999 ≡ true

@@ -18,7 +18,7 @@ use Rattle.lq_turns.specs.Contents.{Contents, contents_of, with_contents}
 use Rattle.lq_turns.specs.Deed.{all_done, commits_itself, contents_after, done, if_accepted, lock_after, locked_after, rows_after}
 use Rattle.lq_turns.specs.Fitting.{RollbacksFit, is_deleted, is_formed, is_time}
 use Rattle.lq_turns.specs.Held.{all_fit, entry_deeds, fits, fits_lock, fits_rows}
-use Rattle.lq_turns.specs.Rollback.{goes_on, turns_made}
+use Rattle.lq_turns.specs.Rollback.{calls_if_finished, turns_made}
 use Rattle.lq_turns.specs.Script.{closing, if_missing, opening, with_lock}
 use Rattle.lq_turns.specs.Session.{Session, aborted, all_called, all_executed, closed, is_own, session_on, settled_if, settled_up}
 use Rattle.lq_turns.specs.Set.{Meaning}
@@ -295,12 +295,12 @@ deleted_fits (Filled of sum) rows is = Prim.cc
 deleted_fits (Tagged of tag) rows is = Prim.cc
 
 module _ {Key : Type 0} (d : Dialect) (m : Meaning Key) (who : List ℕ) where
-  goes_fit : (start : Database) (calls : List Call) (e : Ending) (t : Session) → Ready d start t → Ready d start (all_called d calls t) → Ready d start (all_called d (goes_on d m calls e) t)
+  goes_fit : (start : Database) (calls : List Call) (e : Ending) (t : Session) → Ready d start t → Ready d start (all_called d calls t) → Ready d start (all_called d (calls_if_finished calls e) t)
   goes_fit start calls (Finished c) t ready more = more
   goes_fit start calls (Refused c refusal) t ready more = ready
 
   turns_fit : (turns : List Turn) (c : Contents) (s : Session) → list_all (λ (t : Turn). list_all (is_statement d) t.statements && is_deleted t.row) turns ≡ true → (start : Database) → At s (twice c) → Ready d start s
-      → Ready d start (all_called d (turns_made d m who turns c) s)
+      → Ready d start (all_called d (turns_made d who turns c) s)
   turns_fit [] c s all start at ready = ready
   turns_fit (turn ∷ turns) c s all start at ready =
       let first = and_left (list_all (is_statement d) turn.statements && is_deleted turn.row) _ all in
@@ -308,12 +308,12 @@ module _ {Key : Type 0} (d : Dialect) (m : Meaning Key) (who : List ℕ) where
       let one = subst (λ e. Ready d start (all_called d (made d (turn_calls d who turn) e) s)) at.seen (calls_fit d start (turn_calls d who turn) s (subst (λ e. fitting d (turn_calls d who turn) e ≡ true) (sym at.seen) fit) ready) in
       let t = all_called d (made d (turn_calls d who turn) c) s in
       let more = turns_fit turns (contents_in (ending d turn c)) t (and_right (list_all (is_statement d) turn.statements && is_deleted turn.row) _ all) start (turn_taken d who turn c s at) one in
-      subst (Ready d start) (sym (calls_both d (made d (turn_calls d who turn) c) (goes_on d m (turns_made d m who turns (contents_in (ending d turn c))) (ending d turn c)) s))
-      (goes_fit start (turns_made d m who turns (contents_in (ending d turn c))) (ending d turn c) t one more)
+      subst (Ready d start) (sym (calls_both d (made d (turn_calls d who turn) c) (calls_if_finished (turns_made d who turns (contents_in (ending d turn c))) (ending d turn c)) s))
+      (goes_fit start (turns_made d who turns (contents_in (ending d turn c))) (ending d turn c) t one more)
 
 pub rollbacks_fit : {Key : Type 0} (m : Meaning Key) → RollbacksFit m
 rollbacks_fit m d stamp [] database all formed time = refl
 rollbacks_fit m d stamp (turn ∷ turns) database all formed time =
     let at = opened d stamp database in
-    locked_fits d stamp time database formed (turns_made d m stamp.who (turn ∷ turns) (contents_of database))
+    locked_fits d stamp time database formed (turns_made d stamp.who (turn ∷ turns) (contents_of database))
     (λ s seen committed ready. turns_fit d m stamp.who (turn ∷ turns) (contents_of database) s all database (record { committed = committed; seen = seen }) ready) at.seen at.committed

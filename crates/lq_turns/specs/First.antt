@@ -41,26 +41,26 @@ runs_unless (Some stop) more = []
 
 module _ {Key : Type 0} (d : Dialect) (m : Meaning Key) (stamp : Stamp) where
   abbrev pub keeps_nothing_by : Set Key → Contents → Choice → Bool
-  keeps_nothing_by x c (Marks by) = keeps_nothing (ending d (mark_turn d m stamp by x c.rows) c)
-  keeps_nothing_by x c (Runs by why) = keeps_nothing (run_ending d m stamp (run_turn d m stamp by x c.rows) x c)
+  keeps_nothing_by x c (Marks by) = keeps_nothing (ending d (mark_turn stamp.reading by x c.rows) c)
+  keeps_nothing_by x c (Runs by why) = keeps_nothing (run_ending d m stamp.reading (run_turn d m stamp.reading by x c.rows) x c)
   keeps_nothing_by x c _ = true
 
   -- each turn is that of a changeset without a row, and what is refused keeps nothing
   abbrev pub are_first : List (Set Key) → Contents → Bool
   are_first [] c = true
-  are_first (x ∷ xs) c = (is_first (what x c.rows) && keeps_nothing_by x c (choice x c)) && first_unless (settle d m stamp x c).stop (are_first xs (settle d m stamp x c).contents)
+  are_first (x ∷ xs) c = (is_first (what x c.rows) && keeps_nothing_by x c (choice x c)) && first_unless (settle d m stamp.reading x c).stop (are_first xs (settle d m stamp.reading x c).contents)
 
   abbrev pub run_by : Set Key → Contents → Choice → List (Run Key)
-  run_by x c (Marks by) = if_finished (record { set = x; reading = stamp.reading; is_marked = true }) (ending d (mark_turn d m stamp by x c.rows) c)
-  run_by x c (Runs by why) = if_finished (record { set = x; reading = stamp.reading; is_marked = false }) (run_ending d m stamp (run_turn d m stamp by x c.rows) x c)
+  run_by x c (Marks by) = if_finished (record { set = x; reading = stamp.reading; is_marked = true }) (ending d (mark_turn stamp.reading by x c.rows) c)
+  run_by x c (Runs by why) = if_finished (record { set = x; reading = stamp.reading; is_marked = false }) (run_ending d m stamp.reading (run_turn d m stamp.reading by x c.rows) x c)
   run_by x c _ = []
 
   -- those that ran or were marked
   abbrev pub runs_of : List (Set Key) → Contents → List (Run Key)
   runs_of [] c = []
-  runs_of (x ∷ xs) c = run_by x c (choice x c) ++ runs_unless (settle d m stamp x c).stop (runs_of xs (settle d m stamp x c).contents)
+  runs_of (x ∷ xs) c = run_by x c (choice x c) ++ runs_unless (settle d m stamp.reading x c).stop (runs_of xs (settle d m stamp.reading x c).contents)
 
 -- what an update of first turns ran is what ran since the contents that it began with
 abbrev pub UpdateRuns : {Key : Type 0} → Meaning Key → Type 0
 UpdateRuns {Key} m = (d : Dialect) (stamp : Stamp) (xs : List (Set Key)) (c : Contents) → IsSound d c.users → has_twin_rows c.rows ≡ false → AreRead d m xs
-    → are_first d m stamp xs c ≡ true → RanSince d m c (runs_of d m stamp xs c) (all_settled d m stamp xs c).contents
+    → are_first d m stamp xs c ≡ true → RanSince d m c (runs_of d m stamp xs c) (all_settled d m stamp.reading xs c).contents

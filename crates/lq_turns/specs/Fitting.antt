@@ -29,4 +29,4 @@ is_deleted (Tagged of tag) = false
 abbrev pub RollbacksFit : {Key : Type 0} → Meaning Key → Type 0
 RollbacksFit {Key} m = (d : Dialect) (stamp : Stamp) (turns : List Turn) (database : Database)
     → list_all (λ (t : Turn). list_all (is_statement d) t.statements && is_deleted t.row) turns ≡ true → is_formed database ≡ true → is_time stamp ≡ true
-    → all_fit d (entry_deeds d (rollback_of d m stamp turns database) database) database ≡ true
+    → all_fit d (entry_deeds d (rollback_of d stamp turns database) database) database ≡ true
