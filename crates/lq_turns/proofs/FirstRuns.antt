@@ -21,7 +21,7 @@ use Rattle.lq_track.specs.Log.{identity_of}
 use Rattle.lq_turns.specs.Contents.{Contents}
 use Rattle.lq_turns.specs.Deed.{has_place, is_of, rows_after}
 use Rattle.lq_turns.specs.Effects.{effects}
-use Rattle.lq_turns.specs.First.{UpdateRuns, are_first, first_unless, if_finished, is_first, keeps_nothing, keeps_nothing_by, run_by, runs_of, runs_unless}
+use Rattle.lq_turns.specs.First.{UpdateRuns, are_first, holds_unless, if_finished, is_first, keeps_nothing, keeps_nothing_by, run_by, runs_of, runs_unless}
 use Rattle.lq_turns.specs.Ran.{AreRowsOf, Run, all_effects, effects_of, exec_in}
 use Rattle.lq_turns.specs.Set.{Condition, IsKept, Meaning, Set, has_row, row_at}
 use Rattle.lq_turns.specs.Settle.{is_to_fill, runs_again, all_settled, choice, choice_of, followed, greatest, mark_turn, reacted, row_for, run_ending, run_turn, settle, settled_by, tested, what, what_by}
@@ -242,9 +242,9 @@ module _ {Key : Type 0} (d : Dialect) (m : Meaning Key) where
         → are_first d m stamp xs c ≡ true → Added d m (runs_of d m stamp xs c) c (all_settled d m stamp.reading xs c).contents
     all_add [] c read sound differ first = nothing_added c c refl sound differ
     all_add (x ∷ xs) c read sound differ first =
-        let both = and_left _ (first_unless (settle d m stamp.reading x c).stop (are_first d m stamp xs (settle d m stamp.reading x c).contents)) first in
+        let both = and_left _ (holds_unless (settle d m stamp.reading x c).stop (are_first d m stamp xs (settle d m stamp.reading x c).contents)) first in
         let one = one_adds x c (and_left _ (list_all (λ (y : Set Key). list_all (m.is_for d) y.changes) xs) read) sound differ (what x c.rows) refl (and_left _ (keeps_nothing_by d m stamp x c (choice x c)) both) (and_right (is_first (what x c.rows)) _ both) in
-        (elim (settle d m stamp.reading x c).stop as (λ o. first_unless o (are_first d m stamp xs (settle d m stamp.reading x c).contents) ≡ true
+        (elim (settle d m stamp.reading x c).stop as (λ o. holds_unless o (are_first d m stamp xs (settle d m stamp.reading x c).contents) ≡ true
         → Added d m (run_by d m stamp x c (choice x c) ++ runs_unless o (runs_of d m stamp xs (settle d m stamp.reading x c).contents)) c (followed o (settle d m stamp.reading x c) (all_settled d m stamp.reading xs)).contents) [
           | None ↦ λ more. added_both (run_by d m stamp x c (choice x c)) (runs_of d m stamp xs (settle d m stamp.reading x c).contents) c (settle d m stamp.reading x c).contents (all_settled d m stamp.reading xs (settle d m stamp.reading x c).contents).contents one
               (all_add xs (settle d m stamp.reading x c).contents (and_right (list_all (m.is_for d) x.changes) _ read) one.5 one.4 more)

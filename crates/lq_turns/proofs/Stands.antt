@@ -38,7 +38,8 @@ use Rattle.lq_turns.specs.declared.stamp.Stamp.{Stamp}
 use Rattle.lq_turns.specs.declared.stop.Stop.{Stop}
 use Rattle.lq_turns.specs.declared.turn.Turn.{Turn}
 use Rattle.lq_turns.specs.Turn.{Ending, Finished, Refused, contents_in, ending, made, turn_calls}
-use Rattle.lq_turns.specs.Within.{IsBetween, RollbackStands, RollbackStops, SyncStops, UpdateStands, UpdateStops}
+use Rattle.lq_turns.specs.First.{holds_unless}
+use Rattle.lq_turns.specs.Within.{IsBetween, RollbackStands, RollbackStops, SyncStops, UpdateStands, UpdateStops, gives_way, is_refused, is_turn_refused, none_gives_way}
 use Rattle.lq_turns.proofs.Entered.{is_finished}
 use Rattle.lq_turns.proofs.GoesOn.{onwards, skips, still}
 use Rattle.lq_turns.proofs.Journal.{same_ok}
@@ -166,26 +167,34 @@ some_turn is = Prim.cc
 
 -- an update
 
+refused_is : (e : Ending) → is_finished e ≡ false → is_refused e ≡ true
+refused_is (Finished c) over = Prim.cc
+refused_is (Refused c refusal) over = refl
+
+not_true : (b : Bool) → not b ≡ true → b ≡ false
+not_true true h = Prim.cc
+not_true false h = refl
+
 module _ {Key : Type 0} (d : Dialect) (m : Meaning Key) (keeps : IsKept m) (stamp : Stamp) where
-  -- a turn that finished is what its changeset made, and one that was refused stops the update or is skipped
-  finished_is : (x : Set Key) (made : Did) (why : Option Why) (n : ℕ) (e : Ending) → is_finished e ≡ false → (settled_as x made why n e).stop ≡ None → skips (settled_as x made why n e) ≡ false → ⊥
-  finished_is x made why n (Finished c) over stop skip = Prim.cc
-  finished_is x made why n (Refused c refusal) over stop skip = by x.fail_on_error stop skip where
-    by : (b : Bool) → (settled_as (record x { fail_on_error = b }) made why n (Refused c refusal)).stop ≡ None → skips (settled_as (record x { fail_on_error = b }) made why n (Refused c refusal)) ≡ false → ⊥
-    by true stop skip = Prim.cc
-    by false stop skip = Prim.cc
+  -- a turn that is refused stops the update, but for failOnError
+  finished_is : (x : Set Key) (made : Did) (why : Option Why) (n : ℕ) (e : Ending) → is_finished e ≡ false → (settled_as x made why n e).stop ≡ None → x.fail_on_error ≡ false
+  finished_is x made why n (Finished c) over stop = Prim.cc
+  finished_is x made why n (Refused c refusal) over stop = by x.fail_on_error stop where
+    by : (b : Bool) → (settled_as (record x { fail_on_error = b }) made why n (Refused c refusal)).stop ≡ None → b ≡ false
+    by true stop = Prim.cc
+    by false stop = refl
 
   refused_stops : (x : Set Key) (c : Contents) (q : Choice) (turn : Turn) → turn_by d m stamp x c.rows q ≡ Some turn → list_all (m.is_for d) x.changes ≡ true → IsSound d c.users
-      → is_finished (ending d turn c) ≡ false → (settled_by d m stamp.reading x c q).stop ≡ None → skips (settled_by d m stamp.reading x c q) ≡ false → ⊥
-  refused_stops x c Passes turn is read sound over stop skip = Prim.cc
-  refused_stops x c Skips turn is read sound over stop skip = Prim.cc
-  refused_stops x c (Halts why) turn is read sound over stop skip = Prim.cc
-  refused_stops x c Fills turn is read sound over stop skip =
+      → is_finished (ending d turn c) ≡ false → (settled_by d m stamp.reading x c q).stop ≡ None → x.fail_on_error ≡ false
+  refused_stops x c Passes turn is read sound over stop = Prim.cc
+  refused_stops x c Skips turn is read sound over stop = Prim.cc
+  refused_stops x c (Halts why) turn is read sound over stop = Prim.cc
+  refused_stops x c Fills turn is read sound over stop =
       let same = some_turn is in
       true_false (let well : is_finished (ending d (fill_turn x) c) ≡ true = refl in well) (ap (λ t. is_finished (ending d t c)) same ∙ over)
-  refused_stops x c (Marks w) turn is read sound over stop skip = finished_is x did.Marked None 0 (ending d (mark_turn stamp.reading w x c.rows) c) (ap (λ t. is_finished (ending d t c)) (some_turn is) ∙ over) stop skip
-  refused_stops x c (Runs w why) turn is read sound over stop skip = finished_is x (did_of w) why (not_fresh d m x.changes c.users) (run_ending d m stamp.reading (run_turn d m stamp.reading w x c.rows) x c)
-      (ap is_finished (run_is d m keeps stamp x (run_turn d m stamp.reading w x c.rows) c refl read sound) ∙ ap (λ t. is_finished (ending d t c)) (some_turn is) ∙ over) stop skip
+  refused_stops x c (Marks w) turn is read sound over stop = finished_is x did.Marked None 0 (ending d (mark_turn stamp.reading w x c.rows) c) (ap (λ t. is_finished (ending d t c)) (some_turn is) ∙ over) stop
+  refused_stops x c (Runs w why) turn is read sound over stop = finished_is x (did_of w) why (not_fresh d m x.changes c.users) (run_ending d m stamp.reading (run_turn d m stamp.reading w x c.rows) x c)
+      (ap is_finished (run_is d m keeps stamp x (run_turn d m stamp.reading w x c.rows) c refl read sound) ∙ ap (λ t. is_finished (ending d t c)) (some_turn is) ∙ over) stop
 
   finished_goes : (x : Set Key) (made : Did) (why : Option Why) (n : ℕ) (e : Ending) → is_finished e ≡ true → (settled_as x made why n e).stop ≡ None
   finished_goes x made why n (Finished c) over = refl
@@ -236,7 +245,7 @@ module _ {Key : Type 0} (d : Dialect) (m : Meaning Key) (keeps : IsKept m) (stam
     record IsPast (x : Set Key) (turns : List (Set Key)) (s : Session) : Type 0 where
       fine : Fine d IsStanding (session_on database) s
       begun : s.begun ≡ []
-      at : (here x turns).stop ≡ None → skips (here x turns) ≡ false → IsBetween stamp (here x turns).contents s.seen
+      at : (here x turns).stop ≡ None → gives_way d m stamp x (after turns) ≡ false → IsBetween stamp (here x turns).contents s.seen
 
     one_turn : (turns : List (Set Key)) (x : Set Key) (more : List (Set Key)) (s : Session) (turn : Turn) → sets ≡ turns ++ x ∷ more → (all_settled d m stamp.reading turns first).stop ≡ None
         → list_all (m.is_for d) x.changes ≡ true → IsSound d (after turns).users → turn_by d m stamp x (after turns).rows (choice x (after turns)) ≡ Some turn → Ready (after turns) s
@@ -255,9 +264,9 @@ module _ {Key : Type 0} (d : Dialect) (m : Meaning Key) (keeps : IsKept m) (stam
         record {
           fine = over.fine;
           begun = over.begun;
-          at = λ none skip. elim over.ended as (λ _. IsBetween stamp (here x turns).contents (all_called d (made d (turn_calls d stamp.who turn) c) s).seen) [
+          at = λ none way. elim over.ended as (λ _. IsBetween stamp (here x turns).contents (all_called d (made d (turn_calls d stamp.who turn) c) s).seen) [
             | inl e ↦ record { contents = e.2.contents ∙ sym (contents ∙ ap contents_in e.1); lock = e.2.lock }
-            | inr refused ↦ absurd (refused_stops x c q turn is read sound refused none skip)
+            | inr refused ↦ true_false (ap (λ b. not b && is_turn_refused d (turn_by d m stamp x c.rows q) c) (refused_stops x c q turn is read sound refused none) ∙ ap (λ t. is_turn_refused d t c) is ∙ refused_is (ending d turn c) refused) way
           ];
         }
 
@@ -267,12 +276,12 @@ module _ {Key : Type 0} (d : Dialect) (m : Meaning Key) (keeps : IsKept m) (stam
         (elim (turn_by d m stamp x (after turns).rows (choice x (after turns))) as (λ o. turn_by d m stamp x (after turns).rows (choice x (after turns)) ≡ o → IsPast x turns (all_called d (calls_of_turn d m stamp o (after turns)) s)) [
           | None ↦ λ is.
               let same = settled_is d m keeps stamp x (after turns) (choice x (after turns)) read sound ∙ ap (λ t. turn_left d t (after turns)) is in
-              record { fine = ready.fine; begun = ready.begun; at = λ none skip. record { contents = ready.at.contents ∙ sym same; lock = ready.at.lock } }
+              record { fine = ready.fine; begun = ready.begun; at = λ none way. record { contents = ready.at.contents ∙ sym same; lock = ready.at.lock } }
           | Some turn ↦ λ is. one_turn turns x more s turn are stop read sound is ready
         ]) refl
 
     all_past : (turns xs : List (Set Key)) (s : Session) → sets ≡ turns ++ xs → (all_settled d m stamp.reading turns first).stop ≡ None → AreRead d m xs → IsSound d (after turns).users
-        → skips (all_settled d m stamp.reading xs (after turns)) ≡ false → Ready (after turns) s → Fine d IsStanding (session_on database) (all_called d (sets_calls d m stamp xs (after turns)) s)
+        → none_gives_way d m stamp xs (after turns) ≡ true → Ready (after turns) s → Fine d IsStanding (session_on database) (all_called d (sets_calls d m stamp xs (after turns)) s)
     all_past turns [] s are stop read sound skip ready = ready.fine
     all_past turns (x ∷ xs) s are stop read sound skip ready =
         let one_read = and_left _ (list_all (λ (y : Set Key). list_all (m.is_for d) y.changes) xs) read in
@@ -280,27 +289,17 @@ module _ {Key : Type 0} (d : Dialect) (m : Meaning Key) (keeps : IsKept m) (stam
         let past = one_past turns x xs s are stop one_read sound ready in
         let t = all_called d (set_calls d m stamp x (after turns)) s in
         subst (λ (u : Session). Fine d IsStanding (session_on database) u) (sym (calls_both d (set_calls d m stamp x (after turns)) (calls_unless (here x turns).stop (sets_calls d m stamp xs (here x turns).contents)) s))
-        ((elim (here x turns).stop as (λ o. (here x turns).stop ≡ o → skips (followed o (here x turns) (all_settled d m stamp.reading xs)) ≡ false → Fine d IsStanding (session_on database) (all_called d (calls_unless o (sets_calls d m stamp xs (here x turns).contents)) t)) [
+        ((elim (here x turns).stop as (λ o. (here x turns).stop ≡ o → holds_unless o (none_gives_way d m stamp xs (here x turns).contents) ≡ true → Fine d IsStanding (session_on database) (all_called d (calls_unless o (sets_calls d m stamp xs (here x turns).contents)) t)) [
           | Some halt ↦ λ at none. past.fine
           | None ↦ λ at none.
               let more = one_more turns x None stop at refl in
-              let both = sym (any-append (λ h. is_skip h.what) (here x turns).happened (all_settled d m stamp.reading xs (here x turns).contents).happened) ∙ none in
-              let between_now = past.at at (or_left (skips (here x turns)) _ both) in
+              let between_now = past.at at (not_true (gives_way d m stamp x (after turns)) (and_left (not (gives_way d m stamp x (after turns))) _ skip)) in
               let next : Ready (after (turns ++ x ∷ [])) t = record { fine = past.fine; begun = past.begun; at = record { contents = between_now.contents ∙ sym more.0; lock = between_now.lock } } in
               subst (λ (c : Contents). Fine d IsStanding (session_on database) (all_called d (sets_calls d m stamp xs c) t)) more.0
               (all_past (turns ++ x ∷ []) xs t (are ∙ sym (append_assoc turns (x ∷ []) xs)) more.1 more_read
               (subst (λ (c : Contents). IsSound d c.users) (sym more.0) (still d m keeps stamp x (after turns) one_read sound))
-              (subst (λ (c : Contents). skips (all_settled d m stamp.reading xs c) ≡ false) (sym more.0) (or_right (skips (here x turns)) _ both)) next)
-        ]) refl skip)
-
-own_happened : (q : Choice) (c : Contents) (s : Settled) → is_halt q ≡ false → (by_own q c s).happened ≡ s.happened
-own_happened Passes c s is = refl
-own_happened Fills c s is = refl
-own_happened Skips c s is = refl
-own_happened (Marks by) c s is = refl
-own_happened (Runs by None) c s is = refl
-own_happened (Runs by (Some why)) c s is = refl
-own_happened (Halts why) c s is = Prim.cc
+              (subst (λ (c : Contents). none_gives_way d m stamp xs c ≡ true) (sym more.0) none) next)
+        ]) refl (and_right (not (gives_way d m stamp x (after turns))) _ skip))
 
 pub update_stops : {Key : Type 0} (m : Meaning Key) → IsKept m → UpdateStops m
 update_stops m keeps d stamp g database now front rest sound read unlocked skip is led held =
@@ -311,7 +310,7 @@ update_stops m keeps d stamp g database now front rest sound read unlocked skip 
           locked_stops d (IsStanding d m keeps stamp g.sets database unlocked) stamp database (unheld d m keeps stamp g.sets database unlocked)
           (λ e at. between d m keeps stamp g.sets database unlocked [] g.sets e refl refl at) unlocked (sets_calls d m stamp g.sets (contents_of database))
           (λ s ready. all_past d m keeps stamp g.sets database unlocked [] g.sets s refl refl read sound
-          (ap (λ hs. list_any (λ (h : Happened). is_skip h.what) hs) (sym (own_happened (own_choice g (contents_of database)) (contents_of database) (all_settled d m stamp.reading g.sets (contents_of database)) halt)) ∙ skip) ready)
+          skip ready)
           front rest now is led held
 
       none : (front rest : Journal) (now : Database) → (let nothing : Journal = [] in nothing) ≡ front ++ rest → all_done d (joined front) database ≡ Ok now → now.lock.locked ≡ true → UpdateStands d m stamp g.sets (contents_of database) now

@@ -31,9 +31,9 @@ abbrev pub if_finished : {A : Type 0} → A → Ending → List A
 if_finished x (Finished c) = x ∷ []
 if_finished x (Refused c refusal) = []
 
-abbrev pub first_unless : Option Stop → Bool → Bool
-first_unless None more = more
-first_unless (Some stop) more = true
+abbrev pub holds_unless : Option Stop → Bool → Bool
+holds_unless None more = more
+holds_unless (Some stop) more = true
 
 abbrev pub runs_unless : {Key : Type 0} → Option Stop → List (Run Key) → List (Run Key)
 runs_unless None more = more
@@ -48,7 +48,7 @@ module _ {Key : Type 0} (d : Dialect) (m : Meaning Key) (stamp : Stamp) where
   -- each turn is that of a changeset without a row, and what is refused keeps nothing
   abbrev pub are_first : List (Set Key) → Contents → Bool
   are_first [] c = true
-  are_first (x ∷ xs) c = (is_first (what x c.rows) && keeps_nothing_by x c (choice x c)) && first_unless (settle d m stamp.reading x c).stop (are_first xs (settle d m stamp.reading x c).contents)
+  are_first (x ∷ xs) c = (is_first (what x c.rows) && keeps_nothing_by x c (choice x c)) && holds_unless (settle d m stamp.reading x c).stop (are_first xs (settle d m stamp.reading x c).contents)
 
   abbrev pub run_by : Set Key → Contents → Choice → List (Run Key)
   run_by x c (Marks by) = if_finished (record { set = x; reading = stamp.reading; is_marked = true }) (ending d (mark_turn stamp.reading by x c.rows) c)
