@@ -1,11 +1,15 @@
 -- Updates in which every turn is a first one.
-use Rattle.std.specs.Prelude.{Bool, List, None, Option, Some, [], false, true, ◌==◌, ◌&&◌, ◌++◌, ◌∷◌, ◌≡◌}
+use Rattle.std.specs.Prelude.{Bool, List, None, Option, Some, [], false, map, true, ℕ, ◌==◌, ◌&&◌, ◌++◌, ◌∷◌, ◌≡◌}
 use Rattle.lq_base.specs.declared.dialect.Dialect.{Dialect}
+use Rattle.lq_base.specs.declared.tracking.Tracked.{Tracked}
 use Rattle.lq_model.specs.Sound.{IsSound}
 use Rattle.lq_track.specs.Database.{has_twin_rows}
+use Rattle.lq_track.specs.Log.{identity_of}
 use Rattle.lq_turns.specs.Contents.{Contents}
+use Rattle.lq_turns.specs.Deed.{tagged}
 use Rattle.lq_turns.specs.Laws.{AreRead}
 use Rattle.lq_turns.specs.Ran.{RanSince, Run}
+use Rattle.lq_turns.specs.Script.{last_row}
 use Rattle.lq_turns.specs.Set.{Meaning, Set}
 use Rattle.lq_turns.specs.Settle.{all_settled, choice, mark_turn, run_ending, run_turn, settle, what}
 use Rattle.lq_turns.specs.declared.choice.Choice.{Choice}
@@ -64,3 +68,12 @@ module _ {Key : Type 0} (d : Dialect) (m : Meaning Key) (stamp : Stamp) where
 abbrev pub UpdateRuns : {Key : Type 0} → Meaning Key → Type 0
 UpdateRuns {Key} m = (d : Dialect) (stamp : Stamp) (xs : List (Set Key)) (c : Contents) → IsSound d c.users → has_twin_rows c.rows ≡ false → AreRead d m xs
     → are_first d m stamp xs c ≡ true → RanSince d m c (runs_of d m stamp xs c) (all_settled d m stamp.reading xs c).contents
+
+-- what ran since a point, and then since the later one, ran since the first
+abbrev pub RunsOn : {Key : Type 0} → Meaning Key → Type 0
+RunsOn {Key} m = (d : Dialect) (before now later : Contents) (xs ys : List (Run Key)) → RanSince d m before xs now → RanSince d m now ys later → RanSince d m before (xs ++ ys) later
+
+-- a tag on the last row is no matter, where that came since the point
+abbrev pub TagKeeps : {Key : Type 0} → Meaning Key → Type 0
+TagKeeps {Key} m = (d : Dialect) (tag : List ℕ) (before now : Contents) (x : Run Key) (xs : List (Run Key)) (row : Tracked) → RanSince d m before (x ∷ xs) now → last_row now.rows ≡ Some row
+    → RanSince d m before (x ∷ xs) (record now { rows = map (tagged (identity_of row) tag) now.rows })
