@@ -82,7 +82,7 @@ module _ (d : Dialect) where
   plain_fits (Locks Freed) c database plain ready = true_false plain refl
 
   -- what follows a deed fits, where it does from each session that is ready with what the deed leaves
-  after_deed : (deed : Deed) (calls : List Call) (c : Contents) (s : Session) → IsReady c s.seen → fits d deed s.seen ≡ true
+  pub after_deed : (deed : Deed) (calls : List Call) (c : Contents) (s : Session) → IsReady c s.seen → fits d deed s.seen ≡ true
       → ((now : Contents) → contents_after d deed c ≡ Ok now → IsReady now (with_contents (locked_after deed s.seen) now))
       → ((now : Contents) (t : Session) → contents_after d deed c ≡ Ok now → IsReady now t.seen → calls_fit d (made d calls now) t ≡ true)
       → calls_fit d (made d (Execute deed ∷ calls) c) s ≡ true

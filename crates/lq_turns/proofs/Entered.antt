@@ -16,7 +16,7 @@ use Rattle.lq_turns.specs.Contents.{Contents}
 use Rattle.lq_turns.specs.Deed.{commits_itself, if_accepted, rows_after}
 use Rattle.lq_turns.specs.Goes.{accepted_by, are_accepted, went}
 use Rattle.lq_turns.specs.Rest.{Inside, OfRows, OfSets, Turns, at_turn, between, chosen, if_goes_on, rest, turns_after, turns_calls}
-use Rattle.lq_turns.specs.Rollback.{goes_on, turns_made}
+use Rattle.lq_turns.specs.Rollback.{calls_if_finished, turns_made}
 use Rattle.lq_turns.specs.Script.{calls_of_turn, calls_unless, closing, sets_calls, turn_by}
 use Rattle.lq_turns.specs.Set.{IsKept, Meaning, Set}
 use Rattle.lq_turns.specs.Settle.{choice, fill_turn, mark_turn, run_ending, run_turn, settled_as, settled_by}
@@ -109,35 +109,35 @@ module _ {Key : Type 0} (d : Dialect) (m : Meaning Key) (keeps : IsKept m) (stam
       ∙ ap (λ (x : Contents × Contents). made d (turn_calls d stamp.who turn) c ++ turns_calls d m stamp (if_goes_on (is_finished (ending d turn c) || on) turns) x.0 ++ closing ∷ []) (turn_goes d stamp.who turn c)
 
   module _ (x : Set Key) (xs : List (Set Key)) (c : Contents) where
-    settled_next : (did : Did) (why : Option Why) (n : ℕ) (e : Ending) → calls_unless (settled_as d m stamp x did why n e).stop (sets_calls d m stamp xs (settled_as d m stamp x did why n e).contents)
+    settled_next : (did : Did) (why : Option Why) (n : ℕ) (e : Ending) → calls_unless (settled_as x did why n e).stop (sets_calls d m stamp xs (settled_as x did why n e).contents)
         ≡ turns_calls d m stamp (if_goes_on (is_finished e || not x.fail_on_error) (OfSets xs)) (contents_in e)
     settled_next did why n (Finished e) = refl
     settled_next did why n (Refused e refusal) = by x.fail_on_error where
-      by : (b : Bool) → calls_unless (settled_as d m stamp (record x { fail_on_error = b }) did why n (Refused e refusal)).stop (sets_calls d m stamp xs (settled_as d m stamp (record x { fail_on_error = b }) did why n (Refused e refusal)).contents)
+      by : (b : Bool) → calls_unless (settled_as (record x { fail_on_error = b }) did why n (Refused e refusal)).stop (sets_calls d m stamp xs (settled_as (record x { fail_on_error = b }) did why n (Refused e refusal)).contents)
           ≡ turns_calls d m stamp (if_goes_on (false || not b) (OfSets xs)) e
       by true = refl
       by false = refl
 
     enters_by : (q : Choice) → list_all (m.is_for d) x.changes ≡ true → IsSound d c.users
-        → (calls_of_turn d m stamp (turn_by d m stamp x c.rows q) c ++ calls_unless (settled_by d m stamp x c q).stop (sets_calls d m stamp xs (settled_by d m stamp x c q).contents)) ++ closing ∷ []
+        → (calls_of_turn d m stamp (turn_by d m stamp x c.rows q) c ++ calls_unless (settled_by d m stamp.reading x c q).stop (sets_calls d m stamp xs (settled_by d m stamp.reading x c q).contents)) ++ closing ∷ []
         ≡ rest d m stamp (at_turn d stamp.who (not x.fail_on_error) (turns_after q xs) (turn_by d m stamp x c.rows q)) (twice c)
     enters_by Passes read sound = refl
     enters_by Skips read sound = refl
     enters_by (Halts why) read sound = refl
-    enters_by Fills read sound = sym (inside_is (fill_turn d m stamp x) (not x.fail_on_error) (OfSets xs) c)
+    enters_by Fills read sound = sym (inside_is (fill_turn x) (not x.fail_on_error) (OfSets xs) c)
     enters_by (Marks by) read sound =
-        ap (λ calls. (made d (turn_calls d stamp.who (mark_turn d m stamp by x c.rows)) c ++ calls) ++ closing ∷ []) (settled_next _ None 0 (ending d (mark_turn d m stamp by x c.rows) c))
-        ∙ sym (inside_is (mark_turn d m stamp by x c.rows) (not x.fail_on_error) (OfSets xs) c)
+        ap (λ calls. (made d (turn_calls d stamp.who (mark_turn stamp.reading by x c.rows)) c ++ calls) ++ closing ∷ []) (settled_next _ None 0 (ending d (mark_turn stamp.reading by x c.rows) c))
+        ∙ sym (inside_is (mark_turn stamp.reading by x c.rows) (not x.fail_on_error) (OfSets xs) c)
     enters_by (Runs by why) read sound =
-        ap (λ calls. (made d (turn_calls d stamp.who (run_turn d m stamp by x c.rows)) c ++ calls) ++ closing ∷ []) (settled_next _ why _ (run_ending d m stamp (run_turn d m stamp by x c.rows) x c))
-        ∙ ap (λ e. from_turn (run_turn d m stamp by x c.rows) (not x.fail_on_error) (OfSets xs) c e) (run_is d m keeps stamp x (run_turn d m stamp by x c.rows) c refl read sound)
-        ∙ sym (inside_is (run_turn d m stamp by x c.rows) (not x.fail_on_error) (OfSets xs) c)
+        ap (λ calls. (made d (turn_calls d stamp.who (run_turn d m stamp.reading by x c.rows)) c ++ calls) ++ closing ∷ []) (settled_next _ why _ (run_ending d m stamp.reading (run_turn d m stamp.reading by x c.rows) x c))
+        ∙ ap (λ e. from_turn (run_turn d m stamp.reading by x c.rows) (not x.fail_on_error) (OfSets xs) c e) (run_is d m keeps stamp x (run_turn d m stamp.reading by x c.rows) c refl read sound)
+        ∙ sym (inside_is (run_turn d m stamp.reading by x c.rows) (not x.fail_on_error) (OfSets xs) c)
 
     pub enters : list_all (m.is_for d) x.changes ≡ true → IsSound d c.users → rest d m stamp (between (OfSets (x ∷ xs))) (twice c) ≡ rest d m stamp (chosen d m stamp x xs c) (twice c)
     enters read sound = enters_by (choice x c) read sound
 
   -- and so for a row that is taken back
-  row_next : (turns : List Turn) (e : Ending) → goes_on d m (turns_made d m stamp.who turns (contents_in e)) e ≡ turns_calls d m stamp (if_goes_on (is_finished e || false) (OfRows turns)) (contents_in e)
+  row_next : (turns : List Turn) (e : Ending) → calls_if_finished (turns_made d stamp.who turns (contents_in e)) e ≡ turns_calls d m stamp (if_goes_on (is_finished e || false) (OfRows turns)) (contents_in e)
   row_next turns (Finished c) = refl
   row_next turns (Refused c refusal) = refl
 

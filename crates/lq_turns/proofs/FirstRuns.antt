@@ -21,7 +21,7 @@ use Rattle.lq_track.specs.Log.{identity_of}
 use Rattle.lq_turns.specs.Contents.{Contents}
 use Rattle.lq_turns.specs.Deed.{has_place, is_of, rows_after}
 use Rattle.lq_turns.specs.Effects.{effects}
-use Rattle.lq_turns.specs.First.{UpdateRuns, are_first, first_unless, if_finished, is_first, keeps_nothing, keeps_nothing_by, run_by, runs_of, runs_unless}
+use Rattle.lq_turns.specs.First.{UpdateRuns, are_first, holds_unless, if_finished, is_first, keeps_nothing, keeps_nothing_by, run_by, runs_of, runs_unless}
 use Rattle.lq_turns.specs.Ran.{AreRowsOf, Run, all_effects, effects_of, exec_in}
 use Rattle.lq_turns.specs.Set.{Condition, IsKept, Meaning, Set, has_row, row_at}
 use Rattle.lq_turns.specs.Settle.{is_to_fill, runs_again, all_settled, choice, choice_of, followed, greatest, mark_turn, reacted, row_for, run_ending, run_turn, settle, settled_by, tested, what, what_by}
@@ -152,7 +152,7 @@ module _ {Key : Type 0} (d : Dialect) (m : Meaning Key) where
     one marked = record { set = x; reading = stamp.reading; is_marked = marked }
 
     abbrev its_row : Bool → Tracked
-    its_row marked = row_for stamp (greatest c.rows + 1) (exec_in marked) x
+    its_row marked = row_for stamp.reading (greatest c.rows + 1) (exec_in marked) x
 
     one_effect : (marked : Bool) (users : Catalogue) → effects_of d m (one marked) c.users ≡ Ok users → all_effects d m (one marked ∷ []) c.users ≡ Ok users
     one_effect marked users is = ap (effects_by []) is
@@ -206,14 +206,14 @@ module _ {Key : Type 0} (d : Dialect) (m : Meaning Key) where
         subst (λ z. keeps_nothing z ≡ true → Added d m (if_finished (record { set = x; reading = stamp.reading; is_marked = false }) z) c (contents_in z)) at (λ kept. nothing_added c _ (refused_unmoved d turn c before _ reason kept) sound differ) clean
 
     abbrev its_turn : Set Key → Contents → Turn
-    its_turn x c = run_turn d m stamp New x c.rows
+    its_turn x c = run_turn d m stamp.reading New x c.rows
 
     abbrev ended : Set Key → Contents → Result Catalogue Reason → Ending
     ended x c q = elim q as (λ _. Ending) [ Ok users ↦ row_ending d (its_turn x c) users c | Err reason ↦ ending d (its_turn x c) c ]
 
     run_adds : (x : Set Key) (c : Contents) → list_all (m.is_for d) x.changes ≡ true → IsSound d c.users → has_twin_rows c.rows ≡ false → has_row c.rows x.identity ≡ false
-        → keeps_nothing (run_ending d m stamp (run_turn d m stamp New x c.rows) x c) ≡ true
-        → Added d m (if_finished (record { set = x; reading = stamp.reading; is_marked = false }) (run_ending d m stamp (run_turn d m stamp New x c.rows) x c)) c (contents_in (run_ending d m stamp (run_turn d m stamp New x c.rows) x c))
+        → keeps_nothing (run_ending d m stamp.reading (run_turn d m stamp.reading New x c.rows) x c) ≡ true
+        → Added d m (if_finished (record { set = x; reading = stamp.reading; is_marked = false }) (run_ending d m stamp.reading (run_turn d m stamp.reading New x c.rows) x c)) c (contents_in (run_ending d m stamp.reading (run_turn d m stamp.reading New x c.rows) x c))
     run_adds x c read sound differ none = (elim (effects d m x.changes c.users) as (λ q. effects d m x.changes c.users ≡ q
         → keeps_nothing (ended x c q) ≡ true → Added d m (if_finished (record { set = x; reading = stamp.reading; is_marked = false }) (ended x c q)) c (contents_in (ended x c q))) [
           | Ok users ↦ λ is. row_by keeps stamp x c read sound differ none false (its_turn x c) users refl is (effects_kept m keeps d (record { set = x; reading = stamp.reading; is_marked = false }) false c.users users read sound is) (row_ending d (its_turn x c) users c) refl
@@ -221,7 +221,7 @@ module _ {Key : Type 0} (d : Dialect) (m : Meaning Key) where
         ]) refl
 
     abbrev Adds : Set Key → Contents → Choice → Type 0
-    Adds x c q = keeps_nothing_by d m stamp x c q ≡ true → Added d m (run_by d m stamp x c q) c (settled_by d m stamp x c q).contents
+    Adds x c q = keeps_nothing_by d m stamp x c q ≡ true → Added d m (run_by d m stamp x c q) c (settled_by d m stamp.reading x c q).contents
 
     one_adds : (x : Set Key) (c : Contents) → list_all (m.is_for d) x.changes ≡ true → IsSound d c.users → has_twin_rows c.rows ≡ false
         → (w : Option What) → what x c.rows ≡ w → is_first w ≡ true → Adds x c (choice_of x c w)
@@ -231,24 +231,24 @@ module _ {Key : Type 0} (d : Dialect) (m : Meaning Key) where
     one_adds x c read sound differ (Some New) is first =
         let none = new_at x c.rows is in
         tested_by New (Adds x c)
-        (λ why clean. subst (λ z. Added d m (run_by d m stamp x c (Runs New why)) c z) (sym (stopped_is d m keeps stamp x _ why _ (run_ending d m stamp (run_turn d m stamp New x c.rows) x c))) (run_adds x c read sound differ none clean))
+        (λ why clean. subst (λ z. Added d m (run_by d m stamp x c (Runs New why)) c z) (sym (stopped_is d m keeps stamp x _ why _ (run_ending d m stamp.reading (run_turn d m stamp.reading New x c.rows) x c))) (run_adds x c read sound differ none clean))
         (λ why clean. nothing_added c c refl sound differ)
         (λ clean. nothing_added c c refl sound differ)
-        (λ clean. subst (λ z. Added d m (run_by d m stamp x c (Marks New)) c z) (sym (stopped_is d m keeps stamp x _ None 0 (ending d (mark_turn d m stamp New x c.rows) c)))
-        (row_by keeps stamp x c read sound differ none true (mark_turn d m stamp New x c.rows) c.users refl refl sound (ending d (mark_turn d m stamp New x c.rows) c) refl clean))
+        (λ clean. subst (λ z. Added d m (run_by d m stamp x c (Marks New)) c z) (sym (stopped_is d m keeps stamp x _ None 0 (ending d (mark_turn stamp.reading New x c.rows) c)))
+        (row_by keeps stamp x c read sound differ none true (mark_turn stamp.reading New x c.rows) c.users refl refl sound (ending d (mark_turn stamp.reading New x c.rows) c) refl clean))
         x.condition (x.condition.told c)
 
     all_add : (xs : List (Set Key)) (c : Contents) → list_all (λ (x : Set Key). list_all (m.is_for d) x.changes) xs ≡ true → IsSound d c.users → has_twin_rows c.rows ≡ false
-        → are_first d m stamp xs c ≡ true → Added d m (runs_of d m stamp xs c) c (all_settled d m stamp xs c).contents
+        → are_first d m stamp xs c ≡ true → Added d m (runs_of d m stamp xs c) c (all_settled d m stamp.reading xs c).contents
     all_add [] c read sound differ first = nothing_added c c refl sound differ
     all_add (x ∷ xs) c read sound differ first =
-        let both = and_left _ (first_unless (settle d m stamp x c).stop (are_first d m stamp xs (settle d m stamp x c).contents)) first in
+        let both = and_left _ (holds_unless (settle d m stamp.reading x c).stop (are_first d m stamp xs (settle d m stamp.reading x c).contents)) first in
         let one = one_adds x c (and_left _ (list_all (λ (y : Set Key). list_all (m.is_for d) y.changes) xs) read) sound differ (what x c.rows) refl (and_left _ (keeps_nothing_by d m stamp x c (choice x c)) both) (and_right (is_first (what x c.rows)) _ both) in
-        (elim (settle d m stamp x c).stop as (λ o. first_unless o (are_first d m stamp xs (settle d m stamp x c).contents) ≡ true
-        → Added d m (run_by d m stamp x c (choice x c) ++ runs_unless o (runs_of d m stamp xs (settle d m stamp x c).contents)) c (followed o (settle d m stamp x c) (all_settled d m stamp xs)).contents) [
-          | None ↦ λ more. added_both (run_by d m stamp x c (choice x c)) (runs_of d m stamp xs (settle d m stamp x c).contents) c (settle d m stamp x c).contents (all_settled d m stamp xs (settle d m stamp x c).contents).contents one
-              (all_add xs (settle d m stamp x c).contents (and_right (list_all (m.is_for d) x.changes) _ read) one.5 one.4 more)
-          | Some stop ↦ λ more. subst (λ runs. Added d m runs c (settle d m stamp x c).contents) (sym (append-nil (run_by d m stamp x c (choice x c)))) one
+        (elim (settle d m stamp.reading x c).stop as (λ o. holds_unless o (are_first d m stamp xs (settle d m stamp.reading x c).contents) ≡ true
+        → Added d m (run_by d m stamp x c (choice x c) ++ runs_unless o (runs_of d m stamp xs (settle d m stamp.reading x c).contents)) c (followed o (settle d m stamp.reading x c) (all_settled d m stamp.reading xs)).contents) [
+          | None ↦ λ more. added_both (run_by d m stamp x c (choice x c)) (runs_of d m stamp xs (settle d m stamp.reading x c).contents) c (settle d m stamp.reading x c).contents (all_settled d m stamp.reading xs (settle d m stamp.reading x c).contents).contents one
+              (all_add xs (settle d m stamp.reading x c).contents (and_right (list_all (m.is_for d) x.changes) _ read) one.5 one.4 more)
+          | Some stop ↦ λ more. subst (λ runs. Added d m runs c (settle d m stamp.reading x c).contents) (sym (append-nil (run_by d m stamp x c (choice x c)))) one
         ]) (and_right (is_first (what x c.rows) && keeps_nothing_by d m stamp x c (choice x c)) _ first)
 
 pub update_runs : {Key : Type 0} (m : Meaning Key) → IsKept m → UpdateRuns m

@@ -89,16 +89,16 @@ module _ (who : List ℕ) (turn : Turn) where
 
 module _ {Key : Type 0} (m : Meaning Key) (keeps : IsKept m) (stamp : Stamp) where
   abbrev settled_one : Set Key → Contents → Settled
-  settled_one x c = settle Postgresql m stamp x c
+  settled_one x c = settle Postgresql m stamp.reading x c
 
   -- it wrote one entry or none, and none where it stops the command
   abbrev WroteOne : Set Key → Contents → Session → Choice → Type 0
-  WroteOne x c s q = (ds : List Deed) × Wrote s (all_called Postgresql (calls_of_turn Postgresql m stamp (turn_by Postgresql m stamp x c.rows q) c) s) (if_any ds) × (((settled_by Postgresql m stamp x c q).stop ≡ None) ⊎ (ds ≡ []))
+  WroteOne x c s q = (ds : List Deed) × Wrote s (all_called Postgresql (calls_of_turn Postgresql m stamp (turn_by Postgresql m stamp x c.rows q) c) s) (if_any ds) × (((settled_by Postgresql m stamp.reading x c q).stop ≡ None) ⊎ (ds ≡ []))
 
   none_wrote : (s : Session) → s.begun ≡ [] → Wrote s s []
   none_wrote s idle = record { entries = sym (append-nil s.entries); begun = idle }
 
-  stop_or_none : (x : Set Key) (what : Did) (why : Option Why) (n : ℕ) (e : Ending) (deeds : List Deed) → ((settled_as Postgresql m stamp x what why n e).stop ≡ None) ⊎ (entry_if (is_finished e) deeds ≡ [])
+  stop_or_none : (x : Set Key) (what : Did) (why : Option Why) (n : ℕ) (e : Ending) (deeds : List Deed) → ((settled_as x what why n e).stop ≡ None) ⊎ (entry_if (is_finished e) deeds ≡ [])
   stop_or_none x what why n (Finished c) deeds = inl refl
   stop_or_none x what why n (Refused c refusal) deeds = inr refl
 
@@ -129,13 +129,13 @@ module _ {Key : Type 0} (m : Meaning Key) (keeps : IsKept m) (stamp : Stamp) whe
   one_wrote x c s idle read sound Passes whole = ([], none_wrote s idle.begun, inr refl)
   one_wrote x c s idle read sound Skips whole = ([], none_wrote s idle.begun, inr refl)
   one_wrote x c s idle read sound (Halts why) whole = ([], none_wrote s idle.begun, inr refl)
-  one_wrote x c s idle read sound Fills whole = (its_deeds (fill_turn Postgresql m stamp x) c, turn_one (fill_turn Postgresql m stamp x) c s idle refl, inl refl)
-  one_wrote x c s idle read sound (Marks w) whole = (its_deeds (mark_turn Postgresql m stamp w x c.rows) c, turn_one (mark_turn Postgresql m stamp w x c.rows) c s idle refl, stop_or_none x _ None 0 (ending Postgresql (mark_turn Postgresql m stamp w x c.rows) c) _)
+  one_wrote x c s idle read sound Fills whole = (its_deeds (fill_turn x) c, turn_one (fill_turn x) c s idle refl, inl refl)
+  one_wrote x c s idle read sound (Marks w) whole = (its_deeds (mark_turn stamp.reading w x c.rows) c, turn_one (mark_turn stamp.reading w x c.rows) c s idle refl, stop_or_none x _ None 0 (ending Postgresql (mark_turn stamp.reading w x c.rows) c) _)
   one_wrote x c s idle read sound (Runs w why) whole = (
-    its_deeds (run_turn Postgresql m stamp w x c.rows) c,
-    turn_one (run_turn Postgresql m stamp w x c.rows) c s idle whole,
-    subst (λ e. ((settled_as Postgresql m stamp x (did_of w) why (not_fresh Postgresql m x.changes c.users) e).stop ≡ None) ⊎ (its_deeds (run_turn Postgresql m stamp w x c.rows) c ≡ []))
-        (sym (run_is Postgresql m keeps stamp x (run_turn Postgresql m stamp w x c.rows) c refl read sound)) (stop_or_none x (did_of w) why _ (ending Postgresql (run_turn Postgresql m stamp w x c.rows) c) _),
+    its_deeds (run_turn Postgresql m stamp.reading w x c.rows) c,
+    turn_one (run_turn Postgresql m stamp.reading w x c.rows) c s idle whole,
+    subst (λ e. ((settled_as x (did_of w) why (not_fresh Postgresql m x.changes c.users) e).stop ≡ None) ⊎ (its_deeds (run_turn Postgresql m stamp.reading w x c.rows) c ≡ []))
+        (sym (run_is Postgresql m keeps stamp x (run_turn Postgresql m stamp.reading w x c.rows) c refl read sound)) (stop_or_none x (did_of w) why _ (ending Postgresql (run_turn Postgresql m stamp.reading w x c.rows) c) _),
   )
 
   -- all of them
@@ -168,7 +168,7 @@ module _ {Key : Type 0} (m : Meaning Key) (keeps : IsKept m) (stamp : Stamp) whe
     turns = x ∷ is.turns;
     rest = is.rest;
     are = ap (λ ys. x ∷ ys) is.are;
-    goes_on = ap (λ o. (followed o (settled_one x c) (all_settled Postgresql m stamp is.turns)).stop) stop ∙ is.goes_on;
+    goes_on = ap (λ o. (followed o (settled_one x c) (all_settled Postgresql m stamp.reading is.turns)).stop) stop ∙ is.goes_on;
     entries =
         ap (λ (t : Session). t.entries) (calls_both Postgresql (set_calls Postgresql m stamp x c) (calls_unless (settled_one x c).stop (sets_calls Postgresql m stamp is.turns (settled_one x c).contents)) s)
         ∙ ap (λ o. (all_called Postgresql (calls_unless o (sets_calls Postgresql m stamp is.turns (settled_one x c).contents)) (after_one x c s)).entries) stop

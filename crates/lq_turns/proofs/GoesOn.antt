@@ -153,25 +153,25 @@ module _ {Key : Type 0} (d : Dialect) (m : Meaning Key) (keeps : IsKept m) (stam
   -- whether it was finished, told by what it gave
   ended_own : (x : Set Key) (c : Contents) (turn : Turn) (did : Did) (why : Option Why) (n : ℕ) → is_calm x ≡ true
       → ((now : List Tracked) → rows_after turn.row c.rows ≡ Ok now → HasSum (row_at x.identity now) (Some x.sum)) → (e : Ending) → RowsAre turn c e
-      → (settled_as d m stamp x did why n e).stop ≡ None → skips (settled_as d m stamp x did why n e) ≡ false → what x (settled_as d m stamp x did why n e).contents.rows ≡ None
+      → (settled_as x did why n e).stop ≡ None → skips (settled_as x did why n e) ≡ false → what x (settled_as x did why n e).contents.rows ≡ None
   ended_own x c turn did why n calm own (Finished e) are stop skip = no_turn x e.rows calm (own e.rows are)
   ended_own x c turn did why n calm own (Refused e refusal) are stop skip = by x.fail_on_error stop skip where
-    by : (b : Bool) → (settled_as d m stamp (record x { fail_on_error = b }) did why n (Refused e refusal)).stop ≡ None → skips (settled_as d m stamp (record x { fail_on_error = b }) did why n (Refused e refusal)) ≡ false
-        → what x (settled_as d m stamp x did why n (Refused e refusal)).contents.rows ≡ None
+    by : (b : Bool) → (settled_as (record x { fail_on_error = b }) did why n (Refused e refusal)).stop ≡ None → skips (settled_as (record x { fail_on_error = b }) did why n (Refused e refusal)) ≡ false
+        → what x (settled_as x did why n (Refused e refusal)).contents.rows ≡ None
     by true stop skip = Prim.cc
     by false stop skip = Prim.cc
 
   abbrev OwnTurn : Set Key → Contents → Choice → Type 0
-  OwnTurn x c q = (settled_by d m stamp x c q).stop ≡ None → skips (settled_by d m stamp x c q) ≡ false → what x (settled_by d m stamp x c q).contents.rows ≡ None
+  OwnTurn x c q = (settled_by d m stamp.reading x c q).stop ≡ None → skips (settled_by d m stamp.reading x c q) ≡ false → what x (settled_by d m stamp.reading x c q).contents.rows ≡ None
 
   tested_own : (x : Set Key) (c : Contents) → list_all (m.is_for d) x.changes ≡ true → IsSound d c.users → is_calm x ≡ true → (w : What) → what x c.rows ≡ Some w → OwnTurn x c (tested w x.condition (x.condition.told c))
   tested_own x c read sound calm w is = tested_by w (OwnTurn x c)
-      (λ why. subst (λ e. (settled_as d m stamp x (did_of w) why (not_fresh d m x.changes c.users) e).stop ≡ None → skips (settled_as d m stamp x (did_of w) why (not_fresh d m x.changes c.users) e) ≡ false → what x (settled_as d m stamp x (did_of w) why (not_fresh d m x.changes c.users) e).contents.rows ≡ None)
-      (sym (run_is d m keeps stamp x (run_turn d m stamp w x c.rows) c refl read sound))
-      (ended_own x c (run_turn d m stamp w x c.rows) (did_of w) why _ calm (own_row x c.rows (row_for stamp (greatest c.rows + 1) (exec_of w) x) refl refl w is) (ending d (run_turn d m stamp w x c.rows) c) (rows_are d (run_turn d m stamp w x c.rows) c)))
+      (λ why. subst (λ e. (settled_as x (did_of w) why (not_fresh d m x.changes c.users) e).stop ≡ None → skips (settled_as x (did_of w) why (not_fresh d m x.changes c.users) e) ≡ false → what x (settled_as x (did_of w) why (not_fresh d m x.changes c.users) e).contents.rows ≡ None)
+      (sym (run_is d m keeps stamp x (run_turn d m stamp.reading w x c.rows) c refl read sound))
+      (ended_own x c (run_turn d m stamp.reading w x c.rows) (did_of w) why _ calm (own_row x c.rows (row_for stamp.reading (greatest c.rows + 1) (exec_of w) x) refl refl w is) (ending d (run_turn d m stamp.reading w x c.rows) c) (rows_are d (run_turn d m stamp.reading w x c.rows) c)))
       (λ why stop skip. Prim.cc)
       (λ stop skip. Prim.cc)
-      (ended_own x c (mark_turn d m stamp w x c.rows) _ None 0 calm (own_row x c.rows (row_for stamp (greatest c.rows + 1) exec.MarkRan x) refl refl w is) (ending d (mark_turn d m stamp w x c.rows) c) (rows_are d (mark_turn d m stamp w x c.rows) c))
+      (ended_own x c (mark_turn stamp.reading w x c.rows) _ None 0 calm (own_row x c.rows (row_for stamp.reading (greatest c.rows + 1) exec.MarkRan x) refl refl w is) (ending d (mark_turn stamp.reading w x c.rows) c) (rows_are d (mark_turn stamp.reading w x c.rows) c))
       x.condition (x.condition.told c)
 
   -- one that runs only once, where it runs
@@ -207,15 +207,15 @@ module _ {Key : Type 0} (d : Dialect) (m : Meaning Key) (keeps : IsKept m) (stam
   turn_apart x other c apart Skips = refl
   turn_apart x other c apart (Halts why) = refl
   turn_apart x other c apart Fills = filled_apart other.identity x.identity apart x.sum c.rows
-  turn_apart x other c apart (Marks w) = ended_apart other.identity (mark_turn d m stamp w x c.rows) c (apart_row x other apart c.rows (row_for stamp (greatest c.rows + 1) exec.MarkRan x) refl w) (ending d (mark_turn d m stamp w x c.rows) c) (rows_are d (mark_turn d m stamp w x c.rows) c)
-  turn_apart x other c apart (Runs w why) = ended_apart other.identity (run_turn d m stamp w x c.rows) c (apart_row x other apart c.rows (row_for stamp (greatest c.rows + 1) (exec_of w) x) refl w) (ending d (run_turn d m stamp w x c.rows) c) (rows_are d (run_turn d m stamp w x c.rows) c)
+  turn_apart x other c apart (Marks w) = ended_apart other.identity (mark_turn stamp.reading w x c.rows) c (apart_row x other apart c.rows (row_for stamp.reading (greatest c.rows + 1) exec.MarkRan x) refl w) (ending d (mark_turn stamp.reading w x c.rows) c) (rows_are d (mark_turn stamp.reading w x c.rows) c)
+  turn_apart x other c apart (Runs w why) = ended_apart other.identity (run_turn d m stamp.reading w x c.rows) c (apart_row x other apart c.rows (row_for stamp.reading (greatest c.rows + 1) (exec_of w) x) refl w) (ending d (run_turn d m stamp.reading w x c.rows) c) (rows_are d (run_turn d m stamp.reading w x c.rows) c)
 
   -- all of them
 
-  one_is : (x : Set Key) (c : Contents) → list_all (m.is_for d) x.changes ≡ true → IsSound d c.users → (settle d m stamp x c).contents ≡ turn_left d (turn_by d m stamp x c.rows (choice x c)) c
+  one_is : (x : Set Key) (c : Contents) → list_all (m.is_for d) x.changes ≡ true → IsSound d c.users → (settle d m stamp.reading x c).contents ≡ turn_left d (turn_by d m stamp x c.rows (choice x c)) c
   one_is x c read sound = settled_is d m keeps stamp x c (choice x c) read sound
 
-  pub still : (x : Set Key) (c : Contents) → list_all (m.is_for d) x.changes ≡ true → IsSound d c.users → IsSound d (settle d m stamp x c).contents.users
+  pub still : (x : Set Key) (c : Contents) → list_all (m.is_for d) x.changes ≡ true → IsSound d c.users → IsSound d (settle d m stamp.reading x c).contents.users
   still x c read sound = subst (λ (e : Contents). IsSound d e.users) (sym (one_is x c read sound)) (sound_by d m keeps stamp x c (choice x c) read sound)
 
   abbrev are_read : List (Set Key) → Bool
@@ -224,33 +224,33 @@ module _ {Key : Type 0} (d : Dialect) (m : Meaning Key) (keeps : IsKept m) (stam
   unselected : (x : Set Key) (rows : List Tracked) → x.selected ≡ false → what x rows ≡ None
   unselected x rows is = ap (λ b. cond b (what_by x (row_at x.identity rows)) None) is
 
-  passes : (x : Set Key) (c : Contents) → what x c.rows ≡ None → settle d m stamp x c ≡ nothing_done c
-  passes x c is = ap (λ o. settled_by d m stamp x c (choice_of x c o)) is
+  passes : (x : Set Key) (c : Contents) → what x c.rows ≡ None → settle d m stamp.reading x c ≡ nothing_done c
+  passes x c is = ap (λ o. settled_by d m stamp.reading x c (choice_of x c o)) is
 
   -- what becomes of another stays
-  what_kept : (x other : Set Key) (c : Contents) → list_all (m.is_for d) x.changes ≡ true → IsSound d c.users → is_twin x other ≡ false → what other (settle d m stamp x c).contents.rows ≡ what other c.rows
+  what_kept : (x other : Set Key) (c : Contents) → list_all (m.is_for d) x.changes ≡ true → IsSound d c.users → is_twin x other ≡ false → what other (settle d m stamp.reading x c).contents.rows ≡ what other c.rows
   what_kept x other c read sound apart = by x.selected other.selected refl refl apart where
-    by : (a b : Bool) → x.selected ≡ a → other.selected ≡ b → (a && (b && same_identity other.identity x.identity)) ≡ false → what other (settle d m stamp x c).contents.rows ≡ what other c.rows
+    by : (a b : Bool) → x.selected ≡ a → other.selected ≡ b → (a && (b && same_identity other.identity x.identity)) ≡ false → what other (settle d m stamp.reading x c).contents.rows ≡ what other c.rows
     by false b first second q = ap (λ (s : Settled). what other s.contents.rows) (passes x c (unselected x c.rows first))
     by true false first second q = unselected other _ second ∙ sym (unselected other c.rows second)
     by true true first second q = ap (λ o. cond other.selected (what_by other o) None) (ap (λ (e : Contents). row_at other.identity e.rows) (one_is x c read sound) ∙ turn_apart x other c q (choice x c))
 
   pub tests_kept : (test : Set Key → Option What → Bool) (x : Set Key) (ys : List (Set Key)) (c : Contents) → list_all (m.is_for d) x.changes ≡ true → IsSound d c.users → list_any (is_twin x) ys ≡ false
-      → all_at test ys (settle d m stamp x c).contents.rows ≡ all_at test ys c.rows
+      → all_at test ys (settle d m stamp.reading x c).contents.rows ≡ all_at test ys c.rows
   tests_kept test x [] c read sound apart = refl
   tests_kept test x (y ∷ ys) c read sound apart =
-      ap (λ w. test y w && all_at test ys (settle d m stamp x c).contents.rows) (what_kept x y c read sound (or_left (is_twin x y) _ apart))
+      ap (λ w. test y w && all_at test ys (settle d m stamp.reading x c).contents.rows) (what_kept x y c read sound (or_left (is_twin x y) _ apart))
       ∙ ap (λ b. test y (what y c.rows) && b) (tests_kept test x ys c read sound (or_right (is_twin x y) _ apart))
 
   -- and after several
   pub what_stays : (other : Set Key) (xs : List (Set Key)) (c : Contents) → are_read xs ≡ true → IsSound d c.users → list_any (λ x. is_twin x other) xs ≡ false
-      → what other (all_settled d m stamp xs c).contents.rows ≡ what other c.rows
+      → what other (all_settled d m stamp.reading xs c).contents.rows ≡ what other c.rows
   what_stays other [] c read sound apart = refl
   what_stays other (x ∷ xs) c read sound apart =
       let first = and_left _ (are_read xs) read in
       let one = what_kept x other c first sound (or_left (is_twin x other) _ apart) in
-      let more = what_stays other xs (settle d m stamp x c).contents (and_right (list_all (m.is_for d) x.changes) _ read) (still x c first sound) (or_right (is_twin x other) _ apart) in
-      elim (settle d m stamp x c).stop as (λ o. what other (followed o (settle d m stamp x c) (all_settled d m stamp xs)).contents.rows ≡ what other c.rows) [
+      let more = what_stays other xs (settle d m stamp.reading x c).contents (and_right (list_all (m.is_for d) x.changes) _ read) (still x c first sound) (or_right (is_twin x other) _ apart) in
+      elim (settle d m stamp.reading x c).stop as (λ o. what other (followed o (settle d m stamp.reading x c) (all_settled d m stamp.reading xs)).contents.rows ≡ what other c.rows) [
         | None ↦ more ∙ one
         | Some stop ↦ one
       ]
@@ -272,21 +272,21 @@ module _ {Key : Type 0} (d : Dialect) (m : Meaning Key) (keeps : IsKept m) (stam
   AllDone [] rows = Unit {0}
   AllDone (x ∷ xs) rows = (what x rows ≡ None) × AllDone xs rows
 
-  pub all_done : (xs : List (Set Key)) (c : Contents) → are_read xs ≡ true → IsSound d c.users → list_all has_own_sum xs ≡ true → are_twins xs ≡ false → all_at runs_once xs c.rows ≡ true → (all_settled d m stamp xs c).stop ≡ None → skips (all_settled d m stamp xs c) ≡ false
-      → AllDone xs (all_settled d m stamp xs c).contents.rows
+  pub all_done : (xs : List (Set Key)) (c : Contents) → are_read xs ≡ true → IsSound d c.users → list_all has_own_sum xs ≡ true → are_twins xs ≡ false → all_at runs_once xs c.rows ≡ true → (all_settled d m stamp.reading xs c).stop ≡ None → skips (all_settled d m stamp.reading xs c) ≡ false
+      → AllDone xs (all_settled d m stamp.reading xs c).contents.rows
   all_done [] c read sound own apart once stop skip = tt
   all_done (x ∷ xs) c read sound own apart once stop skip =
       let first = and_left _ (are_read xs) read in
       let rest = and_right (list_all (m.is_for d) x.changes) _ read in
       let others = or_left (list_any (is_twin x) xs) _ apart in
-      (elim (settle d m stamp x c).stop as (λ o. (settle d m stamp x c).stop ≡ o → (followed o (settle d m stamp x c) (all_settled d m stamp xs)).stop ≡ None → skips (followed o (settle d m stamp x c) (all_settled d m stamp xs)) ≡ false
-      → AllDone (x ∷ xs) (followed o (settle d m stamp x c) (all_settled d m stamp xs)).contents.rows) [
+      (elim (settle d m stamp.reading x c).stop as (λ o. (settle d m stamp.reading x c).stop ≡ o → (followed o (settle d m stamp.reading x c) (all_settled d m stamp.reading xs)).stop ≡ None → skips (followed o (settle d m stamp.reading x c) (all_settled d m stamp.reading xs)) ≡ false
+      → AllDone (x ∷ xs) (followed o (settle d m stamp.reading x c) (all_settled d m stamp.reading xs)).contents.rows) [
         | None ↦ λ at on none.
-            let both = sym (any-append (λ h. is_skip h.what) (settle d m stamp x c).happened (all_settled d m stamp xs (settle d m stamp x c).contents).happened) ∙ none in
-            let turn = own_turn x c first sound (and_left _ (list_all has_own_sum xs) own) (and_left _ (all_at runs_once xs c.rows) once) (what x c.rows) refl at (or_left (skips (settle d m stamp x c)) _ both) in (
-              what_stays x xs (settle d m stamp x c).contents rest (still x c first sound) (twins_back x xs others) ∙ turn,
-              all_done xs (settle d m stamp x c).contents rest (still x c first sound) (and_right (has_own_sum x) _ own) (or_right (list_any (is_twin x) xs) _ apart)
-                  (tests_kept runs_once x xs c first sound others ∙ and_right (runs_once x (what x c.rows)) _ once) on (or_right (skips (settle d m stamp x c)) _ both),
+            let both = sym (any-append (λ h. is_skip h.what) (settle d m stamp.reading x c).happened (all_settled d m stamp.reading xs (settle d m stamp.reading x c).contents).happened) ∙ none in
+            let turn = own_turn x c first sound (and_left _ (list_all has_own_sum xs) own) (and_left _ (all_at runs_once xs c.rows) once) (what x c.rows) refl at (or_left (skips (settle d m stamp.reading x c)) _ both) in (
+              what_stays x xs (settle d m stamp.reading x c).contents rest (still x c first sound) (twins_back x xs others) ∙ turn,
+              all_done xs (settle d m stamp.reading x c).contents rest (still x c first sound) (and_right (has_own_sum x) _ own) (or_right (list_any (is_twin x) xs) _ apart)
+                  (tests_kept runs_once x xs c first sound others ∙ and_right (runs_once x (what x c.rows)) _ once) on (or_right (skips (settle d m stamp.reading x c)) _ both),
             )
         | Some halt ↦ λ at on none. absurd (some_none halt (sym at ∙ on))
       ]) refl stop skip where
@@ -297,20 +297,20 @@ module _ {Key : Type 0} (d : Dialect) (m : Meaning Key) (keeps : IsKept m) (stam
   Same s t = (s.contents ≡ t.contents) × (s.stop ≡ t.stop)
 
   -- what has no turn any more is passed over
-  passed : (xs ys : List (Set Key)) (c : Contents) → AllDone xs c.rows → Same (all_settled d m stamp (xs ++ ys) c) (all_settled d m stamp ys c)
+  passed : (xs ys : List (Set Key)) (c : Contents) → AllDone xs c.rows → Same (all_settled d m stamp.reading (xs ++ ys) c) (all_settled d m stamp.reading ys c)
   passed [] ys c are = (refl, refl)
-  passed (x ∷ xs) ys c are = subst (λ (s : Settled). Same (followed s.stop s (all_settled d m stamp (xs ++ ys))) (all_settled d m stamp ys c)) (sym (passes x c are.0)) (passed xs ys c are.1)
+  passed (x ∷ xs) ys c are = subst (λ (s : Settled). Same (followed s.stop s (all_settled d m stamp.reading (xs ++ ys))) (all_settled d m stamp.reading ys c)) (sym (passes x c are.0)) (passed xs ys c are.1)
 
-  pub passed_happened : (xs ys : List (Set Key)) (c : Contents) → AllDone xs c.rows → (all_settled d m stamp (xs ++ ys) c).happened ≡ (all_settled d m stamp ys c).happened
+  pub passed_happened : (xs ys : List (Set Key)) (c : Contents) → AllDone xs c.rows → (all_settled d m stamp.reading (xs ++ ys) c).happened ≡ (all_settled d m stamp.reading ys c).happened
   passed_happened [] ys c are = refl
-  passed_happened (x ∷ xs) ys c are = subst (λ (s : Settled). (followed s.stop s (all_settled d m stamp (xs ++ ys))).happened ≡ (all_settled d m stamp ys c).happened) (sym (passes x c are.0)) (passed_happened xs ys c are.1)
+  passed_happened (x ∷ xs) ys c are = subst (λ (s : Settled). (followed s.stop s (all_settled d m stamp.reading (xs ++ ys))).happened ≡ (all_settled d m stamp.reading ys c).happened) (sym (passes x c are.0)) (passed_happened xs ys c are.1)
 
-  pub onwards : (xs ys : List (Set Key)) (c : Contents) → (all_settled d m stamp xs c).stop ≡ None → Same (all_settled d m stamp (xs ++ ys) c) (all_settled d m stamp ys (all_settled d m stamp xs c).contents)
+  pub onwards : (xs ys : List (Set Key)) (c : Contents) → (all_settled d m stamp.reading xs c).stop ≡ None → Same (all_settled d m stamp.reading (xs ++ ys) c) (all_settled d m stamp.reading ys (all_settled d m stamp.reading xs c).contents)
   onwards [] ys c stop = (refl, refl)
   onwards (x ∷ xs) ys c stop =
-      (elim (settle d m stamp x c).stop as (λ o. (settle d m stamp x c).stop ≡ o → (followed o (settle d m stamp x c) (all_settled d m stamp xs)).stop ≡ None
-      → Same (followed o (settle d m stamp x c) (all_settled d m stamp (xs ++ ys))) (all_settled d m stamp ys (followed o (settle d m stamp x c) (all_settled d m stamp xs)).contents)) [
-        | None ↦ λ at on. onwards xs ys (settle d m stamp x c).contents on
+      (elim (settle d m stamp.reading x c).stop as (λ o. (settle d m stamp.reading x c).stop ≡ o → (followed o (settle d m stamp.reading x c) (all_settled d m stamp.reading xs)).stop ≡ None
+      → Same (followed o (settle d m stamp.reading x c) (all_settled d m stamp.reading (xs ++ ys))) (all_settled d m stamp.reading ys (followed o (settle d m stamp.reading x c) (all_settled d m stamp.reading xs)).contents)) [
+        | None ↦ λ at on. onwards xs ys (settle d m stamp.reading x c).contents on
         | Some halt ↦ λ at on. absurd (some_none halt (sym at ∙ on))
       ]) refl stop where
         some_none : (halt : Stop) → (let o : Option Stop = Some halt in o) ≡ None → ⊥
@@ -325,6 +325,6 @@ module _ {Key : Type 0} (d : Dialect) (m : Meaning Key) (keeps : IsKept m) (stam
 pub goes_on : {Key : Type 0} (m : Meaning Key) → IsKept m → GoesOn m
 goes_on m keeps d stamp xs ys c sound read own apart once stop skip =
     let done = all_done d m keeps stamp xs c read sound own (twins_front d m keeps stamp xs ys apart) once stop skip in
-    let past = passed d m keeps stamp xs ys (all_settled d m stamp xs c).contents done in
+    let past = passed d m keeps stamp xs ys (all_settled d m stamp.reading xs c).contents done in
     let on = onwards d m keeps stamp xs ys c stop in
     (past.0 ∙ sym on.0, past.1 ∙ sym on.1)

@@ -14,7 +14,7 @@ use Rattle.lq_turns.specs.Contents.{Contents, contents_of, with_contents}
 use Rattle.lq_turns.specs.Deed.{commits_itself, contents_after, done, if_accepted, lock_after, locked_after}
 use Rattle.lq_turns.specs.Jobs.{OnlyReleasesAreEarly, Task, job_of, needs_lock, script_of}
 use Rattle.lq_turns.specs.Laws.{rollback_calls}
-use Rattle.lq_turns.specs.Rollback.{goes_on, rollback_of, rows_kept, rows_undone, turns_made, undo_turns}
+use Rattle.lq_turns.specs.Rollback.{calls_if_finished, rollback_of, rows_kept, rows_undone, turns_made, undo_turns}
 use Rattle.lq_turns.specs.Schedule.{Holder, Job, Machine, all_moved, has_answered, has_begun, start}
 use Rattle.lq_turns.specs.Script.{calls_of_turn, calls_unless, closing, has_work, if_missing, last_row, opening, rows_to_sync, set_calls, sets_calls, sync_of, tag_of, turn_by, with_lock}
 use Rattle.lq_turns.specs.Serial.{makes_first, IsUnderWay, Stands, open_by, serial, unless_called, unless_open, unless_refused}
@@ -100,16 +100,16 @@ module _ {Key : Type 0} (d : Dialect) (m : Meaning Key) (stamp : Stamp) where
   sets_inner : (xs : List (Set Key)) (c : Contents) → inner (sets_calls d m stamp xs c) ≡ true
   sets_inner [] c = refl
   sets_inner (x ∷ xs) c = all-append is_inner (set_calls d m stamp x c) _ (set_inner (turn_by d m stamp x c.rows (choice x c)) c)
-      (unless_inner (settle d m stamp x c).stop (sets_calls d m stamp xs (settle d m stamp x c).contents) (sets_inner xs (settle d m stamp x c).contents))
+      (unless_inner (settle d m stamp.reading x c).stop (sets_calls d m stamp xs (settle d m stamp.reading x c).contents) (sets_inner xs (settle d m stamp.reading x c).contents))
 
-  goes_inner : (calls : List Call) (e : Ending) → inner calls ≡ true → inner (goes_on d m calls e) ≡ true
+  goes_inner : (calls : List Call) (e : Ending) → inner calls ≡ true → inner (calls_if_finished calls e) ≡ true
   goes_inner calls (Finished c) all = all
   goes_inner calls (Refused c refusal) all = refl
 
-  turns_inner : (turns : List Turn) (c : Contents) → inner (turns_made d m stamp.who turns c) ≡ true
+  turns_inner : (turns : List Turn) (c : Contents) → inner (turns_made d stamp.who turns c) ≡ true
   turns_inner [] c = refl
   turns_inner (turn ∷ turns) c = all-append is_inner (made d (turn_calls d stamp.who turn) c) _ (made_inner d (turn_calls d stamp.who turn) c (turn_inner d stamp.who turn))
-      (goes_inner (turns_made d m stamp.who turns (contents_in (ending d turn c))) (ending d turn c) (turns_inner turns (contents_in (ending d turn c))))
+      (goes_inner (turns_made d stamp.who turns (contents_in (ending d turn c))) (ending d turn c) (turns_inner turns (contents_in (ending d turn c))))
 
   inserts_inner : (rows : List Tracked) → inner (map (λ r. Execute (Rows (Inserted r))) rows ++ Commit ∷ []) ≡ true
   inserts_inner [] = refl
@@ -185,15 +185,15 @@ module _ {Key : Type 0} (d : Dialect) (m : Meaning Key) (stamp : Stamp) (g : Cha
   update_shape true = inr (inr (sets_calls d m stamp g.sets (contents_of database), refl, sets_inner d m stamp g.sets (contents_of database)))
   update_shape false = inl refl
 
-  sync_shape : (rows : List Tracked) → Shape d stamp database (sync_of d m stamp rows database)
+  sync_shape : (rows : List Tracked) → Shape d stamp database (sync_of d stamp rows database)
   sync_shape [] = inl refl
   sync_shape (row ∷ rows) = inr (inr (made d (Begin ∷ map (λ r. Execute (Rows (Inserted r))) (row ∷ rows) ++ Commit ∷ []) (contents_of database), refl, made_inner d (Begin ∷ map (λ r. Execute (Rows (Inserted r))) (row ∷ rows) ++ Commit ∷ []) (contents_of database) (inserts_inner d m stamp (row ∷ rows))))
 
-  turns_shape : (turns : List Turn) → Shape d stamp database (rollback_of d m stamp turns database)
+  turns_shape : (turns : List Turn) → Shape d stamp database (rollback_of d stamp turns database)
   turns_shape [] = inl refl
-  turns_shape (turn ∷ turns) = inr (inr (turns_made d m stamp.who (turn ∷ turns) (contents_of database), refl, turns_inner d m stamp (turn ∷ turns) (contents_of database)))
+  turns_shape (turn ∷ turns) = inr (inr (turns_made d stamp.who (turn ∷ turns) (contents_of database), refl, turns_inner d m stamp (turn ∷ turns) (contents_of database)))
 
-  undo_shape : (o : Option (List Turn)) → Shape d stamp database (elim o as (λ _. List Call) [ Some turns ↦ rollback_of d m stamp turns database | None ↦ [] ])
+  undo_shape : (o : Option (List Turn)) → Shape d stamp database (elim o as (λ _. List Call) [ Some turns ↦ rollback_of d stamp turns database | None ↦ [] ])
   undo_shape None = inl refl
   undo_shape (Some turns) = turns_shape turns
 
@@ -210,8 +210,8 @@ module _ {Key : Type 0} (d : Dialect) (m : Meaning Key) (stamp : Stamp) (g : Cha
   release_shape false = inl refl
 
   shape : (command : Command) → Shape d stamp database (script_of d m command stamp g database)
-  shape Update = update_shape (has_work d m stamp g.sets database.rows && not (is_halt (own_choice g (contents_of database))))
-  shape Sync = sync_shape (rows_to_sync d m stamp g.sets database.rows)
+  shape Update = update_shape (has_work g.sets database.rows && not (is_halt (own_choice g (contents_of database))))
+  shape Sync = sync_shape (rows_to_sync stamp.reading g.sets database.rows)
   shape (Rollback target) = target_shape (rows_kept target database.rows)
   shape (Tag tag) = tag_shape tag (last_row database.rows)
   shape Release = release_shape database.lock.locked

@@ -2,7 +2,6 @@
 use Rattle.std.proofs.Common.{ap, sym, ◌∙◌}
 use Rattle.std.specs.List.{list_all, list_any}
 use Rattle.std.specs.Prelude.{Bool, List, Some, [], cond, false, if◌then◌else◌, refl, true, not, ◌&&◌, ◌++◌, ◌||◌, ◌∷◌, ◌≡◌}
-use Rattle.lq_base.specs.declared.dialect.Dialect.{Dialect}
 use Rattle.lq_base.specs.declared.identity.Identity.{Identity}
 use Rattle.lq_base.specs.declared.tracking.Tracked.{Tracked}
 use Rattle.lq_model.proofs.Lists.{and_left, and_right, or_false, or_left, or_right}
@@ -13,7 +12,7 @@ use Rattle.lq_turns.specs.Known.{FaultlessAreApart, FaultlessKnows}
 use Rattle.lq_turns.specs.Rollback.{set_of}
 use Rattle.lq_turns.specs.declared.fault.Fault.{Fault}
 use Rattle.lq_turns.specs.declared.fault.Fault.TheVariants.{Twice}
-use Rattle.lq_turns.specs.Set.{Meaning, Set, row_at}
+use Rattle.lq_turns.specs.Set.{Set, row_at}
 use Rattle.lq_turns.proofs.Undone.{one_itself}
 
 last_empty : (xs ys : List Fault) → xs ++ ys ≡ [] → ys ≡ []
@@ -40,20 +39,19 @@ module _ {Key : Type 0} where
         | false ↦ λ q. Alone earlier before after x rows here q
       ]) is
 
-  module _ (d : Dialect) (m : Meaning Key) where
-    found : (earlier : List Identity) (before after : List (Set Key)) (x : Set Key) (rows : List Tracked) → x.here ≡ true → faults_behind earlier (before ++ x ∷ after) rows ≡ [] → set_of d m (before ++ x ∷ after) x.identity ≡ Some x
-    found earlier [] after x rows here is = ap (λ b. cond (b && same_identity x.identity x.identity) (Some x) (set_of d m after x.identity)) here ∙ ap (λ b. cond b (Some x) (set_of d m after x.identity)) (one_itself x.identity)
-    found earlier (y ∷ before) after x rows here is =
-        (elim y.here as (λ b. (if b then (if list_any (same_identity y.identity) earlier then Twice y.identity ∷ [] else []) ++ changed_at y (row_at y.identity rows) ++ faults_behind (y.identity ∷ earlier) (before ++ x ∷ after) rows else faults_behind earlier (before ++ x ∷ after) rows) ≡ []
-        → cond (b && same_identity x.identity y.identity) (Some y) (set_of d m (before ++ x ∷ after) x.identity) ≡ Some x) [
-          | true ↦ λ q.
-              let rest = last_empty ((if list_any (same_identity y.identity) earlier then Twice y.identity ∷ [] else []) ++ changed_at y (row_at y.identity rows)) (faults_behind (y.identity ∷ earlier) (before ++ x ∷ after) rows) q in
-              ap (λ b. cond b (Some y) (set_of d m (before ++ x ∷ after) x.identity)) (or_left (same_identity x.identity y.identity) _ (Alone (y.identity ∷ earlier) before after x rows here rest)) ∙ found (y.identity ∷ earlier) before after x rows here rest
-          | false ↦ λ q. found earlier before after x rows here q
-        ]) is
+  found : (earlier : List Identity) (before after : List (Set Key)) (x : Set Key) (rows : List Tracked) → x.here ≡ true → faults_behind earlier (before ++ x ∷ after) rows ≡ [] → set_of (before ++ x ∷ after) x.identity ≡ Some x
+  found earlier [] after x rows here is = ap (λ b. cond (b && same_identity x.identity x.identity) (Some x) (set_of after x.identity)) here ∙ ap (λ b. cond b (Some x) (set_of after x.identity)) (one_itself x.identity)
+  found earlier (y ∷ before) after x rows here is =
+      (elim y.here as (λ b. (if b then (if list_any (same_identity y.identity) earlier then Twice y.identity ∷ [] else []) ++ changed_at y (row_at y.identity rows) ++ faults_behind (y.identity ∷ earlier) (before ++ x ∷ after) rows else faults_behind earlier (before ++ x ∷ after) rows) ≡ []
+      → cond (b && same_identity x.identity y.identity) (Some y) (set_of (before ++ x ∷ after) x.identity) ≡ Some x) [
+        | true ↦ λ q.
+            let rest = last_empty ((if list_any (same_identity y.identity) earlier then Twice y.identity ∷ [] else []) ++ changed_at y (row_at y.identity rows)) (faults_behind (y.identity ∷ earlier) (before ++ x ∷ after) rows) q in
+            ap (λ b. cond b (Some y) (set_of (before ++ x ∷ after) x.identity)) (or_left (same_identity x.identity y.identity) _ (Alone (y.identity ∷ earlier) before after x rows here rest)) ∙ found (y.identity ∷ earlier) before after x rows here rest
+        | false ↦ λ q. found earlier before after x rows here q
+      ]) is
 
-pub faultless_knows : {Key : Type 0} (m : Meaning Key) → FaultlessKnows m
-faultless_knows m d before after x rows here is = found d m [] before after x rows here is
+pub faultless_knows : (Key : Type 0) → FaultlessKnows Key
+faultless_knows Key before after x rows here is = found [] before after x rows here is
 
 -- and has no twin
 
@@ -96,5 +94,5 @@ module _ {Key : Type 0} where
         unchosen false (y ∷ ys) q = unchosen false ys q
         unchosen true (y ∷ ys) q = Prim.cc
 
-pub faultless_are_apart : {Key : Type 0} (m : Meaning Key) → FaultlessAreApart m
-faultless_are_apart m xs rows chosen is = all_apart [] xs rows chosen is
+pub faultless_are_apart : (Key : Type 0) → FaultlessAreApart Key
+faultless_are_apart Key xs rows chosen is = all_apart [] xs rows chosen is

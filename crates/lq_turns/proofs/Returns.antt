@@ -21,7 +21,7 @@ use Rattle.lq_turns.specs.Deed.{all_done}
 use Rattle.lq_turns.specs.Fronts.{IsIdle}
 use Rattle.lq_turns.specs.Laws.{AreKnown, at_rest, rollback_calls}
 use Rattle.lq_turns.specs.Ran.{AreRowsOf, IsRowOf, RanSince, Run, all_effects, are_reversible, effects_of, is_reversible}
-use Rattle.lq_turns.specs.Rollback.{goes_on, has_tag, places_until, rollback_of, rows_kept, rows_undone, tagged_place, turns_made, undo_turns}
+use Rattle.lq_turns.specs.Rollback.{calls_if_finished, has_tag, places_until, rollback_of, rows_kept, rows_undone, tagged_place, turns_made, undo_turns}
 use Rattle.lq_turns.specs.Script.{opening, with_lock}
 use Rattle.lq_turns.specs.Session.{Session, all_called, left_by}
 use Rattle.lq_turns.specs.Set.{IsKept, Meaning, Set, has_row}
@@ -257,16 +257,16 @@ module _ {Key : Type 0} (m : Meaning Key) (who : List ℕ) where
       record { entries = one.entries ∙ ap (λ b. s.entries ++ if_any (entry_if b (entry_of turn))) (accepted_is Postgresql who turn c ∙ ap is_finished is) ∙ ap (λ es. s.entries ++ es) (is_entry turn); begun = one.begun }
 
   all_entries : (turns : List Turn) (c e : Contents) (s : Session) → IsIdle s c → list_all (λ (t : Turn). t.in_transaction) turns ≡ true → Undone Postgresql turns c e
-      → Wrote s (all_called Postgresql (turns_made Postgresql m who turns c) s) (map entry_of turns)
+      → Wrote s (all_called Postgresql (turns_made Postgresql who turns c) s) (map entry_of turns)
   all_entries [] c e s idle whole undone = record { entries = sym (append-nil s.entries); begun = idle.begun }
   all_entries (turn ∷ turns) c e s idle whole undone =
       let one = one_entry turn c undone.0 s idle (and_left _ (list_all (λ (t : Turn). t.in_transaction) turns) whole) undone.1 in
       let after = all_called Postgresql (made Postgresql (turn_calls Postgresql who turn) c) s in
       let at = subst (λ x. At after (twice x)) (ap contents_in undone.1) (turn_taken Postgresql who turn c s (record { committed = idle.committed; seen = idle.seen })) in
       let more = all_entries turns undone.0 e after (record { committed = at.committed; seen = at.seen; begun = one.begun }) (and_right turn.in_transaction _ whole) undone.2 in
-      let both : all_called Postgresql (turns_made Postgresql m who (turn ∷ turns) c) s ≡ all_called Postgresql (turns_made Postgresql m who turns undone.0) after =
-      calls_both Postgresql (made Postgresql (turn_calls Postgresql who turn) c) (goes_on Postgresql m (turns_made Postgresql m who turns (contents_in (ending Postgresql turn c))) (ending Postgresql turn c)) s
-      ∙ ap (λ q. all_called Postgresql (goes_on Postgresql m (turns_made Postgresql m who turns (contents_in q)) q) after) undone.1 in
+      let both : all_called Postgresql (turns_made Postgresql who (turn ∷ turns) c) s ≡ all_called Postgresql (turns_made Postgresql who turns undone.0) after =
+      calls_both Postgresql (made Postgresql (turn_calls Postgresql who turn) c) (calls_if_finished (turns_made Postgresql who turns (contents_in (ending Postgresql turn c))) (ending Postgresql turn c)) s
+      ∙ ap (λ q. all_called Postgresql (calls_if_finished (turns_made Postgresql who turns (contents_in q)) q) after) undone.1 in
       record { entries = ap (λ (t : Session). t.entries) both ∙ more.entries ∙ ap (λ es. es ++ map entry_of turns) one.entries ∙ append_assoc s.entries (entry_of turn ∷ []) (map entry_of turns); begun = ap (λ (t : Session). t.begun) both ∙ more.begun }
 
 -- a rollback that is stopped
@@ -330,17 +330,17 @@ module _ {Key : Type 0} (m : Meaning Key) (keeps : IsKept m) (stamp : Stamp) (se
         let undone = subst (λ c. Undone Postgresql ts c at.0) from at.1 in
         let whole = all-append_left (λ (t : Turn). t.in_transaction) ts us (subst (λ xs. list_all (λ (t : Turn). t.in_transaction) xs ≡ true) split (back.whole is.whole)) in
         let wrote = all_entries m who ts (contents_of database) at.0 here idle whole undone in
-        let calls = Alone (map Locks (opening by database)) Ordinary ∷ turns_made Postgresql m who ts (contents_of database) in
+        let calls = Alone (map Locks (opening by database)) Ordinary ∷ turns_made Postgresql who ts (contents_of database) in
         let leads = journal_leads Postgresql calls database in
         let same = one_ok database (λ w e. []) IsOnTheWay (all_done Postgresql (joined (here.entries ++ map (entry_of m who) ts)) database) led (ap (λ es. all_done Postgresql (joined es) database) (sym wrote.entries) ∙ leads) in
         let taken = undone_taken Postgresql m who ts (contents_of database) at.0 here undone (opened Postgresql by database) in
         subst IsOnTheWay (sym (ap contents_of same ∙ taken.committed)) (front_way (contents_of database) at.0 is at.2)
 
-    locked_keeps : StopKeeps database (λ w e. []) IsOnTheWay (with_lock by database (turns_made Postgresql m who back.turns (contents_of database))) database
+    locked_keeps : StopKeeps database (λ w e. []) IsOnTheWay (with_lock by database (turns_made Postgresql who back.turns (contents_of database))) database
     locked_keeps front rest now entries led =
         let undone = subst (λ c. Undone Postgresql back.turns c before) from back.undone in
         let wrote = all_entries m who back.turns (contents_of database) before here idle (back.whole is.whole) undone in
-        elim (falls Postgresql by database (turns_made Postgresql m who back.turns (contents_of database)) (map (entry_of m who) back.turns) wrote.entries wrote.begun front rest now entries led) as (λ _. IsOnTheWay (contents_of now)) [
+        elim (falls Postgresql by database (turns_made Postgresql who back.turns (contents_of database)) (map (entry_of m who) back.turns) wrote.entries wrote.begun front rest now entries led) as (λ _. IsOnTheWay (contents_of now)) [
           | inl same ↦ subst IsOnTheWay (sym same) is
           | inr later ↦ elim later as (λ _. IsOnTheWay (contents_of now)) [
             | inl within ↦ within_turns now within.front within.rest within.is within.led
@@ -352,9 +352,9 @@ module _ {Key : Type 0} (m : Meaning Key) (keeps : IsKept m) (stamp : Stamp) (se
               let q = front_of (entry_of m who) back.turns front rest split in
               front_keeps q.0 q.1 q.2 now (subst (λ es. all_done Postgresql (joined (here.entries ++ es)) database ≡ Ok now) q.3 led)
 
-    turns_keep : (turns : List Turn) → back.turns ≡ turns → StopKeeps database (λ w e. []) IsOnTheWay (rollback_of Postgresql m by turns database) database
+    turns_keep : (turns : List Turn) → back.turns ≡ turns → StopKeeps database (λ w e. []) IsOnTheWay (rollback_of Postgresql by turns database) database
     turns_keep [] same = nothing_kept database (λ w e. []) IsOnTheWay database is
-    turns_keep (turn ∷ turns) same = subst (λ ts. StopKeeps database (λ w e. []) IsOnTheWay (with_lock by database (turns_made Postgresql m who ts (contents_of database))) database) same locked_keeps
+    turns_keep (turn ∷ turns) same = subst (λ ts. StopKeeps database (λ w e. []) IsOnTheWay (with_lock by database (turns_made Postgresql who ts (contents_of database))) database) same locked_keeps
 
     undone_is : undo_turns Postgresql m sets (rows_undone (length before.rows) database.rows) ≡ Some back.turns
     undone_is = ap (undo_turns Postgresql m sets) (ap reverse (ap (drop (length before.rows)) is.ran.rows ∙ drop-append_seam before.rows is.ran.added)) ∙ back.are
@@ -362,7 +362,7 @@ module _ {Key : Type 0} (m : Meaning Key) (keeps : IsKept m) (stamp : Stamp) (se
     rollback_keeps : StopKeeps database (λ w e. []) IsOnTheWay (rollback_to Postgresql m by sets target database) database
     rollback_keeps =
         subst (λ o. StopKeeps database (λ w e. []) IsOnTheWay (elim o as (λ _. List Call) [ Some stay ↦ rollback_calls Postgresql m by sets stay database | None ↦ [] ]) database) (sym is.at)
-        (subst (λ o. StopKeeps database (λ w e. []) IsOnTheWay (elim o as (λ _. List Call) [ Some turns ↦ rollback_of Postgresql m by turns database | None ↦ [] ]) database) (sym undone_is) (turns_keep back.turns refl))
+        (subst (λ o. StopKeeps database (λ w e. []) IsOnTheWay (elim o as (λ _. List Call) [ Some turns ↦ rollback_of Postgresql by turns database | None ↦ [] ]) database) (sym undone_is) (turns_keep back.turns refl))
 
 pub rollback_resumes : {Key : Type 0} (m : Meaning Key) → IsKept m → RollbackResumes m
 rollback_resumes m keeps stamp sets target before xs start database count unlocked ran can known at whole stopped =

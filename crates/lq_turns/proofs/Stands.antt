@@ -19,7 +19,7 @@ use Rattle.lq_turns.specs.Contents.{Contents, contents_of, with_contents}
 use Rattle.lq_turns.specs.Deed.{all_done, if_accepted, lock_after, rows_after}
 use Rattle.lq_turns.specs.Effects.{not_fresh}
 use Rattle.lq_turns.specs.Laws.{AreRead}
-use Rattle.lq_turns.specs.Rollback.{all_rolled, goes_on, rolled_as, turns_made}
+use Rattle.lq_turns.specs.Rollback.{all_rolled, calls_if_finished, rolled_as, turns_made}
 use Rattle.lq_turns.specs.Script.{calls_of_turn, calls_unless, closing, has_work, if_missing, opening, rows_to_sync, set_calls, sets_calls, sync_of, turn_by, with_lock}
 use Rattle.lq_turns.specs.Session.{Session, all_called, all_executed, is_own, session_on, settled_if}
 use Rattle.lq_turns.specs.Set.{IsKept, Meaning, Set}
@@ -38,7 +38,8 @@ use Rattle.lq_turns.specs.declared.stamp.Stamp.{Stamp}
 use Rattle.lq_turns.specs.declared.stop.Stop.{Stop}
 use Rattle.lq_turns.specs.declared.turn.Turn.{Turn}
 use Rattle.lq_turns.specs.Turn.{Ending, Finished, Refused, contents_in, ending, made, turn_calls}
-use Rattle.lq_turns.specs.Within.{IsBetween, RollbackStands, RollbackStops, SyncStops, UpdateStands, UpdateStops}
+use Rattle.lq_turns.specs.First.{holds_unless}
+use Rattle.lq_turns.specs.Within.{IsBetween, RollbackStands, RollbackStops, SyncStops, UpdateStands, UpdateStops, gives_way, is_refused, is_turn_refused, none_gives_way}
 use Rattle.lq_turns.proofs.Entered.{is_finished}
 use Rattle.lq_turns.proofs.GoesOn.{onwards, skips, still}
 use Rattle.lq_turns.proofs.Journal.{same_ok}
@@ -166,40 +167,48 @@ some_turn is = Prim.cc
 
 -- an update
 
+refused_is : (e : Ending) → is_finished e ≡ false → is_refused e ≡ true
+refused_is (Finished c) over = Prim.cc
+refused_is (Refused c refusal) over = refl
+
+not_true : (b : Bool) → not b ≡ true → b ≡ false
+not_true true h = Prim.cc
+not_true false h = refl
+
 module _ {Key : Type 0} (d : Dialect) (m : Meaning Key) (keeps : IsKept m) (stamp : Stamp) where
-  -- a turn that finished is what its changeset made, and one that was refused stops the update or is skipped
-  finished_is : (x : Set Key) (made : Did) (why : Option Why) (n : ℕ) (e : Ending) → is_finished e ≡ false → (settled_as d m stamp x made why n e).stop ≡ None → skips (settled_as d m stamp x made why n e) ≡ false → ⊥
-  finished_is x made why n (Finished c) over stop skip = Prim.cc
-  finished_is x made why n (Refused c refusal) over stop skip = by x.fail_on_error stop skip where
-    by : (b : Bool) → (settled_as d m stamp (record x { fail_on_error = b }) made why n (Refused c refusal)).stop ≡ None → skips (settled_as d m stamp (record x { fail_on_error = b }) made why n (Refused c refusal)) ≡ false → ⊥
-    by true stop skip = Prim.cc
-    by false stop skip = Prim.cc
+  -- a turn that is refused stops the update, but for failOnError
+  finished_is : (x : Set Key) (made : Did) (why : Option Why) (n : ℕ) (e : Ending) → is_finished e ≡ false → (settled_as x made why n e).stop ≡ None → x.fail_on_error ≡ false
+  finished_is x made why n (Finished c) over stop = Prim.cc
+  finished_is x made why n (Refused c refusal) over stop = by x.fail_on_error stop where
+    by : (b : Bool) → (settled_as (record x { fail_on_error = b }) made why n (Refused c refusal)).stop ≡ None → b ≡ false
+    by true stop = Prim.cc
+    by false stop = refl
 
   refused_stops : (x : Set Key) (c : Contents) (q : Choice) (turn : Turn) → turn_by d m stamp x c.rows q ≡ Some turn → list_all (m.is_for d) x.changes ≡ true → IsSound d c.users
-      → is_finished (ending d turn c) ≡ false → (settled_by d m stamp x c q).stop ≡ None → skips (settled_by d m stamp x c q) ≡ false → ⊥
-  refused_stops x c Passes turn is read sound over stop skip = Prim.cc
-  refused_stops x c Skips turn is read sound over stop skip = Prim.cc
-  refused_stops x c (Halts why) turn is read sound over stop skip = Prim.cc
-  refused_stops x c Fills turn is read sound over stop skip =
+      → is_finished (ending d turn c) ≡ false → (settled_by d m stamp.reading x c q).stop ≡ None → x.fail_on_error ≡ false
+  refused_stops x c Passes turn is read sound over stop = Prim.cc
+  refused_stops x c Skips turn is read sound over stop = Prim.cc
+  refused_stops x c (Halts why) turn is read sound over stop = Prim.cc
+  refused_stops x c Fills turn is read sound over stop =
       let same = some_turn is in
-      true_false (let well : is_finished (ending d (fill_turn d m stamp x) c) ≡ true = refl in well) (ap (λ t. is_finished (ending d t c)) same ∙ over)
-  refused_stops x c (Marks w) turn is read sound over stop skip = finished_is x did.Marked None 0 (ending d (mark_turn d m stamp w x c.rows) c) (ap (λ t. is_finished (ending d t c)) (some_turn is) ∙ over) stop skip
-  refused_stops x c (Runs w why) turn is read sound over stop skip = finished_is x (did_of w) why (not_fresh d m x.changes c.users) (run_ending d m stamp (run_turn d m stamp w x c.rows) x c)
-      (ap is_finished (run_is d m keeps stamp x (run_turn d m stamp w x c.rows) c refl read sound) ∙ ap (λ t. is_finished (ending d t c)) (some_turn is) ∙ over) stop skip
+      true_false (let well : is_finished (ending d (fill_turn x) c) ≡ true = refl in well) (ap (λ t. is_finished (ending d t c)) same ∙ over)
+  refused_stops x c (Marks w) turn is read sound over stop = finished_is x did.Marked None 0 (ending d (mark_turn stamp.reading w x c.rows) c) (ap (λ t. is_finished (ending d t c)) (some_turn is) ∙ over) stop
+  refused_stops x c (Runs w why) turn is read sound over stop = finished_is x (did_of w) why (not_fresh d m x.changes c.users) (run_ending d m stamp.reading (run_turn d m stamp.reading w x c.rows) x c)
+      (ap is_finished (run_is d m keeps stamp x (run_turn d m stamp.reading w x c.rows) c refl read sound) ∙ ap (λ t. is_finished (ending d t c)) (some_turn is) ∙ over) stop
 
-  finished_goes : (x : Set Key) (made : Did) (why : Option Why) (n : ℕ) (e : Ending) → is_finished e ≡ true → (settled_as d m stamp x made why n e).stop ≡ None
+  finished_goes : (x : Set Key) (made : Did) (why : Option Why) (n : ℕ) (e : Ending) → is_finished e ≡ true → (settled_as x made why n e).stop ≡ None
   finished_goes x made why n (Finished c) over = refl
   finished_goes x made why n (Refused c refusal) over = Prim.cc
 
   goes_past : (x : Set Key) (c : Contents) (q : Choice) (turn : Turn) → turn_by d m stamp x c.rows q ≡ Some turn → list_all (m.is_for d) x.changes ≡ true → IsSound d c.users
-      → is_finished (ending d turn c) ≡ true → (settled_by d m stamp x c q).stop ≡ None
+      → is_finished (ending d turn c) ≡ true → (settled_by d m stamp.reading x c q).stop ≡ None
   goes_past x c Passes turn is read sound over = refl
   goes_past x c Skips turn is read sound over = refl
   goes_past x c (Halts why) turn is read sound over = Prim.cc
   goes_past x c Fills turn is read sound over = refl
-  goes_past x c (Marks w) turn is read sound over = finished_goes x did.Marked None 0 (ending d (mark_turn d m stamp w x c.rows) c) (ap (λ t. is_finished (ending d t c)) (some_turn is) ∙ over)
-  goes_past x c (Runs w why) turn is read sound over = finished_goes x (did_of w) why (not_fresh d m x.changes c.users) (run_ending d m stamp (run_turn d m stamp w x c.rows) x c)
-      (ap is_finished (run_is d m keeps stamp x (run_turn d m stamp w x c.rows) c refl read sound) ∙ ap (λ t. is_finished (ending d t c)) (some_turn is) ∙ over)
+  goes_past x c (Marks w) turn is read sound over = finished_goes x did.Marked None 0 (ending d (mark_turn stamp.reading w x c.rows) c) (ap (λ t. is_finished (ending d t c)) (some_turn is) ∙ over)
+  goes_past x c (Runs w why) turn is read sound over = finished_goes x (did_of w) why (not_fresh d m x.changes c.users) (run_ending d m stamp.reading (run_turn d m stamp.reading w x c.rows) x c)
+      (ap is_finished (run_is d m keeps stamp x (run_turn d m stamp.reading w x c.rows) c refl read sound) ∙ ap (λ t. is_finished (ending d t c)) (some_turn is) ∙ over)
 
   module _ (sets : List (Set Key)) (database : Database) (unlocked : database.lock ≡ free) where
     abbrev first : Contents
@@ -212,33 +221,33 @@ module _ {Key : Type 0} (d : Dialect) (m : Meaning Key) (keeps : IsKept m) (stam
     unheld now is held = never now.lock is held
 
     abbrev after : List (Set Key) → Contents
-    after turns = (all_settled d m stamp turns first).contents
+    after turns = (all_settled d m stamp.reading turns first).contents
 
-    between : (turns rest : List (Set Key)) (now : Database) → sets ≡ turns ++ rest → (all_settled d m stamp turns first).stop ≡ None → IsBetween stamp (after turns) now → IsStanding now
+    between : (turns rest : List (Set Key)) (now : Database) → sets ≡ turns ++ rest → (all_settled d m stamp.reading turns first).stop ≡ None → IsBetween stamp (after turns) now → IsStanding now
     between turns rest now are stop at held = record { turns = turns; rest = rest; are = are; goes_on = stop; stands = inl at }
 
     abbrev Ready : Contents → Session → Type 0
     Ready c s = IsReady d IsStanding stamp database unheld (λ now at. between [] sets now refl refl at) unlocked c s
 
     -- one more
-    one_more : (turns : List (Set Key)) (x : Set Key) (o : Option Stop) → (all_settled d m stamp turns first).stop ≡ None → (settle d m stamp x (after turns)).stop ≡ o → o ≡ None
-        → ((all_settled d m stamp (turns ++ x ∷ []) first).contents ≡ (settle d m stamp x (after turns)).contents) × ((all_settled d m stamp (turns ++ x ∷ []) first).stop ≡ None)
+    one_more : (turns : List (Set Key)) (x : Set Key) (o : Option Stop) → (all_settled d m stamp.reading turns first).stop ≡ None → (settle d m stamp.reading x (after turns)).stop ≡ o → o ≡ None
+        → ((all_settled d m stamp.reading (turns ++ x ∷ []) first).contents ≡ (settle d m stamp.reading x (after turns)).contents) × ((all_settled d m stamp.reading (turns ++ x ∷ []) first).stop ≡ None)
     one_more turns x o stop is none =
         let on = onwards d m keeps stamp turns (x ∷ []) first stop in
         let last = is ∙ none in (
-          on.0 ∙ ap (λ o. (followed o (settle d m stamp x (after turns)) (all_settled d m stamp [])).contents) last,
-          on.1 ∙ ap (λ o. (followed o (settle d m stamp x (after turns)) (all_settled d m stamp [])).stop) last,
+          on.0 ∙ ap (λ o. (followed o (settle d m stamp.reading x (after turns)) (all_settled d m stamp.reading [])).contents) last,
+          on.1 ∙ ap (λ o. (followed o (settle d m stamp.reading x (after turns)) (all_settled d m stamp.reading [])).stop) last,
         )
 
     abbrev here : Set Key → List (Set Key) → Settled
-    here x turns = settle d m stamp x (after turns)
+    here x turns = settle d m stamp.reading x (after turns)
 
     record IsPast (x : Set Key) (turns : List (Set Key)) (s : Session) : Type 0 where
       fine : Fine d IsStanding (session_on database) s
       begun : s.begun ≡ []
-      at : (here x turns).stop ≡ None → skips (here x turns) ≡ false → IsBetween stamp (here x turns).contents s.seen
+      at : (here x turns).stop ≡ None → gives_way d m stamp x (after turns) ≡ false → IsBetween stamp (here x turns).contents s.seen
 
-    one_turn : (turns : List (Set Key)) (x : Set Key) (more : List (Set Key)) (s : Session) (turn : Turn) → sets ≡ turns ++ x ∷ more → (all_settled d m stamp turns first).stop ≡ None
+    one_turn : (turns : List (Set Key)) (x : Set Key) (more : List (Set Key)) (s : Session) (turn : Turn) → sets ≡ turns ++ x ∷ more → (all_settled d m stamp.reading turns first).stop ≡ None
         → list_all (m.is_for d) x.changes ≡ true → IsSound d (after turns).users → turn_by d m stamp x (after turns).rows (choice x (after turns)) ≡ Some turn → Ready (after turns) s
         → IsPast x turns (all_called d (made d (turn_calls d stamp.who turn) (after turns)) s)
     one_turn turns x more s turn are stop read sound is ready =
@@ -255,24 +264,24 @@ module _ {Key : Type 0} (d : Dialect) (m : Meaning Key) (keeps : IsKept m) (stam
         record {
           fine = over.fine;
           begun = over.begun;
-          at = λ none skip. elim over.ended as (λ _. IsBetween stamp (here x turns).contents (all_called d (made d (turn_calls d stamp.who turn) c) s).seen) [
+          at = λ none way. elim over.ended as (λ _. IsBetween stamp (here x turns).contents (all_called d (made d (turn_calls d stamp.who turn) c) s).seen) [
             | inl e ↦ record { contents = e.2.contents ∙ sym (contents ∙ ap contents_in e.1); lock = e.2.lock }
-            | inr refused ↦ absurd (refused_stops x c q turn is read sound refused none skip)
+            | inr refused ↦ true_false (ap (λ b. not b && is_turn_refused d (turn_by d m stamp x c.rows q) c) (refused_stops x c q turn is read sound refused none) ∙ ap (λ t. is_turn_refused d t c) is ∙ refused_is (ending d turn c) refused) way
           ];
         }
 
-    one_past : (turns : List (Set Key)) (x : Set Key) (more : List (Set Key)) (s : Session) → sets ≡ turns ++ x ∷ more → (all_settled d m stamp turns first).stop ≡ None
+    one_past : (turns : List (Set Key)) (x : Set Key) (more : List (Set Key)) (s : Session) → sets ≡ turns ++ x ∷ more → (all_settled d m stamp.reading turns first).stop ≡ None
         → list_all (m.is_for d) x.changes ≡ true → IsSound d (after turns).users → Ready (after turns) s → IsPast x turns (all_called d (set_calls d m stamp x (after turns)) s)
     one_past turns x more s are stop read sound ready =
         (elim (turn_by d m stamp x (after turns).rows (choice x (after turns))) as (λ o. turn_by d m stamp x (after turns).rows (choice x (after turns)) ≡ o → IsPast x turns (all_called d (calls_of_turn d m stamp o (after turns)) s)) [
           | None ↦ λ is.
               let same = settled_is d m keeps stamp x (after turns) (choice x (after turns)) read sound ∙ ap (λ t. turn_left d t (after turns)) is in
-              record { fine = ready.fine; begun = ready.begun; at = λ none skip. record { contents = ready.at.contents ∙ sym same; lock = ready.at.lock } }
+              record { fine = ready.fine; begun = ready.begun; at = λ none way. record { contents = ready.at.contents ∙ sym same; lock = ready.at.lock } }
           | Some turn ↦ λ is. one_turn turns x more s turn are stop read sound is ready
         ]) refl
 
-    all_past : (turns xs : List (Set Key)) (s : Session) → sets ≡ turns ++ xs → (all_settled d m stamp turns first).stop ≡ None → AreRead d m xs → IsSound d (after turns).users
-        → skips (all_settled d m stamp xs (after turns)) ≡ false → Ready (after turns) s → Fine d IsStanding (session_on database) (all_called d (sets_calls d m stamp xs (after turns)) s)
+    all_past : (turns xs : List (Set Key)) (s : Session) → sets ≡ turns ++ xs → (all_settled d m stamp.reading turns first).stop ≡ None → AreRead d m xs → IsSound d (after turns).users
+        → none_gives_way d m stamp xs (after turns) ≡ true → Ready (after turns) s → Fine d IsStanding (session_on database) (all_called d (sets_calls d m stamp xs (after turns)) s)
     all_past turns [] s are stop read sound skip ready = ready.fine
     all_past turns (x ∷ xs) s are stop read sound skip ready =
         let one_read = and_left _ (list_all (λ (y : Set Key). list_all (m.is_for d) y.changes) xs) read in
@@ -280,38 +289,28 @@ module _ {Key : Type 0} (d : Dialect) (m : Meaning Key) (keeps : IsKept m) (stam
         let past = one_past turns x xs s are stop one_read sound ready in
         let t = all_called d (set_calls d m stamp x (after turns)) s in
         subst (λ (u : Session). Fine d IsStanding (session_on database) u) (sym (calls_both d (set_calls d m stamp x (after turns)) (calls_unless (here x turns).stop (sets_calls d m stamp xs (here x turns).contents)) s))
-        ((elim (here x turns).stop as (λ o. (here x turns).stop ≡ o → skips (followed o (here x turns) (all_settled d m stamp xs)) ≡ false → Fine d IsStanding (session_on database) (all_called d (calls_unless o (sets_calls d m stamp xs (here x turns).contents)) t)) [
+        ((elim (here x turns).stop as (λ o. (here x turns).stop ≡ o → holds_unless o (none_gives_way d m stamp xs (here x turns).contents) ≡ true → Fine d IsStanding (session_on database) (all_called d (calls_unless o (sets_calls d m stamp xs (here x turns).contents)) t)) [
           | Some halt ↦ λ at none. past.fine
           | None ↦ λ at none.
               let more = one_more turns x None stop at refl in
-              let both = sym (any-append (λ h. is_skip h.what) (here x turns).happened (all_settled d m stamp xs (here x turns).contents).happened) ∙ none in
-              let between_now = past.at at (or_left (skips (here x turns)) _ both) in
+              let between_now = past.at at (not_true (gives_way d m stamp x (after turns)) (and_left (not (gives_way d m stamp x (after turns))) _ skip)) in
               let next : Ready (after (turns ++ x ∷ [])) t = record { fine = past.fine; begun = past.begun; at = record { contents = between_now.contents ∙ sym more.0; lock = between_now.lock } } in
               subst (λ (c : Contents). Fine d IsStanding (session_on database) (all_called d (sets_calls d m stamp xs c) t)) more.0
               (all_past (turns ++ x ∷ []) xs t (are ∙ sym (append_assoc turns (x ∷ []) xs)) more.1 more_read
               (subst (λ (c : Contents). IsSound d c.users) (sym more.0) (still d m keeps stamp x (after turns) one_read sound))
-              (subst (λ (c : Contents). skips (all_settled d m stamp xs c) ≡ false) (sym more.0) (or_right (skips (here x turns)) _ both)) next)
-        ]) refl skip)
-
-own_happened : (q : Choice) (c : Contents) (s : Settled) → is_halt q ≡ false → (by_own q c s).happened ≡ s.happened
-own_happened Passes c s is = refl
-own_happened Fills c s is = refl
-own_happened Skips c s is = refl
-own_happened (Marks by) c s is = refl
-own_happened (Runs by None) c s is = refl
-own_happened (Runs by (Some why)) c s is = refl
-own_happened (Halts why) c s is = Prim.cc
+              (subst (λ (c : Contents). none_gives_way d m stamp xs c ≡ true) (sym more.0) none) next)
+        ]) refl (and_right (not (gives_way d m stamp x (after turns))) _ skip))
 
 pub update_stops : {Key : Type 0} (m : Meaning Key) → IsKept m → UpdateStops m
 update_stops m keeps d stamp g database now front rest sound read unlocked skip is led held =
-    by (has_work d m stamp g.sets database.rows) (is_halt (own_choice g (contents_of database))) refl is where
+    by (has_work g.sets database.rows) (is_halt (own_choice g (contents_of database))) refl is where
       go : (front rest : Journal) (now : Database) → is_halt (own_choice g (contents_of database)) ≡ false → (all_called d (with_lock stamp database (sets_calls d m stamp g.sets (contents_of database))) (session_on database)).entries ≡ front ++ rest
           → all_done d (joined front) database ≡ Ok now → now.lock.locked ≡ true → UpdateStands d m stamp g.sets (contents_of database) now
       go front rest now halt is led held =
           locked_stops d (IsStanding d m keeps stamp g.sets database unlocked) stamp database (unheld d m keeps stamp g.sets database unlocked)
           (λ e at. between d m keeps stamp g.sets database unlocked [] g.sets e refl refl at) unlocked (sets_calls d m stamp g.sets (contents_of database))
           (λ s ready. all_past d m keeps stamp g.sets database unlocked [] g.sets s refl refl read sound
-          (ap (λ hs. list_any (λ (h : Happened). is_skip h.what) hs) (sym (own_happened (own_choice g (contents_of database)) (contents_of database) (all_settled d m stamp g.sets (contents_of database)) halt)) ∙ skip) ready)
+          skip ready)
           front rest now is led held
 
       none : (front rest : Journal) (now : Database) → (let nothing : Journal = [] in nothing) ≡ front ++ rest → all_done d (joined front) database ≡ Ok now → now.lock.locked ≡ true → UpdateStands d m stamp g.sets (contents_of database) now
@@ -327,15 +326,15 @@ update_stops m keeps d stamp g database now front rest sound read unlocked skip 
 
 -- a rollback
 
-module _ {Key : Type 0} (d : Dialect) (m : Meaning Key) (stamp : Stamp) where
+module _ (d : Dialect) (stamp : Stamp) where
   -- one turn more that finishes
-  rolled_more : (turns : List Turn) (turn : Turn) (c e : Contents) → (all_rolled d m turns c).stop ≡ None → ending d turn (all_rolled d m turns c).contents ≡ Finished e
-      → ((all_rolled d m (turns ++ turn ∷ []) c).contents ≡ e) × ((all_rolled d m (turns ++ turn ∷ []) c).stop ≡ None)
-  rolled_more [] turn c e stop is = (ap (λ q. (followed (rolled_as d m turn q).stop (rolled_as d m turn q) (all_rolled d m [])).contents) is, ap (λ q. (followed (rolled_as d m turn q).stop (rolled_as d m turn q) (all_rolled d m [])).stop) is)
+  rolled_more : (turns : List Turn) (turn : Turn) (c e : Contents) → (all_rolled d turns c).stop ≡ None → ending d turn (all_rolled d turns c).contents ≡ Finished e
+      → ((all_rolled d (turns ++ turn ∷ []) c).contents ≡ e) × ((all_rolled d (turns ++ turn ∷ []) c).stop ≡ None)
+  rolled_more [] turn c e stop is = (ap (λ q. (followed (rolled_as turn q).stop (rolled_as turn q) (all_rolled d [])).contents) is, ap (λ q. (followed (rolled_as turn q).stop (rolled_as turn q) (all_rolled d [])).stop) is)
   rolled_more (t ∷ turns) turn c e stop is =
-      (elim (ending d t c) as (λ q. (followed (rolled_as d m t q).stop (rolled_as d m t q) (all_rolled d m turns)).stop ≡ None
-      → ending d turn (followed (rolled_as d m t q).stop (rolled_as d m t q) (all_rolled d m turns)).contents ≡ Finished e
-      → ((followed (rolled_as d m t q).stop (rolled_as d m t q) (all_rolled d m (turns ++ turn ∷ []))).contents ≡ e) × ((followed (rolled_as d m t q).stop (rolled_as d m t q) (all_rolled d m (turns ++ turn ∷ []))).stop ≡ None)) [
+      (elim (ending d t c) as (λ q. (followed (rolled_as t q).stop (rolled_as t q) (all_rolled d turns)).stop ≡ None
+      → ending d turn (followed (rolled_as t q).stop (rolled_as t q) (all_rolled d turns)).contents ≡ Finished e
+      → ((followed (rolled_as t q).stop (rolled_as t q) (all_rolled d (turns ++ turn ∷ []))).contents ≡ e) × ((followed (rolled_as t q).stop (rolled_as t q) (all_rolled d (turns ++ turn ∷ []))).stop ≡ None)) [
         | Finished now ↦ λ on ends. rolled_more turns turn now e on ends
         | Refused now refusal ↦ λ on ends. Prim.cc
       ]) stop is
@@ -345,21 +344,21 @@ module _ {Key : Type 0} (d : Dialect) (m : Meaning Key) (stamp : Stamp) where
     origin = contents_of database
 
     abbrev IsStandingBack : Database → Type 0
-    IsStandingBack now = now.lock.locked ≡ true → RollbackStands d m stamp all origin now
+    IsStandingBack now = now.lock.locked ≡ true → RollbackStands d stamp all origin now
 
     unheld_back : (now : Database) → now.lock ≡ free → IsStandingBack now
     unheld_back now is held = never now.lock is held
 
     abbrev rolled : List Turn → Contents
-    rolled turns = (all_rolled d m turns origin).contents
+    rolled turns = (all_rolled d turns origin).contents
 
-    between_back : (turns rest : List Turn) (now : Database) → all ≡ turns ++ rest → (all_rolled d m turns origin).stop ≡ None → IsBetween stamp (rolled turns) now → IsStandingBack now
+    between_back : (turns rest : List Turn) (now : Database) → all ≡ turns ++ rest → (all_rolled d turns origin).stop ≡ None → IsBetween stamp (rolled turns) now → IsStandingBack now
     between_back turns rest now are stop at held = record { turns = turns; rest = rest; are = are; goes_on = stop; stands = inl at }
 
     abbrev ReadyBack : Contents → Session → Type 0
     ReadyBack c s = IsReady d IsStandingBack stamp database unheld_back (λ now at. between_back [] all now refl refl at) unlocked c s
 
-    one_back : (turns : List Turn) (turn : Turn) (more : List Turn) (s : Session) → all ≡ turns ++ turn ∷ more → (all_rolled d m turns origin).stop ≡ None → ReadyBack (rolled turns) s
+    one_back : (turns : List Turn) (turn : Turn) (more : List Turn) (s : Session) → all ≡ turns ++ turn ∷ more → (all_rolled d turns origin).stop ≡ None → ReadyBack (rolled turns) s
         → (over : Fine d IsStandingBack (session_on database) (all_called d (made d (turn_calls d stamp.who turn) (rolled turns)) s))
         × (((e : Contents) × (ending d turn (rolled turns) ≡ Finished e) × ReadyBack (rolled (turns ++ turn ∷ [])) (all_called d (made d (turn_calls d stamp.who turn) (rolled turns)) s)) ⊎ (is_finished (ending d turn (rolled turns)) ≡ false))
     one_back turns turn more s are stop ready =
@@ -378,34 +377,34 @@ module _ {Key : Type 0} (d : Dialect) (m : Meaning Key) (stamp : Stamp) where
           ],
         )
 
-    ended_calls : (calls : List Call) (e : Ending) (s : Session) → is_finished e ≡ false → all_called d (goes_on d m calls e) s ≡ s
+    ended_calls : (calls : List Call) (e : Ending) (s : Session) → is_finished e ≡ false → all_called d (calls_if_finished calls e) s ≡ s
     ended_calls calls (Finished c) s is = Prim.cc
     ended_calls calls (Refused c refusal) s is = refl
 
-    all_back : (turns rest : List Turn) (s : Session) → all ≡ turns ++ rest → (all_rolled d m turns origin).stop ≡ None → ReadyBack (rolled turns) s
-        → Fine d IsStandingBack (session_on database) (all_called d (turns_made d m stamp.who rest (rolled turns)) s)
+    all_back : (turns rest : List Turn) (s : Session) → all ≡ turns ++ rest → (all_rolled d turns origin).stop ≡ None → ReadyBack (rolled turns) s
+        → Fine d IsStandingBack (session_on database) (all_called d (turns_made d stamp.who rest (rolled turns)) s)
     all_back turns [] s are stop ready = ready.fine
     all_back turns (turn ∷ rest) s are stop ready =
         let one = one_back turns turn rest s are stop ready in
         let t = all_called d (made d (turn_calls d stamp.who turn) (rolled turns)) s in
         let q = ending d turn (rolled turns) in
-        subst (λ (u : Session). Fine d IsStandingBack (session_on database) u) (sym (calls_both d (made d (turn_calls d stamp.who turn) (rolled turns)) (goes_on d m (turns_made d m stamp.who rest (contents_in q)) q) s))
-        (elim one.1 as (λ _. Fine d IsStandingBack (session_on database) (all_called d (goes_on d m (turns_made d m stamp.who rest (contents_in q)) q) t)) [
+        subst (λ (u : Session). Fine d IsStandingBack (session_on database) u) (sym (calls_both d (made d (turn_calls d stamp.who turn) (rolled turns)) (calls_if_finished (turns_made d stamp.who rest (contents_in q)) q) s))
+        (elim one.1 as (λ _. Fine d IsStandingBack (session_on database) (all_called d (calls_if_finished (turns_made d stamp.who rest (contents_in q)) q) t)) [
           | inl e ↦
               let past = rolled_more turns turn origin e.0 stop e.1 in
               let more = all_back (turns ++ turn ∷ []) rest t (are ∙ sym (append_assoc turns (turn ∷ []) rest)) past.1 e.2 in
-              subst (λ z. Fine d IsStandingBack (session_on database) (all_called d (goes_on d m (turns_made d m stamp.who rest (contents_in z)) z) t)) (sym e.1)
-              (subst (λ c. Fine d IsStandingBack (session_on database) (all_called d (turns_made d m stamp.who rest c) t)) past.0 more)
-          | inr refused ↦ subst (λ (u : Session). Fine d IsStandingBack (session_on database) u) (sym (ended_calls (turns_made d m stamp.who rest (contents_in q)) q t refused)) one.0
+              subst (λ z. Fine d IsStandingBack (session_on database) (all_called d (calls_if_finished (turns_made d stamp.who rest (contents_in z)) z) t)) (sym e.1)
+              (subst (λ c. Fine d IsStandingBack (session_on database) (all_called d (turns_made d stamp.who rest c) t)) past.0 more)
+          | inr refused ↦ subst (λ (u : Session). Fine d IsStandingBack (session_on database) u) (sym (ended_calls (turns_made d stamp.who rest (contents_in q)) q t refused)) one.0
         ])
 
-pub rollback_stops : {Key : Type 0} (m : Meaning Key) → RollbackStops m
-rollback_stops m d stamp [] database now front rest unlocked is led held =
-    nothing_stops d (IsStandingBack d m stamp [] database unlocked) stamp database (unheld_back d m stamp [] database unlocked) (λ e at. between_back d m stamp [] database unlocked [] [] e refl refl at) unlocked front rest now is led held
-rollback_stops m d stamp (turn ∷ turns) database now front rest unlocked is led held =
-    locked_stops d (IsStandingBack d m stamp (turn ∷ turns) database unlocked) stamp database (unheld_back d m stamp (turn ∷ turns) database unlocked)
-    (λ e at. between_back d m stamp (turn ∷ turns) database unlocked [] (turn ∷ turns) e refl refl at) unlocked (turns_made d m stamp.who (turn ∷ turns) (contents_of database))
-    (λ s ready. all_back d m stamp (turn ∷ turns) database unlocked [] (turn ∷ turns) s refl refl ready) front rest now is led held
+pub rollback_stops : RollbackStops
+rollback_stops d stamp [] database now front rest unlocked is led held =
+    nothing_stops d (IsStandingBack d stamp [] database unlocked) stamp database (unheld_back d stamp [] database unlocked) (λ e at. between_back d stamp [] database unlocked [] [] e refl refl at) unlocked front rest now is led held
+rollback_stops d stamp (turn ∷ turns) database now front rest unlocked is led held =
+    locked_stops d (IsStandingBack d stamp (turn ∷ turns) database unlocked) stamp database (unheld_back d stamp (turn ∷ turns) database unlocked)
+    (λ e at. between_back d stamp (turn ∷ turns) database unlocked [] (turn ∷ turns) e refl refl at) unlocked (turns_made d stamp.who (turn ∷ turns) (contents_of database))
+    (λ s ready. all_back d stamp (turn ∷ turns) database unlocked [] (turn ∷ turns) s refl refl ready) front rest now is led held
 
 -- a changelog-sync
 
@@ -462,13 +461,13 @@ module _ (d : Dialect) (stamp : Stamp) (all : List Tracked) (database : Database
         leads = ap (λ (e : Contents). with_rows source (all_inserted all e.rows)) ready.at.contents;
       }))
 
-sync_by : {Key : Type 0} (m : Meaning Key) (d : Dialect) (stamp : Stamp) (rows : List Tracked) (database now : Database) (front rest : Journal) (unlocked : database.lock ≡ free)
-    → (all_called d (sync_of d m stamp rows database) (session_on database)).entries ≡ front ++ rest → all_done d (joined front) database ≡ Ok now → IsSynced d stamp rows database unlocked now
-sync_by m d stamp [] database now front rest unlocked is led =
+sync_by : (d : Dialect) (stamp : Stamp) (rows : List Tracked) (database now : Database) (front rest : Journal) (unlocked : database.lock ≡ free)
+    → (all_called d (sync_of d stamp rows database) (session_on database)).entries ≡ front ++ rest → all_done d (joined front) database ≡ Ok now → IsSynced d stamp rows database unlocked now
+sync_by d stamp [] database now front rest unlocked is led =
     nothing_stops d (IsSynced d stamp [] database unlocked) stamp database (unheld_sync d stamp [] database unlocked) (between_sync d stamp [] database unlocked) unlocked front rest now is led
-sync_by m d stamp (row ∷ rows) database now front rest unlocked is led =
+sync_by d stamp (row ∷ rows) database now front rest unlocked is led =
     locked_stops d (IsSynced d stamp (row ∷ rows) database unlocked) stamp database (unheld_sync d stamp (row ∷ rows) database unlocked) (between_sync d stamp (row ∷ rows) database unlocked) unlocked
     (made d (Begin ∷ inserts d stamp (row ∷ rows) database unlocked (row ∷ rows)) (contents_of database)) (all_in d stamp (row ∷ rows) database unlocked) front rest now is led
 
-pub sync_stops : {Key : Type 0} (m : Meaning Key) → SyncStops m
-sync_stops m d stamp g database now front rest unlocked is led held = sync_by m d stamp (rows_to_sync d m stamp g.sets database.rows) database now front rest unlocked is led held
+pub sync_stops : (Key : Type 0) → SyncStops Key
+sync_stops Key d stamp g database now front rest unlocked is led held = sync_by d stamp (rows_to_sync stamp.reading g.sets database.rows) database now front rest unlocked is led held

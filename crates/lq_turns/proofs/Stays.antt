@@ -26,58 +26,29 @@ use Rattle.lq_turns.specs.declared.stop.Stop.{Stop}
 use Rattle.lq_turns.specs.Turn.{Ending, Finished, Refused, ending}
 use Rattle.lq_turns.proofs.GoesOn.{AllDone, Same, all_done, both_true, goes_on, passed_happened, skips, still, twins_front, what_stays}
 
--- who runs it is no matter
-
-module _ {Key : Type 0} (d : Dialect) (m : Meaning Key) (stamp : Stamp) (who : List ℕ) where
-  abbrev other : Stamp
-  other = record stamp { who = who }
-
-  told_who : (x : Set Key) (made : Did) (why : Option Why) (n : ℕ) (e : Ending) → settled_as d m other x made why n e ≡ settled_as d m stamp x made why n e
-  told_who x made None n (Finished c) = refl
-  told_who x made None n (Refused c refusal) = refl
-  told_who x made (Some why) n (Finished c) = refl
-  told_who x made (Some why) n (Refused c refusal) = refl
-
-  one_who : (x : Set Key) (c : Contents) (q : Choice) → settled_by d m other x c q ≡ settled_by d m stamp x c q
-  one_who x c Passes = refl
-  one_who x c Fills = refl
-  one_who x c Skips = refl
-  one_who x c (Marks w) = told_who x did.Marked None 0 (ending d (mark_turn d m stamp w x c.rows) c)
-  one_who x c (Runs w why) = told_who x (did_of w) why (not_fresh d m x.changes c.users) (run_ending d m stamp (run_turn d m stamp w x c.rows) x c)
-  one_who x c (Halts why) = refl
-
-  pub any_who : (xs : List (Set Key)) (c : Contents) → all_settled d m other xs c ≡ all_settled d m stamp xs c
-  any_who [] c = refl
-  any_who (x ∷ xs) c =
-      ap (λ (s : Settled). followed s.stop s (all_settled d m other xs)) (one_who x c (choice x c))
-      ∙ (elim (settle d m stamp x c).stop as (λ o. followed o (settle d m stamp x c) (all_settled d m other xs) ≡ followed o (settle d m stamp x c) (all_settled d m stamp xs)) [
-        | None ↦ ap (λ more. followed None (settle d m stamp x c) (λ e. more)) (any_who xs (settle d m stamp x c).contents)
-        | Some stop ↦ refl
-      ])
-
 module _ {Key : Type 0} (d : Dialect) (m : Meaning Key) (keeps : IsKept m) (stamp : Stamp) where
   some_none : {A : Type 0} (halt : Stop) → (let o : Option Stop = Some halt in o) ≡ None → A
   some_none halt is = Prim.cc
 
   -- several turns leave what is sound
-  pub all_sound : (xs : List (Set Key)) (c : Contents) → AreRead d m xs → IsSound d c.users → IsSound d (all_settled d m stamp xs c).contents.users
+  pub all_sound : (xs : List (Set Key)) (c : Contents) → AreRead d m xs → IsSound d c.users → IsSound d (all_settled d m stamp.reading xs c).contents.users
   all_sound [] c read sound = sound
   all_sound (x ∷ xs) c read sound =
       let first = and_left _ (list_all (λ (y : Set Key). list_all (m.is_for d) y.changes) xs) read in
       let one = still d m keeps stamp x c first sound in
-      let more = all_sound xs (settle d m stamp x c).contents (and_right (list_all (m.is_for d) x.changes) _ read) one in
-      elim (settle d m stamp x c).stop as (λ o. IsSound d (followed o (settle d m stamp x c) (all_settled d m stamp xs)).contents.users) [ None ↦ more | Some stop ↦ one ]
+      let more = all_sound xs (settle d m stamp.reading x c).contents (and_right (list_all (m.is_for d) x.changes) _ read) one in
+      elim (settle d m stamp.reading x c).stop as (λ o. IsSound d (followed o (settle d m stamp.reading x c) (all_settled d m stamp.reading xs)).contents.users) [ None ↦ more | Some stop ↦ one ]
 
   -- what happened in the first turns, and in the others
-  happened_both : (xs ys : List (Set Key)) (c : Contents) → (all_settled d m stamp xs c).stop ≡ None
-      → (all_settled d m stamp (xs ++ ys) c).happened ≡ (all_settled d m stamp xs c).happened ++ (all_settled d m stamp ys (all_settled d m stamp xs c).contents).happened
+  happened_both : (xs ys : List (Set Key)) (c : Contents) → (all_settled d m stamp.reading xs c).stop ≡ None
+      → (all_settled d m stamp.reading (xs ++ ys) c).happened ≡ (all_settled d m stamp.reading xs c).happened ++ (all_settled d m stamp.reading ys (all_settled d m stamp.reading xs c).contents).happened
   happened_both [] ys c stop = refl
   happened_both (x ∷ xs) ys c stop =
-      (elim (settle d m stamp x c).stop as (λ o. (settle d m stamp x c).stop ≡ o → (followed o (settle d m stamp x c) (all_settled d m stamp xs)).stop ≡ None
-      → (followed o (settle d m stamp x c) (all_settled d m stamp (xs ++ ys))).happened ≡ (followed o (settle d m stamp x c) (all_settled d m stamp xs)).happened ++ (all_settled d m stamp ys (followed o (settle d m stamp x c) (all_settled d m stamp xs)).contents).happened) [
+      (elim (settle d m stamp.reading x c).stop as (λ o. (settle d m stamp.reading x c).stop ≡ o → (followed o (settle d m stamp.reading x c) (all_settled d m stamp.reading xs)).stop ≡ None
+      → (followed o (settle d m stamp.reading x c) (all_settled d m stamp.reading (xs ++ ys))).happened ≡ (followed o (settle d m stamp.reading x c) (all_settled d m stamp.reading xs)).happened ++ (all_settled d m stamp.reading ys (followed o (settle d m stamp.reading x c) (all_settled d m stamp.reading xs)).contents).happened) [
         | None ↦ λ at on.
-            ap (λ hs. (settle d m stamp x c).happened ++ hs) (happened_both xs ys (settle d m stamp x c).contents on)
-            ∙ sym (append_assoc (settle d m stamp x c).happened (all_settled d m stamp xs (settle d m stamp x c).contents).happened _)
+            ap (λ hs. (settle d m stamp.reading x c).happened ++ hs) (happened_both xs ys (settle d m stamp.reading x c).contents on)
+            ∙ sym (append_assoc (settle d m stamp.reading x c).happened (all_settled d m stamp.reading xs (settle d m stamp.reading x c).contents).happened _)
         | Some halt ↦ λ at on. some_none halt (sym at ∙ on)
       ]) refl stop
 
@@ -110,32 +81,32 @@ module _ {Key : Type 0} (d : Dialect) (m : Meaning Key) (keeps : IsKept m) (stam
 
   -- so what becomes of them stays
   later_stay : (test : Set Key → Option What → Bool) (xs ys : List (Set Key)) (c : Contents) → AreRead d m xs → IsSound d c.users → are_twins (xs ++ ys) ≡ false
-      → all_at test ys (all_settled d m stamp xs c).contents.rows ≡ all_at test ys c.rows
+      → all_at test ys (all_settled d m stamp.reading xs c).contents.rows ≡ all_at test ys c.rows
   later_stay test xs [] c read sound apart = refl
   later_stay test xs (y ∷ ys) c read sound apart =
-      ap (λ w. test y w && all_at test ys (all_settled d m stamp xs c).contents.rows) (what_stays d m keeps stamp y xs c read sound (apart_from xs ys y apart))
+      ap (λ w. test y w && all_at test ys (all_settled d m stamp.reading xs c).contents.rows) (what_stays d m keeps stamp y xs c read sound (apart_from xs ys y apart))
       ∙ ap (λ b. test y (what y c.rows) && b) (later_stay test xs ys c read sound (without xs y ys apart))
 
   -- what an update needs of contents, to be run again on what a stop between two turns leaves
   pub record IsCalm (xs : List (Set Key)) (c : Contents) : Type 0 where
     pub sound : IsSound d c.users
-    pub none_skipped : skips (all_settled d m stamp xs c) ≡ false
+    pub none_skipped : skips (all_settled d m stamp.reading xs c) ≡ false
     pub once : all_at runs_once xs c.rows ≡ true
     pub whole : all_at runs_whole xs c.rows ≡ true
 
   -- and it goes on so
-  pub stays_calm : (xs ys : List (Set Key)) (c : Contents) → AreRead d m (xs ++ ys) → list_all has_own_sum (xs ++ ys) ≡ true → are_twins (xs ++ ys) ≡ false → (all_settled d m stamp xs c).stop ≡ None
-      → IsCalm (xs ++ ys) c → IsCalm (xs ++ ys) (all_settled d m stamp xs c).contents × Same d m keeps stamp (all_settled d m stamp (xs ++ ys) (all_settled d m stamp xs c).contents) (all_settled d m stamp (xs ++ ys) c)
+  pub stays_calm : (xs ys : List (Set Key)) (c : Contents) → AreRead d m (xs ++ ys) → list_all has_own_sum (xs ++ ys) ≡ true → are_twins (xs ++ ys) ≡ false → (all_settled d m stamp.reading xs c).stop ≡ None
+      → IsCalm (xs ++ ys) c → IsCalm (xs ++ ys) (all_settled d m stamp.reading xs c).contents × Same d m keeps stamp (all_settled d m stamp.reading (xs ++ ys) (all_settled d m stamp.reading xs c).contents) (all_settled d m stamp.reading (xs ++ ys) c)
   stays_calm xs ys c read own apart stop calm =
       let read_first = all_front (λ (x : Set Key). list_all (m.is_for d) x.changes) xs ys read in
       let own_first = all_front has_own_sum xs ys own in
-      let both = sym (any-append (λ h. is_skip h.what) (all_settled d m stamp xs c).happened (all_settled d m stamp ys (all_settled d m stamp xs c).contents).happened) ∙ ap (λ hs. list_any (λ (h : Happened). is_skip h.what) hs) (sym (happened_both xs ys c stop)) ∙ calm.none_skipped in
-      let skip = or_left (skips (all_settled d m stamp xs c)) _ both in
+      let both = sym (any-append (λ h. is_skip h.what) (all_settled d m stamp.reading xs c).happened (all_settled d m stamp.reading ys (all_settled d m stamp.reading xs c).contents).happened) ∙ ap (λ hs. list_any (λ (h : Happened). is_skip h.what) hs) (sym (happened_both xs ys c stop)) ∙ calm.none_skipped in
+      let skip = or_left (skips (all_settled d m stamp.reading xs c)) _ both in
       let once = and_left _ (all_at runs_once ys c.rows) (sym (at_both runs_once xs ys c.rows) ∙ calm.once) in
       let done = all_done d m keeps stamp xs c read_first calm.sound own_first (twins_front d m keeps stamp xs ys apart) once stop skip in (
         record {
           sound = all_sound xs c read_first calm.sound;
-          none_skipped = ap (λ hs. list_any (λ (h : Happened). is_skip h.what) hs) (passed_happened d m keeps stamp xs ys (all_settled d m stamp xs c).contents done) ∙ or_right (skips (all_settled d m stamp xs c)) _ both;
+          none_skipped = ap (λ hs. list_any (λ (h : Happened). is_skip h.what) hs) (passed_happened d m keeps stamp xs ys (all_settled d m stamp.reading xs c).contents done) ∙ or_right (skips (all_settled d m stamp.reading xs c)) _ both;
           once = still_at runs_once (λ x. refl) xs ys c read_first calm.sound apart done calm.once;
           whole = still_at runs_whole (λ x. refl) xs ys c read_first calm.sound apart done calm.whole;
         },
@@ -146,8 +117,8 @@ module _ {Key : Type 0} (d : Dialect) (m : Meaning Key) (keeps : IsKept m) (stam
         all_front test (x ∷ xs) ys all = both_true (and_left _ (list_all test (xs ++ ys)) all) (all_front test xs ys (and_right (test x) _ all))
 
         still_at : (test : Set Key → Option What → Bool) → ((x : Set Key) → test x None ≡ true) → (xs ys : List (Set Key)) (c : Contents) → AreRead d m xs → IsSound d c.users → are_twins (xs ++ ys) ≡ false
-            → AllDone d m keeps stamp xs (all_settled d m stamp xs c).contents.rows → all_at test (xs ++ ys) c.rows ≡ true → all_at test (xs ++ ys) (all_settled d m stamp xs c).contents.rows ≡ true
+            → AllDone d m keeps stamp xs (all_settled d m stamp.reading xs c).contents.rows → all_at test (xs ++ ys) c.rows ≡ true → all_at test (xs ++ ys) (all_settled d m stamp.reading xs c).contents.rows ≡ true
         still_at test none xs ys c read sound apart done all =
-            at_both test xs ys (all_settled d m stamp xs c).contents.rows
-            ∙ both_true (done_pass test none xs (all_settled d m stamp xs c).contents.rows done)
+            at_both test xs ys (all_settled d m stamp.reading xs c).contents.rows
+            ∙ both_true (done_pass test none xs (all_settled d m stamp.reading xs c).contents.rows done)
             (later_stay test xs ys c read sound apart ∙ and_right (all_at test xs c.rows) _ (sym (at_both test xs ys c.rows) ∙ all))

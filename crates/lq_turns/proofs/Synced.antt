@@ -12,7 +12,6 @@ use Rattle.lq_turns.specs.Goes.{committed_if, went, went_by}
 use Rattle.lq_turns.specs.Laws.{at_rest}
 use Rattle.lq_turns.specs.Script.{rows_to_sync, sync_of}
 use Rattle.lq_turns.specs.Session.{all_called, left_by}
-use Rattle.lq_turns.specs.Set.{Meaning}
 use Rattle.lq_turns.specs.Synced.{SyncLeaves, all_inserted, inserted_then, with_rows}
 use Rattle.lq_turns.specs.declared.call.Call.{Call}
 use Rattle.lq_turns.specs.declared.call.Call.TheVariants.{Begin, Commit, Execute}
@@ -39,12 +38,12 @@ goes_in d (row ∷ rows) c now = elim (rows_after (Inserted row) now) as (λ r. 
   | Err reason ↦ ap (λ o. twice (committed_if o c (record c { rows = now }))) (row_not_own d (Inserted row))
 ]
 
-module _ {Key : Type 0} (d : Dialect) (m : Meaning Key) (stamp : Stamp) where
-  sync_leaves_rows : (rows : List Tracked) (database : Database) → database.lock ≡ free → SameDatabase (left_by d (sync_of d m stamp rows database) database) (at_rest database (with_rows (contents_of database) (all_inserted rows database.rows)))
+module _ (d : Dialect) (stamp : Stamp) where
+  sync_leaves_rows : (rows : List Tracked) (database : Database) → database.lock ≡ free → SameDatabase (left_by d (sync_of d stamp rows database) database) (at_rest database (with_rows (contents_of database) (all_inserted rows database.rows)))
   sync_leaves_rows [] database unlocked = record { users = refl; rows = refl; lock = unlocked }
   sync_leaves_rows (row ∷ rows) database unlocked =
       locked_leaves d stamp database (made d (Begin ∷ inserts (row ∷ rows)) (contents_of database)) (with_rows (contents_of database) (all_inserted (row ∷ rows) database.rows))
       (λ s at. subst (At (all_called d (made d (Begin ∷ inserts (row ∷ rows)) (contents_of database)) s)) (goes_in d (row ∷ rows) (contents_of database) database.rows) (takes d (Begin ∷ inserts (row ∷ rows)) (twice (contents_of database)) s (are_turns (row ∷ rows)) at))
 
-pub sync_leaves : {Key : Type 0} (m : Meaning Key) → SyncLeaves m
-sync_leaves m d stamp g database unlocked = sync_leaves_rows d m stamp (rows_to_sync d m stamp g.sets database.rows) database unlocked
+pub sync_leaves : (Key : Type 0) → SyncLeaves Key
+sync_leaves Key d stamp g database unlocked = sync_leaves_rows d stamp (rows_to_sync stamp.reading g.sets database.rows) database unlocked

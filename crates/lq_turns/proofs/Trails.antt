@@ -33,7 +33,7 @@ use Rattle.lq_turns.proofs.Fronts.{all_fronts}
 use Rattle.lq_turns.proofs.GoesOn.{Same, skips}
 use Rattle.lq_turns.proofs.Journal.{journal_leads, same_ok}
 use Rattle.lq_turns.proofs.Locked.{all_locks, entries_leave, falls, first_session, led_both, opened_by}
-use Rattle.lq_turns.proofs.Stays.{IsCalm, any_who, stays_calm}
+use Rattle.lq_turns.proofs.Stays.{IsCalm, stays_calm}
 use Rattle.lq_turns.proofs.Undone.{rollback_restores}
 use Rattle.lq_turns.proofs.Updates.{opened, sets_taken, update_leaves}
 
@@ -103,13 +103,13 @@ module _ {Key : Type 0} (m : Meaning Key) (keeps : IsKept m) (stamp : Stamp) (se
     (read : AreRead Postgresql m sets) (own : list_all has_own_sum sets ≡ true) (apart : are_twins sets ≡ false) where
   -- it can be run again, and leaves what it leaves from the first contents
   abbrev IsSteadyOn : Contents → Type 0
-  IsSteadyOn c = IsCalm Postgresql m keeps stamp sets c × Same Postgresql m keeps stamp (all_settled Postgresql m stamp sets c) (all_settled Postgresql m stamp sets first)
+  IsSteadyOn c = IsCalm Postgresql m keeps stamp sets c × Same Postgresql m keeps stamp (all_settled Postgresql m stamp.reading sets c) (all_settled Postgresql m stamp.reading sets first)
 
-  turns_keep : (turns rest : List (Set Key)) (c : Contents) → sets ≡ turns ++ rest → (all_settled Postgresql m stamp turns c).stop ≡ None → IsSteadyOn c → IsSteadyOn (all_settled Postgresql m stamp turns c).contents
+  turns_keep : (turns rest : List (Set Key)) (c : Contents) → sets ≡ turns ++ rest → (all_settled Postgresql m stamp.reading turns c).stop ≡ None → IsSteadyOn c → IsSteadyOn (all_settled Postgresql m stamp.reading turns c).contents
   turns_keep turns rest c are stop steady =
       let more = stays_calm Postgresql m keeps stamp turns rest c (subst (AreRead Postgresql m) are read) (subst (λ xs. list_all has_own_sum xs ≡ true) are own) (subst (λ xs. are_twins xs ≡ false) are apart) stop (subst (λ xs. IsCalm Postgresql m keeps stamp xs c) are steady.0) in
-      let same = subst (λ xs. Same Postgresql m keeps stamp (all_settled Postgresql m stamp xs (all_settled Postgresql m stamp turns c).contents) (all_settled Postgresql m stamp xs c)) (sym are) more.1 in
-      (subst (λ xs. IsCalm Postgresql m keeps stamp xs (all_settled Postgresql m stamp turns c).contents) (sym are) more.0, (same.0 ∙ steady.1.0, same.1 ∙ steady.1.1))
+      let same = subst (λ xs. Same Postgresql m keeps stamp (all_settled Postgresql m stamp.reading xs (all_settled Postgresql m stamp.reading turns c).contents) (all_settled Postgresql m stamp.reading xs c)) (sym are) more.1 in
+      (subst (λ xs. IsCalm Postgresql m keeps stamp xs (all_settled Postgresql m stamp.reading turns c).contents) (sym are) more.0, (same.0 ∙ steady.1.0, same.1 ∙ steady.1.1))
 
   module _ (who : List ℕ) (database : Database) (steady : IsSteadyOn (contents_of database)) where
     abbrev by : Stamp
@@ -127,8 +127,8 @@ module _ {Key : Type 0} (m : Meaning Key) (keeps : IsKept m) (stamp : Stamp) (se
         let leads = journal_leads Postgresql calls database in
         let same = one_ok database (λ w e. []) (λ c. IsSteadyOn c) (all_done Postgresql (joined (here.entries ++ front)) database) led (ap (λ es. all_done Postgresql (joined es) database) (sym is.entries) ∙ leads) in
         let taken = sets_taken Postgresql m keeps by is.turns (contents_of database) here (read_front is.turns is.rest (subst (AreRead Postgresql m) is.are read)) steady.0.sound (opened Postgresql by database) in
-        let at = ap contents_of same ∙ taken.committed ∙ ap (λ (s : Settled). s.contents) (any_who Postgresql m stamp who is.turns (contents_of database)) in
-        subst IsSteadyOn (sym at) (turns_keep is.turns is.rest (contents_of database) is.are (ap (λ (s : Settled). s.stop) (sym (any_who Postgresql m stamp who is.turns (contents_of database))) ∙ is.goes_on) steady)
+        let at = ap contents_of same ∙ taken.committed in
+        subst IsSteadyOn (sym at) (turns_keep is.turns is.rest (contents_of database) is.are is.goes_on steady)
 
     locked_keeps : StopKeeps database (λ w e. []) IsSteadyOn (with_lock by database (sets_calls Postgresql m by sets (contents_of database))) database
     locked_keeps front rest now is led =
@@ -144,15 +144,15 @@ module _ {Key : Type 0} (m : Meaning Key) (keeps : IsKept m) (stamp : Stamp) (se
         ]
 
     update_keeps : (g : Changelog Key) → g.sets ≡ sets → StopKeeps database (λ w e. []) IsSteadyOn (update_calls Postgresql m by g database) database
-    update_keeps g same = subst (λ xs. StopKeeps database (λ w e. []) IsSteadyOn (if has_work Postgresql m by xs database.rows && not (is_halt (own_choice g (contents_of database))) then with_lock by database (sets_calls Postgresql m by xs (contents_of database)) else []) database) (sym same)
-        (elim (has_work Postgresql m by sets database.rows && not (is_halt (own_choice g (contents_of database)))) as (λ b. StopKeeps database (λ w e. []) IsSteadyOn (if b then with_lock by database (sets_calls Postgresql m by sets (contents_of database)) else []) database) [
+    update_keeps g same = subst (λ xs. StopKeeps database (λ w e. []) IsSteadyOn (if has_work xs database.rows && not (is_halt (own_choice g (contents_of database))) then with_lock by database (sets_calls Postgresql m by xs (contents_of database)) else []) database) (sym same)
+        (elim (has_work sets database.rows && not (is_halt (own_choice g (contents_of database)))) as (λ b. StopKeeps database (λ w e. []) IsSteadyOn (if b then with_lock by database (sets_calls Postgresql m by sets (contents_of database)) else []) database) [
           | true ↦ locked_keeps
           | false ↦ nothing_kept database (λ w e. []) IsSteadyOn database steady
         ])
 
 -- without a condition of its own, an update is what its changesets do
-bare_is : {Key : Type 0} (m : Meaning Key) (stamp : Stamp) (g : Changelog Key) (c : Contents) → g.condition.told c ≡ Ok true → updated Postgresql m stamp g c ≡ all_settled Postgresql m stamp g.sets c
-bare_is m stamp g c bare = ap (λ told. by_own (tested New g.condition told) c (all_settled Postgresql m stamp g.sets c)) bare
+bare_is : {Key : Type 0} (m : Meaning Key) (stamp : Stamp) (g : Changelog Key) (c : Contents) → g.condition.told c ≡ Ok true → updated Postgresql m stamp.reading g c ≡ all_settled Postgresql m stamp.reading g.sets c
+bare_is m stamp g c bare = ap (λ told. by_own (tested New g.condition told) c (all_settled Postgresql m stamp.reading g.sets c)) bare
 
 pub update_resumes : {Key : Type 0} (m : Meaning Key) → IsKept m → UpdateResumes m
 update_resumes m keeps stamp g start database sound unlocked read own apart steady stopped =
@@ -174,6 +174,6 @@ pub resumed_returns : {Key : Type 0} (m : Meaning Key) → IsKept m → ResumedR
 resumed_returns m keeps stamp later g sets xs start database sound unlocked read own apart steady stopped ran can known =
     let left = (update_resumes m keeps stamp g start database sound unlocked read own apart steady stopped).0 in
     let after = left_by Postgresql (update_calls Postgresql m stamp g database) database in
-    let same = same_contents after.users after.rows (updated Postgresql m stamp g (contents_of start)).contents left.users left.rows in
+    let same = same_contents after.users after.rows (updated Postgresql m stamp.reading g (contents_of start)).contents left.users left.rows in
     let back = rollback_restores m keeps Postgresql later sets (contents_of start) xs after left.lock (subst (RanSince Postgresql m (contents_of start) xs) (sym same) ran) can known in
     record { users = back.users; rows = back.rows; lock = back.lock }

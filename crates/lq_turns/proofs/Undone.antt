@@ -26,7 +26,7 @@ use Rattle.lq_turns.specs.Ran.{AreRowsOf, Run, all_effects, are_reversible, effe
 use Rattle.lq_turns.specs.Settle.{row_for}
 use Rattle.lq_turns.specs.Set.{IsKept, Meaning, Set, has_row}
 use Rattle.lq_turns.specs.Session.{Session, all_called, left_by}
-use Rattle.lq_turns.specs.Rollback.{goes_on, rollback_of, set_of, turns_made, undo_by, undo_turn, undo_turns}
+use Rattle.lq_turns.specs.Rollback.{calls_if_finished, rollback_of, set_of, turns_made, undo_by, undo_turn, undo_turns}
 use Rattle.lq_turns.specs.declared.call.Call.{Call}
 use Rattle.lq_turns.specs.declared.deed.OnRows.TheVariants.{Deleted}
 use Rattle.lq_turns.specs.declared.stamp.Stamp.{Stamp}
@@ -50,14 +50,14 @@ module _ (d : Dialect) where
   undone_both (turn ∷ turns) more c now e first second = (first.0, first.1, undone_both turns more first.0 now e first.2 second)
 
 module _ {Key : Type 0} (d : Dialect) (m : Meaning Key) where
-  pub undone_taken : (who : List ℕ) (turns : List Turn) (c e : Contents) (s : Session) → Undone d turns c e → At s (twice c) → At (all_called d (turns_made d m who turns c) s) (twice e)
+  pub undone_taken : (who : List ℕ) (turns : List Turn) (c e : Contents) (s : Session) → Undone d turns c e → At s (twice c) → At (all_called d (turns_made d who turns c) s) (twice e)
   undone_taken who [] c e s is at = subst (λ x. At s (twice x)) is at
   undone_taken who (turn ∷ turns) c e s is at =
       let now = ap contents_in is.1 in
       let after = subst (λ x. At (all_called d (made d (turn_calls d who turn) c) s) (twice x)) now (turn_taken d who turn c s at) in
       let more = undone_taken who turns is.0 e (all_called d (made d (turn_calls d who turn) c) s) is.2 after in
-      subst (λ (t : Session). At t (twice e)) (sym (calls_both d (made d (turn_calls d who turn) c) (goes_on d m (turns_made d m who turns (contents_in (ending d turn c))) (ending d turn c)) s))
-      (subst (λ q. At (all_called d (goes_on d m (turns_made d m who turns (contents_in q)) q) (all_called d (made d (turn_calls d who turn) c) s)) (twice e)) (sym is.1) more)
+      subst (λ (t : Session). At t (twice e)) (sym (calls_both d (made d (turn_calls d who turn) c) (calls_if_finished (turns_made d who turns (contents_in (ending d turn c))) (ending d turn c)) s))
+      (subst (λ q. At (all_called d (calls_if_finished (turns_made d who turns (contents_in q)) q) (all_called d (made d (turn_calls d who turn) c) s)) (twice e)) (sym is.1) more)
 
   -- a turn whose statements run, and that deletes a row
   pub deleting : (turn : Turn) (of : Identity) (c : Contents) (users : Catalogue) → turn.row ≡ Deleted of → run User d turn.statements c.users ≡ Ok users → ending d turn c ≡ Finished (with_users users (others of c.rows))
@@ -153,7 +153,7 @@ module _ {Key : Type 0} (m : Meaning Key) (keeps : IsKept m) (d : Dialect) where
   TakenBack whole sets row rows before now = (turn : Turn) × (undo_turn d m sets row ≡ Some turn) × (ending d turn (with_users now (rows ++ row ∷ [])) ≡ Finished (with_users before rows)) × (whole ≡ true → turn.in_transaction ≡ true)
 
   abbrev pub row_in : Bool → Run Key → ℕ → Option (List ℕ) → Tracked
-  row_in marked x order tag = record (row_for (record { who = []; reading = x.reading }) order (exec_in marked) x.set) { tag = tag }
+  row_in marked x order tag = record (row_for x.reading order (exec_in marked) x.set) { tag = tag }
 
   abbrev undo_of : Set Key → List Statement → Turn
   undo_of x us = record { identity = x.identity; statements = us; in_transaction = x.in_transaction; is_undo = true; row = Deleted x.identity }
@@ -168,7 +168,7 @@ module _ {Key : Type 0} (m : Meaning Key) (keeps : IsKept m) (d : Dialect) where
       λ whole. refl,
     )
 
-    ran_back : set_of d m sets x.set.identity ≡ Some x.set → list_all (m.is_for d) x.set.changes ≡ true → IsSound d before
+    ran_back : set_of sets x.set.identity ≡ Some x.set → list_all (m.is_for d) x.set.changes ≡ true → IsSound d before
         → (is_none x.set.rollback && (is_some (inverses d m x.set.changes) && all_fresh d m x.set.changes before)) ≡ true → effects d m x.set.changes before ≡ Ok now → has_row rows x.set.identity ≡ false
         → TakenBack x.set.in_transaction sets (row_in false x order tag) rows before now
     ran_back known read sound can is none =
@@ -184,7 +184,7 @@ module _ {Key : Type 0} (m : Meaning Key) (keeps : IsKept m) (d : Dialect) where
           λ whole. whole,
         )
 
-    pub taken_back : (marked : Bool) → set_of d m sets x.set.identity ≡ Some x.set → list_all (m.is_for d) x.set.changes ≡ true → IsSound d before
+    pub taken_back : (marked : Bool) → set_of sets x.set.identity ≡ Some x.set → list_all (m.is_for d) x.set.changes ≡ true → IsSound d before
         → is_reversible d m (record x { is_marked = marked }) before ≡ true → effects_of d m (record x { is_marked = marked }) before ≡ Ok now → has_row rows x.set.identity ≡ false
         → TakenBack x.set.in_transaction sets (row_in marked x order tag) rows before now
     taken_back true known read sound can is none = marked_back is none
@@ -221,15 +221,15 @@ module _ {Key : Type 0} (m : Meaning Key) (keeps : IsKept m) (d : Dialect) where
 
 module _ {Key : Type 0} (m : Meaning Key) (d : Dialect) (stamp : Stamp) where
   back_by : (turns : List Turn) (database : Database) (before : Contents) → database.lock ≡ free → Undone d turns (contents_of database) before
-      → SameDatabase (left_by d (rollback_of d m stamp turns database) database) (at_rest database before)
+      → SameDatabase (left_by d (rollback_of d stamp turns database) database) (at_rest database before)
   back_by [] database before unlocked undone = subst (λ c. SameDatabase database (at_rest database c)) undone (record { users = refl; rows = refl; lock = unlocked })
   back_by (turn ∷ turns) database before unlocked undone =
-      locked_leaves d stamp database (turns_made d m stamp.who (turn ∷ turns) (contents_of database)) before (λ s at. undone_taken d m stamp.who (turn ∷ turns) (contents_of database) before s undone at)
+      locked_leaves d stamp database (turns_made d stamp.who (turn ∷ turns) (contents_of database)) before (λ s at. undone_taken d m stamp.who (turn ∷ turns) (contents_of database) before s undone at)
 
 pub rollback_restores : {Key : Type 0} (m : Meaning Key) → IsKept m → RollbackRestores m
 rollback_restores m keeps d stamp sets before xs database unlocked ran can known =
     let back = all_back m keeps d sets xs ran.added before.rows before.users database.users ran.are_theirs known ran.sound can ran.users (sym (ap has_twin_rows ran.rows) ∙ ran.differ) in
     let undone = ap reverse (ap (drop (length before.rows)) ran.rows ∙ drop-append_seam before.rows ran.added) in
     let turns = ap (undo_turns d m sets) undone ∙ back.1 in
-    subst (λ o. SameDatabase (left_by d (elim o as (λ _. List Call) [ Some turns ↦ rollback_of d m stamp turns database | None ↦ [] ]) database) (at_rest database before)) (sym turns)
+    subst (λ o. SameDatabase (left_by d (elim o as (λ _. List Call) [ Some turns ↦ rollback_of d stamp turns database | None ↦ [] ]) database) (at_rest database before)) (sym turns)
     (back_by m d stamp back.0 database before unlocked (subst (λ r. Undone d back.0 (with_users database.users r) before) (sym ran.rows) back.2))

@@ -61,7 +61,7 @@ module _ (d : Dialect) (stamp : Stamp) (database : Database) where
 module _ {Key : Type 0} (d : Dialect) (m : Meaning Key) (keeps : IsKept m) (stamp : Stamp) where
   -- one changeset
 
-  pub run_is : (x : Set Key) (turn : Turn) (c : Contents) → turn.statements ≡ statements_of d m x.changes → list_all (m.is_for d) x.changes ≡ true → IsSound d c.users → run_ending d m stamp turn x c ≡ ending d turn c
+  pub run_is : (x : Set Key) (turn : Turn) (c : Contents) → turn.statements ≡ statements_of d m x.changes → list_all (m.is_for d) x.changes ≡ true → IsSound d c.users → run_ending d m stamp.reading turn x c ≡ ending d turn c
   run_is x turn c are read sound =
       let runs = run_effects m keeps d x.changes c.users read sound in
       (elim (effects d m x.changes c.users) as (λ q. effects d m x.changes c.users ≡ q → elim q as (λ _. Ending) [ Ok users ↦ row_ending d turn users c | Err reason ↦ ending d turn c ] ≡ ending d turn c) [
@@ -69,19 +69,19 @@ module _ {Key : Type 0} (d : Dialect) (m : Meaning Key) (keeps : IsKept m) (stam
         | Err reason ↦ λ is. refl
       ]) refl
 
-  pub stopped_is : (x : Set Key) (did : Did) (why : Option Why) (n : ℕ) (e : Ending) → (settled_as d m stamp x did why n e).contents ≡ contents_in e
+  pub stopped_is : (x : Set Key) (did : Did) (why : Option Why) (n : ℕ) (e : Ending) → (settled_as x did why n e).contents ≡ contents_in e
   stopped_is x did why n (Finished c) = refl
   stopped_is x did why n (Refused c refusal) = by x.fail_on_error where
-    by : (b : Bool) → (settled_as d m stamp (record x { fail_on_error = b }) did why n (Refused c refusal)).contents ≡ c
+    by : (b : Bool) → (settled_as (record x { fail_on_error = b }) did why n (Refused c refusal)).contents ≡ c
     by true = refl
     by false = refl
 
-  pub settled_is : (x : Set Key) (c : Contents) (q : Choice) → list_all (m.is_for d) x.changes ≡ true → IsSound d c.users → (settled_by d m stamp x c q).contents ≡ turn_left d (turn_by d m stamp x c.rows q) c
+  pub settled_is : (x : Set Key) (c : Contents) (q : Choice) → list_all (m.is_for d) x.changes ≡ true → IsSound d c.users → (settled_by d m stamp.reading x c q).contents ≡ turn_left d (turn_by d m stamp x c.rows q) c
   settled_is x c Passes read sound = refl
   settled_is x c Fills read sound = refl
   settled_is x c Skips read sound = refl
-  settled_is x c (Marks by) read sound = stopped_is x _ None 0 (ending d (mark_turn d m stamp by x c.rows) c)
-  settled_is x c (Runs by why) read sound = stopped_is x _ why _ (run_ending d m stamp (run_turn d m stamp by x c.rows) x c) ∙ ap contents_in (run_is x (run_turn d m stamp by x c.rows) c refl read sound)
+  settled_is x c (Marks by) read sound = stopped_is x _ None 0 (ending d (mark_turn stamp.reading by x c.rows) c)
+  settled_is x c (Runs by why) read sound = stopped_is x _ why _ (run_ending d m stamp.reading (run_turn d m stamp.reading by x c.rows) x c) ∙ ap contents_in (run_is x (run_turn d m stamp.reading by x c.rows) c refl read sound)
   settled_is x c (Halts why) read sound = refl
 
   pub taken_by : (turn : Option Turn) (c : Contents) (s : Session) → At s (twice c) → At (all_called d (calls_of_turn d m stamp turn c) s) (twice (turn_left d turn c))
@@ -92,23 +92,23 @@ module _ {Key : Type 0} (d : Dialect) (m : Meaning Key) (keeps : IsKept m) (stam
   sound_by x c Passes read sound = sound
   sound_by x c Fills read sound = sound
   sound_by x c Skips read sound = sound
-  sound_by x c (Marks by) read sound = ending_sound d (mark_turn d m stamp by x c.rows) c refl sound
-  sound_by x c (Runs by why) read sound = ending_sound d (run_turn d m stamp by x c.rows) c (all_spelled m keeps d x.changes read) sound
+  sound_by x c (Marks by) read sound = ending_sound d (mark_turn stamp.reading by x c.rows) c refl sound
+  sound_by x c (Runs by why) read sound = ending_sound d (run_turn d m stamp.reading by x c.rows) c (all_spelled m keeps d x.changes read) sound
   sound_by x c (Halts why) read sound = sound
 
   -- all of them
 
   pub sets_taken : (xs : List (Set Key)) (c : Contents) (s : Session) → list_all (λ (x : Set Key). list_all (m.is_for d) x.changes) xs ≡ true → IsSound d c.users → At s (twice c)
-      → At (all_called d (sets_calls d m stamp xs c) s) (twice (all_settled d m stamp xs c).contents)
+      → At (all_called d (sets_calls d m stamp xs c) s) (twice (all_settled d m stamp.reading xs c).contents)
   sets_taken [] c s read sound at = at
   sets_taken (x ∷ xs) c s read sound at =
       let first = and_left _ (list_all (λ (x : Set Key). list_all (m.is_for d) x.changes) xs) read in
       let is = settled_is x c (choice x c) first sound in
       let now = subst (λ (e : Contents). At (all_called d (set_calls d m stamp x c) s) (twice e)) (sym is) (taken_by (turn_by d m stamp x c.rows (choice x c)) c s at) in
       let still = subst (λ (e : Contents). IsSound d e.users) (sym is) (sound_by x c (choice x c) first sound) in
-      let more = sets_taken xs (settle d m stamp x c).contents (all_called d (set_calls d m stamp x c) s) (and_right (list_all (m.is_for d) x.changes) _ read) still now in
-      subst (λ (t : Session). At t (twice (all_settled d m stamp (x ∷ xs) c).contents)) (sym (calls_both d (set_calls d m stamp x c) (calls_unless (settle d m stamp x c).stop (sets_calls d m stamp xs (settle d m stamp x c).contents)) s))
-      ((elim (settle d m stamp x c).stop as (λ (q : Option Stop). At (all_called d (calls_unless q (sets_calls d m stamp xs (settle d m stamp x c).contents)) (all_called d (set_calls d m stamp x c) s)) (twice (followed q (settle d m stamp x c) (all_settled d m stamp xs)).contents)) [
+      let more = sets_taken xs (settle d m stamp.reading x c).contents (all_called d (set_calls d m stamp x c) s) (and_right (list_all (m.is_for d) x.changes) _ read) still now in
+      subst (λ (t : Session). At t (twice (all_settled d m stamp.reading (x ∷ xs) c).contents)) (sym (calls_both d (set_calls d m stamp x c) (calls_unless (settle d m stamp.reading x c).stop (sets_calls d m stamp xs (settle d m stamp.reading x c).contents)) s))
+      ((elim (settle d m stamp.reading x c).stop as (λ (q : Option Stop). At (all_called d (calls_unless q (sets_calls d m stamp xs (settle d m stamp.reading x c).contents)) (all_called d (set_calls d m stamp x c) s)) (twice (followed q (settle d m stamp.reading x c) (all_settled d m stamp.reading xs)).contents)) [
         | None ↦ more
         | Some stop ↦ now
       ]))
@@ -119,11 +119,11 @@ module _ {Key : Type 0} (d : Dialect) (m : Meaning Key) (keeps : IsKept m) (stam
   no_what None is = refl
   no_what (Some x) is = Prim.cc
 
-  idle : (xs : List (Set Key)) (c : Contents) → has_work d m stamp xs c.rows ≡ false → (all_settled d m stamp xs c).contents ≡ c
+  idle : (xs : List (Set Key)) (c : Contents) → has_work xs c.rows ≡ false → (all_settled d m stamp.reading xs c).contents ≡ c
   idle [] c none = refl
   idle (x ∷ xs) c none =
-      let passes = ap (λ o. settled_by d m stamp x c (choice_of x c o)) (no_what (what x c.rows) (or_left _ (has_work d m stamp xs c.rows) none)) in
-      ap (λ (s : Settled). (followed s.stop s (all_settled d m stamp xs)).contents) passes ∙ idle xs c (or_right (is_some (what x c.rows)) _ none)
+      let passes = ap (λ o. settled_by d m stamp.reading x c (choice_of x c o)) (no_what (what x c.rows) (or_left _ (has_work xs c.rows) none)) in
+      ap (λ (s : Settled). (followed s.stop s (all_settled d m stamp.reading xs)).contents) passes ∙ idle xs c (or_right (is_some (what x c.rows)) _ none)
 
   own_is : (q : Choice) (c : Contents) (s : Settled) → is_halt q ≡ false → (by_own q c s).contents ≡ s.contents
   own_is Passes c s is = refl
@@ -146,19 +146,19 @@ module _ {Key : Type 0} (d : Dialect) (m : Meaning Key) (keeps : IsKept m) (stam
   unmoved database c unlocked is = subst (λ e. SameDatabase database (at_rest database e)) (sym is) (record { users = refl; rows = refl; lock = unlocked })
 
   update_by : (g : Changelog Key) (database : Database) → IsSound d database.users → database.lock ≡ free → list_all (λ (x : Set Key). list_all (m.is_for d) x.changes) g.sets ≡ true
-      → (work halt : Bool) → has_work d m stamp g.sets database.rows ≡ work → is_halt (own_choice g (contents_of database)) ≡ halt
-      → SameDatabase (left_by d (if work && not halt then with_lock stamp database (sets_calls d m stamp g.sets (contents_of database)) else []) database) (at_rest database (updated d m stamp g (contents_of database)).contents)
+      → (work halt : Bool) → has_work g.sets database.rows ≡ work → is_halt (own_choice g (contents_of database)) ≡ halt
+      → SameDatabase (left_by d (if work && not halt then with_lock stamp database (sets_calls d m stamp g.sets (contents_of database)) else []) database) (at_rest database (updated d m stamp.reading g (contents_of database)).contents)
   update_by g database sound unlocked read true false work halt =
-      let is = own_is (own_choice g (contents_of database)) (contents_of database) (all_settled d m stamp g.sets (contents_of database)) halt in
-      locked_leaves d stamp database (sets_calls d m stamp g.sets (contents_of database)) (updated d m stamp g (contents_of database)).contents
+      let is = own_is (own_choice g (contents_of database)) (contents_of database) (all_settled d m stamp.reading g.sets (contents_of database)) halt in
+      locked_leaves d stamp database (sets_calls d m stamp g.sets (contents_of database)) (updated d m stamp.reading g (contents_of database)).contents
       (λ s at. subst (λ (e : Contents). At (all_called d (sets_calls d m stamp g.sets (contents_of database)) s) (twice e)) (sym is) (sets_taken g.sets (contents_of database) s read sound at))
   update_by g database sound unlocked read true true work halt =
-      unmoved database _ unlocked (own_halts (own_choice g (contents_of database)) (contents_of database) (all_settled d m stamp g.sets (contents_of database)) halt)
+      unmoved database _ unlocked (own_halts (own_choice g (contents_of database)) (contents_of database) (all_settled d m stamp.reading g.sets (contents_of database)) halt)
   update_by g database sound unlocked read false true work halt =
-      unmoved database _ unlocked (own_halts (own_choice g (contents_of database)) (contents_of database) (all_settled d m stamp g.sets (contents_of database)) halt)
+      unmoved database _ unlocked (own_halts (own_choice g (contents_of database)) (contents_of database) (all_settled d m stamp.reading g.sets (contents_of database)) halt)
   update_by g database sound unlocked read false false work halt =
-      unmoved database _ unlocked (own_is (own_choice g (contents_of database)) (contents_of database) (all_settled d m stamp g.sets (contents_of database)) halt ∙ idle g.sets (contents_of database) work)
+      unmoved database _ unlocked (own_is (own_choice g (contents_of database)) (contents_of database) (all_settled d m stamp.reading g.sets (contents_of database)) halt ∙ idle g.sets (contents_of database) work)
 
 pub update_leaves : {Key : Type 0} (m : Meaning Key) → IsKept m → UpdateLeaves m
 update_leaves m keeps d stamp g database sound unlocked read =
-    update_by d m keeps stamp g database sound unlocked read (has_work d m stamp g.sets database.rows) (is_halt (own_choice g (contents_of database))) refl refl
+    update_by d m keeps stamp g database sound unlocked read (has_work g.sets database.rows) (is_halt (own_choice g (contents_of database))) refl refl

@@ -29,6 +29,6 @@ module _ {Key : Type 0} where
 abbrev pub GoesOn : {Key : Type 0} → Meaning Key → Type 0
 GoesOn {Key} m = (d : Dialect) (stamp : Stamp) (xs ys : List (Set Key)) (c : Contents)
     → IsSound d c.users → AreRead d m xs → list_all has_own_sum xs ≡ true → are_twins (xs ++ ys) ≡ false → all_at runs_once xs c.rows ≡ true
-    → (all_settled d m stamp xs c).stop ≡ None → list_any (λ h. is_skip h.what) (all_settled d m stamp xs c).happened ≡ false
-    → ((all_settled d m stamp (xs ++ ys) (all_settled d m stamp xs c).contents).contents ≡ (all_settled d m stamp (xs ++ ys) c).contents)
-    × ((all_settled d m stamp (xs ++ ys) (all_settled d m stamp xs c).contents).stop ≡ (all_settled d m stamp (xs ++ ys) c).stop)
+    → (all_settled d m stamp.reading xs c).stop ≡ None → list_any (λ h. is_skip h.what) (all_settled d m stamp.reading xs c).happened ≡ false
+    → ((all_settled d m stamp.reading (xs ++ ys) (all_settled d m stamp.reading xs c).contents).contents ≡ (all_settled d m stamp.reading (xs ++ ys) c).contents)
+    × ((all_settled d m stamp.reading (xs ++ ys) (all_settled d m stamp.reading xs c).contents).stop ≡ (all_settled d m stamp.reading (xs ++ ys) c).stop)

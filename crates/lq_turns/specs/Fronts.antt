@@ -23,7 +23,7 @@ pub record IsFront {Key : Type 0} (m : Meaning Key) (stamp : Stamp) (xs : List (
   pub turns : List (Set Key)
   pub rest : List (Set Key)
   pub are : xs ≡ turns ++ rest
-  pub goes_on : (all_settled Postgresql m stamp turns c).stop ≡ None
+  pub goes_on : (all_settled Postgresql m stamp.reading turns c).stop ≡ None
   pub entries : (all_called Postgresql (sets_calls Postgresql m stamp turns c) s).entries ≡ s.entries ++ front
 
 -- each front of the entries of an update in postgresql, whose changesets that run are one transaction each, is that of some whole turns

@@ -32,7 +32,7 @@ pub record Task (Key : Type 0) : Type 0 where
 module _ {Key : Type 0} (d : Dialect) (m : Meaning Key) where
   abbrev pub script_of : Command → Stamp → Changelog Key → Database → List Call
   script_of Update stamp g database = update_calls d m stamp g database
-  script_of Sync stamp g database = sync_calls d m stamp g database
+  script_of Sync stamp g database = sync_calls d stamp g database
   script_of (Rollback target) stamp g database = rollback_to d m stamp g.sets target database
   script_of (Tag tag) stamp g database = tag_calls tag database
   script_of Release stamp g database = release_calls database

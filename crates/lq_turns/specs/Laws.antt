@@ -28,16 +28,16 @@ AreRead {Key} d m xs = list_all (λ (x : Set Key). list_all (m.is_for d) x.chang
 abbrev pub UpdateLeaves : {Key : Type 0} → Meaning Key → Type 0
 UpdateLeaves {Key} m = (d : Dialect) (stamp : Stamp) (g : Changelog Key) (database : Database)
     → IsSound d database.users → database.lock ≡ free → AreRead d m g.sets
-    → SameDatabase (left_by d (update_calls d m stamp g database) database) (at_rest database (updated d m stamp g (contents_of database)).contents)
+    → SameDatabase (left_by d (update_calls d m stamp g database) database) (at_rest database (updated d m stamp.reading g (contents_of database)).contents)
 
 -- each is in the changelog the changeset of its identity, and its changes were read for the dialect
 abbrev pub AreKnown : {Key : Type 0} → Dialect → Meaning Key → List (Set Key) → List (Run Key) → Type 0
 AreKnown d m sets [] = Unit {0}
-AreKnown d m sets (x ∷ xs) = ((set_of d m sets x.set.identity ≡ Some x.set) × (list_all (m.is_for d) x.set.changes ≡ true)) × AreKnown d m sets xs
+AreKnown d m sets (x ∷ xs) = ((set_of sets x.set.identity ≡ Some x.set) × (list_all (m.is_for d) x.set.changes ≡ true)) × AreKnown d m sets xs
 
 -- a rollback's calls, where each of its rows has what takes it back
 abbrev pub rollback_calls : {Key : Type 0} → Dialect → Meaning Key → Stamp → List (Set Key) → ℕ → Database → List Call
-rollback_calls d m stamp sets stay database = elim (undo_turns d m sets (rows_undone stay database.rows)) [ Some turns ↦ rollback_of d m stamp turns database | None ↦ [] ]
+rollback_calls d m stamp sets stay database = elim (undo_turns d m sets (rows_undone stay database.rows)) [ Some turns ↦ rollback_of d stamp turns database | None ↦ [] ]
 
 -- taking back what ran since a point leaves the database of that point, with a free lock
 abbrev pub RollbackRestores : {Key : Type 0} → Meaning Key → Type 0
@@ -46,6 +46,6 @@ RollbackRestores {Key} m = (d : Dialect) (stamp : Stamp) (sets : List (Set Key))
     → SameDatabase (left_by d (rollback_calls d m stamp sets (length before.rows) database) database) (at_rest database before)
 
 -- the calls of any rollback leave what its turns do, with a free lock
-abbrev pub RollbackLeaves : {Key : Type 0} → Meaning Key → Type 0
-RollbackLeaves {Key} m = (d : Dialect) (stamp : Stamp) (turns : List Turn) (database : Database) → database.lock ≡ free
-    → SameDatabase (left_by d (rollback_of d m stamp turns database) database) (at_rest database (all_rolled d m turns (contents_of database)).contents)
+abbrev pub RollbackLeaves : Type 0
+RollbackLeaves = (d : Dialect) (stamp : Stamp) (turns : List Turn) (database : Database) → database.lock ≡ free
+    → SameDatabase (left_by d (rollback_of d stamp turns database) database) (at_rest database (all_rolled d turns (contents_of database)).contents)

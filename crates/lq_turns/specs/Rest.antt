@@ -39,7 +39,7 @@ if_goes_on goes_on turns = if goes_on then turns else NoMore
 module _ {Key : Type 0} (d : Dialect) (m : Meaning Key) (stamp : Stamp) where
   abbrev pub turns_calls : Turns Key → Contents → List Call
   turns_calls (OfSets xs) c = sets_calls d m stamp xs c
-  turns_calls (OfRows turns) c = turns_made d m stamp.who turns c
+  turns_calls (OfRows turns) c = turns_made d stamp.who turns c
   turns_calls NoMore c = []
 
   -- the calls still to make from a place, where so much is committed and seen

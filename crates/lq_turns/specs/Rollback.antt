@@ -1,6 +1,6 @@
 -- What a rollback undoes, and its writing calls.
 use Rattle.std.specs.List.{find}
-use Rattle.std.specs.Prelude.{Bool, List, None, Option, Some, [], drop, false, if◌then◌else◌, int_lt, length, option_and_then, option_map, reverse, suc, true, ℕ, ℤ, ◌&&◌, ◌++◌, ◌-◌, ◌∷◌}
+use Rattle.std.specs.Prelude.{Bool, List, None, Option, Some, [], drop, false, if◌then◌else◌, int_lt, is_none, length, option_and_then, option_map, reverse, suc, true, ℕ, ℤ, ◌&&◌, ◌++◌, ◌-◌, ◌∷◌}
 use Rattle.lq_base.specs.Text.{is_text}
 use Rattle.lq_base.specs.declared.dialect.Dialect.{Dialect}
 use Rattle.lq_base.specs.declared.identity.Identity.{Identity}
@@ -48,23 +48,23 @@ rows_kept (Date at) rows = Some (places_until at rows)
 abbrev pub rows_undone : ℕ → List Tracked → List Tracked
 rows_undone stay rows = reverse (drop stay rows)
 
-abbrev pub is_marked_row : Exec → Bool
-is_marked_row exec.Executed = false
-is_marked_row exec.Reran = false
-is_marked_row exec.MarkRan = true
+abbrev pub is_mark_ran : Exec → Bool
+is_mark_ran exec.Executed = false
+is_mark_ran exec.Reran = false
+is_mark_ran exec.MarkRan = true
+
+-- the changeset that a row is of
+abbrev pub set_of : {Key : Type 0} → List (Set Key) → Identity → Option (Set Key)
+set_of xs of = find (λ x. x.here && same_identity of x.identity) xs
 
 module _ {Key : Type 0} (d : Dialect) (m : Meaning Key) where
-  -- the changeset that a row is of
-  abbrev pub set_of : List (Set Key) → Identity → Option (Set Key)
-  set_of xs of = find (λ x. x.here && same_identity of x.identity) xs
-
   abbrev pub undo_by : Identity → Set Key → Option Turn
   undo_by of x = option_map (λ statements. record { identity = of; statements = statements; in_transaction = x.in_transaction; is_undo = true; row = Deleted of }) (undoing d m x)
 
   -- a row that is undone: the row of a changeset that was marked goes alone
   abbrev pub undo_turn : List (Set Key) → Tracked → Option Turn
   undo_turn xs row =
-      if is_marked_row row.exec
+      if is_mark_ran row.exec
       then Some (record { identity = identity_of row; statements = []; in_transaction = true; is_undo = true; row = Deleted (identity_of row) })
       else option_and_then (undo_by (identity_of row)) (set_of xs (identity_of row))
 
@@ -72,23 +72,27 @@ module _ {Key : Type 0} (d : Dialect) (m : Meaning Key) where
   undo_turns xs [] = Some []
   undo_turns xs (row ∷ rows) = option_and_then (λ turn. option_map (λ turns. turn ∷ turns) (undo_turns xs rows)) (undo_turn xs row)
 
-  abbrev pub rolled_as : Turn → Ending → Settled
-  rolled_as turn (Finished c) = record (nothing_done c) { happened = record { what = did.RolledBack; identity = turn.identity } ∷ [] }
-  rolled_as turn (Refused c refusal) = record (nothing_done c) { stop = Some (Stopped turn.identity refusal) }
+  -- the first of these rows that nothing takes back
+  abbrev pub not_reversible : List (Set Key) → List Tracked → Option Identity
+  not_reversible xs rows = option_map identity_of (find (λ row. is_none (undo_turn xs row)) rows)
 
-  -- turn after turn, up to the first that is refused
-  abbrev pub all_rolled : List Turn → Contents → Settled
-  all_rolled [] c = nothing_done c
-  all_rolled (turn ∷ turns) c = unless_stopped (rolled_as turn (ending d turn c)) (all_rolled turns)
+abbrev pub rolled_as : Turn → Ending → Settled
+rolled_as turn (Finished c) = record (nothing_done c) { happened = record { what = did.RolledBack; identity = turn.identity } ∷ [] }
+rolled_as turn (Refused c refusal) = record (nothing_done c) { stop = Some (Stopped turn.identity refusal) }
 
-  abbrev pub goes_on : List Call → Ending → List Call
-  goes_on calls (Finished c) = calls
-  goes_on calls (Refused c refusal) = []
+-- turn after turn, up to the first that is refused
+abbrev pub all_rolled : Dialect → List Turn → Contents → Settled
+all_rolled d [] c = nothing_done c
+all_rolled d (turn ∷ turns) c = unless_stopped (rolled_as turn (ending d turn c)) (all_rolled d turns)
 
-  abbrev pub turns_made : List ℕ → List Turn → Contents → List Call
-  turns_made who [] c = []
-  turns_made who (turn ∷ turns) c = made d (turn_calls d who turn) c ++ goes_on (turns_made who turns (contents_in (ending d turn c))) (ending d turn c)
+abbrev pub calls_if_finished : List Call → Ending → List Call
+calls_if_finished calls (Finished c) = calls
+calls_if_finished calls (Refused c refusal) = []
 
-  abbrev pub rollback_of : Stamp → List Turn → Database → List Call
-  rollback_of stamp [] database = []
-  rollback_of stamp (turn ∷ turns) database = with_lock stamp database (turns_made stamp.who (turn ∷ turns) (contents_of database))
+abbrev pub turns_made : Dialect → List ℕ → List Turn → Contents → List Call
+turns_made d who [] c = []
+turns_made d who (turn ∷ turns) c = made d (turn_calls d who turn) c ++ calls_if_finished (turns_made d who turns (contents_in (ending d turn c))) (ending d turn c)
+
+abbrev pub rollback_of : Dialect → Stamp → List Turn → Database → List Call
+rollback_of d stamp [] database = []
+rollback_of d stamp (turn ∷ turns) database = with_lock stamp database (turns_made d stamp.who (turn ∷ turns) (contents_of database))

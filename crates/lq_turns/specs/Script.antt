@@ -42,12 +42,24 @@ abbrev pub calls_unless : Option Stop → List Call → List Call
 calls_unless None calls = calls
 calls_unless (Some stop) calls = []
 
+module _ {Key : Type 0} where
+  abbrev pub has_work : List (Set Key) → List Tracked → Bool
+  has_work xs rows = list_any (λ x. is_some (what x rows)) xs
+
+  -- the rows of the selected changesets without a row, each in the place after the one before
+  abbrev pub rows_to_sync : ℕ → List (Set Key) → List Tracked → List Tracked
+  rows_to_sync reading [] rows = []
+  rows_to_sync reading (x ∷ xs) rows =
+      if x.selected && not (has_row rows x.identity)
+      then row_for reading (greatest rows + 1) exec.Executed x ∷ rows_to_sync reading xs (rows ++ row_for reading (greatest rows + 1) exec.Executed x ∷ [])
+      else rows_to_sync reading xs rows
+
 module _ {Key : Type 0} (d : Dialect) (m : Meaning Key) (stamp : Stamp) where
   -- the turn that a changeset has
   abbrev pub turn_by : Set Key → List Tracked → Choice → Option Turn
-  turn_by x rows Fills = Some (fill_turn d m stamp x)
-  turn_by x rows (Marks by) = Some (mark_turn d m stamp by x rows)
-  turn_by x rows (Runs by why) = Some (run_turn d m stamp by x rows)
+  turn_by x rows Fills = Some (fill_turn x)
+  turn_by x rows (Marks by) = Some (mark_turn stamp.reading by x rows)
+  turn_by x rows (Runs by why) = Some (run_turn d m stamp.reading by x rows)
   turn_by x rows Passes = None
   turn_by x rows Skips = None
   turn_by x rows (Halts why) = None
@@ -62,10 +74,7 @@ module _ {Key : Type 0} (d : Dialect) (m : Meaning Key) (stamp : Stamp) where
   -- changeset after changeset, each on what the one before left, up to the first that stops the command
   abbrev pub sets_calls : List (Set Key) → Contents → List Call
   sets_calls [] c = []
-  sets_calls (x ∷ xs) c = set_calls x c ++ calls_unless (settle d m stamp x c).stop (sets_calls xs (settle d m stamp x c).contents)
-
-  abbrev pub has_work : List (Set Key) → List Tracked → Bool
-  has_work xs rows = list_any (λ x. is_some (what x rows)) xs
+  sets_calls (x ∷ xs) c = set_calls x c ++ calls_unless (settle d m stamp.reading x c).stop (sets_calls xs (settle d m stamp.reading x c).contents)
 
   -- without a turn, and where the changelog's own condition halts, there is no call
   abbrev pub update_calls : Changelog Key → Database → List Call
@@ -74,21 +83,13 @@ module _ {Key : Type 0} (d : Dialect) (m : Meaning Key) (stamp : Stamp) where
       then with_lock stamp database (sets_calls g.sets (contents_of database))
       else []
 
-  -- the rows of the selected changesets without a row, each in the place after the one before
-  abbrev pub rows_to_sync : List (Set Key) → List Tracked → List Tracked
-  rows_to_sync [] rows = []
-  rows_to_sync (x ∷ xs) rows =
-      if x.selected && not (has_row rows x.identity)
-      then row_for stamp (greatest rows + 1) exec.Executed x ∷ rows_to_sync xs (rows ++ row_for stamp (greatest rows + 1) exec.Executed x ∷ [])
-      else rows_to_sync xs rows
+-- these rows, all in one transaction
+abbrev pub sync_of : Dialect → Stamp → List Tracked → Database → List Call
+sync_of d stamp [] database = []
+sync_of d stamp (row ∷ rows) database = with_lock stamp database (made d (Begin ∷ map (λ r. Execute (Rows (Inserted r))) (row ∷ rows) ++ Commit ∷ []) (contents_of database))
 
-  -- all of them in one transaction
-  abbrev pub sync_of : List Tracked → Database → List Call
-  sync_of [] database = []
-  sync_of (row ∷ rows) database = with_lock stamp database (made d (Begin ∷ map (λ r. Execute (Rows (Inserted r))) (row ∷ rows) ++ Commit ∷ []) (contents_of database))
-
-  abbrev pub sync_calls : Changelog Key → Database → List Call
-  sync_calls g database = sync_of (rows_to_sync g.sets database.rows) database
+abbrev pub sync_calls : {Key : Type 0} → Dialect → Stamp → Changelog Key → Database → List Call
+sync_calls d stamp g database = sync_of d stamp (rows_to_sync stamp.reading g.sets database.rows) database
 
 abbrev pub last_row : List Tracked → Option Tracked
 last_row [] = None

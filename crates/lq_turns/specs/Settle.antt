@@ -28,7 +28,6 @@ use Rattle.lq_turns.specs.declared.choice.Choice.{Choice}
 use Rattle.lq_turns.specs.declared.choice.Choice.TheVariants.{Fills, Halts, Marks, Passes, Runs, Skips}
 use Rattle.lq_turns.specs.declared.choice.What.{What}
 use Rattle.lq_turns.specs.declared.choice.What.TheVariants.{Again, Fill, New}
-use Rattle.lq_turns.specs.declared.stamp.Stamp.{Stamp}
 use Rattle.lq_turns.specs.declared.stop.Stop.{Stop}
 use Rattle.lq_turns.specs.declared.stop.Stop.TheVariants.{Halted, Refused as Stopped}
 
@@ -133,13 +132,13 @@ module _ {Key : Type 0} where
   abbrev pub own_choice : Changelog Key → Contents → Choice
   own_choice g c = tested New g.condition (g.condition.told c)
 
-  -- its row in a place
-  abbrev pub row_for : Stamp → ℕ → Exec → Set Key → Tracked
-  row_for stamp order exec x = record {
+  -- its row in a place, for a reading of the clock
+  abbrev pub row_for : ℕ → ℕ → Exec → Set Key → Tracked
+  row_for reading order exec x = record {
     id = x.identity.id;
     author = x.identity.author;
     filename = x.identity.file;
-    date = pos stamp.reading;
+    date = pos reading;
     order = order;
     exec = exec;
     md5sum = Some x.sum;
@@ -149,30 +148,22 @@ module _ {Key : Type 0} where
     tool = codes "profile-1";
     contexts = cut x.contexts;
     labels = cut x.labels;
-    deployment = last_digits 10 stamp.reading;
+    deployment = last_digits 10 reading;
   }
 
   -- the row stands after all others
-  abbrev pub record_in : Stamp → What → Exec → Set Key → List Tracked → OnRows
-  record_in stamp what exec x rows = recorded what (row_for stamp (greatest rows + 1) exec x)
-
-module _ {Key : Type 0} (d : Dialect) (m : Meaning Key) (stamp : Stamp) where
-  abbrev pub run_turn : What → Set Key → List Tracked → Turn
-  run_turn what x rows = record { identity = x.identity; statements = statements_of d m x.changes; in_transaction = x.in_transaction; is_undo = false; row = record_in stamp what (exec_of what) x rows }
+  abbrev pub record_in : ℕ → What → Exec → Set Key → List Tracked → OnRows
+  record_in reading what exec x rows = recorded what (row_for reading (greatest rows + 1) exec x)
 
   -- the row alone
   abbrev pub row_turn : Set Key → OnRows → Turn
   row_turn x row = record { identity = x.identity; statements = []; in_transaction = true; is_undo = false; row = row }
 
-  abbrev pub mark_turn : What → Set Key → List Tracked → Turn
-  mark_turn what x rows = row_turn x (record_in stamp what exec.MarkRan x rows)
+  abbrev pub mark_turn : ℕ → What → Set Key → List Tracked → Turn
+  mark_turn reading what x rows = row_turn x (record_in reading what exec.MarkRan x rows)
 
   abbrev pub fill_turn : Set Key → Turn
   fill_turn x = row_turn x (Filled x.identity x.sum)
-
-  -- What a changeset that runs leaves: its changes' effects, then its row. Where an effect is refused, a statement of the turn is.
-  abbrev pub run_ending : Turn → Set Key → Contents → Ending
-  run_ending turn x c = elim (effects d m x.changes c.users) [ Ok users ↦ row_ending d turn users c | Err reason ↦ ending d turn c ]
 
   abbrev pub happens : Set Key → Did → Happened
   happens x what = record { what = what; identity = x.identity }
@@ -189,11 +180,19 @@ module _ {Key : Type 0} (d : Dialect) (m : Meaning Key) (stamp : Stamp) where
       then record { contents = c; happened = []; warned = warning x why; not_fresh = 0; stop = Some (Stopped x.identity refusal) }
       else record { contents = c; happened = happens x did.Skipped ∷ []; warned = warning x why; not_fresh = 0; stop = None }
 
+module _ {Key : Type 0} (d : Dialect) (m : Meaning Key) (reading : ℕ) where
+  abbrev pub run_turn : What → Set Key → List Tracked → Turn
+  run_turn what x rows = record { identity = x.identity; statements = statements_of d m x.changes; in_transaction = x.in_transaction; is_undo = false; row = record_in reading what (exec_of what) x rows }
+
+  -- What a changeset that runs leaves: its changes' effects, then its row. Where an effect is refused, a statement of the turn is.
+  abbrev pub run_ending : Turn → Set Key → Contents → Ending
+  run_ending turn x c = elim (effects d m x.changes c.users) [ Ok users ↦ row_ending d turn users c | Err reason ↦ ending d turn c ]
+
   abbrev pub settled_by : Set Key → Contents → Choice → Settled
   settled_by x c Passes = nothing_done c
   settled_by x c Fills = record (nothing_done c) { contents = record c { rows = map (filled x.identity x.sum) c.rows } }
   settled_by x c Skips = record (nothing_done c) { happened = happens x did.Skipped ∷ [] }
-  settled_by x c (Marks what) = settled_as x did.Marked None 0 (ending d (mark_turn what x c.rows) c)
+  settled_by x c (Marks what) = settled_as x did.Marked None 0 (ending d (mark_turn reading what x c.rows) c)
   settled_by x c (Runs what why) = settled_as x (did_of what) why (not_fresh d m x.changes c.users) (run_ending (run_turn what x c.rows) x c)
   settled_by x c (Halts why) = record (nothing_done c) { stop = Some (Halted (Some x.identity) why) }
 

@@ -52,7 +52,7 @@ module _ {Key : Type 0} where
 -- An update whose turns are the same again after a stop: the changelog has no condition of its own, no changeset is skipped, and none that is new or runs again always runs or is not one transaction.
 pub record IsSteady {Key : Type 0} (d : Dialect) (m : Meaning Key) (stamp : Stamp) (g : Changelog Key) (c : Contents) : Type 0 where
   pub bare : (e : Contents) → g.condition.told e ≡ Ok true
-  pub none_skipped : list_any (λ h. is_skip h.what) (updated d m stamp g c).happened ≡ false
+  pub none_skipped : list_any (λ h. is_skip h.what) (updated d m stamp.reading g c).happened ≡ false
   pub once : all_at runs_once g.sets c.rows ≡ true
   pub whole : all_at runs_whole g.sets c.rows ≡ true
 

@@ -36,8 +36,8 @@ UpdateResumes {Key} m = (stamp : Stamp) (g : Changelog Key) (start database : Da
     → IsSound Postgresql start.users → start.lock ≡ free → AreRead Postgresql m g.sets → list_all has_own_sum g.sets ≡ true → are_twins g.sets ≡ false
     → IsSteady Postgresql m stamp g (contents_of start)
     → IsStopped start (λ who. update_calls Postgresql m (record stamp { who = who }) g) database
-    → SameDatabase (left_by Postgresql (update_calls Postgresql m stamp g database) database) (at_rest start (updated Postgresql m stamp g (contents_of start)).contents)
-    × ((updated Postgresql m stamp g (contents_of database)).stop ≡ (updated Postgresql m stamp g (contents_of start)).stop)
+    → SameDatabase (left_by Postgresql (update_calls Postgresql m stamp g database) database) (at_rest start (updated Postgresql m stamp.reading g (contents_of start)).contents)
+    × ((updated Postgresql m stamp.reading g (contents_of database)).stop ≡ (updated Postgresql m stamp.reading g (contents_of start)).stop)
 
 -- a rollback's calls, where its target is found and each row behind it has what takes it back
 abbrev pub rollback_to : {Key : Type 0} → Dialect → Meaning Key → Stamp → List (Set Key) → Target → Database → List Call
@@ -62,5 +62,5 @@ ResumedReturns {Key} m = (stamp later : Stamp) (g : Changelog Key) (sets : List 
     → IsSound Postgresql start.users → start.lock ≡ free → AreRead Postgresql m g.sets → list_all has_own_sum g.sets ≡ true → are_twins g.sets ≡ false
     → IsSteady Postgresql m stamp g (contents_of start)
     → IsStopped start (λ who. update_calls Postgresql m (record stamp { who = who }) g) database
-    → RanSince Postgresql m (contents_of start) xs (updated Postgresql m stamp g (contents_of start)).contents → are_reversible Postgresql m xs start.users ≡ true → AreKnown Postgresql m sets xs
+    → RanSince Postgresql m (contents_of start) xs (updated Postgresql m stamp.reading g (contents_of start)).contents → are_reversible Postgresql m xs start.users ≡ true → AreKnown Postgresql m sets xs
     → SameDatabase (left_by Postgresql (rollback_calls Postgresql m later sets (length start.rows) (left_by Postgresql (update_calls Postgresql m stamp g database) database)) (left_by Postgresql (update_calls Postgresql m stamp g database) database)) (at_rest start (contents_of start))

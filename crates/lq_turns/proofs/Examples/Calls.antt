@@ -32,7 +32,7 @@ abbrev one : Set Given
 one = changeset (codes "1") (makes (codes "t") ∷ [])
 
 abbrev its_row : Tracked
-its_row = row_for stamp 1 Executed one
+its_row = row_for stamp.reading 1 Executed one
 
 -- the first call makes what is missing and takes the lock, the last one frees it
 pub update_on_nothing : update_calls Postgresql meaning stamp (changelog (one ∷ [])) empty
@@ -68,7 +68,7 @@ parts = record one { changes = record (makes (codes "t")) { statements = table (
 pub written_parts : written Postgresql parts (made_on nothing)
     ≡ (Locks (Taken 1000 (codes "ci")) ∷ [])
     ∷ (Locks (Marked (codes "ci|f::1::me|" ++ whole_text (pos 1))) ∷ Users (table (codes "t")) ∷ []) ∷ (Locks (Marked (codes "ci|f::1::me|" ++ whole_text (pos 2))) ∷ Users (row_into (codes "t")) ∷ [])
-    ∷ (Rows (Inserted (row_for stamp 1 Executed parts)) ∷ Locks (Marked (codes "ci")) ∷ [])
+    ∷ (Rows (Inserted (row_for stamp.reading 1 Executed parts)) ∷ Locks (Marked (codes "ci")) ∷ [])
     ∷ (Locks Freed ∷ []) ∷ []
 unfolding decide into_kind
 written_parts = refl
@@ -107,13 +107,13 @@ fifteen = refl
 abbrev two : Set Given
 two = changeset (codes "2") (makes (codes "u") ∷ [])
 
-pub sync_on_one_row : sync_calls Postgresql meaning stamp (changelog (one ∷ two ∷ changeset (codes "3") [] ∷ [])) (made_on (with_rows (row (codes "2") 5 Executed None ∷ [])))
+pub sync_on_one_row : sync_calls Postgresql stamp (changelog (one ∷ two ∷ changeset (codes "3") [] ∷ [])) (made_on (with_rows (row (codes "2") 5 Executed None ∷ [])))
     ≡ Alone (Locks (Taken 1000 (codes "ci")) ∷ []) Ordinary
-    ∷ Begin ∷ Execute (Rows (Inserted (row_for stamp 6 Executed one))) ∷ Execute (Rows (Inserted (row_for stamp 7 Executed (changeset (codes "3") [])))) ∷ Commit
+    ∷ Begin ∷ Execute (Rows (Inserted (row_for stamp.reading 6 Executed one))) ∷ Execute (Rows (Inserted (row_for stamp.reading 7 Executed (changeset (codes "3") [])))) ∷ Commit
     ∷ Alone (Locks Freed ∷ []) Release ∷ []
 sync_on_one_row = refl
 
-pub sync_of_none : sync_calls Postgresql meaning stamp (changelog (two ∷ [])) (made_on (with_rows (row (codes "2") 5 Executed None ∷ []))) ≡ []
+pub sync_of_none : sync_calls Postgresql stamp (changelog (two ∷ [])) (made_on (with_rows (row (codes "2") 5 Executed None ∷ []))) ≡ []
 sync_of_none = refl
 
 -- the tag is that of the last row

@@ -26,7 +26,7 @@ abbrev three : Condition → List (Set Given)
 three condition = changeset (codes "1") (makes (codes "t") ∷ []) ∷ record (changeset (codes "2") (makes (codes "u") ∷ [])) { condition = condition } ∷ changeset (codes "3") (makes (codes "w") ∷ []) ∷ []
 
 abbrev settled : Condition → Settled
-settled condition = all_settled Postgresql meaning stamp (three condition) nothing
+settled condition = all_settled Postgresql meaning stamp.reading (three condition) nothing
 
 abbrev fails : OnFail → Condition
 fails reaction = told_so (Ok false) reaction on_fail.Warn
@@ -101,7 +101,7 @@ warn_warns = refl
 -- the changelog's own condition: HALT changes nothing and names no changeset, WARN warns first
 
 abbrev own : Condition → Settled
-own condition = updated Postgresql meaning stamp (record (changelog (changeset (codes "1") (makes (codes "t") ∷ []) ∷ [])) { condition = condition }) nothing
+own condition = updated Postgresql meaning stamp.reading (record (changelog (changeset (codes "1") (makes (codes "t") ∷ []) ∷ [])) { condition = condition }) nothing
 
 pub own_stops : (own (fails on_fail.Halt)).stop ≡ Some (Halted None Failed)
 unfolding decide into_kind
@@ -130,10 +130,10 @@ first = record (changeset (codes "1") (makes (codes "t") ∷ [])) { condition = 
 abbrev whole : List (Set Given)
 whole = record (changeset (codes "1") (makes (codes "t") ∷ [])) { condition = asks } ∷ changeset (codes "2") (makes (codes "u") ∷ []) ∷ changeset (codes "3") (makes (codes "w") ∷ []) ∷ []
 
-pub unstopped : told (all_settled Postgresql meaning stamp whole nothing) ≡ (Skipped, codes "1") ∷ (Ran, codes "2") ∷ (Ran, codes "3") ∷ []
+pub unstopped : told (all_settled Postgresql meaning stamp.reading whole nothing) ≡ (Skipped, codes "1") ∷ (Ran, codes "2") ∷ (Ran, codes "3") ∷ []
 unfolding decide into_kind
 unstopped = refl
 
-pub stopped : told (all_settled Postgresql meaning stamp whole (all_settled Postgresql meaning stamp first nothing).contents) ≡ (Ran, codes "1") ∷ (Ran, codes "3") ∷ []
+pub stopped : told (all_settled Postgresql meaning stamp.reading whole (all_settled Postgresql meaning stamp.reading first nothing).contents) ≡ (Ran, codes "1") ∷ (Ran, codes "3") ∷ []
 unfolding decide into_kind
 stopped = refl

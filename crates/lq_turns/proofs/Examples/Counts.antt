@@ -20,21 +20,21 @@ one = changeset (codes "1") (three (codes "a") (codes "b") (codes "c"))
 abbrev two : Set Given
 two = changeset (codes "2") (three (codes "e") (codes "f") (codes "g"))
 
-pub both_ran : (all_settled Postgresql meaning stamp (one ∷ two ∷ []) nothing).not_fresh ≡ 4
+pub both_ran : (all_settled Postgresql meaning stamp.reading (one ∷ two ∷ []) nothing).not_fresh ≡ 4
 unfolding decide into_kind
 both_ran = refl
 
-pub one_ran_again : (all_settled Postgresql meaning stamp (record one { run_always = true } ∷ []) (with_rows (row (codes "1") 1 Executed None ∷ []))).not_fresh ≡ 2
+pub one_ran_again : (all_settled Postgresql meaning stamp.reading (record one { run_always = true } ∷ []) (with_rows (row (codes "1") 1 Executed None ∷ []))).not_fresh ≡ 2
 unfolding decide into_kind
 one_ran_again = refl
 
 -- those of a changeset that is marked, or skipped, are not counted
 
-pub one_marked : (all_settled Postgresql meaning stamp (record one { condition = told_so (Ok false) on_fail.MarkRan on_fail.Halt } ∷ two ∷ []) nothing).not_fresh ≡ 2
+pub one_marked : (all_settled Postgresql meaning stamp.reading (record one { condition = told_so (Ok false) on_fail.MarkRan on_fail.Halt } ∷ two ∷ []) nothing).not_fresh ≡ 2
 unfolding decide into_kind
 one_marked = refl
 
-pub one_skipped : (all_settled Postgresql meaning stamp (record one { condition = told_so (Ok false) on_fail.Continue on_fail.Halt } ∷ two ∷ []) nothing).not_fresh ≡ 2
+pub one_skipped : (all_settled Postgresql meaning stamp.reading (record one { condition = told_so (Ok false) on_fail.Continue on_fail.Halt } ∷ two ∷ []) nothing).not_fresh ≡ 2
 unfolding decide into_kind
 one_skipped = refl
 
@@ -43,10 +43,10 @@ one_skipped = refl
 abbrev refused : Set Given
 refused = record (changeset (codes "1") (three (codes "a") (codes "b") (codes "b"))) { fail_on_error = false }
 
-pub one_refused : (all_settled Postgresql meaning stamp (refused ∷ two ∷ []) nothing).not_fresh ≡ 2
+pub one_refused : (all_settled Postgresql meaning stamp.reading (refused ∷ two ∷ []) nothing).not_fresh ≡ 2
 unfolding decide into_kind
 one_refused = refl
 
-pub one_refused_mysql : (all_settled Mysql meaning stamp (refused ∷ two ∷ []) nothing).not_fresh ≡ 2
+pub one_refused_mysql : (all_settled Mysql meaning stamp.reading (refused ∷ two ∷ []) nothing).not_fresh ≡ 2
 unfolding decide into_kind
 one_refused_mysql = refl

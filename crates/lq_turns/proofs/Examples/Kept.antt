@@ -82,19 +82,19 @@ abbrev twice : Bool → Set Given
 twice fails = record (changeset (codes "1") (makes (codes "t") ∷ stale (makes (codes "t")) ∷ [])) { fail_on_error = fails }
 
 -- it halts, with statement 2 and nothing kept, or in mysql one kept and t made
-pub refused_postgresql : (settle Postgresql meaning stamp (twice true) nothing).stop ≡ Some (stop.Refused (named (codes "1")) (record { statement = 2; kept = 0; reason = reason.Exists }))
+pub refused_postgresql : (settle Postgresql meaning stamp.reading (twice true) nothing).stop ≡ Some (stop.Refused (named (codes "1")) (record { statement = 2; kept = 0; reason = reason.Exists }))
 unfolding decide into_kind
 refused_postgresql = refl
 
-pub left_postgresql : tables_in (settle Postgresql meaning stamp (twice true) nothing).contents ≡ []
+pub left_postgresql : tables_in (settle Postgresql meaning stamp.reading (twice true) nothing).contents ≡ []
 unfolding decide into_kind
 left_postgresql = refl
 
-pub refused_mysql : (settle Mysql meaning stamp (twice true) nothing).stop ≡ Some (stop.Refused (named (codes "1")) (record { statement = 2; kept = 1; reason = reason.Exists }))
+pub refused_mysql : (settle Mysql meaning stamp.reading (twice true) nothing).stop ≡ Some (stop.Refused (named (codes "1")) (record { statement = 2; kept = 1; reason = reason.Exists }))
 unfolding decide into_kind
 refused_mysql = refl
 
-pub left_mysql : tables_in (settle Mysql meaning stamp (twice true) nothing).contents ≡ codes "t" ∷ []
+pub left_mysql : tables_in (settle Mysql meaning stamp.reading (twice true) nothing).contents ≡ codes "t" ∷ []
 unfolding decide into_kind
 left_mysql = refl
 
@@ -102,10 +102,10 @@ left_mysql = refl
 abbrev both : List (Set Given)
 both = twice false ∷ changeset (codes "2") (makes (codes "u") ∷ []) ∷ []
 
-pub skipped_mysql : (all_settled Mysql meaning stamp both nothing).happened ≡ record { what = did.Skipped; identity = named (codes "1") } ∷ record { what = did.Ran; identity = named (codes "2") } ∷ []
+pub skipped_mysql : (all_settled Mysql meaning stamp.reading both nothing).happened ≡ record { what = did.Skipped; identity = named (codes "1") } ∷ record { what = did.Ran; identity = named (codes "2") } ∷ []
 unfolding decide into_kind
 skipped_mysql = refl
 
-pub kept_mysql : tables_in (all_settled Mysql meaning stamp both nothing).contents ≡ codes "t" ∷ codes "u" ∷ []
+pub kept_mysql : tables_in (all_settled Mysql meaning stamp.reading both nothing).contents ≡ codes "t" ∷ codes "u" ∷ []
 unfolding decide into_kind
 kept_mysql = refl

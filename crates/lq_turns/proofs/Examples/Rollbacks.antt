@@ -103,11 +103,11 @@ undo_in_postgresql = refl
 abbrev sets : List (Set Given)
 sets = one ∷ changeset (codes "2") (makes (codes "w") ∷ []) ∷ []
 
-pub undone_told : option_map (λ turns. (all_rolled Postgresql meaning turns (all_settled Postgresql meaning stamp sets nothing).contents).happened) (undo_turns Postgresql meaning sets (rows_undone 0 (all_settled Postgresql meaning stamp sets nothing).contents.rows))
+pub undone_told : option_map (λ turns. (all_rolled Postgresql turns (all_settled Postgresql meaning stamp.reading sets nothing).contents).happened) (undo_turns Postgresql meaning sets (rows_undone 0 (all_settled Postgresql meaning stamp.reading sets nothing).contents.rows))
     ≡ Some (record { what = did.RolledBack; identity = named (codes "2") } ∷ record { what = did.RolledBack; identity = named (codes "1") } ∷ [])
 unfolding decide into_kind
 undone_told = refl
 
-pub undone_left : option_map (λ turns. (all_rolled Postgresql meaning turns (all_settled Postgresql meaning stamp sets nothing).contents).contents) (undo_turns Postgresql meaning sets (rows_undone 0 (all_settled Postgresql meaning stamp sets nothing).contents.rows)) ≡ Some nothing
+pub undone_left : option_map (λ turns. (all_rolled Postgresql turns (all_settled Postgresql meaning stamp.reading sets nothing).contents).contents) (undo_turns Postgresql meaning sets (rows_undone 0 (all_settled Postgresql meaning stamp.reading sets nothing).contents.rows)) ≡ Some nothing
 unfolding decide into_kind
 undone_left = refl

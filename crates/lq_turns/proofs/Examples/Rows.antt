@@ -20,7 +20,7 @@ abbrev one : Set Given
 one = changeset (codes "1") (makes (codes "t") ∷ [])
 
 abbrev settled : Set Given → Option (List ℕ) → Settled
-settled x sum = settle Postgresql meaning stamp x (with_rows (rows sum))
+settled x sum = settle Postgresql meaning stamp.reading x (with_rows (rows sum))
 
 -- One that runs again: its row goes behind all others, with a new date, place, sum and deployment, and keeps the rest.
 
