@@ -27,6 +27,3 @@ pub use log_reading::read_rows;
 pub use log_table::{again_row, delete_row, fill_sum, insert_row, set_tag};
 pub use row::{Ran, row_of};
 pub use tables::{make_lock, make_lock_row, make_log, make_tables};
-
-#[cfg(test)]
-mod tests;
