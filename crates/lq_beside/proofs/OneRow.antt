@@ -1,57 +1,27 @@
 -- No identity has two rows, and no turn gives it a second one.
-use Rattle.std.proofs.Common.{ap, arith, rules, subst, sym, tests, ◌∙◌}
+use Rattle.std.proofs.Common.{ap, arith, subst, sym, ◌∙◌}
 use Rattle.std.proofs.lemmas.List.{append-nil, length-append}
-use Rattle.std.specs.List.{list_all, list_any}
-use Rattle.std.specs.Prelude.{Bool, Err, List, None, Ok, Option, Result, Some, [], cond, false, if◌then◌else◌, length, map, nat_eq, nat_le, nat_lt, not, pos, refl, suc, true, ℕ, ◌&&◌, ◌+◌, ◌++◌, ◌||◌, ◌∷◌, ◌≡◌, ◌≤◌}
+use Rattle.std.specs.List.{list_any}
+use Rattle.std.specs.Prelude.{Bool, Err, List, None, Ok, Option, Result, Some, [], cond, false, if◌then◌else◌, length, map, nat_eq, nat_le, nat_lt, not, refl, suc, true, ℕ, ◌&&◌, ◌+◌, ◌++◌, ◌||◌, ◌∷◌, ◌≡◌, ◌≤◌}
 use Rattle.lq_base.specs.Name.{is_named}
 use Rattle.lq_base.specs.declared.dialect.Dialect.{Dialect}
-use Rattle.lq_base.specs.declared.dialect.Dialect.TheVariants.{Mysql, Postgresql}
 use Rattle.lq_base.specs.declared.identity.Identity.{Identity}
 use Rattle.lq_base.specs.declared.reason.Reason.{Reason}
 use Rattle.lq_base.specs.declared.reason.Reason.TheVariants.{TooManyRows, TooWide}
-use Rattle.lq_base.specs.declared.tracking.Exec.{Exec}
-use Rattle.lq_base.specs.declared.tracking.Exec.TheVariants as exec
 use Rattle.lq_base.specs.declared.tracking.Tracked.{Tracked}
-use Rattle.lq_model.proofs.Lists.{and_left, and_right, and_true, filter-append, or_left, or_right, same_name, true_false}
+use Rattle.lq_model.proofs.Lists.{and_left, and_right, filter-append, or_left, or_right, same_name, true_false}
 use Rattle.lq_turns.proofs.Undone.{one_itself}
 use Rattle.lq_track.specs.Database.{has_twin_rows, same_identity}
 use Rattle.lq_model.specs.Catalogue.{Catalogue}
-use Rattle.lq_model.specs.Sound.{IsSound}
-use Rattle.lq_track.specs.Database.{Database}
 use Rattle.lq_track.specs.Log.{identity_of}
-use Rattle.lq_turns.proofs.Effects.{all_spelled}
-use Rattle.lq_turns.proofs.Made.{At}
-use Rattle.lq_turns.proofs.TurnLeft.{twice}
-use Rattle.lq_turns.proofs.Updates.{opened, settled_is, sound_by, taken_by, turn_left}
-use Rattle.lq_turns.specs.Contents.{Contents, contents_of, with_contents}
-use Rattle.lq_turns.specs.Deed.{contents_after, done, filled, if_accepted, is_of, locked_after, others, renewed, rows_after, theirs}
-use Rattle.lq_turns.specs.Held.{all_fit, fits_rows, is_short, is_stamped, is_within}
-use Rattle.lq_turns.specs.Script.{calls_of_turn, calls_unless, closing, has_work, opening, set_calls, sets_calls, turn_by, with_lock}
-use Rattle.lq_turns.specs.Session.{Session, aborted, accepted, all_called, all_executed, all_executed_as, before, called, closed, executed, executed_as, is_own, session_on, settled_if}
-use Rattle.lq_turns.specs.Set.{IsKept, Meaning, Set, row_at}
-use Rattle.lq_base.specs.Character.{char_count}
-use Rattle.lq_base.specs.Moment.{is_moment}
-use Rattle.lq_base.specs.declared.run.Why.TheVariants.{Error, Failed}
-use Rattle.lq_turns.specs.Settle.{choice, choice_of, exec_of, fill_turn, greatest, is_to_fill, mark_turn, run_turn, runs_again, is_halt, own_choice, reacted, record_in, row_for, settle, tested, what, what_by}
-use Rattle.lq_turns.specs.declared.call.Call.{Call}
-use Rattle.lq_turns.specs.declared.call.Call.TheVariants.{Abort, Alone, Begin, Commit, Execute}
-use Rattle.lq_turns.specs.declared.choice.Choice.{Choice}
-use Rattle.lq_turns.specs.declared.choice.Choice.TheVariants.{Fills, Halts, Marks, Passes, Runs, Skips}
-use Rattle.lq_turns.specs.declared.choice.OnFail.{OnFail}
-use Rattle.lq_turns.specs.declared.choice.OnFail.TheVariants.{Continue, Halt, MarkRan, Warn}
-use Rattle.lq_turns.specs.declared.choice.What.{What}
-use Rattle.lq_turns.specs.declared.choice.What.TheVariants.{Again, Fill, New}
-use Rattle.lq_turns.specs.declared.deed.Deed.{Deed}
-use Rattle.lq_turns.specs.declared.deed.Deed.TheVariants.{Locks, Rows, Users}
-use Rattle.lq_turns.specs.declared.deed.OnLock.TheVariants.{Freed, LockMade, LockRowMade, LogMade, Marked, Taken}
+use Rattle.lq_turns.specs.Contents.{Contents}
+use Rattle.lq_turns.specs.Deed.{filled, is_of, others, renewed, rows_after, theirs}
+use Rattle.lq_turns.specs.Session.{before}
+use Rattle.lq_turns.specs.Set.{row_at}
 use Rattle.lq_turns.specs.declared.deed.OnRows.{OnRows}
 use Rattle.lq_turns.specs.declared.deed.OnRows.TheVariants.{Deleted, Filled, Inserted, Renewed, Tagged}
-use Rattle.lq_turns.specs.declared.stamp.Stamp.{Stamp}
-use Rattle.lq_turns.specs.declared.stop.Stop.{Stop}
 use Rattle.lq_turns.specs.declared.turn.Turn.{Turn}
 use Rattle.lq_turns.specs.Turn.{Course, Ending, Finished, Stuck, Through, contents_in, course, ending, is_marked, kept, refused, row_ending}
-use Rattle.lq_beside.specs.Replays.{call_fits, calls_fit}
-use Rattle.lq_beside.proofs.TurnFits.{IsReady, turn_fits}
 
 ok_same : {A : Type 0} {x y : A} → (let r : Result A Reason = Ok x in r) ≡ Ok y → x ≡ y
 ok_same e = Prim.cc

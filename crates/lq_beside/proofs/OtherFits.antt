@@ -18,11 +18,11 @@ use Rattle.lq_track.specs.Database.{Database, database_of, has_rows, lock_from, 
 use Rattle.lq_track.specs.Lock.{lock_table}
 use Rattle.lq_track.specs.Log.{log_table}
 use Rattle.lq_turns.specs.Contents.{Contents, contents_of}
-use Rattle.lq_turns.specs.Deed.{contents_after, has_place, if_accepted, rows_after}
-use Rattle.lq_turns.specs.Held.{StandsFor, fits_rows}
-use Rattle.lq_turns.specs.Rollback.{calls_if_finished, rollback_of, turns_made}
+use Rattle.lq_turns.specs.Deed.{contents_after, has_place, if_accepted}
+use Rattle.lq_turns.specs.Held.{fits_rows}
+use Rattle.lq_turns.specs.Rollback.{calls_if_finished, turns_made}
 use Rattle.lq_turns.specs.Script.{closing, last_row, rows_to_sync, sync_of, tag_of}
-use Rattle.lq_turns.specs.Session.{Session, all_called, closed, session_on}
+use Rattle.lq_turns.specs.Session.{Session, all_called, session_on}
 use Rattle.lq_turns.specs.Set.{Set, has_row}
 use Rattle.lq_turns.specs.Settle.{greatest, row_for}
 use Rattle.lq_turns.specs.Turn.{Ending, Finished, Refused, contents_in, ending, made, turn_calls}

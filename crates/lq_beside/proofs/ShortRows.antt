@@ -1,12 +1,11 @@
 -- The row of a changeset goes into its columns.
 use Rattle.std.proofs.Common.{arith, rules, tests}
-use Rattle.std.specs.List.{All, list_all}
-use Rattle.std.specs.Prelude.{Bool, IfSome, List, None, Option, Some, [], codes, length, nat_le, pos, refl, suc, true, zero, ℕ, ◌&&◌, ◌+◌, ◌<◌, ◌∷◌, ◌≡◌, ◌≤◌}
+use Rattle.std.specs.List.{All}
+use Rattle.std.specs.Prelude.{IfSome, List, None, Option, Some, codes, pos, refl, suc, true, ℕ, ◌∷◌, ◌≡◌, ◌≤◌}
 use Rattle.lq_base.specs.Character.{char_count}
 use Rattle.lq_base.specs.Moment.{is_moment}
-use Rattle.lq_base.specs.declared.dialect.Dialect.{Dialect}
 use Rattle.lq_base.specs.declared.tracking.Exec.{Exec}
-use Rattle.lq_model.proofs.Lists.{and_left, and_right, and_true}
+use Rattle.lq_model.proofs.Lists.{and_true}
 use Rattle.lq_turns.specs.Held.{is_short, is_within}
 use Rattle.lq_turns.specs.Set.{Set}
 use Rattle.lq_turns.specs.Settle.{row_for}

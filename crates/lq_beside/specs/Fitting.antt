@@ -1,6 +1,6 @@
 -- That the deeds of a command fit what they are done to.
 use Rattle.std.specs.List.{All, list_all}
-use Rattle.std.specs.Prelude.{Bool, IfSome, List, false, nat_le, true, ℕ, ◌&&◌, ◌≡◌, ◌≤◌}
+use Rattle.std.specs.Prelude.{Bool, IfSome, List, false, true, ℕ, ◌&&◌, ◌≡◌, ◌≤◌}
 use Rattle.std.specs.Str.{IsUtf8}
 use Rattle.lq_base.specs.Character.{char_count}
 use Rattle.lq_base.specs.declared.dialect.Dialect.{Dialect}

@@ -1,17 +1,16 @@
 -- What stands at each moment of a command that holds the lock for its turns.
 use Rattle.std.proofs.Common.{ap, inl, inr, subst, sym, ◌∙◌}
 use Rattle.std.proofs.lemmas.List.{append_assoc}
-use Rattle.std.specs.List.{list_all, list_any}
+use Rattle.std.specs.List.{list_all}
 use Rattle.std.specs.Prelude.{Bool, List, None, Ok, Option, Some, [], false, if◌then◌else◌, map, not, pos, refl, true, ℕ, ◌&&◌, ◌++◌, ◌∷◌, ◌≡◌, ◌⊎◌}
 use Rattle.lq_base.specs.declared.dialect.Dialect.{Dialect}
 use Rattle.lq_base.specs.declared.dialect.Dialect.TheVariants.{Mysql, Postgresql}
 use Rattle.lq_base.specs.declared.run.Did.{Did}
 use Rattle.lq_base.specs.declared.run.Did.TheVariants as did
-use Rattle.lq_base.specs.declared.run.Happened.{Happened}
 use Rattle.lq_base.specs.declared.run.Why.{Why}
 use Rattle.lq_base.specs.declared.tracking.Lock.{Lock}
 use Rattle.lq_base.specs.declared.tracking.Tracked.{Tracked}
-use Rattle.lq_model.proofs.Lists.{and_left, and_right, any-append, or_left, or_right, true_false}
+use Rattle.lq_model.proofs.Lists.{and_left, and_right, true_false}
 use Rattle.lq_model.specs.Sound.{IsSound}
 use Rattle.lq_track.specs.Database.{Database}
 use Rattle.lq_track.specs.Lock.{free, taken}
@@ -23,8 +22,8 @@ use Rattle.lq_turns.specs.Rollback.{all_rolled, calls_if_finished, rolled_as, tu
 use Rattle.lq_turns.specs.Script.{calls_of_turn, calls_unless, closing, has_work, if_missing, opening, rows_to_sync, set_calls, sets_calls, sync_of, turn_by, with_lock}
 use Rattle.lq_turns.specs.Session.{Session, all_called, all_executed, is_own, session_on, settled_if}
 use Rattle.lq_turns.specs.Set.{IsKept, Meaning, Set}
-use Rattle.lq_turns.specs.Settle.{Settled, all_settled, by_own, choice, did_of, fill_turn, followed, is_halt, mark_turn, own_choice, run_ending, run_turn, settle, settled_as, settled_by}
-use Rattle.lq_turns.specs.Stops.{Journal, is_skip, joined}
+use Rattle.lq_turns.specs.Settle.{Settled, all_settled, choice, did_of, fill_turn, followed, is_halt, mark_turn, own_choice, run_ending, run_turn, settle, settled_as, settled_by}
+use Rattle.lq_turns.specs.Stops.{Journal, joined}
 use Rattle.lq_turns.specs.Synced.{all_inserted, inserted_then, with_rows}
 use Rattle.lq_turns.specs.declared.call.Call.{Call}
 use Rattle.lq_turns.specs.declared.call.Call.TheVariants.{Begin, Commit, Execute}
@@ -41,7 +40,7 @@ use Rattle.lq_turns.specs.Turn.{Ending, Finished, Refused, contents_in, ending, 
 use Rattle.lq_turns.specs.First.{holds_unless}
 use Rattle.lq_turns.specs.Within.{IsBetween, RollbackStands, RollbackStops, SyncStops, UpdateStands, UpdateStops, gives_way, is_refused, is_turn_refused, none_gives_way}
 use Rattle.lq_turns.proofs.Entered.{is_finished}
-use Rattle.lq_turns.proofs.GoesOn.{onwards, skips, still}
+use Rattle.lq_turns.proofs.GoesOn.{onwards, still}
 use Rattle.lq_turns.proofs.Journal.{same_ok}
 use Rattle.lq_turns.proofs.Made.{calls_both}
 use Rattle.lq_turns.proofs.Marks.{Fine, Visits, deed_taken, fine_aborted, fine_closed, fine_deed, fine_open, fine_up, visits_front, with_deed}

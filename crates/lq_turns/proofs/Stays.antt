@@ -2,28 +2,21 @@
 use Rattle.std.proofs.Common.{ap, sym, ◌∙◌}
 use Rattle.std.proofs.lemmas.List.{append_assoc}
 use Rattle.std.specs.List.{list_all, list_any}
-use Rattle.std.specs.Prelude.{Bool, List, None, Option, Some, [], false, refl, true, ℕ, ◌++◌, ◌&&◌, ◌||◌, ◌∷◌, ◌≡◌}
+use Rattle.std.specs.Prelude.{Bool, List, None, Option, Some, [], false, refl, true, ◌++◌, ◌&&◌, ◌||◌, ◌∷◌, ◌≡◌}
 use Rattle.lq_base.specs.declared.dialect.Dialect.{Dialect}
-use Rattle.lq_base.specs.declared.run.Did.{Did}
-use Rattle.lq_base.specs.declared.run.Did.TheVariants as did
 use Rattle.lq_base.specs.declared.run.Happened.{Happened}
-use Rattle.lq_base.specs.declared.run.Why.{Why}
 use Rattle.lq_base.specs.declared.tracking.Tracked.{Tracked}
 use Rattle.lq_model.proofs.Lists.{and_left, and_right, any-append, or_false, or_left, or_right}
 use Rattle.lq_model.specs.Sound.{IsSound}
 use Rattle.lq_turns.specs.Again.{are_twins, has_own_sum, is_twin}
 use Rattle.lq_turns.specs.Contents.{Contents}
-use Rattle.lq_turns.specs.Effects.{not_fresh}
 use Rattle.lq_turns.specs.Laws.{AreRead}
 use Rattle.lq_turns.specs.Set.{IsKept, Meaning, Set}
-use Rattle.lq_turns.specs.Settle.{Settled, all_settled, choice, did_of, followed, mark_turn, run_ending, run_turn, settle, settled_as, settled_by, what}
+use Rattle.lq_turns.specs.Settle.{all_settled, followed, settle, what}
 use Rattle.lq_turns.specs.Stops.{all_at, is_skip, runs_once, runs_whole}
-use Rattle.lq_turns.specs.declared.choice.Choice.{Choice}
-use Rattle.lq_turns.specs.declared.choice.Choice.TheVariants.{Fills, Halts, Marks, Passes, Runs, Skips}
 use Rattle.lq_turns.specs.declared.choice.What.{What}
 use Rattle.lq_turns.specs.declared.stamp.Stamp.{Stamp}
 use Rattle.lq_turns.specs.declared.stop.Stop.{Stop}
-use Rattle.lq_turns.specs.Turn.{Ending, Finished, Refused, ending}
 use Rattle.lq_turns.proofs.GoesOn.{AllDone, Same, all_done, both_true, goes_on, passed_happened, skips, still, twins_front, what_stays}
 
 module _ {Key : Type 0} (d : Dialect) (m : Meaning Key) (keeps : IsKept m) (stamp : Stamp) where

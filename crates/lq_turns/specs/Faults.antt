@@ -1,6 +1,6 @@
 -- Validation faults.
 use Rattle.std.specs.List.{list_any}
-use Rattle.std.specs.Prelude.{Bool, List, None, Option, Some, [], if◌then◌else◌, not, ℕ, ◌&&◌, ◌++◌, ◌∷◌}
+use Rattle.std.specs.Prelude.{List, None, Option, Some, [], if◌then◌else◌, not, ℕ, ◌&&◌, ◌++◌, ◌∷◌}
 use Rattle.lq_base.specs.declared.identity.Identity.{Identity}
 use Rattle.lq_base.specs.declared.tracking.Tracked.{Tracked}
 use Rattle.lq_track.specs.Database.{same_identity}

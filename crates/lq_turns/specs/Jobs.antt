@@ -8,7 +8,6 @@ use Rattle.lq_turns.specs.Script.{release_calls, sync_calls, tag_calls, update_c
 use Rattle.lq_turns.specs.Serial.{is_early, none_early}
 use Rattle.lq_turns.specs.Set.{Changelog, Meaning}
 use Rattle.lq_turns.specs.declared.call.Call.{Call}
-use Rattle.lq_turns.specs.declared.command.Target.{Target}
 use Rattle.lq_turns.specs.declared.stamp.Stamp.{Stamp}
 use Rattle.lq_turns.specs.Trails.{rollback_to}
 use Rattle.lq_turns.specs.declared.command.Command.{Command}

@@ -1,6 +1,6 @@
 -- The statements that are printed as SQL: those of each changeset that ran, or that took back a row.
 use Rattle.std.specs.List.{list_any}
-use Rattle.std.specs.Prelude.{Bool, List, None, Option, Some, [], false, if◌then◌else◌, true, ℕ, ◌++◌, ◌∷◌}
+use Rattle.std.specs.Prelude.{Bool, List, None, Some, [], false, if◌then◌else◌, true, ℕ, ◌++◌, ◌∷◌}
 use Rattle.lq_base.specs.declared.dialect.Dialect.{Dialect}
 use Rattle.lq_base.specs.declared.identity.Identity.{Identity}
 use Rattle.lq_base.specs.declared.run.Did.{Did}
@@ -11,7 +11,6 @@ use Rattle.lq_turns.specs.Effects.{statements_of}
 use Rattle.lq_turns.specs.Set.{Meaning, Set}
 use Rattle.lq_turns.specs.Settle.{Settled, settle}
 use Rattle.lq_turns.specs.Turn.{Ending, Finished, Refused, ending}
-use Rattle.lq_turns.specs.declared.stop.Stop.{Stop}
 use Rattle.lq_turns.specs.declared.turn.Turn.{Turn}
 
 abbrev pub is_run : Did → Bool

@@ -3,7 +3,6 @@ use Rattle.std.specs.Prelude.{Bool, Err, List, Ok, Result, [], false, ifâ—Œthenâ
 use Rattle.lq_base.specs.declared.dialect.Dialect.{Dialect}
 use Rattle.lq_base.specs.declared.reason.Reason.{Reason}
 use Rattle.lq_model.specs.Script.{if_any, statements_in}
-use Rattle.lq_model.specs.declared.caller.Room.{Room}
 use Rattle.lq_model.specs.declared.statement.Statement.{Statement}
 use Rattle.lq_track.specs.Database.{Database}
 use Rattle.lq_turns.specs.declared.deed.Deed.{Deed}

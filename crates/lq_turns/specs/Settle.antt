@@ -21,7 +21,6 @@ use Rattle.lq_turns.specs.declared.choice.OnFail.{OnFail}
 use Rattle.lq_turns.specs.declared.choice.OnFail.TheVariants.{Continue, Halt, MarkRan, Warn}
 use Rattle.lq_turns.specs.declared.deed.OnRows.{OnRows}
 use Rattle.lq_turns.specs.declared.deed.OnRows.TheVariants.{Filled, Inserted, Renewed}
-use Rattle.lq_turns.specs.declared.stop.Refusal.{Refusal}
 use Rattle.lq_turns.specs.declared.turn.Turn.{Turn}
 use Rattle.lq_turns.specs.Turn.{Ending, Finished, Refused, ending, row_ending}
 use Rattle.lq_turns.specs.declared.choice.Choice.{Choice}

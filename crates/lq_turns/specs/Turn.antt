@@ -4,7 +4,6 @@ use Rattle.std.specs.Prelude.{Bool, Err, List, Ok, Result, [], codes, false, ifâ
 use Rattle.lq_base.specs.Number.{whole_text}
 use Rattle.lq_base.specs.Tracking.{identity_text}
 use Rattle.lq_base.specs.declared.dialect.Dialect.{Dialect}
-use Rattle.lq_base.specs.declared.identity.Identity.{Identity}
 use Rattle.lq_base.specs.declared.reason.Reason.{Reason}
 use Rattle.lq_model.specs.Catalogue.{Catalogue}
 use Rattle.lq_model.specs.Step.{step}
@@ -16,7 +15,6 @@ use Rattle.lq_turns.specs.declared.call.Call.{Call}
 use Rattle.lq_turns.specs.declared.call.Call.TheVariants.{Abort, Begin, Commit, Execute}
 use Rattle.lq_turns.specs.declared.deed.Deed.TheVariants.{Locks, Rows, Users}
 use Rattle.lq_turns.specs.declared.deed.OnLock.TheVariants.{Marked}
-use Rattle.lq_turns.specs.declared.deed.OnRows.{OnRows}
 use Rattle.lq_turns.specs.declared.stop.Refusal.{Refusal}
 use Rattle.lq_turns.specs.declared.turn.Turn.{Turn}
 

@@ -1,5 +1,5 @@
 -- The writing calls of commands, and what they leave in the journal.
-use Rattle.std.specs.Prelude.{Bool, List, None, Ok, Option, Some, [], codes, false, length, map, pos, refl, true, ℕ, ◌++◌, ◌∷◌, ◌≡◌}
+use Rattle.std.specs.Prelude.{List, None, Ok, Some, [], codes, false, length, pos, refl, ◌++◌, ◌∷◌, ◌≡◌}
 use Rattle.lq_base.specs.Number.{whole_text}
 use Rattle.lq_base.specs.Value.{into_kind}
 use Rattle.lq_base.specs.declared.dialect.Dialect.{Dialect}
@@ -15,7 +15,6 @@ use Rattle.lq_turns.specs.Script.{release_calls, sync_calls, tag_calls, update_c
 use Rattle.lq_turns.specs.Session.{all_called, session_on}
 use Rattle.lq_turns.specs.Set.{Set}
 use Rattle.lq_turns.specs.Settle.{row_for}
-use Rattle.lq_turns.specs.declared.call.Call.{Call}
 use Rattle.lq_turns.specs.declared.call.Call.TheVariants.{Abort, Alone, Begin, Commit, Execute}
 use Rattle.lq_turns.specs.declared.choice.OnFail.TheVariants as on_fail
 use Rattle.lq_turns.specs.declared.deed.Deed.{Deed}

@@ -1,11 +1,9 @@
 -- Changesets whose condition fails or cannot be told.
 use Rattle.std.specs.List.{list_any}
-use Rattle.std.specs.Prelude.{Bool, Err, List, None, Ok, Option, Result, Some, [], codes, false, map, not, refl, true, ℕ, ◌∷◌, ◌≡◌}
+use Rattle.std.specs.Prelude.{Err, List, None, Ok, Some, [], codes, false, map, refl, ℕ, ◌∷◌, ◌≡◌}
 use Rattle.lq_base.specs.Name.{is_named}
 use Rattle.lq_base.specs.Value.{into_kind}
 use Rattle.lq_base.specs.declared.dialect.Dialect.TheVariants.{Postgresql}
-use Rattle.lq_base.specs.declared.identity.Identity.{Identity}
-use Rattle.lq_base.specs.declared.reason.Reason.{Reason}
 use Rattle.lq_base.specs.declared.reason.Reason.TheVariants.{Missing}
 use Rattle.lq_base.specs.declared.run.Did.{Did}
 use Rattle.lq_base.specs.declared.run.Did.TheVariants.{Marked, Ran, Skipped}
@@ -13,8 +11,7 @@ use Rattle.lq_base.specs.declared.run.Happened.{Happened}
 use Rattle.lq_base.specs.declared.run.Why.TheVariants.{Error, Failed}
 use Rattle.lq_base.specs.declared.tracking.Exec.TheVariants.{Executed, MarkRan}
 use Rattle.lq_model.specs.Plan.{decide}
-use Rattle.lq_turns.specs.Contents.{Contents}
-use Rattle.lq_turns.specs.Set.{Changelog, Condition, Set}
+use Rattle.lq_turns.specs.Set.{Condition, Set}
 use Rattle.lq_turns.specs.Settle.{Settled, all_settled, updated}
 use Rattle.lq_turns.specs.declared.choice.OnFail.{OnFail}
 use Rattle.lq_turns.specs.declared.choice.OnFail.TheVariants as on_fail

@@ -3,7 +3,6 @@ use Rattle.std.specs.Prelude.{List, None, Ok, [], codes, false, refl, true, ℕ,
 use Rattle.lq_base.specs.Value.{into_kind}
 use Rattle.lq_base.specs.declared.dialect.Dialect.TheVariants.{Mysql, Postgresql}
 use Rattle.lq_base.specs.declared.tracking.Exec.TheVariants.{Executed}
-use Rattle.lq_base.specs.declared.tracking.Tracked.{Tracked}
 use Rattle.lq_model.specs.Plan.{decide}
 use Rattle.lq_turns.specs.Set.{Set}
 use Rattle.lq_turns.specs.Settle.{all_settled}

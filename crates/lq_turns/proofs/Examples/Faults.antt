@@ -1,5 +1,5 @@
 -- Validation faults, and what is pending.
-use Rattle.std.specs.Prelude.{Bool, List, None, Option, Some, [], codes, false, refl, true, ℕ, ◌∷◌, ◌≡◌}
+use Rattle.std.specs.Prelude.{List, None, Option, Some, [], codes, false, refl, true, ℕ, ◌∷◌, ◌≡◌}
 use Rattle.lq_base.specs.declared.tracking.Exec.TheVariants.{Executed}
 use Rattle.lq_base.specs.declared.tracking.Tracked.{Tracked}
 use Rattle.lq_turns.specs.Faults.{faults}

@@ -1,5 +1,5 @@
 -- What the examples speak of: changes told by their statements, changesets, conditions, rows.
-use Rattle.std.specs.Prelude.{Bool, Err, List, None, Ok, Option, Result, Some, [], codes, false, map, pos, true, ℕ, ◌∷◌}
+use Rattle.std.specs.Prelude.{Bool, List, None, Ok, Option, Result, Some, [], codes, false, map, pos, true, ℕ, ◌∷◌}
 use Rattle.lq_base.specs.Text.{is_text}
 use Rattle.lq_base.specs.declared.identity.Identity.{Identity}
 use Rattle.lq_base.specs.declared.kind.Kind.TheVariants as kind
@@ -7,7 +7,7 @@ use Rattle.lq_base.specs.declared.literal.Literal.TheVariants as literal
 use Rattle.lq_base.specs.declared.reason.Reason.{Reason}
 use Rattle.lq_base.specs.declared.tracking.Exec.{Exec}
 use Rattle.lq_base.specs.declared.tracking.Tracked.{Tracked}
-use Rattle.lq_model.specs.Catalogue.{Catalogue, no_objects}
+use Rattle.lq_model.specs.Catalogue.{no_objects}
 use Rattle.lq_model.specs.Step.{run}
 use Rattle.lq_model.specs.declared.caller.By.TheVariants.{User}
 use Rattle.lq_model.specs.declared.column.ColumnDef.{ColumnDef}

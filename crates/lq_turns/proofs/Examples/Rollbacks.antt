@@ -1,5 +1,5 @@
 -- What rollbacks undo, and how.
-use Rattle.std.specs.Prelude.{Bool, List, None, Option, Some, [], codes, false, map, option_map, pos, refl, true, ℕ, ℤ, ◌++◌, ◌∷◌, ◌≡◌}
+use Rattle.std.specs.Prelude.{List, None, Option, Some, [], codes, false, map, option_map, pos, refl, true, ℕ, ℤ, ◌++◌, ◌∷◌, ◌≡◌}
 use Rattle.lq_base.specs.Number.{whole_text}
 use Rattle.lq_base.specs.Value.{into_kind}
 use Rattle.lq_base.specs.declared.dialect.Dialect.TheVariants.{Mysql, Postgresql}
@@ -12,7 +12,7 @@ use Rattle.lq_model.specs.declared.statement.Statement.TheVariants.{DropTable}
 use Rattle.lq_turns.specs.Rollback.{all_rolled, rows_kept, rows_undone, undo_turns}
 use Rattle.lq_turns.specs.Set.{Set}
 use Rattle.lq_turns.specs.Settle.{all_settled}
-use Rattle.lq_turns.specs.Turn.{mark, turn_calls}
+use Rattle.lq_turns.specs.Turn.{turn_calls}
 use Rattle.lq_turns.specs.declared.call.Call.{Call}
 use Rattle.lq_turns.specs.declared.call.Call.TheVariants.{Begin, Commit, Execute}
 use Rattle.lq_turns.specs.declared.command.Target.TheVariants.{Count, Date, Tag}

@@ -1,5 +1,5 @@
 -- What becomes of a changeset's row.
-use Rattle.std.specs.Prelude.{Bool, Err, List, None, Ok, Option, Some, [], codes, false, map, pos, refl, true, ℕ, ℤ, ◌∷◌, ◌≡◌}
+use Rattle.std.specs.Prelude.{List, None, Ok, Option, Some, [], codes, false, map, pos, refl, true, ℕ, ℤ, ◌∷◌, ◌≡◌}
 use Rattle.lq_base.specs.Value.{into_kind}
 use Rattle.lq_base.specs.declared.dialect.Dialect.TheVariants.{Postgresql}
 use Rattle.lq_base.specs.declared.run.Did.TheVariants as did

@@ -1,11 +1,10 @@
 -- Two runners over one database.
-use Rattle.std.specs.Prelude.{List, None, Option, Some, [], codes, map, pos, refl, suc, zero, ℕ, ◌∷◌, ◌≡◌}
+use Rattle.std.specs.Prelude.{List, None, [], codes, map, pos, refl, suc, zero, ℕ, ◌∷◌, ◌≡◌}
 use Rattle.lq_base.specs.Value.{into_kind}
 use Rattle.lq_base.specs.declared.dialect.Dialect.TheVariants.{Postgresql}
 use Rattle.lq_base.specs.declared.tracking.Lock.{Lock}
 use Rattle.lq_base.specs.declared.tracking.Tracked.{Tracked}
 use Rattle.lq_model.specs.Plan.{decide}
-use Rattle.lq_track.specs.Database.{Database}
 use Rattle.lq_track.specs.Lock.{taken}
 use Rattle.lq_turns.specs.Jobs.{Task, job_of}
 use Rattle.lq_turns.specs.Schedule.{Job, Machine, all_moved, start}
