@@ -4,8 +4,6 @@
 mod look;
 mod node;
 mod reading;
-#[cfg(test)]
-mod tests;
 
 pub use node::{Node, TreeFault};
 pub use reading::read_json;

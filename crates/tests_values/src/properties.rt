@@ -1,5 +1,5 @@
-use crate::{Props, Scope};
 use lq_base::{NoMemory, Text};
+use lq_props::{Props, Scope};
 use std::alloc::Global;
 use std::test::Fail;
 
@@ -7,14 +7,16 @@ use std::test::Fail;
 // command line's before all.
 fn defined(alloc: Global) -> Result<Props, NoMemory> {
     let mut props = Props::new(alloc);
-    props.define(alloc, Scope::Global, "x", "a")?;
-    props.define(alloc, Scope::Global, "x", "b")?;
-    props.define(alloc, Scope::Global, "g", "of all")?;
+    for (name, value) in [("x", "a"), ("x", "b"), ("g", "of all")] {
+        props.define(alloc, Scope::Global, name, value)?;
+    }
     define_for_files(alloc, &mut props)?;
-    props.define(alloc, Scope::Global, "f", "global")?;
-    props.define(alloc, Scope::Global, "c", "global")?;
-    props.define(alloc, Scope::Command, "c", "given")?;
-    props.define(alloc, Scope::Command, "c", "given later")?;
+    for (name, value) in [("f", "global"), ("c", "global")] {
+        props.define(alloc, Scope::Global, name, value)?;
+    }
+    for value in ["given", "given later"] {
+        props.define(alloc, Scope::Command, "c", value)?;
+    }
     Ok(props)
 }
 
@@ -34,6 +36,17 @@ fn define_for_files(alloc: Global, props: &mut Props) -> Result<(), NoMemory> {
         props.define(alloc, Scope::File(Text::new(alloc, "two")?), name, value)?;
     }
     Ok(())
+}
+
+fn makes(
+    alloc: Global,
+    props: &Props,
+    file: &str,
+    text: &str,
+    want: &str,
+) -> Result<bool, NoMemory> {
+    let made = props.replace(alloc, file, text)?;
+    Ok(made.as_str() == want)
 }
 
 #[test]
@@ -73,8 +86,10 @@ fn uses_are_replaced(rt: HostRuntime) -> Result<(), Fail> {
     ];
     let props = defined(rt.alloc())?;
     for (file, text, want) in cases {
-        let made = props.replace(rt.alloc(), file, text)?;
-        assert_eq!(rt; made.as_str(), want, "{file}: {text}");
+        assert!(rt;
+            makes(rt.alloc(), &props, file, text, want)?,
+            "{file}: {text}"
+        );
     }
     Ok(())
 }

@@ -1,5 +1,5 @@
-use crate::Chain;
 use lq_base::{NoMemory, Text};
+use lq_chain::Chain;
 use std::alloc::Global;
 use std::test::Fail;
 

@@ -1,40 +1,8 @@
-use crate::{Node, TreeFault, read_json};
+use crate::shown::show;
 use lq_base::NoMemory;
+use lq_tree::{Node, TreeFault, read_json};
 use std::alloc::{AllocError, Global};
 use std::test::Fail;
-
-// The tree as one text: a text in quotes, a list in brackets, a map in braces.
-fn show(out: &mut String, node: &Node) -> Result<(), AllocError> {
-    match node {
-        Node::Text(text) => {
-            out.push_str("'")?;
-            out.push_str(text.as_str())?;
-            out.push_str("'")?;
-        }
-        Node::Whole(n) => write!(out, "{n}")?,
-        Node::Truth(b) => write!(out, "{b}")?,
-        Node::Null => out.push_str("null")?,
-        Node::List(items) => {
-            out.push_str("[")?;
-            for item in items.as_slice() {
-                show(out, item)?;
-                out.push_str(" ")?;
-            }
-            out.push_str("]")?;
-        }
-        Node::Map(entries) => {
-            out.push_str("{")?;
-            for entry in entries.as_slice() {
-                out.push_str(entry.0.as_str())?;
-                out.push_str(":")?;
-                show(out, &entry.1)?;
-                out.push_str(" ")?;
-            }
-            out.push_str("}")?;
-        }
-    }
-    Ok(())
-}
 
 #[test]
 fn json_is_read(rt: HostRuntime) -> Result<(), Fail> {
@@ -186,6 +154,11 @@ fn values_are_told(rt: HostRuntime) -> Result<(), Fail> {
         let told = told(rt.alloc(), &node, key)?;
         assert_eq!(rt; told.as_str(), want);
     }
+    Ok(())
+}
+
+#[test]
+fn the_lowest_number_is_told(rt: HostRuntime) -> Result<(), Fail> {
     let lowest = Node::Whole(i128::MIN)
         .printed(rt.alloc())?
         .ok_or("no text")?;
