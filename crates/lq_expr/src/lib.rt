@@ -5,8 +5,6 @@ mod expr;
 pub mod laws;
 mod operator;
 mod reading;
-#[cfg(test)]
-mod tests;
 mod word;
 mod words;
 

@@ -15,8 +15,6 @@ mod place;
 mod plain;
 mod quoted;
 mod reading;
-#[cfg(test)]
-mod tests;
 mod token;
 
 pub use fault::YamlFault;

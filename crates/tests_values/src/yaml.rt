@@ -1,40 +1,7 @@
-use crate::{YamlFault, read_yaml};
-use lq_tree::Node;
+use crate::shown::show;
+use lq_yaml::{YamlFault, read_yaml};
 use std::alloc::{AllocError, Global};
 use std::test::Fail;
-
-// The tree as one text: a text in quotes, a list in brackets, a map in braces.
-fn show(out: &mut String, node: &Node) -> Result<(), AllocError> {
-    match node {
-        Node::Text(text) => {
-            out.push_str("'")?;
-            out.push_str(text.as_str())?;
-            out.push_str("'")?;
-        }
-        Node::Whole(n) => write!(out, "{n}")?,
-        Node::Truth(b) => write!(out, "{b}")?,
-        Node::Null => out.push_str("null")?,
-        Node::List(items) => {
-            out.push_str("[")?;
-            for item in items.as_slice() {
-                show(out, item)?;
-                out.push_str(" ")?;
-            }
-            out.push_str("]")?;
-        }
-        Node::Map(entries) => {
-            out.push_str("{")?;
-            for entry in entries.as_slice() {
-                out.push_str(entry.0.as_str())?;
-                out.push_str(":")?;
-                show(out, &entry.1)?;
-                out.push_str(" ")?;
-            }
-            out.push_str("}")?;
-        }
-    }
-    Ok(())
-}
 
 // What is wrong with a text of at most 10,000 bytes. Of a longer one nothing is said.
 fn fault_of(alloc: Global, text: &[u8]) -> Option<Option<YamlFault>> {

@@ -1,5 +1,5 @@
-use crate::{Expr, ExprFault, parse};
 use lq_base::{Items, NoMemory, Text};
+use lq_expr::{Expr, ExprFault, parse};
 use std::alloc::{AllocError, Global};
 use std::test::Fail;
 
@@ -166,7 +166,7 @@ fn holds_for(alloc: Global, text: &str, names: &str) -> Result<bool, ExprFault> 
 }
 
 #[test]
-fn values(rt: HostRuntime) -> Result<(), Fail> {
+fn values_are_told(rt: HostRuntime) -> Result<(), Fail> {
     let cases = [
         ("!test and (dev or qa), prod", "dev", true),
         ("!test and (dev or qa), prod", "QA", true),
