@@ -35,11 +35,13 @@ texts (t ∷ ts) = value (text t) (texts ts)
 
 abbrev pub field_value : Field → CanonicalValue
 field_value (field.Text t) = text t.now
+field_value (field.Name n) = text n.now
 field_value (field.Number n) = number n
 field_value (field.Decimal units scale) = decimal_value units scale
 field_value (field.Truth b) = truth b
 field_value (field.Kind k) = kind_value k
 field_value (field.Names ns) = list (texts ns.now)
+field_value (field.NamesOf ns) = list (texts ns.now)
 
 -- the value of the key at a place of the table
 abbrev pub nth_value : ℕ → List Row → Option CanonicalValue

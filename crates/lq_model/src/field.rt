@@ -3,18 +3,21 @@ ghost use Rattle.std.specs.Prelude.{◌≡◌};
 ghost use Rattle.lq_model.specs.Canon.{kind_value, text, truth};
 ghost use Rattle.lq_model.specs.Written.{field_value};
 
-use lq_base::{Kind, Name, Text};
+use lq_base::{Items, Kind, Name, Text};
 
-/// What a key has in canonical text.
+/// What a key has in canonical text. `Name` and `NamesOf` say it of the name and the list themselves, so
+/// that a contract needs no step from what `as_key` and `as_slice` answer.
 #[derive(Clone, Copy, Debug)]
 pub enum Field<'a> {
     Text(&'a str),
+    Name(&'a Name),
     Number(i128),
     /// `units` divided by ten to the power `scale`.
     Decimal { units: i128, scale: u8 },
     Truth(bool),
     Kind(Kind),
     Names(&'a [Name]),
+    NamesOf(&'a Items<Name>),
 }
 
 /// What a key with a text has, where it was given.

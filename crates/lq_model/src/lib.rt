@@ -63,4 +63,4 @@ pub use takes_back::{
 pub use test::{Op, Operand, Test};
 pub use view_queries::views_answer;
 pub use word::{SPELLINGS, Word, WordKind};
-pub use written::{Fields, MapAt, MapsAt, Written, write_change, write_change_of};
+pub use written::{Fields, MapAt, MapsAt, NameAt, TextAt, Written, write_change, write_change_of};

@@ -4,8 +4,8 @@ ghost use Rattle.lq_model.specs.Canon.{GoesOn, canonical, canonical_change, cano
 ghost use Rattle.lq_model.specs.Written.{change_of, field_value, map_with, maps, pair_if, pairs_of, texts};
 
 use crate::canon::Canon;
-use crate::field::Field;
-use lq_base::{Name, NoMemory};
+use crate::field::{Field, name_field, text_field};
+use lq_base::{Name, NoMemory, Text};
 
 /// Keys of a change or of a map in it, which canonical text has where they were given.
 pub trait Written {
@@ -25,6 +25,20 @@ pub trait Written {
 /// Keys that have neither maps nor lists of maps.
 #[derive(Drop)]
 pub struct Fields<'a>(pub &'a [(&'a str, Option<Field<'a>>)]);
+
+/// A key that has a text, where it was given.
+#[derive(Drop)]
+pub struct TextAt<'a> {
+    pub key: &'a str,
+    pub text: &'a Option<Text>,
+}
+
+/// A key that has a name, where it was given.
+#[derive(Drop)]
+pub struct NameAt<'a> {
+    pub key: &'a str,
+    pub name: &'a Option<Name>,
+}
 
 /// A key that has a map, where it was given.
 #[derive(Drop)]
@@ -71,11 +85,13 @@ fn write_field(to: &mut Canon, field: Field) -> Result<(), NoMemory>
 {
     match field {
         Field::Text(text) => to.text(text),
+        Field::Name(name) => to.text(name.as_key()),
         Field::Number(number) => to.number(number),
         Field::Decimal { units, scale } => to.decimal(units, scale),
         Field::Truth(truth) => to.truth(truth),
         Field::Kind(kind) => to.kind(kind),
         Field::Names(names) => write_names(to, names),
+        Field::NamesOf(names) => write_names(to, names.as_slice()),
     }
 }
 
@@ -148,6 +164,30 @@ impl Written for Fields<'_> {
 
     fn write(&self, to: &mut Canon) -> Result<(), NoMemory> {
         write_pairs(to, self.0)
+    }
+}
+
+impl Written for TextAt<'_> {
+    ghost use Rattle.std.specs.Option.{option_map};
+    ghost use Rattle.std.specs.Prelude.{◌∷◌, []};
+    ghost use Rattle.lq_model.specs.Canon.{text};
+
+    ghost rows = { λ at. (at.key.now, option_map (λ t. text t) at.text.now) ∷ [] };
+
+    fn write(&self, to: &mut Canon) -> Result<(), NoMemory> {
+        write_pair(to, self.key, text_field(self.text))
+    }
+}
+
+impl Written for NameAt<'_> {
+    ghost use Rattle.std.specs.Option.{option_map};
+    ghost use Rattle.std.specs.Prelude.{◌∷◌, []};
+    ghost use Rattle.lq_model.specs.Canon.{text};
+
+    ghost rows = { λ at. (at.key.now, option_map (λ t. text t) at.name.now) ∷ [] };
+
+    fn write(&self, to: &mut Canon) -> Result<(), NoMemory> {
+        write_pair(to, self.key, name_field(self.name))
     }
 }
 

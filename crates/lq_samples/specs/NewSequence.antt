@@ -5,12 +5,13 @@ use Rattle.lq_base.specs.declared.dialect.Dialect.{Dialect}
 use Rattle.lq_base.specs.declared.name.Name.{Name}
 use Rattle.lq_base.specs.declared.reason.Reason.{Reason}
 use Rattle.lq_base.specs.declared.reason.Reason.TheVariants as reason
-use Rattle.lq_model.specs.Canon.{CanonicalChange, no_pairs, pair, text}
+use Rattle.lq_model.specs.Canon.{CanonicalChange, text}
 use Rattle.lq_model.specs.Catalogue.{Catalogue, with_sequence}
 use Rattle.lq_model.specs.NameSpaces.{is_taken}
 use Rattle.lq_model.specs.Reasons.{unless}
 use Rattle.lq_model.specs.Reserved.{is_tracking, lock_key}
 use Rattle.lq_model.specs.Statement.{is_pg}
+use Rattle.lq_model.specs.Written.{Row, change_of}
 use Rattle.lq_model.specs.declared.statement.Statement.{Statement}
 use Rattle.lq_model.specs.declared.statement.Statement.TheVariants.{CreateSequence, DropSequence}
 
@@ -35,5 +36,9 @@ is_fresh d name c = true
 abbrev pub inverse : Dialect → Name → Option (List Statement)
 inverse d name = Some (DropSequence name ∷ [])
 
+-- its one key
+abbrev pub rows : Name → List Row
+rows name = (codes "sequenceName", Some (text name)) ∷ []
+
 abbrev pub canonical_of : Name → CanonicalChange
-canonical_of name = record { name = codes "createSequence"; pairs = pair (codes "sequenceName") (text name) no_pairs }
+canonical_of name = change_of (codes "createSequence") (rows name)

@@ -1,13 +1,11 @@
 -- That a change that makes a sequence keeps its promises.
 use Rattle.std.proofs.Common.{ap, sym, ◌∙◌}
-use Rattle.std.specs.Prelude.{Bool, Err, Ok, Option, Result, Some, [], false, pos, refl, true, ℕ, ◌||◌, ◌∷◌, ◌≡◌}
+use Rattle.std.specs.Prelude.{Bool, Err, Ok, Option, Result, Some, [], codes, false, pos, refl, true, ℕ, ◌||◌, ◌∷◌, ◌≡◌}
 use Rattle.lq_base.specs.Name.{is_named}
 use Rattle.lq_base.specs.declared.dialect.Dialect.{Dialect}
 use Rattle.lq_base.specs.declared.dialect.Dialect.TheVariants.{Mysql, Postgresql}
-use Rattle.lq_base.specs.declared.name.Name.{Name}
 use Rattle.lq_base.specs.declared.reason.Reason.{Reason}
 use Rattle.lq_base.specs.declared.reason.Reason.TheVariants as reason
-use Rattle.lq_model.specs.Canon.{CanonicalValue, pair, text, no_pairs}
 use Rattle.lq_model.specs.Catalogue.{Catalogue}
 use Rattle.lq_model.specs.Changes.{AreStatements, AreTold, HaveEffect, TakeBack}
 use Rattle.lq_model.specs.NameSpaces.{is_taken}
@@ -17,25 +15,20 @@ use Rattle.lq_model.specs.Reserved.{is_tracking, lock_key}
 use Rattle.lq_model.specs.Sequences.{create_sequence}
 use Rattle.lq_model.specs.Step.{run, step}
 use Rattle.lq_model.specs.TakesBack.{DropSequenceTakesBack}
+use Rattle.lq_model.specs.Written.{nth_value}
 use Rattle.lq_model.specs.declared.caller.By.TheVariants.{User}
 use Rattle.lq_model.specs.declared.statement.Statement.{Statement}
 use Rattle.lq_model.specs.declared.statement.Statement.TheVariants.{CreateSequence}
-use Rattle.lq_model.proofs.CanonLemmas.{change_told}
 use Rattle.lq_model.proofs.Decide.{refuses_exists, settles}
 use Rattle.lq_model.proofs.Sequences.{drop_sequence_after}
-use Rattle.lq_samples.specs.NewSequence.{canonical_of, effect, gives, inverse, is_for, is_fresh}
+use Rattle.lq_model.proofs.Told.{keys_told, text_told}
+use Rattle.lq_samples.specs.NewSequence.{canonical_of, effect, gives, inverse, is_for, is_fresh, rows}
 
 ok_same : {X Y : Type 0} {x y : X} → (let r : Result X Y = Ok x in r) ≡ Ok y → x ≡ y
 ok_same h = Prim.cc
 
 some_same : {X : Type 0} {x y : X} → (let o : Option X = Some x in o) ≡ Some y → x ≡ y
 some_same h = Prim.cc
-
-pairs_same : {k : Name} {v w : CanonicalValue} → pair k v no_pairs ≡ pair k w no_pairs → v ≡ w
-pairs_same h = Prim.cc
-
-text_same : {t u : Name} → text t ≡ text u → t ≡ u
-text_same h = Prim.cc
 
 pub spelled : AreStatements is_for gives
 spelled Postgresql name h = rw h refl
@@ -101,4 +94,4 @@ pub restores : TakeBack is_for effect is_fresh inverse
 restores = restored drop_sequence_after
 
 pub told : AreTold is_for canonical_of
-told d x y read also same = text_same (pairs_same (change_told (canonical_of x) (canonical_of y) same).1)
+told d x y read also same = text_told (ap (nth_value 0) (keys_told (codes "createSequence") (codes "createSequence") (rows x) (rows y) refl refl same))

@@ -56,8 +56,11 @@ impl Change for NewSequence {
     }
 
     fn canon(&self, to: &mut Canon) -> Result<(), NoMemory> {
-        let name = Some(Field::Text(self.name.as_key()));
-        write_change(to, "createSequence", &[("sequenceName", name)])
+        write_change(
+            to,
+            "createSequence",
+            &[("sequenceName", Some(Field::Name(&self.name)))],
+        )
     }
 
     ghost spelled = { spelled };

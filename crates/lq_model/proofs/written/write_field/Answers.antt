@@ -15,3 +15,6 @@ returns-in-Truth-clause-front c = map_err _ _ _ (stays _ _) c.truth.ensures.unch
 
 pub returns-in-Kind-clause-front : goal.returns-in-Kind-clause-front
 returns-in-Kind-clause-front c = map_err _ _ _ (stays _ _) c.kind.ensures.unchanged
+
+pub returns-in-Name-clause-front : goal.returns-in-Name-clause-front
+returns-in-Name-clause-front c = map_err _ _ _ (stays _ _) c.text-in-Name.ensures.unchanged
