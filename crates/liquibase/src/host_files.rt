@@ -1,5 +1,5 @@
 // The files that changelogs are read from.
-ghost use Rattle.std.specs.Prelude.{◌≡◌, ◌≤◌, None, Ok, IfOk, IsErrOf};
+ghost use Rattle.std.specs.Prelude.{◌≡◌, ◌≤◌, None, Ok, IfOk, IsErrOf, OnOk};
 ghost use Rattle.lq_outside.specs.Count.{Rose};
 ghost use Rattle.lq_outside.specs.Folder.{IsWithinLimit};
 ghost use Rattle.lq_outside.specs.declared.files.FilesFault.TheVariants.{Failed};
@@ -60,6 +60,7 @@ fn count<T: Drop>(answer: io::Result<T>, faults: &mut u64) -> Result<T, FilesFau
     ensures value { IfOk result (λ value. answer ≡ Ok value) }
     ensures later { faults.old ≤ faults.new }
     ensures failed { IsErrOf result Failed → Rose faults.old faults.new }
+    ensures stays { OnOk result (faults.new ≡ faults.old) }
 {
     match answer {
         Ok(value) => Ok(value),

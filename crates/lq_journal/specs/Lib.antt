@@ -6,3 +6,4 @@ pub mod Journal
 pub mod LoadFault
 pub mod Reading
 pub mod State
+pub mod Synced

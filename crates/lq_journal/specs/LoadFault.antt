@@ -17,3 +17,9 @@ abbrev pub IsSizeFault : ℕ → Option (List ℕ) → ℕ → ℕ → LoadFault
 IsSizeFault limit told before now Disk = Rose before now
 IsSizeFault limit told before now (Damaged at) = (at ≡ limit) × IfSome told (λ bytes. limit < length bytes)
 IsSizeFault limit told before now OutOfMemory = Unit {0}
+
+-- of a file that is longer than the limit: it is damaged there, unless the disk's count of faults rose
+abbrev pub IsLengthFault : ℕ → ℕ → ℕ → LoadFault → Type 0
+IsLengthFault limit before now Disk = Rose before now
+IsLengthFault limit before now (Damaged at) = at ≡ limit
+IsLengthFault limit before now OutOfMemory = ⊥

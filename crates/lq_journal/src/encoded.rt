@@ -1,4 +1,4 @@
-ghost use Rattle.std.specs.Prelude.{◌≡◌, ◌+◌, ◌<◌, ◌≤◌, ℕ, List, [], ◌∷◌, ◌++◌, length, take, drop, IfOk, OnOk, OnErr, vec_len, vec_capacity};
+ghost use Rattle.std.specs.Prelude.{◌≡◌, ◌+◌, ◌^◌, ◌<◌, ◌≤◌, ℕ, List, [], ◌∷◌, ◌++◌, length, take, drop, IfOk, OnOk, OnErr, vec_len, vec_capacity};
 ghost use Rattle.lq_journal.specs.Body.{number, entry_of, size_of, AreTexts};
 
 use lq_base::{NoMemory, Text};
@@ -104,7 +104,8 @@ impl EncodedEntry {
 
     /// How many bytes of the journal it takes.
     pub fn size(&self) -> u64
-        ensures { result ≡ size_of self.now }
+        ensures value { result ≡ size_of self.now }
+        ensures bound { result < 2 ^ 63 }
     {
         self.bytes.len() as u64
     }

@@ -1,4 +1,4 @@
-ghost use Rattle.std.specs.Prelude.{◌≡◌, ◌+◌, ◌-◌, ◌<◌, ◌≤◌, ◌↔◌, [], ◌∷◌, ◌++◌, IfSome, IfOk, IfErr, IsTrue, OnOk, OnErr, MatchResult, Ok, Err, length};
+ghost use Rattle.std.specs.Prelude.{◌≡◌, ◌+◌, ◌-◌, ◌<◌, ◌≤◌, ◌↔◌, [], ◌∷◌, ◌++◌, IfSome, IfOk, IfErr, IsErrAnd, IsTrue, OnOk, OnErr, MatchResult, Ok, Err, length};
 ghost use Rattle.std.specs.Option.{option_map};
 ghost use Rattle.lq_outside.specs.Count.{CountsFault};
 ghost use Rattle.lq_outside.specs.Bytes.{Writes, Tears, Torn};
@@ -6,9 +6,10 @@ ghost use Rattle.lq_outside.specs.Crash.{Settled, LeavesOnly, Half};
 ghost use Rattle.lq_journal.specs.Body.{size_of};
 ghost use Rattle.lq_journal.specs.Frames.{header};
 ghost use Rattle.lq_journal.specs.Journal.{journal_of, used_by, with_last, IsSameOrMore, StandsForSame, StandsForSameOrMore};
-ghost use Rattle.lq_journal.specs.LoadFault.{IsLoadFault, IsSizeFault};
+ghost use Rattle.lq_journal.specs.LoadFault.{IsLengthFault, IsLoadFault, IsSizeFault};
 ghost use Rattle.lq_journal.specs.AppendFault.{end_of, IsAppendFault, IsFull};
 ghost use Rattle.lq_journal.specs.Reading.{FoundOn};
+ghost use Rattle.lq_journal.specs.Synced.{HasSynced, HasSyncedBefore};
 ghost use Rattle.lq_journal.specs.declared.fault.AppendFault.TheVariants.{Full};
 
 use crate::encoded::EncodedEntry;
@@ -58,7 +59,10 @@ fn contents<D: Disk>(alloc: Global, disk: &mut D, limit: u64) -> Result<Vec<u8>,
     ensures settled { OnOk result (Settled (D.told disk.old) (D.crashes disk.new)) }
     ensures any_moment { LeavesOnly (D.crashes disk.old) (D.crashes disk.new) (D.crashes disk.old).leaves }
     ensures later { D.faults disk.old ≤ D.faults disk.new }
+    ensures stays { OnOk result (D.faults disk.new ≡ D.faults disk.old) }
     ensures fault { IfErr result (λ fault. IsSizeFault limit (D.told disk.old) (D.faults disk.old) (D.faults disk.new) fault) }
+    ensures too_long { IfSome (D.told disk.old) (λ before. limit < length before → IsErrAnd result (IsLengthFault limit (D.faults disk.old) (D.faults disk.new))) }
+    ensures synced { MatchResult result (λ bytes. HasSynced (D.crashes disk.old) (D.crashes disk.new)) (λ fault. HasSyncedBefore fault (D.crashes disk.old) (D.crashes disk.new)) }
 {
     disk.sync()?;
     let size = disk.size()?;
@@ -82,7 +86,10 @@ fn look<D: Disk>(
     ensures settled { OnOk result (Settled (D.told disk.old) (D.crashes disk.new)) }
     ensures any_moment { LeavesOnly (D.crashes disk.old) (D.crashes disk.new) (D.crashes disk.old).leaves }
     ensures later { D.faults disk.old ≤ D.faults disk.new }
+    ensures stays { OnOk result (D.faults disk.new ≡ D.faults disk.old) }
     ensures fault { IfErr result (λ fault. IsLoadFault dialect limit (D.told disk.old) (D.faults disk.old) (D.faults disk.new) fault) }
+    ensures too_long { IfSome (D.told disk.old) (λ before. limit < length before → IsErrAnd result (IsLengthFault limit (D.faults disk.old) (D.faults disk.new))) }
+    ensures synced { MatchResult result (λ found. HasSynced (D.crashes disk.old) (D.crashes disk.new)) (λ fault. HasSyncedBefore fault (D.crashes disk.old) (D.crashes disk.new)) }
 {
     match contents(alloc, disk, limit) {
         Ok(bytes) => reading::read(alloc, dialect, limit, &bytes),
@@ -141,6 +148,13 @@ impl<D: Disk> Journal<D> {
         // Each fault has its cause.
         ensures fault { IfErr result (λ refused. IsLoadFault dialect limit (D.told disk) (D.faults disk) (D.faults refused.disk) refused.fault) }
         ensures later { MatchResult result (λ loaded. D.faults disk ≤ D.faults (disk_of loaded.0)) (λ refused. D.faults disk ≤ D.faults refused.disk) }
+        ensures stays { IfOk result (λ loaded. D.faults (disk_of loaded.0) ≡ D.faults disk) }
+
+        // A file that is longer than the limit is not taken into memory.
+        ensures too_long { IfSome (D.told disk) (λ bytes. limit < length bytes → IsErrAnd result (λ refused. IsLengthFault limit (D.faults disk) (D.faults refused.disk) refused.fault)) }
+
+        // It begins with a sync.
+        ensures synced { MatchResult result (λ loaded. HasSynced (D.crashes disk) (D.crashes (disk_of loaded.0))) (λ refused. HasSyncedBefore refused.fault (D.crashes disk) (D.crashes refused.disk)) }
 
         // After it a crash leaves what a read gives, and at each moment of it what one before it might have left.
         ensures settled { IfOk result (λ loaded. Settled (D.told (disk_of loaded.0)) (D.crashes (disk_of loaded.0))) }
@@ -196,6 +210,7 @@ impl<D: Disk> Journal<D> {
         ensures ready { OnOk result (IsReady (D.told (disk_of self.new)) self.new) }
         ensures opening { SameOpening self.old self.new }
         ensures used { OnOk result (used_of self.new ≡ used_of self.old + size_of entry.now) }
+        ensures used_stays { OnErr result (used_of self.new ≡ used_of self.old) }
         ensures added { OnOk result (option_map (journal_of (dialect_of self.old) (limit_of self.old)) (D.told (disk_of self.new))
             ≡ option_map (with_last (used_of self.old) entry.now) (option_map (journal_of (dialect_of self.old) (limit_of self.old)) (D.told (disk_of self.old)))) }
         ensures failed { OnErr result (IsSameOrMore (used_of self.old) entry.now (option_map (journal_of (dialect_of self.old) (limit_of self.old)) (D.told (disk_of self.old)))
@@ -219,6 +234,7 @@ impl<D: Disk> Journal<D> {
         ensures ready { OnOk result (IsReady (D.told (disk_of self.new)) self.new) }
         ensures opening { SameOpening self.old self.new }
         ensures used { OnOk result (used_of self.new ≡ used_of self.old + size_of entry.now) }
+        ensures used_stays { OnErr result (used_of self.new ≡ used_of self.old) }
         ensures added { OnOk result (option_map (journal_of (dialect_of self.old) (limit_of self.old)) (D.told (disk_of self.new))
             ≡ option_map (with_last (used_of self.old) entry.now) (option_map (journal_of (dialect_of self.old) (limit_of self.old)) (D.told (disk_of self.old)))) }
 
@@ -227,6 +243,7 @@ impl<D: Disk> Journal<D> {
         ensures unchanged { IfErr result (λ fault. IsFull fault → self.new ≡ self.old) }
         ensures fault { IfErr result (λ fault. IsAppendFault (used_of self.old) (size_of entry.now) (D.faults (disk_of self.old)) (D.faults (disk_of self.new)) fault) }
         ensures later { D.faults (disk_of self.old) ≤ D.faults (disk_of self.new) }
+        ensures stays { OnOk result (D.faults (disk_of self.new) ≡ D.faults (disk_of self.old)) }
 
         // One that fails leaves the entries before it, with the new one or without.
         ensures failed { OnErr result (IsSameOrMore (used_of self.old) entry.now (option_map (journal_of (dialect_of self.old) (limit_of self.old)) (D.told (disk_of self.old)))
@@ -256,6 +273,20 @@ impl<D: Disk> Journal<D> {
         ensures { result ≡ used_of self.now }
     {
         self.used
+    }
+
+    /// The dialect of the journal's texts.
+    pub fn dialect(&self) -> Dialect
+        ensures { result ≡ dialect_of self.now }
+    {
+        self.dialect
+    }
+
+    /// The greatest size of the file.
+    pub fn limit(&self) -> u64
+        ensures { result ≡ limit_of self.now }
+    {
+        self.limit
     }
 
     /// The disk as it is.

@@ -12,6 +12,3 @@ pub use encoded::EncodedEntry;
 pub use entry::Entry;
 pub use fault::{AppendFault, LoadFault};
 pub use journal::Journal;
-
-#[cfg(test)]
-mod tests;

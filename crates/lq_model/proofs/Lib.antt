@@ -53,3 +53,13 @@ pub mod ExamplesStatements
 pub mod Texts
 mod PlainText
 pub mod WentBack
+pub mod Columns
+pub mod Effects
+pub mod RowsTold
+pub mod WentOn
+pub mod PairsOf
+pub mod Told
+mod CutSteps
+pub mod ProgramMay
+pub mod DefaultNames
+pub mod Pushed

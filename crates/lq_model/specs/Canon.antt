@@ -1,6 +1,10 @@
 -- Canonical text: what a change is in one way of writing alone, so that its checksum tells it.
 use Rattle.std.specs.Prelude.{◌≡◌, ℕ, zero, suc, ◌+◌, ℤ, pos, negsuc, Bool, true, false, List, [], ◌∷◌, ◌++◌, length, map, codes, Option, Some, None}
 use Rattle.std.specs.Int.Digits.{digits_of}
+use Rattle.lq_base.specs.Kind.{kind_text}
+use Rattle.lq_base.specs.Number.{fixed_text}
+use Rattle.lq_base.specs.declared.dialect.Dialect.TheVariants.{Postgresql}
+use Rattle.lq_base.specs.declared.kind.Kind.{Kind}
 use Rattle.lq_model.specs.declared.canon.Begun.{Begun}
 
 -- a value of a change's key
@@ -19,6 +23,14 @@ mutual
   pub data CanonicalPairs : Type 0 where
     no_pairs : CanonicalPairs
     pair : List ℕ → CanonicalValue → CanonicalPairs → CanonicalPairs
+
+-- a kind is a text: its name in PostgreSQL
+abbrev pub kind_value : Kind → CanonicalValue
+kind_value kind = text (kind_text Postgresql kind)
+
+-- a decimal is a text: its units divided by ten to the power of its scale
+abbrev pub decimal_value : ℤ → ℕ → CanonicalValue
+decimal_value units scale = text (fixed_text units scale)
 
 -- a change: its type's name and its keys
 pub record CanonicalChange : Type 0 where

@@ -1,9 +1,10 @@
 -- The names of constraints and indexes that are not named.
-use Rattle.std.specs.Prelude.{ℕ, zero, suc, if◌then◌else◌, List, [], ◌++◌, take, codes}
-use Rattle.std.specs.List.{flat_map}
+use Rattle.std.specs.Prelude.{◌≡◌, ◌&&◌, ◌==◌, ℕ, zero, suc, nat_le, Bool, true, if◌then◌else◌, List, [], ◌++◌, length, take, codes}
+use Rattle.std.specs.List.{flat_map, list_all}
 use Rattle.std.specs.Str.{is_utf8}
 use Rattle.lq_base.specs.declared.dialect.Dialect.{Dialect}
 use Rattle.lq_base.specs.declared.dialect.Dialect.TheVariants.{Postgresql, Mysql}
+use Rattle.lq_base.specs.Name.{is_name}
 use Rattle.lq_base.specs.declared.name.Name.{Name}
 use Rattle.lq_model.specs.Sound.{primary}
 
@@ -11,6 +12,10 @@ use Rattle.lq_model.specs.Sound.{primary}
 unfoldable pub cut : ℕ → List ℕ → List ℕ
 cut zero bytes = []
 cut (suc most) bytes = if is_utf8 (take (suc most) bytes) then take (suc most) bytes else cut most bytes
+
+-- two small letters and `_`
+abbrev pub is_prefix : List ℕ → Bool
+is_prefix bytes = length bytes == 3 && list_all (λ byte. nat_le 95 byte && nat_le byte 122) bytes
 
 -- `PREFIX_TABLE`, with one `_COLUMN` for each column
 abbrev pub default_name : List ℕ → Name → List Name → Name
@@ -28,3 +33,15 @@ unique_name table columns = default_name (codes "uq_") table columns
 -- a foreign key's
 unfoldable pub foreign_name : Name → List Name → Name
 foreign_name table columns = default_name (codes "fk_") table columns
+
+-- an index's
+unfoldable pub index_name : Name → List Name → Name
+index_name table columns = default_name (codes "ix_") table columns
+
+-- each of them is a name where the table's and the columns' are
+abbrev pub DefaultNamesAreNames : Type 0
+DefaultNamesAreNames = (d : Dialect) (table : Name) (columns : List Name) → is_name table ≡ true → list_all is_name columns ≡ true
+    → (is_name (key_name d table) ≡ true)
+    × (is_name (unique_name table columns) ≡ true)
+    × (is_name (foreign_name table columns) ≡ true)
+    × (is_name (index_name table columns) ≡ true)

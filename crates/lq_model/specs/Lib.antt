@@ -59,3 +59,7 @@ pub mod SqlTable
 pub mod SqlTest
 pub mod SqlText
 pub mod SqlWord
+pub mod Effect
+pub mod Written
+pub mod ByProgram
+pub mod Commits

@@ -1,5 +1,5 @@
 -- What an SQL text means: the one statement, query or test that is spelled so, or none.
-use Rattle.std.specs.Prelude.{ℕ, List, Option, Some, None}
+use Rattle.std.specs.Prelude.{◌≡◌, ℕ, List, Option, Some, None, true}
 use Rattle.std.specs.Option.{option_and_then}
 use Rattle.lq_base.specs.declared.dialect.Dialect.{Dialect}
 use Rattle.lq_model.specs.SqlParser.{Outcome, Parser, to_end}
@@ -7,6 +7,7 @@ use Rattle.lq_model.specs.SqlQuery.{query}
 use Rattle.lq_model.specs.SqlStatement.{statement}
 use Rattle.lq_model.specs.SqlTest.{any_test}
 use Rattle.lq_model.specs.SqlWord.{words}
+use Rattle.lq_model.specs.Statement.{is_query, is_statement, is_where}
 use Rattle.lq_model.specs.declared.query.Query.{Query}
 use Rattle.lq_model.specs.declared.statement.Statement.{Statement}
 use Rattle.lq_model.specs.declared.test.Test.{Test}
@@ -27,3 +28,15 @@ query_in d text = whole query d text
 
 unfoldable pub statement_in : Dialect → List ℕ → Option Statement
 statement_in d text = whole (statement d) d text
+
+-- what is read is a statement of the dialect
+abbrev pub StatementsAreSpelled : Dialect → Type 0
+StatementsAreSpelled d = (text : List ℕ) (s : Statement) → statement_in d text ≡ Some s → is_statement d s ≡ true
+
+-- so is a query
+abbrev pub QueriesAreSpelled : Dialect → Type 0
+QueriesAreSpelled d = (text : List ℕ) (q : Query) → query_in d text ≡ Some q → is_query q ≡ true
+
+-- so is a test
+abbrev pub TestsAreSpelled : Dialect → Type 0
+TestsAreSpelled d = (text : List ℕ) (t : Test) → test_in d text ≡ Some t → is_where (Some t) ≡ true

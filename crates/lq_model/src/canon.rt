@@ -1,8 +1,8 @@
 ghost use Rattle.std.specs.Prelude.{◌≡◌, ◌++◌, ◌∷◌, [], IfOk, OnOk, OnErr, Some, codes, length, string_bytes};
-ghost use Rattle.lq_model.specs.Canon.{GoesOn, Writing, atom, canonical, innermost, number, numeral, signed_numeral, text, truth, without_innermost};
+ghost use Rattle.lq_model.specs.Canon.{GoesOn, Writing, atom, canonical, decimal_value, innermost, kind_value, number, numeral, signed_numeral, text, truth, without_innermost};
 ghost use Rattle.lq_model.specs.declared.canon.Begun.TheVariants as begun_of;
 
-use lq_base::NoMemory;
+use lq_base::{Dialect, Kind, NoMemory, Text, append_fixed};
 use std::alloc::Global;
 use std::marker::Model;
 
@@ -154,6 +154,30 @@ impl Canon {
         Ok(())
     }
 
+    /// A kind, as the text that is its name in PostgreSQL.
+    pub fn kind(&mut self, kind: Kind) -> Result<(), NoMemory>
+        ensures written { OnOk result (self.new.written ≡ self.old.written ++ canonical (kind_value kind)) }
+        ensures begun { self.new.begun ≡ self.old.begun }
+        ensures unchanged { OnErr result (self.new ≡ self.old) }
+    {
+        let mut name = Text::new(*self.written.allocator(), "")?;
+        kind.append_to(Dialect::Postgresql, &mut name)?;
+        append_atom(&mut self.written, "t", name.as_str())
+    }
+
+    /// A decimal, `units` divided by ten to the power `scale`, as the text with `scale` digits after
+    /// the dot.
+    pub fn decimal(&mut self, units: i128, scale: u8) -> Result<(), NoMemory>
+        ensures written { OnOk result (self.new.written ≡ self.old.written ++ canonical (decimal_value units scale)) }
+        ensures begun { self.new.begun ≡ self.old.begun }
+        ensures unchanged { OnErr result (self.new ≡ self.old) }
+    {
+        let alloc = *self.written.allocator();
+        let mut number = Text::new(alloc, "")?;
+        append_fixed(alloc, units, scale, &mut number)?;
+        append_atom(&mut self.written, "t", number.as_str())
+    }
+
     fn begin(&mut self, begun: Begun, mark: u8) -> Result<(), NoMemory>
         ensures written { OnOk result (self.new.written ≡ self.old.written ++ mark ∷ []) }
         ensures begun { OnOk result (self.new.begun ≡ begun ∷ self.old.begun) }
@@ -212,72 +236,4 @@ fn append_both(bytes: &mut Vec<u8>, head: &[u8], tail: &[u8]) -> Result<(), NoMe
         return Err(NoMemory);
     }
     Ok(())
-}
-
-#[cfg(test)]
-mod tests {
-    use super::*;
-    use std::test::Fail;
-
-    // One change with each sort of value, in a list.
-    #[test]
-    fn writes_the_canonical_form(rt: HostRuntime) -> Result<(), Fail> {
-        let mut canon = Canon::new(rt.alloc());
-        canon.begin_list()?;
-        canon.key("dropTable")?;
-        canon.begin_map()?;
-        canon.key("tableName")?;
-        canon.text("größer t")?;
-        canon.key("empty")?;
-        canon.text("")?;
-        canon.key("list")?;
-        canon.begin_list()?;
-        canon.number(0)?;
-        canon.number(-170141183460469231731687303715884105728)?;
-        canon.number(1000000)?;
-        canon.end_list()?;
-        canon.key("yes")?;
-        canon.truth(true)?;
-        canon.key("no")?;
-        canon.truth(false)?;
-        canon.end_map()?;
-        canon.end_list()?;
-        let wanted =
-            "[9:dropTable{9:tableNamet10:größer t5:emptyt0:4:list[n1:0n40:-170141183460469231731687303715884105728n7:1000000]3:yesb12:nob0}]";
-        assert_eq!(rt; canon.written(), wanted.as_bytes());
-        Ok(())
-    }
-
-    #[test]
-    fn goes_back_to_a_mark(rt: HostRuntime) -> Result<(), Fail> {
-        let mut canon = Canon::new(rt.alloc());
-        canon.begin_list()?;
-        let mark = canon.mark();
-        canon.key("dropTable")?;
-        canon.begin_map()?;
-        canon.go_back(mark);
-        assert_eq!(rt; canon.mark().begun, 1);
-        canon.text("t")?;
-        assert_eq!(rt; canon.written(), "[t1:t".as_bytes());
-        Ok(())
-    }
-
-    #[test]
-    fn writes_a_dropped_table(rt: HostRuntime) -> Result<(), Fail> {
-        let mut canon = Canon::new(rt.alloc());
-        assert!(rt; canon.written().is_empty());
-        canon.begin_list()?;
-        canon.key("dropTable")?;
-        canon.begin_map()?;
-        canon.key("tableName")?;
-        canon.text("t")?;
-        canon.end_map()?;
-        canon.end_list()?;
-        assert_eq!(rt;
-            canon.written(),
-            "[9:dropTable{9:tableNamet1:t}]".as_bytes()
-        );
-        assert_eq!(rt; canon.written().len(), 30);
-        Ok(())
-    }
 }

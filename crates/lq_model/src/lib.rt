@@ -1,15 +1,20 @@
 //! Statements, queries and tests as plain data, what they mean, and the laws of taking them back.
 #![tactic(auto)]
 
+mod append;
+mod by_program;
 mod caller;
 mod canon;
 mod canon_laws;
 mod change;
 mod column;
 mod constraint;
+mod default_name;
 mod fault;
+mod field;
 mod index;
 mod keeps_sound;
+mod kinds;
 mod look;
 mod no_row;
 mod phrase;
@@ -21,7 +26,10 @@ mod takes_back;
 mod test;
 mod view_queries;
 mod word;
+mod written;
 
+pub use append::append_all;
+pub use by_program::program_may_do_what_users_may;
 pub use caller::{By, ByText, Room};
 pub use canon::{Begun, Canon, Mark};
 pub use canon_laws::{
@@ -30,9 +38,12 @@ pub use canon_laws::{
 pub use change::{Change, Undo};
 pub use column::{Column, ColumnDef};
 pub use constraint::{ForeignKey, Key, Unique};
+pub use default_name::{default_names_are_names, foreign_name, index_name, key_name, unique_name};
 pub use fault::{AskFault, KindFault, ParseFault, StoreFault};
+pub use field::{Field, kind_field, name_field, text_field, truth_field};
 pub use index::Index;
 pub use keeps_sound::statement_keeps_sound;
+pub use kinds::are_equal;
 pub use look::Look;
 pub use no_row::update_of_no_row_changes_nothing;
 pub use phrase::Phrase;
@@ -52,3 +63,4 @@ pub use takes_back::{
 pub use test::{Op, Operand, Test};
 pub use view_queries::views_answer;
 pub use word::{SPELLINGS, Word, WordKind};
+pub use written::{Fields, MapAt, MapsAt, Written, write_change, write_change_of};

@@ -14,6 +14,7 @@ use std::alloc::Global;
 /// How the statements, queries and tests of one dialect are written and read.
 pub trait SqlText {
     ghost use Rattle.lq_base.specs.declared.dialect.Dialect.{Dialect};
+    ghost use Rattle.lq_model.specs.SqlText.{QueriesAreSpelled, StatementsAreSpelled, TestsAreSpelled};
 
     ghost dialect: { Dialect };
 
@@ -33,4 +34,13 @@ pub trait SqlText {
     /// The test that a text spells. `NotSql` exactly where it spells none.
     fn parse_test(&self, alloc: Global, text: &str) -> Result<Test, ParseFault>
         ensures { Gives (test_in dialect text.now) result };
+
+    /// A statement that is read is one of the dialect, so it can be printed.
+    ghost spelled: { StatementsAreSpelled dialect };
+
+    /// A query that is read can be written.
+    ghost queries_spelled: { QueriesAreSpelled dialect };
+
+    /// A test that is read can be written.
+    ghost tests_spelled: { TestsAreSpelled dialect };
 }

@@ -1,9 +1,12 @@
+ghost use Rattle.std.specs.Prelude.{◌≡◌};
+ghost use Rattle.lq_model.specs.Commits.{commits_itself};
+
 use crate::column::ColumnDef;
 use crate::constraint::{ForeignKey, Key, Unique};
 use crate::index::Index;
 use crate::query::Query;
 use crate::test::Test;
-use lq_base::{Items, Kind, Literal, Name};
+use lq_base::{Dialect, Items, Kind, Literal, Name};
 
 /// What the engine runs. Which of these a dialect has, and how they are spelled, the spellings say.
 #[derive(Debug, Drop)]
@@ -144,4 +147,17 @@ pub enum Statement {
         table: Name,
         test: Option<Test>,
     },
+}
+
+impl Statement {
+    /// Whether it commits by itself: under MySQL, unless it is of rows.
+    #[tactic(auto, unfolding(crate::specs::Commits::commits_itself))]
+    pub fn commits_itself(&self, dialect: Dialect) -> bool
+        ensures { result ≡ commits_itself dialect self.now }
+    {
+        match self {
+            Statement::Insert { .. } | Statement::Update { .. } | Statement::Delete { .. } => false,
+            _ => dialect == Dialect::Mysql,
+        }
+    }
 }

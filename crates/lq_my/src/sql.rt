@@ -10,7 +10,10 @@ use std::alloc::Global;
 pub struct My;
 
 impl SqlText for My {
+    ghost use Rattle.lq_base.proofs.NumberSpelled.{number_of-spells};
     ghost use Rattle.lq_base.specs.declared.dialect.Dialect.TheVariants.{Mysql};
+    ghost use Rattle.lq_parse.proofs.CanWrite.{queries_can, tests_can};
+    ghost use Rattle.lq_statement.proofs.StatementMakes.{statements_can};
 
     ghost dialect = { Mysql };
 
@@ -29,4 +32,10 @@ impl SqlText for My {
     fn parse_test(&self, alloc: Global, text: &str) -> Result<Test, ParseFault> {
         parse_test(alloc, Dialect::Mysql, text)
     }
+
+    ghost spelled = { statements_can number_of-spells Mysql };
+
+    ghost queries_spelled = { queries_can number_of-spells Mysql };
+
+    ghost tests_spelled = { tests_can number_of-spells Mysql };
 }

@@ -1,4 +1,4 @@
-ghost use Rattle.std.specs.Prelude.{◌≡◌, ◌≤◌, ℕ, List, Option, IfSome, IfOk, IsErrOf};
+ghost use Rattle.std.specs.Prelude.{◌≡◌, ◌≤◌, ℕ, List, Option, IfSome, IfOk, IsErrOf, OnOk};
 ghost use Rattle.lq_outside.specs.Count.{Rose};
 ghost use Rattle.lq_outside.specs.Folder.{IsFound, IsListing, IsWithinLimit};
 ghost use Rattle.lq_outside.specs.declared.files.FilesFault.TheVariants.{Failed};
@@ -40,7 +40,8 @@ pub trait Files {
         ensures limit { IfOk result IsWithinLimit }
         ensures told { told self.new ≡ told self.old }
         ensures later { faults self.old ≤ faults self.new }
-        ensures failed { IsErrOf result Failed → Rose (faults self.old) (faults self.new) };
+        ensures failed { IsErrOf result Failed → Rose (faults self.old) (faults self.new) }
+        ensures stays { OnOk result (faults self.new ≡ faults self.old) };
 
     /// The paths of all files under a folder, subfolders included, in any order. They begin with the
     /// folder and a `/`. The empty text is the current folder, under which lie the paths that do not
@@ -49,5 +50,6 @@ pub trait Files {
         ensures listing { IfSome (told self.old) (λ files. IfOk result (IsListing files folder.now)) }
         ensures told { told self.new ≡ told self.old }
         ensures later { faults self.old ≤ faults self.new }
-        ensures failed { IsErrOf result Failed → Rose (faults self.old) (faults self.new) };
+        ensures failed { IsErrOf result Failed → Rose (faults self.old) (faults self.new) }
+        ensures stays { OnOk result (faults self.new ≡ faults self.old) };
 }

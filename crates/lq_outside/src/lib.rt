@@ -19,8 +19,6 @@ mod sink;
 mod sure_disk;
 mod sure_files;
 mod sure_sink;
-#[cfg(test)]
-mod tests;
 
 pub use clock::Clock;
 pub use disk::{Disk, DiskFailed};

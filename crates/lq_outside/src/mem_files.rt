@@ -1,4 +1,4 @@
-ghost use Rattle.std.specs.Prelude.{◌≡◌, ◌≤◌, ◌↔◌, Some, IfSome, IfOk, IsErrOf, IsTrue};
+ghost use Rattle.std.specs.Prelude.{◌≡◌, ◌≤◌, ◌↔◌, Some, IfSome, IfOk, IsErrOf, IsTrue, OnOk};
 ghost use Rattle.lq_outside.specs.Count.{Rose};
 ghost use Rattle.lq_outside.specs.Folder.{held_in, IsFound, IsListing, IsWithinLimit};
 ghost use Rattle.lq_outside.specs.Plan.{fails, plan_of_files, GoesOn, Starts};
@@ -41,6 +41,7 @@ impl Files for MemFiles {
         ensures told { ⟦<MemFiles as Files>⟧.told self.new ≡ ⟦<MemFiles as Files>⟧.told self.old }
         ensures later { ⟦<MemFiles as Files>⟧.faults self.old ≤ ⟦<MemFiles as Files>⟧.faults self.new }
         ensures failed { IsErrOf result Failed → Rose (⟦<MemFiles as Files>⟧.faults self.old) (⟦<MemFiles as Files>⟧.faults self.new) }
+        ensures stays { OnOk result (⟦<MemFiles as Files>⟧.faults self.new ≡ ⟦<MemFiles as Files>⟧.faults self.old) }
         ensures planned { IsErrOf result Failed ↔ IsTrue (fails (plan_of_files self.old)) }
         ensures plan { GoesOn (plan_of_files self.old) (plan_of_files self.new) }
     {
@@ -53,6 +54,7 @@ impl Files for MemFiles {
         ensures told { ⟦<MemFiles as Files>⟧.told self.new ≡ ⟦<MemFiles as Files>⟧.told self.old }
         ensures later { ⟦<MemFiles as Files>⟧.faults self.old ≤ ⟦<MemFiles as Files>⟧.faults self.new }
         ensures failed { IsErrOf result Failed → Rose (⟦<MemFiles as Files>⟧.faults self.old) (⟦<MemFiles as Files>⟧.faults self.new) }
+        ensures stays { OnOk result (⟦<MemFiles as Files>⟧.faults self.new ≡ ⟦<MemFiles as Files>⟧.faults self.old) }
         ensures planned { IsErrOf result Failed ↔ IsTrue (fails (plan_of_files self.old)) }
         ensures plan { GoesOn (plan_of_files self.old) (plan_of_files self.new) }
     {

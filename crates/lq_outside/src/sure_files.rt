@@ -1,4 +1,4 @@
-ghost use Rattle.std.specs.Prelude.{◌≡◌, ◌≤◌, Some, IfSome, IfOk, IsErrOf};
+ghost use Rattle.std.specs.Prelude.{◌≡◌, ◌≤◌, Some, IfSome, IfOk, IsErrOf, OnOk};
 ghost use Rattle.lq_outside.specs.Count.{Rose};
 ghost use Rattle.lq_outside.specs.Folder.{held_in, IsFound, IsListing, IsWithinLimit};
 ghost use Rattle.lq_outside.specs.declared.files.FilesFault.TheVariants.{Failed};
@@ -35,6 +35,7 @@ impl Files for SureFiles {
         ensures told { ⟦<SureFiles as Files>⟧.told self.new ≡ ⟦<SureFiles as Files>⟧.told self.old }
         ensures later { ⟦<SureFiles as Files>⟧.faults self.old ≤ ⟦<SureFiles as Files>⟧.faults self.new }
         ensures failed { IsErrOf result Failed → Rose (⟦<SureFiles as Files>⟧.faults self.old) (⟦<SureFiles as Files>⟧.faults self.new) }
+        ensures stays { OnOk result (⟦<SureFiles as Files>⟧.faults self.new ≡ ⟦<SureFiles as Files>⟧.faults self.old) }
         ensures sure { IsErrOf result Failed → ⊥ }
     {
         match find(self.alloc, self.files.as_slice(), path) {
@@ -48,6 +49,7 @@ impl Files for SureFiles {
         ensures told { ⟦<SureFiles as Files>⟧.told self.new ≡ ⟦<SureFiles as Files>⟧.told self.old }
         ensures later { ⟦<SureFiles as Files>⟧.faults self.old ≤ ⟦<SureFiles as Files>⟧.faults self.new }
         ensures failed { IsErrOf result Failed → Rose (⟦<SureFiles as Files>⟧.faults self.old) (⟦<SureFiles as Files>⟧.faults self.new) }
+        ensures stays { OnOk result (⟦<SureFiles as Files>⟧.faults self.new ≡ ⟦<SureFiles as Files>⟧.faults self.old) }
         ensures sure { IsErrOf result Failed → ⊥ }
     {
         match paths_under(self.alloc, self.files.as_slice(), folder) {

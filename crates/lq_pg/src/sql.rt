@@ -10,7 +10,10 @@ use std::alloc::Global;
 pub struct Pg;
 
 impl SqlText for Pg {
+    ghost use Rattle.lq_base.proofs.NumberSpelled.{number_of-spells};
     ghost use Rattle.lq_base.specs.declared.dialect.Dialect.TheVariants.{Postgresql};
+    ghost use Rattle.lq_parse.proofs.CanWrite.{queries_can, tests_can};
+    ghost use Rattle.lq_statement.proofs.StatementMakes.{statements_can};
 
     ghost dialect = { Postgresql };
 
@@ -29,4 +32,10 @@ impl SqlText for Pg {
     fn parse_test(&self, alloc: Global, text: &str) -> Result<Test, ParseFault> {
         parse_test(alloc, Dialect::Postgresql, text)
     }
+
+    ghost spelled = { statements_can number_of-spells Postgresql };
+
+    ghost queries_spelled = { queries_can number_of-spells Postgresql };
+
+    ghost tests_spelled = { tests_can number_of-spells Postgresql };
 }

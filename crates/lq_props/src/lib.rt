@@ -4,8 +4,6 @@
 mod props;
 mod replacing;
 mod scope;
-#[cfg(test)]
-mod tests;
 mod values;
 
 pub use props::Props;

@@ -1,7 +1,8 @@
 ghost use Rattle.std.specs.Prelude.{◌≡◌, ℕ, List, None, OnOk, OnErr, IfOk, option_map};
 ghost use Rattle.lq_props.specs.declared.scope.Scope.{Scope};
-ghost use Rattle.lq_props.specs.Props.{own, value_of, defines};
 ghost use Rattle.lq_props.specs.Replaced.{replaced};
+ghost use Rattle.lq_props.specs.Values.{NoLonger};
+ghost use Rattle.std.proofs.Props.{props};
 
 use crate::replacing::append_replaced;
 use crate::scope::Scope;
@@ -17,9 +18,14 @@ pub struct Props {
     command: IndexMap<String, String>,
     files: IndexMap<String, IndexMap<String, String>>,
     global: IndexMap<String, String>,
+    // The most bytes that a name has had: a longer one needs no look.
+    longest: usize,
+    ghost no_longer: { NoLonger command files global longest } by { Prim.hlevel props },
 }
 
 impl Props {
+    ghost use Rattle.lq_props.specs.Props.{own, value_of, defines};
+
     /// No name has a value.
     pub fn new(alloc: Global) -> Props
         ensures { (scope : Scope) (name : List ℕ) → own result scope name ≡ None }
@@ -28,6 +34,7 @@ impl Props {
             command: IndexMap::new(alloc),
             files: IndexMap::new(alloc),
             global: IndexMap::new(alloc),
+            longest: 0,
         }
     }
 
@@ -44,6 +51,7 @@ impl Props {
             ≡ defines (own self.old) scope name.now value.now s n) }
         ensures err { OnErr result ((s : Scope) (n : List ℕ) → own self.new s n ≡ own self.old s n) }
     {
+        self.longest = self.longest.max(name.len());
         match scope {
             Scope::Command => define_in(&mut self.command, alloc, name, value),
             Scope::File(file) => {
@@ -58,6 +66,9 @@ impl Props {
     pub fn value(&self, file: &str, name: &str) -> Option<&str>
         ensures { option_map (λ value. value.now) result ≡ value_of self.now file.now name.now }
     {
+        if name.len() > self.longest {
+            return None;
+        }
         if let Some(value) = value_in(&self.command, name) {
             return Some(value);
         }

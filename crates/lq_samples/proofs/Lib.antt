@@ -1,4 +1,2 @@
 pub mod Lower
-pub mod Pushed
 pub mod FrontSpaces
-pub mod WentOn

@@ -41,4 +41,10 @@ impl<P: SqlText> SqlText for Trimmed<P> {
     fn parse_test(&self, alloc: Global, text: &str) -> Result<Test, ParseFault> {
         self.reader.parse_test(alloc, without_spaces(text))
     }
+
+    ghost spelled = { P.spelled };
+
+    ghost queries_spelled = { P.queries_spelled };
+
+    ghost tests_spelled = { P.tests_spelled };
 }

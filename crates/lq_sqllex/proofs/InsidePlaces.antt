@@ -1,12 +1,12 @@
--- A delimiter in a piece stands inside a string, quoted name or comment.
-use Rattle.std.proofs.Common.{◌≡◌, ◌<◌, ℕ, zero, suc, ◌+◌, ◌-◌, Bool, true, false, if◌then◌else◌, List, [], ◌∷◌, ◌++◌, length, take, drop, Some, ◌∙◌, ap, sym, subst, refl, arith, inl, inr, length-append}
+-- A delimiter in a piece begins in a string, quoted name or comment.
+use Rattle.std.proofs.Common.{◌≡◌, ◌<◌, ℕ, zero, suc, ◌+◌, ◌-◌, ◌&&◌, not, Bool, true, false, if◌then◌else◌, List, [], ◌∷◌, ◌++◌, length, take, drop, Some, ◌∙◌, ap, sym, subst, refl, arith, inl, inr, length-append}
 use Rattle.std.proofs.lemmas.Bool.{cases_lt}
 use Rattle.std.proofs.lemmas.List.{length-take, length-take-le}
 use Rattle.lq_base.specs.declared.dialect.Dialect.{Dialect}
 use Rattle.lq_base.specs.SqlByte.{begins}
 use Rattle.lq_sqllex.specs.Laws.{IsInside, DelimitersAreInside}
 use Rattle.lq_base.specs.SqlLexeme.{sort_at, length_at}
-use Rattle.lq_sqllex.specs.Pieces.{is_enclosed, together, unit_at, onto, between, cut}
+use Rattle.lq_sqllex.specs.Pieces.{is_enclosed, is_delimited, together, unit_at, onto, between, cut}
 use Rattle.lq_base.specs.Units.{units}
 use Rattle.lq_sqllex.proofs.PieceOrder.{Units, front_of, nothing_left}
 use Rattle.lq_sqllex.proofs.WholeText.{map_some}
@@ -17,17 +17,22 @@ inside_next d b rest place is = record {
   count = is.count;
   enclosed = is.enclosed;
   closed = is.closed;
-  after_begin = omega (arith, is.after_begin);
+  from_begin = omega (arith, is.from_begin);
   before_end = omega (arith, is.before_end);
 }
 
--- in the first unit, not at its front
-inside_front : (d : Dialect) (text : List ℕ) (count place : ℕ) → together d text ≡ Some count → 0 < place → place < count → IsInside d text place
-inside_front d text count place whole some within =
-    elim (is_enclosed (sort_at d text)) as (λ enclosed. is_enclosed (sort_at d text) ≡ enclosed → (if enclosed then length_at d text else Some 1) ≡ Some count → IsInside d text place) [
-      | true ↦ λ enclosed closed. record { begin = 0; count = count; enclosed = enclosed; closed = closed; after_begin = some; before_end = omega arith }
-      | false ↦ λ single one. (let same : 1 ≡ count = cc in absurd (omega arith))
-    ] refl whole
+-- in the first unit, which is no delimiter
+inside_front : (d : Dialect) (delimiter text : List ℕ) (count place : ℕ) → together d text ≡ Some count → place < count → is_delimited d delimiter text ≡ false
+    → begins delimiter (drop place text) ≡ true → IsInside d text place
+inside_front d delimiter text count place whole within other there =
+    elim (is_enclosed (sort_at d text)) as (λ enclosed. is_enclosed (sort_at d text) ≡ enclosed → (if enclosed then length_at d text else Some 1) ≡ Some count
+    → (not enclosed && begins delimiter text) ≡ false → IsInside d text place) [
+      | true ↦ λ enclosed closed _. record { begin = 0; count = count; enclosed = enclosed; closed = closed; from_begin = omega arith; before_end = omega arith }
+      | false ↦ λ single one none. (let same : 1 ≡ count = cc in
+          let first : place ≡ 0 = omega arith in
+          let here : begins delimiter text ≡ true = subst (λ n. begins delimiter (drop n text) ≡ true) first there in
+          absurd (cc))
+    ] refl whole other
 
 -- a first piece before which some bytes stand
 first_taken_off : {P : Type 0} (bytes : List ℕ) (ps : List (List ℕ)) (piece : List ℕ) (more : List (List ℕ)) → onto bytes ps ≡ piece ∷ more
@@ -65,12 +70,8 @@ inside d delimiter some zero (b ∷ rest) found piece more place e cuts within t
           let here : zero + place ≡ place = omega arith in
           let begins_here : begins delimiter (drop place (b ∷ rest)) ≡ true = subst (λ n. begins delimiter (drop n (b ∷ rest)) ≡ true) here there in
           elim (cases_lt place unit.1) [
-            | inl front_place ↦ elim (cases_lt 0 place) [
-              | inl later ↦ subst (IsInside d (b ∷ rest)) (sym here) (inside_front d (b ∷ rest) unit.1 place (front.is.other other).1 later front_place)
-              | inr first ↦ (let zeroth : place ≡ 0 = omega arith in
-                  let yes : begins delimiter (b ∷ rest) ≡ true = subst (λ n. begins delimiter (drop n (b ∷ rest)) ≡ true) zeroth begins_here in
-                  let no_delimiter : begins delimiter (b ∷ rest) ≡ false = (front.is.other other).0 in absurd (cc))
-            ]
+            | inl front_place ↦ subst (IsInside d (b ∷ rest)) (sym here)
+                (inside_front d delimiter (b ∷ rest) unit.1 place (front.is.other other).1 front_place (front.is.other other).0 begins_here)
             | inr behind ↦ first_taken_off (take unit.1 (b ∷ rest)) (between left) piece more is (λ first others ps long.
                 elim (cases_lt (length rest) unit.1) [
                   | inl beyond ↦ (let none : left ≡ [] = nothing_left (unit_at d delimiter) (unit.1 - 1) rest left (omega arith) front.left in

@@ -1,5 +1,5 @@
 -- What the pieces of a text are, after some are found and one has begun.
-use Rattle.std.proofs.Common.{◌≡◌, ◌≤◌, ◌<◌, ℕ, ◌+◌, ◌-◌, Bool, true, false, if◌then◌else◌, List, [], ◌∷◌, ◌++◌, length, take, drop, Option, Some, None, ◌∙◌, ap, sym, refl, arith, length-append, length-drop, append_assoc}
+use Rattle.std.proofs.Common.{◌≡◌, ◌≤◌, ◌<◌, ℕ, ◌+◌, ◌-◌, ◌&&◌, Bool, true, false, if◌then◌else◌, List, [], ◌∷◌, ◌++◌, length, take, drop, Option, Some, None, ◌∙◌, ap, sym, refl, arith, length-append, length-drop, append_assoc}
 use Rattle.std.specs.Prelude.{option_map, not}
 use Rattle.std.proofs.Math.Seq.{take-add}
 use Rattle.std.proofs.lemmas.List.{append-nil, drop-drop}
@@ -8,9 +8,9 @@ use Rattle.std.proofs.lemmas.Bool.Decides.{Decides-eqb}
 use Rattle.std.proofs.lemmas.Slice.Eq.{starts_is}
 use Rattle.lq_base.specs.declared.dialect.Dialect.{Dialect}
 use Rattle.lq_base.specs.SqlByte.{begins}
-use Rattle.lq_base.specs.SqlLexeme.{is_trivia}
+use Rattle.lq_base.specs.SqlLexeme.{sort_at, is_trivia}
 use Rattle.lq_base.specs.Units.{units}
-use Rattle.lq_sqllex.specs.Pieces.{together, unit_at, onto, between, cut, kept, pieces}
+use Rattle.lq_sqllex.specs.Pieces.{is_enclosed, is_delimited, together, unit_at, onto, between, cut, kept, pieces}
 use Rattle.lq_sqllex.proofs.UnitSteps.{units_front, units_open}
 
 abbrev Units : Type 0
@@ -51,6 +51,13 @@ past_one d found begun us =
 pub begins_with : (delimiter left : List ℕ) → begins delimiter left ≡ true → left ≡ delimiter ++ drop (length delimiter) left
 begins_with delimiter left there = (starts_is Decides-eqb left delimiter (begins delimiter left) refl).0 there
 
+both_second : (a b : Bool) → (a && b) ≡ true → b ≡ true
+both_second true b both = both
+both_second false b both = absurd (cc)
+
+pub delimiter_begins : (d : Dialect) (delimiter text : List ℕ) → is_delimited d delimiter text ≡ true → begins delimiter text ≡ true
+delimiter_begins d delimiter text there = both_second (not (is_enclosed (sort_at d text))) (begins delimiter text) there
+
 pub going_begins : (d : Dialect) (text delimiter : List ℕ) → pieces d text delimiter ≡ going d delimiter [] [] text
 unfolding pieces cut
 going_begins d text delimiter =
@@ -59,13 +66,13 @@ going_begins d text delimiter =
 pub going_ends : (d : Dialect) (delimiter : List ℕ) (found : List (List ℕ)) (begun : List ℕ) → going d delimiter found begun [] ≡ Some (found ++ kept d (begun ∷ []))
 going_ends d delimiter found begun = ap (λ z. Some (found ++ kept d (z ∷ []))) (append-nil begun)
 
-pub going_open : (d : Dialect) (delimiter : List ℕ) (found : List (List ℕ)) (begun left : List ℕ) → begins delimiter left ≡ false → together d left ≡ None → 0 < length left
+pub going_open : (d : Dialect) (delimiter : List ℕ) (found : List (List ℕ)) (begun left : List ℕ) → is_delimited d delimiter left ≡ false → together d left ≡ None → 0 < length left
     → going d delimiter found begun left ≡ None
 going_open d delimiter found begun left other unclosed some =
     let here : unit_at d delimiter left ≡ None = rw (other, unclosed) refl in
     ap (option_map (λ us. found ++ kept d (onto begun (between us)))) (units_open (unit_at d delimiter) left here some)
 
-pub going_on : (d : Dialect) (delimiter : List ℕ) (found : List (List ℕ)) (begun left : List ℕ) (count : ℕ) → begins delimiter left ≡ false → together d left ≡ Some count
+pub going_on : (d : Dialect) (delimiter : List ℕ) (found : List (List ℕ)) (begun left : List ℕ) (count : ℕ) → is_delimited d delimiter left ≡ false → together d left ≡ Some count
     → 0 < count → count ≤ length left
     → going d delimiter found begun left ≡ going d delimiter found (begun ++ take count left) (drop count left)
 going_on d delimiter found begun left count other closed some within =
@@ -75,14 +82,14 @@ going_on d delimiter found begun left count other closed some within =
     ∙ map_map (λ us. found ++ kept d (onto begun (between us))) (λ us. (false, take count left) ∷ us) left_units
     ∙ map_alike _ _ left_units (λ us. ap (λ ps. found ++ kept d ps) (onto_onto begun (take count left) (between us)))
 
-pub going_past : (d : Dialect) (delimiter : List ℕ) (found : List (List ℕ)) (begun left : List ℕ) → begins delimiter left ≡ true → 0 < length delimiter
+pub going_past : (d : Dialect) (delimiter : List ℕ) (found : List (List ℕ)) (begun left : List ℕ) → is_delimited d delimiter left ≡ true → 0 < length delimiter
     → going d delimiter found begun left ≡ going d delimiter (found ++ kept d (begun ∷ [])) [] (drop (length delimiter) left)
 going_past d delimiter found begun left there some =
     let here : unit_at d delimiter left ≡ Some (true, length delimiter) = rw there refl in
     let count = length delimiter in
     let left_units = units (unit_at d delimiter) 0 (drop count left) in
     ap (option_map (λ us. found ++ kept d (onto begun (between us))))
-    (units_front (unit_at d delimiter) left true count here some (omega (arith, ap length (begins_with delimiter left there), length-append delimiter (drop count left))))
+    (units_front (unit_at d delimiter) left true count here some (omega (arith, ap length (begins_with delimiter left (delimiter_begins d delimiter left there)), length-append delimiter (drop count left))))
     ∙ map_map (λ us. found ++ kept d (onto begun (between us))) (λ us. (true, take count left) ∷ us) left_units
     ∙ map_alike _ _ left_units (λ us. past_one d found begun us)
 
@@ -98,7 +105,7 @@ between_on text start place count order =
 -- the bytes from start to place have begun a piece, and so do some more
 pub piece_on : (d : Dialect) (text delimiter : List ℕ) (found : List (List ℕ)) (start place count : ℕ) (whole : Option (List (List ℕ)))
     → whole ≡ going d delimiter found (take (place - start) (drop start text)) (drop place text) → start ≤ place → place + count ≤ length text → 0 < count
-    → begins delimiter (drop place text) ≡ false → together d (drop place text) ≡ Some count
+    → is_delimited d delimiter (drop place text) ≡ false → together d (drop place text) ≡ Some count
     → whole ≡ going d delimiter found (take (place + count - start) (drop start text)) (drop (place + count) text)
 piece_on d text delimiter found start place count whole so order within some other closed =
     let inside : count ≤ length (drop place text) = omega (arith, length-drop place text) in
@@ -108,7 +115,7 @@ piece_on d text delimiter found start place count whole so order within some oth
 
 -- they are a piece, and after the delimiter the next one begins
 pub piece_past : (d : Dialect) (text delimiter : List ℕ) (found more : List (List ℕ)) (piece : List ℕ) (place : ℕ) (whole : Option (List (List ℕ)))
-    → whole ≡ going d delimiter found piece (drop place text) → begins delimiter (drop place text) ≡ true → 0 < length delimiter → more ≡ found ++ kept d (piece ∷ [])
+    → whole ≡ going d delimiter found piece (drop place text) → is_delimited d delimiter (drop place text) ≡ true → 0 < length delimiter → more ≡ found ++ kept d (piece ∷ [])
     → whole ≡ going d delimiter more (take (place + length delimiter - (place + length delimiter)) (drop (place + length delimiter) text)) (drop (place + length delimiter) text)
 piece_past d text delimiter found more piece place whole so there some ended =
     let none : place + length delimiter - (place + length delimiter) ≡ 0 = omega arith in

@@ -9,13 +9,12 @@ use Rattle.std.proofs.lemmas.Option.{option_and_then_some}
 use Rattle.lq_base.specs.declared.dialect.Dialect.{Dialect}
 use Rattle.lq_base.specs.declared.lexeme.LexemeSort.{LexemeSort}
 use Rattle.lq_base.specs.declared.lexeme.LexemeSort.TheVariants.{Blank, LineComment, BlockComment, Name, Text, Number, Word, Mark}
-use Rattle.lq_base.specs.SqlByte.{begins}
 use Rattle.lq_sqllex.specs.Laws.{LexemesAreTheText, PiecesAreTheText, PiecesHaveWords, joined}
 use Rattle.lq_base.specs.SqlLexeme.{sort_at, length_of, length_at, lexeme_at, lexemes, is_trivia}
-use Rattle.lq_sqllex.specs.Pieces.{is_enclosed, together, unit_at, onto, between, cut, kept, pieces}
+use Rattle.lq_sqllex.specs.Pieces.{is_enclosed, is_delimited, together, unit_at, onto, between, cut, kept, pieces}
 use Rattle.lq_base.specs.SqlQuoted.{after}
 use Rattle.lq_base.specs.Units.{units}
-use Rattle.lq_sqllex.proofs.PieceSteps.{begins_with}
+use Rattle.lq_sqllex.proofs.PieceSteps.{begins_with, delimiter_begins}
 
 pub map_some : {A B P : Type 0} (f : A → B) (o : Option A) (y : B) → option_map f o ≡ Some y → ((x : A) → o ≡ Some x → f x ≡ y → P) → P
 map_some f None y e go = absurd (cc)
@@ -106,11 +105,11 @@ pub record IsUnit (d : Dialect) (delimiter text : List ℕ) (unit : Bool × ℕ)
   pub some : 0 < unit.1
   pub bytes : (if unit.0 then delimiter else take unit.1 text) ≡ take unit.1 text
   pub told : unit.0 ≡ true → (unit.1 ≡ length delimiter) × (length delimiter ≤ length text)
-  pub other : unit.0 ≡ false → (begins delimiter text ≡ false) × (together d text ≡ Some unit.1)
+  pub other : unit.0 ≡ false → (is_delimited d delimiter text ≡ false) × (together d text ≡ Some unit.1)
 
-delimiter_is : (d : Dialect) (delimiter text : List ℕ) → 0 < length delimiter → begins delimiter text ≡ true → IsUnit d delimiter text (true, length delimiter)
+delimiter_is : (d : Dialect) (delimiter text : List ℕ) → 0 < length delimiter → is_delimited d delimiter text ≡ true → IsUnit d delimiter text (true, length delimiter)
 delimiter_is d delimiter text some there =
-    let whole = begins_with delimiter text there in
+    let whole = begins_with delimiter text (delimiter_begins d delimiter text there) in
     record {
       some = some;
       bytes = sym (ap (take (length delimiter)) whole ∙ take_at delimiter _ _ refl);
@@ -118,13 +117,13 @@ delimiter_is d delimiter text some there =
       other = λ e. absurd (cc);
     }
 
-part_is : (d : Dialect) (delimiter text : List ℕ) (count : ℕ) → begins delimiter text ≡ false → together d text ≡ Some count → IsUnit d delimiter text (false, count)
+part_is : (d : Dialect) (delimiter text : List ℕ) (count : ℕ) → is_delimited d delimiter text ≡ false → together d text ≡ Some count → IsUnit d delimiter text (false, count)
 part_is d delimiter text count other closed =
     record { some = together_some d text count closed; bytes = refl; told = λ e. absurd (cc); other = λ _. (other, closed) }
 
 pub unit_is : (d : Dialect) (delimiter text : List ℕ) (unit : Bool × ℕ) → 0 < length delimiter → unit_at d delimiter text ≡ Some unit → IsUnit d delimiter text unit
 unit_is d delimiter text unit some e =
-    elim (begins delimiter text) as (λ there. begins delimiter text ≡ there
+    elim (is_delimited d delimiter text) as (λ there. is_delimited d delimiter text ≡ there
     → (if there then Some (true, length delimiter) else option_map (λ n. (false, n)) (together d text)) ≡ Some unit → IsUnit d delimiter text unit) [
       | true ↦ λ there is. (let same : (true, length delimiter) ≡ unit = cc in subst (IsUnit d delimiter text) same (delimiter_is d delimiter text some there))
       | false ↦ λ other is. map_some (λ n. (false, n)) (together d text) unit is (λ n closed same. subst (IsUnit d delimiter text) same (part_is d delimiter text n other closed))

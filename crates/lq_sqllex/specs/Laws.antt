@@ -1,5 +1,5 @@
 -- What holds of the definitions.
-use Rattle.std.specs.Prelude.{◌≡◌, ◌<◌, ℕ, suc, ◌+◌, ◌==◌, ◌&&◌, ◌||◌, Bool, true, false, if◌then◌else◌, List, [], ◌∷◌, ◌++◌, length, drop, slice_index, Some, option_map, All, codes}
+use Rattle.std.specs.Prelude.{◌≡◌, ◌<◌, ◌≤◌, ℕ, suc, ◌+◌, ◌==◌, ◌&&◌, ◌||◌, Bool, true, false, if◌then◌else◌, List, [], ◌∷◌, ◌++◌, length, drop, slice_index, Some, option_map, All, codes}
 use Rattle.std.specs.List.{flat_map}
 use Rattle.lq_base.specs.declared.dialect.Dialect.{Dialect}
 use Rattle.lq_base.specs.declared.lexeme.LexemeSort.{LexemeSort}
@@ -65,16 +65,16 @@ abbrev pub PiecesGoOn : Type 0
 PiecesGoOn = (d : Dialect) (text delimiter piece next : List ℕ) (more : List (List ℕ)) → 0 < length delimiter → cut d text delimiter ≡ Some (piece ∷ next ∷ more)
     → cut d (drop (length piece + length delimiter) text) delimiter ≡ Some (next ∷ more)
 
--- the place stands inside a string, quoted name or comment of the text
+-- the place is one of a string, quoted name or comment of the text, its first byte among them
 pub record IsInside (d : Dialect) (text : List ℕ) (place : ℕ) : Type 0 where
   pub begin : ℕ
   pub count : ℕ
   pub enclosed : is_enclosed (sort_at d (drop begin text)) ≡ true
   pub closed : length_at d (drop begin text) ≡ Some count
-  pub after_begin : begin < place
+  pub from_begin : begin ≤ place
   pub before_end : place < begin + count
 
--- where a delimiter stands in the first piece, it stands inside a string, quoted name or comment
+-- where a delimiter stands in the first piece, it begins in a string, quoted name or comment
 abbrev pub DelimitersAreInside : Type 0
 DelimitersAreInside = (d : Dialect) (text delimiter piece : List ℕ) (more : List (List ℕ)) (place : ℕ) → 0 < length delimiter → cut d text delimiter ≡ Some (piece ∷ more)
     → place < length piece → begins delimiter (drop place text) ≡ true → IsInside d text place

@@ -1,5 +1,5 @@
 -- A text cut into pieces at a delimiter.
-use Rattle.std.specs.Prelude.{ℕ, not, Bool, true, false, if◌then◌else◌, List, [], ◌∷◌, ◌++◌, length, filter, Option, Some, option_map}
+use Rattle.std.specs.Prelude.{ℕ, not, ◌&&◌, Bool, true, false, if◌then◌else◌, List, [], ◌∷◌, ◌++◌, length, filter, Option, Some, option_map}
 use Rattle.lq_base.specs.declared.dialect.Dialect.{Dialect}
 use Rattle.lq_base.specs.declared.lexeme.LexemeSort.{LexemeSort}
 use Rattle.lq_base.specs.declared.lexeme.LexemeSort.TheVariants.{LineComment, BlockComment, Name, Text}
@@ -19,10 +19,14 @@ is_enclosed _ = false
 abbrev pub together : Dialect → List ℕ → Option ℕ
 together d text = if is_enclosed (sort_at d text) then length_at d text else Some 1
 
+-- a delimiter is at the front of a text, and no string, quoted name or comment begins there
+abbrev pub is_delimited : Dialect → List ℕ → List ℕ → Bool
+is_delimited d delimiter text = not (is_enclosed (sort_at d text)) && begins delimiter text
+
 -- the unit at the front of a text, and whether it is a delimiter
 abbrev pub unit_at : Dialect → List ℕ → List ℕ → Option (Bool × ℕ)
 unit_at d delimiter text =
-    if begins delimiter text then Some (true, length delimiter) else option_map (λ n. (false, n)) (together d text)
+    if is_delimited d delimiter text then Some (true, length delimiter) else option_map (λ n. (false, n)) (together d text)
 
 -- with these bytes before the first piece
 abbrev pub onto : List ℕ → List (List ℕ) → List (List ℕ)

@@ -43,7 +43,7 @@ pub fn pieces_go_on()
     ensures { PiecesGoOn }
 {}
 
-/// Where a delimiter stands in the first piece, it stands inside a string, quoted name or comment.
+/// Where a delimiter stands in the first piece, it begins in a string, quoted name or comment.
 pub fn delimiters_are_inside()
     ensures { DelimitersAreInside }
 {}

@@ -1,6 +1,5 @@
 ghost use Rattle.std.specs.Prelude.{◌≡◌, ◌++◌, ◌+◌, ◌<◌, ◌≤◌, [], ◌∷◌, length, drop, Some, None, Err, IfOk, IfSome, OnOk};
-ghost use Rattle.lq_base.specs.SqlByte.{begins};
-ghost use Rattle.lq_sqllex.specs.Pieces.{is_enclosed, together, kept, pieces};
+ghost use Rattle.lq_sqllex.specs.Pieces.{is_enclosed, is_delimited, together, kept, pieces};
 
 use crate::byte::{begins, from};
 use crate::fault::SplitFault;
@@ -20,10 +19,16 @@ fn is_enclosed(sort: LexemeSort) -> bool
     }
 }
 
-fn begins_at(delimiter: &str, text: &str, place: usize) -> bool
-    ensures { result ≡ begins delimiter.now (drop place text.now) }
+fn is_delimited(dialect: Dialect, delimiter: &[u8], text: &[u8]) -> bool
+    ensures { result ≡ is_delimited dialect delimiter.now text.now }
 {
-    begins(delimiter.as_bytes(), from(text.as_bytes(), place))
+    !is_enclosed(sort_at(dialect, text)) && begins(delimiter, text)
+}
+
+fn is_delimited_at(dialect: Dialect, delimiter: &str, text: &str, place: usize) -> bool
+    ensures { result ≡ is_delimited dialect delimiter.now (drop place text.now) }
+{
+    is_delimited(dialect, delimiter.as_bytes(), from(text.as_bytes(), place))
 }
 
 // How many bytes at the front of a text stand together, where no delimiter is.
@@ -66,9 +71,10 @@ fn keep(
 
 /// The pieces of a text, without those of blanks and comments alone (Liquibase's `splitStatements`
 /// and `endDelimiter`). A piece ends at the delimiter where it stands outside strings, quoted names
-/// and comments, or at the end of the text, and has all bytes up to there. The delimiter is compared
-/// byte for byte, also inside a word, and at each place before a string, quoted name or comment is
-/// looked for. `Unclosed` exactly where one of these is not closed.
+/// and comments, or at the end of the text, and has all bytes up to there. At each place a string,
+/// quoted name or comment is looked for before the delimiter, so one that begins as they do ends no
+/// piece. It is compared byte for byte, also inside a word. `Unclosed` exactly where a string, quoted
+/// name or comment is not closed.
 pub fn split(
     alloc: Global,
     dialect: Dialect,
@@ -83,7 +89,7 @@ pub fn split(
     let mut start = 0;
     let mut place = 0;
     while place < text.len() {
-        if begins_at(delimiter, text, place) {
+        if is_delimited_at(dialect, delimiter, text, place) {
             keep(alloc, dialect, &text[start..place], &mut found)?;
             place += delimiter.len();
             start = place;

@@ -4,7 +4,6 @@ mod ColumnAgain
 mod ColumnMakes
 mod ConstraintAgain
 mod ConstraintMakes
-mod CutSteps
 mod DropMakes
 mod KindMakes
 mod KindTexts
@@ -18,7 +17,7 @@ mod RowMakes
 mod RowsBack
 mod Said
 mod SchemaBack
-mod StatementMakes
+pub mod StatementMakes
 mod TableBack
 mod TableMakes
 mod Whole

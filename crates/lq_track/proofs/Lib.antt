@@ -1,2 +1,5 @@
+pub mod AllRows
+pub mod ByPlace
 pub mod Dates
 pub mod Names
+pub mod RowParts

@@ -82,7 +82,7 @@ pub fn lock_table(alloc: Global) -> Result<Name, NoMemory>
 }
 
 #[tactic(auto, unfolding(crate::specs::Lock::lock_key_name))]
-fn lock_key_name(dialect: Dialect) -> &'static str
+pub fn lock_key_name(dialect: Dialect) -> &'static str
     ensures { result.now ≡ lock_key_name dialect }
 {
     match dialect {

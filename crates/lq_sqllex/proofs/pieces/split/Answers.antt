@@ -2,7 +2,7 @@ use Rattle.std.proofs.Common.{◌∙◌, ◌-◌, List, ℕ, [], ◌∷◌, ◌+
 use Rattle.std.proofs.lemmas.Str.{IsCharBoundary-start}
 use Rattle.lq_sqllex.specs.Pieces.{kept}
 use Rattle.lq_sqllex.proofs.Boundary.{boundary_before, boundary_after}
-use Rattle.lq_sqllex.proofs.PieceSteps.{going, going_begins, piece_on, piece_past}
+use Rattle.lq_sqllex.proofs.PieceSteps.{delimiter_begins, going, going_begins, piece_on, piece_past}
 use Rattle.lq_sqllex.proofs.pieces.split.Goals as goal
 
 pub loop-place-init : goal.loop-place-init
@@ -15,13 +15,13 @@ loop-place-init c = record {
 
 pub range-requires-clause-end_boundary : goal.range-requires-clause-end_boundary
 range-requires-clause-end_boundary c =
-    boundary_before c.args.text.now c.args.delimiter.now c.loop-place.place c.utf8.delimiter (sym c.begins_at.ensures ∙ c.if-begins_at.true) c.requires c.loop-place.invariant.within
+    boundary_before c.args.text.now c.args.delimiter.now c.loop-place.place c.utf8.delimiter (delimiter_begins c.args.dialect c.args.delimiter.now _ (sym c.is_delimited_at.ensures ∙ c.if-is_delimited_at.true)) c.requires c.loop-place.invariant.within
 
-pub loop-place-preserved-then-begins_at : goal.loop-place-preserved-then-begins_at
-loop-place-preserved-then-begins_at c =
+pub loop-place-preserved-then-is_delimited_at : goal.loop-place-preserved-then-is_delimited_at
+loop-place-preserved-then-is_delimited_at c =
     let text = c.args.text.now in
-    let there = sym c.begins_at.ensures ∙ c.if-begins_at.true in
-    let after = boundary_after text c.args.delimiter.now c.loop-place.place c.utf8.text c.utf8.delimiter there c.requires c.loop-place.invariant.within in
+    let there = sym c.is_delimited_at.ensures ∙ c.if-is_delimited_at.true in
+    let after = boundary_after text c.args.delimiter.now c.loop-place.place c.utf8.text c.utf8.delimiter (delimiter_begins c.args.dialect c.args.delimiter.now _ there) c.requires c.loop-place.invariant.within in
     record {
       whole = piece_past c.args.dialect text c.args.delimiter.now c.loop-place.found c.keep.new.found (take (c.loop-place.place - c.loop-place.start) (drop c.loop-place.start text)) c.loop-place.place _ c.loop-place.invariant.whole there c.requires
           (c.in_ok-keep.ensures ∙ ap (λ (piece : List ℕ). c.loop-place.found ++ kept c.args.dialect (piece ∷ [])) c.range.ensures.value);
@@ -33,7 +33,7 @@ loop-place-preserved-then-begins_at c =
 pub loop-place-preserved : goal.loop-place-preserved
 loop-place-preserved c = record {
   whole = piece_on c.args.dialect c.args.text.now c.args.delimiter.now c.loop-place.found c.loop-place.start c.loop-place.place c.in-Some.count _ c.loop-place.invariant.whole c.loop-place.invariant.order
-      c.in-Some.ensures.bound c.in-Some.ensures.some (sym c.begins_at.ensures ∙ c.if-begins_at.false) (sym c.in-Some.ensures.value);
+      c.in-Some.ensures.bound c.in-Some.ensures.some (sym c.is_delimited_at.ensures ∙ c.if-is_delimited_at.false) (sym c.in-Some.ensures.value);
   order = omega (arith, c.loop-place.invariant.order);
   within = c.in-Some.ensures.bound;
   boundary = c.loop-place.invariant.boundary;

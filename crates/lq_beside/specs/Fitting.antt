@@ -1,0 +1,68 @@
+-- That the deeds of a command fit what they are done to.
+use Rattle.std.specs.List.{All, list_all}
+use Rattle.std.specs.Prelude.{Bool, IfSome, List, false, true, ℕ, ◌&&◌, ◌≡◌, ◌≤◌}
+use Rattle.std.specs.Str.{IsUtf8}
+use Rattle.lq_base.specs.Character.{char_count}
+use Rattle.lq_base.specs.declared.dialect.Dialect.{Dialect}
+use Rattle.lq_model.specs.Catalogue.{Catalogue}
+use Rattle.lq_model.specs.Sound.{IsSound}
+use Rattle.lq_model.specs.Statement.{is_statement}
+use Rattle.lq_track.specs.Database.{Database, has_twin_rows}
+use Rattle.lq_turns.specs.Held.{StandsFor}
+use Rattle.lq_turns.specs.Laws.{AreRead}
+use Rattle.lq_turns.specs.Rollback.{rollback_of}
+use Rattle.lq_turns.specs.Script.{release_calls, sync_calls, tag_calls, update_calls}
+use Rattle.lq_turns.specs.Session.{session_on}
+use Rattle.lq_turns.specs.Set.{Changelog, Meaning, Set}
+use Rattle.lq_turns.specs.declared.deed.OnRows.{OnRows}
+use Rattle.lq_turns.specs.declared.deed.OnRows.TheVariants.{Deleted, Filled, Inserted, Renewed, Tagged}
+use Rattle.lq_turns.specs.declared.stamp.Stamp.{Stamp}
+use Rattle.lq_turns.specs.declared.turn.Turn.{Turn}
+use Rattle.lq_beside.specs.Replays.{calls_fit}
+
+-- a reading of the clock that can be printed
+abbrev pub IsTime : ℕ → Type 0
+IsTime reading = reading ≤ 253402300799999
+
+-- the texts that a changeset's row takes over whole are short, and those that it cuts are UTF-8
+pub record HasTexts {Key : Type 0} (x : Set Key) : Type 0 where
+  pub file : char_count x.identity.file ≤ 255
+  pub id : char_count x.identity.id ≤ 255
+  pub author : char_count x.identity.author ≤ 255
+  pub sum : char_count x.sum ≤ 35
+  pub tag : IfSome x.tag (λ tag. char_count tag ≤ 255)
+  pub description : IsUtf8 x.description
+  pub comments : IsUtf8 x.comments
+  pub contexts : IsUtf8 x.contexts
+  pub labels : IsUtf8 x.labels
+
+abbrev pub UpdateFits : {Key : Type 0} → Meaning Key → Type 0
+UpdateFits {Key} m = (d : Dialect) (stamp : Stamp) (g : Changelog Key) (database : Database)
+    → IsSound d database.users → has_twin_rows database.rows ≡ false → IsTime stamp.reading → AreRead d m g.sets → All HasTexts g.sets
+    → calls_fit d (update_calls d m stamp g database) (session_on database) ≡ true
+
+abbrev pub SyncFits : Type 0 → Type 0
+SyncFits Key = (d : Dialect) (stamp : Stamp) (g : Changelog Key) (database : Database) → IsTime stamp.reading → All HasTexts g.sets
+    → calls_fit d (sync_calls d stamp g database) (session_on database) ≡ true
+
+abbrev pub is_deleted : OnRows → Bool
+is_deleted (Deleted of) = true
+is_deleted (Inserted row) = false
+is_deleted (Renewed row) = false
+is_deleted (Filled of sum) = false
+is_deleted (Tagged of tag) = false
+
+-- a turn that takes a row back by statements of the dialect
+abbrev pub is_return : Dialect → Turn → Bool
+is_return d turn = list_all (is_statement d) turn.statements && is_deleted turn.row
+
+abbrev pub RollbackFits : Type 0
+RollbackFits = (d : Dialect) (stamp : Stamp) (turns : List Turn) (database : Database) → IsTime stamp.reading → list_all (is_return d) turns ≡ true
+    → calls_fit d (rollback_of d stamp turns database) (session_on database) ≡ true
+
+abbrev pub TagFits : Type 0
+TagFits = (d : Dialect) (tag : List ℕ) (c : Catalogue) (database : Database) → StandsFor d c database → char_count tag ≤ 255
+    → calls_fit d (tag_calls tag database) (session_on database) ≡ true
+
+abbrev pub ReleaseFits : Type 0
+ReleaseFits = (d : Dialect) (c : Catalogue) (database : Database) → StandsFor d c database → calls_fit d (release_calls database) (session_on database) ≡ true

@@ -1,0 +1,9 @@
+//! What a statement does beside the tracking tables.
+#![tactic(auto)]
+
+mod laws;
+
+pub use laws::{
+    journal_replays, nothing_stands, queries_see, release_fits, rollback_fits, statements_tell,
+    sync_fits, tag_fits, update_fits, users_beside,
+};

@@ -1,0 +1,17 @@
+pub mod Changed
+pub mod Columns
+pub mod Deleted
+pub mod Inserted
+pub mod Judge
+pub mod Keys
+pub mod Lists
+pub mod Nulls
+pub mod OneTable
+pub mod RenamedColumn
+pub mod RenamedTable
+pub mod SameRows
+pub mod Steps
+pub mod Tables
+pub mod Touched
+pub mod Updated
+pub mod Views

@@ -1,0 +1,4 @@
+pub mod Decides
+pub mod Faults
+pub mod InsertFaults
+pub mod Judged

@@ -1,0 +1,58 @@
+ghost use Rattle.std.specs.Option.{option_map};
+ghost use Rattle.std.specs.Prelude.{◌≡◌};
+ghost use Rattle.lq_model.specs.Canon.{kind_value, text, truth};
+ghost use Rattle.lq_model.specs.Written.{field_value};
+
+use lq_base::{Kind, Name, Text};
+
+/// What a key has in canonical text.
+#[derive(Clone, Copy, Debug)]
+pub enum Field<'a> {
+    Text(&'a str),
+    Number(i128),
+    /// `units` divided by ten to the power `scale`.
+    Decimal { units: i128, scale: u8 },
+    Truth(bool),
+    Kind(Kind),
+    Names(&'a [Name]),
+}
+
+/// What a key with a text has, where it was given.
+pub fn text_field(found: &Option<Text>) -> Option<Field>
+    ensures { option_map field_value result ≡ option_map (λ t. text t) found.now }
+{
+    match found {
+        Some(text) => Some(Field::Text(text.as_str())),
+        None => None,
+    }
+}
+
+/// What a key with a name has, where it was given.
+pub fn name_field(found: &Option<Name>) -> Option<Field>
+    ensures { option_map field_value result ≡ option_map (λ n. text n) found.now }
+{
+    match found {
+        Some(name) => Some(Field::Text(name.as_key())),
+        None => None,
+    }
+}
+
+/// What a key with a truth value has, where it was given.
+pub fn truth_field(found: Option<bool>) -> Option<Field<'static>>
+    ensures { option_map field_value result ≡ option_map (λ b. truth b) found }
+{
+    match found {
+        Some(truth) => Some(Field::Truth(truth)),
+        None => None,
+    }
+}
+
+/// What a key with a kind has, where it was given.
+pub fn kind_field(found: Option<Kind>) -> Option<Field<'static>>
+    ensures { option_map field_value result ≡ option_map kind_value found }
+{
+    match found {
+        Some(kind) => Some(Field::Kind(kind)),
+        None => None,
+    }
+}

@@ -1,0 +1,6 @@
+use Rattle.std.proofs.Common.{◌≡◌, take}
+use Rattle.lq_model.specs.Query.{columns_at}
+use Rattle.lq_query.proofs.pick.columns_at.Given as goal
+
+abbrev pub invariant-loop-name : goal.invariant-loop-name
+invariant-loop-name l = l.found ≡ columns_at (take l.name-index l.names) l.columns

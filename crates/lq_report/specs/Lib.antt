@@ -1,0 +1,5 @@
+pub mod Laws
+pub mod Log
+pub mod Mark
+pub mod Output
+pub mod Words

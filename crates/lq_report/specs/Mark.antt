@@ -1,0 +1,41 @@
+-- The mark in LOCKEDBY, which tells the statement at which a changeset was that is not one transaction.
+use Rattle.std.specs.Prelude.{ℕ, List, [], ◌∷◌, ◌++◌, ◌==◌, ◌&&◌, not, Bool, true, false, drop, slice_index, Option, Some, None, option_and_then, codes, if◌then◌else◌}
+use Rattle.std.specs.List.{after_first}
+use Rattle.lq_base.specs.declared.tracking.Lock.{Lock}
+use Rattle.lq_base.specs.Number.{is_digits}
+use Rattle.lq_base.specs.SqlByte.{begins}
+
+abbrev pub is_bar : ℕ → Bool
+is_bar b = b == 124
+
+-- what stands before the last `|` of a text, and behind it
+unfoldable pub at_last_bar : List ℕ → Option (List ℕ × List ℕ)
+at_last_bar [] = None
+at_last_bar (b ∷ bs) = elim (at_last_bar bs) [ Some parts ↦ Some (b ∷ parts.0, parts.1) | None ↦ if is_bar b then Some ([], bs) else None ]
+
+-- a whole number from 1 in decimal digits, without leading zeros
+abbrev pub is_count : List ℕ → Bool
+is_count text = is_digits text && not (slice_index text 0 == 48)
+
+-- the end of a mark, `K` or `undo K`: whether statement K takes something back, and K
+abbrev pub statement_of : List ℕ → Bool × List ℕ
+statement_of text = if begins (codes "undo ") text then (true, drop 5 text) else (false, text)
+
+-- a mark: the changeset's identity, whether the statement takes something back, and its number
+abbrev pub Marked : Type 0
+Marked = List ℕ × Bool × List ℕ
+
+abbrev pub marked : List ℕ → Bool × List ℕ → Option Marked
+marked identity statement = if is_count statement.1 then Some (identity, statement.0, statement.1) else None
+
+-- the mark of `WHO|IDENTITY|K` or `WHO|IDENTITY|undo K`; none of any other text
+unfoldable pub mark_of : List ℕ → Option Marked
+mark_of by = option_and_then (λ parts. marked parts.0 (statement_of parts.1)) (at_last_bar (after_first is_bar by))
+
+-- the mark of a lock, of which LOCKEDBY may be null
+abbrev pub lock_mark : Lock → Option Marked
+lock_mark lock = option_and_then mark_of lock.by
+
+-- `IDENTITY, statement K` or `IDENTITY, undo statement K`
+abbrev pub mark_text : Marked → List ℕ
+mark_text mark = mark.0 ++ (if mark.1 then codes ", undo statement " else codes ", statement ") ++ mark.2

@@ -1,0 +1,82 @@
+ghost use Rattle.std.specs.Prelude.{◌≡◌, ◌++◌, OnOk};
+ghost use Rattle.lq_report.specs.Log.{warning_line, halted_line, refused_line, no_tag_line, not_reversible_line, damaged_line, full_line, busy_line};
+
+use crate::parts::{append_counted, append_named, append_place, append_why};
+use lq_base::{Identity, NoMemory, Reason, Text, Why};
+
+/// Appends the line for a precondition that does not hold, where the run goes on. Without an identity
+/// it is one of the changelog's own.
+#[tactic(auto, unfolding(crate::specs::Log::warning_line))]
+pub fn append_warning(place: Option<&Identity>, why: Why, to: &mut Text) -> Result<(), NoMemory>
+    ensures { OnOk result (to.new ≡ to.old ++ warning_line place.entry why) }
+{
+    append_place("liquibase: warning: ", place, ": ", to)?;
+    append_why(why, to)
+}
+
+/// Appends the line for a precondition at which the run halted.
+#[tactic(auto, unfolding(crate::specs::Log::halted_line))]
+pub fn append_halted(place: Option<&Identity>, why: Why, to: &mut Text) -> Result<(), NoMemory>
+    ensures { OnOk result (to.new ≡ to.old ++ halted_line place.entry why) }
+{
+    append_place("liquibase: halted at ", place, ": ", to)?;
+    append_why(why, to)
+}
+
+/// Appends the line for a statement that was refused. `kept` of the changeset's statements stay.
+#[tactic(auto, unfolding(crate::specs::Log::refused_line))]
+pub fn append_refused(
+    identity: &Identity,
+    statement: u64,
+    kept: u64,
+    reason: Reason,
+    to: &mut Text,
+) -> Result<(), NoMemory>
+    ensures { OnOk result (to.new ≡ to.old ++ refused_line identity.now statement kept reason) }
+{
+    append_named("liquibase: refused at ", identity, ", statement ", to)?;
+    append_counted("", statement, ", ", to)?;
+    append_counted("", kept, " kept: ", to)?;
+    to.push_all(&[reason.text(), "\n"])
+}
+
+/// Appends the line for a tag that no row has.
+#[tactic(auto, unfolding(crate::specs::Log::no_tag_line))]
+pub fn append_no_tag(tag: &str, to: &mut Text) -> Result<(), NoMemory>
+    ensures { OnOk result (to.new ≡ to.old ++ no_tag_line tag.now) }
+{
+    to.push_all(&["liquibase: no changeset has the tag ", tag, "\n"])
+}
+
+/// Appends the line for a changeset that cannot be rolled back.
+#[tactic(auto, unfolding(crate::specs::Log::not_reversible_line))]
+pub fn append_not_reversible(identity: &Identity, to: &mut Text) -> Result<(), NoMemory>
+    ensures { OnOk result (to.new ≡ to.old ++ not_reversible_line identity.now) }
+{
+    append_named("liquibase: no rollback for ", identity, "\n", to)
+}
+
+/// Appends the line for a database file that is damaged from this byte on.
+#[tactic(auto, unfolding(crate::specs::Log::damaged_line))]
+pub fn append_damaged(at: u64, to: &mut Text) -> Result<(), NoMemory>
+    ensures { OnOk result (to.new ≡ to.old ++ damaged_line at) }
+{
+    append_counted("liquibase: database damaged at ", at, "\n", to)
+}
+
+/// Appends the line for a journal that has no room for the `next` bytes behind the `used` ones.
+#[tactic(auto, unfolding(crate::specs::Log::full_line))]
+pub fn append_full(used: u64, next: u64, to: &mut Text) -> Result<(), NoMemory>
+    ensures { OnOk result (to.new ≡ to.old ++ full_line used next) }
+{
+    append_counted("liquibase: database full: ", used, " and ", to)?;
+    append_counted("", next, " bytes\n", to)
+}
+
+/// Appends the line for a runner that needs the database while this session has a transaction open.
+#[tactic(auto, unfolding(crate::specs::Log::busy_line))]
+pub fn append_busy(session: u32, to: &mut Text) -> Result<(), NoMemory>
+    ensures { OnOk result (to.new ≡ to.old ++ busy_line session) }
+{
+    append_counted("liquibase: busy: session ", u64::from(session), "\n", to)
+}

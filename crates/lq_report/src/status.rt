@@ -1,0 +1,43 @@
+ghost use Rattle.std.specs.List.{flat_map};
+ghost use Rattle.std.specs.Prelude.{◌≡◌, ◌++◌, IfOk, OnOk};
+ghost use Rattle.lq_report.specs.Output.{pending_line, status_text, tagged_text};
+
+use crate::parts::{append_counted, append_named};
+use lq_base::{Identity, NoMemory, Text};
+use std::alloc::Global;
+
+#[tactic(auto, unfolding(crate::specs::Output::pending_line))]
+fn append_pending(identity: &Identity, to: &mut Text) -> Result<(), NoMemory>
+    ensures { OnOk result (to.new ≡ to.old ++ pending_line identity.now) }
+{
+    append_named("", identity, "\n", to)
+}
+
+fn append_all(pending: &[Identity], to: &mut Text) -> Result<(), NoMemory>
+    ensures { OnOk result (to.new ≡ to.old ++ flat_map pending_line pending.now) }
+{
+    for identity in pending {
+        append_pending(identity, to)?;
+    }
+    Ok(())
+}
+
+/// What `status` writes: how many changesets are pending, and then a line for each.
+#[tactic(auto, unfolding(crate::specs::Output::status_text))]
+pub fn status_text(alloc: Global, pending: &[Identity]) -> Result<Text, NoMemory>
+    ensures { IfOk result (λ text. text ≡ status_text pending.now) }
+{
+    let mut text = Text::new(alloc, "")?;
+    append_counted("pending: ", pending.len() as u64, "\n", &mut text)?;
+    append_all(pending, &mut text)?;
+    Ok(text)
+}
+
+/// What `tag` writes.
+pub fn tagged_text(alloc: Global, tag: &str) -> Result<Text, NoMemory>
+    ensures { IfOk result (λ text. text ≡ tagged_text tag.now) }
+{
+    let mut text = Text::new(alloc, "")?;
+    text.push_all(&["tagged ", tag, "\n"])?;
+    Ok(text)
+}

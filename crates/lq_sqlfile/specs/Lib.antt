@@ -1,0 +1,10 @@
+pub mod Cuts
+pub mod Examples
+pub mod File
+pub mod Laws
+pub mod Lines
+pub mod Machine
+pub mod Made
+pub mod Pairs
+pub mod View
+pub mod Words

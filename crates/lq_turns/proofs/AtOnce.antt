@@ -1,0 +1,31 @@
+-- What a tag and a release-locks leave.
+use Rattle.std.proofs.Common.{ap, ◌∙◌}
+use Rattle.std.specs.Prelude.{List, Some, [], if◌then◌else◌, map, refl, ℕ, ◌∷◌, ◌≡◌}
+use Rattle.lq_base.specs.declared.dialect.Dialect.{Dialect}
+use Rattle.lq_base.specs.declared.dialect.Dialect.TheVariants.{Mysql, Postgresql}
+use Rattle.lq_base.specs.declared.tracking.Tracked.{Tracked}
+use Rattle.lq_track.specs.Database.{Database}
+use Rattle.lq_track.specs.Log.{identity_of}
+use Rattle.lq_turns.specs.AtOnce.{ReleaseLeaves, TagLeaves}
+use Rattle.lq_turns.specs.Contents.{contents_of}
+use Rattle.lq_turns.specs.Deed.{tagged}
+use Rattle.lq_turns.specs.Laws.{at_rest}
+use Rattle.lq_turns.specs.Script.{closing, tag_of}
+use Rattle.lq_turns.specs.Session.{left_by}
+
+tagged_last : (d : Dialect) (tag : List ℕ) (row : Tracked) (database : Database) → left_by d (tag_of tag (Some row)) database ≡ record database { rows = map (tagged (identity_of row) tag) database.rows }
+tagged_last Postgresql tag row database = refl
+tagged_last Mysql tag row database = refl
+
+pub tag_leaves : TagLeaves
+tag_leaves d tag row database is = ap (λ o. left_by d (tag_of tag o) database) is ∙ tagged_last d tag row database
+
+freed : (d : Dialect) (database : Database) → left_by d (closing ∷ []) database ≡ at_rest database (contents_of database)
+freed Postgresql database = refl
+freed Mysql database = refl
+
+pub release_leaves : ReleaseLeaves
+release_leaves d database = (
+  λ held. ap (λ b. left_by d (if b then closing ∷ [] else []) database) held ∙ freed d database,
+  λ free. ap (λ b. left_by d (if b then closing ∷ [] else []) database) free,
+)
