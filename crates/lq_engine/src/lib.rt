@@ -1,0 +1,8 @@
+//! The engine: a catalogue that statements change, and that can go back.
+#![tactic(auto)]
+
+mod arms;
+mod engine;
+mod look;
+
+pub use engine::Engine;

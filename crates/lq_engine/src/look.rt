@@ -1,0 +1,133 @@
+ghost use Rattle.std.specs.List.{find};
+ghost use Rattle.std.specs.Option.{option_copied};
+ghost use Rattle.std.specs.Prelude.{◌≡◌, length};
+ghost use Rattle.lq_base.specs.Name.{is_named};
+ghost use Rattle.lq_engine.specs.State.{State};
+
+use crate::engine::Engine;
+use lq_base::Name;
+use lq_model::{Answered, AskFault, By, Column, ForeignKey, Index, Key, Look, Query, Unique};
+use std::alloc::Global;
+
+impl Look for Engine {
+    ghost use Rattle.lq_engine.specs.State.{State};
+
+    ghost catalogue = { λ e. e.now };
+
+    fn is_table(&self, table: &Name) -> bool {
+        self.parts.table(table).is_some()
+    }
+
+    fn is_view(&self, view: &Name) -> bool {
+        self.parts.view(view).is_some()
+    }
+
+    fn is_sequence(&self, sequence: &Name) -> bool {
+        self.parts.sequence(sequence).is_some()
+    }
+
+    fn column(&self, table: &Name, column: &Name) -> Option<&Column> {
+        match self.parts.table(table) {
+            None => None,
+            Some(held) => find_column(held.columns(), column),
+        }
+    }
+
+    fn key(&self, table: &Name) -> Option<&Key> {
+        match self.parts.table(table) {
+            None => None,
+            Some(held) => held.key(),
+        }
+    }
+
+    fn unique(&self, table: &Name, name: &Name) -> Option<&Unique> {
+        match self.parts.table(table) {
+            None => None,
+            Some(held) => find_unique(held.uniques(), name),
+        }
+    }
+
+    fn foreign_key(&self, table: &Name, name: &Name) -> Option<&ForeignKey> {
+        match self.parts.table(table) {
+            None => None,
+            Some(held) => find_foreign_key(held.foreign_keys(), name),
+        }
+    }
+
+    fn index(&self, table: &Name, name: &Name) -> Option<&Index> {
+        match self.parts.table(table) {
+            None => None,
+            Some(held) => find_index(held.indexes(), name),
+        }
+    }
+
+    fn columns(&self, table: &Name) -> Option<&[Column]> {
+        match self.parts.table(table) {
+            None => None,
+            Some(held) => Some(held.columns()),
+        }
+    }
+
+    fn uniques(&self, table: &Name) -> Option<&[Unique]> {
+        match self.parts.table(table) {
+            None => None,
+            Some(held) => Some(held.uniques()),
+        }
+    }
+
+    fn foreign_keys(&self, table: &Name) -> Option<&[ForeignKey]> {
+        match self.parts.table(table) {
+            None => None,
+            Some(held) => Some(held.foreign_keys()),
+        }
+    }
+
+    fn indexes(&self, table: &Name) -> Option<&[Index]> {
+        match self.parts.table(table) {
+            None => None,
+            Some(held) => Some(held.indexes()),
+        }
+    }
+
+    fn has_null(&self, table: &Name, column: &Name) -> bool {
+        match self.parts.table(table) {
+            None => false,
+            Some(held) => held.has_null(column),
+        }
+    }
+
+    fn rows(&self, table: &Name) -> Option<u64> {
+        match self.parts.table(table) {
+            None => None,
+            Some(held) => Some(held.len() as u64),
+        }
+    }
+
+    fn ask(&self, _: Global, _: By, _: &Query) -> Result<Answered, AskFault> {
+        Err(AskFault::OutOfMemory)
+    }
+}
+
+fn find_column<'a>(columns: &'a [Column], name: &Name) -> Option<&'a Column>
+    ensures { option_copied result ≡ find (λ column. is_named name.now column.name) columns.now }
+{
+    columns.iter().find(|column| *name == column.name)
+}
+
+fn find_unique<'a>(uniques: &'a [Unique], name: &Name) -> Option<&'a Unique>
+    ensures { option_copied result ≡ find (λ unique. is_named name.now unique.name) uniques.now }
+{
+    uniques.iter().find(|unique| *name == unique.name)
+}
+
+fn find_foreign_key<'a>(keys: &'a [ForeignKey], name: &Name) -> Option<&'a ForeignKey>
+    ensures { option_copied result ≡ find (λ key. is_named name.now key.name) keys.now }
+{
+    keys.iter().find(|key| *name == key.name)
+}
+
+fn find_index<'a>(indexes: &'a [Index], name: &Name) -> Option<&'a Index>
+    ensures { option_copied result ≡ find (λ index. is_named name.now index.name) indexes.now }
+{
+    indexes.iter().find(|index| *name == index.name)
+}

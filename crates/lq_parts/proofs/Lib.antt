@@ -1,0 +1,5 @@
+pub mod Continued
+mod EntryLemmas
+mod PartLemmas
+mod SlotLemmas
+mod StepLemmas

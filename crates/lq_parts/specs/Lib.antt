@@ -1,0 +1,5 @@
+pub mod Answers
+pub mod Entries
+pub mod Kept
+pub mod Slots
+pub mod Steps

@@ -1,0 +1,16 @@
+//! The tables, views and sequences of a catalogue, with what is needed to undo their changes.
+#![tactic(auto)]
+
+mod entries;
+mod fault;
+mod object;
+mod part;
+mod parts;
+mod shelf;
+mod slot;
+mod step;
+mod tables;
+
+pub use fault::RunFault;
+pub use object::{Sequence, View};
+pub use parts::Parts;

@@ -1,0 +1,7 @@
+/// What of a catalogue a change was of.
+#[derive(Clone, Copy, Drop)]
+pub enum Part {
+    Tables,
+    Views,
+    Sequences,
+}

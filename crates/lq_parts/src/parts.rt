@@ -1,0 +1,322 @@
+ghost use Rattle.std.specs.Option.{option_copied};
+ghost use Rattle.std.specs.Prelude.{◌≡◌, ◌≤◌, None, [], IfOk, OnErr, OnOk, is_some, length, option_map, true};
+ghost use Rattle.lq_chain.specs.History.{back, changed, history, marked, undone_to};
+ghost use Rattle.lq_chain.specs.Marks.{kept_rows, replaced};
+ghost use Rattle.lq_model.specs.Catalogue.{no_objects, sequence_of, table_of, the_table, view_of, with_new, with_sequence, with_table, with_view, without_sequence, without_table, without_view};
+ghost use Rattle.lq_parts.specs.Kept.{with_renamed};
+ghost use Rattle.lq_parts.specs.Steps.{tables_of};
+ghost use Rattle.lq_rows.specs.Stored.{has_values_in, with_all, with_row, with_shape};
+ghost use Rattle.lq_rows.specs.Twin.{is_twin};
+
+use crate::object::{Sequence, View};
+use crate::part::Part;
+use crate::shelf::Shelf;
+use crate::tables::Tables;
+use lq_base::{Name, NoMemory, Value};
+use lq_rows::{Held, Row, Shape, Values};
+use std::alloc::Global;
+use std::marker::Model;
+
+/// The tables, views and sequences of a catalogue, with what is needed to undo their changes since the
+/// last `forget`. Contracts see the catalogue, and what it was before each changing call since then.
+///
+/// The changing calls are the `put_`, `take_`, `rename_` and `shape_` calls and those on rows:
+/// `append`, `replace_some` and `keep`. Each changes nothing where memory is wanting, and makes the
+/// room that undoing it needs.
+#[derive(Drop)]
+pub struct Parts {
+    tables: Tables,
+    views: Shelf<View>,
+    sequences: Shelf<Sequence>,
+    /// What each change since the last `forget` was of, the newest last.
+    done: Vec<Part>,
+}
+
+impl Model for Parts {
+    ghost use Rattle.lq_chain.specs.History.{History, history};
+    ghost use Rattle.lq_model.specs.Catalogue.{Catalogue};
+    ghost use Rattle.lq_model.specs.contracts.test.Test as test;
+    ghost use Rattle.std.specs.Coded.{codes};
+    ghost use Rattle.std.specs.Prelude.{reverse};
+
+    ghost Value = { History Catalogue };
+
+    ghost coded = { Prim.hlevel (codes, test.the_row.coded) };
+
+    ghost use Rattle.lq_parts.specs.Kept.{catalogue_of, kept_as, past_catalogues};
+
+    ghost view = { λ p. history (catalogue_of (kept_as p.tables p.views p.sequences)) (past_catalogues (kept_as p.tables p.views p.sequences) (reverse p.done.items)) };
+}
+
+impl Parts {
+    /// No objects, and nothing to undo.
+    pub fn new(alloc: Global) -> Parts
+        ensures { result ≡ history no_objects [] }
+    {
+        Parts {
+            tables: Tables::new(alloc),
+            views: Shelf::new(alloc),
+            sequences: Shelf::new(alloc),
+            done: Vec::new(alloc),
+        }
+    }
+
+    /// The number of changes since the last `forget` that are not undone.
+    #[tactic(auto, using(crate::proofs::PartLemmas::length_past))]
+    pub fn mark(&self) -> u64
+        ensures { result ≡ marked self.now }
+    {
+        self.done.len() as u64
+    }
+
+    /// The table of the name.
+    pub fn table(&self, name: &Name) -> Option<&Held>
+        ensures { option_map (λ held. held.now.now) result ≡ table_of self.now.now name.now }
+    {
+        self.tables.get(name)
+    }
+
+    /// The view of the name.
+    pub fn view(&self, name: &Name) -> Option<&View>
+        ensures { option_copied result ≡ view_of self.now.now name.now }
+    {
+        self.views.get(name)
+    }
+
+    /// The sequence of the name.
+    pub fn sequence(&self, name: &Name) -> Option<&Sequence>
+        ensures { option_copied result ≡ sequence_of self.now.now name.now }
+    {
+        self.sequences.get(name)
+    }
+
+    /// The tables in the order of their names.
+    pub fn tables(&self) -> &[(Name, Held)]
+        ensures { tables_of result.now ≡ self.now.now.tables }
+    {
+        self.tables.entries()
+    }
+
+    /// The views in the order of their names.
+    pub fn views(&self) -> &[(Name, View)]
+        ensures { result.now ≡ self.now.now.views }
+    {
+        self.views.entries()
+    }
+
+    /// The sequences in the order of their names.
+    pub fn sequences(&self) -> &[(Name, Sequence)]
+        ensures { result.now ≡ self.now.now.sequences }
+    {
+        self.sequences.entries()
+    }
+
+    /// Whether a row of the table has these values in these columns. What gets known for it stays known.
+    pub fn has_row(
+        &mut self,
+        alloc: Global,
+        table: &Name,
+        columns: &[Name],
+        values: &Values,
+    ) -> Result<bool, NoMemory>
+        ensures found { IfOk result (λ found. found ≡ has_values_in columns.now values.now (the_table self.old.now table.now)) }
+        ensures same { self.new ≡ self.old }
+    {
+        self.tables.has_row(alloc, table, columns, values)
+    }
+
+    /// Whether a row of the table is equal to this one in a key, a unique constraint or a unique index.
+    pub fn is_twin(&mut self, alloc: Global, table: &Name, row: &[Value]) -> Result<bool, NoMemory>
+        requires { is_some (table_of self.old.now table.now) ≡ true }
+        ensures found { IfOk result (λ found. found ≡ is_twin (the_table self.old.now table.now) row.now) }
+        ensures same { self.new ≡ self.old }
+    {
+        self.tables.is_twin(alloc, table, row)
+    }
+}
+
+#[tactic(auto, using(crate::proofs::PartLemmas::newest_first))]
+impl Parts {
+    /// Puts a new table at its name, or changes nothing.
+    pub fn put_table(&mut self, name: Name, held: Held) -> Result<(), NoMemory>
+        requires { table_of self.old.now name ≡ None }
+        ensures ok { OnOk result (self.new ≡ changed self.old (with_new self.old.now name held.now)) }
+        ensures err { OnErr result (self.new ≡ self.old) }
+    {
+        self.done.reserve(1)?;
+        self.tables.put(name, held)?;
+        self.done.push_reserved(Part::Tables);
+        Ok(())
+    }
+
+    /// Takes the table of the name away, or changes nothing.
+    pub fn take_table(&mut self, name: &Name) -> Result<(), NoMemory>
+        requires { is_some (table_of self.old.now name.now) ≡ true }
+        ensures ok { OnOk result (self.new ≡ changed self.old (without_table self.old.now name.now)) }
+        ensures err { OnErr result (self.new ≡ self.old) }
+    {
+        self.done.reserve(1)?;
+        self.tables.take(name)?;
+        self.done.push_reserved(Part::Tables);
+        Ok(())
+    }
+
+    /// Gives the table of a name another one, or changes nothing. Foreign keys that aim at it are as
+    /// they were.
+    pub fn rename_table(&mut self, name: &Name, to: Name) -> Result<(), NoMemory>
+        requires there { is_some (table_of self.old.now name.now) ≡ true }
+        requires absent { table_of self.old.now to ≡ None }
+        ensures ok { OnOk result (self.new ≡ changed self.old (with_renamed self.old.now name.now to)) }
+        ensures err { OnErr result (self.new ≡ self.old) }
+    {
+        self.done.reserve(1)?;
+        self.tables.rename(name, to)?;
+        self.done.push_reserved(Part::Tables);
+        Ok(())
+    }
+
+    /// Gives the table other columns, constraints and indexes, its rows as they are, or changes nothing.
+    pub fn shape_table(&mut self, name: &Name, shape: Shape) -> Result<(), NoMemory>
+        requires { is_some (table_of self.old.now name.now) ≡ true }
+        ensures ok { OnOk result (self.new ≡ changed self.old (with_table self.old.now name.now (with_shape shape (the_table self.old.now name.now)))) }
+        ensures err { OnErr result (self.new ≡ self.old) }
+    {
+        self.done.reserve(1)?;
+        self.tables.shape(name, shape)?;
+        self.done.push_reserved(Part::Tables);
+        Ok(())
+    }
+
+    /// Adds a row to the table at the end, and gives it another next number, or changes nothing.
+    pub fn append(
+        &mut self,
+        alloc: Global,
+        name: &Name,
+        row: Row,
+        next: u64,
+    ) -> Result<(), NoMemory>
+        requires { is_some (table_of self.old.now name.now) ≡ true }
+        ensures ok { OnOk result (self.new ≡ changed self.old (with_table self.old.now name.now (with_row row next (the_table self.old.now name.now)))) }
+        ensures err { OnErr result (self.new ≡ self.old) }
+    {
+        self.done.reserve(1)?;
+        self.tables.append(alloc, name, row, next)?;
+        self.done.push_reserved(Part::Tables);
+        Ok(())
+    }
+
+    /// Puts other rows of the table in place of those where there is one, or changes nothing.
+    pub fn replace_some(
+        &mut self,
+        alloc: Global,
+        name: &Name,
+        by: Vec<Option<Row>>,
+    ) -> Result<(), NoMemory>
+        requires there { is_some (table_of self.old.now name.now) ≡ true }
+        requires each { length by.items ≡ length (the_table self.old.now name.now).rows }
+        ensures ok { OnOk result (self.new ≡ changed self.old (with_table self.old.now name.now (with_all (replaced by.items) (the_table self.old.now name.now)))) }
+        ensures err { OnErr result (self.new ≡ self.old) }
+    {
+        self.done.reserve(1)?;
+        self.tables.replace_some(alloc, name, by)?;
+        self.done.push_reserved(Part::Tables);
+        Ok(())
+    }
+
+    /// Keeps the rows of the table whose mark stands and takes the others out, or changes nothing.
+    pub fn keep(&mut self, alloc: Global, name: &Name, marks: Vec<bool>) -> Result<(), NoMemory>
+        requires there { is_some (table_of self.old.now name.now) ≡ true }
+        requires each { length marks.items ≡ length (the_table self.old.now name.now).rows }
+        ensures ok { OnOk result (self.new ≡ changed self.old (with_table self.old.now name.now (with_all (kept_rows marks.items) (the_table self.old.now name.now)))) }
+        ensures err { OnErr result (self.new ≡ self.old) }
+    {
+        self.done.reserve(1)?;
+        self.tables.keep(alloc, name, marks)?;
+        self.done.push_reserved(Part::Tables);
+        Ok(())
+    }
+
+    /// Puts a new view at its name, or changes nothing.
+    pub fn put_view(&mut self, name: Name, view: View) -> Result<(), NoMemory>
+        requires { view_of self.old.now name ≡ None }
+        ensures ok { OnOk result (self.new ≡ changed self.old (with_view self.old.now name view)) }
+        ensures err { OnErr result (self.new ≡ self.old) }
+    {
+        self.done.reserve(1)?;
+        self.views.put(name, view)?;
+        self.done.push_reserved(Part::Views);
+        Ok(())
+    }
+
+    /// Takes the view of the name away, or changes nothing.
+    pub fn take_view(&mut self, name: &Name) -> Result<(), NoMemory>
+        requires { is_some (view_of self.old.now name.now) ≡ true }
+        ensures ok { OnOk result (self.new ≡ changed self.old (without_view self.old.now name.now)) }
+        ensures err { OnErr result (self.new ≡ self.old) }
+    {
+        self.done.reserve(1)?;
+        self.views.take(name)?;
+        self.done.push_reserved(Part::Views);
+        Ok(())
+    }
+
+    /// Puts a new sequence at its name, or changes nothing.
+    pub fn put_sequence(&mut self, name: Name, sequence: Sequence) -> Result<(), NoMemory>
+        requires { sequence_of self.old.now name ≡ None }
+        ensures ok { OnOk result (self.new ≡ changed self.old (with_sequence self.old.now name sequence)) }
+        ensures err { OnErr result (self.new ≡ self.old) }
+    {
+        self.done.reserve(1)?;
+        self.sequences.put(name, sequence)?;
+        self.done.push_reserved(Part::Sequences);
+        Ok(())
+    }
+
+    /// Takes the sequence of the name away, or changes nothing.
+    pub fn take_sequence(&mut self, name: &Name) -> Result<(), NoMemory>
+        requires { is_some (sequence_of self.old.now name.now) ≡ true }
+        ensures ok { OnOk result (self.new ≡ changed self.old (without_sequence self.old.now name.now)) }
+        ensures err { OnErr result (self.new ≡ self.old) }
+    {
+        self.done.reserve(1)?;
+        self.sequences.take(name)?;
+        self.done.push_reserved(Part::Sequences);
+        Ok(())
+    }
+}
+
+impl Parts {
+    /// Gives the catalogue as it was when `mark` answered this number. It takes no memory.
+    #[tactic(auto, using(lq_chain::proofs::HistoryLemmas::step_undone, lq_chain::proofs::HistoryLemmas::step_shorter))]
+    pub fn undo_to(&mut self, mark: u64)
+        requires { mark ≤ marked self.old }
+        ensures { self.new ≡ undone_to self.old mark }
+    {
+        while mark < self.mark() {
+            self.step_back();
+        }
+    }
+
+    /// Keeps the catalogue as it is: nothing can be undone.
+    pub fn forget(&mut self)
+        ensures { self.new ≡ history self.old.now [] }
+    {
+        self.done.clear();
+        self.tables.forget();
+        self.views.forget();
+        self.sequences.forget();
+    }
+
+    /// Undoes the last change, if there is one.
+    #[tactic(auto, using(crate::proofs::PartLemmas::newest_first))]
+    fn step_back(&mut self)
+        ensures { self.new ≡ back 1 self.old.now self.old.past }
+    {
+        match self.done.pop() {
+            None => {}
+            Some(Part::Tables) => self.tables.step_back(),
+            Some(Part::Views) => self.views.step_back(),
+            Some(Part::Sequences) => self.sequences.step_back(),
+        }
+    }
+}

@@ -1,0 +1,290 @@
+ghost use Rattle.std.specs.Prelude.{◌≡◌, ◌≤◌, ◌++◌, ◌∷◌, [], length, IfOk, OnOk, OnErr};
+ghost use Rattle.std.specs.Option.{option_copied};
+ghost use Rattle.std.specs.List.{list_any};
+ghost use Rattle.lq_model.specs.Look.{has_null_in};
+ghost use Rattle.lq_model.specs.Row.{by_name, is_null};
+ghost use Rattle.lq_chain.specs.History.{changed, marked, undone_to, forgotten};
+ghost use Rattle.lq_chain.specs.Marks.{kept_rows, replaced};
+ghost use Rattle.lq_rows.specs.Stored.{has_values, reshaped, rows_of, shape_of, stored, table_as, with_rows};
+ghost use Rattle.lq_rows.specs.Twin.{is_twin};
+
+use crate::pick::{has_column, is_null_at};
+use crate::seen::{asked, keep_up};
+use crate::shape::Shape;
+use crate::twin::{index_twin, key_twin, unique_twin};
+use crate::values::Values;
+use lq_base::{Items, Name, NoMemory, Value};
+use lq_chain::Chain;
+use lq_model::{Column, ForeignKey, Index, Key, Unique};
+use std::alloc::Global;
+use std::collections::BTreeSet;
+use std::marker::Model;
+use std::mem;
+
+/// A row's values, one for each column.
+pub type Row = Items<Value>;
+
+/// The values that the rows of a table have in some columns.
+#[derive(Drop)]
+pub struct Seen {
+    pub(crate) columns: Items<Name>,
+    pub(crate) values: BTreeSet<Values>,
+}
+
+#[derive(Drop)]
+pub struct Body {
+    shape: Shape,
+    /// What the next row gets in a numbered column where it states no number.
+    next: u64,
+    rows: Chain<Row>,
+    /// What is known of the rows for looking up; it is dropped where rows go.
+    seen: Vec<Seen>,
+}
+
+/// A table, with its rows before each change since the last `forget`. It is small, and can be moved
+/// without its rows.
+#[derive(Drop)]
+pub struct Held {
+    body: Box<Body>,
+}
+
+impl Model for Held {
+    ghost use Rattle.lq_rows.specs.Stored.{Stored, stored};
+
+    ghost Value = { Stored };
+
+    ghost use Rattle.lq_rows.specs.Stored.{table_as};
+    ghost use Rattle.lq_rows.specs.Seen.{AllShow};
+
+    ghost view = { λ t. stored (table_as t.body.value.shape t.body.value.next t.body.value.rows.now) t.body.value.rows.past };
+
+    ghost invariant = { λ t. AllShow t.body.value.shape.columns t.body.value.rows.now t.body.value.seen.items };
+}
+
+impl Held {
+    /// A table without rows. Its numbers begin at 1.
+    pub fn new(alloc: Global, shape: Shape) -> Result<Held, NoMemory>
+        ensures { IfOk result (λ held. held ≡ stored (table_as shape 1 []) []) }
+    {
+        let body = Body {
+            shape,
+            next: 1,
+            rows: Chain::new(alloc),
+            seen: Vec::new(alloc),
+        };
+        Ok(Held {
+            body: Box::new(alloc, body)?,
+        })
+    }
+
+    /// What the table is but for its rows and its next number.
+    pub fn shape(&self) -> &Shape
+        ensures { result.now ≡ shape_of self.now.now }
+    {
+        &self.body.shape
+    }
+
+    pub fn columns(&self) -> &[Column]
+        ensures { result.now ≡ self.now.now.columns }
+    {
+        self.body.shape.columns.as_slice()
+    }
+
+    pub fn key(&self) -> Option<&Key>
+        ensures { option_copied result ≡ self.now.now.key }
+    {
+        self.body.shape.key.as_ref()
+    }
+
+    pub fn uniques(&self) -> &[Unique]
+        ensures { result.now ≡ self.now.now.uniques }
+    {
+        self.body.shape.uniques.as_slice()
+    }
+
+    pub fn foreign_keys(&self) -> &[ForeignKey]
+        ensures { result.now ≡ self.now.now.foreign }
+    {
+        self.body.shape.foreign.as_slice()
+    }
+
+    pub fn indexes(&self) -> &[Index]
+        ensures { result.now ≡ self.now.now.indexes }
+    {
+        self.body.shape.indexes.as_slice()
+    }
+
+    /// What the next row gets in a numbered column.
+    pub fn next(&self) -> u64
+        ensures { result ≡ self.now.now.next }
+    {
+        self.body.next
+    }
+
+    /// The rows, with what undoing their changes needs.
+    pub fn rows(&self) -> &Chain<Row>
+        ensures { result.now ≡ rows_of self.now }
+    {
+        &self.body.rows
+    }
+
+    /// The number of its rows.
+    pub fn len(&self) -> usize
+        ensures { result ≡ length self.now.now.rows }
+    {
+        self.body.rows.len()
+    }
+
+    /// Whether a row has a null in the column of the name.
+    pub fn has_null(&self, column: &Name) -> bool
+        ensures { result ≡ has_null_in column.now self.now.now }
+    {
+        has_column(self.columns(), column) && null_in(self.columns(), self.rows(), column)
+    }
+
+    /// The number of changes of its rows that are not undone.
+    pub fn mark(&self) -> u64
+        ensures { result ≡ marked (rows_of self.now) }
+    {
+        self.body.rows.mark()
+    }
+
+    /// Whether a row has these values in these columns. What gets known for it stays known.
+    pub fn has_row(
+        &mut self,
+        alloc: Global,
+        names: &[Name],
+        values: &Values,
+    ) -> Result<bool, NoMemory>
+        ensures found { IfOk result (λ found. found ≡ has_values self.old.now.columns names.now self.old.now.rows values.now) }
+        ensures same { self.new ≡ self.old }
+    {
+        let body = &mut *self.body;
+        asked(
+            alloc,
+            &mut body.seen,
+            body.shape.columns.as_slice(),
+            &body.rows,
+            names,
+            values,
+        )
+    }
+
+    /// Whether a row is equal to this one in a key, a unique constraint or a unique index.
+    pub fn is_twin(&mut self, alloc: Global, row: &[Value]) -> Result<bool, NoMemory>
+        ensures found { IfOk result (λ found. found ≡ is_twin self.old.now row.now) }
+        ensures same { self.new ≡ self.old }
+    {
+        let body = &mut *self.body;
+        let columns = body.shape.columns.as_slice();
+        if key_twin(
+            alloc,
+            &mut body.seen,
+            columns,
+            &body.rows,
+            &body.shape.key,
+            row,
+        )? {
+            return Ok(true);
+        }
+        if unique_twin(
+            alloc,
+            &mut body.seen,
+            columns,
+            &body.rows,
+            body.shape.uniques.as_slice(),
+            row,
+        )? {
+            return Ok(true);
+        }
+        index_twin(
+            alloc,
+            &mut body.seen,
+            columns,
+            &body.rows,
+            body.shape.indexes.as_slice(),
+            row,
+        )
+    }
+
+    /// Adds a row at the end, or changes nothing.
+    pub fn append(&mut self, alloc: Global, row: Row, next: u64) -> Result<(), NoMemory>
+        ensures ok { OnOk result (self.new ≡ with_rows (changed (rows_of self.old) (self.old.now.rows ++ row ∷ [])) next self.old) }
+        ensures err { OnErr result (self.new ≡ self.old) }
+    {
+        let body = &mut *self.body;
+        keep_up(
+            alloc,
+            &mut body.seen,
+            body.shape.columns.as_slice(),
+            row.as_slice(),
+        );
+        if body.rows.push_back(row).is_err() {
+            body.seen.clear();
+            return Err(NoMemory);
+        }
+        body.next = next;
+        Ok(())
+    }
+
+    /// Puts other rows in place of those where there is one, or changes nothing.
+    pub fn replace_some(&mut self, alloc: Global, by: Vec<Option<Row>>) -> Result<(), NoMemory>
+        requires { length by.items ≡ length self.old.now.rows }
+        ensures ok { OnOk result (self.new ≡ with_rows (changed (rows_of self.old) (replaced by.items self.old.now.rows)) self.old.now.next self.old) }
+        ensures err { OnErr result (self.new ≡ self.old) }
+    {
+        let body = &mut *self.body;
+        body.seen.clear();
+        body.rows.replace_some(alloc, by)
+    }
+
+    /// Keeps the rows whose mark stands and takes the others out, or changes nothing.
+    pub fn keep(&mut self, alloc: Global, marks: Vec<bool>) -> Result<(), NoMemory>
+        requires { length marks.items ≡ length self.old.now.rows }
+        ensures ok { OnOk result (self.new ≡ with_rows (changed (rows_of self.old) (kept_rows marks.items self.old.now.rows)) self.old.now.next self.old) }
+        ensures err { OnErr result (self.new ≡ self.old) }
+    {
+        let body = &mut *self.body;
+        body.seen.clear();
+        body.rows.keep(alloc, marks)
+    }
+
+    /// Gives the rows and the next number as they were.
+    pub fn go_back(&mut self, mark: u64, next: u64)
+        requires { mark ≤ marked (rows_of self.old) }
+        ensures { self.new ≡ with_rows (undone_to (rows_of self.old) mark) next self.old }
+    {
+        let body = &mut *self.body;
+        body.seen.clear();
+        body.rows.undo_to(mark);
+        body.next = next;
+    }
+
+    /// Gives the table another shape, and hands back the one that it had.
+    pub fn reshape(&mut self, shape: Shape) -> Shape
+        ensures new { self.new ≡ reshaped shape self.old }
+        ensures old { result ≡ shape_of self.old.now }
+    {
+        let body = &mut *self.body;
+        body.seen.clear();
+        mem::replace(&mut body.shape, shape)
+    }
+
+    /// Keeps the rows as they are: their changes cannot be undone.
+    pub fn forget(&mut self)
+        ensures { self.new ≡ with_rows (forgotten (rows_of self.old)) self.old.now.next self.old }
+    {
+        self.body.rows.forget();
+    }
+}
+
+fn null_in(columns: &[Column], rows: &Chain<Row>, column: &Name) -> bool
+    ensures { result ≡ list_any (λ row. is_null (by_name columns.now row column.now)) rows.now.now }
+{
+    for row in rows.iter() {
+        if is_null_at(columns, row.as_slice(), column) {
+            return true;
+        }
+    }
+    false
+}

@@ -1,0 +1,14 @@
+//! A table as it is kept: its rows with what undoing needs, and what is known of them for looking up.
+#![tactic(auto)]
+
+mod held;
+mod pick;
+mod seen;
+mod shape;
+mod twin;
+mod values;
+
+pub use held::{Held, Row};
+pub use pick::{by_name, has_null, is_null, picked};
+pub use shape::Shape;
+pub use values::Values;
