@@ -44,7 +44,7 @@ header_made line logical is =
       third.0,
       pairs.0,
       given.0,
-      subst (λ (z : List ℕ). IsMarked line (word first.0) z) named.1 (marked_made line first.0 first.1),
+      subst (λ (z : List ℕ). IsMarked line (word first.0) z) {x = behind_word first.0} {y = second.0} named.1 (marked_made line first.0 first.1),
       named.0,
       behind_made (codes "formatted") second.0 third.0 second.2,
       behind_made (codes "sql") third.0 pairs.0 third.2,

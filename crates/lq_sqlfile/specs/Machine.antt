@@ -1,5 +1,5 @@
 -- What has been read of a file between two of its lines.
-use Rattle.std.specs.Prelude.{ℕ, ◌+◌, Bool, true, false, is_some, unwrap_or, List, [], ◌∷◌, ◌++◌, Option, Some, None, option_map, option_and_then, Result, Ok, Err, codes, if◌then◌else◌}
+use Rattle.std.specs.Prelude.{ℕ, ◌+◌, is_some, unwrap_or, List, [], ◌∷◌, ◌++◌, Option, Some, None, option_map, option_and_then, Result, Ok, Err, codes, if◌then◌else◌}
 use Rattle.std.specs.List.{list_all}
 use Rattle.std.specs.Str.{is_utf8}
 use Rattle.lq_base.specs.Kind.{is_blank}

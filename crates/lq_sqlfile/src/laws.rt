@@ -1,12 +1,12 @@
 ghost use Rattle.lq_sqlfile.specs.Examples.{HeaderExamples, LineExamples};
 ghost use Rattle.lq_sqlfile.specs.Laws.{FilesMeanOne, PartsAreFound, SetsAreFound};
 
-/// What a line says is what the reader finds in it.
+// What a line says is what the reader finds in it.
 fn parts()
     ensures { PartsAreFound }
 {}
 
-/// The changesets of a file's lines are those that the reader finds.
+// The changesets of a file's lines are those that the reader finds.
 fn sets()
     ensures { SetsAreFound }
 {}
