@@ -1,12 +1,13 @@
--- That constraints can be dropped, and that dropping one takes its adding back.
-use Rattle.std.specs.Prelude.{Ok, [], refl, true, ◌∷◌, ◌≡◌}
+-- That constraints and indexes can be dropped, and that dropping one takes its adding back.
+use Rattle.std.specs.Prelude.{None, Ok, Some, [], refl, true, ◌∷◌, ◌≡◌}
 use Rattle.lq_base.specs.Name.{is_name}
 use Rattle.lq_base.specs.declared.dialect.Dialect.{Dialect}
 use Rattle.lq_base.specs.declared.dialect.Dialect.TheVariants.{Mysql, Postgresql}
 use Rattle.lq_base.specs.declared.name.Name.{Name}
 use Rattle.lq_model.proofs.Effects.{one_back, one_back_where, one_becomes}
 use Rattle.lq_model.proofs.UndoConstraints.{drop_after_foreign_key, drop_after_key, drop_after_unique}
-use Rattle.lq_model.proofs.UndoMysql.{drop_foreign_key_after, drop_primary_key_after, drop_unique_after}
+use Rattle.lq_model.proofs.UndoIndexes.{drop_after_index}
+use Rattle.lq_model.proofs.UndoMysql.{drop_foreign_key_after, drop_index_after, drop_primary_key_after, drop_unique_after}
 use Rattle.lq_model.specs.Catalogue.{Catalogue, the_table, with_table}
 use Rattle.lq_model.specs.Sound.{IsSound}
 use Rattle.lq_model.specs.Statement.{is_statement}
@@ -16,8 +17,9 @@ use Rattle.lq_model.specs.declared.caller.By.TheVariants.{User}
 use Rattle.lq_model.specs.declared.constraint.ForeignKey.{ForeignKey}
 use Rattle.lq_model.specs.declared.constraint.Key.{Key}
 use Rattle.lq_model.specs.declared.constraint.Unique.{Unique}
-use Rattle.lq_model.specs.declared.statement.Statement.TheVariants.{AddForeignKey, AddPrimaryKey, AddUnique, DropConstraint, DropForeignKey, DropPrimaryKey, DropUnique}
-use Rattle.lq_keys.specs.Drops.{drops_foreign, drops_key, drops_unique, foreign_dropped, key_dropped, unique_dropped}
+use Rattle.lq_model.specs.declared.index.Index.{Index}
+use Rattle.lq_model.specs.declared.statement.Statement.TheVariants.{AddForeignKey, AddPrimaryKey, AddUnique, CreateIndex, DropConstraint, DropForeignKey, DropIndex, DropPrimaryKey, DropUnique}
+use Rattle.lq_keys.specs.Drops.{drops_foreign, drops_index, drops_key, drops_unique, foreign_dropped, index_dropped, key_dropped, unique_dropped}
 
 -- keys
 
@@ -60,3 +62,17 @@ foreign_becomes Mysql t n c e ran = one_becomes Mysql (DropForeignKey t n) c e r
 pub foreign_back : (d : Dialect) (t : Name) (f : ForeignKey) (c e : Catalogue) → IsSound d c → run User d (AddForeignKey t f ∷ []) c ≡ Ok e → run User d (drops_foreign d t f.name ∷ []) e ≡ Ok c
 foreign_back Postgresql t f c e sound ran = one_back Postgresql (AddForeignKey t f) (DropConstraint t f.name) (drop_after_foreign_key t f) c e sound ran
 foreign_back Mysql t f c e sound ran = one_back Mysql (AddForeignKey t f) (DropForeignKey t f.name) (drop_foreign_key_after t f) c e sound ran
+
+-- indexes
+
+pub index_spelled : (d : Dialect) (n t : Name) → is_name n ≡ true → is_name t ≡ true → is_statement d (drops_index d n t) ≡ true
+index_spelled Postgresql n t h k = rw h refl
+index_spelled Mysql n t h k = rw (h, k) refl
+
+pub index_becomes : (d : Dialect) (n t : Name) (c e : Catalogue) → run User d (drops_index d n t ∷ []) c ≡ Ok e → index_dropped d n t c ≡ e
+index_becomes Postgresql n t c e ran = one_becomes Postgresql (DropIndex n None) c e ran
+index_becomes Mysql n t c e ran = one_becomes Mysql (DropIndex n (Some t)) c e ran
+
+pub index_back : (d : Dialect) (t : Name) (i : Index) (c e : Catalogue) → IsSound d c → run User d (CreateIndex t i ∷ []) c ≡ Ok e → run User d (drops_index d i.name t ∷ []) e ≡ Ok c
+index_back Postgresql t i c e sound ran = one_back Postgresql (CreateIndex t i) (DropIndex i.name None) (drop_after_index t i) c e sound ran
+index_back Mysql t i c e sound ran = one_back Mysql (CreateIndex t i) (DropIndex i.name (Some t)) (drop_index_after t i) c e sound ran

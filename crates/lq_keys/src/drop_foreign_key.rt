@@ -2,7 +2,7 @@ ghost use Rattle.std.specs.Prelude.{◌≡◌, IfOk, true};
 ghost use Rattle.lq_tree.specs.Found.{Reads};
 ghost use Rattle.lq_keys.specs.DropForeignKey.{is_for, drop_foreign_key};
 
-use crate::drops::drop_foreign;
+use crate::drops::foreign_drop;
 use lq_base::{Dialect, Items, KindFault, Name, NoMemory};
 use lq_model::{Canon, Change, Field, Look, SqlText, Statement, Undo, write_change};
 use lq_tree::{Node, known, public, required};
@@ -73,7 +73,7 @@ impl Change for DropForeignKeyConstraint {
         dialect: Dialect,
         to: &mut Items<Statement>,
     ) -> Result<(), NoMemory> {
-        to.push(drop_foreign(alloc, dialect, &self.base_table_name, &self.constraint_name)?)?;
+        to.push(foreign_drop(alloc, dialect, &self.base_table_name, &self.constraint_name)?)?;
         Ok(())
     }
 

@@ -2,7 +2,7 @@ ghost use Rattle.std.specs.Prelude.{◌≡◌, IfOk, true};
 ghost use Rattle.lq_tree.specs.Found.{Reads};
 ghost use Rattle.lq_keys.specs.DropUnique.{is_for, drop_unique};
 
-use crate::drops::drop_unique;
+use crate::drops::unique_drop;
 use lq_base::{Dialect, Items, KindFault, Name, NoMemory};
 use lq_model::{Canon, Change, Field, Look, SqlText, Statement, Undo, write_change};
 use lq_tree::{Node, known, public, required};
@@ -73,7 +73,7 @@ impl Change for DropUniqueConstraint {
         dialect: Dialect,
         to: &mut Items<Statement>,
     ) -> Result<(), NoMemory> {
-        to.push(drop_unique(alloc, dialect, &self.table_name, &self.constraint_name)?)?;
+        to.push(unique_drop(alloc, dialect, &self.table_name, &self.constraint_name)?)?;
         Ok(())
     }
 
