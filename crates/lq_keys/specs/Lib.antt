@@ -1,0 +1,13 @@
+pub mod AddUnique
+pub mod AddUniqueLaws
+pub mod DropForeignKey
+pub mod DropForeignKeyLaws
+pub mod DropIndex
+pub mod DropIndexLaws
+pub mod DropPrimaryKey
+pub mod DropPrimaryKeyLaws
+pub mod DropUnique
+pub mod DropUniqueLaws
+pub mod Drops
+pub mod DropsLaws
+pub mod NamedLaws
