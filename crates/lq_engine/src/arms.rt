@@ -5,13 +5,14 @@ ghost use Rattle.lq_parts.specs.Answers.{Carries};
 use lq_base::Dialect;
 use lq_model::{By, Statement};
 use lq_parts::{Parts, RunFault};
+use lq_rowops::insert_into;
 use std::alloc::Global;
 
 /// Carries a statement out on a sound catalogue. It may change first and test its result afterwards:
 /// at a fault it may leave changes, which the caller undoes.
 #[tactic(auto, using(lq_parts::proofs::Continued::stays))]
 pub fn carry_out(
-    _: Global,
+    alloc: Global,
     parts: &mut Parts,
     dialect: Dialect,
     by: By,
@@ -20,6 +21,21 @@ pub fn carry_out(
     requires { IsSound dialect parts.old.now }
     ensures { Carries (step by dialect statement.now parts.old.now) parts.old parts.new result }
 {
-    // No arm is written yet.
-    Err(RunFault::OutOfMemory)
+    match statement {
+        Statement::Insert {
+            table,
+            columns,
+            values,
+        } => insert_into(
+            parts,
+            alloc,
+            by,
+            dialect,
+            table,
+            columns.as_slice(),
+            values.as_slice(),
+        ),
+        // Not written yet: a fault of memory may come at any time, and changes nothing.
+        _ => Err(RunFault::OutOfMemory),
+    }
 }

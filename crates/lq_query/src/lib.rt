@@ -12,5 +12,6 @@ mod source;
 mod truth;
 
 pub use asked::answer;
+pub use refusal::is_reserved;
 pub use source::{Shown, Source};
 pub use truth::{is_taken, kinds_agree, lacks_column, test_row};

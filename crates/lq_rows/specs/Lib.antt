@@ -1,4 +1,3 @@
 pub mod Order
 pub mod Seen
 pub mod Stored
-pub mod Twin

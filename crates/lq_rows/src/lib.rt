@@ -9,6 +9,6 @@ mod twin;
 mod values;
 
 pub use held::{Held, Row};
-pub use pick::{by_name, has_null, is_null, picked};
+pub use pick::{by_name, has_column, has_null, is_null, picked};
 pub use shape::Shape;
 pub use values::Values;

@@ -1,0 +1,2 @@
+mod InsertDecides
+mod InsertSteps

@@ -1,0 +1,23 @@
+use Rattle.std.proofs.Common.{Err, List, Ok, Result, rules, subst, ◌≡◌}
+use Rattle.lq_base.specs.declared.value.Value.{Value}
+use Rattle.lq_model.specs.Insert.{next_of, stated}
+use Rattle.lq_parts.specs.Answers.{Means}
+use Rattle.lq_rowops.specs.InsertTests.{row_meant}
+use Rattle.lq_rowops.proofs.InsertSteps as step
+use Rattle.lq_rowops.proofs.inserting.plan.Goals as goal
+
+pub returns-in-Err : goal.returns-in-Err
+returns-in-Err c =
+    let it = c.args.held.now.now in
+    let means = subst (Means (row_meant c.columns-2.result.now c.next.result c.args.columns.now c.as_slice.result.now c.args.values.now)) c.in-Err.is c.new_row.ensures in
+    step.bad_row c.args.dialect it c.args.columns.now c.args.values.now c.in-Err.fault c.columns-2.result.now c.next.result c.as_slice.result.now (search rules) (search rules) (search rules) means
+
+pub returns : goal.returns
+returns c =
+    let it = c.args.held.now.now in
+    let means = subst (Means (row_meant c.columns-2.result.now c.next.result c.args.columns.now c.as_slice.result.now c.args.values.now)) c.in-Ok.is c.new_row.ensures in
+    record {
+      row = step.good_row it c.args.columns.now c.args.values.now c.in-Ok.row c.columns-2.result.now c.next.result c.as_slice.result.now (search rules) (search rules) (search rules) means;
+      next = (let is : c.in-Some.next ≡ next_of c.args.dialect (stated it c.args.columns.now) it.columns c.in-Ok.row it.next = search rules in is);
+      full = rw (c.len.ensures) (step.full_is _);
+    }

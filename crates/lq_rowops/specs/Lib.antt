@@ -1,0 +1,3 @@
+pub mod InsertTests
+pub mod Planned
+pub mod RowAnswers

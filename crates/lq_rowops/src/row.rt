@@ -1,0 +1,234 @@
+ghost use Rattle.std.specs.List.{list_any};
+ghost use Rattle.std.specs.Prelude.{◌≡◌, IfOk, IfSome, cond, Ok, [], not, map, pos};
+ghost use Rattle.lq_base.specs.Into.{Goes};
+ghost use Rattle.lq_model.specs.Insert as spec;
+ghost use Rattle.lq_model.specs.Literals.{default_value};
+ghost use Rattle.lq_model.specs.Names as spaces;
+ghost use Rattle.lq_model.specs.Row as rows;
+ghost use Rattle.lq_base.specs.declared.dialect.Dialect.TheVariants.{Mysql};
+ghost use Rattle.lq_base.specs.declared.value.Value.TheVariants.{Int};
+ghost use Rattle.lq_rowops.specs.RowAnswers.{RowAnswers, RowMeans};
+
+use lq_base::{
+    Dialect, Duplicate, IntoFault, Items, Literal, Name, NoMemory, Reason, Value, into_kind,
+};
+use lq_model::Column;
+use lq_parts::RunFault;
+use lq_rows::{Row, has_column, is_null};
+use std::alloc::Global;
+
+/// The value that a new row has in a column.
+fn cell(
+    alloc: Global,
+    next: u64,
+    stated: &[Name],
+    values: &[Literal],
+    column: &Column,
+) -> Result<Value, IntoFault>
+    ensures { Goes (spec.cell next stated.now values.now column.now) result }
+{
+    let [name, stated @ ..] = stated else {
+        return unstated(alloc, next, column);
+    };
+    let [value, values @ ..] = values else {
+        return default_of(alloc, column);
+    };
+    if column.name == *name {
+        return into_kind(alloc, value, column.kind);
+    }
+    cell(alloc, next, stated, values, column)
+}
+
+fn unstated(alloc: Global, next: u64, column: &Column) -> Result<Value, IntoFault>
+    ensures { Goes (spec.cell next [] [] column.now) result }
+{
+    if column.numbered {
+        return into_kind(alloc, &Literal::Int(next as i128), column.kind);
+    }
+    default_of(alloc, column)
+}
+
+fn default_of(alloc: Global, column: &Column) -> Result<Value, IntoFault>
+    ensures { Goes (Ok (default_value column.now)) result }
+{
+    match &column.default {
+        None => Ok(Value::Null),
+        Some(value) => match value.duplicate(alloc) {
+            Ok(value) => Ok(value),
+            Err(_) => Err(IntoFault::OutOfMemory),
+        },
+    }
+}
+
+/// The new row, or the first reason against a value of it.
+pub fn row_of(
+    alloc: Global,
+    next: u64,
+    stated: &[Name],
+    values: &[Literal],
+    columns: &[Column],
+) -> Result<Row, RunFault>
+    ensures { RowAnswers (map (spec.cell next stated.now values.now) columns.now) result }
+{
+    let mut row = Items::new(alloc);
+    let mut is_wide = false;
+    for column in columns {
+        match cell(alloc, next, stated, values, column) {
+            Ok(value) => row.push(value)?,
+            Err(IntoFault::WrongKind) => return Err(RunFault::Refused(Reason::WrongKind)),
+            Err(IntoFault::OutOfMemory) => return Err(RunFault::OutOfMemory),
+            Err(IntoFault::TooWide) => {
+                is_wide = true;
+                row.push(Value::Null)?;
+            }
+        }
+    }
+    if is_wide {
+        return Err(RunFault::Refused(Reason::TooWide));
+    }
+    Ok(row)
+}
+
+/// Whether a NOT NULL column of the row holds null.
+pub fn has_bad_null(columns: &[Column], row: &[Value]) -> bool
+    ensures { result ≡ rows.has_bad_null columns.now row.now }
+{
+    let [column, columns @ ..] = columns else {
+        return false;
+    };
+    let [value, row @ ..] = row else {
+        return false;
+    };
+    if !column.nullable && is_null(value) {
+        return true;
+    }
+    has_bad_null(columns, row)
+}
+
+/// Whether one of the names stands there twice.
+pub fn repeats(names: &[Name]) -> bool
+    ensures { result ≡ spaces.repeats names.now }
+{
+    match names {
+        [] => false,
+        [first, rest @ ..] => is_in(first, rest) || repeats(rest),
+    }
+}
+
+pub fn is_in(name: &Name, names: &[Name]) -> bool
+    ensures { result ≡ spaces.is_in name.now names.now }
+{
+    names.iter().any(|other| *name == *other)
+}
+
+/// Whether a column of one of the names is missing.
+pub fn column_missing(columns: &[Column], names: &[Name]) -> bool
+    ensures { result ≡ list_any (λ n. not (spaces.is_in n (map (λ c. c.name) columns.now))) names.now }
+{
+    names.iter().any(|name| !has_column(columns, name))
+}
+
+/// The columns that are stated: all in order where none is.
+pub fn stated(alloc: Global, columns: &[Column], names: &[Name]) -> Result<Items<Name>, NoMemory>
+    ensures { IfOk result (λ all. all ≡ cond (spaces.is_empty names.now) (map (λ c. c.name) columns.now) names.now) }
+{
+    if names.is_empty() {
+        return all_names(alloc, columns);
+    }
+    copied(alloc, names)
+}
+
+fn all_names(alloc: Global, columns: &[Column]) -> Result<Items<Name>, NoMemory>
+    ensures { IfOk result (λ all. all ≡ map (λ c. c.name) columns.now) }
+{
+    let mut all = Items::new(alloc);
+    for column in columns {
+        all.push(column.name.duplicate(alloc)?)?;
+    }
+    Ok(all)
+}
+
+/// A copy of these items.
+pub fn copied<T: Duplicate + Drop>(alloc: Global, items: &[T]) -> Result<Items<T>, NoMemory>
+    ensures { IfOk result (λ copy. copy ≡ items.now) }
+{
+    let mut copy = Items::new(alloc);
+    for item in items {
+        copy.push(item.duplicate(alloc)?)?;
+    }
+    Ok(copy)
+}
+
+/// The new row of a table of these columns, or the first reason against its values.
+pub fn new_row(
+    alloc: Global,
+    next: u64,
+    columns: &[Column],
+    names: &[Name],
+    stated: &[Name],
+    values: &[Literal],
+) -> Result<Row, RunFault>
+    ensures { RowMeans columns.now next names.now stated.now values.now result }
+{
+    if column_missing(columns, names) {
+        return Err(RunFault::Refused(Reason::Missing));
+    }
+    if repeats(names) {
+        return Err(RunFault::Refused(Reason::Exists));
+    }
+    if stated.len() != values.len() {
+        return Err(RunFault::Refused(Reason::WrongKind));
+    }
+    let row = row_of(alloc, next, stated, values, columns)?;
+    if has_bad_null(columns, row.as_slice()) {
+        return Err(RunFault::Refused(Reason::NullFound));
+    }
+    Ok(row)
+}
+
+/// The next number after a row; none where numbers run out.
+pub fn next_after(
+    dialect: Dialect,
+    stated: &[Name],
+    columns: &[Column],
+    row: &[Value],
+    next: u64,
+) -> Option<u64>
+    ensures { IfSome result (λ after. after ≡ spec.next_of dialect stated.now columns.now row.now next) }
+{
+    let [column, columns @ ..] = columns else {
+        return Some(next);
+    };
+    let [value, row @ ..] = row else {
+        return Some(next);
+    };
+    if !column.numbered {
+        return next_after(dialect, stated, columns, row, next);
+    }
+    if is_in(&column.name, stated) {
+        return Some(number_after(dialect, next, value));
+    }
+    next.checked_add(1)
+}
+
+fn number_after(dialect: Dialect, next: u64, value: &Value) -> u64
+    ensures { result ≡ spec.number_after dialect next value.now }
+{
+    match dialect {
+        Dialect::Postgresql => next,
+        Dialect::Mysql => match value {
+            Value::Int(n) => at_least(next, *n),
+            _ => next,
+        },
+    }
+}
+
+fn at_least(next: u64, number: i64) -> u64
+    ensures { result ≡ spec.number_after Mysql next (Int number) }
+{
+    if number < 0 {
+        return next;
+    }
+    let after = number as u64 + 1;
+    if next < after { after } else { next }
+}
