@@ -1,5 +1,11 @@
+pub mod AddForeignKey
+pub mod AddForeignKeyLaws
+pub mod AddPrimaryKey
+pub mod AddPrimaryKeyLaws
 pub mod AddUnique
 pub mod AddUniqueLaws
+pub mod CreateIndex
+pub mod CreateIndexLaws
 pub mod DropForeignKey
 pub mod DropForeignKeyLaws
 pub mod DropIndex
@@ -10,4 +16,7 @@ pub mod DropUnique
 pub mod DropUniqueLaws
 pub mod Drops
 pub mod DropsLaws
+pub mod IndexColumn
 pub mod NamedLaws
+pub mod OnDelete
+pub mod OnDeleteLaws

@@ -1,0 +1,119 @@
+-- addForeignKeyConstraint: a table gets a foreign key.
+use Rattle.std.specs.Option.{option_map, unwrap_or}
+use Rattle.std.specs.Prelude.{Bool, List, None, Option, Result, Some, [], codes, false, if◌then◌else◌, not, true, ℕ, ◌&&◌, ◌||◌, ◌∷◌}
+use Rattle.std.specs.Str.{bytes_eq}
+use Rattle.lq_base.specs.Name.{is_name}
+use Rattle.lq_base.specs.Options.{if_there}
+use Rattle.lq_base.specs.declared.dialect.Dialect.{Dialect}
+use Rattle.lq_base.specs.declared.reason.Reason.{Reason}
+use Rattle.lq_model.specs.AddConstraint.{with_foreign}
+use Rattle.lq_model.specs.Canon.{CanonicalChange, list, text}
+use Rattle.lq_model.specs.Catalogue.{Catalogue, the_table, with_table}
+use Rattle.lq_model.specs.Effect.{effect_of}
+use Rattle.lq_model.specs.Written.{Row, change_of, texts}
+use Rattle.lq_model.specs.declared.constraint.ForeignKey.{ForeignKey}
+use Rattle.lq_model.specs.declared.statement.Statement.{Statement}
+use Rattle.lq_model.specs.declared.statement.Statement.TheVariants as statement
+use Rattle.lq_tree.specs.Found.{Taken}
+use Rattle.lq_tree.specs.Given.{a_name}
+use Rattle.lq_tree.specs.Items.{are_some}
+use Rattle.lq_tree.specs.Keys.{Keys, fields, map_with, optional, place, required, ◌⊛◌}
+use Rattle.lq_tree.specs.Look.{text_of, truth_of, value_at}
+use Rattle.lq_tree.specs.Names.{some_names}
+use Rattle.lq_tree.specs.declared.node.Node.{Node}
+use Rattle.lq_keys.specs.Drops.{drops_foreign}
+use Rattle.lq_keys.specs.OnDelete.{an_on_delete, cascades, words}
+use Rattle.lq_keys.specs.declared.add_foreign_key.AddForeignKeyConstraint.{AddForeignKeyConstraint}
+
+-- its keys
+
+abbrev pub keys : Keys AddForeignKeyConstraint
+keys =
+    fields (λ name table columns target targets deletion. record { constraint_name = name; base_table_name = table; base_column_names = columns; referenced_table_name = target; referenced_column_names = targets; on_delete = deletion })
+    ⊛ required (codes "constraintName") a_name
+    ⊛ required (codes "baseTableName") a_name
+    ⊛ required (codes "baseColumnNames") some_names
+    ⊛ required (codes "referencedTableName") a_name
+    ⊛ required (codes "referencedColumnNames") some_names
+    ⊛ optional (codes "onDelete") an_on_delete
+
+-- and those that are known only at a value that changes nothing
+
+abbrev pub is_false : Node → Bool
+is_false n = not (unwrap_or (truth_of n) true)
+
+abbrev pub is_true : Node → Bool
+is_true n = unwrap_or (truth_of n) false
+
+abbrev pub is_idle : Node → Bool
+is_idle n = elim (text_of n) [ None ↦ false | Some t ↦ bytes_eq t (codes "NO ACTION") || bytes_eq t (codes "RESTRICT") ]
+
+-- the key where its value is accepted, else `remarks`, which is known anyway
+abbrev pub or_remarks : Bool → List ℕ → List ℕ
+or_remarks accepted key = if accepted then key else codes "remarks"
+
+abbrev pub ignored : Node → List (List ℕ)
+ignored n =
+    codes "remarks"
+    ∷ or_remarks (if_there is_false (value_at (codes "deferrable") n)) (codes "deferrable")
+    ∷ or_remarks (if_there is_false (value_at (codes "initiallyDeferred") n)) (codes "initiallyDeferred")
+    ∷ or_remarks (if_there is_true (value_at (codes "validate") n)) (codes "validate")
+    ∷ or_remarks (if_there is_idle (value_at (codes "onUpdate") n)) (codes "onUpdate")
+    ∷ []
+
+-- with the place of its table
+abbrev pub all_keys : Keys AddForeignKeyConstraint
+all_keys = fields (λ change place. change) ⊛ keys ⊛ place
+
+unfoldable pub add_foreign_key : Taken AddForeignKeyConstraint
+add_foreign_key n = map_with (ignored n) all_keys n
+
+-- its names are names, and it has a column and a target
+abbrev pub is_for : Dialect → AddForeignKeyConstraint → Bool
+is_for d x =
+    is_name x.constraint_name
+    && (is_name x.base_table_name
+    && (are_some is_name x.base_column_names
+    && (is_name x.referenced_table_name && are_some is_name x.referenced_column_names)))
+
+-- what it does
+
+abbrev pub foreign_of : AddForeignKeyConstraint → ForeignKey
+foreign_of x = record {
+  name = x.constraint_name;
+  columns = x.base_column_names;
+  table = x.referenced_table_name;
+  targets = x.referenced_column_names;
+  cascade = cascades x.on_delete;
+}
+
+abbrev pub gives : Dialect → AddForeignKeyConstraint → List Statement
+gives d x = statement.AddForeignKey x.base_table_name (foreign_of x) ∷ []
+
+-- it goes to the end of the table's foreign keys
+abbrev pub becomes : Dialect → AddForeignKeyConstraint → Catalogue → Catalogue
+becomes d x c = with_table c x.base_table_name (with_foreign (foreign_of x) (the_table c x.base_table_name))
+
+abbrev pub effect : Dialect → AddForeignKeyConstraint → Catalogue → Result Catalogue Reason
+effect = effect_of gives becomes
+
+abbrev pub is_fresh : Dialect → AddForeignKeyConstraint → Catalogue → Bool
+is_fresh d x c = true
+
+abbrev pub inverse : Dialect → AddForeignKeyConstraint → Option (List Statement)
+inverse d x = Some (drops_foreign d x.base_table_name x.constraint_name ∷ [])
+
+-- its canonical text
+
+abbrev pub rows : AddForeignKeyConstraint → List Row
+rows x =
+    (codes "constraintName", Some (text x.constraint_name))
+    ∷ (codes "baseTableName", Some (text x.base_table_name))
+    ∷ (codes "baseColumnNames", Some (list (texts x.base_column_names)))
+    ∷ (codes "referencedTableName", Some (text x.referenced_table_name))
+    ∷ (codes "referencedColumnNames", Some (list (texts x.referenced_column_names)))
+    ∷ (codes "onDelete", option_map (λ o. text (words o)) x.on_delete)
+    ∷ []
+
+abbrev pub canonical_of : AddForeignKeyConstraint → CanonicalChange
+canonical_of x = change_of (codes "addForeignKeyConstraint") (rows x)
