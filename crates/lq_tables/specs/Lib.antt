@@ -1,10 +1,4 @@
-pub mod DropColumn
-pub mod DropColumnLaws
-pub mod DropDefaultValue
-pub mod DropDefaultValueLaws
 pub mod DropTable
 pub mod DropTableLaws
-pub mod RenameColumn
-pub mod RenameColumnLaws
 pub mod RenameTable
 pub mod RenameTableLaws

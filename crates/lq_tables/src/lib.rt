@@ -1,14 +1,8 @@
-//! The change types of tables and their columns.
+//! The change types of tables, and the one that adds columns to them.
 #![tactic(auto)]
 
-mod drop_column;
-mod drop_default_value;
 mod drop_table;
-mod rename_column;
 mod rename_table;
 
-pub use drop_column::DropColumn;
-pub use drop_default_value::DropDefaultValue;
 pub use drop_table::DropTable;
-pub use rename_column::RenameColumn;
 pub use rename_table::RenameTable;

@@ -12,8 +12,8 @@ use Rattle.lq_model.specs.Changes.{AreStatements, AreTold, HaveEffect, TakeBack}
 use Rattle.lq_model.specs.Effect.{Becomes, GoesBack}
 use Rattle.lq_model.specs.Written.{nth_value}
 use Rattle.lq_model.specs.declared.statement.Statement.TheVariants as statement
-use Rattle.lq_tables.specs.DropDefaultValue.{becomes, canonical_of, effect, gives, inverse, is_for, is_fresh, rows}
-use Rattle.lq_tables.specs.declared.drop_default_value.DropDefaultValue.{DropDefaultValue}
+use Rattle.lq_columns.specs.DropDefaultValue.{becomes, canonical_of, effect, gives, inverse, is_for, is_fresh, rows}
+use Rattle.lq_columns.specs.declared.drop_default_value.DropDefaultValue.{DropDefaultValue}
 
 pub spelled : AreStatements is_for gives
 spelled d x h =

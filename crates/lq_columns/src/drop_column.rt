@@ -1,61 +1,56 @@
 ghost use Rattle.std.specs.Prelude.{◌≡◌, IfOk, true};
 ghost use Rattle.lq_tree.specs.Found.{Reads};
-ghost use Rattle.lq_tables.specs.DropDefaultValue.{is_for, drop_default_value};
+ghost use Rattle.lq_columns.specs.DropColumn.{is_for, drop_column};
 
-use lq_base::{Dialect, Duplicate, Items, Kind, KindFault, Name, NoMemory};
-use lq_model::{Canon, Change, Field, Look, SqlText, Statement, Undo, kind_field, write_change};
-use lq_tree::{Node, known, optional, public, required};
+use lq_base::{Dialect, Duplicate, Items, KindFault, Name, NoMemory};
+use lq_model::{Canon, Change, Field, Look, SqlText, Statement, Undo, write_change};
+use lq_tree::{Node, known, public, required};
 use std::alloc::Global;
 
-/// A column has no default any more (Liquibase's documentation, "dropDefaultValue").
+/// A column of a table is dropped (Liquibase's documentation, "dropColumn").
 #[derive(Debug, Drop)]
-pub struct DropDefaultValue {
+pub struct DropColumn {
     pub table_name: Name,
     pub column_name: Name,
-    /// Without effect.
-    pub column_data_type: Option<Kind>,
 }
 
-const KEYS: [&str; 6] = [
+const KEYS: [&str; 5] = [
     "tableName",
     "columnName",
-    "columnDataType",
     "schemaName",
     "catalogName",
     "remarks",
 ];
 
-impl DropDefaultValue {
+impl DropColumn {
     /// What a node states. The order of faults is that of the keys.
-    #[tactic(auto, unfolding(crate::specs::DropDefaultValue::drop_default_value))]
+    #[tactic(auto, unfolding(crate::specs::DropColumn::drop_column))]
     pub fn read<P: SqlText>(
         alloc: Global,
         node: &Node,
         dialect: Dialect,
         _sql: &P,
-    ) -> Result<DropDefaultValue, KindFault>
-        ensures read { Reads (drop_default_value node.now) result }
+    ) -> Result<DropColumn, KindFault>
+        ensures read { Reads (drop_column node.now) result }
         ensures right { IfOk result (λ x. is_for dialect x ≡ true) }
     {
         known(alloc, node, &KEYS)?;
         let table_name = required(alloc, node, "tableName")?;
         let column_name = required(alloc, node, "columnName")?;
-        let column_data_type = optional(alloc, node, "columnDataType")?;
         public(alloc, node)?;
-        Ok(DropDefaultValue {
+        Ok(DropColumn {
             table_name,
             column_name,
-            column_data_type,
         })
     }
 }
 
-impl Change for DropDefaultValue {
-    ghost use Rattle.lq_tables.specs.DropDefaultValue.{canonical_of, effect, gives, inverse, is_for, is_fresh};
-    ghost use Rattle.lq_tables.specs.DropDefaultValueLaws.{does, restores, spelled, told};
-    ghost use Rattle.lq_tables.specs.declared.drop_default_value.DropDefaultValue.{DropDefaultValue};
+impl Change for DropColumn {
+    ghost use Rattle.lq_columns.specs.DropColumn.{canonical_of, effect, gives, inverse, is_for, is_fresh};
+    ghost use Rattle.lq_columns.specs.DropColumnLaws.{does, restores, spelled, told};
+    ghost use Rattle.lq_columns.specs.declared.drop_column.DropColumn.{DropColumn};
 
-    ghost Key = { DropDefaultValue };
+    ghost Key = { DropColumn };
 
     ghost key = { λ change. change };
 
@@ -77,7 +72,7 @@ impl Change for DropDefaultValue {
         _dialect: Dialect,
         to: &mut Items<Statement>,
     ) -> Result<(), NoMemory> {
-        to.push(Statement::DropDefault {
+        to.push(Statement::DropColumn {
             table: self.table_name.duplicate(alloc)?,
             column: self.column_name.duplicate(alloc)?,
         })?;
@@ -95,11 +90,10 @@ impl Change for DropDefaultValue {
     fn canon(&self, to: &mut Canon) -> Result<(), NoMemory> {
         write_change(
             to,
-            "dropDefaultValue",
+            "dropColumn",
             &[
                 ("tableName", Some(Field::Text(self.table_name.as_key()))),
                 ("columnName", Some(Field::Text(self.column_name.as_key()))),
-                ("columnDataType", kind_field(self.column_data_type)),
             ],
         )
     }

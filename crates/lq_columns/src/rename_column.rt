@@ -1,6 +1,6 @@
 ghost use Rattle.std.specs.Prelude.{◌≡◌, IfOk, true};
 ghost use Rattle.lq_tree.specs.Found.{Reads};
-ghost use Rattle.lq_tables.specs.RenameColumn.{is_for, rename_column};
+ghost use Rattle.lq_columns.specs.RenameColumn.{is_for, rename_column};
 
 use lq_base::{Dialect, Duplicate, Items, Kind, KindFault, Name, NoMemory};
 use lq_model::{Canon, Change, Field, Look, SqlText, Statement, Undo, kind_field, write_change};
@@ -55,9 +55,9 @@ impl RenameColumn {
 }
 
 impl Change for RenameColumn {
-    ghost use Rattle.lq_tables.specs.RenameColumn.{canonical_of, effect, gives, inverse, is_for, is_fresh};
-    ghost use Rattle.lq_tables.specs.RenameColumnLaws.{does, restores, spelled, told};
-    ghost use Rattle.lq_tables.specs.declared.rename_column.RenameColumn.{RenameColumn};
+    ghost use Rattle.lq_columns.specs.RenameColumn.{canonical_of, effect, gives, inverse, is_for, is_fresh};
+    ghost use Rattle.lq_columns.specs.RenameColumnLaws.{does, restores, spelled, told};
+    ghost use Rattle.lq_columns.specs.declared.rename_column.RenameColumn.{RenameColumn};
 
     ghost Key = { RenameColumn };
 

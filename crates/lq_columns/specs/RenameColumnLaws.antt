@@ -14,8 +14,8 @@ use Rattle.lq_model.specs.Effect.{Becomes, GoesBack}
 use Rattle.lq_model.specs.Step.{run}
 use Rattle.lq_model.specs.Written.{nth_value}
 use Rattle.lq_model.specs.declared.caller.By.TheVariants.{User}
-use Rattle.lq_tables.specs.RenameColumn.{becomes, canonical_of, effect, gives, inverse, is_for, is_fresh, renames, rows}
-use Rattle.lq_tables.specs.declared.rename_column.RenameColumn.{RenameColumn}
+use Rattle.lq_columns.specs.RenameColumn.{becomes, canonical_of, effect, gives, inverse, is_for, is_fresh, renames, rows}
+use Rattle.lq_columns.specs.declared.rename_column.RenameColumn.{RenameColumn}
 
 pub spelled : AreStatements is_for gives
 spelled d x h =

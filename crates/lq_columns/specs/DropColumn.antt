@@ -13,7 +13,7 @@ use Rattle.lq_model.specs.declared.statement.Statement.TheVariants as statement
 use Rattle.lq_tree.specs.Found.{Taken}
 use Rattle.lq_tree.specs.Given.{a_name}
 use Rattle.lq_tree.specs.Keys.{Keys, a_change, fields, required, ◌⊛◌}
-use Rattle.lq_tables.specs.declared.drop_column.DropColumn.{DropColumn}
+use Rattle.lq_columns.specs.declared.drop_column.DropColumn.{DropColumn}
 
 -- its keys
 

@@ -7,8 +7,8 @@ use Rattle.lq_model.specs.Changes.{AreStatements, AreTold, HaveEffect, TakeBack}
 use Rattle.lq_model.specs.Effect.{Becomes, GoesBack}
 use Rattle.lq_model.specs.Written.{nth_value}
 use Rattle.lq_model.specs.declared.statement.Statement.TheVariants as statement
-use Rattle.lq_tables.specs.DropColumn.{becomes, canonical_of, effect, gives, inverse, is_for, is_fresh, rows}
-use Rattle.lq_tables.specs.declared.drop_column.DropColumn.{DropColumn}
+use Rattle.lq_columns.specs.DropColumn.{becomes, canonical_of, effect, gives, inverse, is_for, is_fresh, rows}
+use Rattle.lq_columns.specs.declared.drop_column.DropColumn.{DropColumn}
 
 pub spelled : AreStatements is_for gives
 spelled d x h = rw h refl

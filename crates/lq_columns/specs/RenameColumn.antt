@@ -17,7 +17,7 @@ use Rattle.lq_model.specs.declared.statement.Statement.TheVariants as statement
 use Rattle.lq_tree.specs.Found.{Taken}
 use Rattle.lq_tree.specs.Given.{a_kind, a_name}
 use Rattle.lq_tree.specs.Keys.{Keys, a_change, fields, optional, required, ◌⊛◌}
-use Rattle.lq_tables.specs.declared.rename_column.RenameColumn.{RenameColumn}
+use Rattle.lq_columns.specs.declared.rename_column.RenameColumn.{RenameColumn}
 
 -- its keys
 
