@@ -1,0 +1,108 @@
+ghost use Rattle.std.specs.Prelude.{◌≡◌, IfOk, true};
+ghost use Rattle.lq_tree.specs.Found.{Reads};
+ghost use Rattle.lq_columns.specs.DropColumn.{is_for, drop_column};
+
+use lq_base::{Dialect, Duplicate, Items, KindFault, Name, NoMemory};
+use lq_model::{Canon, Change, Field, Look, SqlText, Statement, Undo, write_change};
+use lq_tree::{Node, known, public, required};
+use std::alloc::Global;
+
+/// A column of a table is dropped (Liquibase's documentation, "dropColumn").
+#[derive(Debug, Drop)]
+pub struct DropColumn {
+    pub table_name: Name,
+    pub column_name: Name,
+}
+
+const KEYS: [&str; 5] = [
+    "tableName",
+    "columnName",
+    "schemaName",
+    "catalogName",
+    "remarks",
+];
+
+impl DropColumn {
+    /// What a node states. The order of faults is that of the keys.
+    #[tactic(auto, unfolding(crate::specs::DropColumn::drop_column))]
+    pub fn read<P: SqlText>(
+        alloc: Global,
+        node: &Node,
+        dialect: Dialect,
+        _sql: &P,
+    ) -> Result<DropColumn, KindFault>
+        ensures read { Reads (drop_column node.now) result }
+        ensures right { IfOk result (λ x. is_for dialect x ≡ true) }
+    {
+        known(alloc, node, &KEYS)?;
+        let table_name = required(alloc, node, "tableName")?;
+        let column_name = required(alloc, node, "columnName")?;
+        public(alloc, node)?;
+        Ok(DropColumn {
+            table_name,
+            column_name,
+        })
+    }
+}
+
+impl Change for DropColumn {
+    ghost use Rattle.lq_columns.specs.DropColumn.{canonical_of, effect, gives, inverse, is_for, is_fresh};
+    ghost use Rattle.lq_columns.specs.DropColumnLaws.{does, restores, spelled, told};
+    ghost use Rattle.lq_columns.specs.declared.drop_column.DropColumn.{DropColumn};
+
+    ghost Key = { DropColumn };
+
+    ghost key = { λ change. change };
+
+    ghost is_for = { is_for };
+
+    ghost effect = { effect };
+
+    ghost fresh = { is_fresh };
+
+    ghost gives = { gives };
+
+    ghost inverse = { inverse };
+
+    ghost canonical = { canonical_of };
+
+    fn statements(
+        &self,
+        alloc: Global,
+        _dialect: Dialect,
+        to: &mut Items<Statement>,
+    ) -> Result<(), NoMemory> {
+        to.push(Statement::DropColumn {
+            table: self.table_name.duplicate(alloc)?,
+            column: self.column_name.duplicate(alloc)?,
+        })?;
+        Ok(())
+    }
+
+    fn undo(&self, _alloc: Global, _dialect: Dialect) -> Result<Undo, NoMemory> {
+        Ok(Undo::Absent)
+    }
+
+    fn is_fresh<K: Look>(&self, _dialect: Dialect, _look: &K) -> bool {
+        true
+    }
+
+    fn canon(&self, to: &mut Canon) -> Result<(), NoMemory> {
+        write_change(
+            to,
+            "dropColumn",
+            &[
+                ("tableName", Some(Field::Text(self.table_name.as_key()))),
+                ("columnName", Some(Field::Text(self.column_name.as_key()))),
+            ],
+        )
+    }
+
+    ghost spelled = { spelled };
+
+    ghost does = { does };
+
+    ghost restores = { restores };
+
+    ghost told = { told };
+}

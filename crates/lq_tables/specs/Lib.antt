@@ -1,0 +1,4 @@
+pub mod DropTable
+pub mod DropTableLaws
+pub mod RenameTable
+pub mod RenameTableLaws

@@ -1,0 +1,39 @@
+-- That renameTable keeps its promises.
+use Rattle.std.proofs.Common.{ap, sym, ◌∙◌}
+use Rattle.std.specs.Prelude.{codes, refl, ◌≡◌}
+use Rattle.lq_model.proofs.Effects.{does_so, one_back, one_becomes, restores_so, some_same}
+use Rattle.lq_model.proofs.RenameEither.{rename_table_after}
+use Rattle.lq_model.proofs.Told.{keys_told, text_told}
+use Rattle.lq_model.specs.Changes.{AreStatements, AreTold, HaveEffect, TakeBack}
+use Rattle.lq_model.specs.Effect.{Becomes, GoesBack}
+use Rattle.lq_model.specs.Step.{run}
+use Rattle.lq_model.specs.Written.{nth_value}
+use Rattle.lq_model.specs.declared.caller.By.TheVariants.{User}
+use Rattle.lq_model.specs.declared.statement.Statement.TheVariants as statement
+use Rattle.lq_tables.specs.RenameTable.{becomes, canonical_of, effect, gives, inverse, is_for, is_fresh, rows}
+use Rattle.lq_tables.specs.declared.rename_table.RenameTable.{RenameTable}
+
+pub spelled : AreStatements is_for gives
+spelled d x h = rw h refl
+
+becomes_so : Becomes gives becomes is_for
+becomes_so d x c e right sound ran = one_becomes d (statement.RenameTable x.old_table_name x.new_table_name) c e ran
+
+pub does : HaveEffect is_for gives effect
+does = does_so is_for gives becomes becomes_so
+
+goes_back : GoesBack is_for gives is_fresh inverse
+goes_back d x c e undoing right sound new ran taken =
+    ap (λ ss. run User d ss e) (sym (some_same taken))
+    ∙ one_back d (statement.RenameTable x.old_table_name x.new_table_name) (statement.RenameTable x.new_table_name x.old_table_name) (rename_table_after d x.old_table_name x.new_table_name) c e sound ran
+
+pub restores : TakeBack is_for effect is_fresh inverse
+restores = restores_so is_for gives becomes is_fresh inverse becomes_so goes_back
+
+same : (x y : RenameTable) → x.old_table_name ≡ y.old_table_name → x.new_table_name ≡ y.new_table_name → x ≡ y
+same x y old new = rw (old, new) refl
+
+pub told : AreTold is_for canonical_of
+told d x y right also e =
+    let is : rows x ≡ rows y = keys_told (codes "renameTable") (codes "renameTable") (rows x) (rows y) refl refl e in
+    same x y (text_told (ap (nth_value 0) is)) (text_told (ap (nth_value 1) is))
