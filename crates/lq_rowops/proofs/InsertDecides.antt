@@ -1,9 +1,7 @@
 -- On a sound catalogue a new row is tested by its own values alone.
-use Rattle.std.proofs.Common.{◌∙◌, ap, arith, subst, sym, unwrap_or}
-use Rattle.std.proofs.lemmas.List.{length-append}
-use Rattle.std.specs.List.{list_all, list_any}
-use Rattle.std.specs.Map.{lookup, set_value}
-use Rattle.std.specs.Prelude.{Bool, Err, List, None, Ok, Option, Result, Some, [], cond, false, is_none, length, map, nat_le, not, refl, suc, true, ℕ, ◌&&◌, ◌++◌, ◌==◌, ◌||◌, ◌∷◌, ◌≡◌}
+use Rattle.std.proofs.Common.{◌∙◌, ap, sym}
+use Rattle.std.specs.List.{list_any}
+use Rattle.std.specs.Prelude.{Bool, Err, List, None, Ok, Result, [], false, is_none, length, map, nat_le, not, refl, suc, true, ℕ, ◌&&◌, ◌++◌, ◌==◌, ◌||◌, ◌∷◌, ◌≡◌}
 use Rattle.lq_base.specs.Name.{is_named}
 use Rattle.lq_base.specs.declared.dialect.Dialect.{Dialect}
 use Rattle.lq_base.specs.declared.literal.Literal.{Literal}
@@ -14,22 +12,18 @@ use Rattle.lq_model.specs.declared.caller.By.{By}
 use Rattle.lq_model.specs.declared.caller.By.TheVariants.{Program}
 use Rattle.lq_base.specs.declared.name.Name.{Name}
 use Rattle.lq_base.specs.declared.value.Value.{Value}
-use Rattle.lq_model.specs.Catalogue.{Catalogue, Table, no_table, table_of, the_table, with_table}
-use Rattle.lq_model.specs.Insert.{insert, next_of, stated, with_row, row_of}
+use Rattle.lq_model.specs.Catalogue.{Catalogue, Table, table_of, the_table, with_table}
+use Rattle.lq_model.specs.Insert.{insert, next_of, stated, row_of}
 use Rattle.lq_model.specs.Literals.{is_wide, is_wrong, value_in}
-use Rattle.lq_model.specs.Names.{is_in, repeats, same_names}
+use Rattle.lq_model.specs.Names.{repeats}
 use Rattle.lq_model.specs.Reserved.{is_reserved}
-use Rattle.lq_model.specs.TableNames.{column_missing, target_lists}
-use Rattle.lq_model.specs.Plan.{decide, lacks_parents, leaves_children}
-use Rattle.lq_model.specs.ResultTests.{has_null, has_orphan, has_orphans, has_twins, is_full, is_loose, is_overfull, lacks_parent, misses_target, most_rows, table_has_null, table_has_twins, unique_lists}
-use Rattle.lq_model.specs.Row.{has_bad_null, has_equals, is_null, picked, same_values}
+use Rattle.lq_model.specs.TableNames.{column_missing}
+use Rattle.lq_model.specs.Plan.{decide}
+use Rattle.lq_model.specs.ResultTests.{most_rows}
+use Rattle.lq_model.specs.Row.{has_bad_null, is_null, picked, same_values}
 use Rattle.lq_model.specs.Sound.{IsSound}
 use Rattle.lq_model.specs.declared.column.Column.{Column}
 use Rattle.lq_model.specs.declared.constraint.ForeignKey.{ForeignKey}
-use Rattle.lq_model.proofs.Decide.{here}
-use Rattle.lq_model.proofs.Kept.{and_never, lookup_other, the_table-with_table}
-use Rattle.lq_model.proofs.Lists.{and_no_right, named_itself, or_left, or_right, same_name, any-append, any_less, any_same, map_append_one, or_false, whether}
-use Rattle.lq_model.proofs.Maps.{not_some, any-set_value, any_local, at_lookup, lookup-set_value}
 use Rattle.lq_decide.specs.InsertFaults.{insert_faults, is_orphan, is_twin, lacks_parent_of}
 use Rattle.lq_decide.specs.Judged.{judged}
 use Rattle.lq_decide.proofs.Inserted.{insert_judged}

@@ -1,19 +1,18 @@
 -- The steps of an INSERT.
-use Rattle.std.proofs.Common.{Bool, Err, List, Ok, Result, Some, IfSome, ap, arith, cond, false, is_none, leb, length, map, nat_le, not, refl, rules, subst, suc, sym, tests, true, ℕ, ◌∙◌, ◌≡◌, ◌≤◌}
+use Rattle.std.proofs.Common.{Err, List, Ok, Result, ap, arith, false, is_none, leb, nat_le, not, refl, subst, suc, sym, tests, ℕ, ◌∙◌, ◌≡◌}
 use Rattle.lq_base.specs.declared.dialect.Dialect.{Dialect}
 use Rattle.lq_base.specs.declared.literal.Literal.{Literal}
 use Rattle.lq_base.specs.declared.name.Name.{Name}
 use Rattle.lq_base.specs.declared.value.Value.{Value}
-use Rattle.lq_chain.specs.History.{History, changed, marked, undone_to}
-use Rattle.lq_chain.proofs.HistoryLemmas.{undone_to-changed, undone_to-marked}
+use Rattle.lq_chain.specs.History.{History}
 use Rattle.lq_model.specs.Catalogue.{Catalogue, Table, table_of, the_table}
-use Rattle.lq_model.specs.Insert.{next_of, stated}
+use Rattle.lq_model.specs.Insert.{stated}
 use Rattle.lq_model.specs.declared.caller.By.TheVariants.{Program}
 use Rattle.lq_model.specs.declared.column.Column.{Column}
 use Rattle.lq_parts.specs.Answers.{Answers, Means}
 use Rattle.lq_parts.proofs.Continued.{stays}
 use Rattle.lq_rowops.specs.InsertTests.{inserted, new_row, row_meant}
-use Rattle.lq_rowops.specs.Planned.{Plans, PlansRow}
+use Rattle.lq_rowops.specs.Planned.{PlansRow}
 use Rattle.lq_parts.specs.declared.fault.RunFault.{RunFault}
 use Rattle.lq_parts.specs.declared.fault.RunFault.TheVariants.{OutOfMemory, Refused}
 use Rattle.lq_rowops.proofs.InsertDecides.{insert_bad}

@@ -1,7 +1,6 @@
 -- What a new row is tested for where the catalogue before it is sound: its own values alone.
 use Rattle.std.specs.List.{list_any}
-use Rattle.std.specs.Prelude.{Bool, List, Ok, Result, [], is_none, length, map, nat_le, not, suc, ℕ, ◌&&◌, ◌==◌, ◌||◌, ◌∷◌, ◌≡◌}
-use Rattle.lq_base.specs.Name.{is_named}
+use Rattle.std.specs.Prelude.{Bool, List, Result, [], is_none, length, map, nat_le, not, suc, ℕ, ◌==◌, ◌||◌, ◌∷◌}
 use Rattle.lq_base.specs.declared.dialect.Dialect.{Dialect}
 use Rattle.lq_base.specs.declared.literal.Literal.{Literal}
 use Rattle.lq_base.specs.declared.name.Name.{Name}
@@ -9,19 +8,17 @@ use Rattle.lq_base.specs.declared.reason.Reason.{Reason}
 use Rattle.lq_base.specs.declared.reason.Reason.TheVariants as reason
 use Rattle.lq_base.specs.declared.value.Value.{Value}
 use Rattle.lq_model.specs.Catalogue.{Catalogue, Table, table_of, the_table, with_table}
-use Rattle.lq_model.specs.Insert.{cell, insert, row_of, stated, with_row}
+use Rattle.lq_model.specs.Insert.{cell, row_of, stated, with_row}
 use Rattle.lq_model.specs.Literals.{is_wide, is_wrong, value_in}
 use Rattle.lq_model.specs.Names.{is_in, repeats}
-use Rattle.lq_model.specs.Plan.{decide}
 use Rattle.lq_model.specs.Reasons.{unless}
 use Rattle.lq_model.specs.Reserved.{is_reserved}
-use Rattle.lq_model.specs.ResultTests.{most_rows, unique_lists}
-use Rattle.lq_model.specs.Row.{has_bad_null, is_null, picked, same_values}
+use Rattle.lq_model.specs.ResultTests.{most_rows}
+use Rattle.lq_model.specs.Row.{has_bad_null}
 use Rattle.lq_decide.specs.InsertFaults.{is_orphan, is_twin}
 use Rattle.lq_model.specs.TableNames.{column_missing}
 use Rattle.lq_model.specs.declared.caller.By.{By}
 use Rattle.lq_model.specs.declared.column.Column.{Column}
-use Rattle.lq_model.specs.declared.constraint.ForeignKey.{ForeignKey}
 
 -- what is against a new row
 abbrev pub against_row : By → Name → List Name → List Literal → Catalogue → List (Bool × Reason)

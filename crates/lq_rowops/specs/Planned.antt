@@ -1,5 +1,5 @@
 -- What a new row is planned as.
-use Rattle.std.specs.Prelude.{Bool, Err, List, Ok, Result, length, map, nat_le, not, suc, ◌≡◌}
+use Rattle.std.specs.Prelude.{Err, List, Ok, Result, length, nat_le, not, suc, ◌≡◌}
 use Rattle.lq_base.specs.declared.dialect.Dialect.{Dialect}
 use Rattle.lq_base.specs.declared.literal.Literal.{Literal}
 use Rattle.lq_base.specs.declared.name.Name.{Name}

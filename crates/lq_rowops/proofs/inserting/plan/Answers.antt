@@ -1,5 +1,4 @@
-use Rattle.std.proofs.Common.{Err, List, Ok, Result, rules, subst, ◌≡◌}
-use Rattle.lq_base.specs.declared.value.Value.{Value}
+use Rattle.std.proofs.Common.{rules, subst, ◌≡◌}
 use Rattle.lq_model.specs.Insert.{next_of, stated}
 use Rattle.lq_parts.specs.Answers.{Means}
 use Rattle.lq_rowops.specs.InsertTests.{row_meant}

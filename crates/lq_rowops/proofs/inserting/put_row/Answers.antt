@@ -1,13 +1,10 @@
-use Rattle.std.proofs.Common.{Err, Ok, Some, ap, false, is_none, rules, subst, sym, true, unwrap_or, ◌∙◌, ◌≡◌}
+use Rattle.std.proofs.Common.{Ok, Some, ap, false, is_none, rules, subst, sym, true, unwrap_or, ◌∙◌, ◌≡◌}
 use Rattle.std.proofs.Common.{length, nat_le, not, suc}
 use Rattle.lq_model.specs.Catalogue.{no_table, table_of, the_table, with_table}
 use Rattle.lq_model.specs.ResultTests.{most_rows}
-use Rattle.lq_parts.specs.Answers.{Answers, Means}
 use Rattle.lq_rowops.specs.InsertTests.{new_row}
 use Rattle.lq_decide.specs.InsertFaults.{is_orphan, is_twin}
 use Rattle.lq_rowops.specs.Planned.{Plans, PlansRow}
-use Rattle.std.specs.Map.{set_value}
-use Rattle.lq_base.specs.Name.{is_named}
 use Rattle.lq_chain.specs.History.{changed}
 use Rattle.lq_model.specs.Insert.{next_of, stated}
 use Rattle.lq_rows.specs.Stored.{with_row}

@@ -1,0 +1,6 @@
+//! What every statement is asked on a sound catalogue, and the verdict on it.
+#![tactic(auto)]
+
+mod tests;
+
+pub use tests::Tests;
