@@ -1,4 +1,12 @@
+pub mod AddColumn
+pub mod AddColumnLaws
+pub mod Constraints
+pub mod ConstraintsLaws
+pub mod CreateTable
+pub mod CreateTableLaws
 pub mod DropTable
 pub mod DropTableLaws
 pub mod RenameTable
 pub mod RenameTableLaws
+pub mod ValueKeys
+pub mod ValueKeysLaws

@@ -1,0 +1,111 @@
+//! The four keys that can state a value, read and written.
+ghost use Rattle.std.specs.Prelude.{◌≡◌, IfOk, true};
+ghost use Rattle.lq_base.specs.Options.{if_there};
+ghost use Rattle.lq_tree.specs.Found.{Reads};
+ghost use Rattle.lq_tree.specs.Values.{is_given};
+ghost use Rattle.lq_tables.specs.ValueKeys.{default_keys, default_rows, rows_at, set_keys, set_rows};
+
+use lq_base::{KindFault, NoMemory};
+use lq_model::{Canon, Field, Fields, Written};
+use lq_tree::{GivenValue, Node, family};
+use std::alloc::Global;
+
+/// `defaultValue` and the like.
+pub(crate) fn default_value(alloc: Global, node: &Node) -> Result<Option<GivenValue>, KindFault>
+    ensures read { Reads (default_keys.says node.now) result }
+    ensures fits { IfOk result (λ given. if_there is_given given ≡ true) }
+{
+    family(
+        alloc,
+        node,
+        "defaultValue",
+        "defaultValueNumeric",
+        "defaultValueBoolean",
+        "defaultValueDate",
+    )
+}
+
+/// `value` and the like.
+pub(crate) fn set_value(alloc: Global, node: &Node) -> Result<Option<GivenValue>, KindFault>
+    ensures read { Reads (set_keys.says node.now) result }
+    ensures fits { IfOk result (λ given. if_there is_given given ≡ true) }
+{
+    family(
+        alloc,
+        node,
+        "value",
+        "valueNumeric",
+        "valueBoolean",
+        "valueDate",
+    )
+}
+
+/// A value with the keys of which one states it.
+#[derive(Drop)]
+pub(crate) struct ValueAt<'a> {
+    pub(crate) text: &'a str,
+    pub(crate) number: &'a str,
+    pub(crate) truth: &'a str,
+    pub(crate) date: &'a str,
+    pub(crate) value: Option<&'a GivenValue>,
+}
+
+impl Written for ValueAt<'_> {
+    ghost use Rattle.lq_tables.specs.ValueKeys.{rows_at};
+
+    ghost rows = { rows_at };
+
+    fn write(&self, to: &mut Canon) -> Result<(), NoMemory> {
+        let Some(value) = self.value else {
+            return Ok(());
+        };
+        match value {
+            GivenValue::Text(text) => {
+                Fields(&[(self.text, Some(Field::Text(text.as_str())))]).write(to)
+            }
+            GivenValue::Whole(number) => {
+                Fields(&[(self.number, Some(Field::Number(*number)))]).write(to)
+            }
+            GivenValue::Decimal { units, scale } => Fields(&[(
+                self.number,
+                Some(Field::Decimal {
+                    units: *units,
+                    scale: *scale,
+                }),
+            )])
+            .write(to),
+            GivenValue::Truth(truth) => {
+                Fields(&[(self.truth, Some(Field::Truth(*truth)))]).write(to)
+            }
+            GivenValue::Date(text) => {
+                Fields(&[(self.date, Some(Field::Text(text.as_str())))]).write(to)
+            }
+        }
+    }
+}
+
+/// A default with its keys.
+pub(crate) fn default_at(value: &Option<GivenValue>) -> ValueAt
+    ensures { rows_at result ≡ default_rows value.now }
+{
+    ValueAt {
+        text: "defaultValue",
+        number: "defaultValueNumeric",
+        truth: "defaultValueBoolean",
+        date: "defaultValueDate",
+        value: value.as_ref(),
+    }
+}
+
+/// A value with its keys.
+pub(crate) fn set_at(value: &Option<GivenValue>) -> ValueAt
+    ensures { rows_at result ≡ set_rows value.now }
+{
+    ValueAt {
+        text: "value",
+        number: "valueNumeric",
+        truth: "valueBoolean",
+        date: "valueDate",
+        value: value.as_ref(),
+    }
+}
