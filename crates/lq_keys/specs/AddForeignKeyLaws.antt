@@ -1,6 +1,6 @@
 -- That addForeignKeyConstraint keeps its promises.
 use Rattle.std.proofs.Common.{ap, sym, ◌∙◌}
-use Rattle.std.specs.Prelude.{codes, refl, true, ◌≡◌}
+use Rattle.std.specs.Prelude.{codes, refl, ◌≡◌}
 use Rattle.lq_base.specs.Name.{is_name}
 use Rattle.lq_model.proofs.Effects.{does_so, one_becomes, restores_so, some_same}
 use Rattle.lq_model.proofs.Lists.{and_left, and_right}

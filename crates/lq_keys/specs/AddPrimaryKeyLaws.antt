@@ -1,6 +1,6 @@
 -- That addPrimaryKey keeps its promises.
 use Rattle.std.proofs.Common.{ap, sym, ◌∙◌}
-use Rattle.std.specs.Prelude.{[], codes, refl, true, ◌&&◌, ◌≡◌}
+use Rattle.std.specs.Prelude.{[], codes, refl, true, ◌≡◌}
 use Rattle.lq_base.specs.Name.{is_name}
 use Rattle.lq_base.specs.Options.{if_there}
 use Rattle.lq_base.specs.declared.dialect.Dialect.{Dialect}

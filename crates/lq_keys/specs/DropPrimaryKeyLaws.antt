@@ -1,6 +1,6 @@
 -- That dropPrimaryKey keeps its promises.
 use Rattle.std.proofs.Common.{ap}
-use Rattle.std.specs.Prelude.{[], codes, refl, true, ◌&&◌, ◌≡◌}
+use Rattle.std.specs.Prelude.{[], codes, refl, true, ◌≡◌}
 use Rattle.lq_base.specs.Name.{is_name}
 use Rattle.lq_model.proofs.DefaultNames.{default_named}
 use Rattle.lq_model.proofs.Effects.{does_so, restores_so}

@@ -1,7 +1,6 @@
 -- That its words tell what is stated of a deletion.
 use Rattle.std.proofs.Common.{ap, sym, ◌∙◌}
 use Rattle.std.specs.Prelude.{None, Option, Some, option_map, refl, ◌≡◌}
-use Rattle.lq_model.proofs.Effects.{some_same}
 use Rattle.lq_model.proofs.Told.{text_told}
 use Rattle.lq_model.specs.Canon.{text}
 use Rattle.lq_keys.specs.OnDelete.{on_delete_of, words}
