@@ -2,7 +2,7 @@
 use Rattle.std.proofs.Common.{ap, sym, ◌∙◌, subst}
 use Rattle.std.specs.List.{filter}
 use Rattle.std.proofs.lemmas.List.{append_assoc}
-use Rattle.std.specs.Prelude.{Bool, Err, Ok, List, None, Option, Result, Some, false, true, is_none, map, not, refl, unwrap_or, ◌||◌, ◌∷◌, ◌++◌, [], ◌≡◌, IfSome}
+use Rattle.std.specs.Prelude.{Bool, Err, Ok, List, None, Option, Result, Some, false, true, is_none, length, map, not, refl, unwrap_or, ◌||◌, ◌∷◌, ◌++◌, [], ◌≡◌, IfSome}
 use Rattle.lq_base.specs.Name.{is_named}
 use Rattle.lq_base.specs.declared.name.Name.{Name}
 use Rattle.lq_base.specs.declared.reason.Reason.{Reason}
@@ -38,7 +38,7 @@ takes_all : (cs : List Column) (rows : List (List Value)) → filter (takes None
 takes_all cs [] = refl
 takes_all cs (row ∷ rows) = ap (λ more. row ∷ more) (takes_all cs rows)
 
-abbrev all_of : Name → Query
+abbrev pub all_of : Name → Query
 all_of t = record { wanted = wanted.All; table = t; test = None }
 
 answered : (o : Option Source) (t : Name) (s : Source) → o ≡ Some s
@@ -49,6 +49,12 @@ answered o t s is = rw (is, lacks_none [] s.columns) refl
 
 shown : (c : Catalogue) (t : Name) (it : Table) → table_of c t ≡ Some it → answer Program (all_of t) c ≡ Ok (answer_from (record { columns = it.columns; rows = it.rows }) (all_of t))
 shown c t it there = answered (source_of c t) t (record { columns = it.columns; rows = it.rows }) (rw (there, source_of) refl)
+
+-- what is answered where the table is there
+pub all_answered : (c : Catalogue) (t : Name) (it : Table) → table_of c t ≡ Some it → answer Program (all_of t) c ≡ Ok (record { columns = length it.columns; rows = it.rows })
+all_answered c t it there = shown c t it there ∙ ap answered_with (takes_all it.columns it.rows) where
+  answered_with : List (List Value) → Result Answered Reason
+  answered_with rows = Ok (record { columns = length it.columns; rows = rows })
 
 abbrev rows_in : Result Answered Reason → List (List Value)
 rows_in (Ok answered) = answered.rows

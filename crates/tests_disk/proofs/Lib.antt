@@ -1,0 +1,3 @@
+mod Dates
+mod Whole
+mod Wider
