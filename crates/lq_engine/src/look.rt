@@ -104,6 +104,7 @@ impl Look for Engine {
     }
 
     fn ask(&self, _: Global, _: By, _: &Query) -> Result<Answered, AskFault> {
+        // Not written yet: a fault of memory may come at any time.
         Err(AskFault::OutOfMemory)
     }
 }
