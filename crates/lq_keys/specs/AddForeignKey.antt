@@ -37,7 +37,7 @@ keys =
     ⊛ required (codes "referencedColumnNames") some_names
     ⊛ optional (codes "onDelete") an_on_delete
 
--- and those that are known only at a value that changes nothing
+-- and those that are known only at a value that changes nothing: deferring, validation and the action on an update
 
 abbrev pub is_false : Node → Bool
 is_false n = not (unwrap_or (truth_of n) true)

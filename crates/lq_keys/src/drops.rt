@@ -6,6 +6,7 @@ use lq_base::{Dialect, Duplicate, Name, NoMemory};
 use lq_model::Statement;
 use std::alloc::Global;
 
+/// Drops the primary key of a table, which has this name.
 pub(crate) fn key_drop(
     alloc: Global,
     dialect: Dialect,
@@ -24,6 +25,7 @@ pub(crate) fn key_drop(
     }
 }
 
+/// Drops the unique constraint of this name.
 pub(crate) fn unique_drop(
     alloc: Global,
     dialect: Dialect,
@@ -40,6 +42,7 @@ pub(crate) fn unique_drop(
     }
 }
 
+/// Drops the foreign key of this name.
 pub(crate) fn foreign_drop(
     alloc: Global,
     dialect: Dialect,
@@ -56,6 +59,7 @@ pub(crate) fn foreign_drop(
     }
 }
 
+/// Drops the index of this name: under PostgreSQL without its table, under MySQL with it.
 pub(crate) fn index_drop(
     alloc: Global,
     dialect: Dialect,
