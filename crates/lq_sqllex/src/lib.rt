@@ -10,8 +10,6 @@ mod lexeme;
 mod pieces;
 mod quoted;
 mod sort;
-#[cfg(test)]
-mod tests;
 mod trivia;
 
 pub use fault::SplitFault;

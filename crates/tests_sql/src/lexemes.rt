@@ -1,5 +1,5 @@
-use crate::{SplitFault, lexeme_at, split};
 use lq_base::{Dialect, Items, Text};
+use lq_sqllex::{SplitFault, lexeme_at, split};
 use std::alloc::{AllocError, Global};
 use std::test::Fail;
 
@@ -52,9 +52,11 @@ fn a_text_is_cut_alike_in_both_dialects(rt: HostRuntime) -> Result<(), Fail> {
         ("category", "go", "[cate][ry]"),
         ("a//b'//'c//", "//", "[a][b'//'c]"),
         ("aaa", "aa", "[a]"),
-        ("a'b'c", "'", "[a][b][c]"),
-        ("a-- b", "-- ", "[a][b]"),
-        ("a/*b", "/*", "[a][b]"),
+        ("a /* c */", "/", "[a /* c */]"),
+        ("a/b -- /", "/", "[a][b -- /]"),
+        ("a'b'c", "'", "[a'b'c]"),
+        ("a-- b", "-- ", "[a-- b]"),
+        ("a/*b", "/*", UNCLOSED),
         ("a\nGO\nb", "\nGO\n", "[a][b]"),
         ("\u{e9};\u{1f600}x", ";", "[\u{e9}][\u{1f600}x]"),
         ("a\u{e9}b", "\u{e9}", "[a][b]"),
