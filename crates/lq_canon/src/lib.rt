@@ -22,30 +22,3 @@ pub fn checksum(alloc: Global, changes: &Canon) -> Result<Text, NoMemory>
     sum.push_str(digits.as_str())?;
     Ok(sum)
 }
-
-#[cfg(test)]
-mod tests {
-    use super::*;
-    use std::test::Fail;
-
-    #[test]
-    fn gives_known_checksums(rt: HostRuntime) -> Result<(), Fail> {
-        let mut none = Canon::new(rt.alloc());
-        none.begin_list()?;
-        none.end_list()?;
-        let sum = checksum(rt.alloc(), &none)?;
-        assert_eq!(rt; sum.as_str(), "P1:d751713988987e9331980363e24189ce");
-
-        let mut one = Canon::new(rt.alloc());
-        one.begin_list()?;
-        one.key("dropTable")?;
-        one.begin_map()?;
-        one.key("tableName")?;
-        one.text("t")?;
-        one.end_map()?;
-        one.end_list()?;
-        let sum = checksum(rt.alloc(), &one)?;
-        assert_eq!(rt; sum.as_str(), "P1:0f3ce696dcec492fb61d5b7e958b9a67");
-        Ok(())
-    }
-}

@@ -39,6 +39,3 @@ pub use stamp::Stamp;
 pub use statements::{statement_of, statements_of, undo_statements};
 pub use tracking::TrackingTables;
 pub use updated::{new_sets_are_new, sound_is_firm, update_leads, update_leaves};
-
-#[cfg(test)]
-mod tests;

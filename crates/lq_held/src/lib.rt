@@ -14,6 +14,3 @@ mod tables;
 pub use held::Held;
 pub use laws::{held_is, held_once, held_starts, holds_more, rollback_held, update_held};
 pub use read::load;
-
-#[cfg(test)]
-mod tests;

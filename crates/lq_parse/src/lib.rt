@@ -12,7 +12,5 @@ pub mod query;
 mod quoted;
 mod spelling;
 pub mod test;
-#[cfg(test)]
-mod tests;
 
 pub use parse::{parse_query, parse_test};

@@ -4,10 +4,6 @@
 
 mod new_sequence;
 mod no_objects;
-#[cfg(test)]
-mod sql_tests;
-#[cfg(test)]
-mod tests;
 mod trimmed;
 
 pub use new_sequence::NewSequence;

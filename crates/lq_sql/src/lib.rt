@@ -15,7 +15,5 @@ mod spell;
 mod statement;
 mod table;
 mod test;
-#[cfg(test)]
-mod tests;
 
 pub use printer::{print, print_query, print_test};

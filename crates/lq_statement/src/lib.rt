@@ -16,7 +16,5 @@ mod name;
 mod rows;
 mod statement;
 mod table;
-#[cfg(test)]
-mod tests;
 
 pub use statement::parse;

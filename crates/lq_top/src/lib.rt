@@ -11,8 +11,6 @@ mod opening;
 mod planning;
 mod printing;
 mod status;
-#[cfg(test)]
-mod tests;
 mod top;
 mod who;
 mod words;

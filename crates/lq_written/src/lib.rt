@@ -17,6 +17,3 @@ pub use text::text_of;
 pub use valid::is_written;
 pub use whole::read_written;
 pub use written::{Written, WrittenColumn, WrittenRow};
-
-#[cfg(test)]
-mod tests;

@@ -1,33 +1,7 @@
-use crate::parse;
-use lq_base::{Dialect, NoMemory, Text};
-use lq_model::{ParseFault, Statement};
-use lq_sql::print;
-use std::alloc::Global;
-use std::process::Abort;
-
-const PG: Dialect = Dialect::Postgresql;
-
-const MY: Dialect = Dialect::Mysql;
-
-const NOT_SQL: &str = "no SQL of the dialect is spelled so";
-
-fn printed(alloc: Global, dialect: Dialect, statement: Statement) -> Result<Text, NoMemory> {
-    print(alloc, dialect, &statement)
-}
-
-fn shown(alloc: Global, dialect: Dialect, text: &str) -> Result<Text, NoMemory> {
-    match parse(alloc, dialect, text) {
-        Ok(statement) => printed(alloc, dialect, statement),
-        Err(ParseFault::NotSql) => Text::new(alloc, NOT_SQL),
-        Err(ParseFault::OutOfMemory) => Err(NoMemory),
-    }
-}
-
-// The statement that a text spells, as it is printed, or the fault's text.
-fn reads(rt: &impl Abort, alloc: Global, dialect: Dialect, text: &str, wanted: &str) {
-    let found = shown(alloc, dialect, text).expect(rt, "memory");
-    assert_eq!(rt; found.as_str(), wanted, "of {text}");
-}
+use crate::readers::reads;
+use crate::shown::NOT_SQL;
+use lq_my::My;
+use lq_pg::Pg;
 
 #[test]
 fn postgresql_reads_what_it_prints(rt: HostRuntime) {
@@ -65,7 +39,7 @@ fn postgresql_reads_what_it_prints(rt: HostRuntime) {
         "DELETE FROM \"t\"",
     ];
     for text in rows {
-        reads(&rt, rt.alloc(), PG, text, text);
+        reads(&rt, rt.alloc(), &Pg, text, text);
     }
 }
 
@@ -99,7 +73,7 @@ fn mysql_reads_what_it_prints(rt: HostRuntime) {
         "DELETE FROM `t` WHERE (`a` = 1 OR `b` = 2)",
     ];
     for text in rows {
-        reads(&rt, rt.alloc(), MY, text, text);
+        reads(&rt, rt.alloc(), &My, text, text);
     }
 }
 
@@ -107,6 +81,11 @@ fn mysql_reads_what_it_prints(rt: HostRuntime) {
 fn postgresql_reads_other_spellings(rt: HostRuntime) {
     let rows = [
         ("drop table T", "DROP TABLE \"t\""),
+        ("drop index i; -- of a table", "DROP INDEX \"i\""),
+        (
+            "insert into t values ('a\\b')",
+            "INSERT INTO \"t\" VALUES ('a\\b')",
+        ),
         ("Drop /* one */ TABLE t; -- two", "DROP TABLE \"t\""),
         (
             "create table t (id int primary key)",
@@ -166,13 +145,15 @@ fn postgresql_reads_other_spellings(rt: HostRuntime) {
         ),
     ];
     for (text, wanted) in rows {
-        reads(&rt, rt.alloc(), PG, text, wanted);
+        reads(&rt, rt.alloc(), &Pg, text, wanted);
     }
 }
 
 #[test]
 fn mysql_reads_other_spellings(rt: HostRuntime) {
     let rows = [
+        ("drop table T", "DROP TABLE `T`"),
+        ("drop index i on t; # of a table", "DROP INDEX `i` ON `t`"),
         (
             "insert into t values ('a\\'b')",
             "INSERT INTO `t` VALUES ('a''b')",
@@ -199,7 +180,7 @@ fn mysql_reads_other_spellings(rt: HostRuntime) {
         ),
     ];
     for (text, wanted) in rows {
-        reads(&rt, rt.alloc(), MY, text, wanted);
+        reads(&rt, rt.alloc(), &My, text, wanted);
     }
 }
 
@@ -207,6 +188,8 @@ fn mysql_reads_other_spellings(rt: HostRuntime) {
 fn these_are_no_statements_of_postgresql(rt: HostRuntime) {
     let rows = [
         "",
+        "SELEC",
+        "drop table `t`",
         "drop table table",
         "drop table",
         "drop table t u",
@@ -260,7 +243,7 @@ fn these_are_no_statements_of_postgresql(rt: HostRuntime) {
         "truncate t",
     ];
     for text in rows {
-        reads(&rt, rt.alloc(), PG, text, NOT_SQL);
+        reads(&rt, rt.alloc(), &Pg, text, NOT_SQL);
     }
 }
 
@@ -281,6 +264,6 @@ fn these_are_no_statements_of_mysql(rt: HostRuntime) {
         "drop table /* /* */ */ t",
     ];
     for text in rows {
-        reads(&rt, rt.alloc(), MY, text, NOT_SQL);
+        reads(&rt, rt.alloc(), &My, text, NOT_SQL);
     }
 }

@@ -1,4 +1,4 @@
-use crate::{print, print_query, print_test};
+use crate::shown::{shown, shown_query, shown_test};
 use lq_base::{Boxed, Dialect, Items, Kind, Literal, Name, NoMemory, Text};
 use lq_model::{ColumnDef, ForeignKey, Key, Op, Operand, Query, Statement, Test, Unique};
 use std::alloc::Global;
@@ -114,32 +114,18 @@ impl<'a, R: Abort> Maker<'a, R> {
     }
 
     fn pg(&self, statement: Statement, wanted: &str) {
-        self.shows(printed(self.alloc, Dialect::Postgresql, statement), wanted)
+        self.shows(shown(self.alloc, Dialect::Postgresql, statement), wanted)
     }
 
     fn my(&self, statement: Statement, wanted: &str) {
-        self.shows(printed(self.alloc, Dialect::Mysql, statement), wanted)
+        self.shows(shown(self.alloc, Dialect::Mysql, statement), wanted)
     }
 
     fn query(&self, dialect: Dialect, query: Query, wanted: &str) {
-        self.shows(printed_query(self.alloc, dialect, query), wanted)
+        self.shows(shown_query(self.alloc, dialect, query), wanted)
     }
 
     fn test(&self, dialect: Dialect, test: Test, wanted: &str) {
-        self.shows(printed_test(self.alloc, dialect, test), wanted)
+        self.shows(shown_test(self.alloc, dialect, test), wanted)
     }
-}
-
-// What is printed goes where its text is made.
-
-fn printed(alloc: Global, dialect: Dialect, statement: Statement) -> Result<Text, NoMemory> {
-    print(alloc, dialect, &statement)
-}
-
-fn printed_query(alloc: Global, dialect: Dialect, query: Query) -> Result<Text, NoMemory> {
-    print_query(alloc, dialect, &query)
-}
-
-fn printed_test(alloc: Global, dialect: Dialect, test: Test) -> Result<Text, NoMemory> {
-    print_test(alloc, dialect, &test)
 }

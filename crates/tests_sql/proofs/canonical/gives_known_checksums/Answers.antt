@@ -1,7 +1,7 @@
 use Rattle.std.proofs.Common.{rules, List, [], ◌∷◌}
 use Rattle.std.specs.Prelude.{codes}
 use Rattle.lq_model.specs.Canon.{atom, CanonicalChange, decimal_digits, no_pairs, numeral, pair, text}
-use Rattle.lq_canon.proofs.tests.gives_known_checksums.Goals as goal
+use Rattle.tests_sql.proofs.canonical.gives_known_checksums.Goals as goal
 
 -- the table `t` is dropped
 abbrev dropped : List CanonicalChange

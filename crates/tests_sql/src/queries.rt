@@ -1,48 +1,11 @@
-use crate::{parse_query, parse_test};
+use crate::readers::{reads_query, reads_test};
+use crate::shown::{MY, NOT_SQL, PG};
 use lq_base::{Dialect, NoMemory, Text};
-use lq_model::{ParseFault, Query, Test};
-use lq_sql::{print_query, print_test};
+use lq_my::My;
+use lq_parse::{parse_query, parse_test};
+use lq_pg::Pg;
 use std::alloc::Global;
 use std::process::Abort;
-
-const PG: Dialect = Dialect::Postgresql;
-
-const MY: Dialect = Dialect::Mysql;
-
-const NOT_SQL: &str = "no SQL of the dialect is spelled so";
-
-fn canonical_test(alloc: Global, dialect: Dialect, test: Test) -> Result<Text, NoMemory> {
-    print_test(alloc, dialect, &test)
-}
-
-fn canonical_query(alloc: Global, dialect: Dialect, query: Query) -> Result<Text, NoMemory> {
-    print_query(alloc, dialect, &query)
-}
-
-fn show(rt: &impl Abort, text: &str, found: Result<Text, NoMemory>, wanted: &str) {
-    let found = found.expect(rt, "memory");
-    assert_eq!(rt; found.as_str(), wanted, "of {text}");
-}
-
-fn refuse(rt: &impl Abort, text: &str, fault: ParseFault, wanted: &str) {
-    assert_eq!(rt; NOT_SQL, wanted, "of {text}");
-    assert!(rt; fault == ParseFault::NotSql);
-}
-
-// The test that a text spells, as it is printed, or the fault's text.
-fn reads_test(rt: &impl Abort, alloc: Global, dialect: Dialect, text: &str, wanted: &str) {
-    match parse_test(alloc, dialect, text) {
-        Ok(test) => show(rt, text, canonical_test(alloc, dialect, test), wanted),
-        Err(fault) => refuse(rt, text, fault, wanted),
-    }
-}
-
-fn reads_query(rt: &impl Abort, alloc: Global, dialect: Dialect, text: &str, wanted: &str) {
-    match parse_query(alloc, dialect, text) {
-        Ok(query) => show(rt, text, canonical_query(alloc, dialect, query), wanted),
-        Err(fault) => refuse(rt, text, fault, wanted),
-    }
-}
 
 #[test]
 fn tests_are_read_in_postgresql(rt: HostRuntime) {
@@ -103,7 +66,7 @@ fn tests_are_read_in_postgresql(rt: HostRuntime) {
         ("first = index", "\"first\" = \"index\""),
     ];
     for (text, wanted) in rows {
-        reads_test(&rt, rt.alloc(), PG, text, wanted);
+        reads_test(&rt, rt.alloc(), &Pg, PG, text, wanted);
     }
 }
 
@@ -149,7 +112,7 @@ fn these_are_no_tests(rt: HostRuntime) {
         "abcdefghijabcdefghijabcdefghijabcdefghijabcdefghijabcdefghijabcd = 1",
     ];
     for text in rows {
-        reads_test(&rt, rt.alloc(), PG, text, NOT_SQL);
+        reads_test(&rt, rt.alloc(), &Pg, PG, text, NOT_SQL);
     }
 }
 
@@ -178,7 +141,7 @@ fn tests_are_read_in_mysql(rt: HostRuntime) {
         ("\"a\" = 1", "'a' = 1"),
     ];
     for (text, wanted) in rows {
-        reads_test(&rt, rt.alloc(), MY, text, wanted);
+        reads_test(&rt, rt.alloc(), &My, MY, text, wanted);
     }
 }
 
@@ -213,7 +176,17 @@ fn queries_are_read(rt: HostRuntime) {
         ("SELECT a FROM select", NOT_SQL),
     ];
     for (text, wanted) in rows {
-        reads_query(&rt, rt.alloc(), PG, text, wanted);
+        reads_query(&rt, rt.alloc(), &Pg, PG, text, wanted);
+    }
+    let rows = [
+        (
+            "select A from T where a = 1",
+            "SELECT `A` FROM `T` WHERE `a` = 1",
+        ),
+        ("SELECT \"a\" FROM t", NOT_SQL),
+    ];
+    for (text, wanted) in rows {
+        reads_query(&rt, rt.alloc(), &My, MY, text, wanted);
     }
 }
 

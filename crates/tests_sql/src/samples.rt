@@ -1,6 +1,6 @@
-use crate::{NewSequence, NoObjects};
 use lq_base::{Dialect, Items, Name, NoMemory, Reason};
 use lq_model::{AskFault, By, Canon, Change, Look, Query, Statement, Undo, Wanted};
+use lq_samples::{NewSequence, NoObjects};
 use std::alloc::Global;
 use std::process::Abort;
 use std::test::Fail;
