@@ -88,7 +88,7 @@ fn comparison(alloc: Global, words: &mut Words<'_>) -> Result<Boxed<Test>, Parse
 const MOST: usize = 64;
 
 // A test after NOT, of which at most `nots` follow.
-#[cycle(test)]
+#[cycle(formula)]
 fn negation(
     alloc: Global,
     words: &mut Words<'_>,
@@ -109,7 +109,7 @@ fn negation(
 }
 
 // What AND joins to `left`, which is so deep that at most `turns` levels are left.
-#[cycle(test)]
+#[cycle(formula)]
 fn conjunction(
     alloc: Global,
     words: &mut Words<'_>,
@@ -132,7 +132,7 @@ fn conjunction(
     conjunction(alloc, words, parentheses, turns - 1, both)
 }
 
-#[cycle(test)]
+#[cycle(formula)]
 fn product(
     alloc: Global,
     words: &mut Words<'_>,
@@ -145,7 +145,7 @@ fn product(
 }
 
 // The same of OR.
-#[cycle(test)]
+#[cycle(formula)]
 fn disjunction(
     alloc: Global,
     words: &mut Words<'_>,
@@ -168,7 +168,7 @@ fn disjunction(
     disjunction(alloc, words, parentheses, turns - 1, both)
 }
 
-#[cycle(test)]
+#[cycle(formula)]
 fn sum(alloc: Global, words: &mut Words<'_>, parentheses: usize) -> Result<Boxed<Test>, ParseFault>
     ensures { ReadsUpTo 64 (spec.sum (spec.primary parentheses) words.old) result words.new }
 {
@@ -176,7 +176,7 @@ fn sum(alloc: Global, words: &mut Words<'_>, parentheses: usize) -> Result<Boxed
     disjunction(alloc, words, parentheses, MOST, first)
 }
 
-#[cycle(test)]
+#[cycle(formula)]
 #[tactic(auto, unfolding(lq_model::specs::SqlTest::primary))]
 fn primary(
     alloc: Global,

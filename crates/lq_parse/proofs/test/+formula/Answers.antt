@@ -4,7 +4,7 @@ use Rattle.lq_model.specs.declared.test.Test.TheVariants as test
 use Rattle.lq_model.specs.declared.word.WordKind.TheVariants as word
 use Rattle.lq_parse.proofs.Bounded.{and_takes, joined_ends, joined_fault, joined_read, joined_too_deep, no_not, not_fault, not_opened, not_read, not_too_deep, or_takes, product_fault, product_read, sum_fault, sum_read}
 use Rattle.lq_parse.proofs.Levels.{and_deepens, and_deeper, or_deepens, or_deeper}
-use Rattle.lq_parse.proofs.test.+test.Goals as goal
+use Rattle.lq_parse.proofs.test.+formula.Goals as goal
 
 pub conjunction-returns-then-not-eat : goal.conjunction-returns-then-not-eat
 conjunction-returns-then-not-eat t c = joined_ends test.And word.And (spec.term (spec.primary c.args.parentheses)) c.args.left c.args.words.now c.eat.new.self (and_takes c.args.parentheses) (search rules) c.eat.ensures.rest

@@ -1,5 +1,5 @@
 use Rattle.std.proofs.Common.{◌+◌, ◌*◌}
-use Rattle.lq_parse.proofs.test.+test.Given as goal
+use Rattle.lq_parse.proofs.test.+formula.Given as goal
 
 abbrev pub decreases-primary : goal.decreases-primary
 decreases-primary l = l.parentheses * 1000
