@@ -10,10 +10,10 @@ use Rattle.lq_model.specs.Reasons.{unless}
 use Rattle.lq_model.proofs.Decide.{none_from_unless, unless-none}
 use Rattle.lq_decide.specs.Faults.{Faults}
 use Rattle.lq_decide.specs.Judged.{judged}
-use Rattle.lq_parts.specs.Answers.{Answers, Carries, Continues, Means}
-use Rattle.lq_parts.specs.declared.fault.RunFault.{RunFault}
-use Rattle.lq_parts.specs.declared.fault.RunFault.TheVariants.{OutOfMemory, Refused}
-use Rattle.lq_parts.proofs.Continued.{stays}
+use Rattle.lq_rows.specs.Answers.{Answers, Carries, Continues, Means}
+use Rattle.lq_rows.specs.declared.fault.RunFault.{RunFault}
+use Rattle.lq_rows.specs.declared.fault.RunFault.TheVariants.{OutOfMemory, Refused}
+use Rattle.lq_rows.proofs.Continued.{stays}
 use Rattle.lq_arm.specs.Verdict.{listed, tests_of, verdict_of}
 use Rattle.lq_arm.specs.declared.tests.Tests.{Tests}
 

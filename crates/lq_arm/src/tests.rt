@@ -1,8 +1,8 @@
 ghost use Rattle.lq_arm.specs.Verdict.{verdict_of};
-ghost use Rattle.lq_parts.specs.Answers.{Means};
+ghost use Rattle.lq_rows.specs.Answers.{Means};
 
 use lq_base::Reason;
-use lq_parts::RunFault;
+use lq_rows::RunFault;
 
 /// What is asked of a statement on a sound catalogue, in the order of the reasons.
 #[derive(Clone, Copy)]

@@ -3,6 +3,7 @@
 #![tactic(auto)]
 
 mod character;
+mod command;
 mod convert;
 mod dialect;
 mod duplicate;
@@ -23,6 +24,7 @@ mod tracking;
 mod value;
 
 pub use character::{char_count, has_control};
+pub use command::{Command, Target};
 pub use convert::{IntoFault, into_kind};
 pub use dialect::Dialect;
 pub use duplicate::{Duplicate, Same};
@@ -39,7 +41,7 @@ pub use number::{
     read_number, value_after,
 };
 pub use reason::Reason;
-pub use run::{Did, Happened, Printed, Why};
+pub use run::{Did, Happened, OnFail, Printed, Why};
 pub use sqlite_items::{Boxed, Items};
 pub use text::Text;
 pub use tracking::{Exec, Lock, Tracked};

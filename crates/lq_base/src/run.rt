@@ -15,6 +15,19 @@ pub enum Why {
     Error(Reason),
 }
 
+/// The reaction to a condition that does not hold, or that cannot be told.
+#[derive(Clone, Copy, Debug, PartialEq, Eq)]
+pub enum OnFail {
+    /// The command stops.
+    Halt,
+    /// The changeset is skipped, and gets no row.
+    Continue,
+    /// The changeset gets a row, and does not run.
+    MarkRan,
+    /// The changeset runs, after a warning.
+    Warn,
+}
+
 /// The statements that were run for a changeset, or to take it back.
 #[derive(Debug, Drop)]
 pub struct Printed {

@@ -13,7 +13,8 @@ use Rattle.lq_model.specs.declared.caller.By.TheVariants.{User}
 use Rattle.lq_model.specs.declared.statement.Statement.{Statement}
 use Rattle.lq_track.specs.Database.{Database}
 use Rattle.lq_turns.specs.Contents.{Contents, contents_of, with_contents}
-use Rattle.lq_turns.specs.Deed.{commits_itself, contents_after, done, if_accepted, locked_after}
+use Rattle.lq_turns.specs.Deed.{contents_after, done, if_accepted, locked_after}
+use Rattle.lq_model.specs.Commits.{commits_itself}
 use Rattle.lq_turns.specs.Held.{fits, fits_rows}
 use Rattle.lq_turns.specs.Session.{Session, before, closed, executed, executed_as, is_own, settled_if}
 use Rattle.lq_turns.specs.declared.call.Call.{Call}

@@ -26,8 +26,8 @@ use Rattle.lq_base.specs.declared.run.Why.TheVariants.{Error, Failed}
 use Rattle.lq_turns.specs.Settle.{choice, choice_of, exec_of, fill_turn, greatest, is_to_fill, mark_turn, run_turn, runs_again, is_halt, own_choice, reacted, record_in, row_for, settle, tested, what, what_by}
 use Rattle.lq_turns.specs.declared.choice.Choice.{Choice}
 use Rattle.lq_turns.specs.declared.choice.Choice.TheVariants.{Fills, Halts, Marks, Passes, Runs, Skips}
-use Rattle.lq_turns.specs.declared.choice.OnFail.{OnFail}
-use Rattle.lq_turns.specs.declared.choice.OnFail.TheVariants.{Continue, Halt, MarkRan, Warn}
+use Rattle.lq_base.specs.declared.run.OnFail.{OnFail}
+use Rattle.lq_base.specs.declared.run.OnFail.TheVariants.{Continue, Halt, MarkRan, Warn}
 use Rattle.lq_turns.specs.declared.choice.What.{What}
 use Rattle.lq_turns.specs.declared.choice.What.TheVariants.{Again, Fill, New}
 use Rattle.lq_turns.specs.declared.stamp.Stamp.{Stamp}

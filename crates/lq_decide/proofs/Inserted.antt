@@ -24,7 +24,8 @@ use Rattle.lq_model.proofs.Kept.{lookup_other, the_table-with_table}
 use Rattle.lq_model.proofs.Lists.{or_left, same_name, any-append, any_less, any_same, map_append_one, whether}
 use Rattle.lq_model.proofs.Maps.{any-set_value, any_local, at_lookup}
 use Rattle.lq_model.specs.declared.caller.By.{By}
-use Rattle.lq_decide.specs.InsertFaults.{insert_faults, is_orphan, is_twin, lacks_parent_of}
+use Rattle.lq_decide.specs.InsertFaults.{insert_faults, is_orphan, lacks_parent_of}
+use Rattle.lq_model.specs.Twin.{is_twin}
 use Rattle.lq_decide.specs.Judged.{judged}
 use Rattle.lq_decide.proofs.Judge.{judge}
 use Rattle.lq_decide.proofs.Lists.{any_last, at_key, at_others, or-false}

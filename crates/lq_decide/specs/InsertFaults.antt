@@ -8,19 +8,11 @@ use Rattle.lq_base.specs.declared.value.Value.{Value}
 use Rattle.lq_model.specs.Catalogue.{Catalogue, Table, the_table}
 use Rattle.lq_model.specs.Insert.{row_of, stated}
 use Rattle.lq_model.specs.Literals.{value_in}
-use Rattle.lq_model.specs.ResultTests.{most_rows, unique_lists}
+use Rattle.lq_model.specs.ResultTests.{most_rows}
 use Rattle.lq_model.specs.Row.{has_bad_null, is_null, picked, same_values}
-use Rattle.lq_model.specs.declared.column.Column.{Column}
+use Rattle.lq_model.specs.Twin.{is_twin}
 use Rattle.lq_model.specs.declared.constraint.ForeignKey.{ForeignKey}
 use Rattle.lq_decide.specs.Faults.{Faults, no_faults}
-
--- a row is equal to the new one in these columns
-abbrev pub is_twin_in : List Column → List (List Value) → List Value → List Name → Bool
-is_twin_in cs rows row ns = list_any (λ r. same_values (picked cs ns r) (picked cs ns row)) rows
-
--- a row of the table is equal to the new one in a key, a unique constraint or a unique index
-abbrev pub is_twin : Table → List Value → Bool
-is_twin it row = list_any (is_twin_in it.columns it.rows row) (unique_lists it)
 
 -- the new row of the table has no parent by a foreign key; it may be its own
 abbrev pub lacks_parent_of : Catalogue → Name → Table → List Value → ForeignKey → Bool

@@ -12,7 +12,7 @@ use Rattle.lq_model.specs.NameSpaces.{AreApart}
 use Rattle.lq_model.specs.Names.{times}
 use Rattle.lq_model.specs.Sound.{IsSound, may_have}
 use Rattle.lq_model.proofs.Maps.{not_some}
-use Rattle.lq_parts.specs.Answers.{Continues}
+use Rattle.lq_rows.specs.Answers.{Continues}
 use Rattle.lq_engine.specs.Marks.{AllSound, AreMarks, IsGood, catalogues_at, stands_for}
 use Rattle.lq_engine.specs.State.{back, oldest, state}
 

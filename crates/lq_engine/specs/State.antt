@@ -3,8 +3,8 @@ use Rattle.std.specs.Prelude.{List, Ok, Result, Err, [], ◌∷◌, ℕ, ◌≡�
 use Rattle.lq_base.specs.declared.dialect.Dialect.{Dialect}
 use Rattle.lq_base.specs.declared.reason.Reason.{Reason}
 use Rattle.lq_model.specs.Catalogue.{Catalogue}
-use Rattle.lq_parts.specs.declared.fault.RunFault.{RunFault}
-use Rattle.lq_parts.specs.declared.fault.RunFault.TheVariants.{OutOfMemory, Refused}
+use Rattle.lq_rows.specs.declared.fault.RunFault.{RunFault}
+use Rattle.lq_rows.specs.declared.fault.RunFault.TheVariants.{OutOfMemory, Refused}
 
 -- the catalogue now, and before each `run` since the last `forget` that answered a number and is not undone, the newest first
 pub record State : Type 0 where

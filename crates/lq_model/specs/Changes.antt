@@ -27,6 +27,10 @@ module _ {Key : Type 0} (is_for : Dialect → Key → Bool) (gives : Dialect →
   abbrev pub HaveEffect : (Dialect → Key → Catalogue → Result Catalogue Reason) → Type 0
   HaveEffect effect = (d : Dialect) (x : Key) (c : Catalogue) → is_for d x ≡ true → IsSound d c → run User d (gives d x) c ≡ effect d x c
 
+-- the statements that are generated to take it back are statements of the dialect
+abbrev pub AreReturns : {Key : Type 0} → (Dialect → Key → Bool) → (Dialect → Key → Option (List Statement)) → Type 0
+AreReturns {Key} is_for inverse = (d : Dialect) (x : Key) (undoing : List Statement) → is_for d x ≡ true → inverse d x ≡ Some undoing → list_all (is_statement d) undoing ≡ true
+
 -- where the change is fresh and its effect accepted, the statements that are generated take it back
 abbrev pub TakeBack : {Key : Type 0} → (Dialect → Key → Bool) → (Dialect → Key → Catalogue → Result Catalogue Reason) → (Dialect → Key → Catalogue → Bool) → (Dialect → Key → Option (List Statement)) → Type 0
 TakeBack {Key} is_for effect fresh inverse =

@@ -63,3 +63,4 @@ pub mod Effect
 pub mod Written
 pub mod ByProgram
 pub mod Commits
+pub mod Twin

@@ -3,7 +3,7 @@ ghost use Rattle.lq_base.specs.declared.dialect.Dialect.{Dialect};
 ghost use Rattle.lq_base.specs.declared.reason.Reason.{Reason};
 ghost use Rattle.lq_model.specs.Canon.{CanonicalChange, canonical_change};
 ghost use Rattle.lq_model.specs.Catalogue.{Catalogue};
-ghost use Rattle.lq_model.specs.Changes.{AreStatements, AreTold, HaveEffect, TakeBack, undoing_of};
+ghost use Rattle.lq_model.specs.Changes.{AreReturns, AreStatements, AreTold, HaveEffect, TakeBack, undoing_of};
 ghost use Rattle.lq_model.specs.declared.statement.Statement.{Statement};
 
 use crate::canon::Canon;
@@ -79,6 +79,9 @@ pub trait Change {
 
     /// Its statements are statements of the dialect.
     ghost spelled: { AreStatements is_for gives };
+
+    /// What is generated to take it back are statements of the dialect.
+    ghost returned: { AreReturns is_for inverse };
 
     /// Its statements give its effect.
     ghost does: { HaveEffect is_for gives effect };

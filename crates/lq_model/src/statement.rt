@@ -151,7 +151,6 @@ pub enum Statement {
 
 impl Statement {
     /// Whether it commits by itself: under MySQL, unless it is of rows.
-    #[tactic(auto, unfolding(crate::specs::Commits::commits_itself))]
     pub fn commits_itself(&self, dialect: Dialect) -> bool
         ensures { result ≡ commits_itself dialect self.now }
     {

@@ -1,4 +1,3 @@
-pub mod Continued
 mod EntryLemmas
 mod PartLemmas
 mod SlotLemmas

@@ -2,7 +2,6 @@
 #![tactic(auto)]
 
 mod entries;
-mod fault;
 mod object;
 mod part;
 mod parts;
@@ -11,6 +10,6 @@ mod slot;
 mod step;
 mod tables;
 
-pub use fault::RunFault;
 pub use object::{Sequence, View};
+pub use lq_rows::RunFault;
 pub use parts::Parts;

@@ -6,7 +6,7 @@ ghost use Rattle.lq_model.specs.Catalogue.{no_objects, sequence_of, table_of, th
 ghost use Rattle.lq_parts.specs.Kept.{with_renamed};
 ghost use Rattle.lq_parts.specs.Steps.{tables_of};
 ghost use Rattle.lq_rows.specs.Stored.{has_values_in, with_all, with_row, with_shape};
-ghost use Rattle.lq_decide.specs.InsertFaults.{is_twin};
+ghost use Rattle.lq_model.specs.Twin.{is_twin};
 
 use crate::object::{Sequence, View};
 use crate::part::Part;

@@ -11,7 +11,7 @@ ghost use Rattle.lq_model.specs.Catalogue.{no_table};
 ghost use Rattle.lq_parts.specs.Entries.{IsOrdered, position_of};
 ghost use Rattle.lq_parts.specs.Steps.{HasMark, HasPlace, before, edit_at, moved, tables_of};
 ghost use Rattle.lq_rows.specs.Stored.{has_values_in, reshaped, rows_of, with_all, with_row, with_rows, with_shape};
-ghost use Rattle.lq_decide.specs.InsertFaults.{is_twin};
+ghost use Rattle.lq_model.specs.Twin.{is_twin};
 
 use crate::entries::{find, place, standing};
 use crate::step::Step;

@@ -24,7 +24,8 @@ use Rattle.lq_model.specs.Row.{has_bad_null, is_null, picked, same_values}
 use Rattle.lq_model.specs.Sound.{IsSound}
 use Rattle.lq_model.specs.declared.column.Column.{Column}
 use Rattle.lq_model.specs.declared.constraint.ForeignKey.{ForeignKey}
-use Rattle.lq_decide.specs.InsertFaults.{insert_faults, is_orphan, is_twin, lacks_parent_of}
+use Rattle.lq_decide.specs.InsertFaults.{insert_faults, is_orphan, lacks_parent_of}
+use Rattle.lq_model.specs.Twin.{is_twin}
 use Rattle.lq_decide.specs.Judged.{judged}
 use Rattle.lq_decide.proofs.Inserted.{insert_judged}
 use Rattle.lq_rowops.specs.InsertTests.{inserted, new_row}

@@ -9,12 +9,12 @@ use Rattle.lq_model.specs.Catalogue.{Catalogue, Table, table_of, the_table}
 use Rattle.lq_model.specs.Insert.{stated}
 use Rattle.lq_model.specs.declared.caller.By.TheVariants.{Program}
 use Rattle.lq_model.specs.declared.column.Column.{Column}
-use Rattle.lq_parts.specs.Answers.{Answers, Means}
-use Rattle.lq_parts.proofs.Continued.{stays}
+use Rattle.lq_rows.specs.Answers.{Answers, Means}
+use Rattle.lq_rows.proofs.Continued.{stays}
 use Rattle.lq_rowops.specs.InsertTests.{inserted, new_row, row_meant}
 use Rattle.lq_rowops.specs.Planned.{PlansRow}
-use Rattle.lq_parts.specs.declared.fault.RunFault.{RunFault}
-use Rattle.lq_parts.specs.declared.fault.RunFault.TheVariants.{OutOfMemory, Refused}
+use Rattle.lq_rows.specs.declared.fault.RunFault.{RunFault}
+use Rattle.lq_rows.specs.declared.fault.RunFault.TheVariants.{OutOfMemory, Refused}
 use Rattle.lq_rowops.proofs.InsertDecides.{insert_bad}
 
 pub bad_plan : (d : Dialect) (t : Name) (ns : List Name) (ls : List Literal) (parts : History Catalogue) (it : Table) (fault : RunFault) → the_table parts.now t ≡ it → is_none (table_of parts.now t) ≡ false

@@ -15,7 +15,8 @@ use Rattle.lq_model.specs.Reasons.{unless}
 use Rattle.lq_model.specs.Reserved.{is_reserved}
 use Rattle.lq_model.specs.ResultTests.{most_rows}
 use Rattle.lq_model.specs.Row.{has_bad_null}
-use Rattle.lq_decide.specs.InsertFaults.{is_orphan, is_twin}
+use Rattle.lq_decide.specs.InsertFaults.{is_orphan}
+use Rattle.lq_model.specs.Twin.{is_twin}
 use Rattle.lq_model.specs.TableNames.{column_missing}
 use Rattle.lq_model.specs.declared.caller.By.{By}
 use Rattle.lq_model.specs.declared.column.Column.{Column}

@@ -7,8 +7,8 @@ use Rattle.lq_model.specs.Catalogue.{Table}
 use Rattle.lq_model.specs.Insert.{next_of, stated}
 use Rattle.lq_model.specs.ResultTests.{most_rows}
 use Rattle.lq_rowops.specs.InsertTests.{new_row}
-use Rattle.lq_parts.specs.declared.fault.RunFault.{RunFault}
-use Rattle.lq_parts.specs.declared.fault.RunFault.TheVariants.{OutOfMemory, Refused}
+use Rattle.lq_rows.specs.declared.fault.RunFault.{RunFault}
+use Rattle.lq_rows.specs.declared.fault.RunFault.TheVariants.{OutOfMemory, Refused}
 use Rattle.lq_rowops.specs.declared.inserting.Planned.{Planned}
 
 pub record Plans (d : Dialect) (it : Table) (ns : List Name) (ls : List Literal) (p : Planned) : Type 0 where

@@ -8,9 +8,9 @@ use Rattle.lq_base.specs.declared.reason.Reason.TheVariants as reason
 use Rattle.lq_base.specs.declared.value.Value.{Value}
 use Rattle.lq_model.specs.Literals.{is_wide, is_wrong, value_in}
 use Rattle.lq_model.specs.declared.column.Column.{Column}
-use Rattle.lq_parts.specs.Answers.{Means}
-use Rattle.lq_parts.specs.declared.fault.RunFault.{RunFault}
-use Rattle.lq_parts.specs.declared.fault.RunFault.TheVariants.{OutOfMemory, Refused}
+use Rattle.lq_rows.specs.Answers.{Means}
+use Rattle.lq_rows.specs.declared.fault.RunFault.{RunFault}
+use Rattle.lq_rows.specs.declared.fault.RunFault.TheVariants.{OutOfMemory, Refused}
 use Rattle.lq_rowops.specs.InsertTests.{row_meant}
 
 -- the values that the literals become, or the first reason against one

@@ -7,7 +7,7 @@ ghost use Rattle.lq_model.specs.Plan.{decide};
 ghost use Rattle.lq_model.specs.Row as rows;
 ghost use Rattle.lq_model.specs.Sound.{IsSound};
 ghost use Rattle.lq_model.specs.declared.caller.By.TheVariants.{Program};
-ghost use Rattle.lq_parts.specs.Answers.{Answers};
+ghost use Rattle.lq_rows.specs.Answers.{Answers};
 ghost use Rattle.lq_rowops.specs.Planned.{PlansRow};
 ghost use Rattle.lq_decide.specs.InsertFaults.{is_orphan, lacks_parent_of};
 ghost use Rattle.lq_rowops.specs.InsertTests.{inserted};

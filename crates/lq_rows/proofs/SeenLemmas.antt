@@ -15,7 +15,7 @@ use Rattle.lq_base.specs.declared.name.Name.{Name}
 use Rattle.lq_model.specs.declared.column.Column.{Column}
 use Rattle.lq_rows.specs.Order.{value_cmp, values_cmp}
 use Rattle.lq_rows.specs.Seen.{AllShow, ShowWith}
-use Rattle.lq_decide.specs.InsertFaults.{is_twin_in}
+use Rattle.lq_model.specs.Twin.{is_twin_in}
 use Rattle.lq_rows.specs.Stored.{ShowsRows, has_values}
 use Rattle.lq_rows.specs.declared.held.Seen.{Seen}
 

@@ -6,7 +6,7 @@ ghost use Rattle.lq_model.specs.Row.{by_name, is_null};
 ghost use Rattle.lq_chain.specs.History.{changed, marked, undone_to, forgotten};
 ghost use Rattle.lq_chain.specs.Marks.{kept_rows, replaced};
 ghost use Rattle.lq_rows.specs.Stored.{has_values, reshaped, rows_of, shape_of, stored, table_as, with_rows};
-ghost use Rattle.lq_decide.specs.InsertFaults.{is_twin};
+ghost use Rattle.lq_model.specs.Twin.{is_twin};
 
 use crate::pick::{has_column, is_null_at};
 use crate::seen::{asked, keep_up};

@@ -1,6 +1,7 @@
 //! A table as it is kept: its rows with what undoing needs, and what is known of them for looking up.
 #![tactic(auto)]
 
+mod fault;
 mod held;
 mod pick;
 mod seen;
@@ -8,6 +9,7 @@ mod shape;
 mod twin;
 mod values;
 
+pub use fault::RunFault;
 pub use held::{Held, Row};
 pub use pick::{by_name, has_column, has_null, is_null, picked};
 pub use shape::Shape;

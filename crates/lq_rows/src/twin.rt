@@ -1,7 +1,7 @@
 ghost use Rattle.std.specs.List.{filter, list_any};
 ghost use Rattle.std.specs.Prelude.{◌≡◌, IfOk, map};
 ghost use Rattle.lq_model.specs.TableNames.{key_list};
-ghost use Rattle.lq_decide.specs.InsertFaults.{is_twin_in};
+ghost use Rattle.lq_model.specs.Twin.{is_twin_in};
 ghost use Rattle.lq_rows.specs.Seen.{AllShow};
 
 use crate::held::{Row, Seen};

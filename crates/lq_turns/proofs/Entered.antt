@@ -13,7 +13,8 @@ use Rattle.lq_model.specs.Step.{step}
 use Rattle.lq_model.specs.declared.caller.By.TheVariants.{User}
 use Rattle.lq_model.specs.declared.statement.Statement.{Statement}
 use Rattle.lq_turns.specs.Contents.{Contents}
-use Rattle.lq_turns.specs.Deed.{commits_itself, if_accepted, rows_after}
+use Rattle.lq_turns.specs.Deed.{if_accepted, rows_after}
+use Rattle.lq_model.specs.Commits.{commits_itself}
 use Rattle.lq_turns.specs.Goes.{accepted_by, are_accepted, went}
 use Rattle.lq_turns.specs.Rest.{Inside, OfRows, OfSets, Turns, at_turn, between, chosen, if_goes_on, rest, turns_after, turns_calls}
 use Rattle.lq_turns.specs.Rollback.{calls_if_finished, turns_made}

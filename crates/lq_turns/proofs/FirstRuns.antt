@@ -27,8 +27,8 @@ use Rattle.lq_turns.specs.Set.{Condition, IsKept, Meaning, Set, has_row, row_at}
 use Rattle.lq_turns.specs.Settle.{is_to_fill, runs_again, all_settled, choice, choice_of, followed, greatest, mark_turn, reacted, row_for, run_ending, run_turn, settle, settled_by, tested, what, what_by}
 use Rattle.lq_turns.specs.declared.choice.Choice.{Choice}
 use Rattle.lq_turns.specs.declared.choice.Choice.TheVariants.{Halts, Marks, Runs, Skips}
-use Rattle.lq_turns.specs.declared.choice.OnFail.{OnFail}
-use Rattle.lq_turns.specs.declared.choice.OnFail.TheVariants.{Continue, Halt, MarkRan, Warn}
+use Rattle.lq_base.specs.declared.run.OnFail.{OnFail}
+use Rattle.lq_base.specs.declared.run.OnFail.TheVariants.{Continue, Halt, MarkRan, Warn}
 use Rattle.lq_turns.specs.declared.choice.What.{What}
 use Rattle.lq_turns.specs.declared.choice.What.TheVariants.{Again, Fill, New}
 use Rattle.lq_turns.specs.declared.deed.OnRows.TheVariants.{Inserted}

@@ -11,7 +11,8 @@ use Rattle.lq_model.specs.declared.caller.Room.TheVariants.{Ordinary}
 use Rattle.lq_model.specs.declared.statement.Statement.{Statement}
 use Rattle.lq_track.specs.Database.{Database}
 use Rattle.lq_turns.specs.Contents.{Contents, contents_of, with_contents}
-use Rattle.lq_turns.specs.Deed.{commits_itself, contents_after, done, if_accepted, lock_after, locked_after}
+use Rattle.lq_turns.specs.Deed.{contents_after, done, if_accepted, lock_after, locked_after}
+use Rattle.lq_model.specs.Commits.{commits_itself}
 use Rattle.lq_turns.specs.Jobs.{OnlyReleasesAreEarly, Task, job_of, needs_lock, script_of}
 use Rattle.lq_turns.specs.Laws.{rollback_calls}
 use Rattle.lq_turns.specs.Rollback.{calls_if_finished, rollback_of, rows_kept, rows_undone, turns_made, undo_turns}
@@ -23,8 +24,8 @@ use Rattle.lq_turns.specs.Set.{Changelog, Meaning, Set}
 use Rattle.lq_turns.specs.Settle.{choice, is_halt, own_choice, settle}
 use Rattle.lq_turns.specs.declared.call.Call.{Call}
 use Rattle.lq_turns.specs.declared.call.Call.TheVariants.{Abort, Alone, Begin, Commit, Execute}
-use Rattle.lq_turns.specs.declared.command.Command.{Command}
-use Rattle.lq_turns.specs.declared.command.Command.TheVariants.{Release, Rollback, Status, Sync, Tag, Update, Validate}
+use Rattle.lq_base.specs.declared.command.Command.{Command}
+use Rattle.lq_base.specs.declared.command.Command.TheVariants.{Release, Rollback, Status, Sync, Tag, Update, Validate}
 use Rattle.lq_turns.specs.declared.deed.Deed.{Deed}
 use Rattle.lq_turns.specs.declared.deed.Deed.TheVariants.{Locks, Rows, Users}
 use Rattle.lq_turns.specs.declared.deed.OnLock.{OnLock}

@@ -29,8 +29,8 @@ use Rattle.lq_turns.specs.Stops.{Journal, joined}
 use Rattle.lq_turns.specs.Trails.{RollbackResumes, is_by_count, rollback_to}
 use Rattle.lq_turns.specs.declared.call.Call.{Call}
 use Rattle.lq_turns.specs.declared.call.Call.TheVariants.{Alone}
-use Rattle.lq_turns.specs.declared.command.Target.{Target}
-use Rattle.lq_turns.specs.declared.command.Target.TheVariants.{Count, Date, Tag}
+use Rattle.lq_base.specs.declared.command.Target.{Target}
+use Rattle.lq_base.specs.declared.command.Target.TheVariants.{Count, Date, Tag}
 use Rattle.lq_turns.specs.declared.deed.Deed.{Deed}
 use Rattle.lq_turns.specs.declared.deed.Deed.TheVariants.{Locks}
 use Rattle.lq_turns.specs.declared.stamp.Stamp.{Stamp}

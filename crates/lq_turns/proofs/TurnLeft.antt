@@ -16,7 +16,8 @@ use Rattle.lq_model.specs.Step.{step}
 use Rattle.lq_model.specs.declared.caller.By.TheVariants.{User}
 use Rattle.lq_model.specs.declared.statement.Statement.{Statement}
 use Rattle.lq_turns.specs.Contents.{Contents}
-use Rattle.lq_turns.specs.Deed.{commits_itself, if_accepted, rows_after}
+use Rattle.lq_turns.specs.Deed.{if_accepted, rows_after}
+use Rattle.lq_model.specs.Commits.{commits_itself}
 use Rattle.lq_turns.specs.Session.{Session, all_called, is_own}
 use Rattle.lq_turns.specs.declared.call.Call.{Call}
 use Rattle.lq_turns.specs.declared.call.Call.TheVariants.{Begin, Commit, Execute}

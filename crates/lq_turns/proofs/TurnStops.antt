@@ -14,7 +14,8 @@ use Rattle.lq_model.specs.declared.statement.Statement.{Statement}
 use Rattle.lq_track.specs.Database.{Database}
 use Rattle.lq_track.specs.Lock.{taken}
 use Rattle.lq_turns.specs.Contents.{Contents, contents_of, with_contents}
-use Rattle.lq_turns.specs.Deed.{commits_itself, contents_after, if_accepted, lock_after, locked_after, rows_after}
+use Rattle.lq_turns.specs.Deed.{contents_after, if_accepted, lock_after, locked_after, rows_after}
+use Rattle.lq_model.specs.Commits.{commits_itself}
 use Rattle.lq_turns.specs.Session.{Session, aborted, all_called, closed, is_own, settled_up}
 use Rattle.lq_turns.specs.declared.call.Call.{Call}
 use Rattle.lq_turns.specs.declared.call.Call.TheVariants.{Begin, Commit, Execute}

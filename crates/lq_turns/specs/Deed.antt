@@ -2,7 +2,6 @@
 use Rattle.std.specs.List.{filter}
 use Rattle.std.specs.Prelude.{Bool, Err, List, Ok, Result, Some, [], false, if◌then◌else◌, length, map, nat_le, nat_lt, not, pos, true, ℕ, ◌++◌, ◌∷◌}
 use Rattle.lq_base.specs.declared.dialect.Dialect.{Dialect}
-use Rattle.lq_base.specs.declared.dialect.Dialect.TheVariants.{Mysql, Postgresql}
 use Rattle.lq_base.specs.declared.identity.Identity.{Identity}
 use Rattle.lq_base.specs.declared.reason.Reason.{Reason}
 use Rattle.lq_base.specs.declared.reason.Reason.TheVariants.{TooManyRows, TooWide}
@@ -11,7 +10,6 @@ use Rattle.lq_model.specs.Script.{Made}
 use Rattle.lq_model.specs.Step.{step}
 use Rattle.lq_model.specs.declared.caller.By.TheVariants.{Program, User}
 use Rattle.lq_model.specs.declared.statement.Statement.{Statement}
-use Rattle.lq_model.specs.declared.statement.Statement.TheVariants.{Delete, Insert, Update}
 use Rattle.lq_track.specs.Database.{Database, same_identity}
 use Rattle.lq_track.specs.Lock.{free, taken}
 use Rattle.lq_track.specs.Log.{identity_of}
@@ -44,18 +42,6 @@ abbrev pub made_of : Dialect → Deed → Made
 made_of d (Users s) = (User, s)
 made_of d (Rows w) = (Program, row_statement w)
 made_of d (Locks w) = (Program, lock_statement d w)
-
--- every statement but those of rows
-abbrev pub is_ddl : Statement → Bool
-is_ddl (Insert t ns ls) = false
-is_ddl (Update t sets test) = false
-is_ddl (Delete t test) = false
-is_ddl s = true
-
--- whether a statement is committed by itself, and before it what was begun: in mysql, where it is DDL
-abbrev pub commits_itself : Dialect → Statement → Bool
-commits_itself Postgresql s = false
-commits_itself Mysql s = is_ddl s
 
 -- whose row it is
 abbrev pub is_of : Identity → Tracked → Bool

@@ -10,8 +10,8 @@ use Rattle.lq_turns.specs.Set.{Changelog, Meaning}
 use Rattle.lq_turns.specs.declared.call.Call.{Call}
 use Rattle.lq_turns.specs.declared.stamp.Stamp.{Stamp}
 use Rattle.lq_turns.specs.Trails.{rollback_to}
-use Rattle.lq_turns.specs.declared.command.Command.{Command}
-use Rattle.lq_turns.specs.declared.command.Command.TheVariants.{Release, Rollback, Status, Sync, Tag, Update, Validate}
+use Rattle.lq_base.specs.declared.command.Command.{Command}
+use Rattle.lq_base.specs.declared.command.Command.TheVariants.{Release, Rollback, Status, Sync, Tag, Update, Validate}
 
 abbrev pub needs_lock : Command → Bool
 needs_lock Update = true

@@ -21,8 +21,8 @@ use Rattle.lq_turns.specs.declared.stamp.Stamp.{Stamp}
 use Rattle.lq_turns.specs.declared.stop.Stop.TheVariants.{Refused as Stopped}
 use Rattle.lq_turns.specs.declared.turn.Turn.{Turn}
 use Rattle.lq_turns.specs.Turn.{Ending, Finished, Refused, contents_in, ending, made, turn_calls}
-use Rattle.lq_turns.specs.declared.command.Target.{Target}
-use Rattle.lq_turns.specs.declared.command.Target.TheVariants.{Count, Date, Tag}
+use Rattle.lq_base.specs.declared.command.Target.{Target}
+use Rattle.lq_base.specs.declared.command.Target.TheVariants.{Count, Date, Tag}
 
 abbrev pub has_tag : List ℕ → Option (List ℕ) → Bool
 has_tag tag None = false

@@ -6,7 +6,8 @@ use Rattle.lq_model.specs.Script.{if_any, statements_in}
 use Rattle.lq_model.specs.declared.statement.Statement.{Statement}
 use Rattle.lq_track.specs.Database.{Database}
 use Rattle.lq_turns.specs.declared.deed.Deed.{Deed}
-use Rattle.lq_turns.specs.Deed.{commits_itself, done, made_of}
+use Rattle.lq_turns.specs.Deed.{done, made_of}
+use Rattle.lq_model.specs.Commits.{commits_itself}
 use Rattle.lq_turns.specs.declared.call.Call.{Call}
 use Rattle.lq_turns.specs.declared.call.Call.TheVariants.{Abort, Alone, Begin, Commit, Execute}
 

@@ -11,7 +11,7 @@ use Rattle.lq_model.specs.Changes.{AreStatements, HaveEffect, TakeBack}
 use Rattle.lq_model.specs.declared.statement.Statement.{Statement}
 use Rattle.lq_turns.specs.Contents.{Contents}
 use Rattle.lq_turns.specs.Deed.{is_of}
-use Rattle.lq_turns.specs.declared.choice.OnFail.{OnFail}
+use Rattle.lq_base.specs.declared.run.OnFail.{OnFail}
 
 -- what changes do, told by what they say
 pub record Meaning (Key : Type 0) : Type 0 where

@@ -17,8 +17,8 @@ use Rattle.lq_turns.specs.Contents.{Contents}
 use Rattle.lq_turns.specs.Deed.{filled}
 use Rattle.lq_turns.specs.Effects.{effects, not_fresh, statements_of}
 use Rattle.lq_turns.specs.Set.{Changelog, Condition, Meaning, Set, is_excused, row_at}
-use Rattle.lq_turns.specs.declared.choice.OnFail.{OnFail}
-use Rattle.lq_turns.specs.declared.choice.OnFail.TheVariants.{Continue, Halt, MarkRan, Warn}
+use Rattle.lq_base.specs.declared.run.OnFail.{OnFail}
+use Rattle.lq_base.specs.declared.run.OnFail.TheVariants.{Continue, Halt, MarkRan, Warn}
 use Rattle.lq_turns.specs.declared.deed.OnRows.{OnRows}
 use Rattle.lq_turns.specs.declared.deed.OnRows.TheVariants.{Filled, Inserted, Renewed}
 use Rattle.lq_turns.specs.declared.turn.Turn.{Turn}

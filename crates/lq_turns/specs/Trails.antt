@@ -16,8 +16,8 @@ use Rattle.lq_turns.specs.Script.{update_calls}
 use Rattle.lq_turns.specs.Session.{left_by}
 use Rattle.lq_turns.specs.Set.{Changelog, Meaning, Set}
 use Rattle.lq_turns.specs.declared.call.Call.{Call}
-use Rattle.lq_turns.specs.declared.command.Target.{Target}
-use Rattle.lq_turns.specs.declared.command.Target.TheVariants.{Count, Date, Tag}
+use Rattle.lq_base.specs.declared.command.Target.{Target}
+use Rattle.lq_base.specs.declared.command.Target.TheVariants.{Count, Date, Tag}
 use Rattle.lq_turns.specs.declared.stamp.Stamp.{Stamp}
 use Rattle.lq_turns.specs.Settle.{updated}
 use Rattle.lq_turns.specs.Stops.{IsSteady, IsTrail, Journal, joined}

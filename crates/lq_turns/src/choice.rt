@@ -8,19 +8,6 @@ pub enum What {
     Fill,
 }
 
-/// The reaction to a condition that does not hold, or that cannot be told.
-#[derive(Clone, Copy, Debug, PartialEq, Eq)]
-pub enum OnFail {
-    /// The command stops.
-    Halt,
-    /// The changeset is skipped, and gets no row.
-    Continue,
-    /// The changeset gets a row, and does not run.
-    MarkRan,
-    /// The changeset runs, after a warning.
-    Warn,
-}
-
 /// What a changeset does at its turn.
 #[derive(Clone, Copy, Debug, PartialEq, Eq)]
 pub enum Choice {

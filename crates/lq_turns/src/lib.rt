@@ -5,7 +5,6 @@
 mod answer;
 mod call;
 mod choice;
-mod command;
 mod deed;
 mod fault;
 mod laws;
@@ -15,8 +14,7 @@ mod turn;
 
 pub use answer::{Answer, Step};
 pub use call::Call;
-pub use choice::{Choice, OnFail, What};
-pub use command::{Command, Target};
+pub use choice::{Choice, What};
 pub use deed::{Deed, OnLock, OnRows};
 pub use fault::Fault;
 pub use laws::{

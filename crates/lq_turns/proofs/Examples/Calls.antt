@@ -16,7 +16,7 @@ use Rattle.lq_turns.specs.Session.{all_called, session_on}
 use Rattle.lq_turns.specs.Set.{Set}
 use Rattle.lq_turns.specs.Settle.{row_for}
 use Rattle.lq_turns.specs.declared.call.Call.TheVariants.{Abort, Alone, Begin, Commit, Execute}
-use Rattle.lq_turns.specs.declared.choice.OnFail.TheVariants as on_fail
+use Rattle.lq_base.specs.declared.run.OnFail.TheVariants as on_fail
 use Rattle.lq_turns.specs.declared.deed.Deed.{Deed}
 use Rattle.lq_turns.specs.declared.deed.Deed.TheVariants.{Locks, Rows, Users}
 use Rattle.lq_turns.specs.declared.deed.OnLock.TheVariants.{Freed, LockMade, LockRowMade, LogMade, Marked, Taken}

@@ -13,8 +13,8 @@ use Rattle.lq_base.specs.declared.tracking.Exec.TheVariants.{Executed, MarkRan}
 use Rattle.lq_model.specs.Plan.{decide}
 use Rattle.lq_turns.specs.Set.{Condition, Set}
 use Rattle.lq_turns.specs.Settle.{Settled, all_settled, updated}
-use Rattle.lq_turns.specs.declared.choice.OnFail.{OnFail}
-use Rattle.lq_turns.specs.declared.choice.OnFail.TheVariants as on_fail
+use Rattle.lq_base.specs.declared.run.OnFail.{OnFail}
+use Rattle.lq_base.specs.declared.run.OnFail.TheVariants as on_fail
 use Rattle.lq_turns.specs.declared.stop.Stop.TheVariants.{Halted}
 use Rattle.lq_turns.proofs.Examples.Given.{Given, brief, changelog, changeset, makes, meaning, named, nothing, stamp, tables_in, told_so}
 

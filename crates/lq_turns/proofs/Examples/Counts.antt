@@ -6,7 +6,7 @@ use Rattle.lq_base.specs.declared.tracking.Exec.TheVariants.{Executed}
 use Rattle.lq_model.specs.Plan.{decide}
 use Rattle.lq_turns.specs.Set.{Set}
 use Rattle.lq_turns.specs.Settle.{all_settled}
-use Rattle.lq_turns.specs.declared.choice.OnFail.TheVariants as on_fail
+use Rattle.lq_base.specs.declared.run.OnFail.TheVariants as on_fail
 use Rattle.lq_turns.proofs.Examples.Given.{Given, changeset, makes, meaning, nothing, row, stale, stamp, told_so, with_rows}
 
 -- makes three tables, of which two changes are not fresh

@@ -17,8 +17,8 @@ use Rattle.lq_track.specs.Database.{Database}
 use Rattle.lq_track.specs.Lock.{free}
 use Rattle.lq_turns.specs.Contents.{Contents}
 use Rattle.lq_turns.specs.Set.{Changelog, Condition, Meaning, Set}
-use Rattle.lq_turns.specs.declared.choice.OnFail.{OnFail}
-use Rattle.lq_turns.specs.declared.choice.OnFail.TheVariants.{Halt}
+use Rattle.lq_base.specs.declared.run.OnFail.{OnFail}
+use Rattle.lq_base.specs.declared.run.OnFail.TheVariants.{Halt}
 use Rattle.lq_turns.specs.declared.stamp.Stamp.{Stamp}
 
 -- a change: its statements, whether it is fresh, and what is generated to take it back

@@ -15,7 +15,7 @@ use Rattle.lq_turns.specs.Settle.{all_settled}
 use Rattle.lq_turns.specs.Turn.{turn_calls}
 use Rattle.lq_turns.specs.declared.call.Call.{Call}
 use Rattle.lq_turns.specs.declared.call.Call.TheVariants.{Begin, Commit, Execute}
-use Rattle.lq_turns.specs.declared.command.Target.TheVariants.{Count, Date, Tag}
+use Rattle.lq_base.specs.declared.command.Target.TheVariants.{Count, Date, Tag}
 use Rattle.lq_turns.specs.declared.deed.Deed.TheVariants.{Locks, Rows, Users}
 use Rattle.lq_turns.specs.declared.deed.OnLock.TheVariants.{Marked}
 use Rattle.lq_turns.specs.declared.deed.OnRows.TheVariants.{Deleted}

@@ -8,7 +8,7 @@ use Rattle.lq_base.specs.declared.tracking.Tracked.{Tracked}
 use Rattle.lq_model.specs.Plan.{decide}
 use Rattle.lq_turns.specs.Set.{Set}
 use Rattle.lq_turns.specs.Settle.{Settled, settle, what}
-use Rattle.lq_turns.specs.declared.choice.OnFail.TheVariants as on_fail
+use Rattle.lq_base.specs.declared.run.OnFail.TheVariants as on_fail
 use Rattle.lq_turns.specs.declared.choice.What.TheVariants.{Again, Fill, New}
 use Rattle.lq_turns.proofs.Examples.Given.{Given, brief, changeset, makes, meaning, named, row, stamp, told_so, with_rows}
 

@@ -10,8 +10,8 @@ use Rattle.lq_turns.specs.Jobs.{Task, job_of}
 use Rattle.lq_turns.specs.Schedule.{Job, Machine, all_moved, start}
 use Rattle.lq_turns.specs.declared.answer.Answer.{Answer}
 use Rattle.lq_turns.specs.declared.answer.Answer.TheVariants.{Busy, Done, Locked}
-use Rattle.lq_turns.specs.declared.command.Command.{Command}
-use Rattle.lq_turns.specs.declared.command.Command.TheVariants.{Release, Update}
+use Rattle.lq_base.specs.declared.command.Command.{Command}
+use Rattle.lq_base.specs.declared.command.Command.TheVariants.{Release, Update}
 use Rattle.lq_turns.proofs.Examples.Given.{Given, changelog, changeset, made_on, makes, meaning, nothing}
 
 -- update of one changeset that makes a table: six calls

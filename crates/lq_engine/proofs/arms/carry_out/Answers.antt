@@ -1,4 +1,4 @@
-use Rattle.lq_parts.proofs.Continued.{carries}
+use Rattle.lq_rows.proofs.Continued.{carries}
 use Rattle.lq_engine.proofs.arms.carry_out.Goals as goal
 
 pub returns-in-Insert : goal.returns-in-Insert

@@ -1,4 +1,4 @@
-use lq_base::Text;
+use crate::text::Text;
 
 /// The point to which a rollback goes back.
 #[derive(Debug, Drop)]

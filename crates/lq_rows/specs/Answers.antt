@@ -3,8 +3,8 @@ use Rattle.std.specs.Prelude.{Err, Ok, Result, ℕ, ◌≡◌, ◌≤◌}
 use Rattle.lq_base.specs.declared.reason.Reason.{Reason}
 use Rattle.lq_chain.specs.History.{History, marked, undone_to}
 use Rattle.lq_model.specs.Catalogue.{Catalogue}
-use Rattle.lq_parts.specs.declared.fault.RunFault.{RunFault}
-use Rattle.lq_parts.specs.declared.fault.RunFault.TheVariants.{OutOfMemory, Refused}
+use Rattle.lq_rows.specs.declared.fault.RunFault.{RunFault}
+use Rattle.lq_rows.specs.declared.fault.RunFault.TheVariants.{OutOfMemory, Refused}
 
 -- changes were added to the old ones, and undoing them gives what was there
 abbrev pub Continues : {X : Type 0} → History X → History X → Type 0

@@ -13,7 +13,7 @@ pub enum RunFault {
 
 impl From<NoMemory> for RunFault {
     ghost use Rattle.std.specs.Prelude.{◌≡◌};
-    ghost use Rattle.lq_parts.specs.declared.fault.RunFault.TheVariants.{OutOfMemory};
+    ghost use Rattle.lq_rows.specs.declared.fault.RunFault.TheVariants.{OutOfMemory};
 
     ghost from_gives = { λ _ e. e ≡ OutOfMemory };
 
@@ -24,7 +24,7 @@ impl From<NoMemory> for RunFault {
 
 impl From<AllocError> for RunFault {
     ghost use Rattle.std.specs.Prelude.{◌≡◌};
-    ghost use Rattle.lq_parts.specs.declared.fault.RunFault.TheVariants.{OutOfMemory};
+    ghost use Rattle.lq_rows.specs.declared.fault.RunFault.TheVariants.{OutOfMemory};
 
     ghost from_gives = { λ _ e. e ≡ OutOfMemory };
 
