@@ -1,5 +1,5 @@
 -- That addDefaultValue keeps its promises.
-use Rattle.std.proofs.Common.{ap, sym, ◌∙◌}
+use Rattle.std.proofs.Common.{ap, subst, sym, ◌∙◌}
 use Rattle.std.specs.Prelude.{codes, is_none, refl, true, ◌≡◌}
 use Rattle.lq_base.specs.Kind.{is_kind}
 use Rattle.lq_base.specs.Name.{is_name}
@@ -10,7 +10,7 @@ use Rattle.lq_model.proofs.Effects.{does_so, one_back_where, one_becomes, restor
 use Rattle.lq_model.proofs.Lists.{and_left, and_right}
 use Rattle.lq_model.proofs.Told.{keys_told, kinds_told, text_told}
 use Rattle.lq_model.proofs.UndoChanges.{drop_default_after}
-use Rattle.lq_model.specs.Changes.{AreStatements, AreTold, HaveEffect, TakeBack}
+use Rattle.lq_model.specs.Changes.{AreReturns, AreStatements, AreTold, HaveEffect, TakeBack}
 use Rattle.lq_model.specs.Effect.{Becomes, GoesBack}
 use Rattle.lq_model.specs.Step.{run}
 use Rattle.lq_model.specs.TakesBack.{is_each}
@@ -21,6 +21,8 @@ use Rattle.lq_tree.specs.Values.{is_given, literal_of}
 use Rattle.lq_columns.specs.AddDefaultValue.{becomes, canonical_of, effect, gives, inverse, is_for, is_fresh, rows}
 use Rattle.lq_columns.specs.DefaultKeysLaws.{given_is_literal, value_told}
 use Rattle.lq_columns.specs.declared.add_default_value.AddDefaultValue.{AddDefaultValue}
+use Rattle.std.specs.List.{list_all}
+use Rattle.lq_model.specs.Statement.{is_statement}
 
 -- what is right of it
 record IsRight (x : AddDefaultValue) : Type 0 where
@@ -42,6 +44,11 @@ right_of d x h =
 
 pub spelled : AreStatements is_for gives
 spelled d x h = let r = right_of d x h in rw (r.table, r.column, given_is_literal x.default_value r.value) refl
+
+pub returned : AreReturns is_for inverse
+returned d x undoing right taken =
+    let r = right_of d x right in
+    subst (λ ss. list_all (is_statement d) ss ≡ true) (some_same taken) (rw (r.table, r.column) refl)
 
 becomes_so : Becomes gives becomes is_for
 becomes_so d x c e right sound ran = one_becomes d (statement.SetDefault x.table_name x.column_name (literal_of x.default_value)) c e ran

@@ -1,8 +1,8 @@
 -- That addNotNullConstraint keeps its promises.
-use Rattle.std.proofs.Common.{ap, length, sym, ◌∙◌}
+use Rattle.std.proofs.Common.{ap, length, subst, sym, ◌∙◌}
 use Rattle.std.specs.List.{filter, list_all, list_any}
 use Rattle.std.specs.Option.{option_map, unwrap_or}
-use Rattle.std.specs.Prelude.{Bool, List, None, Ok, Option, Some, [], codes, false, is_none, not, refl, true, ℕ, ◌&&◌, ◌++◌, ◌||◌, ◌∷◌, ◌≡◌}
+use Rattle.std.specs.Prelude.{Bool, List, None, Ok, Option, Some, ℕ, [], codes, false, is_none, not, refl, true, ◌&&◌, ◌++◌, ◌||◌, ◌∷◌, ◌≡◌}
 use Rattle.lq_base.specs.Kind.{is_kind}
 use Rattle.lq_base.specs.Name.{is_name}
 use Rattle.lq_base.specs.Options.{if_there}
@@ -17,7 +17,7 @@ use Rattle.lq_model.proofs.NoRowTaken.{update_of_none}
 use Rattle.lq_model.proofs.Told.{keys_told, kinds_told, text_told, texts_told}
 use Rattle.lq_model.specs.Catalogue.{Catalogue, table_of, the_table, with_table}
 use Rattle.lq_model.specs.ChangeColumn.{with_changed}
-use Rattle.lq_model.specs.Changes.{AreStatements, AreTold, HaveEffect, TakeBack}
+use Rattle.lq_model.specs.Changes.{AreReturns, AreStatements, AreTold, HaveEffect, TakeBack}
 use Rattle.lq_model.specs.Effect.{Becomes, GoesBack}
 use Rattle.lq_model.specs.Look.{at_table, column_at, has_null_in}
 use Rattle.lq_model.specs.Row.{by_name, is_null}
@@ -51,6 +51,12 @@ spelled d x h = by x.default_null_value where
   by : (v : Option (List ℕ)) → list_all (is_statement d) (fills x.table_name x.column_name v ++ sets d x false ∷ []) ≡ true
   by None = last
   by (Some v) = rw (and_left (is_name x.table_name) _ h, and_left (is_name x.column_name) _ a) last
+
+pub returned : AreReturns is_for inverse
+returned d x undoing right taken =
+    let a = and_right (is_name x.table_name) _ right in
+    let one = allowing_spelled d x.table_name x.column_name x.column_data_type true (and_left (is_name x.table_name) _ right) (and_left (is_name x.column_name) _ a) (and_right (is_name x.column_name) _ a) in
+    subst (λ ss. list_all (is_statement d) ss ≡ true) (some_same taken) (and_true (is_statement d (sets d x true)) true one refl)
 
 becomes_so : Becomes gives becomes is_for
 becomes_so d x c e right sound ran = by x.default_null_value ran where

@@ -3,7 +3,7 @@ use Rattle.std.proofs.Common.{ap}
 use Rattle.std.specs.Prelude.{codes, refl, ◌≡◌}
 use Rattle.lq_model.proofs.Effects.{does_so, one_becomes, restores_so}
 use Rattle.lq_model.proofs.Told.{keys_told, text_told}
-use Rattle.lq_model.specs.Changes.{AreStatements, AreTold, HaveEffect, TakeBack}
+use Rattle.lq_model.specs.Changes.{AreReturns, AreStatements, AreTold, HaveEffect, TakeBack}
 use Rattle.lq_model.specs.Effect.{Becomes, GoesBack}
 use Rattle.lq_model.specs.Written.{nth_value}
 use Rattle.lq_model.specs.declared.statement.Statement.TheVariants as statement
@@ -12,6 +12,9 @@ use Rattle.lq_columns.specs.declared.drop_column.DropColumn.{DropColumn}
 
 pub spelled : AreStatements is_for gives
 spelled d x h = rw h refl
+
+pub returned : AreReturns is_for inverse
+returned d x undoing right taken = absurd Prim.cc
 
 becomes_so : Becomes gives becomes is_for
 becomes_so d x c e right sound ran = one_becomes d (statement.DropColumn x.table_name x.column_name) c e ran

@@ -8,7 +8,7 @@ use Rattle.lq_base.specs.declared.dialect.Dialect.{Dialect}
 use Rattle.lq_model.proofs.Effects.{does_so, one_becomes, restores_so}
 use Rattle.lq_model.proofs.Lists.{and_left, and_right}
 use Rattle.lq_model.proofs.Told.{keys_told, kinds_told, text_told}
-use Rattle.lq_model.specs.Changes.{AreStatements, AreTold, HaveEffect, TakeBack}
+use Rattle.lq_model.specs.Changes.{AreReturns, AreStatements, AreTold, HaveEffect, TakeBack}
 use Rattle.lq_model.specs.Effect.{Becomes, GoesBack}
 use Rattle.lq_model.specs.Written.{nth_value}
 use Rattle.lq_model.specs.declared.statement.Statement.TheVariants as statement
@@ -19,6 +19,9 @@ pub spelled : AreStatements is_for gives
 spelled d x h =
     let a = and_right (is_name x.table_name) _ h in
     rw (and_left (is_name x.table_name) _ h, and_left (is_name x.column_name) _ a) refl
+
+pub returned : AreReturns is_for inverse
+returned d x undoing right taken = absurd Prim.cc
 
 becomes_so : Becomes gives becomes is_for
 becomes_so d x c e right sound ran = one_becomes d (statement.DropDefault x.table_name x.column_name) c e ran

@@ -1,6 +1,6 @@
 -- That dropNotNullConstraint keeps its promises.
-use Rattle.std.proofs.Common.{ap, sym, ◌∙◌}
-use Rattle.std.specs.Prelude.{codes, refl, true, ◌≡◌}
+use Rattle.std.proofs.Common.{ap, subst, sym, ◌∙◌}
+use Rattle.std.specs.Prelude.{codes, false, refl, true, ◌≡◌}
 use Rattle.lq_base.specs.Kind.{is_kind}
 use Rattle.lq_base.specs.Name.{is_name}
 use Rattle.lq_base.specs.Options.{if_there}
@@ -8,7 +8,7 @@ use Rattle.lq_base.specs.declared.dialect.Dialect.{Dialect}
 use Rattle.lq_model.proofs.Effects.{does_so, restores_so, some_same}
 use Rattle.lq_model.proofs.Lists.{and_left, and_right, and_true}
 use Rattle.lq_model.proofs.Told.{keys_told, kinds_told, text_told}
-use Rattle.lq_model.specs.Changes.{AreStatements, AreTold, HaveEffect, TakeBack}
+use Rattle.lq_model.specs.Changes.{AreReturns, AreStatements, AreTold, HaveEffect, TakeBack}
 use Rattle.lq_model.specs.Effect.{Becomes, GoesBack}
 use Rattle.lq_model.specs.Statement.{is_statement}
 use Rattle.lq_model.specs.Step.{run}
@@ -18,11 +18,18 @@ use Rattle.lq_columns.specs.DropNotNull.{becomes, canonical_of, effect, gives, i
 use Rattle.lq_columns.specs.Nullable.{kind_stated}
 use Rattle.lq_columns.specs.NullableLaws.{allowing_back, allowing_becomes, allowing_spelled}
 use Rattle.lq_columns.specs.declared.drop_not_null.DropNotNullConstraint.{DropNotNullConstraint}
+use Rattle.std.specs.List.{list_all}
 
 pub spelled : AreStatements is_for gives
 spelled d x h =
     let a = and_right (is_name x.table_name) _ h in
     and_true (is_statement d (sets d x true)) true (allowing_spelled d x.table_name x.column_name x.column_data_type true (and_left (is_name x.table_name) _ h) (and_left (is_name x.column_name) _ a) (and_right (is_name x.column_name) _ a)) refl
+
+pub returned : AreReturns is_for inverse
+returned d x undoing right taken =
+    let a = and_right (is_name x.table_name) _ right in
+    let one = allowing_spelled d x.table_name x.column_name x.column_data_type false (and_left (is_name x.table_name) _ right) (and_left (is_name x.column_name) _ a) (and_right (is_name x.column_name) _ a) in
+    subst (λ ss. list_all (is_statement d) ss ≡ true) (some_same taken) (and_true (is_statement d (sets d x false)) true one refl)
 
 becomes_so : Becomes gives becomes is_for
 becomes_so d x c e right sound ran = allowing_becomes d x.table_name x.column_name (kind_stated x.column_data_type) true c e ran

@@ -1,5 +1,5 @@
 -- That renameColumn keeps its promises.
-use Rattle.std.proofs.Common.{ap, sym, ◌∙◌}
+use Rattle.std.proofs.Common.{ap, subst, sym, ◌∙◌}
 use Rattle.std.specs.Prelude.{codes, refl, true, ◌≡◌}
 use Rattle.lq_base.specs.Kind.{is_kind}
 use Rattle.lq_base.specs.Name.{is_name}
@@ -9,19 +9,27 @@ use Rattle.lq_model.proofs.Effects.{does_so, one_back, one_becomes, restores_so,
 use Rattle.lq_model.proofs.Lists.{and_left, and_right}
 use Rattle.lq_model.proofs.Told.{keys_told, kinds_told, text_told}
 use Rattle.lq_model.proofs.UndoRenameColumn.{column_renamed_back}
-use Rattle.lq_model.specs.Changes.{AreStatements, AreTold, HaveEffect, TakeBack}
+use Rattle.lq_model.specs.Changes.{AreReturns, AreStatements, AreTold, HaveEffect, TakeBack}
 use Rattle.lq_model.specs.Effect.{Becomes, GoesBack}
 use Rattle.lq_model.specs.Step.{run}
 use Rattle.lq_model.specs.Written.{nth_value}
 use Rattle.lq_model.specs.declared.caller.By.TheVariants.{User}
 use Rattle.lq_columns.specs.RenameColumn.{becomes, canonical_of, effect, gives, inverse, is_for, is_fresh, renames, rows}
 use Rattle.lq_columns.specs.declared.rename_column.RenameColumn.{RenameColumn}
+use Rattle.std.specs.List.{list_all}
+use Rattle.lq_model.specs.Statement.{is_statement}
 
 pub spelled : AreStatements is_for gives
 spelled d x h =
     let a = and_right (is_name x.table_name) _ h in
     let b = and_right (is_name x.old_column_name) _ a in
     rw (and_left (is_name x.table_name) _ h, and_left (is_name x.old_column_name) _ a, and_left (is_name x.new_column_name) _ b) refl
+
+pub returned : AreReturns is_for inverse
+returned d x undoing right taken =
+    let a = and_right (is_name x.table_name) _ right in
+    let b = and_right (is_name x.old_column_name) _ a in
+    subst (λ ss. list_all (is_statement d) ss ≡ true) (some_same taken) (rw (and_left (is_name x.table_name) _ right, and_left (is_name x.new_column_name) _ b, and_left (is_name x.old_column_name) _ a) refl)
 
 becomes_so : Becomes gives becomes is_for
 becomes_so d x c e right sound ran = one_becomes d (renames x.table_name x.old_column_name x.new_column_name) c e ran

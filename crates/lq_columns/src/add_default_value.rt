@@ -66,7 +66,7 @@ impl AddDefaultValue {
 
 impl Change for AddDefaultValue {
     ghost use Rattle.lq_columns.specs.AddDefaultValue.{canonical_of, effect, gives, inverse, is_for, is_fresh};
-    ghost use Rattle.lq_columns.specs.AddDefaultValueLaws.{does, restores, spelled, told};
+    ghost use Rattle.lq_columns.specs.AddDefaultValueLaws.{does, restores, returned, spelled, told};
     ghost use Rattle.lq_columns.specs.declared.add_default_value.AddDefaultValue.{AddDefaultValue};
 
     ghost Key = { AddDefaultValue };
@@ -126,6 +126,8 @@ impl Change for AddDefaultValue {
     }
 
     ghost spelled = { spelled };
+
+    ghost returned = { returned };
 
     ghost does = { does };
 

@@ -103,7 +103,7 @@ impl AddNotNullConstraint {
 
 impl Change for AddNotNullConstraint {
     ghost use Rattle.lq_columns.specs.AddNotNull.{canonical_of, effect, gives, inverse, is_for, is_fresh};
-    ghost use Rattle.lq_columns.specs.AddNotNullLaws.{does, restores, spelled, told};
+    ghost use Rattle.lq_columns.specs.AddNotNullLaws.{does, restores, returned, spelled, told};
     ghost use Rattle.lq_columns.specs.declared.add_not_null.AddNotNullConstraint.{AddNotNullConstraint};
 
     ghost Key = { AddNotNullConstraint };
@@ -162,6 +162,8 @@ impl Change for AddNotNullConstraint {
     }
 
     ghost spelled = { spelled };
+
+    ghost returned = { returned };
 
     ghost does = { does };
 

@@ -47,7 +47,7 @@ impl DropColumn {
 
 impl Change for DropColumn {
     ghost use Rattle.lq_columns.specs.DropColumn.{canonical_of, effect, gives, inverse, is_for, is_fresh};
-    ghost use Rattle.lq_columns.specs.DropColumnLaws.{does, restores, spelled, told};
+    ghost use Rattle.lq_columns.specs.DropColumnLaws.{does, restores, returned, spelled, told};
     ghost use Rattle.lq_columns.specs.declared.drop_column.DropColumn.{DropColumn};
 
     ghost Key = { DropColumn };
@@ -99,6 +99,8 @@ impl Change for DropColumn {
     }
 
     ghost spelled = { spelled };
+
+    ghost returned = { returned };
 
     ghost does = { does };
 

@@ -52,7 +52,7 @@ impl DropDefaultValue {
 
 impl Change for DropDefaultValue {
     ghost use Rattle.lq_columns.specs.DropDefaultValue.{canonical_of, effect, gives, inverse, is_for, is_fresh};
-    ghost use Rattle.lq_columns.specs.DropDefaultValueLaws.{does, restores, spelled, told};
+    ghost use Rattle.lq_columns.specs.DropDefaultValueLaws.{does, restores, returned, spelled, told};
     ghost use Rattle.lq_columns.specs.declared.drop_default_value.DropDefaultValue.{DropDefaultValue};
 
     ghost Key = { DropDefaultValue };
@@ -105,6 +105,8 @@ impl Change for DropDefaultValue {
     }
 
     ghost spelled = { spelled };
+
+    ghost returned = { returned };
 
     ghost does = { does };
 

@@ -53,7 +53,7 @@ impl DropNotNullConstraint {
 
 impl Change for DropNotNullConstraint {
     ghost use Rattle.lq_columns.specs.DropNotNull.{canonical_of, effect, gives, inverse, is_for, is_fresh};
-    ghost use Rattle.lq_columns.specs.DropNotNullLaws.{does, restores, spelled, told};
+    ghost use Rattle.lq_columns.specs.DropNotNullLaws.{does, restores, returned, spelled, told};
     ghost use Rattle.lq_columns.specs.declared.drop_not_null.DropNotNullConstraint.{DropNotNullConstraint};
 
     ghost Key = { DropNotNullConstraint };
@@ -122,6 +122,8 @@ impl Change for DropNotNullConstraint {
     }
 
     ghost spelled = { spelled };
+
+    ghost returned = { returned };
 
     ghost does = { does };
 

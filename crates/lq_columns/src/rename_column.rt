@@ -56,7 +56,7 @@ impl RenameColumn {
 
 impl Change for RenameColumn {
     ghost use Rattle.lq_columns.specs.RenameColumn.{canonical_of, effect, gives, inverse, is_for, is_fresh};
-    ghost use Rattle.lq_columns.specs.RenameColumnLaws.{does, restores, spelled, told};
+    ghost use Rattle.lq_columns.specs.RenameColumnLaws.{does, restores, returned, spelled, told};
     ghost use Rattle.lq_columns.specs.declared.rename_column.RenameColumn.{RenameColumn};
 
     ghost Key = { RenameColumn };
@@ -123,6 +123,8 @@ impl Change for RenameColumn {
     }
 
     ghost spelled = { spelled };
+
+    ghost returned = { returned };
 
     ghost does = { does };
 

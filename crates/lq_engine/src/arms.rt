@@ -10,7 +10,7 @@ use std::alloc::Global;
 
 /// Carries a statement out on a sound catalogue. It may change first and test its result afterwards:
 /// at a fault it may leave changes, which the caller undoes.
-#[tactic(auto, using(lq_parts::proofs::Continued::stays))]
+#[tactic(auto, using(lq_rows::proofs::Continued::stays))]
 pub fn carry_out(
     alloc: Global,
     parts: &mut Parts,

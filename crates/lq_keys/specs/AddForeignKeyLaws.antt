@@ -1,11 +1,11 @@
 -- That addForeignKeyConstraint keeps its promises.
-use Rattle.std.proofs.Common.{ap, sym, ◌∙◌}
-use Rattle.std.specs.Prelude.{codes, refl, ◌≡◌}
+use Rattle.std.proofs.Common.{ap, subst, sym, ◌∙◌}
+use Rattle.std.specs.Prelude.{codes, refl, true, ◌≡◌}
 use Rattle.lq_base.specs.Name.{is_name}
 use Rattle.lq_model.proofs.Effects.{does_so, one_becomes, restores_so, some_same}
-use Rattle.lq_model.proofs.Lists.{and_left, and_right}
+use Rattle.lq_model.proofs.Lists.{and_left, and_right, and_true}
 use Rattle.lq_model.proofs.Told.{keys_told, names_told, text_told}
-use Rattle.lq_model.specs.Changes.{AreStatements, AreTold, HaveEffect, TakeBack}
+use Rattle.lq_model.specs.Changes.{AreReturns, AreStatements, AreTold, HaveEffect, TakeBack}
 use Rattle.lq_model.specs.Effect.{Becomes, GoesBack}
 use Rattle.lq_model.specs.Step.{run}
 use Rattle.lq_model.specs.Written.{nth_value}
@@ -13,10 +13,13 @@ use Rattle.lq_model.specs.declared.caller.By.TheVariants.{User}
 use Rattle.lq_model.specs.declared.statement.Statement.TheVariants as statement
 use Rattle.lq_tree.specs.Items.{are_some}
 use Rattle.lq_keys.specs.AddForeignKey.{becomes, canonical_of, effect, foreign_of, gives, inverse, is_for, is_fresh, rows}
-use Rattle.lq_keys.specs.DropsLaws.{foreign_back}
+use Rattle.lq_keys.specs.DropsLaws.{foreign_back, foreign_spelled}
 use Rattle.lq_keys.specs.NamedLaws.{listed}
 use Rattle.lq_keys.specs.OnDeleteLaws.{on_delete_told}
 use Rattle.lq_keys.specs.declared.add_foreign_key.AddForeignKeyConstraint.{AddForeignKeyConstraint}
+use Rattle.std.specs.List.{list_all}
+use Rattle.lq_model.specs.Statement.{is_statement}
+use Rattle.lq_keys.specs.Drops.{drops_foreign}
 
 pub spelled : AreStatements is_for gives
 spelled d x h =
@@ -30,6 +33,12 @@ spelled d x h =
       and_left (is_name x.referenced_table_name) _ e,
       listed x.referenced_column_names (and_right (is_name x.referenced_table_name) _ e),
     ) refl
+
+pub returned : AreReturns is_for inverse
+returned d x undoing right taken =
+    let a = and_right (is_name x.constraint_name) _ right in
+    let one = foreign_spelled d x.base_table_name x.constraint_name (and_left (is_name x.base_table_name) _ a) (and_left (is_name x.constraint_name) _ right) in
+    subst (λ ss. list_all (is_statement d) ss ≡ true) (some_same taken) (and_true (is_statement d (drops_foreign d x.base_table_name x.constraint_name)) true one refl)
 
 becomes_so : Becomes gives becomes is_for
 becomes_so d x c e right sound ran = one_becomes d (statement.AddForeignKey x.base_table_name (foreign_of x)) c e ran

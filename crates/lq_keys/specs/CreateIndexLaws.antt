@@ -1,5 +1,5 @@
 -- That createIndex keeps its promises.
-use Rattle.std.proofs.Common.{ap, sym, ◌∙◌}
+use Rattle.std.proofs.Common.{ap, subst, sym, ◌∙◌}
 use Rattle.std.specs.List.{list_all}
 use Rattle.std.specs.Prelude.{List, [], codes, not, refl, true, ◌∷◌, ◌≡◌}
 use Rattle.lq_base.specs.Name.{is_name}
@@ -7,24 +7,25 @@ use Rattle.lq_base.specs.Options.{if_there}
 use Rattle.lq_base.specs.declared.dialect.Dialect.{Dialect}
 use Rattle.lq_model.proofs.DefaultNames.{default_named}
 use Rattle.lq_model.proofs.Effects.{does_so, one_becomes, restores_so, some_same}
-use Rattle.lq_model.proofs.Lists.{all-map, and_left, and_right}
+use Rattle.lq_model.proofs.Lists.{all-map, and_left, and_right, and_true}
 use Rattle.lq_model.proofs.Told.{keys_told, map_told, maps_told, text_told, texts_told, truths_told}
-use Rattle.lq_model.specs.Changes.{AreStatements, AreTold, HaveEffect, TakeBack}
+use Rattle.lq_model.specs.Changes.{AreReturns, AreStatements, AreTold, HaveEffect, TakeBack}
 use Rattle.lq_model.specs.DefaultName.{index_name}
 use Rattle.lq_model.specs.Effect.{Becomes, GoesBack}
-use Rattle.lq_model.specs.Statement.{is_name_list}
+use Rattle.lq_model.specs.Statement.{is_name_list, is_statement}
 use Rattle.lq_model.specs.Step.{run}
 use Rattle.lq_model.specs.Written.{map_with, nth_value}
 use Rattle.lq_model.specs.declared.caller.By.TheVariants.{User}
 use Rattle.lq_model.specs.declared.statement.Statement.TheVariants as statement
 use Rattle.lq_tree.specs.Items.{are_some, is_empty}
-use Rattle.lq_keys.specs.CreateIndex.{becomes, canonical_of, effect, gives, index_of, inverse, is_for, is_fresh, rows}
-use Rattle.lq_keys.specs.DropsLaws.{index_back}
+use Rattle.lq_keys.specs.CreateIndex.{becomes, canonical_of, effect, gives, index_of, inverse, is_for, is_fresh, name_of, rows}
+use Rattle.lq_keys.specs.DropsLaws.{index_back, index_spelled}
 use Rattle.lq_keys.specs.IndexColumn.{is_column, names_of}
 use Rattle.lq_keys.specs.IndexColumn as column
 use Rattle.lq_keys.specs.NamedLaws.{named}
 use Rattle.lq_keys.specs.declared.create_index.CreateIndex.{CreateIndex}
 use Rattle.lq_keys.specs.declared.index_column.IndexColumn.{IndexColumn}
+use Rattle.lq_keys.specs.Drops.{drops_index}
 
 all_columns : (xs : List IndexColumn) → are_some is_column xs ≡ true → list_all is_column xs ≡ true
 all_columns xs h = and_right (not (is_empty xs)) _ h
@@ -39,12 +40,22 @@ listed (x ∷ xs) h = all_named (x ∷ xs) h
 columned : (d : Dialect) (x : CreateIndex) → is_for d x ≡ true → are_some is_column x.columns ≡ true
 columned d x h = and_right (is_name x.table_name) _ (and_right (if_there is_name x.index_name) _ h)
 
+name_named : (d : Dialect) (x : CreateIndex) → is_for d x ≡ true → is_name (name_of x) ≡ true
+name_named d x h =
+    let t = and_left (is_name x.table_name) _ (and_right (if_there is_name x.index_name) _ h) in
+    named x.index_name (index_name x.table_name (names_of x.columns)) (and_left (if_there is_name x.index_name) _ h) (default_named d x.table_name (names_of x.columns) t (all_named x.columns (columned d x h))).3
+
 pub spelled : AreStatements is_for gives
 spelled d x h =
     let t = and_left (is_name x.table_name) _ (and_right (if_there is_name x.index_name) _ h) in
     let ns = columned d x h in
-    let n = named x.index_name (index_name x.table_name (names_of x.columns)) (and_left (if_there is_name x.index_name) _ h) (default_named d x.table_name (names_of x.columns) t (all_named x.columns ns)).3 in
-    rw (t, n, listed x.columns ns) refl
+    rw (t, name_named d x h, listed x.columns ns) refl
+
+pub returned : AreReturns is_for inverse
+returned d x undoing right taken =
+    let t = and_left (is_name x.table_name) _ (and_right (if_there is_name x.index_name) _ right) in
+    let one = index_spelled d (name_of x) x.table_name (name_named d x right) t in
+    subst (λ ss. list_all (is_statement d) ss ≡ true) (some_same taken) (and_true (is_statement d (drops_index d (name_of x) x.table_name)) true one refl)
 
 becomes_so : Becomes gives becomes is_for
 becomes_so d x c e right sound ran = one_becomes d (statement.CreateIndex x.table_name (index_of x)) c e ran

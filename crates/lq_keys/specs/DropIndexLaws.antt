@@ -5,7 +5,7 @@ use Rattle.lq_base.specs.Name.{is_name}
 use Rattle.lq_model.proofs.Effects.{does_so, restores_so}
 use Rattle.lq_model.proofs.Lists.{and_left, and_right, and_true}
 use Rattle.lq_model.proofs.Told.{keys_told, text_told}
-use Rattle.lq_model.specs.Changes.{AreStatements, AreTold, HaveEffect, TakeBack}
+use Rattle.lq_model.specs.Changes.{AreReturns, AreStatements, AreTold, HaveEffect, TakeBack}
 use Rattle.lq_model.specs.Effect.{Becomes, GoesBack}
 use Rattle.lq_model.specs.Statement.{is_statement}
 use Rattle.lq_model.specs.Written.{nth_value}
@@ -18,6 +18,9 @@ pub spelled : AreStatements is_for gives
 spelled d x h =
     and_true (is_statement d (drops_index d x.index_name x.table_name)) true
     (index_spelled d x.index_name x.table_name (and_left (is_name x.index_name) _ h) (and_right (is_name x.index_name) _ h)) refl
+
+pub returned : AreReturns is_for inverse
+returned d x undoing right taken = absurd Prim.cc
 
 becomes_so : Becomes gives becomes is_for
 becomes_so d x c e right sound ran = index_becomes d x.index_name x.table_name c e ran

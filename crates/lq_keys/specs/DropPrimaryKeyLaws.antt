@@ -6,7 +6,7 @@ use Rattle.lq_model.proofs.DefaultNames.{default_named}
 use Rattle.lq_model.proofs.Effects.{does_so, restores_so}
 use Rattle.lq_model.proofs.Lists.{and_left, and_right, and_true}
 use Rattle.lq_model.proofs.Told.{keys_told, text_told, texts_told}
-use Rattle.lq_model.specs.Changes.{AreStatements, AreTold, HaveEffect, TakeBack}
+use Rattle.lq_model.specs.Changes.{AreReturns, AreStatements, AreTold, HaveEffect, TakeBack}
 use Rattle.lq_model.specs.DefaultName.{key_name}
 use Rattle.lq_model.specs.Effect.{Becomes, GoesBack}
 use Rattle.lq_model.specs.Statement.{is_statement}
@@ -22,6 +22,9 @@ spelled d x h =
     let t = and_left (is_name x.table_name) _ h in
     let n = named x.constraint_name (key_name d x.table_name) (and_right (is_name x.table_name) _ h) (default_named d x.table_name [] t refl).0 in
     and_true (is_statement d (drops_key d x.table_name (name_of d x))) true (key_spelled d x.table_name (name_of d x) t n) refl
+
+pub returned : AreReturns is_for inverse
+returned d x undoing right taken = absurd Prim.cc
 
 becomes_so : Becomes gives becomes is_for
 becomes_so d x c e right sound ran = key_becomes d x.table_name (name_of d x) c e ran

@@ -137,7 +137,7 @@ impl AddForeignKeyConstraint {
 
 impl Change for AddForeignKeyConstraint {
     ghost use Rattle.lq_keys.specs.AddForeignKey.{canonical_of, effect, gives, inverse, is_for, is_fresh};
-    ghost use Rattle.lq_keys.specs.AddForeignKeyLaws.{does, restores, spelled, told};
+    ghost use Rattle.lq_keys.specs.AddForeignKeyLaws.{does, restores, returned, spelled, told};
     ghost use Rattle.lq_keys.specs.declared.add_foreign_key.AddForeignKeyConstraint.{AddForeignKeyConstraint};
 
     ghost Key = { AddForeignKeyConstraint };
@@ -215,6 +215,8 @@ impl Change for AddForeignKeyConstraint {
     }
 
     ghost spelled = { spelled };
+
+    ghost returned = { returned };
 
     ghost does = { does };
 

@@ -97,7 +97,7 @@ impl AddPrimaryKey {
 
 impl Change for AddPrimaryKey {
     ghost use Rattle.lq_keys.specs.AddPrimaryKey.{canonical_of, effect, gives, inverse, is_for, is_fresh};
-    ghost use Rattle.lq_keys.specs.AddPrimaryKeyLaws.{does, restores, spelled, told};
+    ghost use Rattle.lq_keys.specs.AddPrimaryKeyLaws.{does, restores, returned, spelled, told};
     ghost use Rattle.lq_keys.specs.declared.add_primary_key.AddPrimaryKey.{AddPrimaryKey};
 
     ghost Key = { AddPrimaryKey };
@@ -159,6 +159,8 @@ impl Change for AddPrimaryKey {
     }
 
     ghost spelled = { spelled };
+
+    ghost returned = { returned };
 
     ghost does = { does };
 

@@ -73,7 +73,7 @@ impl AddUniqueConstraint {
 
 impl Change for AddUniqueConstraint {
     ghost use Rattle.lq_keys.specs.AddUnique.{canonical_of, effect, gives, inverse, is_for, is_fresh};
-    ghost use Rattle.lq_keys.specs.AddUniqueLaws.{does, restores, spelled, told};
+    ghost use Rattle.lq_keys.specs.AddUniqueLaws.{does, restores, returned, spelled, told};
     ghost use Rattle.lq_keys.specs.declared.add_unique.AddUniqueConstraint.{AddUniqueConstraint};
 
     ghost Key = { AddUniqueConstraint };
@@ -132,6 +132,8 @@ impl Change for AddUniqueConstraint {
     }
 
     ghost spelled = { spelled };
+
+    ghost returned = { returned };
 
     ghost does = { does };
 

@@ -82,7 +82,7 @@ impl CreateIndex {
 
 impl Change for CreateIndex {
     ghost use Rattle.lq_keys.specs.CreateIndex.{canonical_of, effect, gives, inverse, is_for, is_fresh};
-    ghost use Rattle.lq_keys.specs.CreateIndexLaws.{does, restores, spelled, told};
+    ghost use Rattle.lq_keys.specs.CreateIndexLaws.{does, restores, returned, spelled, told};
     ghost use Rattle.lq_keys.specs.declared.create_index.CreateIndex.{CreateIndex};
 
     ghost Key = { CreateIndex };
@@ -143,6 +143,8 @@ impl Change for CreateIndex {
     }
 
     ghost spelled = { spelled };
+
+    ghost returned = { returned };
 
     ghost does = { does };
 

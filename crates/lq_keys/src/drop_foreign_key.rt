@@ -48,7 +48,7 @@ impl DropForeignKeyConstraint {
 
 impl Change for DropForeignKeyConstraint {
     ghost use Rattle.lq_keys.specs.DropForeignKey.{canonical_of, effect, gives, inverse, is_for, is_fresh};
-    ghost use Rattle.lq_keys.specs.DropForeignKeyLaws.{does, restores, spelled, told};
+    ghost use Rattle.lq_keys.specs.DropForeignKeyLaws.{does, restores, returned, spelled, told};
     ghost use Rattle.lq_keys.specs.declared.drop_foreign_key.DropForeignKeyConstraint.{DropForeignKeyConstraint};
 
     ghost Key = { DropForeignKeyConstraint };
@@ -103,6 +103,8 @@ impl Change for DropForeignKeyConstraint {
     }
 
     ghost spelled = { spelled };
+
+    ghost returned = { returned };
 
     ghost does = { does };
 

@@ -49,7 +49,7 @@ impl DropIndex {
 
 impl Change for DropIndex {
     ghost use Rattle.lq_keys.specs.DropIndex.{canonical_of, effect, gives, inverse, is_for, is_fresh};
-    ghost use Rattle.lq_keys.specs.DropIndexLaws.{does, restores, spelled, told};
+    ghost use Rattle.lq_keys.specs.DropIndexLaws.{does, restores, returned, spelled, told};
     ghost use Rattle.lq_keys.specs.declared.drop_index.DropIndex.{DropIndex};
 
     ghost Key = { DropIndex };
@@ -98,6 +98,8 @@ impl Change for DropIndex {
     }
 
     ghost spelled = { spelled };
+
+    ghost returned = { returned };
 
     ghost does = { does };
 

@@ -60,7 +60,7 @@ impl DropPrimaryKey {
 
 impl Change for DropPrimaryKey {
     ghost use Rattle.lq_keys.specs.DropPrimaryKey.{canonical_of, effect, gives, inverse, is_for, is_fresh};
-    ghost use Rattle.lq_keys.specs.DropPrimaryKeyLaws.{does, restores, spelled, told};
+    ghost use Rattle.lq_keys.specs.DropPrimaryKeyLaws.{does, restores, returned, spelled, told};
     ghost use Rattle.lq_keys.specs.declared.drop_primary_key.DropPrimaryKey.{DropPrimaryKey};
 
     ghost Key = { DropPrimaryKey };
@@ -110,6 +110,8 @@ impl Change for DropPrimaryKey {
     }
 
     ghost spelled = { spelled };
+
+    ghost returned = { returned };
 
     ghost does = { does };
 

@@ -48,7 +48,7 @@ impl DropUniqueConstraint {
 
 impl Change for DropUniqueConstraint {
     ghost use Rattle.lq_keys.specs.DropUnique.{canonical_of, effect, gives, inverse, is_for, is_fresh};
-    ghost use Rattle.lq_keys.specs.DropUniqueLaws.{does, restores, spelled, told};
+    ghost use Rattle.lq_keys.specs.DropUniqueLaws.{does, restores, returned, spelled, told};
     ghost use Rattle.lq_keys.specs.declared.drop_unique.DropUniqueConstraint.{DropUniqueConstraint};
 
     ghost Key = { DropUniqueConstraint };
@@ -100,6 +100,8 @@ impl Change for DropUniqueConstraint {
     }
 
     ghost spelled = { spelled };
+
+    ghost returned = { returned };
 
     ghost does = { does };
 

@@ -1,5 +1,6 @@
 -- That a change that makes a sequence keeps its promises.
-use Rattle.std.proofs.Common.{ap, sym, ◌∙◌}
+use Rattle.std.proofs.Common.{ap, subst, sym, ◌∙◌}
+use Rattle.std.specs.List.{list_all}
 use Rattle.std.specs.Prelude.{Bool, Err, Ok, Option, Result, Some, [], codes, false, pos, refl, true, ℕ, ◌||◌, ◌∷◌, ◌≡◌}
 use Rattle.lq_base.specs.Name.{is_named}
 use Rattle.lq_base.specs.declared.dialect.Dialect.{Dialect}
@@ -7,12 +8,13 @@ use Rattle.lq_base.specs.declared.dialect.Dialect.TheVariants.{Mysql, Postgresql
 use Rattle.lq_base.specs.declared.reason.Reason.{Reason}
 use Rattle.lq_base.specs.declared.reason.Reason.TheVariants as reason
 use Rattle.lq_model.specs.Catalogue.{Catalogue}
-use Rattle.lq_model.specs.Changes.{AreStatements, AreTold, HaveEffect, TakeBack}
+use Rattle.lq_model.specs.Changes.{AreReturns, AreStatements, AreTold, HaveEffect, TakeBack}
 use Rattle.lq_model.specs.NameSpaces.{is_taken}
 use Rattle.lq_model.specs.Plan.{Plan, decide}
 use Rattle.lq_model.specs.Reasons.{unless}
 use Rattle.lq_model.specs.Reserved.{is_tracking, lock_key}
 use Rattle.lq_model.specs.Sequences.{create_sequence}
+use Rattle.lq_model.specs.Statement.{is_statement}
 use Rattle.lq_model.specs.Step.{run, step}
 use Rattle.lq_model.specs.TakesBack.{DropSequenceTakesBack}
 use Rattle.lq_model.specs.Written.{nth_value}
@@ -33,6 +35,10 @@ some_same h = Prim.cc
 pub spelled : AreStatements is_for gives
 spelled Postgresql name h = rw h refl
 spelled Mysql name h = absurd Prim.cc
+
+pub returned : AreReturns is_for inverse
+returned Postgresql name undoing h taken = subst (λ ss. list_all (is_statement Postgresql) ss ≡ true) (some_same taken) (rw h refl)
+returned Mysql name undoing h taken = absurd Prim.cc
 
 or_nothing : (b : Bool) → (b || false) ≡ b
 or_nothing true = refl

@@ -11,7 +11,7 @@ pub struct NewSequence {
 impl Change for NewSequence {
     ghost use Rattle.lq_base.specs.declared.name.Name.{Name};
     ghost use Rattle.lq_samples.specs.NewSequence.{canonical_of, effect, gives, inverse, is_for, is_fresh};
-    ghost use Rattle.lq_samples.specs.NewSequenceLaws.{does, restores, spelled, told};
+    ghost use Rattle.lq_samples.specs.NewSequenceLaws.{does, restores, returned, spelled, told};
 
     ghost Key = { Name };
 
@@ -64,6 +64,8 @@ impl Change for NewSequence {
     }
 
     ghost spelled = { spelled };
+
+    ghost returned = { returned };
 
     ghost does = { does };
 

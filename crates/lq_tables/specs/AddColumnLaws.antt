@@ -2,7 +2,7 @@
 use Rattle.std.proofs.Common.{ap, subst, sym, ◌∙◌}
 use Rattle.std.specs.List.{flat_map, list_all}
 use Rattle.std.specs.Option.{option_map, option_to_list, unwrap_or}
-use Rattle.std.specs.Prelude.{Bool, List, None, Ok, Option, Some, [], codes, cond, false, if◌then◌else◌, map, not, option_and_then, refl, true, ℕ, ◌++◌, ◌∷◌, ◌≡◌}
+use Rattle.std.specs.Prelude.{Bool, List, None, Ok, Option, Some, ℕ, [], codes, cond, false, if◌then◌else◌, map, not, option_and_then, refl, true, ◌++◌, ◌∷◌, ◌≡◌}
 use Rattle.lq_base.specs.Kind.{is_kind}
 use Rattle.lq_base.specs.Name.{is_name, is_named}
 use Rattle.lq_base.specs.Options.{if_there}
@@ -26,7 +26,7 @@ use Rattle.lq_model.specs.AddConstraint.{with_foreign, with_unique}
 use Rattle.lq_model.specs.Canon.{map_of, text}
 use Rattle.lq_model.specs.Catalogue.{Catalogue, Table, table_of, the_table, with_table}
 use Rattle.lq_model.specs.ChangeColumn.{changed_at, made_nullable, modified, with_changed}
-use Rattle.lq_model.specs.Changes.{AreStatements, AreTold, HaveEffect, TakeBack}
+use Rattle.lq_model.specs.Changes.{AreReturns, AreStatements, AreTold, HaveEffect, TakeBack}
 use Rattle.lq_model.specs.Columns.{with_column}
 use Rattle.lq_model.specs.Effect.{Becomes, GoesBack}
 use Rattle.lq_model.specs.Kinds.{kind_in}
@@ -305,6 +305,32 @@ all_added xs h = and_right (not (is_empty xs)) _ h
 
 pub spelled : AreStatements is_for gives
 spelled d x h = all_spelled d x.table_name x.columns (and_left (is_name x.table_name) _ h) (all_added x.columns (and_right (is_name x.table_name) _ h))
+
+-- and so are those that take it back
+
+leaves_spelled : (d : Dialect) (t : Name) (u : Option Unique) → is_name t ≡ true → if_there is_unique u ≡ true → list_all (is_statement d) (leaves d t u) ≡ true
+leaves_spelled d t None h k = refl
+leaves_spelled Postgresql t (Some u) h k = rw (h, and_left (is_name u.name) _ k) refl
+leaves_spelled Mysql t (Some u) h k = rw (h, and_left (is_name u.name) _ k) refl
+
+parts_spelled : (d : Dialect) (t : Name) (f : Option ForeignKey) → is_name t ≡ true → if_there is_foreign f ≡ true → list_all (is_statement d) (parts d t f) ≡ true
+parts_spelled d t None h k = refl
+parts_spelled Postgresql t (Some f) h k = rw (h, and_left (is_name f.name) _ k) refl
+parts_spelled Mysql t (Some f) h k = rw (h, and_left (is_name f.name) _ k) refl
+
+column_returned : (d : Dialect) (t : Name) (x : AddedColumn) → is_name t ≡ true → is_added x ≡ true → list_all (is_statement d) (column_inverse d t x) ≡ true
+column_returned d t x h g =
+    let r = right_of x g in
+    let last : list_all (is_statement d) (statement.DropColumn t x.name ∷ []) ≡ true = rw (h, r.name) refl in
+    all-append (is_statement d) (parts d t (foreign_of x)) (leaves d t (unique_of t x) ++ statement.DropColumn t x.name ∷ []) (parts_spelled d t (foreign_of x) h (foreign_right x r))
+    (all-append (is_statement d) (leaves d t (unique_of t x)) (statement.DropColumn t x.name ∷ []) (leaves_spelled d t (unique_of t x) h (unique_right t x h r)) last)
+
+all_returned : (d : Dialect) (t : Name) (xs : List AddedColumn) → is_name t ≡ true → list_all is_added xs ≡ true → list_all (is_statement d) (inverse_all d t xs) ≡ true
+all_returned d t [] h g = refl
+all_returned d t (x ∷ xs) h g = all-append (is_statement d) (inverse_all d t xs) (column_inverse d t x) (all_returned d t xs h (and_right (is_added x) _ g)) (column_returned d t x h (and_left (is_added x) _ g))
+
+pub returned : AreReturns is_for inverse
+returned d x undoing right taken = subst (λ ss. list_all (is_statement d) ss ≡ true) (some_same taken) (all_returned d x.table_name x.columns (and_left (is_name x.table_name) _ right) (all_added x.columns (and_right (is_name x.table_name) _ right)))
 
 -- all columns, one after the other
 

@@ -1,5 +1,5 @@
 -- That createTable keeps its promises.
-use Rattle.std.proofs.Common.{ap, sym, ◌∙◌}
+use Rattle.std.proofs.Common.{ap, subst, sym, ◌∙◌}
 use Rattle.std.specs.List.{flat_map, list_all}
 use Rattle.std.specs.Option.{option_and_then, option_map, option_to_list, unwrap_or}
 use Rattle.std.specs.Prelude.{Bool, List, None, Option, Some, [], codes, false, if◌then◌else◌, map, not, refl, true, ◌∷◌, ◌≡◌}
@@ -16,13 +16,13 @@ use Rattle.lq_model.proofs.Effects.{does_so, one_back, one_becomes, restores_so,
 use Rattle.lq_model.proofs.Lists.{all-append, and_left, and_right, and_true, named_itself}
 use Rattle.lq_model.proofs.Told.{if_told, keys_told, kind_told, map_if_told, map_told, maps_told, text_told, texts_told, truths_told}
 use Rattle.lq_model.specs.Canon.{map_of, text}
-use Rattle.lq_model.specs.Changes.{AreStatements, AreTold, HaveEffect, TakeBack}
+use Rattle.lq_model.specs.Changes.{AreReturns, AreStatements, AreTold, HaveEffect, TakeBack}
 use Rattle.lq_model.specs.DefaultName.{key_name}
 use Rattle.lq_model.specs.Effect.{Becomes, GoesBack}
 use Rattle.lq_model.specs.Names.{is_empty}
 use Rattle.lq_model.specs.Sound.{is_key_name, primary}
 use Rattle.lq_model.specs.Spelled.{is_literal}
-use Rattle.lq_model.specs.Statement.{is_column_def, is_foreign, is_key, is_unique}
+use Rattle.lq_model.specs.Statement.{is_column_def, is_foreign, is_key, is_statement, is_unique}
 use Rattle.lq_model.specs.Step.{run}
 use Rattle.lq_model.specs.TableNames.{key_list}
 use Rattle.lq_model.specs.Written.{nth_value, pairs_of}
@@ -172,6 +172,9 @@ spelled d x h =
       all_in is_created is_unique (unique_of x.table_name) (λ y g. unique_right x.table_name y t g) x.columns all,
       all_in is_created is_foreign foreign_of foreign_right x.columns all,
     ) refl
+
+pub returned : AreReturns is_for inverse
+returned d x undoing right taken = subst (λ ss. list_all (is_statement d) ss ≡ true) (some_same taken) (rw (and_left (is_name x.table_name) _ right) refl)
 
 becomes_so : Becomes gives becomes is_for
 becomes_so d x c e right sound ran = one_becomes d (creates d x) c e ran

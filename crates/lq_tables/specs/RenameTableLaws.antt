@@ -1,10 +1,10 @@
 -- That renameTable keeps its promises.
-use Rattle.std.proofs.Common.{ap, sym, ◌∙◌}
-use Rattle.std.specs.Prelude.{codes, refl, ◌≡◌}
+use Rattle.std.proofs.Common.{ap, subst, sym, ◌∙◌}
+use Rattle.std.specs.Prelude.{codes, refl, true, ◌≡◌}
 use Rattle.lq_model.proofs.Effects.{does_so, one_back, one_becomes, restores_so, some_same}
 use Rattle.lq_model.proofs.RenameEither.{rename_table_after}
 use Rattle.lq_model.proofs.Told.{keys_told, text_told}
-use Rattle.lq_model.specs.Changes.{AreStatements, AreTold, HaveEffect, TakeBack}
+use Rattle.lq_model.specs.Changes.{AreReturns, AreStatements, AreTold, HaveEffect, TakeBack}
 use Rattle.lq_model.specs.Effect.{Becomes, GoesBack}
 use Rattle.lq_model.specs.Step.{run}
 use Rattle.lq_model.specs.Written.{nth_value}
@@ -12,9 +12,16 @@ use Rattle.lq_model.specs.declared.caller.By.TheVariants.{User}
 use Rattle.lq_model.specs.declared.statement.Statement.TheVariants as statement
 use Rattle.lq_tables.specs.RenameTable.{becomes, canonical_of, effect, gives, inverse, is_for, is_fresh, rows}
 use Rattle.lq_tables.specs.declared.rename_table.RenameTable.{RenameTable}
+use Rattle.std.specs.List.{list_all}
+use Rattle.lq_model.specs.Statement.{is_statement}
+use Rattle.lq_base.specs.Name.{is_name}
+use Rattle.lq_model.proofs.Lists.{and_left, and_right}
 
 pub spelled : AreStatements is_for gives
 spelled d x h = rw h refl
+
+pub returned : AreReturns is_for inverse
+returned d x undoing right taken = subst (λ ss. list_all (is_statement d) ss ≡ true) (some_same taken) (rw (and_right (is_name x.old_table_name) _ right, and_left (is_name x.old_table_name) _ right) refl)
 
 becomes_so : Becomes gives becomes is_for
 becomes_so d x c e right sound ran = one_becomes d (statement.RenameTable x.old_table_name x.new_table_name) c e ran

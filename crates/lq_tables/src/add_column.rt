@@ -467,7 +467,7 @@ impl Written for AddedColumn {
 
 impl Change for AddColumn {
     ghost use Rattle.lq_tables.specs.AddColumn.{canonical_of, effect, gives, inverse, is_for, is_fresh};
-    ghost use Rattle.lq_tables.specs.AddColumnLaws.{does, restores, spelled, told};
+    ghost use Rattle.lq_tables.specs.AddColumnLaws.{does, restores, returned, spelled, told};
     ghost use Rattle.lq_tables.specs.declared.add_column.AddColumn.{AddColumn};
 
     ghost Key = { AddColumn };
@@ -515,6 +515,8 @@ impl Change for AddColumn {
     }
 
     ghost spelled = { spelled };
+
+    ghost returned = { returned };
 
     ghost does = { does };
 

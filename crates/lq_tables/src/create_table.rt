@@ -425,7 +425,7 @@ impl Written for CreatedColumn {
 
 impl Change for CreateTable {
     ghost use Rattle.lq_tables.specs.CreateTable.{canonical_of, effect, gives, inverse, is_for, is_fresh};
-    ghost use Rattle.lq_tables.specs.CreateTableLaws.{does, restores, spelled, told};
+    ghost use Rattle.lq_tables.specs.CreateTableLaws.{does, restores, returned, spelled, told};
     ghost use Rattle.lq_tables.specs.declared.create_table.CreateTable.{CreateTable};
 
     ghost Key = { CreateTable };
@@ -476,6 +476,8 @@ impl Change for CreateTable {
     }
 
     ghost spelled = { spelled };
+
+    ghost returned = { returned };
 
     ghost does = { does };
 

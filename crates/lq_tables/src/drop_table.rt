@@ -36,7 +36,7 @@ impl DropTable {
 
 impl Change for DropTable {
     ghost use Rattle.lq_tables.specs.DropTable.{canonical_of, effect, gives, inverse, is_for, is_fresh};
-    ghost use Rattle.lq_tables.specs.DropTableLaws.{does, restores, spelled, told};
+    ghost use Rattle.lq_tables.specs.DropTableLaws.{does, restores, returned, spelled, told};
     ghost use Rattle.lq_tables.specs.declared.drop_table.DropTable.{DropTable};
 
     ghost Key = { DropTable };
@@ -84,6 +84,8 @@ impl Change for DropTable {
     }
 
     ghost spelled = { spelled };
+
+    ghost returned = { returned };
 
     ghost does = { does };
 

@@ -47,7 +47,7 @@ impl RenameTable {
 
 impl Change for RenameTable {
     ghost use Rattle.lq_tables.specs.RenameTable.{canonical_of, effect, gives, inverse, is_for, is_fresh};
-    ghost use Rattle.lq_tables.specs.RenameTableLaws.{does, restores, spelled, told};
+    ghost use Rattle.lq_tables.specs.RenameTableLaws.{does, restores, returned, spelled, told};
     ghost use Rattle.lq_tables.specs.declared.rename_table.RenameTable.{RenameTable};
 
     ghost Key = { RenameTable };
@@ -110,6 +110,8 @@ impl Change for RenameTable {
     }
 
     ghost spelled = { spelled };
+
+    ghost returned = { returned };
 
     ghost does = { does };
 
