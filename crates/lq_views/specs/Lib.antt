@@ -1,0 +1,9 @@
+pub mod DropSequence
+pub mod DropSequenceLaws
+pub mod DropView
+pub mod DropViewLaws
+pub mod RenameSequence
+pub mod RenameSequenceLaws
+pub mod RenameView
+pub mod RenameViewLaws
+pub mod Sequences
