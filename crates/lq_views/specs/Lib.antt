@@ -1,3 +1,5 @@
+pub mod CreateSequence
+pub mod CreateSequenceLaws
 pub mod CreateView
 pub mod CreateViewLaws
 pub mod DialectText

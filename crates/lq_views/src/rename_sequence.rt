@@ -100,8 +100,14 @@ impl Change for RenameSequence {
             to,
             "renameSequence",
             &[
-                ("oldSequenceName", Some(Field::Name(&self.old_sequence_name))),
-                ("newSequenceName", Some(Field::Name(&self.new_sequence_name))),
+                (
+                    "oldSequenceName",
+                    Some(Field::Name(&self.old_sequence_name)),
+                ),
+                (
+                    "newSequenceName",
+                    Some(Field::Name(&self.new_sequence_name)),
+                ),
             ],
         )
     }

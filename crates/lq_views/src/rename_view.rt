@@ -85,23 +85,13 @@ impl Change for RenameView {
         dialect: Dialect,
         to: &mut Items<Statement>,
     ) -> Result<(), NoMemory> {
-        to.push(renaming(
-            alloc,
-            dialect,
-            &self.old_view_name,
-            &self.new_view_name,
-        )?)?;
+        to.push(renaming(alloc, dialect, &self.old_view_name, &self.new_view_name)?)?;
         Ok(())
     }
 
     fn undo(&self, alloc: Global, dialect: Dialect) -> Result<Undo, NoMemory> {
         let mut statements = Items::new(alloc);
-        statements.push(renaming(
-            alloc,
-            dialect,
-            &self.new_view_name,
-            &self.old_view_name,
-        )?)?;
+        statements.push(renaming(alloc, dialect, &self.new_view_name, &self.old_view_name)?)?;
         Ok(Undo::Generated(statements))
     }
 
