@@ -1,0 +1,16 @@
+pub mod CreateSequence
+pub mod CreateSequenceLaws
+pub mod CreateView
+pub mod CreateViewLaws
+pub mod DialectText
+pub mod DropSequence
+pub mod DropSequenceLaws
+pub mod DropView
+pub mod DropViewLaws
+pub mod QueryText
+pub mod QueryTextLaws
+pub mod RenameSequence
+pub mod RenameSequenceLaws
+pub mod RenameView
+pub mod RenameViewLaws
+pub mod Sequences

@@ -1,0 +1,36 @@
+-- Texts that spell a query.
+use Rattle.std.specs.Option.{unwrap_or}
+use Rattle.std.specs.Prelude.{Bool, List, None, Option, Some, [], if◌then◌else◌, false, is_some, not, option_and_then, ℕ, ◌&&◌}
+use Rattle.lq_base.specs.declared.dialect.Dialect.{Dialect}
+use Rattle.lq_base.specs.declared.dialect.Dialect.TheVariants.{Mysql, Postgresql}
+use Rattle.lq_model.specs.SqlText.{query_in}
+use Rattle.lq_model.specs.Statement.{is_pg, is_query}
+use Rattle.lq_model.specs.declared.query.Query.{Query}
+use Rattle.lq_model.specs.declared.query.Wanted.TheVariants as wanted
+use Rattle.lq_tree.specs.Found.{Taken, or_bad}
+use Rattle.lq_tree.specs.Look.{printed_of}
+use Rattle.lq_views.specs.DialectText.{DialectText}
+
+-- a scalar that is printed as a text of the dialect which spells a query
+abbrev pub spelling : Dialect → List ℕ → Option DialectText
+spelling d t = if is_some (query_in d t) then Some (record { dialect = d; text = t }) else None
+
+abbrev pub a_query : Dialect → Taken DialectText
+a_query d n = or_bad (option_and_then (spelling d) (printed_of n))
+
+-- the query that a text spells, and some query where it spells none
+abbrev pub query_of : DialectText → Query
+query_of t = unwrap_or (query_in t.dialect t.text) (record { wanted = wanted.All; table = []; test = None })
+
+abbrev pub same_dialect : Dialect → Dialect → Bool
+same_dialect Postgresql e = is_pg e
+same_dialect Mysql e = not (is_pg e)
+
+-- there is a query, and it can be written
+abbrev pub is_some_query : Option Query → Bool
+is_some_query None = false
+is_some_query (Some q) = is_query q
+
+-- the text is one of the dialect, and spells a query
+abbrev pub spells_query : Dialect → DialectText → Bool
+spells_query d t = same_dialect d t.dialect && is_some_query (query_in d t.text)
