@@ -1,0 +1,9 @@
+pub mod Delete
+pub mod DeleteLaws
+pub mod Empty
+pub mod EmptyLaws
+pub mod GivenSql
+pub mod GivenTest
+pub mod GivenTestLaws
+pub mod TagDatabase
+pub mod TagDatabaseLaws
