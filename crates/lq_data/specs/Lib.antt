@@ -1,3 +1,5 @@
+pub mod ColumnValue
+pub mod ColumnValueLaws
 pub mod Delete
 pub mod DeleteLaws
 pub mod Empty
@@ -5,5 +7,11 @@ pub mod EmptyLaws
 pub mod GivenSql
 pub mod GivenTest
 pub mod GivenTestLaws
+pub mod Insert
+pub mod InsertLaws
 pub mod TagDatabase
 pub mod TagDatabaseLaws
+pub mod Update
+pub mod UpdateLaws
+pub mod ValueKeys
+pub mod ValueKeysLaws

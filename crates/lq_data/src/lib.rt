@@ -1,12 +1,19 @@
 //! The change types of rows and of SQL texts, and the two that run nothing.
 #![tactic(auto)]
 
+mod column_value;
 mod delete;
 mod empty;
 mod given_test;
+mod insert;
 mod tag_database;
+mod update;
+mod value_keys;
 
+pub use column_value::ColumnValue;
 pub use delete::Delete;
 pub use empty::Empty;
 pub use given_test::GivenTest;
+pub use insert::Insert;
 pub use tag_database::TagDatabase;
+pub use update::Update;
