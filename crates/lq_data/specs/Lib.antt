@@ -9,6 +9,9 @@ pub mod GivenTest
 pub mod GivenTestLaws
 pub mod Insert
 pub mod InsertLaws
+pub mod Script
+pub mod Sql
+pub mod SqlLaws
 pub mod TagDatabase
 pub mod TagDatabaseLaws
 pub mod Update

@@ -2,10 +2,13 @@
 #![tactic(auto)]
 
 mod column_value;
+mod copied;
 mod delete;
 mod empty;
 mod given_test;
 mod insert;
+mod script;
+mod sql;
 mod tag_database;
 mod update;
 mod value_keys;
@@ -15,5 +18,6 @@ pub use delete::Delete;
 pub use empty::Empty;
 pub use given_test::GivenTest;
 pub use insert::Insert;
+pub use sql::Sql;
 pub use tag_database::TagDatabase;
 pub use update::Update;
