@@ -1,0 +1,41 @@
+-- That delete keeps its promises.
+use Rattle.std.proofs.Common.{ap}
+use Rattle.std.specs.Prelude.{codes, refl, ◌≡◌}
+use Rattle.lq_base.specs.Name.{is_name}
+use Rattle.lq_model.proofs.Effects.{does_so, one_becomes, restores_so}
+use Rattle.lq_model.proofs.Lists.{and_left, and_right}
+use Rattle.lq_model.proofs.Told.{keys_told, text_told}
+use Rattle.lq_model.specs.Changes.{AreReturns, AreStatements, AreTold, HaveEffect, TakeBack}
+use Rattle.lq_model.specs.Effect.{Becomes, GoesBack}
+use Rattle.lq_model.specs.Written.{nth_value}
+use Rattle.lq_model.specs.declared.statement.Statement.TheVariants as statement
+use Rattle.lq_data.specs.Delete.{becomes, canonical_of, effect, gives, inverse, is_for, is_fresh, rows}
+use Rattle.lq_data.specs.GivenTest.{test_of}
+use Rattle.lq_data.specs.GivenTestLaws.{test_told, where_right}
+use Rattle.lq_data.specs.declared.delete.Delete.{Delete}
+
+pub spelled : AreStatements is_for gives
+spelled d x h = rw (and_left (is_name x.table_name) _ h, where_right d x.test (and_right (is_name x.table_name) _ h)) refl
+
+pub returned : AreReturns is_for inverse
+returned d x undoing right taken = absurd Prim.cc
+
+becomes_so : Becomes gives becomes is_for
+becomes_so d x c e right sound ran = one_becomes d (statement.Delete x.table_name (test_of x.test)) c e ran
+
+pub does : HaveEffect is_for gives effect
+does = does_so is_for gives becomes becomes_so
+
+goes_back : GoesBack is_for gives is_fresh inverse
+goes_back d x c e undoing right sound new ran taken = absurd Prim.cc
+
+pub restores : TakeBack is_for effect is_fresh inverse
+restores = restores_so is_for gives becomes is_fresh inverse becomes_so goes_back
+
+same : (x y : Delete) → x.table_name ≡ y.table_name → x.test ≡ y.test → x ≡ y
+same x y table test = rw (table, test) refl
+
+pub told : AreTold is_for canonical_of
+told d x y right also e =
+    let is : rows x ≡ rows y = keys_told (codes "delete") (codes "delete") (rows x) (rows y) refl refl e in
+    same x y (text_told (ap (nth_value 0) is)) (test_told d x.test y.test (and_right (is_name x.table_name) _ right) (and_right (is_name y.table_name) _ also) (ap (nth_value 1) is))

@@ -1,0 +1,210 @@
+//! Statements copied.
+ghost use Rattle.std.specs.Prelude.{◌≡◌, IfOk};
+ghost use Rattle.lq_model.specs.declared.statement.Statement.TheVariants as statement;
+
+use lq_base::{Duplicate, Items, Kind, Name, NoMemory};
+use lq_model::{ColumnDef, ForeignKey, Key, Query, Statement, Unique};
+use std::alloc::Global;
+
+fn two<A: Duplicate + Drop, B: Duplicate + Drop>(
+    alloc: Global,
+    a: &A,
+    b: &B,
+) -> Result<(A, B), NoMemory>
+    ensures { IfOk result (λ made. made ≡ (a.now, b.now)) }
+{
+    let first = a.duplicate(alloc)?;
+    let second = b.duplicate(alloc)?;
+    Ok((first, second))
+}
+
+fn three<A: Duplicate + Drop, B: Duplicate + Drop, C: Duplicate + Drop>(
+    alloc: Global,
+    a: &A,
+    b: &B,
+    c: &C,
+) -> Result<(A, B, C), NoMemory>
+    ensures { IfOk result (λ made. made ≡ (a.now, b.now, c.now)) }
+{
+    let first = a.duplicate(alloc)?;
+    let (second, third) = two(alloc, b, c)?;
+    Ok((first, second, third))
+}
+
+// A statement whose fields are copies of the variables with their names.
+macro_rules! copied {
+    ($alloc:expr, $variant:ident { $a:ident }) => {{
+        let $a = $a.duplicate($alloc)?;
+        Ok(Statement::$variant { $a })
+    }};
+    ($alloc:expr, $variant:ident { $a:ident, $b:ident }) => {{
+        let ($a, $b) = two($alloc, $a, $b)?;
+        Ok(Statement::$variant { $a, $b })
+    }};
+    ($alloc:expr, $variant:ident { $a:ident, $b:ident, $c:ident }) => {{
+        let ($a, $b, $c) = three($alloc, $a, $b, $c)?;
+        Ok(Statement::$variant { $a, $b, $c })
+    }};
+}
+
+fn create_table(
+    alloc: Global,
+    table: &Name,
+    columns: &Items<ColumnDef>,
+    key: &Option<Key>,
+    uniques: &Items<Unique>,
+    foreign: &Items<ForeignKey>,
+) -> Result<Statement, NoMemory>
+    ensures { IfOk result (λ made. made ≡ statement.CreateTable table.now columns.now key.now uniques.now foreign.now) }
+{
+    let (columns, key) = two(alloc, columns, key)?;
+    let (table, uniques, foreign) = three(alloc, table, uniques, foreign)?;
+    Ok(Statement::CreateTable {
+        table,
+        columns,
+        key,
+        uniques,
+        foreign,
+    })
+}
+
+fn modify(
+    alloc: Global,
+    table: &Name,
+    column: &Name,
+    kind: Kind,
+    nullable: bool,
+) -> Result<Statement, NoMemory>
+    ensures { IfOk result (λ made. made ≡ statement.Modify table.now column.now kind nullable) }
+{
+    let (table, column) = two(alloc, table, column)?;
+    Ok(Statement::Modify {
+        table,
+        column,
+        kind,
+        nullable,
+    })
+}
+
+fn create_view(
+    alloc: Global,
+    view: &Name,
+    query: &Query,
+    replace: bool,
+) -> Result<Statement, NoMemory>
+    ensures { IfOk result (λ made. made ≡ statement.CreateView view.now query.now replace) }
+{
+    let (view, query) = two(alloc, view, query)?;
+    Ok(Statement::CreateView {
+        view,
+        query,
+        replace,
+    })
+}
+
+fn create_sequence(
+    alloc: Global,
+    name: &Name,
+    start: i128,
+    step: i128,
+) -> Result<Statement, NoMemory>
+    ensures { IfOk result (λ made. made ≡ statement.CreateSequence name.now start step) }
+{
+    let name = name.duplicate(alloc)?;
+    Ok(Statement::CreateSequence { name, start, step })
+}
+
+fn copy_of(alloc: Global, statement: &Statement) -> Result<Statement, NoMemory>
+    ensures { IfOk result (λ copy. copy ≡ statement.now) }
+{
+    match statement {
+        Statement::CreateTable {
+            table,
+            columns,
+            key,
+            uniques,
+            foreign,
+        } => create_table(alloc, table, columns, key, uniques, foreign),
+        Statement::DropTable { table } => copied!(alloc, DropTable { table }),
+        Statement::RenameTable { table, to } => copied!(alloc, RenameTable { table, to }),
+        Statement::AddColumn { table, column } => copied!(alloc, AddColumn { table, column }),
+        Statement::DropColumn { table, column } => copied!(alloc, DropColumn { table, column }),
+        Statement::RenameColumn { table, column, to } => copied!(
+            alloc,
+            RenameColumn { table, column, to }
+        ),
+        Statement::SetNotNull { table, column } => copied!(alloc, SetNotNull { table, column }),
+        Statement::DropNotNull { table, column } => copied!(alloc, DropNotNull { table, column }),
+        Statement::Modify {
+            table,
+            column,
+            kind,
+            nullable,
+        } => modify(alloc, table, column, *kind, *nullable),
+        Statement::SetDefault {
+            table,
+            column,
+            value,
+        } => copied!(
+            alloc,
+            SetDefault {
+                table,
+                column,
+                value
+            }
+        ),
+        Statement::DropDefault { table, column } => copied!(alloc, DropDefault { table, column }),
+        Statement::AddPrimaryKey { table, key } => copied!(alloc, AddPrimaryKey { table, key }),
+        Statement::AddUnique { table, unique } => copied!(alloc, AddUnique { table, unique }),
+        Statement::AddForeignKey { table, foreign } => copied!(
+            alloc,
+            AddForeignKey { table, foreign }
+        ),
+        Statement::DropConstraint { table, name } => copied!(alloc, DropConstraint { table, name }),
+        Statement::DropPrimaryKey { table } => copied!(alloc, DropPrimaryKey { table }),
+        Statement::DropUnique { table, name } => copied!(alloc, DropUnique { table, name }),
+        Statement::DropForeignKey { table, name } => copied!(alloc, DropForeignKey { table, name }),
+        Statement::CreateIndex { table, index } => copied!(alloc, CreateIndex { table, index }),
+        Statement::DropIndex { name, table } => copied!(alloc, DropIndex { name, table }),
+        Statement::CreateView {
+            view,
+            query,
+            replace,
+        } => create_view(alloc, view, query, *replace),
+        Statement::DropView { view } => copied!(alloc, DropView { view }),
+        Statement::RenameView { view, to } => copied!(alloc, RenameView { view, to }),
+        Statement::CreateSequence { name, start, step } => create_sequence(
+            alloc, name, *start, *step,
+        ),
+        Statement::DropSequence { name } => copied!(alloc, DropSequence { name }),
+        Statement::RenameSequence { name, to } => copied!(alloc, RenameSequence { name, to }),
+        Statement::Insert {
+            table,
+            columns,
+            values,
+        } => copied!(
+            alloc,
+            Insert {
+                table,
+                columns,
+                values
+            }
+        ),
+        Statement::Update { table, sets, test } => copied!(alloc, Update { table, sets, test }),
+        Statement::Delete { table, test } => copied!(alloc, Delete { table, test }),
+    }
+}
+
+/// A copy of each statement, in order.
+pub(crate) fn copies_of(
+    alloc: Global,
+    statements: &[Statement],
+) -> Result<Items<Statement>, NoMemory>
+    ensures { IfOk result (λ copies. copies ≡ statements.now) }
+{
+    let mut copies = Items::new(alloc);
+    for statement in statements {
+        copies.push(copy_of(alloc, statement)?)?;
+    }
+    Ok(copies)
+}
