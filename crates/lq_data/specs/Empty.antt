@@ -1,5 +1,5 @@
 -- empty: nothing is done.
-use Rattle.std.specs.Prelude.{Bool, List, None, Option, Result, [], codes, true}
+use Rattle.std.specs.Prelude.{Bool, List, Option, Result, Some, [], codes, true}
 use Rattle.lq_base.specs.declared.dialect.Dialect.{Dialect}
 use Rattle.lq_base.specs.declared.reason.Reason.{Reason}
 use Rattle.lq_model.specs.Canon.{CanonicalChange}
@@ -38,9 +38,9 @@ effect = effect_of gives becomes
 abbrev pub is_fresh : Dialect → Empty → Catalogue → Bool
 is_fresh d x c = true
 
--- nothing takes it back
+-- no statement takes it back, since it did nothing
 abbrev pub inverse : Dialect → Empty → Option (List Statement)
-inverse d x = None
+inverse d x = Some []
 
 -- its canonical text
 abbrev pub canonical_of : Empty → CanonicalChange

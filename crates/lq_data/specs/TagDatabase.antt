@@ -1,5 +1,5 @@
 -- tagDatabase: the changeset's row gets a tag, and nothing else is done.
-use Rattle.std.specs.Prelude.{Bool, List, None, Option, Result, Some, [], codes, nat_le, not, option_and_then, true, ℕ, ◌&&◌, ◌∷◌}
+use Rattle.std.specs.Prelude.{Bool, List, Option, Result, Some, [], codes, nat_le, not, option_and_then, true, ℕ, ◌&&◌, ◌∷◌}
 use Rattle.lq_base.specs.Character.{char_count, has_control}
 use Rattle.lq_base.specs.declared.dialect.Dialect.{Dialect}
 use Rattle.lq_base.specs.declared.reason.Reason.{Reason}
@@ -52,9 +52,9 @@ effect = effect_of gives becomes
 abbrev pub is_fresh : Dialect → TagDatabase → Catalogue → Bool
 is_fresh d x c = true
 
--- nothing takes it back
+-- no statement takes it back, since it did nothing
 abbrev pub inverse : Dialect → TagDatabase → Option (List Statement)
-inverse d x = None
+inverse d x = Some []
 
 -- its canonical text
 

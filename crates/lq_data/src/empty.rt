@@ -61,8 +61,8 @@ impl Change for Empty {
         Ok(())
     }
 
-    fn undo(&self, _alloc: Global, _dialect: Dialect) -> Result<Undo, NoMemory> {
-        Ok(Undo::Absent)
+    fn undo(&self, alloc: Global, _dialect: Dialect) -> Result<Undo, NoMemory> {
+        Ok(Undo::Generated(Items::new(alloc)))
     }
 
     fn is_fresh<K: Look>(&self, _dialect: Dialect, _look: &K) -> bool {
