@@ -4,9 +4,11 @@
 mod expr;
 pub mod laws;
 mod operator;
+mod options;
 mod reading;
 mod word;
 mod words;
 
 pub use expr::{Expr, ExprFault};
+pub use options::Options;
 pub use reading::parse;
