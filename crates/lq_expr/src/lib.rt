@@ -3,6 +3,7 @@
 
 mod expr;
 pub mod laws;
+mod names;
 mod operator;
 mod options;
 mod reading;
@@ -10,5 +11,6 @@ mod word;
 mod words;
 
 pub use expr::{Expr, ExprFault};
+pub use names::parse_names;
 pub use options::Options;
 pub use reading::parse;
