@@ -1,5 +1,5 @@
 -- What the words of a command line ask for.
-use Rattle.std.specs.Prelude.{ℕ, List, [], ◌∷◌, Option, Some, None, option_map, option_and_then, if◌then◌else◌}
+use Rattle.std.specs.Prelude.{ℕ, List, [], ◌∷◌, Option, Some, None, option_map, if◌then◌else◌}
 use Rattle.clap.specs.Walk.{Row}
 use Rattle.lq_base.specs.Moment.{moment_of}
 use Rattle.lq_base.specs.declared.command.Command.TheVariants as command

@@ -1,5 +1,5 @@
 -- The options that the words after a command's name give, as `clap` reads them.
-use Rattle.std.specs.Prelude.{ℕ, Bool, true, false, ◌==◌, ◌&&◌, ◌||◌, not, List, [], ◌∷◌, ◌++◌, map, Option, None, Some, if◌then◌else◌, codes}
+use Rattle.std.specs.Prelude.{Bool, true, false, ◌==◌, ◌&&◌, ◌||◌, not, List, [], ◌∷◌, ◌++◌, map, Option, None, Some, if◌then◌else◌, codes}
 use Rattle.std.specs.List.{list_all}
 use Rattle.clap.specs.Walk.{Row, Rule, Text, all_of, first_of}
 use Rattle.clap.specs.Simple.{App, new_shape, new_rule, matches_of}

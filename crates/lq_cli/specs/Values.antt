@@ -1,8 +1,7 @@
 -- What the value of each option says.
-use Rattle.std.specs.Prelude.{ℕ, ℤ, Bool, true, ◌==◌, ◌&&◌, not, nat_le, List, [], ◌∷◌, ◌++◌, Option, Some, None, option_map, option_and_then, if◌then◌else◌, codes}
+use Rattle.std.specs.Prelude.{ℕ, ◌==◌, ◌&&◌, not, nat_le, List, [], ◌∷◌, Option, Some, None, option_map, option_and_then, if◌then◌else◌, codes}
 use Rattle.std.specs.Int.{is_in_range}
 use Rattle.lq_base.specs.Character.{char_count, has_control}
-use Rattle.lq_base.specs.Dialect.{dialect_text}
 use Rattle.lq_base.specs.Kind.{plain_number}
 use Rattle.lq_base.specs.declared.dialect.Dialect.{Dialect}
 use Rattle.lq_base.specs.declared.dialect.Dialect.TheVariants.{Postgresql, Mysql}
@@ -59,7 +58,7 @@ labels_of (Some text) = option_map (λ expr. Some expr) (found (parsed text))
 abbrev pub before : ℕ → Option (List ℕ × List ℕ) → Option (List ℕ × List ℕ)
 before b parts = option_map (λ parts. (b ∷ parts.0, parts.1)) parts
 
--- the text before the first `=`, and that behind it
+-- the text before the first such mark, and that behind it
 unfoldable pub cut_at : ℕ → List ℕ → Option (List ℕ × List ℕ)
 cut_at mark [] = None
 cut_at mark (b ∷ bs) = if b == mark then Some ([], bs) else before b (cut_at mark bs)

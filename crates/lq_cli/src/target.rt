@@ -1,4 +1,3 @@
-ghost use Rattle.std.specs.Prelude.{◌≡◌};
 ghost use Rattle.lq_cli.specs.Gives.{Gives};
 ghost use Rattle.lq_cli.specs.Line.{by_count, only_target, to_date, to_tag};
 

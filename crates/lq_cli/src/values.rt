@@ -1,4 +1,4 @@
-ghost use Rattle.std.specs.Prelude.{◌≡◌, ◌<◌, ◌≤◌, ◌^◌, ◌+◌, IfSome, option_map, codes};
+ghost use Rattle.std.specs.Prelude.{◌≡◌, ◌<◌, ◌≤◌, IfSome, option_map};
 ghost use Rattle.lq_expr.specs.Grammar.{parsed};
 ghost use Rattle.lq_expr.specs.Names.{parsed_names};
 ghost use Rattle.lq_cli.specs.Gives.{Gives, found};

@@ -1,4 +1,4 @@
-use Rattle.std.proofs.Common.{◌∙◌, rules}
+use Rattle.std.proofs.Common.{◌∙◌}
 use Rattle.clap.specs.Matches.{found_of}
 use Rattle.lq_cli.proofs.Rows.{definitions_are}
 use Rattle.lq_cli.proofs.chosen.Chosen.definitions.Goals as goal

@@ -1,5 +1,3 @@
-use Rattle.std.proofs.Common.{map}
-use Rattle.clap.specs.Simple.{app_of}
 use Rattle.lq_cli.proofs.Forms.{is_simple_and_free_by}
 use Rattle.lq_cli.proofs.chosen.Chosen.read.Goals as goal
 

@@ -1,4 +1,4 @@
-use Rattle.std.proofs.Common.{◌∙◌, rules}
+use Rattle.std.proofs.Common.{◌∙◌}
 use Rattle.clap.specs.Matches.{found_of}
 use Rattle.lq_cli.proofs.Rows.{value_is}
 use Rattle.lq_cli.proofs.chosen.Chosen.value.Goals as goal
