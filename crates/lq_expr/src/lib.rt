@@ -3,10 +3,14 @@
 
 mod expr;
 pub mod laws;
+mod names;
 mod operator;
+mod options;
 mod reading;
 mod word;
 mod words;
 
 pub use expr::{Expr, ExprFault};
+pub use names::parse_names;
+pub use options::Options;
 pub use reading::parse;

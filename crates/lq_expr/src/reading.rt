@@ -147,8 +147,8 @@ fn named(alloc: Global, name: &Text) -> Result<Expr, ExprFault>
     Ok(Expr::Name(name.copy(alloc)?))
 }
 
-// The words before the first such operator outside parentheses, and those behind it.
-fn first_part<'a>(operator: Operator, words: &'a [Word]) -> (&'a [Word], Option<&'a [Word]>)
+/// The words before the first such operator outside parentheses, and those behind it.
+pub fn first_part<'a>(operator: Operator, words: &'a [Word]) -> (&'a [Word], Option<&'a [Word]>)
     ensures parts { spec.cut operator 0 words.now
         ≡ result.0.now ∷ rest_of operator (option_map (λ after. after.now) result.1) }
     ensures shorter { IfSome result.1 (λ after. length after.now < length words.now) }

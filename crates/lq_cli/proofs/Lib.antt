@@ -1,0 +1,5 @@
+pub mod Cuts
+pub mod Forms
+pub mod Lines
+pub mod Rows
+pub mod Starts

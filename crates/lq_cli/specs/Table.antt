@@ -1,0 +1,80 @@
+-- The commands, and the options that each one takes.
+use Rattle.std.specs.Prelude.{ℕ, Bool, true, false, List, [], ◌∷◌, Option, codes}
+use Rattle.std.specs.Map.{lookup}
+use Rattle.std.specs.Str.{bytes_eq}
+use Rattle.lq_cli.specs.declared.verb.Verb.{Verb}
+use Rattle.lq_cli.specs.declared.verb.Verb.TheVariants.{Validate, Status, Update, UpdateSql, ChangelogSync, Rollback, RollbackCount, RollbackToDate, RollbackSql, Tag, ReleaseLocks, Drill, Soak}
+
+-- the names of the options
+abbrev pub url : List ℕ
+url = codes "url"
+
+abbrev pub changelog_file : List ℕ
+changelog_file = codes "changelog-file"
+
+abbrev pub context_filter : List ℕ
+context_filter = codes "context-filter"
+
+abbrev pub label_filter : List ℕ
+label_filter = codes "label-filter"
+
+abbrev pub tag : List ℕ
+tag = codes "tag"
+
+abbrev pub count : List ℕ
+count = codes "count"
+
+abbrev pub date : List ℕ
+date = codes "date"
+
+abbrev pub runs : List ℕ
+runs = codes "runs"
+
+abbrev pub number : List ℕ
+number = codes "number"
+
+abbrev pub sets : List ℕ
+sets = codes "sets"
+
+-- the options that have to be given, those that may be given, and whether `-D` may be
+pub record Form : Type 0 where
+  pub required : List (List ℕ)
+  pub optional : List (List ℕ)
+  pub defines : Bool
+
+abbrev pub takes : List (List ℕ) → List (List ℕ) → Bool → Form
+takes required optional defines = record { required = required; optional = optional; defines = defines }
+
+abbrev pub form_of : Verb → Form
+form_of Validate = takes (url ∷ changelog_file ∷ []) [] true
+form_of Status = takes (url ∷ changelog_file ∷ []) (context_filter ∷ label_filter ∷ []) true
+form_of Update = takes (url ∷ changelog_file ∷ []) (context_filter ∷ label_filter ∷ []) true
+form_of UpdateSql = takes (url ∷ changelog_file ∷ []) (context_filter ∷ label_filter ∷ []) true
+form_of ChangelogSync = takes (url ∷ changelog_file ∷ []) (context_filter ∷ label_filter ∷ []) true
+form_of Rollback = takes (url ∷ changelog_file ∷ tag ∷ []) [] true
+form_of RollbackCount = takes (url ∷ changelog_file ∷ count ∷ []) [] true
+form_of RollbackToDate = takes (url ∷ changelog_file ∷ date ∷ []) [] true
+form_of RollbackSql = takes (url ∷ changelog_file ∷ []) (tag ∷ count ∷ date ∷ []) true
+form_of Tag = takes (url ∷ tag ∷ []) [] false
+form_of ReleaseLocks = takes (url ∷ []) [] false
+form_of Drill = takes (url ∷ runs ∷ []) [] false
+form_of Soak = takes (url ∷ number ∷ sets ∷ []) [] false
+
+-- the names of the commands
+abbrev pub verbs : List (List ℕ × Verb)
+verbs =
+    (codes "validate", Validate) ∷ (codes "status", Status) ∷ (codes "update", Update)
+    ∷ (codes "update-sql", UpdateSql) ∷ (codes "changelog-sync", ChangelogSync)
+    ∷ (codes "rollback", Rollback) ∷ (codes "rollback-count", RollbackCount)
+    ∷ (codes "rollback-to-date", RollbackToDate) ∷ (codes "rollback-sql", RollbackSql)
+    ∷ (codes "tag", Tag) ∷ (codes "release-locks", ReleaseLocks)
+    ∷ (codes "drill", Drill) ∷ (codes "soak", Soak) ∷ []
+
+-- the command of this name
+unfoldable pub verb_of : List ℕ → Option Verb
+verb_of word = lookup (bytes_eq word) verbs
+
+-- `drill` cannot be asked for yet
+abbrev pub is_offered : Verb → Bool
+is_offered Drill = false
+is_offered _ = true

@@ -1,0 +1,55 @@
+ghost use Rattle.std.specs.Prelude.{◌≡◌};
+ghost use Rattle.lq_cli.specs.Table.{is_offered, verb_of};
+
+/// The command that a command line names by its first word.
+#[derive(Clone, Copy, Debug, PartialEq, Eq)]
+pub enum Verb {
+    Validate,
+    Status,
+    Update,
+    UpdateSql,
+    ChangelogSync,
+    Rollback,
+    RollbackCount,
+    RollbackToDate,
+    RollbackSql,
+    Tag,
+    ReleaseLocks,
+    Drill,
+    Soak,
+}
+
+impl Verb {
+    /// The command of this name.
+    #[tactic(auto, unfolding(crate::specs::Table::verb_of))]
+    pub fn read(word: &str) -> Option<Verb>
+        ensures { result ≡ verb_of word.now }
+    {
+        match word {
+            "validate" => Some(Verb::Validate),
+            "status" => Some(Verb::Status),
+            "update" => Some(Verb::Update),
+            "update-sql" => Some(Verb::UpdateSql),
+            "changelog-sync" => Some(Verb::ChangelogSync),
+            "rollback" => Some(Verb::Rollback),
+            "rollback-count" => Some(Verb::RollbackCount),
+            "rollback-to-date" => Some(Verb::RollbackToDate),
+            "rollback-sql" => Some(Verb::RollbackSql),
+            "tag" => Some(Verb::Tag),
+            "release-locks" => Some(Verb::ReleaseLocks),
+            "drill" => Some(Verb::Drill),
+            "soak" => Some(Verb::Soak),
+            _ => None,
+        }
+    }
+
+    /// Whether the command can be asked for.
+    pub fn is_offered(self) -> bool
+        ensures { result ≡ is_offered self }
+    {
+        match self {
+            Verb::Drill => false,
+            _ => true,
+        }
+    }
+}
