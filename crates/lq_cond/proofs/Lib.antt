@@ -1,0 +1,5 @@
+pub mod Examples
+pub mod Levels
+pub mod StatedLemmas
+pub mod ToldLemmas
+pub mod TrackingNames
