@@ -1,5 +1,5 @@
 -- Command lines with what they ask for, and words that are none.
-use Rattle.std.specs.Prelude.{◌≡◌, ℕ, true, List, [], ◌∷◌, Option, Some, None, is_none, codes}
+use Rattle.std.specs.Prelude.{◌≡◌, ℕ, true, List, [], ◌∷◌, Option, Some, None, is_none, is_some, codes}
 use Rattle.std.specs.List.{list_all}
 use Rattle.lq_base.specs.declared.command.Command.TheVariants as command
 use Rattle.lq_base.specs.declared.command.Target.TheVariants as target
@@ -48,6 +48,26 @@ TargetIsRead = line_of (codes "rollback-sql" ∷ codes "--url=mysql:f" ∷ codes
 abbrev pub SoakIsRead : Type 0
 SoakIsRead = line_of (codes "soak" ∷ codes "--url=mysql:f" ∷ codes "--sets=10000" ∷ codes "--number=18446744073709551615" ∷ []) ≡ Some (plain_line Mysql (Soak 18446744073709551615 10000) None)
 
+-- the required options that most commands share
+abbrev pub with_changelog : List ℕ → Words → Words
+with_changelog name more = name ∷ codes "--url=postgresql:f" ∷ codes "--changelog-file=c" ∷ more
+
+-- each command that is offered and takes no date, with its required options alone
+abbrev pub RequiredSuffice : Type 0
+RequiredSuffice = list_all (λ words. is_some (line_of words)) (
+    with_changelog (codes "validate") []
+    ∷ with_changelog (codes "status") []
+    ∷ with_changelog (codes "update") []
+    ∷ with_changelog (codes "update-sql") []
+    ∷ with_changelog (codes "changelog-sync") []
+    ∷ with_changelog (codes "rollback") (codes "--tag=v1" ∷ [])
+    ∷ with_changelog (codes "rollback-count") (codes "--count=1" ∷ [])
+    ∷ with_changelog (codes "rollback-sql") (codes "--tag=v1" ∷ [])
+    ∷ (codes "tag" ∷ codes "--url=mysql:f" ∷ codes "--tag=v1" ∷ [])
+    ∷ (codes "release-locks" ∷ codes "--url=mysql:f" ∷ [])
+    ∷ (codes "soak" ∷ codes "--url=mysql:f" ∷ codes "--number=0" ∷ codes "--sets=1" ∷ [])
+    ∷ []) ≡ true
+
 -- each of these is no command line
 abbrev pub AreNone : List Words → Type 0
 AreNone all = list_all (λ words. is_none (line_of words)) all ≡ true
@@ -85,7 +105,8 @@ CountsAreRefused = AreNone (
     ∷ counting (codes "--count=" ∷ [])
     ∷ [])
 
--- no command, one that there is not, one that is not offered, and two of the three targets
+-- no command, one that there is not or is not offered, two or none of the three targets, a value that says nothing, and
+-- `-D` where it is not taken
 abbrev pub CommandsAreRefused : Type 0
 CommandsAreRefused = AreNone (
     []
@@ -97,4 +118,6 @@ CommandsAreRefused = AreNone (
     ∷ (codes "release-locks" ∷ codes "--url=mysql:" ∷ [])
     ∷ (codes "status" ∷ codes "--url=mysql:f" ∷ codes "--changelog-file=c" ∷ codes "--label-filter=" ∷ [])
     ∷ (codes "tag" ∷ codes "--url=mysql:f" ∷ codes "--tag=" ∷ [])
+    ∷ (codes "tag" ∷ codes "--url=mysql:f" ∷ codes "--tag=v1" ∷ codes "-Dx=1" ∷ [])
+    ∷ (codes "soak" ∷ codes "--url=mysql:f" ∷ codes "--number=0" ∷ codes "--sets=0" ∷ [])
     ∷ [])
