@@ -1,6 +1,6 @@
 -- A column with the value that it takes.
 use Rattle.std.specs.Option.{option_map, unwrap_or}
-use Rattle.std.specs.Prelude.{Bool, List, Option, Some, [], codes, map, ◌&&◌, ◌++◌, ◌∷◌}
+use Rattle.std.specs.Prelude.{Bool, List, Some, [], codes, map, ◌&&◌, ◌++◌, ◌∷◌}
 use Rattle.lq_base.specs.Name.{is_name}
 use Rattle.lq_base.specs.Options.{if_there}
 use Rattle.lq_base.specs.declared.literal.Literal.{Literal}

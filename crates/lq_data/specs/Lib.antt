@@ -1,5 +1,6 @@
 pub mod ColumnValue
 pub mod ColumnValueLaws
+pub mod Copied
 pub mod Delete
 pub mod DeleteLaws
 pub mod Empty

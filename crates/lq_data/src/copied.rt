@@ -1,6 +1,7 @@
 //! Statements copied.
-ghost use Rattle.std.specs.Prelude.{◌≡◌, IfOk};
+ghost use Rattle.std.specs.Prelude.{◌≡◌, IfOk, true};
 ghost use Rattle.lq_model.specs.declared.statement.Statement.TheVariants as statement;
+ghost use Rattle.lq_data.specs.Copied.{is_of_object};
 
 use lq_base::{Duplicate, Items, Kind, Name, NoMemory};
 use lq_model::{ColumnDef, ForeignKey, Key, Query, Statement, Unique};
@@ -114,6 +115,40 @@ fn create_sequence(
     Ok(Statement::CreateSequence { name, start, step })
 }
 
+// A copy of a statement of a constraint, an index, a view or a sequence.
+fn copy_of_object(alloc: Global, statement: &Statement) -> Result<Statement, NoMemory>
+    requires { is_of_object statement.now ≡ true }
+    ensures { IfOk result (λ copy. copy ≡ statement.now) }
+{
+    match statement {
+        Statement::AddPrimaryKey { table, key } => copied!(alloc, AddPrimaryKey { table, key }),
+        Statement::AddUnique { table, unique } => copied!(alloc, AddUnique { table, unique }),
+        Statement::AddForeignKey { table, foreign } => copied!(
+            alloc,
+            AddForeignKey { table, foreign }
+        ),
+        Statement::DropConstraint { table, name } => copied!(alloc, DropConstraint { table, name }),
+        Statement::DropPrimaryKey { table } => copied!(alloc, DropPrimaryKey { table }),
+        Statement::DropUnique { table, name } => copied!(alloc, DropUnique { table, name }),
+        Statement::DropForeignKey { table, name } => copied!(alloc, DropForeignKey { table, name }),
+        Statement::CreateIndex { table, index } => copied!(alloc, CreateIndex { table, index }),
+        Statement::DropIndex { name, table } => copied!(alloc, DropIndex { name, table }),
+        Statement::CreateView {
+            view,
+            query,
+            replace,
+        } => create_view(alloc, view, query, *replace),
+        Statement::DropView { view } => copied!(alloc, DropView { view }),
+        Statement::RenameView { view, to } => copied!(alloc, RenameView { view, to }),
+        Statement::CreateSequence { name, start, step } => create_sequence(
+            alloc, name, *start, *step,
+        ),
+        Statement::DropSequence { name } => copied!(alloc, DropSequence { name }),
+        Statement::RenameSequence { name, to } => copied!(alloc, RenameSequence { name, to }),
+        _ => unreachable!(),
+    }
+}
+
 fn copy_of(alloc: Global, statement: &Statement) -> Result<Statement, NoMemory>
     ensures { IfOk result (λ copy. copy ≡ statement.now) }
 {
@@ -154,30 +189,6 @@ fn copy_of(alloc: Global, statement: &Statement) -> Result<Statement, NoMemory>
             }
         ),
         Statement::DropDefault { table, column } => copied!(alloc, DropDefault { table, column }),
-        Statement::AddPrimaryKey { table, key } => copied!(alloc, AddPrimaryKey { table, key }),
-        Statement::AddUnique { table, unique } => copied!(alloc, AddUnique { table, unique }),
-        Statement::AddForeignKey { table, foreign } => copied!(
-            alloc,
-            AddForeignKey { table, foreign }
-        ),
-        Statement::DropConstraint { table, name } => copied!(alloc, DropConstraint { table, name }),
-        Statement::DropPrimaryKey { table } => copied!(alloc, DropPrimaryKey { table }),
-        Statement::DropUnique { table, name } => copied!(alloc, DropUnique { table, name }),
-        Statement::DropForeignKey { table, name } => copied!(alloc, DropForeignKey { table, name }),
-        Statement::CreateIndex { table, index } => copied!(alloc, CreateIndex { table, index }),
-        Statement::DropIndex { name, table } => copied!(alloc, DropIndex { name, table }),
-        Statement::CreateView {
-            view,
-            query,
-            replace,
-        } => create_view(alloc, view, query, *replace),
-        Statement::DropView { view } => copied!(alloc, DropView { view }),
-        Statement::RenameView { view, to } => copied!(alloc, RenameView { view, to }),
-        Statement::CreateSequence { name, start, step } => create_sequence(
-            alloc, name, *start, *step,
-        ),
-        Statement::DropSequence { name } => copied!(alloc, DropSequence { name }),
-        Statement::RenameSequence { name, to } => copied!(alloc, RenameSequence { name, to }),
         Statement::Insert {
             table,
             columns,
@@ -192,6 +203,7 @@ fn copy_of(alloc: Global, statement: &Statement) -> Result<Statement, NoMemory>
         ),
         Statement::Update { table, sets, test } => copied!(alloc, Update { table, sets, test }),
         Statement::Delete { table, test } => copied!(alloc, Delete { table, test }),
+        _ => copy_of_object(alloc, statement),
     }
 }
 
