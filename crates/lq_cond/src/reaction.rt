@@ -76,8 +76,9 @@ fn in_items<P: SqlText>(
 
 impl Cond {
     /// What the value of `preConditions` states: a list whose items are conditions, which all have to
-    /// hold, and the reactions `onFail` and `onError`. A fault's path begins with the item's place, as
-    /// `[0].tableExists.tableName`.
+    /// hold, and the reactions `onFail` and `onError`, of which the last ones count. The first fault in
+    /// the order of the items and of their keys is `Missing`, `Unknown` or `Bad`; its path begins with
+    /// the item's place, as `[0].tableExists.tableName`.
     #[tactic(auto, unfolding(crate::specs::Reading::reaction))]
     pub fn read<P: SqlText>(
         alloc: Global,
