@@ -29,16 +29,16 @@ use Rattle.lq_store.specs.Work.End.{Ran, Stopped, NoStatement}
 back_kept : (h : Held) → kept (back h) ≡ kept h
 back_kept h = by h.past refl
   where
-  by : (past : List Catalogue) → h.past ≡ past → kept (back h) ≡ kept h
-  by [] is = rw is refl
-  by (c ∷ past) is = rw is refl
+    by : (past : List Catalogue) → h.past ≡ past → kept (back h) ≡ kept h
+    by [] is = rw is refl
+    by (c ∷ past) is = rw is refl
 
 back_dialect : (h : Held) → (back h).dialect ≡ h.dialect
 back_dialect h = by h.past refl
   where
-  by : (past : List Catalogue) → h.past ≡ past → (back h).dialect ≡ h.dialect
-  by [] is = rw is refl
-  by (c ∷ past) is = rw is refl
+    by : (past : List Catalogue) → h.past ≡ past → (back h).dialect ≡ h.dialect
+    by [] is = rw is refl
+    by (c ∷ past) is = rw is refl
 
 pub rewound_stays : (n : ℕ) (h : Held) → Stays h (rewound n h)
 rewound_stays zero h = record { dialect_is = refl; kept_is = refl }
@@ -59,28 +59,36 @@ module _ (d : Dialect) (by : By) (text : List ℕ) (s : Statement) (h k : Held) 
 
   ran_itself : commits_itself d s ≡ true → TakesUp true text old new → (m : ℕ) × (outcome d by text (work h old) ≡ record { end = Ran m; work = work k new }) × Stays h k × IsRunning d k new
   ran_itself itself (entries_are, (entry_is, runs_are)) =
-      let sound = statement_keeps d s by h.now k.now n is running.sound_now meant in
-      (n, rw (spelled, itself, meant, entries_are, entry_is, runs_are, if_any_is old.entry running.some) refl, stays, record {
-        dialect_is = stays.dialect_is ∙ running.dialect_is;
-        sound_now = sound;
-        sound_cut = rw runs_are sound;
-        ran = rw (entries_are, append_assoc old.entries (entries_of old.entry) ((text ∷ []) ∷ []), stays.kept_is, runs_are) (run_more d old.entries (entries_of old.entry ++ (text ∷ []) ∷ []) (kept h) (cut h old) running.ran ∙ run_two d old.entry text (cut h old) h.now k.now running.runs (ran_text d by text s h.now k.now n spelled meant));
-        runs = rw (entry_is, runs_are) refl;
-        some = rw entry_is tt;
-      })
+      let sound = statement_keeps d s by h.now k.now n is running.sound_now meant in (
+        n,
+        rw (spelled, itself, meant, entries_are, entry_is, runs_are, if_any_is old.entry running.some) refl,
+        stays,
+        record {
+          dialect_is = stays.dialect_is ∙ running.dialect_is;
+          sound_now = sound;
+          sound_cut = rw runs_are sound;
+          ran = rw (entries_are, append_assoc old.entries (entries_of old.entry) ((text ∷ []) ∷ []), stays.kept_is, runs_are) (run_more d old.entries (entries_of old.entry ++ (text ∷ []) ∷ []) (kept h) (cut h old) running.ran ∙ run_two d old.entry text (cut h old) h.now k.now running.runs (ran_text d by text s h.now k.now n spelled meant));
+          runs = rw (entry_is, runs_are) refl;
+          some = rw entry_is tt;
+        },
+      )
 
   ran_within : commits_itself d s ≡ false → TakesUp false text old new → (m : ℕ) × (outcome d by text (work h old) ≡ record { end = Ran m; work = work k new }) × Stays h k × IsRunning d k new
   ran_within itself (entries_are, (texts_are, (some, runs_are))) =
       let sound = statement_keeps d s by h.now k.now n is running.sound_now meant in
-      let cut_is : cut k new ≡ cut h old = ap (λ (h : Held). h.now) (rewound_more old.runs new.runs h k k.now ran runs_are) in
-      (n, rw (spelled, itself, meant, entries_are, texts_are, cut_is) refl, stays, record {
-        dialect_is = stays.dialect_is ∙ running.dialect_is;
-        sound_now = sound;
-        sound_cut = subst (IsSound d) (sym cut_is) running.sound_cut;
-        ran = rw (entries_are, stays.kept_is, cut_is) running.ran;
-        runs = rw (texts_are, cut_is) (run_last d (texts_in old.entry) text (cut h old) h.now k.now running.runs (ran_text d by text s h.now k.now n spelled meant));
-        some = some;
-      })
+      let cut_is : cut k new ≡ cut h old = ap (λ (h : Held). h.now) (rewound_more old.runs new.runs h k k.now ran runs_are) in (
+        n,
+        rw (spelled, itself, meant, entries_are, texts_are, cut_is) refl,
+        stays,
+        record {
+          dialect_is = stays.dialect_is ∙ running.dialect_is;
+          sound_now = sound;
+          sound_cut = subst (IsSound d) (sym cut_is) running.sound_cut;
+          ran = rw (entries_are, stays.kept_is, cut_is) running.ran;
+          runs = rw (texts_are, cut_is) (run_last d (texts_in old.entry) text (cut h old) h.now k.now running.runs (ran_text d by text s h.now k.now n spelled meant));
+          some = some;
+        },
+      )
 
   pub ran_either : (itself : Bool) → commits_itself d s ≡ itself → TakesUp itself text old new → (m : ℕ) × (outcome d by text (work h old) ≡ record { end = Ran m; work = work k new }) × Stays h k × IsRunning d k new
   ran_either true itself takes = ran_itself itself takes

@@ -39,10 +39,10 @@ pub run_more : (d : Dialect) (es fs : List Entry) (c e : Catalogue) → run_entr
 run_more d [] fs c e ran = let same : c ≡ e = cc in ap (run_entries d fs) same
 run_more d (entry ∷ es) fs c e ran = by (λ f. run_more d es fs f e) (run_texts d entry c) ran
   where
-  by : ((f : Catalogue) → run_entries d es f ≡ Some e → run_entries d (es ++ fs) f ≡ run_entries d fs e)
-    → (r : Option Catalogue) → option_and_then (run_entries d es) r ≡ Some e → option_and_then (run_entries d (es ++ fs)) r ≡ run_entries d fs e
-  by more None ran = cc
-  by more (Some f) ran = more f ran
+    by : ((f : Catalogue) → run_entries d es f ≡ Some e → run_entries d (es ++ fs) f ≡ run_entries d fs e)
+        → (r : Option Catalogue) → option_and_then (run_entries d es) r ≡ Some e → option_and_then (run_entries d (es ++ fs)) r ≡ run_entries d fs e
+    by more None ran = cc
+    by more (Some f) ran = more f ran
 
 pub run_one : (d : Dialect) (e : Option (List (List ℕ))) (c f : Catalogue) → run_texts d (texts_in e) c ≡ Some f → run_entries d (entries_of e) c ≡ Some f
 run_one d None c f ran = ran

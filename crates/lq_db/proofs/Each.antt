@@ -29,11 +29,12 @@ sized es i e a b s next a_is s_is b_is =
 pub gained_none : (x : Log) → x ≡ gained [] x
 gained_none x = rw (none x.entries, same x.used) refl
   where
-  none : (entries : Option (List Entry)) → option_map (λ entries. entries ++ []) entries ≡ entries
-  none None = refl
-  none (Some entries) = ap Some (append-nil entries)
-  same : (used : ℕ) → used + 0 ≡ used
-  same used = omega arith
+    none : (entries : Option (List Entry)) → option_map (λ entries. entries ++ []) entries ≡ entries
+    none None = refl
+    none (Some entries) = ap Some (append-nil entries)
+
+    same : (used : ℕ) → used + 0 ≡ used
+    same used = omega arith
 
 full_middle : (end used : ℕ) (vs : List Entry) (w : Entry) (ws : List Entry) → is_full end used (vs ++ w ∷ ws) ≡ nat_lt end (used + size_of_all (vs ++ w ∷ ws))
 full_middle end used [] w ws = refl
@@ -68,13 +69,13 @@ module _ (es : List Entry) (i : ℕ) (e : Entry) (next : take (i + 1) es ≡ tak
       let used : m.used ≡ x.used + size_of_all (take i es) = ap (λ (l : Log). l.used) logged in
       let past : end_of room x.limit < (x.used + size_of_all (take i es)) + size_of_all (e ∷ []) = ltb-true _ _ (rw (limit, used) at full) in
       let size : size_of_all es ≡ (size_of_all (take i es) + size_of_all (e ∷ [])) + size_of_all rest =
-          ap size_of_all (whole es i e next) ∙ (sum_by-append (λ entry. entry_size entry) (take i es ++ e ∷ []) rest ∙ ap (λ (n : ℕ). n + size_of_all rest) (sum_by-append (λ entry. entry_size entry) (take i es) (e ∷ [])))
+      ap size_of_all (whole es i e next) ∙ (sum_by-append (λ entry. entry_size entry) (take i es ++ e ∷ []) rest ∙ ap (λ (n : ℕ). n + size_of_all rest) (sum_by-append (λ entry. entry_size entry) (take i es) (e ∷ [])))
       in
       let over : end_of room x.limit < x.used + size_of_all es = omega (arith, past, size) in
       true_false (full_is (end_of room x.limit) x.used ∙ lt-ltb _ _ over) fits
     where
-    full_is : (end used : ℕ) → is_full end used es ≡ nat_lt end (used + size_of_all es)
-    full_is end used =
-        let here : (take i es ++ e ∷ []) ++ drop (i + 1) es ≡ es = sym (whole es i e next) in
-        subst (λ (es : List Entry). is_full end used es ≡ nat_lt end (used + size_of_all es)) here
-        (subst (λ (es : List Entry). is_full end used es ≡ nat_lt end (used + size_of_all es)) (sym (append_assoc (take i es) (e ∷ []) (drop (i + 1) es))) (full_middle end used (take i es) e (drop (i + 1) es)))
+      full_is : (end used : ℕ) → is_full end used es ≡ nat_lt end (used + size_of_all es)
+      full_is end used =
+          let here : (take i es ++ e ∷ []) ++ drop (i + 1) es ≡ es = sym (whole es i e next) in
+          subst (λ (es : List Entry). is_full end used es ≡ nat_lt end (used + size_of_all es)) here
+          (subst (λ (es : List Entry). is_full end used es ≡ nat_lt end (used + size_of_all es)) (sym (append_assoc (take i es) (e ∷ []) (drop (i + 1) es))) (full_middle end used (take i es) e (drop (i + 1) es)))

@@ -39,10 +39,10 @@ pub run_last : (d : Dialect) (texts : List (List ℕ)) (text : List ℕ) (c e f 
 run_last d [] text c e f ran last = let same : c ≡ e = cc in rw same (ap (option_and_then (run_texts d [])) last)
 run_last d (t ∷ texts) text c e f ran last = by (λ g. λ ran. run_last d texts text g e f ran last) (run_text d t c) ran
   where
-  by : ((g : Catalogue) → run_texts d texts g ≡ Some e → run_texts d (texts ++ text ∷ []) g ≡ Some f)
-    → (r : Option Catalogue) → option_and_then (run_texts d texts) r ≡ Some e → option_and_then (run_texts d (texts ++ text ∷ [])) r ≡ Some f
-  by more None ran = cc
-  by more (Some g) ran = more g ran
+    by : ((g : Catalogue) → run_texts d texts g ≡ Some e → run_texts d (texts ++ text ∷ []) g ≡ Some f)
+        → (r : Option Catalogue) → option_and_then (run_texts d texts) r ≡ Some e → option_and_then (run_texts d (texts ++ text ∷ [])) r ≡ Some f
+    by more None ran = cc
+    by more (Some g) ran = more g ran
 
 -- the program's run of a text that ran
 pub ran_text : (d : Dialect) (by : By) (text : List ℕ) (s : Statement) (c e : Catalogue) (n : ℕ) → statement_in d text ≡ Some s → step by d s c ≡ Ok (e, n) → run_text d text c ≡ Some e

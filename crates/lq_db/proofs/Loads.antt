@@ -33,12 +33,15 @@ use Rattle.lq_store.specs.Journal.{database, run_entries, run_text, run_texts}
 pub ran : (d : Dialect) (text : List ℕ) (s : Statement) (h k : Held) (n : ℕ) → IsAt d h.now h → statement_in d text ≡ Some s → is_statement d s ≡ true
     → Runs (step Program h.dialect s h.now) h k (Ok n) → (x : Catalogue) × (run_text d text h.now ≡ Some x) × IsAt d x k
 ran d text s h k n at spelled is (meant, new) =
-    let meaning : step Program d s h.now ≡ Ok (k.now, n) = subst (λ (e : Dialect). step Program e s h.now ≡ Ok (k.now, n)) at.dialect_is meant in
-    (k.now, ran_text d Program text s h.now k.now n spelled meaning, record {
-      dialect_is = ap (λ (k : Held). k.dialect) new ∙ at.dialect_is;
-      now_is = refl;
-      sound = statement_keeps d s Program h.now k.now n is at.sound meaning;
-    })
+    let meaning : step Program d s h.now ≡ Ok (k.now, n) = subst (λ (e : Dialect). step Program e s h.now ≡ Ok (k.now, n)) at.dialect_is meant in (
+      k.now,
+      ran_text d Program text s h.now k.now n spelled meaning,
+      record {
+        dialect_is = ap (λ (k : Held). k.dialect) new ∙ at.dialect_is;
+        now_is = refl;
+        sound = statement_keeps d s Program h.now k.now n is at.sound meaning;
+      },
+    )
 
 -- an engine in which nothing was made
 pub nothing_sound : (d : Dialect) → IsSound d no_objects
@@ -49,9 +52,9 @@ nothing_sound Mysql = record { ordered = tt; ordered_views = tt; ordered_sequenc
 folded_step : (d : Dialect) (entry : Placed) (more : List Placed) (c e : Catalogue) → folded d (entry ∷ more) c ≡ Ok e → (f : Catalogue) × (run_texts d entry.texts c ≡ Some f) × (folded d more f ≡ Ok e)
 folded_step d entry more c e h = by (run_texts d entry.texts c) refl h
   where
-  by : (o : Option Catalogue) → run_texts d entry.texts c ≡ o → then_at entry.at o (folded d more) ≡ Ok e → (f : Catalogue) × (run_texts d entry.texts c ≡ Some f) × (folded d more f ≡ Ok e)
-  by None is h = cc
-  by (Some f) is h = (f, is, h)
+    by : (o : Option Catalogue) → run_texts d entry.texts c ≡ o → then_at entry.at o (folded d more) ≡ Ok e → (f : Catalogue) × (run_texts d entry.texts c ≡ Some f) × (folded d more f ≡ Ok e)
+    by None is h = cc
+    by (Some f) is h = (f, is, h)
 
 -- what the entries are folded to is what they run to
 pub folded_runs : (d : Dialect) (entries : List Placed) (c e : Catalogue) → folded d entries c ≡ Ok e → run_entries d (map (λ (e : Placed). e.texts) entries) c ≡ Some e
@@ -75,16 +78,16 @@ loaded_held d e l told entries h lock c are p ran kept_is at locked = record {
   begun_is = at.now_is ∙ sym kept_is;
 }
   where
-  there : (told : Option (List ℕ)) → IfSome told (λ bytes. journal_of d l bytes ≡ Ok entries) → IfSome (entries_in d l told) (λ there. database d there ≡ Some (kept h))
-  there None are = tt
-  there (Some bytes) are = rw are (folded_runs d entries no_objects c ran ∙ ap Some (sym kept_is))
+    there : (told : Option (List ℕ)) → IfSome told (λ bytes. journal_of d l bytes ≡ Ok entries) → IfSome (entries_in d l told) (λ there. database d there ≡ Some (kept h))
+    there None are = tt
+    there (Some bytes) are = rw are (folded_runs d entries no_objects c ran ∙ ap Some (sym kept_is))
 
 pub undamaged : (d e : Dialect) (l m : ℕ) (told now : Option (List ℕ)) (entries : List Placed) → IfSome told (λ bytes. journal_of d l bytes ≡ Ok entries) → now ≡ told → e ≡ d → m ≡ l → IsUndamaged e m now
 undamaged d e l m told now entries are p q r = rw (p, q, r) (there told are)
   where
-  there : (told : Option (List ℕ)) → IfSome told (λ bytes. journal_of d l bytes ≡ Ok entries) → IsUndamaged d l told
-  there None are = tt
-  there (Some bytes) are = rw are refl
+    there : (told : Option (List ℕ)) → IfSome told (λ bytes. journal_of d l bytes ≡ Ok entries) → IsUndamaged d l told
+    there None are = tt
+    there (Some bytes) are = rw are refl
 
 pub catalogue_is : (d : Dialect) (l : ℕ) (told : Option (List ℕ)) (entries : List Placed) (r : Result Catalogue ℕ) → IfSome told (λ bytes. journal_of d l bytes ≡ Ok entries) → read_entries d (Ok entries) ≡ r
     → IfSome told (λ bytes. catalogue_of d l bytes ≡ r)
@@ -116,9 +119,9 @@ module _ (d : Dialect) (c : Catalogue) (rows : List Tracked) (are : rows_of c �
   with_rows b twins None is apart = rw (are, is) refl
   with_rows b twins (Some lock) is apart = rw (are, is, twins, apart) (after b)
     where
-    after : (b : Bool) → (not b && true) ≡ (true && not b)
-    after true = refl
-    after false = refl
+      after : (b : Bool) → (not b && true) ≡ (true && not b)
+      after true = refl
+      after false = refl
 
   pub clean : (lock : Lock) → has_twin_rows rows ≡ false → lock_of d c ≡ Some lock → is_apart d (users_of c) ≡ true → IsCleanLock d c (Some lock)
   clean lock twins is apart = (with_rows false twins (Some lock) is apart, is)
@@ -126,9 +129,9 @@ module _ (d : Dialect) (c : Catalogue) (rows : List Tracked) (are : rows_of c �
   pub twins_not_clean : has_twin_rows rows ≡ true → is_apart d (users_of c) ≡ true → is_clean d c ≡ false
   twins_not_clean twins apart = with_rows true twins (lock_of d c) refl apart ∙ never (is_some (lock_of d c))
     where
-    never : (b : Bool) → (b && false) ≡ false
-    never true = refl
-    never false = refl
+      never : (b : Bool) → (b && false) ≡ false
+      never true = refl
+      never false = refl
 
   pub lockless_not_clean : lock_of d c ≡ None → is_clean d c ≡ false
   lockless_not_clean is = rw (are, is) refl
@@ -143,15 +146,17 @@ rowless_not_clean d c is = rw is refl
 pub mixed_not_clean : (d : Dialect) (c : Catalogue) → is_apart d (users_of c) ≡ false → is_clean d c ≡ false
 mixed_not_clean d c mixed = by_rows (rows_of c) refl
   where
-  never : (b : Bool) → (b && false) ≡ false
-  never true = refl
-  never false = refl
-  by_lock : (rows : List Tracked) → rows_of c ≡ Some rows → (o : Option Lock) → lock_of d c ≡ o → is_clean d c ≡ false
-  by_lock rows are None is = rw (are, is) refl
-  by_lock rows are (Some lock) is = rw (are, is, mixed) (never (not (has_twin_rows rows)))
-  by_rows : (o : Option (List Tracked)) → rows_of c ≡ o → is_clean d c ≡ false
-  by_rows None is = rw is refl
-  by_rows (Some rows) are = by_lock rows are (lock_of d c) refl
+    never : (b : Bool) → (b && false) ≡ false
+    never true = refl
+    never false = refl
+
+    by_lock : (rows : List Tracked) → rows_of c ≡ Some rows → (o : Option Lock) → lock_of d c ≡ o → is_clean d c ≡ false
+    by_lock rows are None is = rw (are, is) refl
+    by_lock rows are (Some lock) is = rw (are, is, mixed) (never (not (has_twin_rows rows)))
+
+    by_rows : (o : Option (List Tracked)) → rows_of c ≡ o → is_clean d c ≡ false
+    by_rows None is = rw is refl
+    by_rows (Some rows) are = by_lock rows are (lock_of d c) refl
 
 -- an engine with the entries run, and the lock
 pub raises : (d : Dialect) (entries : List Placed) (c : Catalogue) (h : Held) (lock : Lock) → folded d entries no_objects ≡ Ok c → IsAt d c h → kept h ≡ c → IsCleanLock d h.now (Some lock) → IsRaised d entries h lock

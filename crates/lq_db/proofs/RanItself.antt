@@ -34,11 +34,12 @@ pub itself_written : (d : Dialect) (by : By) (text : List ℕ) (s : Statement) (
     → (executed by text (state d (kept h) (begun_in h b) x live)).work.written ≡ itself_entries text (step by d s h.now) old
 itself_written d by text s h b old x live b_is some spelled itself = rw (b_is, spelled, itself) (cases (step by d s h.now))
   where
-  w : Work
-  w = work_in (begun_in h (Some old)) (kept h)
-  cases : (r : Result (Catalogue × ℕ) Reason) → (outcome_by d true text r w).work.written ≡ itself_entries text r old
-  cases (Ok ran) = ap (λ (es : List Entry). es ++ (text ∷ []) ∷ []) (if_any_is old.entry some)
-  cases (Err reason) = if_any_is old.entry some
+    w : Work
+    w = work_in (begun_in h (Some old)) (kept h)
+
+    cases : (r : Result (Catalogue × ℕ) Reason) → (outcome_by d true text r w).work.written ≡ itself_entries text r old
+    cases (Ok ran) = ap (λ (es : List Entry). es ++ (text ∷ []) ∷ []) (if_any_is old.entry some)
+    cases (Err reason) = if_any_is old.entry some
 
 held_same : (x y : Side) → x ≡ y → x.held ≡ y.held
 held_same x y same = ap (λ (s : Side). s.held) same
@@ -111,19 +112,19 @@ pub itself_held : (d : Dialect) (by : By) (text : List ℕ) (s : Statement) (h k
     → IsHeld d h x.entries lock b → IsHeld d k y.entries now_lock (Some new)
 itself_held d by text s h k b old new lock now_lock x y result alive b_is spelled is runs held = go result alive runs (subst (IsHeld d h x.entries lock) b_is held)
   where
-  go : (result : Result ℕ StoreFault) → lives result true ≡ true → Runs d by text s x h old lock result y k new now_lock → IsHeld d h x.entries lock (Some old) → IsHeld d k y.entries now_lock (Some new)
-  go (Ok n) alive (c, meant, room, y_is, done) held =
-      let more = entries_of old.entry ++ (text ∷ []) ∷ [] in
-      kept_held d h k x.entries y.entries more lock now_lock old new c (entries_gained x y more (rw meant at y_is))
-      (run_two d old.entry text (kept h) h.now c held.begun_is.runs (ran_text d by text s h.now c n spelled meant)) (statement_keeps d s by h.now c n is held.sound_now meant) done held
-  go (Err (Refused reason)) alive (meant, room, y_is, done) held =
-      let more = entries_of old.entry in
-      kept_held d h k x.entries y.entries more lock now_lock old new h.now (entries_gained x y more (rw meant at y_is))
-      (run_one d old.entry (kept h) h.now held.begun_is.runs) held.sound_now done held
-  go (Err (Full used next)) alive (full, used_is, next_is, y_is, back) held = back_held d h k x.entries y.entries lock now_lock old new (ap (λ (l : Log). l.entries) y_is) back held
-  go (Err OutOfMemory) alive (y_is, back) held = back_held d h k x.entries y.entries lock now_lock old new (ap (λ (l : Log). l.entries) y_is) back held
-  go (Err Disk) alive cut held = cc
-  go (Err _) alive never held = absurd never
+    go : (result : Result ℕ StoreFault) → lives result true ≡ true → Runs d by text s x h old lock result y k new now_lock → IsHeld d h x.entries lock (Some old) → IsHeld d k y.entries now_lock (Some new)
+    go (Ok n) alive (c, meant, room, y_is, done) held =
+        let more = entries_of old.entry ++ (text ∷ []) ∷ [] in
+        kept_held d h k x.entries y.entries more lock now_lock old new c (entries_gained x y more (rw meant at y_is))
+        (run_two d old.entry text (kept h) h.now c held.begun_is.runs (ran_text d by text s h.now c n spelled meant)) (statement_keeps d s by h.now c n is held.sound_now meant) done held
+    go (Err (Refused reason)) alive (meant, room, y_is, done) held =
+        let more = entries_of old.entry in
+        kept_held d h k x.entries y.entries more lock now_lock old new h.now (entries_gained x y more (rw meant at y_is))
+        (run_one d old.entry (kept h) h.now held.begun_is.runs) held.sound_now done held
+    go (Err (Full used next)) alive (full, used_is, next_is, y_is, back) held = back_held d h k x.entries y.entries lock now_lock old new (ap (λ (l : Log). l.entries) y_is) back held
+    go (Err OutOfMemory) alive (y_is, back) held = back_held d h k x.entries y.entries lock now_lock old new (ap (λ (l : Log). l.entries) y_is) back held
+    go (Err Disk) alive cut held = cc
+    go (Err _) alive never held = absurd never
 
 pub whole_lives : (result : Result ℕ StoreFault) (P : Type 0) → lives result true ≡ true → UnlessFailed result P → P
 whole_lives (Ok n) P alive p = p

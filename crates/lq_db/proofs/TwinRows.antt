@@ -28,11 +28,11 @@ pub record Left (rows left : List Tracked) (seen : Seen) : Type 0 where
 named_flip : (a b : List ℕ) → is_named a b ≡ is_named b a
 named_flip a b = by (is_named a b) refl (is_named b a) refl
   where
-  by : (p : Bool) → is_named a b ≡ p → (q : Bool) → is_named b a ≡ q → p ≡ q
-  by true p true q = refl
-  by false p false q = refl
-  by true p false q = absurd (true_false (subst (λ n. is_named n a ≡ true) (same_name a b p) (named_itself a)) q)
-  by false p true q = absurd (true_false (subst (λ n. is_named n b ≡ true) (same_name b a q) (named_itself b)) p)
+    by : (p : Bool) → is_named a b ≡ p → (q : Bool) → is_named b a ≡ q → p ≡ q
+    by true p true q = refl
+    by false p false q = refl
+    by true p false q = absurd (true_false (subst (λ n. is_named n a ≡ true) (same_name a b p) (named_itself a)) q)
+    by false p true q = absurd (true_false (subst (λ n. is_named n b ≡ true) (same_name b a q) (named_itself b)) p)
 
 identity_flip : (a b : Identity) → same_identity a b ≡ same_identity b a
 identity_flip a b = rw (named_flip a.file b.file, named_flip a.id b.id, named_flip a.author b.author) refl
@@ -40,11 +40,11 @@ identity_flip a b = rw (named_flip a.file b.file, named_flip a.id b.id, named_fl
 order_flip : (a b : ℕ) → nat_eq a b ≡ nat_eq b a
 order_flip a b = by (nat_eq a b) refl (nat_eq b a) refl
   where
-  by : (p : Bool) → nat_eq a b ≡ p → (q : Bool) → nat_eq b a ≡ q → p ≡ q
-  by true p true q = refl
-  by false p false q = refl
-  by true p false q = absurd (true_false (eq-eqb b a (sym (eqb-true a b p))) q)
-  by false p true q = absurd (true_false (eq-eqb a b (sym (eqb-true b a q))) p)
+    by : (p : Bool) → nat_eq a b ≡ p → (q : Bool) → nat_eq b a ≡ q → p ≡ q
+    by true p true q = refl
+    by false p false q = refl
+    by true p false q = absurd (true_false (eq-eqb b a (sym (eqb-true a b p))) q)
+    by false p true q = absurd (true_false (eq-eqb a b (sym (eqb-true b a q))) p)
 
 or_split : (a b p q : Bool) → ((a || b) || (p || q)) ≡ ((a || p) || (b || q))
 or_split true b p q = refl
@@ -76,11 +76,11 @@ as_or false b = refl
 at_order : (n m : ℕ) → is_at (nat_cmp n) m ≡ nat_eq n m
 at_order n m = by (nat_lt n m) refl (nat_eq n m) refl
   where
-  by : (l : Bool) → nat_lt n m ≡ l → (e : Bool) → nat_eq n m ≡ e → is_eq (cond l Less (cond e Equal Greater)) ≡ e
-  by true less true same = absurd (omega (arith, ltb-true n m less, eqb-true n m same))
-  by true less false same = refl
-  by false less true same = refl
-  by false less false same = refl
+    by : (l : Bool) → nat_lt n m ≡ l → (e : Bool) → nat_eq n m ≡ e → is_eq (cond l Less (cond e Equal Greater)) ≡ e
+    by true less true same = absurd (omega (arith, ltb-true n m less, eqb-true n m same))
+    by true less false same = refl
+    by false less true same = refl
+    by false less false same = refl
 
 -- a row goes in
 
@@ -104,12 +104,13 @@ pub sees : (E : Type 0) (row : Tracked) (rows : List Tracked) (key : IdentityKey
     → IsSeen (row ∷ rows) new → Sees {E = E} row rows (Ok (not (p && q))) new
 sees E row rows key old new p q is seen p_is q_is now = rw (p_is, q_is, is) (by (contains key_cmp old.identities (key_of row)) (contains nat_cmp old.orders row.order) twins)
   where
-  twins : list_any (is_twin row) rows ≡ (contains key_cmp old.identities (key_of row) || contains nat_cmp old.orders row.order)
-  twins = any_either row rows ∙ sym (ap (λ b. b || contains nat_cmp old.orders row.order) (seen.identities (key_of row)) ∙ ap (λ b. list_any (λ (s : Tracked). same_identity (identity_of s) (identity_of row)) rows || b) (seen.orders row.order))
-  by : (a b : Bool) → list_any (is_twin row) rows ≡ (a || b) → Sees {E = E} row rows (Ok (not (not a && not b))) new
-  by true b twin = twin
-  by false true twin = twin
-  by false false twin = (twin, now)
+    twins : list_any (is_twin row) rows ≡ (contains key_cmp old.identities (key_of row) || contains nat_cmp old.orders row.order)
+    twins = any_either row rows ∙ sym (ap (λ b. b || contains nat_cmp old.orders row.order) (seen.identities (key_of row)) ∙ ap (λ b. list_any (λ (s : Tracked). same_identity (identity_of s) (identity_of row)) rows || b) (seen.orders row.order))
+
+    by : (a b : Bool) → list_any (is_twin row) rows ≡ (a || b) → Sees {E = E} row rows (Ok (not (not a && not b))) new
+    by true b twin = twin
+    by false true twin = twin
+    by false false twin = (twin, now)
 
 -- going to the left
 
@@ -120,9 +121,9 @@ pub front_twins : (front rows : List Tracked) → has_twin_rows rows ≡ true �
 front_twins [] rows twins = twins
 front_twins (r ∷ front) rows twins = rw (front_twins front rows twins) (or_true (list_any (is_twin r) (front ++ rows)))
   where
-  or_true : (b : Bool) → (b || true) ≡ true
-  or_true true = refl
-  or_true false = refl
+    or_true : (b : Bool) → (b || true) ≡ true
+    or_true true = refl
+    or_true false = refl
 
 pub further_left : (rows left before : List Tracked) (row : Tracked) (old new : Seen) (is : Left rows left old) → left ≡ before ++ row ∷ [] → (list_any (is_twin row) is.behind ≡ false) × IsSeen (row ∷ is.behind) new → Left rows before new
 further_left rows left before row old new is left_is sees = record {

@@ -181,7 +181,15 @@ impl<D: Disk, P: SqlText + Drop, E: Executor + Drop> Store for Db<D, P, E> {
                     );
                     note(&mut self.live, done)
                 } else {
-                    take(self.alloc, &mut self.engine, begun, self.dialect, by, text, &statement)
+                    take(
+                        self.alloc,
+                        &mut self.engine,
+                        begun,
+                        self.dialect,
+                        by,
+                        text,
+                        &statement,
+                    )
                 }
             }
         }
@@ -222,7 +230,12 @@ impl<D: Disk, P: SqlText + Drop, E: Executor + Drop> Store for Db<D, P, E> {
                 self.engine.undo();
                 Err(fault)
             }
-            Ok(prepared) => match append_all(&mut self.journal, prepared.entries.as_slice(), prepared.size, room) {
+            Ok(prepared) => match append_all(
+                &mut self.journal,
+                prepared.entries.as_slice(),
+                prepared.size,
+                room,
+            ) {
                 Ok(()) => {
                     self.engine.forget();
                     self.lock = prepared.lock;

@@ -12,7 +12,11 @@ use lq_model::{Room, StoreFault};
 use lq_outside::Disk;
 
 /// Adds an entry, behind the header where there was none yet.
-pub fn append_one<D: Disk>(to: &mut Journal<D>, entry: &EncodedEntry, room: Room) -> Result<(), AppendFault>
+pub fn append_one<D: Disk>(
+    to: &mut Journal<D>,
+    entry: &EncodedEntry,
+    room: Room,
+) -> Result<(), AppendFault>
     requires whole { IsWhole (D.told (disk_of to.old)) (D.crashes (disk_of to.old)) to.old }
     ensures does { MayAppend room (entry.now ∷ []) (log_of (D.told (disk_of to.old)) to.old) result (log_of (D.told (disk_of to.new)) to.new) }
     ensures whole { UnlessDisk result (IsWhole (D.told (disk_of to.new)) (D.crashes (disk_of to.new)) to.new) }
@@ -32,7 +36,11 @@ pub fn append_one<D: Disk>(to: &mut Journal<D>, entry: &EncodedEntry, room: Room
 }
 
 /// Adds the entry of a transaction, where it has texts.
-pub fn append_open<D: Disk>(to: &mut Journal<D>, entry: &Option<EncodedEntry>, room: Room) -> Result<(), AppendFault>
+pub fn append_open<D: Disk>(
+    to: &mut Journal<D>,
+    entry: &Option<EncodedEntry>,
+    room: Room,
+) -> Result<(), AppendFault>
     requires whole { IsWhole (D.told (disk_of to.old)) (D.crashes (disk_of to.old)) to.old }
     ensures does { MayAppend room (entries_of entry.now) (log_of (D.told (disk_of to.old)) to.old) result (log_of (D.told (disk_of to.new)) to.new) }
     ensures whole { UnlessDisk result (IsWhole (D.told (disk_of to.new)) (D.crashes (disk_of to.new)) to.new) }
@@ -77,7 +85,11 @@ fn is_past(room: Room, limit: u64, used: u64, next: u64) -> bool
 
 /// Adds the entry of a transaction, where it has texts, and then another; or none of them, where there
 /// is no room for both.
-pub fn append_both<D: Disk>(to: &mut Journal<D>, first: &Option<EncodedEntry>, second: &EncodedEntry) -> Result<(), StoreFault>
+pub fn append_both<D: Disk>(
+    to: &mut Journal<D>,
+    first: &Option<EncodedEntry>,
+    second: &EncodedEntry,
+) -> Result<(), StoreFault>
     requires whole { IsWhole (D.told (disk_of to.old)) (D.crashes (disk_of to.old)) to.old }
     ensures does { MayWrite Ordinary (entries_of first.now ++ second.now ∷ []) (log_of (D.told (disk_of to.old)) to.old) result (log_of (D.told (disk_of to.new)) to.new) }
     ensures whole { UnlessFailed result (IsWhole (D.told (disk_of to.new)) (D.crashes (disk_of to.new)) to.new) }
@@ -137,7 +149,11 @@ fn lacks_room(room: Room, limit: u64, used: u64, entries: &[EncodedEntry], size:
 }
 
 // Adds entries for which there is room.
-fn append_each<D: Disk>(to: &mut Journal<D>, entries: &[EncodedEntry], room: Room) -> Result<(), AppendFault>
+fn append_each<D: Disk>(
+    to: &mut Journal<D>,
+    entries: &[EncodedEntry],
+    room: Room,
+) -> Result<(), AppendFault>
     requires whole { IsWhole (D.told (disk_of to.old)) (D.crashes (disk_of to.old)) to.old }
     requires room { is_full (end_of room (limit_of to.old)) (used_of to.old) entries.now ≡ false }
     ensures does { MayAppend room entries.now (log_of (D.told (disk_of to.old)) to.old) result (log_of (D.told (disk_of to.new)) to.new) }
@@ -158,7 +174,12 @@ fn append_each<D: Disk>(to: &mut Journal<D>, entries: &[EncodedEntry], room: Roo
 }
 
 /// Adds the entries, which take so many bytes, or none of them where there is no room for all.
-pub fn append_all<D: Disk>(to: &mut Journal<D>, entries: &[EncodedEntry], size: u64, room: Room) -> Result<(), AppendFault>
+pub fn append_all<D: Disk>(
+    to: &mut Journal<D>,
+    entries: &[EncodedEntry],
+    size: u64,
+    room: Room,
+) -> Result<(), AppendFault>
     requires whole { IsWhole (D.told (disk_of to.old)) (D.crashes (disk_of to.old)) to.old }
     requires size { size ≡ size_of_all entries.now }
     ensures does { MayAppend room entries.now (log_of (D.told (disk_of to.old)) to.old) result (log_of (D.told (disk_of to.new)) to.new) }

@@ -19,9 +19,10 @@ pub returns-in-Err-Disk-clause-crash : goal.returns-in-Err-Disk-clause-crash
 returns-in-Err-Disk-clause-crash g c = crash_first _ (entries_of c.args.first.now) (c.args.second.now ∷ []) _ _ c.in-Err-Disk.ensures.crash
 
 pub returns-in-Ok-append_one-clause-does : goal.returns-in-Ok-append_one-clause-does
-returns-in-Ok-append_one-clause-does g c =
-    (room_is _ _ _ _ _ _ _ _ (sym c.limit.ensures) c.used-used.ensures c.in-Some.ensures c.is_past.ensures c.if-is_past.false,
-      gained_both (entries_of c.args.first.now) (c.args.second.now ∷ []) (log_of (g.D.Disk.told (disk_of c.args.to.now)) c.args.to.now) _ _ c.in-Ok.ensures.does.1 c.in-Ok-append_one.ensures.does.1)
+returns-in-Ok-append_one-clause-does g c = (
+  room_is _ _ _ _ _ _ _ _ (sym c.limit.ensures) c.used-used.ensures c.in-Some.ensures c.is_past.ensures c.if-is_past.false,
+  gained_both (entries_of c.args.first.now) (c.args.second.now ∷ []) (log_of (g.D.Disk.told (disk_of c.args.to.now)) c.args.to.now) _ _ c.in-Ok.ensures.does.1 c.in-Ok-append_one.ensures.does.1,
+)
 
 pub returns-in-Ok-append_one-clause-crash : goal.returns-in-Ok-append_one-clause-crash
 returns-in-Ok-append_one-clause-crash g c = crash_second _ _ (entries_of c.args.first.now) (c.args.second.now ∷ []) _ _ _ c.in-Ok.ensures.crash (ap (λ l. l.entries) c.in-Ok.ensures.does.1) c.in-Ok-append_one.ensures.crash

@@ -9,6 +9,6 @@ invariant-loop-entry g l = record {
   whole : IsWhole (g.D.Disk.told (disk_of l.to)) (g.D.Disk.crashes (disk_of l.to)) l.to;
   logged : log_of (g.D.Disk.told (disk_of l.to)) l.to ≡ gained (take l.entry-index l.entries) (log_of (g.D.Disk.told (disk_of l.fn.to)) l.fn.to);
   crash : LeavesFront (log_of (g.D.Disk.told (disk_of l.fn.to)) l.fn.to).entries (take l.entry-index l.entries)
-  (crashes_in (dialect_of l.fn.to) (limit_of l.fn.to) (g.D.Disk.crashes (disk_of l.fn.to))) (crashes_in (dialect_of l.to) (limit_of l.to) (g.D.Disk.crashes (disk_of l.to)));
-  later : g.D.Disk.faults (disk_of l.fn.to) ≤ g.D.Disk.faults (disk_of l.to)
+      (crashes_in (dialect_of l.fn.to) (limit_of l.fn.to) (g.D.Disk.crashes (disk_of l.fn.to))) (crashes_in (dialect_of l.to) (limit_of l.to) (g.D.Disk.crashes (disk_of l.to)));
+  later : g.D.Disk.faults (disk_of l.fn.to) ≤ g.D.Disk.faults (disk_of l.to);
 }

@@ -20,9 +20,11 @@ returns-in-Ok-append-clause-does g c =
     let e = c.in-Ok.ensures in
     let f = c.in-Ok-append.ensures in
     let s = size_is c.args.entry.now in
-    let room = has_room c.args.room _ _ _ _ c.args.entry.now e.opening.limit_is e.used (λ less. cc (f.full.0 less)) in
-    (room, log_is _ _ _ _ _ _ _ _ (f.opening.dialect_is ∙ e.opening.dialect_is) (f.opening.limit_is ∙ e.opening.limit_is) (omega (arith, f.used, e.used, s))
-      (entries_more _ _ _ _ _ _ _ _ _ _ _ e.opening.dialect_is e.opening.limit_is f.opening.dialect_is f.opening.limit_is e.same f.added))
+    let room = has_room c.args.room _ _ _ _ c.args.entry.now e.opening.limit_is e.used (λ less. cc (f.full.0 less)) in (
+      room,
+      log_is _ _ _ _ _ _ _ _ (f.opening.dialect_is ∙ e.opening.dialect_is) (f.opening.limit_is ∙ e.opening.limit_is) (omega (arith, f.used, e.used, s))
+          (entries_more _ _ _ _ _ _ _ _ _ _ _ e.opening.dialect_is e.opening.limit_is f.opening.dialect_is f.opening.limit_is e.same f.added),
+    )
 
 pub returns-in-Ok-append-clause-crash : goal.returns-in-Ok-append-clause-crash
 returns-in-Ok-append-clause-crash g c =
@@ -50,9 +52,16 @@ returns-in-Err-Full-clause-does g c =
     let numbers = rw c.in-Err-Full.field-0-is at f.fault in
     let same = rw c.in-Err-Full.field-0-is at f.unchanged in
     let why = c.in-Err-Full.field-0-is in
-    let less = f.full.1 (cc) in
-    (lacks_room c.args.room _ _ _ _ c.args.entry.now e.opening.limit_is e.used less, (numbers.0 ∙ e.used, (omega (arith, numbers.1, s),
-      ap (λ j. log_of (g.D.Disk.told (disk_of j)) j) (same tt) ∙ log_is _ _ _ _ _ _ _ _ e.opening.dialect_is e.opening.limit_is e.used (entries_same _ _ _ _ _ _ e.opening.dialect_is e.opening.limit_is e.same))))
+    let less = f.full.1 (cc) in (
+      lacks_room c.args.room _ _ _ _ c.args.entry.now e.opening.limit_is e.used less,
+      (
+        numbers.0 ∙ e.used,
+        (
+          omega (arith, numbers.1, s),
+          ap (λ j. log_of (g.D.Disk.told (disk_of j)) j) (same tt) ∙ log_is _ _ _ _ _ _ _ _ e.opening.dialect_is e.opening.limit_is e.used (entries_same _ _ _ _ _ _ e.opening.dialect_is e.opening.limit_is e.same),
+        ),
+      ),
+    )
 
 pub returns-in-Err-Full-clause-crash : goal.returns-in-Err-Full-clause-crash
 returns-in-Err-Full-clause-crash g c =
