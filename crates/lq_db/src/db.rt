@@ -197,7 +197,7 @@ impl<D: Disk, P: SqlText + Drop, E: Executor + Drop> Store for Db<D, P, E> {
 
     fn commit(&mut self, _session: u32) -> Result<(), StoreFault> {
         match self.begun.take() {
-            None => Ok(()),
+            None => unreachable!(),
             Some(open) => match append_open(&mut self.journal, &open.entry, Room::Ordinary) {
                 Ok(()) => {
                     self.engine.forget();
