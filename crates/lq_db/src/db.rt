@@ -165,6 +165,7 @@ impl<D: Disk, P: SqlText + Drop, E: Executor + Drop> Store for Db<D, P, E> {
             Err(ParseFault::OutOfMemory) => return Err(StoreFault::OutOfMemory),
         };
         match &mut self.begun {
+            // No call comes here: the session has one open.
             None => Err(StoreFault::OutOfMemory),
             Some(begun) => {
                 if commits_itself(self.dialect, &statement) {
