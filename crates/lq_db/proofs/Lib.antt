@@ -1,0 +1,11 @@
+pub mod Both
+pub mod Each
+pub mod Commits
+pub mod Executed
+pub mod Alones
+pub mod AloneLeft
+pub mod RanItself
+pub mod TwinRows
+pub mod Loads
+pub mod Logs
+pub mod Moments

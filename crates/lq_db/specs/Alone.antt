@@ -1,0 +1,90 @@
+-- Texts run in a transaction of their own, all in the engine before anything is written.
+use Rattle.std.specs.Prelude.{◌≡◌, ◌<◌, ◌+◌, ◌++◌, ◌∷◌, Bool, IfSome, List, None, Option, Some, Result, Ok, Err, [], false, length, suc, true, zero, ℕ}
+use Rattle.lq_base.specs.declared.dialect.Dialect.{Dialect}
+use Rattle.lq_db.specs.Db.{Stays, entries_of, texts_in}
+use Rattle.lq_db.specs.Lock.{IsLockOf}
+use Rattle.lq_db.specs.declared.alone.Prepared.{Prepared}
+use Rattle.lq_db.specs.declared.running.Ended.{Ended}
+use Rattle.lq_db.specs.declared.running.Ended.TheVariants as ended
+use Rattle.lq_db.specs.declared.running.Running.{Running}
+use Rattle.lq_model.specs.Catalogue.{Catalogue}
+use Rattle.lq_model.specs.Sound.{IsSound}
+use Rattle.lq_model.specs.declared.fault.StoreFault.{StoreFault}
+use Rattle.lq_model.specs.declared.fault.StoreFault.TheVariants.{NotSql, OutOfMemory}
+use Rattle.lq_store.specs.Executor.{Held, back, kept}
+use Rattle.lq_store.specs.Journal.{Entry, run_entries, run_texts, size_of_all}
+use Rattle.lq_store.specs.Work.{End, Outcome, Work}
+use Rattle.lq_store.specs.Work.End.{Ran, Stopped, NoStatement}
+
+-- so many runs taken back
+abbrev pub rewound : ℕ → Held → Held
+rewound zero h = h
+rewound (suc n) h = rewound n (back h)
+
+-- what the entries that are complete lead to
+abbrev pub cut : Held → Running → Catalogue
+cut h t = (rewound t.runs h).now
+
+abbrev pub work : Held → Running → Work
+work h t = record { written = t.entries; committed = cut h t; now = h.now; texts = texts_in t.entry }
+
+-- The complete entries lead from what is committed to the cut, and the texts since then to what the engine has.
+pub record IsRunning (d : Dialect) (h : Held) (t : Running) : Type 0 where
+  pub dialect_is : h.dialect ≡ d
+  pub sound_now : IsSound d h.now
+  pub sound_cut : IsSound d (cut h t)
+  pub ran : run_entries d t.entries (kept h) ≡ Some (cut h t)
+  pub runs : run_texts d (texts_in t.entry) (cut h t) ≡ Some h.now
+  pub some : IfSome t.entry (λ texts. 0 < length texts)
+
+-- the texts so far are a complete entry
+pub record IsClosed (old new : Running) : Type 0 where
+  pub entries_are : new.entries ≡ old.entries ++ entries_of old.entry
+  pub entry_is : new.entry ≡ None
+  pub runs_are : new.runs ≡ 0
+
+-- the text of a statement that ran is taken up: by itself where it commits by itself
+abbrev pub TakesUp : Bool → List ℕ → Running → Running → Type 0
+TakesUp true text old new = (new.entries ≡ (old.entries ++ entries_of old.entry) ++ (text ∷ []) ∷ []) × ((new.entry ≡ None) × (new.runs ≡ 0))
+TakesUp false text old new = (new.entries ≡ old.entries) × ((texts_in new.entry ≡ texts_in old.entry ++ text ∷ []) × (IfSome new.entry (λ texts. 0 < length texts) × (new.runs ≡ old.runs + 1)))
+
+abbrev pub ended_by : Ended → ℕ → End
+ended_by ended.Ran n = Ran n
+ended_by (ended.Stopped reason) n = Stopped reason
+
+-- nothing more is to run: the entries are those that are written, and the engine has what they lead to
+pub record IsDone (d : Dialect) (end : End) (o : Outcome) (h k : Held) (entries : List Entry) : Type 0 where
+  pub end_is : o.end ≡ end
+  pub written_is : o.work.written ≡ entries
+  pub committed_is : o.work.committed ≡ k.now
+  pub ran : run_entries d entries (kept k) ≡ Some k.now
+  pub sound : IsSound d k.now
+  pub stays : Stays h k
+
+-- one text ran, or ended the run
+abbrev pub RanOne : Dialect → Outcome → Held → Result Ended StoreFault → Held → Running → Type 0
+RanOne d o h (Ok ended.Ran) k new = (n : ℕ) × (o ≡ record { end = Ran n; work = work k new }) × Stays h k × IsRunning d k new
+RanOne d o h (Ok (ended.Stopped reason)) k new = IsDone d (Stopped reason) o h k new.entries
+RanOne d o h (Err NotSql) k new = (o.end ≡ NoStatement) × Stays h k
+RanOne d o h (Err OutOfMemory) k new = Stays h k
+RanOne d o h (Err _) k new = ⊥
+
+-- they all ran, or the first that did not ended the run
+abbrev pub RanAll : Dialect → Outcome → Held → Result Ended StoreFault → Held → Running → Type 0
+RanAll d o h (Ok end) k new = IsDone d (ended_by end 0) o h k new.entries
+RanAll d o h (Err NotSql) k new = (o.end ≡ NoStatement) × Stays h k
+RanAll d o h (Err OutOfMemory) k new = Stays h k
+RanAll d o h (Err _) k new = ⊥
+
+-- an engine with nothing to undo, at a sound catalogue of the dialect
+pub record IsAtRest (d : Dialect) (h : Held) : Type 0 where
+  pub dialect_is : h.dialect ≡ d
+  pub sound : IsSound d h.now
+  pub kept_is : h.now ≡ kept h
+
+-- the entries to write, and the lock that is committed with them
+abbrev pub MayPrepare : Dialect → Outcome → Held → Result Prepared StoreFault → Held → Type 0
+MayPrepare d o h (Ok prepared) k = IsDone d (ended_by prepared.ended 0) o h k prepared.entries × (prepared.size ≡ size_of_all prepared.entries) × IsLockOf d k.now prepared.lock
+MayPrepare d o h (Err NotSql) k = (o.end ≡ NoStatement) × Stays h k
+MayPrepare d o h (Err OutOfMemory) k = Stays h k
+MayPrepare d o h (Err _) k = ⊥

@@ -1,0 +1,120 @@
+-- What a database in a journal holds.
+use Rattle.std.specs.Prelude.{◌≡◌, Bool, false, true, IfSome, List, None, Option, Some, [], length, ◌<◌, ◌++◌, ◌∷◌, Result, Ok, Err, ℕ}
+use Rattle.lq_base.specs.declared.dialect.Dialect.{Dialect}
+use Rattle.lq_base.specs.declared.reason.Reason.{Reason}
+use Rattle.lq_base.specs.declared.tracking.Lock.{Lock}
+use Rattle.lq_db.specs.Lock.{IsLockOf}
+use Rattle.lq_db.specs.Log.{IsWhole, crashes_in, entries_in}
+use Rattle.lq_db.specs.declared.db.Db.{Db}
+use Rattle.lq_db.specs.declared.open.Open.{Open}
+use Rattle.lq_store.specs.Executor.{Held, kept}
+use Rattle.lq_journal.specs.State.{dialect_of, disk_of, limit_of, used_of}
+use Rattle.lq_journal.specs.declared.journal.Journal.{Journal}
+use Rattle.lq_model.specs.Catalogue.{Catalogue}
+use Rattle.lq_model.specs.Sound.{IsSound}
+use Rattle.lq_model.specs.declared.fault.StoreFault.{StoreFault}
+use Rattle.lq_model.specs.declared.fault.StoreFault.TheVariants.{Refused, Disk, OutOfMemory}
+use Rattle.lq_outside.specs.Crash.{Crashes as DiskCrashes}
+use Rattle.lq_store.specs.Crashes.{Crashes}
+use Rattle.lq_store.specs.Journal.{Entry, database, run_texts}
+use Rattle.lq_store.specs.State.{State, Transaction}
+
+-- a transaction's texts that are not yet committed
+abbrev pub texts_in : Option (List (List ℕ)) → List (List ℕ)
+texts_in None = []
+texts_in (Some texts) = texts
+
+-- the entries that a commit writes
+abbrev pub entries_of : Option (List (List ℕ)) → List Entry
+entries_of None = []
+entries_of (Some texts) = texts ∷ []
+
+abbrev pub begun_in : Held → Option Open → Option Transaction
+begun_in h None = None
+begun_in h (Some t) = Some (record { session = t.session; now = h.now; texts = texts_in t.entry })
+
+abbrev pub disk_in : {D P E : Type 0} → Db D P E → D
+disk_in db = disk_of db.journal
+
+abbrev pub engine_in : {D P E : Type 0} → Db D P E → E
+engine_in db = db.engine
+
+-- the state of a database, by what its disk tells and what its engine holds
+abbrev pub state : {D P E : Type 0} → Option (List ℕ) → Held → Db D P E → State
+state told h db = record {
+  dialect = db.dialect;
+  committed = kept h;
+  begun = begun_in h db.begun;
+  entries = entries_in (dialect_of db.journal) (limit_of db.journal) told;
+  used = used_of db.journal;
+  limit = limit_of db.journal;
+  live = db.live;
+}
+
+abbrev pub crashes : {D P E : Type 0} → DiskCrashes → Db D P E → Crashes
+crashes disk db = crashes_in (dialect_of db.journal) (limit_of db.journal) disk
+
+-- the lock that the session of a transaction sees: the committed one, as long as it has run nothing
+abbrev pub lock_in : Option Lock → Lock → Lock
+lock_in None committed = committed
+lock_in (Some lock) committed = lock
+
+-- The texts of an open transaction lead from what is committed to what its session sees.
+pub record IsOpen (d : Dialect) (h : Held) (lock : Lock) (t : Open) : Type 0 where
+  pub runs : run_texts d (texts_in t.entry) (kept h) ≡ Some h.now
+  pub lock_is : IsLockOf d h.now (lock_in t.lock lock)
+  pub some : IfSome t.entry (λ texts. 0 < length texts)
+
+abbrev pub IsBegun : Dialect → Held → Lock → Option Open → Type 0
+IsBegun d h lock None = h.now ≡ kept h
+IsBegun d h lock (Some t) = IsOpen d h lock t
+
+-- the engine holds what the journal stands for, and the work of the open transaction
+pub record IsHeld (d : Dialect) (h : Held) (entries : Option (List Entry)) (lock : Lock) (begun : Option Open) : Type 0 where
+  pub dialect_is : h.dialect ≡ d
+  pub is_journal : IfSome entries (λ there. database d there ≡ Some (kept h))
+  pub sound : IsSound d (kept h)
+  pub sound_now : IsSound d h.now
+  pub lock_is : IsLockOf d (kept h) lock
+  pub begun_is : IsBegun d h lock begun
+
+pub record IsDb {D P E : Type 0} (d : Dialect) (told : Option (List ℕ)) (disk : DiskCrashes) (h : Held) (db : Db D P E) : Type 0 where
+  pub whole : IsWhole told disk db.journal
+  pub sql_is : d ≡ db.dialect
+  pub journal_is : dialect_of db.journal ≡ db.dialect
+  pub is_held : IsHeld db.dialect h (entries_in (dialect_of db.journal) (limit_of db.journal) told) db.lock db.begun
+
+-- it is as its calls leave it
+abbrev pub IsValid : {D P E : Type 0} → Dialect → Option (List ℕ) → DiskCrashes → Held → Db D P E → Type 0
+IsValid d told disk h db = db.live ≡ true → IsDb d told disk h db
+
+-- what no run changes
+pub record Stays (x y : Held) : Type 0 where
+  pub dialect_is : y.dialect ≡ x.dialect
+  pub kept_is : kept y ≡ kept x
+
+-- a text more in an open transaction, whose session sees the catalogue c now
+pub record IsAdded (d : Dialect) (text : List ℕ) (c : Catalogue) (old new : Open) : Type 0 where
+  pub session_is : new.session ≡ old.session
+  pub texts_are : texts_in new.entry ≡ texts_in old.entry ++ text ∷ []
+  pub some : IfSome new.entry (λ texts. 0 < length texts)
+  pub lock_is : (committed : Lock) → IsLockOf d c (lock_in new.lock committed)
+
+-- what running a statement in an open transaction does, by what the statement means
+abbrev pub MayTake : Dialect → List ℕ → Result (Catalogue × ℕ) Reason → Held → Open → Result ℕ StoreFault → Held → Open → Type 0
+MayTake d text meant x old (Ok n) y new = (c : Catalogue) × (meant ≡ Ok (c, n)) × (y.now ≡ c) × Stays x y × IsAdded d text c old new
+MayTake d text meant x old (Err (Refused reason)) y new = (meant ≡ Err reason) × (y ≡ x) × (new ≡ old)
+MayTake d text meant x old (Err OutOfMemory) y new = (y ≡ x) × (new ≡ old)
+MayTake d text meant x old (Err _) y new = ⊥
+
+-- a disk fault ends a store's life
+abbrev pub lives : {T : Type 0} → Result T StoreFault → Bool → Bool
+lives (Err Disk) live = false
+lives _ live = live
+
+-- just loaded: it lives, and no session has a transaction open
+pub record IsNew {D P E : Type 0} (d : Dialect) (limit : ℕ) (db : Db D P E) : Type 0 where
+  pub dialect_is : db.dialect ≡ d
+  pub limit_is : limit_of db.journal ≡ limit
+  pub live : db.live ≡ true
+  pub closed : db.begun ≡ None

@@ -1,0 +1,8 @@
+pub mod Db
+pub mod Log
+pub mod Lock
+pub mod Sound
+pub mod Itself
+pub mod Load
+pub mod Alone
+pub mod Twins

@@ -1,0 +1,261 @@
+ghost use Rattle.std.specs.Prelude.{◌≡◌, ◌≤◌, IfOk, IfErr, IfSome, MatchResult, Ok};
+ghost use Rattle.lq_db.specs.Db.{lives};
+ghost use Rattle.lq_db.specs.Load.{IsDbFault, catalogue_of};
+ghost use Rattle.lq_outside.specs.Crash.{LeavesOnly};
+ghost use Rattle.lq_store.specs.Executor.{kept};
+
+use crate::alone::prepare;
+use crate::itself::run_itself;
+use crate::loading::{Raised, raise};
+use crate::locking::keep;
+use crate::open::Open;
+use crate::running::Ended;
+use crate::taking::{commits_itself, take};
+use crate::writing::{append_all, append_open};
+use lq_base::{Dialect, Lock};
+use lq_journal::{AppendFault, Journal, LoadFault};
+use lq_model::{By, ByText, ParseFault, Room, SqlText, StoreFault};
+use lq_outside::{Disk, LoadRefused};
+use lq_store::{Executor, Store};
+use std::alloc::Global;
+
+/// A database in a journal, which it loads, and whose work it keeps in an engine.
+#[derive(Drop)]
+pub struct Db<D: Disk, P: SqlText + Drop, E: Executor + Drop> {
+    alloc: Global,
+    dialect: Dialect,
+    journal: Journal<D>,
+    sql: P,
+    engine: E,
+    /// The committed lock.
+    lock: Lock,
+    begun: Option<Open>,
+    /// No call has met a disk fault.
+    live: bool,
+}
+
+impl<D: Disk, P: SqlText + Drop, E: Executor + Drop> Db<D, P, E> {
+    ghost use Rattle.lq_db.specs.Db.{IsDb, IsNew, disk_in, engine_in};
+
+    /// Opens the database in a journal. A refusal hands the disk back, and changes no byte.
+    ///
+    /// The limit is the greatest size of the journal.
+    pub fn load(
+        alloc: Global,
+        disk: D,
+        dialect: Dialect,
+        sql: P,
+        limit: u64,
+    ) -> Result<Db<D, P, E>, LoadRefused<D, LoadFault>>
+        requires limit_least { 8192 ≤ limit }
+        requires limit_most { limit ≤ 268435456 }
+        requires sql { P.dialect ≡ dialect }
+        ensures valid { IfOk result (λ db. IsDb P.dialect (D.told (disk_in db)) (D.crashes (disk_in db)) (E.held (engine_in db)) db) }
+        ensures new { IfOk result (λ db. IsNew dialect limit db) }
+        ensures catalogue { IfOk result (λ db. IfSome (D.told disk) (λ bytes. catalogue_of dialect limit bytes ≡ Ok (kept (E.held (engine_in db))))) }
+        ensures told { MatchResult result (λ db. D.told (disk_in db) ≡ D.told disk) (λ refused. D.told refused.disk ≡ D.told disk) }
+
+        // Each fault has its cause.
+        ensures fault { IfErr result (λ refused. IsDbFault dialect limit (D.told disk) (D.faults disk) (D.faults refused.disk) refused.fault) }
+        ensures later { MatchResult result (λ db. D.faults disk ≤ D.faults (disk_in db)) (λ refused. D.faults disk ≤ D.faults refused.disk) }
+
+        // At each moment of it a crash leaves what one before it might have left.
+        ensures any_moment { MatchResult result (λ db. LeavesOnly (D.crashes disk) (D.crashes (disk_in db)) (D.crashes disk).leaves) (λ refused. LeavesOnly (D.crashes disk) (D.crashes refused.disk) (D.crashes disk).leaves) }
+    {
+        match Journal::load(alloc, disk, dialect, limit) {
+            Err(refused) => Err(refused),
+            Ok((journal, entries)) => {
+                let used = journal.used();
+                match raise(alloc, dialect, &sql, entries.as_slice(), used) {
+                    Err(fault) => Err(LoadRefused {
+                        disk: journal.into_disk(),
+                        fault,
+                    }),
+                    Ok(raised) => {
+                        let Raised { engine, lock } = raised;
+                        Ok(Db {
+                            alloc,
+                            dialect,
+                            journal,
+                            sql,
+                            engine,
+                            lock,
+                            begun: None,
+                            live: true,
+                        })
+                    }
+                }
+            }
+        }
+    }
+
+    /// The disk as it is: an open transaction leaves nothing on it but what was committed.
+    pub fn into_disk(self) -> D
+        ensures { result ≡ disk_in self }
+    {
+        self.journal.into_disk()
+    }
+}
+
+// After a disk fault nothing more is called.
+fn note(live: &mut bool, done: Result<u64, StoreFault>) -> Result<u64, StoreFault>
+    ensures result { result ≡ done }
+    ensures live { live.new ≡ lives done live.old }
+{
+    match done {
+        Err(StoreFault::Disk) => {
+            *live = false;
+            Err(StoreFault::Disk)
+        }
+        done => done,
+    }
+}
+
+impl<D: Disk, P: SqlText + Drop, E: Executor + Drop> Store for Db<D, P, E> {
+    ghost use Rattle.lq_db.specs.Db.{IsValid, crashes, disk_in, engine_in, state};
+    ghost use Rattle.lq_db.specs.Sound.{is_store};
+
+    type View = E;
+
+    ghost state = { λ db. state (D.told (disk_in db)) (E.held (engine_in db)) db };
+
+    ghost faults = { λ db. D.faults (disk_in db) };
+
+    ghost crashes = { λ db. crashes (D.crashes (disk_in db)) db };
+
+    ghost valid = { λ db. IsValid P.dialect (D.told (disk_in db)) (D.crashes (disk_in db)) (E.held (engine_in db)) db };
+
+    fn is_live(&self) -> bool {
+        self.live
+    }
+
+    fn lock(&self) -> &Lock {
+        &self.lock
+    }
+
+    fn look(&self, session: u32) -> Result<&E, StoreFault> {
+        match &self.begun {
+            None => Ok(&self.engine),
+            Some(open) => {
+                if open.session == session {
+                    Ok(&self.engine)
+                } else {
+                    Err(StoreFault::Busy(open.session))
+                }
+            }
+        }
+    }
+
+    fn begin(&mut self, session: u32) -> Result<(), StoreFault> {
+        if let Some(open) = &self.begun {
+            return Err(StoreFault::Busy(open.session));
+        }
+        self.begun = Some(Open {
+            session,
+            entry: None,
+            lock: None,
+        });
+        Ok(())
+    }
+
+    fn execute(&mut self, _session: u32, by: By, text: &str) -> Result<u64, StoreFault> {
+        let statement = match self.sql.parse(self.alloc, text) {
+            Ok(statement) => statement,
+            Err(ParseFault::NotSql) => return Err(StoreFault::NotSql),
+            Err(ParseFault::OutOfMemory) => return Err(StoreFault::OutOfMemory),
+        };
+        match &mut self.begun {
+            // No call comes here: the session has one open.
+            None => Err(StoreFault::OutOfMemory),
+            Some(begun) => {
+                if commits_itself(self.dialect, &statement) {
+                    let done = run_itself(
+                        self.alloc,
+                        &mut self.journal,
+                        &mut self.engine,
+                        begun,
+                        &mut self.lock,
+                        self.dialect,
+                        by,
+                        text,
+                        &statement,
+                    );
+                    note(&mut self.live, done)
+                } else {
+                    take(
+                        self.alloc,
+                        &mut self.engine,
+                        begun,
+                        self.dialect,
+                        by,
+                        text,
+                        &statement,
+                    )
+                }
+            }
+        }
+    }
+
+    fn commit(&mut self, _session: u32) -> Result<(), StoreFault> {
+        match self.begun.take() {
+            None => unreachable!(),
+            Some(open) => match append_open(&mut self.journal, &open.entry, Room::Ordinary) {
+                Ok(()) => {
+                    self.engine.forget();
+                    keep(&mut self.lock, open.lock);
+                    Ok(())
+                }
+                Err(AppendFault::Disk) => {
+                    self.live = false;
+                    Err(StoreFault::Disk)
+                }
+                Err(AppendFault::Full { used, next }) => {
+                    self.begun = Some(open);
+                    Err(StoreFault::Full { used, next })
+                }
+            },
+        }
+    }
+
+    fn abort(&mut self, _session: u32) {
+        self.engine.undo();
+        self.begun = None;
+    }
+
+    fn alone(&mut self, _session: u32, texts: &[ByText], room: Room) -> Result<(), StoreFault> {
+        if let Some(begun) = &self.begun {
+            return Err(StoreFault::Busy(begun.session));
+        }
+        match prepare(self.alloc, &self.sql, &mut self.engine, self.dialect, texts) {
+            Err(fault) => {
+                self.engine.undo();
+                Err(fault)
+            }
+            Ok(prepared) => match append_all(
+                &mut self.journal,
+                prepared.entries.as_slice(),
+                prepared.size,
+                room,
+            ) {
+                Ok(()) => {
+                    self.engine.forget();
+                    self.lock = prepared.lock;
+                    match prepared.ended {
+                        Ended::Ran => Ok(()),
+                        Ended::Stopped(reason) => Err(StoreFault::Refused(reason)),
+                    }
+                }
+                Err(AppendFault::Disk) => {
+                    self.live = false;
+                    Err(StoreFault::Disk)
+                }
+                Err(AppendFault::Full { used, next }) => {
+                    self.engine.undo();
+                    Err(StoreFault::Full { used, next })
+                }
+            },
+        }
+    }
+
+    ghost sound = { λ db valid live. is_store db (valid live) };
+}

@@ -1,0 +1,91 @@
+ghost use Rattle.std.specs.Prelude.{◌≡◌, ◌<◌, ◌++◌, ◌∷◌, [], true, IfSome, OnOk, OnErr, length};
+ghost use Rattle.lq_db.specs.Db.{IsAdded, MayTake, texts_in};
+ghost use Rattle.lq_model.specs.Commits.{commits_itself};
+ghost use Rattle.lq_model.specs.Statement.{is_statement};
+ghost use Rattle.lq_model.specs.Step.{step};
+
+use crate::locking::lock_now;
+use crate::open::Open;
+use lq_base::{Dialect, NoMemory};
+use lq_journal::EncodedEntry;
+use lq_model::{By, Statement, StoreFault};
+use lq_store::{Executor, RunFault};
+use std::alloc::Global;
+
+/// A text more, or nothing changed.
+pub fn push_text(
+    alloc: Global,
+    entry: &mut Option<EncodedEntry>,
+    text: &str,
+) -> Result<(), NoMemory>
+    ensures texts { OnOk result (texts_in entry.new ≡ texts_in entry.old ++ text.now ∷ []) }
+    ensures some { OnOk result (IfSome entry.old (λ texts. 0 < length texts) → IfSome entry.new (λ texts. 0 < length texts)) }
+    ensures same { OnErr result (entry.new ≡ entry.old) }
+{
+    match entry {
+        Some(entry) => entry.push(text),
+        None => {
+            *entry = Some(EncodedEntry::new(alloc, text)?);
+            Ok(())
+        }
+    }
+}
+
+// Adds the text of a statement that has run, or changes nothing.
+fn add<E: Executor>(
+    alloc: Global,
+    dialect: Dialect,
+    engine: &E,
+    begun: &mut Open,
+    text: &str,
+) -> Result<(), NoMemory>
+    requires some { IfSome begun.old.entry (λ texts. 0 < length texts) }
+    ensures added { OnOk result (IsAdded dialect text.now (E.held engine.now).now begun.old begun.new) }
+    ensures same { OnErr result (begun.new ≡ begun.old) }
+{
+    let lock = lock_now(alloc, dialect, engine)?;
+    push_text(alloc, &mut begun.entry, text)?;
+    begun.lock = Some(lock);
+    Ok(())
+}
+
+/// Runs a statement in an open transaction, or changes nothing.
+pub fn take<E: Executor>(
+    alloc: Global,
+    engine: &mut E,
+    begun: &mut Open,
+    dialect: Dialect,
+    by: By,
+    text: &str,
+    statement: &Statement,
+) -> Result<u64, StoreFault>
+    requires statement { is_statement (E.held engine.old).dialect statement.now ≡ true }
+    requires dialect { (E.held engine.old).dialect ≡ dialect }
+    requires some { IfSome begun.old.entry (λ texts. 0 < length texts) }
+    ensures { MayTake dialect text.now (step by dialect statement.now (E.held engine.old).now) (E.held engine.old) begun.old result (E.held engine.new) begun.new }
+{
+    match engine.run(by, statement) {
+        Ok(count) => match add(alloc, dialect, engine, begun, text) {
+            Ok(()) => Ok(count),
+            Err(NoMemory) => {
+                engine.undo_last();
+                Err(StoreFault::OutOfMemory)
+            }
+        },
+        Err(RunFault::Refused(reason)) => Err(StoreFault::Refused(reason)),
+        Err(RunFault::OutOfMemory) => Err(StoreFault::OutOfMemory),
+    }
+}
+
+/// Under mysql a statement of definitions commits.
+pub fn commits_itself(dialect: Dialect, statement: &Statement) -> bool
+    ensures { result ≡ commits_itself dialect statement.now }
+{
+    match dialect {
+        Dialect::Postgresql => false,
+        Dialect::Mysql => !matches!(
+            statement,
+            Statement::Insert { .. } | Statement::Update { .. } | Statement::Delete { .. }
+        ),
+    }
+}
