@@ -5,12 +5,12 @@ ghost use Rattle.lq_rows.specs.Answers.{Carries};
 use lq_base::Dialect;
 use lq_model::{By, Statement};
 use lq_parts::{Parts, RunFault};
-use lq_rowops::insert_into;
+use lq_rowops::{insert_into, update};
 use std::alloc::Global;
 
 /// Carries a statement out on a sound catalogue. It may change first and test its result afterwards:
 /// at a fault it may leave changes, which the caller undoes.
-#[tactic(auto, using(lq_parts::proofs::Continued::stays))]
+#[tactic(auto, using(lq_rows::proofs::Continued::stays))]
 pub fn carry_out(
     alloc: Global,
     parts: &mut Parts,
@@ -35,6 +35,9 @@ pub fn carry_out(
             columns.as_slice(),
             values.as_slice(),
         ),
+        Statement::Update { table, sets, test } => {
+            update(parts, alloc, by, dialect, table, sets.as_slice(), test)
+        }
         // Not written yet: a fault of memory may come at any time, and changes nothing.
         _ => Err(RunFault::OutOfMemory),
     }
