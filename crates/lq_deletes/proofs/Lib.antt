@@ -1,0 +1,3 @@
+pub mod DeleteLemmas
+pub mod OrphanLemmas
+pub mod Rounds
