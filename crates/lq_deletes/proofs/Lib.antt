@@ -1,3 +1,4 @@
 pub mod DeleteLemmas
 pub mod OrphanLemmas
 pub mod Rounds
+pub mod Thinned

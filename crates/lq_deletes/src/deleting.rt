@@ -1,13 +1,19 @@
-ghost use Rattle.std.specs.Prelude.{◌≡◌, length};
-ghost use Rattle.lq_model.specs.Catalogue.{the_table};
+ghost use Rattle.std.specs.Prelude.{◌≡◌, IfOk, OnErr, OnOk, is_some, length, map, not, true};
+ghost use Rattle.lq_chain.specs.History.{changed};
+ghost use Rattle.lq_model.specs.Catalogue.{table_of, the_table, with_table};
+ghost use Rattle.lq_model.specs.Delete.{without_taken};
+ghost use Rattle.lq_model.specs.Truth.{takes};
 ghost use Rattle.lq_deletes.specs.Asked.{stated_tests};
 
 use crate::tested::{compares_wrongly, lacks_tested};
 use lq_arm::Tests;
-use lq_base::Name;
+use lq_base::{Name, NoMemory};
+use lq_chain::Chain;
 use lq_model::{By, Column, Test};
 use lq_parts::Parts;
-use lq_query::is_reserved;
+use lq_query::{is_reserved, is_taken};
+use lq_rows::Row;
+use std::alloc::Global;
 
 /// The columns of the table of the name; none where there is none.
 fn columns_of<'a>(parts: &'a Parts, table: &Name) -> &'a [Column]
@@ -47,4 +53,50 @@ pub fn stated(parts: &Parts, by: By, table: &Name, test: &Option<Test>) -> Tests
         children: false,
         full: false,
     }
+}
+
+fn left(
+    alloc: Global,
+    test: &Option<Test>,
+    columns: &[Column],
+    rows: &Chain<Row>,
+) -> Result<Vec<bool>, NoMemory>
+    ensures { IfOk result (λ marks. marks.items ≡ map (λ row. not (takes test.now columns.now row)) rows.now.now) }
+{
+    let mut marks = Vec::new(alloc);
+    for row in rows.iter() {
+        marks.push(!is_taken(test, columns, row.as_slice()))?;
+    }
+    Ok(marks)
+}
+
+/// For each row of the table whether the test does not take it.
+fn left_in(
+    alloc: Global,
+    parts: &Parts,
+    table: &Name,
+    test: &Option<Test>,
+) -> Result<Vec<bool>, NoMemory>
+    ensures { IfOk result (λ marks. marks.items ≡ map (λ row. not (takes test.now (the_table parts.now.now table.now).columns row)) (the_table parts.now.now table.now).rows) }
+{
+    match parts.table(table) {
+        Some(held) => left(alloc, test, held.columns(), held.rows()),
+        None => Ok(Vec::new(alloc)),
+    }
+}
+
+/// Takes the rows out that the test takes.
+#[tactic(auto, using(crate::proofs::Thinned::kept_by_marks, crate::proofs::Thinned::as_many))]
+pub fn take(
+    parts: &mut Parts,
+    alloc: Global,
+    table: &Name,
+    test: &Option<Test>,
+) -> Result<(), NoMemory>
+    requires { is_some (table_of parts.old.now table.now) ≡ true }
+    ensures ok { OnOk result (parts.new ≡ changed parts.old (with_table parts.old.now table.now (without_taken test.now (the_table parts.old.now table.now)))) }
+    ensures err { OnErr result (parts.new ≡ parts.old) }
+{
+    let marks = left_in(alloc, parts, table, test)?;
+    parts.keep(alloc, table, marks)
 }

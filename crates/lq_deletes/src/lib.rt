@@ -6,5 +6,5 @@ pub mod laws;
 mod orphan;
 mod tested;
 
-pub use deleting::{len_of, stated};
+pub use deleting::{len_of, stated, take};
 pub use orphan::has_orphans;
