@@ -5,7 +5,7 @@ ghost use Rattle.lq_rows.specs.Answers.{Carries};
 use lq_base::Dialect;
 use lq_model::{By, Statement};
 use lq_parts::{Parts, RunFault};
-use lq_rowops::insert_into;
+use lq_rowops::{insert_into, update};
 use std::alloc::Global;
 
 /// Carries a statement out on a sound catalogue. It may change first and test its result afterwards:
@@ -35,6 +35,9 @@ pub fn carry_out(
             columns.as_slice(),
             values.as_slice(),
         ),
+        Statement::Update { table, sets, test } => {
+            update(parts, alloc, by, dialect, table, sets.as_slice(), test)
+        }
         // Not written yet: a fault of memory may come at any time, and changes nothing.
         _ => Err(RunFault::OutOfMemory),
     }

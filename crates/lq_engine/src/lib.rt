@@ -4,5 +4,6 @@
 mod arms;
 mod engine;
 mod look;
+mod source;
 
 pub use engine::Engine;

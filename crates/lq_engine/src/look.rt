@@ -3,10 +3,15 @@ ghost use Rattle.std.specs.Option.{option_copied};
 ghost use Rattle.std.specs.Prelude.{◌≡◌, length};
 ghost use Rattle.lq_base.specs.Name.{is_named};
 ghost use Rattle.lq_engine.specs.State.{State};
+ghost use Rattle.lq_model.specs.Look.{at_table};
 
 use crate::engine::Engine;
+use crate::source::source_at;
 use lq_base::Name;
+use lq_chain::Iter;
 use lq_model::{Answered, AskFault, By, Column, ForeignKey, Index, Key, Look, Query, Unique};
+use lq_query::answer;
+use lq_rows::Row;
 use std::alloc::Global;
 
 impl Look for Engine {
@@ -103,9 +108,20 @@ impl Look for Engine {
         }
     }
 
-    fn ask(&self, _: Global, _: By, _: &Query) -> Result<Answered, AskFault> {
-        // Not written yet: a fault of memory may come at any time.
-        Err(AskFault::OutOfMemory)
+    fn ask(&self, alloc: Global, by: By, query: &Query) -> Result<Answered, AskFault> {
+        answer(alloc, by, query, source_at(&self.parts, &query.table))
+    }
+}
+
+impl Engine {
+    /// The rows of the table, in order.
+    pub fn rows_of(&self, table: &Name) -> Option<Iter<'_, Row>>
+        ensures { result ≡ at_table (λ it. it.rows) self.now.now table.now }
+    {
+        match self.parts.table(table) {
+            None => None,
+            Some(held) => Some(held.rows().iter()),
+        }
     }
 }
 

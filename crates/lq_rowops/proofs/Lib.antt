@@ -1,2 +1,5 @@
+mod EditLemmas
 mod InsertDecides
 mod InsertSteps
+mod OrphanLemmas
+mod UpdateLemmas

@@ -1,3 +1,5 @@
+pub mod Edits
 pub mod InsertTests
 pub mod Planned
 pub mod RowAnswers
+pub mod Updated

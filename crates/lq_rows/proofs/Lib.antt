@@ -1,2 +1,3 @@
 pub mod Continued
 mod SeenLemmas
+mod WholeLemmas

@@ -176,7 +176,7 @@ null_first (value.Fixed u1 s1) (value.Moment m2) h = absurd (Prim.cc h)
 null_first (value.Fixed u1 s1) (value.Fixed u2 s2) h = absurd (Prim.cc h)
 
 -- a row with a null is equal to none
-null_differs : (v row : List Value) → list_any is_null row ≡ true → same_values v row ≡ false
+pub null_differs : (v row : List Value) → list_any is_null row ≡ true → same_values v row ≡ false
 null_differs [] [] h = absurd (Prim.cc h)
 null_differs [] (y ∷ row) h = refl
 null_differs (x ∷ v) [] h = refl

@@ -36,8 +36,8 @@ fn add(
     Ok(())
 }
 
-/// The values of the rows in some columns.
-fn see(
+/// The values of the rows in some columns, without the rows that have a null there.
+pub fn see(
     alloc: Global,
     columns: &[Column],
     names: &[Name],

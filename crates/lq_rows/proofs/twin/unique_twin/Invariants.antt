@@ -1,5 +1,5 @@
 use Rattle.std.proofs.Common.{drop, map, ◌≡◌}
-use Rattle.std.specs.List.{filter, list_any}
+use Rattle.std.specs.List.{list_any}
 use Rattle.lq_model.specs.Twin.{is_twin_in}
 use Rattle.lq_rows.specs.Seen.{AllShow}
 use Rattle.lq_rows.proofs.twin.unique_twin.Given as goal

@@ -1,0 +1,5 @@
+pub mod DeleteLemmas
+pub mod LostLemmas
+pub mod OrphanLemmas
+pub mod Rounds
+pub mod Thinned

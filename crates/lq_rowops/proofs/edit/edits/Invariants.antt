@@ -1,0 +1,6 @@
+use Rattle.std.proofs.Common.{map, ◌++◌, ◌≡◌}
+use Rattle.lq_rowops.specs.Edits.{edit}
+use Rattle.lq_rowops.proofs.edit.edits.Given as goal
+
+abbrev pub invariant-loop-row : goal.invariant-loop-row
+invariant-loop-row l = l.by.items ++ map (edit l.sets l.test l.columns) l.row-iterator ≡ map (edit l.sets l.test l.columns) l.rows.now
