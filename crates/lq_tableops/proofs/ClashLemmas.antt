@@ -1,7 +1,6 @@
 -- Lemmas on names that are taken.
 use Rattle.std.proofs.Common.{Bool, List, [], ap, false, is_some, map, refl, sym, true, ◌++◌, ◌∙◌, ◌∷◌, ◌≡◌, ◌||◌}
 use Rattle.std.specs.List.{flat_map, list_any}
-use Rattle.std.specs.Prelude.{Option}
 use denote.Ref.{Bor}
 use Rattle.lq_base.specs.Name.{is_named}
 use Rattle.lq_base.specs.declared.name.Name.{Name}

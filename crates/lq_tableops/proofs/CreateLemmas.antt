@@ -8,7 +8,7 @@ use Rattle.lq_base.specs.declared.name.Name.{Name}
 use Rattle.lq_model.specs.Catalogue.{Catalogue, Table, table_of, with_new}
 use Rattle.lq_model.specs.CreateTable.{create_table, depends_in, key_column, lacks_own, lists_twice, new_table, numbers_wrongly, repeats_number, target_missing}
 use Rattle.lq_model.specs.Kinds.{kinds_differ}
-use Rattle.lq_model.specs.Literals.{column_of, is_wide, is_wrong, literal_of}
+use Rattle.lq_model.specs.Literals.{column_of, is_wrong, literal_of}
 use Rattle.lq_model.specs.NameSpaces.{are_clashing, is_taken}
 use Rattle.lq_model.specs.Reserved.{is_reserved, takes_lock_key}
 use Rattle.lq_model.specs.TableNames.{constraint_names, inner_names}

@@ -1,23 +1,21 @@
 -- Lemmas on what a new table is made of.
-use Rattle.std.proofs.Common.{Bool, List, [], ap, cond, false, map, not, refl, sym, true, ◌++◌, ◌∙◌, ◌∷◌, ◌≡◌, ◌||◌}
+use Rattle.std.proofs.Common.{Bool, List, ap, cond, false, map, not, refl, sym, true, ◌++◌, ◌∙◌, ◌≡◌, ◌||◌}
 use Rattle.std.specs.List.{list_any}
 use Rattle.std.specs.Option.{unwrap_or}
 use Rattle.std.specs.Prelude.{None, Option, Some, is_none}
 use Rattle.lq_base.specs.Name.{is_named}
 use Rattle.lq_base.specs.declared.name.Name.{Name}
 use Rattle.lq_decide.proofs.Lists.{or-false}
-use Rattle.lq_decide.specs.Faults.{misses_new}
 use Rattle.lq_model.specs.Catalogue.{Catalogue, Table, no_table, table_of, the_table, with_new}
-use Rattle.lq_model.specs.CreateTable.{key_column, lacks_own, lists_twice, target_missing}
-use Rattle.lq_model.specs.Kinds.{kinds_at, kinds_differ, same_kinds}
-use Rattle.lq_model.specs.Names.{is_in, repeats, same_names}
-use Rattle.lq_model.specs.Query.{lacks_column}
+use Rattle.lq_model.specs.CreateTable.{key_column}
+use Rattle.lq_model.specs.Kinds.{kinds_at, same_kinds}
+use Rattle.lq_model.specs.Names.{is_in, same_names}
 use Rattle.lq_model.specs.TableNames.{column_lists, column_missing, key_list, target_lists}
 use Rattle.lq_model.specs.declared.column.Column.{Column}
 use Rattle.lq_model.specs.declared.constraint.ForeignKey.{ForeignKey}
 use Rattle.lq_model.specs.declared.constraint.Key.{Key}
 use Rattle.lq_model.specs.declared.constraint.Unique.{Unique}
-use Rattle.lq_model.proofs.Lists.{any-append, any-map, append-nil, named_itself, same_name, whether}
+use Rattle.lq_model.proofs.Lists.{any-append, any-map, append-nil}
 use Rattle.lq_model.proofs.Maps.{lookup-insert_entry}
 use Rattle.lq_tableops.specs.Aimed.{AimsAt, IsAim, made}
 use Rattle.lq_tableops.specs.Created.{IsKeyed, key_columns}

@@ -9,7 +9,7 @@ use Rattle.lq_base.specs.declared.name.Name.{Name}
 use Rattle.lq_model.specs.Catalogue.{Catalogue}
 use Rattle.lq_model.specs.NameSpaces.{all_foreign_names, are_clashing, is_taken, object_names, shared_names}
 use Rattle.lq_model.specs.Names.{is_in, repeats}
-use Rattle.lq_model.specs.TableNames.{constraint_names, foreign_names, index_names, inner_names, key_list}
+use Rattle.lq_model.specs.TableNames.{constraint_names, inner_names, key_list}
 use Rattle.lq_model.specs.declared.column.Column.{Column}
 use Rattle.lq_model.specs.declared.constraint.ForeignKey.{ForeignKey}
 use Rattle.lq_model.specs.declared.constraint.Key.{Key}

@@ -8,7 +8,7 @@ use denote.Ref.{Bor}
 use Rattle.lq_base.specs.Name.{is_named, name_cmp}
 use Rattle.lq_base.specs.declared.name.Name.{Name}
 use Rattle.lq_model.specs.Names.{is_in, repeats}
-use Rattle.lq_model.proofs.Lists.{named_itself, other_way, same_name, whether}
+use Rattle.lq_model.proofs.Lists.{other_way, same_name, whether}
 use Rattle.lq_tableops.specs.Shown.{Grows, ShowsNames, has_name}
 
 abbrev pub str_cmp : Bor Name → Bor Name → Ordering

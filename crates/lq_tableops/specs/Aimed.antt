@@ -1,6 +1,6 @@
 -- What is asked of the foreign keys of a new table.
 use Rattle.std.specs.List.{list_any}
-use Rattle.std.specs.Prelude.{Bool, List, Option, [], map, not, ◌||◌, ◌≡◌}
+use Rattle.std.specs.Prelude.{Bool, List, Option, [], not, ◌||◌, ◌≡◌}
 use Rattle.lq_base.specs.declared.name.Name.{Name}
 use Rattle.lq_decide.specs.Faults.{misses_new}
 use Rattle.lq_model.specs.Catalogue.{Catalogue, Table, with_new}

@@ -1,4 +1,4 @@
-use Rattle.std.proofs.Common.{ap, not, sym, ◌∙◌}
+use Rattle.std.proofs.Common.{ap, not, sym}
 use Rattle.std.specs.Option.{option_copied}
 use Rattle.lq_model.specs.Names.{same_names}
 use Rattle.lq_model.specs.TableNames.{key_list}

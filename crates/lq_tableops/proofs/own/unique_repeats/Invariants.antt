@@ -1,4 +1,4 @@
-use Rattle.std.proofs.Common.{false, take, ◌≡◌, ◌||◌}
+use Rattle.std.proofs.Common.{false, take, ◌≡◌}
 use Rattle.std.specs.List.{list_any}
 use Rattle.lq_model.specs.Names.{repeats}
 use Rattle.lq_tableops.proofs.own.unique_repeats.Given as goal
