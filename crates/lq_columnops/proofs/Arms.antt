@@ -1,9 +1,8 @@
 -- From what is done by a statement that is tested first to what it means.
 use Rattle.std.proofs.Common.{ap, false, refl, subst, sym, true, ◌∙◌, ◌&&◌, ◌≡◌, ◌||◌}
 use Rattle.std.specs.List.{list_any}
-use Rattle.std.specs.Prelude.{Bool, Err, List, Ok, Option, Result, [], is_none, is_some, not, ℕ, ◌∷◌}
+use Rattle.std.specs.Prelude.{Bool, Err, List, Ok, Result, [], is_none, is_some, not, ℕ, ◌∷◌}
 use Rattle.lq_base.specs.declared.name.Name.{Name}
-use Rattle.lq_base.specs.declared.reason.Reason.{Reason}
 use Rattle.lq_base.specs.declared.value.Value.{Value}
 use Rattle.lq_chain.specs.History.{History, changed}
 use Rattle.lq_model.specs.Catalogue.{Catalogue, Table, table_of, the_table}
@@ -17,7 +16,7 @@ use Rattle.lq_model.proofs.Lists.{or_left, whether}
 use Rattle.lq_decide.specs.Faults.{Faults, has_null_in}
 use Rattle.lq_decide.specs.Judged.{judged}
 use Rattle.lq_decide.proofs.Lists.{or-false}
-use Rattle.lq_rows.specs.Answers.{Answers, Continues, Means}
+use Rattle.lq_rows.specs.Answers.{Answers, Means}
 use Rattle.lq_rows.specs.declared.fault.RunFault.{RunFault}
 use Rattle.lq_rows.specs.declared.fault.RunFault.TheVariants.{OutOfMemory, Refused}
 use Rattle.lq_rows.proofs.Continued.{goes_on, stays}

@@ -1,6 +1,6 @@
 -- Lemmas on a table whose columns and rows change together.
 use Rattle.std.proofs.Common.{List, [], ap, false, length, map, refl, sym, true, ◌++◌, ◌∙◌, ◌∷◌, ◌≡◌}
-use Rattle.std.specs.Prelude.{None, Ok, Option, Result, Some, is_none, is_some, ℕ}
+use Rattle.std.specs.Prelude.{None, Ok, Option, Result, Some, is_none, is_some}
 use Rattle.lq_base.specs.Name.{is_named}
 use Rattle.lq_base.specs.declared.name.Name.{Name}
 use Rattle.lq_base.specs.declared.value.Value.{Value}

@@ -9,8 +9,7 @@ use Rattle.lq_base.specs.declared.literal.Literal.TheVariants as literal
 use Rattle.lq_base.specs.declared.value.Value.TheVariants as value
 use Rattle.lq_base.specs.declared.name.Name.{Name}
 use Rattle.lq_base.specs.declared.value.Value.{Value}
-use Rattle.lq_model.specs.Literals.{column_of, is_wide, is_wrong, literal_of}
-use Rattle.lq_model.specs.declared.column.Column.{Column}
+use Rattle.lq_model.specs.Literals.{is_wide, is_wrong}
 use Rattle.lq_model.specs.declared.column.ColumnDef.{ColumnDef}
 use Rattle.lq_columnops.specs.Stated.{IsColumn, IsStated}
 use Rattle.lq_columnops.specs.declared.stated.NewColumn.{NewColumn}

@@ -1,8 +1,7 @@
-use Rattle.std.proofs.Common.{Some, ap, refl, sym, ◌∙◌, ◌≡◌}
+use Rattle.std.proofs.Common.{Some, ap, refl, sym, ◌∙◌}
 use Rattle.lq_base.specs.Value.{into_kind}
 use Rattle.lq_arm.specs.declared.tests.Tests.{Tests}
 use Rattle.lq_model.specs.Catalogue.{the_table, with_table}
-use Rattle.lq_model.specs.Kinds.{kind_in}
 use Rattle.lq_model.specs.Literals.{is_wide, is_wrong, value_in}
 use Rattle.lq_model.specs.ChangeColumn as spec
 use Rattle.lq_decide.specs.Faults.{no_faults}

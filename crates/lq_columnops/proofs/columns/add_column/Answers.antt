@@ -1,5 +1,4 @@
-use Rattle.std.proofs.Common.{ap, not, refl, sym, ◌&&◌, ◌∙◌}
-use Rattle.std.specs.Prelude.{Bool}
+use Rattle.std.proofs.Common.{ap, not, refl, sym, ◌&&◌}
 use Rattle.lq_model.specs.Catalogue.{the_table, with_table}
 use Rattle.lq_model.specs.Columns as spec
 use Rattle.lq_model.specs.Literals.{column_of, default_value}

@@ -1,7 +1,4 @@
-use Rattle.std.proofs.Common.{ap, sym, ◌∙◌, ◌||◌}
-use Rattle.std.specs.List.{list_any}
-use Rattle.lq_model.specs.Names.{is_in}
-use Rattle.lq_model.specs.TableNames.{key_list}
+use Rattle.std.proofs.Common.{sym}
 use Rattle.lq_columnops.proofs.NeedLemmas.{listed_is}
 use Rattle.lq_columnops.proofs.needs.is_listed.Goals as goal
 
