@@ -1,0 +1,4 @@
+pub mod Arms
+pub mod NeedLemmas
+pub mod RowLemmas
+pub mod StatedLemmas

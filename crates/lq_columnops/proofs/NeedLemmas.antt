@@ -1,0 +1,45 @@
+-- The names in the tests that have parts.
+use Rattle.std.proofs.Common.{Bool, ap, false, map, refl, true, ◌∙◌, ◌||◌, ◌≡◌}
+use Rattle.std.specs.List.{list_any}
+use Rattle.lq_base.specs.declared.name.Name.{Name}
+use Rattle.lq_model.specs.Names.{is_in}
+use Rattle.lq_model.specs.Truth.{operand_names, test_names}
+use Rattle.lq_model.specs.declared.test.Op.{Op}
+use Rattle.lq_model.specs.declared.test.Operand.{Operand}
+use Rattle.lq_model.specs.declared.test.Test.{And, Compare, Not, Or, Test}
+use Rattle.lq_model.specs.Catalogue.{Table}
+use Rattle.lq_model.specs.TableNames.{column_lists, key_list, target_lists}
+use Rattle.lq_model.specs.declared.constraint.Key.{Key}
+use Rattle.lq_model.specs.declared.constraint.Unique.{Unique}
+use Rattle.lq_model.specs.declared.index.Index.{Index}
+use Rattle.lq_model.proofs.Lists.{any-append, any-map}
+use Rattle.lq_query.proofs.TestLemmas.{names_and, names_not, names_or}
+
+pub in_both : (n : Name) (a b : Test) → is_in n (test_names (And a b)) ≡ (is_in n (test_names a) || is_in n (test_names b))
+in_both n a b = ap (is_in n) (names_and a b) ∙ any-append _ (test_names a) (test_names b)
+
+pub in_either : (n : Name) (a b : Test) → is_in n (test_names (Or a b)) ≡ (is_in n (test_names a) || is_in n (test_names b))
+in_either n a b = ap (is_in n) (names_or a b) ∙ any-append _ (test_names a) (test_names b)
+
+pub in_turned : (n : Name) (a : Test) → is_in n (test_names (Not a)) ≡ is_in n (test_names a)
+in_turned n a = ap (is_in n) (names_not a)
+
+pub in_two : (n : Name) (op : Op) (x y : Operand) → is_in n (test_names (Compare op x y)) ≡ (is_in n (operand_names x) || is_in n (operand_names y))
+in_two n op x y = any-append _ (operand_names x) (operand_names y)
+
+grouped : (a b c : Bool) → ((a || b) || c) ≡ (a || (b || c))
+grouped true b c = refl
+grouped false b c = refl
+
+-- the column in the lists of a table, sort by sort
+pub listed_is : (n : Name) (it : Table) → list_any (is_in n) (column_lists it) ≡ (list_any (λ k. is_in n k.columns) (key_list it.key) || (list_any (λ u. is_in n u.columns) it.uniques || list_any (λ i. is_in n i.columns) it.indexes))
+listed_is n it =
+    let keys = map (λ (k : Key). k.columns) (key_list it.key) in
+    let uniques = map (λ (u : Unique). u.columns) it.uniques in
+    let indexes = map (λ (i : Index). i.columns) it.indexes in
+    any-append (is_in n) (target_lists it) indexes
+    ∙ ap (λ b. b || list_any (is_in n) indexes) (any-append (is_in n) keys uniques)
+    ∙ grouped (list_any (is_in n) keys) (list_any (is_in n) uniques) (list_any (is_in n) indexes)
+    ∙ ap (λ b. b || (list_any (is_in n) uniques || list_any (is_in n) indexes)) (any-map (is_in n) (λ (k : Key). k.columns) (key_list it.key))
+    ∙ ap (λ b. list_any (λ (k : Key). is_in n k.columns) (key_list it.key) || (b || list_any (is_in n) indexes)) (any-map (is_in n) (λ (u : Unique). u.columns) it.uniques)
+    ∙ ap (λ b. list_any (λ (k : Key). is_in n k.columns) (key_list it.key) || (list_any (λ (u : Unique). is_in n u.columns) it.uniques || b)) (any-map (is_in n) (λ (i : Index). i.columns) it.indexes)

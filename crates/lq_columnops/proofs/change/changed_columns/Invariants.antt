@@ -1,0 +1,7 @@
+use Rattle.std.proofs.Common.{map, take, ◌≡◌}
+use Rattle.lq_model.specs.ChangeColumn.{changed_at}
+use Rattle.lq_columnops.specs.Change.{applied}
+use Rattle.lq_columnops.proofs.change.changed_columns.Given as goal
+
+abbrev pub invariant-loop-column : goal.invariant-loop-column
+invariant-loop-column l = l.all ≡ map (changed_at l.name (applied l.change)) (take l.column-index l.columns)

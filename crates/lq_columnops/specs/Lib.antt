@@ -1,0 +1,4 @@
+pub mod Change
+pub mod Done
+pub mod OnColumn
+pub mod Stated

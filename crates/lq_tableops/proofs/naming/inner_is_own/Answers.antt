@@ -1,0 +1,12 @@
+use Rattle.std.proofs.Common.{ap, ◌∙◌}
+use Rattle.lq_model.specs.Names.{is_in}
+use Rattle.lq_model.specs.TableNames.{inner_names}
+use Rattle.lq_tableops.specs.Aimed.{made}
+use Rattle.lq_tableops.proofs.NamingLemmas as lemma
+use Rattle.lq_tableops.proofs.naming.inner_is_own.Goals as goal
+
+pub returns : goal.returns
+returns c = λ cs.
+    let new = c.args.new.now in
+    c.has.ensures ∙ ap (λ ns. is_in new.name.now (lemma.named ns)) c.as_slice.ensures
+    ∙ ap (is_in new.name.now) (lemma.filled c.new-names.result c.push_inner.new.to (inner_names (made cs new.key.now new.uniques.now new.foreign.now)) c.new-names.ensures (c.in_ok-push_inner.ensures cs))

@@ -1,0 +1,15 @@
+use Rattle.std.proofs.Common.{ap, ◌∙◌}
+use Rattle.std.specs.List.{list_any}
+use Rattle.lq_model.specs.NameSpaces.{shared_names}
+use Rattle.lq_model.specs.Names.{is_in}
+use Rattle.lq_model.specs.TableNames.{inner_names}
+use Rattle.lq_tableops.specs.Aimed.{made}
+use Rattle.lq_tableops.proofs.NamingLemmas as lemma
+use Rattle.lq_tableops.proofs.naming.shared_taken.Goals as goal
+
+pub returns : goal.returns
+returns c = λ cs.
+    let new = c.args.new.now in
+    c.one_shared.ensures
+    ∙ ap (list_any (λ n. is_in n (shared_names c.args.parts.now.now))) (c.in_ok-all.ensures ∙ lemma.one_more new.name.now (inner_names (made cs new.key.now new.uniques.now new.foreign.now)) (lemma.named c.push.new.self) (lemma.named c.push_inner.new.to)
+    (lemma.begun c.new-names.result c.push.new.self new.name c.new-names.ensures c.in_ok-push.ensures.ok) (c.in_ok-push_inner.ensures cs))

@@ -1,0 +1,3 @@
+pub mod Aimed
+pub mod Created
+pub mod Shown

@@ -1,0 +1,43 @@
+ghost use Rattle.std.specs.Prelude.{◌≡◌};
+ghost use Rattle.lq_base.specs.declared.dialect.Dialect as kinds;
+ghost use Rattle.lq_model.specs.DropTable as spec;
+ghost use Rattle.lq_model.specs.Plan.{decide};
+ghost use Rattle.lq_model.specs.Sound.{IsSound};
+ghost use Rattle.lq_decide.specs.Faults.{no_faults};
+ghost use Rattle.lq_arm.specs.Verdict.{tests_of, verdict_of};
+ghost use Rattle.lq_rows.specs.Answers.{Answers};
+
+use crate::needs::{is_targeted, is_viewed};
+use lq_arm::Tests;
+use lq_base::{Dialect, Name};
+use lq_columnops::table_tests;
+use lq_model::By;
+use lq_parts::{Parts, RunFault};
+
+/// DROP TABLE on a sound catalogue, on someone's behalf.
+pub fn drop_table(
+    parts: &mut Parts,
+    by: By,
+    dialect: Dialect,
+    table: &Name,
+) -> Result<u64, RunFault>
+    requires { IsSound dialect parts.old.now }
+    ensures { Answers (decide (spec.drop_table by dialect table.now parts.old.now)) parts.old parts.new result }
+{
+    let tests = drop_tests(parts, by, table);
+    match tests.verdict() {
+        Ok(()) => {}
+        Err(fault) => return Err(fault),
+    }
+    parts.take_table(table)?;
+    Ok(0)
+}
+
+fn drop_tests(parts: &Parts, by: By, table: &Name) -> Tests
+    ensures { (d : kinds.Dialect) → verdict_of result ≡ verdict_of (tests_of (spec.drop_table by d table.now parts.now.now) no_faults) }
+{
+    Tests {
+        depends: is_viewed(parts, table) | is_targeted(parts, table),
+        ..table_tests(parts, by, table)
+    }
+}
