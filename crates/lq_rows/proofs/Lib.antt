@@ -1,2 +1,2 @@
 pub mod Continued
-mod SeenLemmas
+pub mod SeenLemmas
