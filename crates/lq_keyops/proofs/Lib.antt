@@ -1,2 +1,3 @@
 mod Ended
+mod MetLemmas
 mod TargetLemmas
