@@ -1,3 +1,3 @@
 pub mod Continued
-mod SeenLemmas
+pub mod SeenLemmas
 mod WholeLemmas

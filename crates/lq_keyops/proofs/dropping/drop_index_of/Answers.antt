@@ -1,0 +1,32 @@
+use Rattle.std.proofs.Common.{None, Some, ap, is_some, refl, rules, sym, ◌≡◌}
+use Rattle.lq_arm.specs.Verdict.{verdict_of}
+use Rattle.lq_arm.proofs.Arms.{agree}
+use Rattle.lq_decide.specs.Faults.{no_faults}
+use Rattle.lq_decide.proofs.Keys.{drop_index_judged}
+use Rattle.lq_model.specs.Catalogue.{table_of}
+use Rattle.lq_model.specs.DropConstraint as spec
+use Rattle.lq_keyops.proofs.Ended as lemma
+use Rattle.lq_keyops.proofs.dropping.drop_index_of.Goals as goal
+
+pub returns-in_default : goal.returns-in_default
+returns-in_default c =
+    let db = c.args.parts.now.now in
+    let none : table_of db c.args.table.now ≡ None = search rules in
+    rw (c.nothing_there.ensures) (lemma.gone (spec.drop_index c.args.by c.args.dialect c.args.name.now (Some c.args.table.now) db) c.args.parts.now c.are_reserved-reserved.result (lemma.absent db c.args.table.now _ none) (sym c.are_reserved-reserved.ensures))
+
+pub reshape-requires : goal.reshape-requires
+reshape-requires c = let here : table_of c.args.parts.now.now c.args.table.now ≡ Some c.in-Some.held.now.now = search rules in ap is_some here
+
+pub returns : goal.returns
+returns c =
+    let db = c.args.parts.now.now in
+    let t = c.args.table.now in
+    let n = c.args.name.now in
+    let it = c.in-Some.held.now.now in
+    let here : table_of db t ≡ Some it = search rules in
+    c.reshape.ensures (spec.drop_index c.args.by c.args.dialect n (Some t) db) no_faults (record {
+      judged = drop_index_judged c.args.by c.args.dialect t db c.requires n;
+      tested = rw (c.no_tests.ensures) (ap verdict_of (agree c.are_reserved-reserved.ensures (lemma.named_there db t n it (λ x. x.indexes) (λ x. x.name) c.is_index.result here c.is_index.ensures) refl refl refl refl refl refl refl refl refl));
+      result = lemma.shaped_there db t it (spec.without_index n) c.in_ok-shape.shape here c.in_ok-shape.ensures;
+      count = refl;
+    })

@@ -1,0 +1,5 @@
+pub mod Ends
+pub mod Met
+pub mod Parents
+pub mod Quiet
+pub mod Targets

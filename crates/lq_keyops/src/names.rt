@@ -1,0 +1,101 @@
+ghost use Rattle.std.specs.Prelude.{◌≡◌, ◌∷◌, [], ◌||◌};
+ghost use Rattle.lq_model.specs.NameSpaces as spaces;
+ghost use Rattle.lq_model.specs.Names.{is_in};
+ghost use Rattle.lq_model.specs.Reserved as reserved;
+ghost use Rattle.lq_keyops.specs.Quiet.{no_tests};
+
+use lq_arm::{Tests, any_is_foreign, any_is_inner, is_constraint, is_unique_or_index};
+use lq_base::{Dialect, Name};
+use lq_model::By;
+use lq_parts::Parts;
+use lq_query::is_reserved;
+use lq_rows::Held;
+
+/// Whether one of two names is reserved to the program.
+#[tactic(auto, using(crate::proofs::Ended::reserved_two))]
+pub fn are_reserved(by: By, first: &Name, second: &Name) -> bool
+    ensures { result ≡ reserved.is_reserved by (first.now ∷ second.now ∷ []) }
+{
+    is_reserved(by, first) || is_reserved(by, second)
+}
+
+/// Nothing is against a statement.
+pub fn no_tests() -> Tests
+    ensures { result ≡ no_tests }
+{
+    Tests {
+        reserved: false,
+        missing: false,
+        exists: false,
+        depends: false,
+        wrong: false,
+        wide: false,
+        nulls: false,
+        twins: false,
+        orphans: false,
+        children: false,
+        full: false,
+    }
+}
+
+/// Whether a table, a view or a sequence has the name.
+#[tactic(auto, using(lq_arm::proofs::NameLemmas::object_is))]
+fn is_object(parts: &Parts, name: &Name) -> bool
+    ensures { result ≡ is_in name.now (spaces.object_names parts.now.now) }
+{
+    parts.table(name).is_some() || parts.view(name).is_some() || parts.sequence(name).is_some()
+}
+
+/// Whether the name is taken in PostgreSQL's one space. It looks at all tables.
+fn is_shared(parts: &Parts, name: &Name) -> bool
+    ensures { result ≡ is_in name.now (spaces.shared_names parts.now.now) }
+{
+    is_object(parts, name) || any_is_inner(parts.tables(), name)
+}
+
+/// Whether a unique constraint of the table may not have the name.
+pub fn unique_taken(parts: &Parts, held: &Held, dialect: Dialect, name: &Name) -> bool
+    ensures { result ≡ spaces.unique_taken dialect held.now.now name.now parts.now.now }
+{
+    match dialect {
+        Dialect::Postgresql => is_shared(parts, name) || is_constraint(held, name),
+        Dialect::Mysql => is_unique_or_index(held, name),
+    }
+}
+
+/// Whether the key of the table may not have the name.
+pub fn key_taken(parts: &Parts, held: &Held, dialect: Dialect, name: &Name) -> bool
+    ensures { result ≡ spaces.key_taken dialect held.now.now name.now parts.now.now }
+{
+    match dialect {
+        Dialect::Postgresql => is_shared(parts, name) || is_constraint(held, name),
+        Dialect::Mysql => false,
+    }
+}
+
+/// Whether an index of the table may not have the name.
+pub fn index_taken(parts: &Parts, held: &Held, dialect: Dialect, name: &Name) -> bool
+    ensures { result ≡ spaces.index_taken dialect held.now.now name.now parts.now.now }
+{
+    match dialect {
+        Dialect::Postgresql => is_shared(parts, name),
+        Dialect::Mysql => is_unique_or_index(held, name),
+    }
+}
+
+/// Whether a foreign key of any table has the name.
+fn is_any_foreign(parts: &Parts, name: &Name) -> bool
+    ensures { result ≡ is_in name.now (spaces.all_foreign_names parts.now.now) }
+{
+    any_is_foreign(parts.tables(), name)
+}
+
+/// Whether a foreign key of the table may not have the name.
+pub fn foreign_taken(parts: &Parts, held: &Held, dialect: Dialect, name: &Name) -> bool
+    ensures { result ≡ spaces.foreign_taken dialect held.now.now name.now parts.now.now }
+{
+    match dialect {
+        Dialect::Postgresql => is_constraint(held, name),
+        Dialect::Mysql => is_any_foreign(parts, name),
+    }
+}
