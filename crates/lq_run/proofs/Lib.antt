@@ -1,0 +1,5 @@
+mod Works
+mod Doing
+mod AllWorks
+mod ToldCalls
+mod Stated

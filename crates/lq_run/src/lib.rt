@@ -1,0 +1,7 @@
+//! Commands as steps over a store.
+#![tactic(auto)]
+
+mod calls;
+mod deed;
+
+pub use calls::{abort, begin, commit, do_alone, do_deed};
