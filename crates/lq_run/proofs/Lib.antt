@@ -3,3 +3,7 @@ mod Doing
 mod AllWorks
 mod ToldCalls
 mod Stated
+mod WentOn
+mod Makes
+mod Takes
+pub mod WellTurned
