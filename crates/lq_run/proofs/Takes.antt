@@ -1,0 +1,134 @@
+-- The next call in hand.
+use Rattle.std.proofs.Common.{ap, subst, sym, ◌∙◌}
+use Rattle.std.proofs.lemmas.List.{reverse-append}
+use Rattle.std.specs.Prelude.{Bool, Err, List, Ok, Result, false, refl, reverse, true, ℕ, ◌<◌, ◌&&◌, ◌+◌, ◌++◌, ◌∷◌, ◌≡◌, []}
+use Rattle.lq_base.specs.declared.dialect.Dialect.{Dialect}
+use Rattle.lq_base.specs.declared.reason.Reason.{Reason}
+use Rattle.lq_model.proofs.Lists.{and_left, and_right}
+use Rattle.lq_model.specs.declared.caller.Room.TheVariants.{Ordinary}
+use Rattle.lq_model.specs.declared.fault.StoreFault.{StoreFault}
+use Rattle.lq_store.specs.State.{State}
+use Rattle.lq_track.specs.Database.{Database}
+use Rattle.lq_turns.specs.Contents.{Contents, contents_of, with_contents}
+use Rattle.lq_turns.specs.Deed.{contents_after, if_accepted, locked_after}
+use Rattle.lq_turns.specs.Rest.{GivingUp, Inside, Over, Place, Turns, if_goes_on, rest}
+use Rattle.lq_turns.specs.Session.{Session, called, executed_as, is_own, settled_if}
+use Rattle.lq_turns.specs.Set.{Meaning}
+use Rattle.lq_turns.specs.Stepped.{Went, both_of}
+use Rattle.lq_turns.specs.declared.call.Call.{Call}
+use Rattle.lq_turns.specs.declared.call.Call.TheVariants.{Abort, Alone, Begin, Commit, Execute}
+use Rattle.lq_turns.specs.declared.deed.Deed.{Deed}
+use Rattle.lq_turns.specs.declared.deed.Deed.TheVariants.{Locks, Rows, Users}
+use Rattle.lq_turns.specs.declared.deed.OnLock.TheVariants.{Freed, LockMade, LockRowMade, LogMade, Marked, Taken}
+use Rattle.lq_turns.specs.declared.stamp.Stamp.{Stamp}
+use Rattle.lq_beside.specs.Replays.{call_fits, calls_fit}
+use Rattle.lq_run.specs.Does.{Faults}
+use Rattle.lq_run.specs.Moves.{AreTurns, Goes, IsAt, IsNext, IsReady, Makes, MakesAs, Takes, calls_left, hand_place, opens, place_of}
+use Rattle.lq_run.specs.Stands.{Stands}
+use Rattle.lq_run.specs.declared.hand.Hand.{Hand}
+use Rattle.lq_run.specs.declared.hand.Moved.TheVariants as moved
+use Rattle.lq_run.specs.declared.hand.Phase.TheVariants as phase
+
+-- the last in the list is the first call
+pub last_first : (calls left : List Call) (call : Call) → calls ≡ left ++ call ∷ [] → reverse calls ≡ call ∷ reverse left
+last_first calls left call is = ap reverse is ∙ reverse-append left (call ∷ [])
+
+pub next_in_hand : (d : Dialect) (opened : Bool) (calls left : List Call) (call : Call) → calls ≡ left ++ call ∷ [] → AreTurns d opened (reverse calls) → IsNext d opened call
+next_in_hand d opened calls left call is turns = (subst (AreTurns d opened) (last_first calls left call is) turns).0
+
+module _ {Key : Type 0} (d : Dialect) (m : Meaning Key) (stamp : Stamp) (number : ℕ) where
+  -- the first call of a turn is the next of the script
+  head_fits : (call : Call) (calls : List Call) (on : Bool) (turns : Turns Key) (s : Session) → calls_fit d (rest d m stamp (Inside (call ∷ calls) on turns) (both_of s)) s ≡ true → call_fits d call s ≡ true
+  head_fits Begin calls on turns s fit = refl
+  head_fits Commit calls on turns s fit = refl
+  head_fits Abort calls on turns s fit = refl
+  head_fits (Execute deed) calls on turns s fit = and_left (call_fits d (Execute deed) s) _ fit
+  head_fits (Alone deeds room) calls on turns s fit = and_left (call_fits d (Alone deeds room) s) _ fit
+
+  pub still_by : (deed : Deed) (s : Session) (q : Result Contents Reason) → (executed_as d deed s (if_accepted (with_contents (locked_after deed s.seen)) q)).is_open ≡ s.is_open
+  still_by deed s (Ok now) = elim (is_own d deed) as (λ o. (settled_if o (record (settled_if o s) { seen = with_contents (locked_after deed s.seen) now; begun = (settled_if o s).begun ++ deed ∷ [] })).is_open ≡ s.is_open) [ true ↦ refl | false ↦ refl ]
+  still_by deed s (Err reason) = elim (is_own d deed) as (λ o. (settled_if o s).is_open ≡ s.is_open) [ true ↦ refl | false ↦ refl ]
+
+  opens_as : (call : Call) (s : Session) → IsNext d s.is_open call → (called d call s).is_open ≡ opens call
+  opens_as Begin s next = refl
+  opens_as Commit s next = refl
+  opens_as Abort s next = refl
+  opens_as (Alone deeds room) s next = absurd next
+  opens_as (Execute deed) s next = still_by deed s (contents_after d deed (contents_of s.seen)) ∙ next.0
+
+  locked_row : (deed : Deed) (database : Database) → database.has_lock_row ≡ true → (locked_after deed database).has_lock_row ≡ true
+  locked_row (Users s) database is = is
+  locked_row (Rows w) database is = is
+  locked_row (Locks LogMade) database is = is
+  locked_row (Locks LockMade) database is = is
+  locked_row (Locks LockRowMade) database is = refl
+  locked_row (Locks (Taken at by)) database is = is
+  locked_row (Locks (Marked by)) database is = is
+  locked_row (Locks Freed) database is = is
+
+  abbrev HasRow : Session → Type 0
+  HasRow s = (s.committed.has_lock_row ≡ true) × (s.seen.has_lock_row ≡ true)
+
+  row_by : (deed : Deed) (s : Session) (q : Result Contents Reason) → HasRow s → HasRow (executed_as d deed s (if_accepted (with_contents (locked_after deed s.seen)) q))
+  row_by deed s (Ok now) is =
+      elim (is_own d deed) as (λ o. HasRow (settled_if o (record (settled_if o s) { seen = with_contents (locked_after deed s.seen) now; begun = (settled_if o s).begun ++ deed ∷ [] }))) [
+        | true ↦ (locked_row deed s.seen is.1, locked_row deed s.seen is.1)
+        | false ↦ (is.0, locked_row deed s.seen is.1)
+      ]
+  row_by deed s (Err reason) is = elim (is_own d deed) as (λ o. HasRow (settled_if o s)) [ true ↦ (is.1, is.1) | false ↦ is ]
+
+  has_row : (call : Call) (s : Session) → IsNext d s.is_open call → HasRow s → HasRow (called d call s)
+  has_row Begin s next is = is
+  has_row Commit s next is = (is.1, is.1)
+  has_row Abort s next is = (is.0, is.0)
+  has_row (Alone deeds room) s next is = absurd next
+  has_row (Execute deed) s next is = row_by deed s (contents_after d deed (contents_of s.seen)) is
+
+  -- a step leaves what fits
+  pub fits_on : (p q : Place Key) (s t : Session) → Went d m stamp p q s t → calls_fit d (rest d m stamp p (both_of s)) s ≡ true → calls_fit d (rest d m stamp q (both_of t)) t ≡ true
+  fits_on p q s t went fit =
+      subst (λ z. calls_fit d (rest d m stamp q (both_of t)) z ≡ true) (sym went.is) (and_right (call_fits d went.call s) _ (subst (λ calls. calls_fit d calls s ≡ true) went.next fit))
+
+  pub goes_to : (call : Call) (q : Place Key) (calls : List Call) (on : Bool) (turns : Turns Key) (x y start : State) (s : Session) → IsAt d m stamp number (Inside (call ∷ calls) on turns) x start s
+      → Stands start number y (called d call s) → IsReady d (opens call) q → Went d m stamp (Inside (call ∷ calls) on turns) q s (called d call s) → Goes d m stamp number (Inside (call ∷ calls) on turns) q start s y
+  goes_to call q calls on turns x y start s is stands ready went = record {
+    after = called d call s;
+    at = record {
+      dialect = is.dialect;
+      stands = stands;
+      ready = subst (λ o. IsReady d o q) (sym (opens_as call s is.ready.0)) ready;
+      fits = fits_on (Inside (call ∷ calls) on turns) q s (called d call s) went is.fits;
+      row = has_row call s is.ready.0 is.row;
+    };
+    went = went;
+  }
+
+  -- and so for a hand
+
+  module _ (hand : Hand) (left : List Call) (call : Call) (x y : State) (inside : hand.phase ≡ phase.Inside) (last : hand.calls ≡ left ++ call ∷ []) where
+    here : (turns : Turns Key) → place_of hand turns ≡ Inside (call ∷ reverse left) hand.goes_on turns
+    here turns = ap (λ p. hand_place p (calls_left hand) hand.goes_on turns) inside ∙ ap (λ calls. Inside calls hand.goes_on turns) (last_first hand.calls left call last)
+
+    there : (turns : Turns Key) → place_of (record hand { calls = left }) turns ≡ Inside (reverse left) hand.goes_on turns
+    there turns = ap (λ p. hand_place p (reverse left) hand.goes_on turns) inside
+
+    pub take_on : Makes d m stamp number call x moved.On y → Takes d m stamp number hand x moved.On (record hand { calls = left }) y
+    take_on makes turns start s is =
+        let at = subst (λ p. IsAt d m stamp number p x start s) (here turns) is in
+        let made = makes start s at.dialect at.stands (head_fits call (reverse left) hand.goes_on turns s at.fits) in
+        subst (λ p. Goes d m stamp number p (place_of (record hand { calls = left }) turns) start s y) (sym (here turns))
+        (subst (λ q. Goes d m stamp number (Inside (call ∷ reverse left) hand.goes_on turns) q start s y) (sym (there turns))
+        (goes_to call (Inside (reverse left) hand.goes_on turns) (reverse left) hand.goes_on turns x y start s at made.0 at.ready.1 (made.1 (reverse left) hand.goes_on turns)))
+
+    pub take_refused : (reason : Reason) → Makes d m stamp number call x (moved.Refused reason) y → Takes d m stamp number hand x (moved.Refused reason) (record hand { phase = phase.GivingUp; calls = left }) y
+    take_refused reason makes turns start s is =
+        let at = subst (λ p. IsAt d m stamp number p x start s) (here turns) is in
+        let made = makes start s at.dialect at.stands (head_fits call (reverse left) hand.goes_on turns s at.fits) in
+        subst (λ p. Goes d m stamp number p (GivingUp (if_goes_on hand.goes_on turns)) start s y) (sym (here turns))
+        (goes_to call (GivingUp (if_goes_on hand.goes_on turns)) (reverse left) hand.goes_on turns x y start s at made.0 made.1 (made.2 (reverse left) hand.goes_on turns))
+
+    pub take_fault : (fault : StoreFault) → Makes d m stamp number call x (moved.Failed fault) y → Takes d m stamp number hand x (moved.Failed fault) (record hand { calls = left }) y
+    take_fault fault makes turns start s is =
+        let at = subst (λ p. IsAt d m stamp number p x start s) (here turns) is in
+        let made = makes start s at.dialect at.stands (head_fits call (reverse left) hand.goes_on turns s at.fits) in
+        (call, made.0, made.1)

@@ -1,0 +1,50 @@
+-- A deed that is accepted, or refused, was the next call of the script.
+use Rattle.std.proofs.Common.{ap, subst, sym, ◌∙◌}
+use Rattle.std.specs.Prelude.{Bool, Err, List, Ok, Result, false, refl, true, ◌∷◌, ◌≡◌}
+use Rattle.lq_base.specs.declared.dialect.Dialect.{Dialect}
+use Rattle.lq_base.specs.declared.reason.Reason.{Reason}
+use Rattle.lq_turns.proofs.Made.{At, after_ok}
+use Rattle.lq_turns.proofs.Steps.{goes, stops}
+use Rattle.lq_turns.specs.Contents.{Contents, contents_of, with_contents}
+use Rattle.lq_turns.specs.Deed.{contents_after, if_accepted, locked_after}
+use Rattle.lq_turns.specs.Goes.{Both, committed_if}
+use Rattle.lq_turns.specs.Rest.{GivingUp, Inside, Turns, if_goes_on, rest}
+use Rattle.lq_turns.specs.Session.{Session, accepted, before, called, executed_as, is_own, settled_if}
+use Rattle.lq_turns.specs.Set.{Meaning}
+use Rattle.lq_turns.specs.Stepped.{Went, both_of}
+use Rattle.lq_turns.specs.declared.call.Call.{Call}
+use Rattle.lq_turns.specs.declared.call.Call.TheVariants.{Execute}
+use Rattle.lq_turns.specs.declared.deed.Deed.{Deed}
+use Rattle.lq_turns.specs.declared.stamp.Stamp.{Stamp}
+
+module _ (d : Dialect) (deed : Deed) (s : Session) where
+  pair : (t : Session) (a b : Contents) → At t (a, b) → both_of t ≡ (a, b)
+  pair t a b at = ap (λ x. (x, contents_of t.seen)) at.committed ∙ ap (λ x. (a, x)) at.seen
+
+  both_ok : (now : Contents) → contents_after d deed (contents_of s.seen) ≡ Ok now → both_of (called d (Execute deed) s) ≡ (committed_if (is_own d deed) (contents_of s.committed) now, now)
+  both_ok now is = ap (λ r. both_of (executed_as d deed s (if_accepted (with_contents (locked_after deed s.seen)) r))) is
+      ∙ pair (accepted d deed (with_contents (locked_after deed s.seen) now) s) (committed_if (is_own d deed) (contents_of s.committed) now) now (after_ok d (is_own d deed) deed (contents_of s.committed) now s refl refl)
+
+  both_if : (own : Bool) → both_of (settled_if own s) ≡ (committed_if own (contents_of s.committed) (contents_of s.seen), contents_of s.seen)
+  both_if true = refl
+  both_if false = refl
+
+  both_err : (reason : Reason) → contents_after d deed (contents_of s.seen) ≡ Err reason → both_of (called d (Execute deed) s) ≡ (committed_if (is_own d deed) (contents_of s.committed) (contents_of s.seen), contents_of s.seen)
+  both_err reason is = ap (λ r. both_of (executed_as d deed s (if_accepted (with_contents (locked_after deed s.seen)) r))) is ∙ both_if (is_own d deed)
+
+module _ {Key : Type 0} (d : Dialect) (m : Meaning Key) (stamp : Stamp) (deed : Deed) (s t : Session) where
+  pub goes_on : (now : Contents) → contents_after d deed (contents_of s.seen) ≡ Ok now → t ≡ called d (Execute deed) s → (calls : List Call) (on : Bool) (turns : Turns Key)
+      → Went d m stamp (Inside (Execute deed ∷ calls) on turns) (Inside calls on turns) s t
+  goes_on now is after calls on turns = record {
+    call = Execute deed;
+    next = goes d m stamp deed calls on turns (both_of s) now is ∙ ap (λ x. Execute deed ∷ rest d m stamp (Inside calls on turns) x) (sym (ap both_of after ∙ both_ok d deed s now is));
+    is = after;
+  }
+
+  pub gives_up : (reason : Reason) → contents_after d deed (contents_of s.seen) ≡ Err reason → t ≡ called d (Execute deed) s → (calls : List Call) (on : Bool) (turns : Turns Key)
+      → Went d m stamp (Inside (Execute deed ∷ calls) on turns) (GivingUp (if_goes_on on turns)) s t
+  gives_up reason is after calls on turns = record {
+    call = Execute deed;
+    next = stops d m stamp deed calls on turns (both_of s) reason is ∙ ap (λ x. Execute deed ∷ rest d m stamp (GivingUp (if_goes_on on turns)) x) (sym (ap both_of after ∙ both_err d deed s reason is));
+    is = after;
+  }

@@ -1,0 +1,5 @@
+use Rattle.lq_run.proofs.ToldCalls.{abort_told}
+use Rattle.lq_run.proofs.calls.abort.Goals as goal
+
+pub returns-clause-does : goal.returns-clause-does
+returns-clause-does g c = abort_told c.args.dialect c.args.session (g.S.Store.state c.args.store.now) (g.S.Store.state c.abort.new.self) c.abort.ensures.does

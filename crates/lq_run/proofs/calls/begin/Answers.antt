@@ -1,0 +1,5 @@
+use Rattle.lq_run.proofs.ToldCalls.{begin_told}
+use Rattle.lq_run.proofs.calls.begin.Goals as goal
+
+pub returns-clause-does : goal.returns-clause-does
+returns-clause-does g c = begin_told c.args.dialect c.args.session (g.S.Store.state c.args.store.now) (g.S.Store.state c.begin.new.self) c.begin.result c.requires.closed c.begin.ensures.does

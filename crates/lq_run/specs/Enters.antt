@@ -1,0 +1,34 @@
+-- How the next turn of a command is entered.
+use Rattle.std.specs.Prelude.{List, [], false, ◌∷◌, ◌≡◌, ◌≢◌}
+use Rattle.lq_base.specs.declared.dialect.Dialect.{Dialect}
+use Rattle.lq_model.specs.Catalogue.{Catalogue}
+use Rattle.lq_track.specs.Database.{Database}
+use Rattle.lq_turns.specs.Contents.{Contents, contents_of}
+use Rattle.lq_turns.specs.Held.{StandsFor}
+use Rattle.lq_turns.specs.Rest.{Place, Turns, between, rest}
+use Rattle.lq_turns.specs.Script.{closing}
+use Rattle.lq_turns.specs.Set.{Meaning}
+use Rattle.lq_turns.specs.declared.call.Call.{Call}
+use Rattle.lq_turns.specs.declared.stamp.Stamp.{Stamp}
+use Rattle.lq_run.specs.Moves.{AreTurns, calls_left, place_of}
+use Rattle.lq_run.specs.declared.hand.Hand.{Hand}
+use Rattle.lq_run.specs.declared.hand.Phase.TheVariants as phase
+use Rattle.lq_run.specs.declared.source.Entered.{Entered}
+use Rattle.lq_run.specs.declared.source.Entered.TheVariants as entered
+
+-- a turn in hand, of which no call is made
+pub record IsTurn (d : Dialect) (hand : Hand) : Type 0 where
+  pub inside : hand.phase ≡ phase.Inside
+  pub left : hand.calls ≢ []
+  pub turn : AreTurns d false (calls_left hand)
+
+module _ {Key : Type 0} (d : Dialect) (m : Meaning Key) (stamp : Stamp) where
+  -- the calls to come where so much is committed, and nothing begun
+  abbrev pub rest_at : Place Key → Contents → List Call
+  rest_at p c = rest d m stamp p (c, c)
+
+  -- what is seen is a database: the next turn is entered, and the calls to come stay the same; or there is no turn
+  abbrev pub Enters : Turns Key → Catalogue → Entered → Turns Key → Type 0
+  Enters turns seen (entered.Turn hand) after = IsTurn d hand × ((database : Database) → StandsFor d seen database → rest_at (between turns) (contents_of database) ≡ rest_at (place_of hand after) (contents_of database))
+  Enters turns seen entered.NoTurn after = (database : Database) → StandsFor d seen database → rest_at (between turns) (contents_of database) ≡ closing ∷ []
+  Enters turns seen entered.Lack after = Unit {0}

@@ -1,0 +1,4 @@
+pub mod Stands
+pub mod Does
+pub mod Moves
+pub mod Enters

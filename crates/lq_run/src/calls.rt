@@ -1,0 +1,132 @@
+ghost use Rattle.std.specs.Prelude.{◌≡◌, ◌++◌, IfOk, IsTrue, OnOk, false, true};
+ghost use Rattle.lq_run.specs.Does.{AbortFor, AllRead, AllWritable, AloneFor, BeginFor, CommitFor, DoesFor, IsRead, IsWritable};
+ghost use Rattle.lq_run.specs.Stands.{text_by, texts_of};
+ghost use Rattle.lq_store.specs.State.{is_open};
+
+use crate::deed::{caller, print};
+use lq_base::{Dialect, Items, NoMemory};
+use lq_model::{ByText, Room, SqlText, StoreFault};
+use lq_store::Store;
+use lq_turns::Deed;
+use std::alloc::Global;
+
+/// Does a deed in the session's transaction.
+pub fn do_deed<S: Store, P: SqlText>(
+    alloc: Global,
+    session: u32,
+    store: &mut S,
+    sql: &P,
+    dialect: Dialect,
+    deed: &Deed,
+) -> Result<(), StoreFault>
+    requires valid { S.valid store.old }
+    requires live { IsTrue (S.state store.old).live }
+    requires open_here { is_open session (S.state store.old).begun ≡ true }
+    requires sql { P.dialect ≡ dialect }
+    requires writable { IsWritable dialect deed.now }
+    ensures valid { S.valid store.new }
+    ensures does { DoesFor dialect session deed.now (S.state store.old) result (S.state store.new) }
+{
+    let Ok(text) = print(alloc, sql, dialect, deed) else {
+        return Err(StoreFault::OutOfMemory);
+    };
+    match store.execute(session, caller(deed), text.as_str()) {
+        Ok(_) => Ok(()),
+        Err(fault) => Err(fault),
+    }
+}
+
+/// Commits the session's transaction.
+pub fn commit<S: Store>(session: u32, store: &mut S, dialect: Dialect) -> Result<(), StoreFault>
+    requires valid { S.valid store.old }
+    requires live { IsTrue (S.state store.old).live }
+    requires open_here { is_open session (S.state store.old).begun ≡ true }
+    ensures valid { S.valid store.new }
+    ensures does { CommitFor dialect session (S.state store.old) result (S.state store.new) }
+{
+    store.commit(session)
+}
+
+/// Opens a transaction of the session.
+pub fn begin<S: Store>(session: u32, store: &mut S, dialect: Dialect) -> Result<(), StoreFault>
+    requires valid { S.valid store.old }
+    requires live { IsTrue (S.state store.old).live }
+    requires closed { is_open session (S.state store.old).begun ≡ false }
+    ensures valid { S.valid store.new }
+    ensures does { BeginFor dialect session (S.state store.old) result (S.state store.new) }
+{
+    store.begin(session)
+}
+
+/// Takes the session's transaction back.
+pub fn abort<S: Store>(session: u32, store: &mut S, dialect: Dialect)
+    requires valid { S.valid store.old }
+    requires live { IsTrue (S.state store.old).live }
+    requires open_here { is_open session (S.state store.old).begun ≡ true }
+    ensures valid { S.valid store.new }
+    ensures does { AbortFor dialect session (S.state store.old) (S.state store.new) }
+{
+    store.abort(session);
+}
+
+/// Does deeds in a transaction of their own.
+pub fn do_alone<S: Store, P: SqlText>(
+    alloc: Global,
+    session: u32,
+    store: &mut S,
+    sql: &P,
+    dialect: Dialect,
+    deeds: &[Deed],
+    room: Room,
+) -> Result<(), StoreFault>
+    requires valid { S.valid store.old }
+    requires live { IsTrue (S.state store.old).live }
+    requires closed { is_open session (S.state store.old).begun ≡ false }
+    requires sql { P.dialect ≡ dialect }
+    requires writable { AllWritable dialect deeds.now }
+    ensures valid { S.valid store.new }
+    ensures does { AloneFor dialect session deeds.now room (S.state store.old) result (S.state store.new) }
+{
+    let mut texts = Items::new(alloc);
+    let Ok(()) = print_all(alloc, sql, dialect, deeds, &mut texts) else {
+        return Err(StoreFault::OutOfMemory);
+    };
+    store.alone(session, texts.as_slice(), room)
+}
+
+fn print_all<P: SqlText>(
+    alloc: Global,
+    sql: &P,
+    dialect: Dialect,
+    deeds: &[Deed],
+    texts: &mut Items<ByText>,
+) -> Result<(), NoMemory>
+    requires sql { P.dialect ≡ dialect }
+    requires writable { AllWritable dialect deeds.now }
+    ensures texts { OnOk result (texts.new ≡ texts.old ++ texts_of dialect deeds.now) }
+    ensures read { OnOk result (AllRead dialect deeds.now) }
+{
+    match deeds {
+        [] => Ok(()),
+        [deed, more @ ..] => {
+            texts.push(by_text(alloc, sql, dialect, deed)?)?;
+            print_all(alloc, sql, dialect, more, texts)
+        }
+    }
+}
+
+fn by_text<P: SqlText>(
+    alloc: Global,
+    sql: &P,
+    dialect: Dialect,
+    deed: &Deed,
+) -> Result<ByText, NoMemory>
+    requires sql { P.dialect ≡ dialect }
+    requires writable { IsWritable dialect deed.now }
+    ensures text { IfOk result (λ text. text ≡ text_by dialect deed.now) }
+    ensures read { IfOk result (λ text. IsRead dialect deed.now) }
+{
+    let by = caller(deed);
+    let text = print(alloc, sql, dialect, deed)?;
+    Ok(ByText { by, text })
+}
