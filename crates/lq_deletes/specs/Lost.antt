@@ -63,9 +63,3 @@ IsRound c some e = (some ≡ has_lost c) × (e ≡ without_lost c)
 abbrev pub Reaches : Bool → Catalogue → Catalogue → Type 0
 Reaches true c e = (x : Catalogue) → EndsIn e x → EndsIn c x
 Reaches false c e = EndsIn c e
-
-abbrev pub RoundsEnd : Type 0
-RoundsEnd = (c : Catalogue) → has_lost c ≡ false → EndsIn c c
-
-abbrev pub RoundsGoOn : Type 0
-RoundsGoOn = (c e : Catalogue) → has_lost c ≡ true → EndsIn (without_lost c) e → EndsIn c e
