@@ -1,5 +1,5 @@
 -- Rounds of a cascade.
-use Rattle.std.proofs.Common.{ap, arith, sym, ◌∙◌}
+use Rattle.std.proofs.Common.{ap, arith, subst, sym, ◌∙◌}
 use Rattle.std.proofs.lemmas.List.Sums.{sum-map, sum_by-cons}
 use Rattle.std.specs.List.{filter, list_any}
 use Rattle.std.specs.Prelude.{Bool, List, [], cond, false, length, map, not, refl, suc, sum, true, zero, ℕ, ◌+◌, ◌<◌, ◌||◌, ◌∷◌, ◌≡◌, ◌≤◌}
@@ -7,7 +7,7 @@ use Rattle.lq_base.specs.declared.name.Name.{Name}
 use Rattle.lq_model.specs.Catalogue.{Catalogue, Table}
 use Rattle.lq_model.specs.Delete.{cascaded, is_lost, row_count, without_lost, without_lost_in}
 use Rattle.lq_model.proofs.Lists.{any_less, filter_kept, or_left, or_right, whether}
-use Rattle.lq_deletes.specs.Lost.{EndsIn, has_lost, loses_row}
+use Rattle.lq_deletes.specs.Lost.{EndsIn, IsRound, Reaches, has_lost, loses_row}
 
 abbrev pub rest_of : Catalogue → Name × Table → Name × Table
 rest_of c e = (e.0, without_lost_in c e.1)
@@ -86,3 +86,12 @@ ended c none n le = rounds_same n c none
 pub one_round : (c e : Catalogue) → has_lost c ≡ true → EndsIn (without_lost c) e → EndsIn c e
 one_round c e some ends zero le = let l = fewer c some in absurd (omega (arith, l, le))
 one_round c e some ends (suc n) le = let l = fewer c some in ends n (omega (arith, l, le))
+
+-- a round more
+pub goes_round : (c now new : Catalogue) (some : Bool) → Reaches true c now → IsRound now some new → Reaches some c new
+goes_round c now new true reaches is = λ x ends. reaches x (one_round now x (sym is.0) (subst (λ e. EndsIn e x) is.1 ends))
+goes_round c now new false reaches is = subst (EndsIn c) (sym (is.1 ∙ round_same now (sym is.0))) (reaches now (ended now (sym is.0)))
+
+pub round_less : (now new : Catalogue) (some : Bool) → IsRound now some new → row_count new + cond some 1 0 < row_count now + 1
+round_less now new true is = let less = fewer now (sym is.0) in let same : row_count new ≡ row_count (without_lost now) = ap row_count is.1 in omega (arith, less, same)
+round_less now new false is = let same : row_count new ≡ row_count now = ap row_count (is.1 ∙ round_same now (sym is.0)) in omega (arith, same)

@@ -1,12 +1,11 @@
-//! What DELETE is asked: what it says, and whether a row has lost its parent.
+//! What DELETE does, with the rows that go with their parents.
 #![tactic(auto)]
 
+mod cascade;
 mod deleting;
-pub mod laws;
+mod loss;
 mod lost;
 mod orphan;
 mod tested;
 
-pub use deleting::{len_of, stated, take};
-pub use lost::{all_cascading, is_lost};
-pub use orphan::has_orphans;
+pub use deleting::delete_from;

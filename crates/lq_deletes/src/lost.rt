@@ -1,13 +1,14 @@
 ghost use Rattle.std.specs.List.{list_any};
-ghost use Rattle.std.specs.Prelude.{◌≡◌, ◌&&◌, IfOk};
+ghost use Rattle.std.specs.Prelude.{◌≡◌, ◌&&◌, IfOk, map, not};
 ghost use Rattle.lq_model.specs.ResultTests.{lacks_parent};
-ghost use Rattle.lq_deletes.specs.Lost.{AreParents, IsParents};
+ghost use Rattle.lq_deletes.specs.Lost.{AreParents, IsParents, staying};
 
 use crate::orphan::parents;
 use lq_base::{NoMemory, Value};
+use lq_chain::Chain;
 use lq_model::{Column, ForeignKey};
 use lq_parts::Parts;
-use lq_rows::{Values, has_null, picked};
+use lq_rows::{Held, Row, Values, has_null, picked};
 use std::alloc::Global;
 use std::collections::BTreeSet;
 
@@ -26,7 +27,7 @@ fn cascading(
 }
 
 /// The same for each of these foreign keys.
-pub fn all_cascading(
+fn all_cascading(
     alloc: Global,
     parts: &Parts,
     keys: &[ForeignKey],
@@ -67,7 +68,7 @@ fn loses(
 
 /// Whether a row has lost the parent that it goes with by one of these foreign keys, by what is known
 /// of the rows that they aim at.
-pub fn is_lost(
+fn is_lost(
     alloc: Global,
     parts: &Parts,
     columns: &[Column],
@@ -88,4 +89,37 @@ pub fn is_lost(
         return Ok(true);
     }
     is_lost(alloc, parts, columns, keys, all, row)
+}
+
+fn stay(
+    alloc: Global,
+    parts: &Parts,
+    columns: &[Column],
+    keys: &[ForeignKey],
+    all: &[Option<BTreeSet<Values>>],
+    rows: &Chain<Row>,
+) -> Result<Vec<bool>, NoMemory>
+    requires { AreParents parts.now.now keys.now all.now }
+    ensures { IfOk result (λ marks. marks.items ≡ map (λ row. not (list_any (λ f. f.cascade && lacks_parent parts.now.now columns.now f row) keys.now)) rows.now.now) }
+{
+    let mut marks = Vec::new(alloc);
+    for row in rows.iter() {
+        marks.push(!is_lost(alloc, parts, columns, keys, all, row.as_slice())?)?;
+    }
+    Ok(marks)
+}
+
+/// For each row of the table whether it has not lost a parent that it goes with.
+pub fn staying(alloc: Global, parts: &Parts, held: &Held) -> Result<Vec<bool>, NoMemory>
+    ensures { IfOk result (λ marks. marks.items ≡ staying parts.now.now held.now.now) }
+{
+    let all = all_cascading(alloc, parts, held.foreign_keys())?;
+    stay(
+        alloc,
+        parts,
+        held.columns(),
+        held.foreign_keys(),
+        &all,
+        held.rows(),
+    )
 }

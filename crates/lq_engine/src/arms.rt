@@ -3,6 +3,7 @@ ghost use Rattle.lq_model.specs.Step.{step};
 ghost use Rattle.lq_rows.specs.Answers.{Carries};
 
 use lq_base::Dialect;
+use lq_deletes::delete_from;
 use lq_model::{By, Statement};
 use lq_parts::{Parts, RunFault};
 use lq_rowops::{insert_into, update};
@@ -38,6 +39,7 @@ pub fn carry_out(
         Statement::Update { table, sets, test } => {
             update(parts, alloc, by, dialect, table, sets.as_slice(), test)
         }
+        Statement::Delete { table, test } => { delete_from(parts, alloc, by, dialect, table, test) }
         // Not written yet: a fault of memory may come at any time, and changes nothing.
         _ => Err(RunFault::OutOfMemory),
     }

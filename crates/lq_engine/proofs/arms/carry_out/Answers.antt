@@ -6,3 +6,6 @@ returns-in-Insert c = rw (c.in-Insert.is, ← c.as_slice.ensures, ← c.as_slice
 
 pub returns-in-Update : goal.returns-in-Update
 returns-in-Update c = rw (c.in-Update.is, ← c.as_slice-in-Update.ensures) c.update.ensures
+
+pub returns-in-Delete : goal.returns-in-Delete
+returns-in-Delete c = rw (c.in-Delete.is) c.delete_from.ensures
