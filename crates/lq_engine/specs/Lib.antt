@@ -1,3 +1,4 @@
 pub mod Marks
 pub mod State
 pub mod Shown
+pub mod Users

@@ -17,7 +17,7 @@ use std::marker::Model;
 #[derive(Drop)]
 pub struct Engine {
     alloc: Global,
-    dialect: Dialect,
+    pub(crate) dialect: Dialect,
     pub(crate) parts: Parts,
     /// The mark of the parts before each statement since the last `forget`, the newest last.
     starts: Vec<u64>,

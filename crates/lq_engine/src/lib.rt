@@ -1,8 +1,10 @@
 //! The engine: a catalogue that statements change, and that can go back.
 #![tactic(auto)]
 
+mod apart;
 mod arms;
 mod engine;
+mod executor;
 mod look;
 mod source;
 
