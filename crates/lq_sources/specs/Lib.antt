@@ -1,2 +1,6 @@
+pub mod Answers
+pub mod Faults
+pub mod Items
 pub mod Paths
+pub mod SoFar
 pub mod Values
