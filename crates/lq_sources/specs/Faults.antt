@@ -1,9 +1,9 @@
 -- Faults of a loading.
-use Rattle.std.specs.Prelude.{Bool, Err, List, Ok, Result, cond, false, true, ℕ, ◌≡◌, ◌⊎◌}
+use Rattle.std.specs.Prelude.{Bool, Err, List, Ok, Result, cond, false, true, ℕ}
 use Rattle.lq_base.specs.declared.fault.KindFault.TheVariants as kind
 use Rattle.lq_outside.specs.declared.files.FilesFault.{FilesFault}
 use Rattle.lq_outside.specs.declared.files.FilesFault.TheVariants as files
-use Rattle.lq_tree.specs.Found.{Found, within}
+use Rattle.lq_tree.specs.Found.{Found, placed}
 use Rattle.lq_sources.specs.declared.fault.LoadFault.{LoadFault}
 use Rattle.lq_sources.specs.declared.fault.LoadFault.TheVariants.{Fault, OutOfMemory, Read}
 use Rattle.lq_sources.specs.declared.fault.What.{What}
@@ -41,8 +41,11 @@ abbrev pub by_keys : {A : Type 0} → Found A → Result A What
 by_keys (Ok a) = Ok a
 by_keys (Err fault) = Err (Key fault)
 
--- the place of a fault of a tree, below another place
+-- what is wrong in a tree, with its place below another one
+abbrev pub placed_what : List ℕ → What → What
+placed_what place (Key fault) = Key (placed place fault)
+placed_what place what = what
+
 abbrev pub at_place : {A : Type 0} → List ℕ → Result A What → Result A What
 at_place place (Ok a) = Ok a
-at_place place (Err (Key fault)) = by_keys (within place (Err fault))
-at_place place (Err what) = Err what
+at_place place (Err what) = Err (placed_what place what)

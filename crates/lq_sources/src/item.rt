@@ -49,7 +49,7 @@ fn read_included(alloc: Global, node: &Node) -> Result<Included, KindFault>
 
 #[tactic(auto, unfolding(crate::specs::Items::property))]
 fn read_property<G: Gather>(alloc: Global, gather: &G, node: &Node) -> Result<Property, KindFault>
-    ensures { Reads (property (G.here gather.now) node.now) result }
+    ensures { Reads (property (G.means gather.now).here node.now) result }
 {
     known(alloc, node, &["name", "value", "global", "dbms"])?;
     let name: Text = required(alloc, node, "name")?;
@@ -72,7 +72,7 @@ pub fn item_at<G: Gather>(
     key: &str,
     node: &Node,
 ) -> Result<Item, KindFault>
-    ensures { Reads (item_at (G.here gather.now) key.now node.now) result }
+    ensures { Reads (item_at (G.means gather.now).here key.now node.now) result }
 {
     match key {
         "include" => match read_included(alloc, node) {

@@ -2,9 +2,11 @@
 //! in them.
 #![tactic(auto)]
 
+mod blame;
 mod fault;
 mod gather;
 mod item;
+mod opening;
 mod path;
 mod reading;
 mod values;
