@@ -22,6 +22,11 @@ abbrev pub Loads : {A : Type 0} → Loaded A → Loaded A → Type 0
 Loads meant (Ok a) = meant ≡ Ok a
 Loads meant (Err fault) = ((fault ≡ OutOfMemory) ⊎ (meant ≡ Err fault)) × (is_read fault ≡ false)
 
+-- the same of a reading that changes what is held
+abbrev pub Holds : {A B : Type 0} → Loaded A → Loaded B → A → Type 0
+Holds meant (Ok _) new = meant ≡ Ok new
+Holds meant (Err fault) new = ((fault ≡ OutOfMemory) ⊎ (meant ≡ Err fault)) × (is_read fault ≡ false)
+
 -- the answer of a reading that is meant so where the files hold a source
 abbrev pub Answers : {A B : Type 0} → Option Source → (Source → Loaded A) → Loaded B → A → Type 0
 Answers told meant (Ok _) new = (source : Source) → told ≡ Some source → meant source ≡ Ok new

@@ -9,7 +9,7 @@ use Rattle.lq_sources.specs.Faults.{Loaded, at_place, by_keys, in_file, ◌>>=�
 use Rattle.lq_sources.specs.Items.{entry_of, item_at, items_of, place}
 use Rattle.lq_sources.specs.Meaning.{Meaning}
 use Rattle.lq_sources.specs.Paths.{format_of, is_xml, joined, plain}
-use Rattle.lq_sources.specs.SoFar.{SoFar, nothing_yet, with_file, with_property, with_set}
+use Rattle.lq_sources.specs.SoFar.{SoFar, nothing_yet, so_far, with_file, with_property, with_set}
 use Rattle.lq_sources.specs.Values.{filled, value_in}
 use Rattle.lq_sources.specs.declared.fault.LoadFault.{LoadFault}
 use Rattle.lq_sources.specs.declared.fault.LoadFault.TheVariants.{Fault, NoFile, TooDeep, TooLong, TooMany, Xml}
@@ -17,6 +17,7 @@ use Rattle.lq_sources.specs.declared.fault.What.TheVariants.{BadPath, Key, Unkno
 use Rattle.lq_sources.specs.declared.item.Item.{Item}
 use Rattle.lq_sources.specs.declared.item.Item.TheVariants.{Include, Other, Property}
 use Rattle.lq_sources.specs.declared.path.Format.{Format}
+use Rattle.lq_sources.specs.declared.reading.Reading.{Reading}
 
 -- the items of a list with their places, counted from i, up to the first fault
 abbrev pub each_from : {A S : Type 0} → (ℕ → A → S → Loaded S) → ℕ → List A → S → Loaded S
@@ -42,7 +43,7 @@ unfoldable pub written : List ℕ → Loaded Format
 written path = if is_xml path then Err (Xml path) else elim (format_of path) [ None ↦ Err (Fault path UnknownFormat) | Some format ↦ Ok format ]
 
 -- a path is tested before its file is read
-unfoldable pub may_open : List ℕ → ℕ → SoFar → Loaded Format
+abbrev pub may_open : List ℕ → ℕ → SoFar → Loaded Format
 may_open path levels s = written path >>= (λ format.
     if levels == 0 then Err (TooDeep path) else if nat_le 10000 s.files then Err TooMany else Ok format)
 
@@ -59,6 +60,9 @@ pub record Held (G : Type 0) : Type 0 where
   pub counts : SoFar
   pub gathered : G
 
+abbrev pub held : {G : Type 0} → Reading → G → Held G
+held reading gathered = record { counts = so_far reading; gathered = gathered }
+
 abbrev pub is_set : List ℕ → Bool
 is_set key = bytes_eq key (codes "changeSet")
 
@@ -72,14 +76,14 @@ module _ {G : Type 0} (m : Meaning G) where
   item_read path i key n = in_file path (at_place (place i) (by_keys (item_at m.here key n)))
 
   -- an item that is gathered; a changeset too many is none before its keys are looked at
-  unfoldable pub gathered : Bool → List ℕ → ℕ → List ℕ → Node → Held G → Loaded (Held G)
-  gathered is_root path i key n s =
+  unfoldable pub item_gathered : Bool → List ℕ → ℕ → List ℕ → Node → Held G → Loaded (Held G)
+  item_gathered is_root path i key n s =
       if is_set key && nat_le 10000 s.counts.sets then Err TooMany
       else (in_file path (at_place (place i) (m.gathers is_root path key n s.gathered)) >>= (λ found.
       Ok (record { counts = cond (is_set key) (with_set s.counts) s.counts; gathered = found })))
 
   -- the items of a file's bytes: its whole tree is read before them
-  unfoldable pub items_read : List ℕ → Format → List ℕ → Loaded (List Node)
+  abbrev pub items_read : List ℕ → Format → List ℕ → Loaded (List Node)
   items_read path format bytes = in_file path (m.tree format bytes) >>= (λ tree. in_file path (by_keys (items_of tree)))
 
   module _ (include : List ℕ → Held G → Loaded (Held G)) where
@@ -87,7 +91,7 @@ module _ {G : Type 0} (m : Meaning G) where
     abbrev pub bring : Bool → List ℕ → ℕ → List ℕ → Node → Item → Held G → Loaded (Held G)
     bring is_root path i key n (Include it) s = target (joined path it.relative it.path) >>= (λ p. include p s)
     bring is_root path i key n (Property it) s = Ok (record { counts = with_property path it s.counts; gathered = s.gathered })
-    bring is_root path i key n Other s = gathered is_root path i key n s
+    bring is_root path i key n Other s = item_gathered is_root path i key n s
 
     abbrev pub take_entry : Bool → List ℕ → ℕ → List ℕ → Node → Held G → Loaded (Held G)
     take_entry is_root path i key n s = item_read path i key n >>= (λ item. bring is_root path i key n item s)

@@ -9,7 +9,9 @@ mod item;
 mod opening;
 mod path;
 mod reading;
+mod taking;
 mod values;
+mod walking;
 
 pub use fault::{LoadFault, What};
 pub use gather::Gather;
@@ -17,3 +19,4 @@ pub use item::{Included, Item, Property, entry_of, item_at, items_of, place_of};
 pub use path::{Format, format_of, is_xml, joined, plain};
 pub use reading::Reading;
 pub use values::filled;
+pub use walking::walk;

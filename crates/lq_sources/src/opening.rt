@@ -1,9 +1,9 @@
 ghost use Rattle.std.specs.Prelude.{◌≡◌, ◌≤◌, ◌<◌, ◌+◌, length, IfOk, IsErrOf};
 ghost use Rattle.lq_outside.specs.Count.{Rose};
-ghost use Rattle.lq_sources.specs.Answers.{Finds, Loads, map_ok};
+ghost use Rattle.lq_sources.specs.Answers.{Finds, Holds, Loads};
 ghost use Rattle.lq_sources.specs.Paths.{joined};
 ghost use Rattle.lq_sources.specs.SoFar.{so_far};
-ghost use Rattle.lq_sources.specs.Walk.{bytes_read, entry_at, item_read, items_read, may_name, may_open, named, target, written};
+ghost use Rattle.lq_sources.specs.Walk.{bytes_read, may_name, may_open, named, target, written};
 ghost use Rattle.lq_sources.specs.declared.fault.LoadFault.TheVariants.{Read};
 
 use crate::fault::{LoadFault, What};
@@ -22,7 +22,7 @@ fn may_name(path: &str) -> bool
 }
 
 /// A path that may name a file.
-pub fn named(path: Text) -> Result<Text, LoadFault>
+fn named(path: Text) -> Result<Text, LoadFault>
     ensures { result ≡ named path }
 {
     if may_name(path.as_str()) {
@@ -30,6 +30,19 @@ pub fn named(path: Text) -> Result<Text, LoadFault>
     }
     Err(LoadFault::Fault {
         path,
+        what: What::BadPath,
+    })
+}
+
+/// Tests that the path of the root may name a file.
+pub fn test_root(alloc: Global, root: &str) -> Result<(), LoadFault>
+    ensures { Holds (named root.now) result root.now }
+{
+    if may_name(root) {
+        return Ok(());
+    }
+    Err(LoadFault::Fault {
+        path: Text::new(alloc, root)?,
         what: What::BadPath,
     })
 }
@@ -67,7 +80,6 @@ fn written(alloc: Global, path: &str) -> Result<Format, LoadFault>
 }
 
 /// Tests a path before its file is read.
-#[tactic(auto, unfolding(crate::specs::Walk::may_open))]
 pub fn may_open(
     alloc: Global,
     path: &str,
