@@ -1,5 +1,5 @@
 -- What the files of a loading mean, step by step.
-use Rattle.std.proofs.Common.{◌≡◌, ◌⊎◌, ◌<◌, ◌≤◌, ◌+◌, ◌-◌, zero, suc, List, ℕ, ◌∷◌, ◌∙◌, refl, sym, ap, subst, drop, length, inl, inr, Option, Some, Result, Ok, Err, Bool, true, false, arith}
+use Rattle.std.proofs.Common.{◌≡◌, ◌⊎◌, ◌<◌, ◌≤◌, ◌+◌, ◌-◌, zero, suc, List, ℕ, ◌∙◌, refl, sym, ap, subst, drop, length, inl, inr, Option, Some, Ok, Err, Bool, false, arith}
 use Rattle.std.specs.Prelude.{cond, if◌then◌else◌, nat_le, slice_index_or, ◌&&◌}
 use Rattle.std.proofs.Math.Nat.{le_trans}
 use Rattle.std.proofs.Math.Seq.{drop-cons}

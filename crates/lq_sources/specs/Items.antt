@@ -4,7 +4,7 @@ use Rattle.std.specs.Option.{unwrap_or}
 use Rattle.std.specs.Prelude.{true}
 use Rattle.std.specs.Str.{bytes_eq}
 use Rattle.lq_base.specs.declared.fault.KindFault.TheVariants.{Bad}
-use Rattle.lq_tree.specs.Found.{Found, Taken, and_then, map_found, within}
+use Rattle.lq_tree.specs.Found.{Found, Taken, and_then, within}
 use Rattle.lq_tree.specs.Given.{a_text, a_truth}
 use Rattle.lq_tree.specs.Items.{item_path}
 use Rattle.lq_tree.specs.Keys.{at_optional, at_required, known}

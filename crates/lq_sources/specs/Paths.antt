@@ -1,6 +1,6 @@
 -- Paths of the files of a changelog.
 use Rattle.std.specs.Prelude.{◌≡◌, ℕ, Bool, true, false, ◌||◌, ◌==◌, List, [], ◌∷◌, ◌++◌, Option, Some, None, option_map, option_and_then, eqb, if◌then◌else◌, codes}
-use Rattle.std.specs.List.{ends_with, list_any, slice_split, starts_with}
+use Rattle.std.specs.List.{ends_with, slice_split, starts_with}
 use Rattle.std.specs.Str.{bytes_eq}
 use Rattle.lq_sources.specs.declared.path.Format.{Format}
 use Rattle.lq_sources.specs.declared.path.Format.TheVariants.{Json, Yaml, Sql}

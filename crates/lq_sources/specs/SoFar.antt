@@ -1,7 +1,6 @@
 -- What was read so far.
-use Rattle.std.specs.Prelude.{Bool, List, None, Option, [], cond, ℕ, ◌+◌, ◌∷◌}
+use Rattle.std.specs.Prelude.{List, None, [], cond, ℕ, ◌+◌, ◌∷◌}
 use Rattle.lq_props.specs.Props.{defines, own}
-use Rattle.lq_props.specs.declared.scope.Scope.{Scope}
 use Rattle.lq_props.specs.declared.scope.Scope.TheVariants.{Command, File, Global}
 use Rattle.lq_sources.specs.Values.{Values}
 use Rattle.lq_sources.specs.declared.item.Property.{Property}

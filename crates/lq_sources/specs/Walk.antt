@@ -1,5 +1,5 @@
 -- What the files below a root bring, or the first fault.
-use Rattle.std.specs.Prelude.{Bool, Err, List, None, Ok, Option, Result, Some, [], codes, cond, false, if◌then◌else◌, length, nat_le, nat_lt, not, suc, true, zero, ℕ, ◌&&◌, ◌+◌, ◌==◌, ◌∷◌}
+use Rattle.std.specs.Prelude.{Bool, Err, List, None, Ok, Option, Some, [], codes, cond, false, if◌then◌else◌, length, nat_le, nat_lt, not, suc, true, zero, ℕ, ◌&&◌, ◌+◌, ◌==◌, ◌∷◌}
 use Rattle.std.specs.Str.{bytes_eq}
 use Rattle.lq_base.specs.Character.{char_count, has_control}
 use Rattle.lq_base.specs.declared.fault.KindFault.TheVariants.{Bad}
@@ -11,7 +11,6 @@ use Rattle.lq_sources.specs.Meaning.{Meaning}
 use Rattle.lq_sources.specs.Paths.{format_of, is_xml, joined, plain}
 use Rattle.lq_sources.specs.SoFar.{SoFar, nothing_yet, so_far, with_file, with_property, with_set}
 use Rattle.lq_sources.specs.Values.{filled, value_in}
-use Rattle.lq_sources.specs.declared.fault.LoadFault.{LoadFault}
 use Rattle.lq_sources.specs.declared.fault.LoadFault.TheVariants.{Fault, NoFile, TooDeep, TooLong, TooMany, Xml}
 use Rattle.lq_sources.specs.declared.fault.What.TheVariants.{BadPath, Key, UnknownFormat}
 use Rattle.lq_sources.specs.declared.item.Item.{Item}

@@ -1,5 +1,4 @@
-use Rattle.std.proofs.Common.{rules, ◌≡◌, sym, subst, map}
-use Rattle.std.specs.Prelude.{is_some}
+use Rattle.std.proofs.Common.{sym, subst, map}
 use Rattle.lq_sources.specs.Paths.{Enters, without_last}
 use Rattle.lq_sources.proofs.Paths.{popped}
 use Rattle.lq_sources.proofs.path.leave.Goals as goal

@@ -1,4 +1,4 @@
-use Rattle.std.proofs.Common.{◌≡◌, ◌≤◌, ◌+◌, ◌*◌, drop, false}
+use Rattle.std.proofs.Common.{◌+◌, ◌*◌, drop, false}
 use Rattle.lq_sources.specs.Walk.{each_from, file, held, take_item}
 use Rattle.lq_sources.proofs.Steps.{Gone}
 use Rattle.lq_sources.proofs.walking.+file.Given as goal
