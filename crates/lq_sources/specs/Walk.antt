@@ -1,0 +1,123 @@
+-- What the files below a root bring, or the first fault.
+use Rattle.std.specs.Prelude.{Bool, Err, List, None, Ok, Option, Some, [], codes, cond, false, if◌then◌else◌, length, nat_le, nat_lt, not, suc, true, zero, ℕ, ◌&&◌, ◌+◌, ◌==◌, ◌∷◌}
+use Rattle.std.specs.Str.{bytes_eq}
+use Rattle.lq_base.specs.Character.{char_count, has_control}
+use Rattle.lq_base.specs.declared.fault.KindFault.TheVariants.{Bad}
+use Rattle.lq_tree.specs.declared.node.Node.{Node}
+use Rattle.lq_sources.specs.Answers.{Source}
+use Rattle.lq_sources.specs.Faults.{Loaded, at_place, by_keys, in_file, ◌>>=◌}
+use Rattle.lq_sources.specs.Items.{entry_of, item_at, items_of, place}
+use Rattle.lq_sources.specs.Meaning.{Meaning}
+use Rattle.lq_sources.specs.Paths.{format_of, is_xml, joined, plain}
+use Rattle.lq_sources.specs.SoFar.{SoFar, nothing_yet, so_far, with_file, with_property, with_set}
+use Rattle.lq_sources.specs.Values.{filled, value_in}
+use Rattle.lq_sources.specs.declared.fault.LoadFault.TheVariants.{Fault, NoFile, TooDeep, TooLong, TooMany, Xml}
+use Rattle.lq_sources.specs.declared.fault.What.TheVariants.{BadPath, Key, UnknownFormat}
+use Rattle.lq_sources.specs.declared.item.Item.{Item}
+use Rattle.lq_sources.specs.declared.item.Item.TheVariants.{Include, Other, Property}
+use Rattle.lq_sources.specs.declared.path.Format.{Format}
+use Rattle.lq_sources.specs.declared.reading.Reading.{Reading}
+
+-- the items of a list with their places, counted from i, up to the first fault
+abbrev pub each_from : {A S : Type 0} → (ℕ → A → S → Loaded S) → ℕ → List A → S → Loaded S
+each_from take i [] s = Ok s
+each_from take i (x ∷ xs) s = take i x s >>= each_from take (suc i) xs
+
+-- ---- paths
+
+-- 1 to 255 characters, none a control character
+abbrev pub may_name : List ℕ → Bool
+may_name path = nat_le 1 (char_count path) && (nat_le (char_count path) 255 && not (has_control path))
+
+-- a path that may name a file
+abbrev pub named : List ℕ → Loaded (List ℕ)
+named path = if may_name path then Ok path else Err (Fault path BadPath)
+
+-- the path that an include leads to: it stays within the folders that it names, and may name a file
+unfoldable pub target : List ℕ → Loaded (List ℕ)
+target path = elim (plain path) [ None ↦ Err (Fault path BadPath) | Some p ↦ named p ]
+
+-- what the file at a path is written in
+unfoldable pub written : List ℕ → Loaded Format
+written path = if is_xml path then Err (Xml path) else elim (format_of path) [ None ↦ Err (Fault path UnknownFormat) | Some format ↦ Ok format ]
+
+-- a path is tested before its file is read
+abbrev pub may_open : List ℕ → ℕ → SoFar → Loaded Format
+may_open path levels s = written path >>= (λ format.
+    if levels == 0 then Err (TooDeep path) else if nat_le 10000 s.files then Err TooMany else Ok format)
+
+-- the bytes of a file that may be read
+unfoldable pub bytes_read : List ℕ → Option (List ℕ) → SoFar → Loaded (List ℕ)
+bytes_read path None s = Err (NoFile path)
+bytes_read path (Some bytes) s =
+    if nat_lt 16777216 (length bytes) then Err (TooLong path) else if nat_lt 67108864 (s.bytes + length bytes) then Err (TooLong path) else Ok bytes
+
+-- ---- items
+
+-- what a loading holds
+pub record Held (G : Type 0) : Type 0 where
+  pub counts : SoFar
+  pub gathered : G
+
+abbrev pub held : {G : Type 0} → Reading → G → Held G
+held reading gathered = record { counts = so_far reading; gathered = gathered }
+
+abbrev pub is_set : List ℕ → Bool
+is_set key = bytes_eq key (codes "changeSet")
+
+-- an item of the file at a path is a map of one key
+unfoldable pub entry_at : List ℕ → ℕ → Node → Loaded (List ℕ × Node)
+entry_at path i n = elim (entry_of n) [ None ↦ Err (Fault path (Key (Bad (place i)))) | Some e ↦ Ok e ]
+
+module _ {G : Type 0} (m : Meaning G) where
+  -- an item by its key
+  unfoldable pub item_read : List ℕ → ℕ → List ℕ → Node → Loaded Item
+  item_read path i key n = in_file path (at_place (place i) (by_keys (item_at m.here key n)))
+
+  -- an item that is gathered; a changeset too many is none before its keys are looked at
+  unfoldable pub item_gathered : Bool → List ℕ → ℕ → List ℕ → Node → Held G → Loaded (Held G)
+  item_gathered is_root path i key n s =
+      if is_set key && nat_le 10000 s.counts.sets then Err TooMany
+      else (in_file path (at_place (place i) (m.gathers is_root path key n s.gathered)) >>= (λ found.
+      Ok (record { counts = cond (is_set key) (with_set s.counts) s.counts; gathered = found })))
+
+  -- the items of a file's bytes: its whole tree is read before them
+  abbrev pub items_read : List ℕ → Format → List ℕ → Loaded (List Node)
+  items_read path format bytes = in_file path (m.tree format bytes) >>= (λ tree. in_file path (by_keys (items_of tree)))
+
+  module _ (include : List ℕ → Held G → Loaded (Held G)) where
+    -- what an item of the file at a path brings
+    abbrev pub bring : Bool → List ℕ → ℕ → List ℕ → Node → Item → Held G → Loaded (Held G)
+    bring is_root path i key n (Include it) s = target (joined path it.relative it.path) >>= (λ p. include p s)
+    bring is_root path i key n (Property it) s = Ok (record { counts = with_property path it s.counts; gathered = s.gathered })
+    bring is_root path i key n Other s = item_gathered is_root path i key n s
+
+    abbrev pub take_entry : Bool → List ℕ → ℕ → List ℕ → Node → Held G → Loaded (Held G)
+    take_entry is_root path i key n s = item_read path i key n >>= (λ item. bring is_root path i key n item s)
+
+    -- an item, with the properties that were defined before it put into its texts
+    abbrev pub take_item : Bool → List ℕ → ℕ → Node → Held G → Loaded (Held G)
+    take_item is_root path i n s = entry_at path i (filled (value_in s.counts.values path) n) >>= (λ e. take_entry is_root path i e.0 e.1 s)
+
+    -- what the file at a path brings
+    abbrev pub contents : Source → Bool → List ℕ → Format → Held G → Loaded (Held G)
+    contents source is_root path format s =
+        bytes_read path (source path) s.counts >>= (λ bytes.
+        items_read path format bytes >>= (λ items.
+        each_from (take_item is_root path) 0 items (record { counts = with_file (length bytes) s.counts; gathered = s.gathered })))
+
+  module _ (source : Source) where
+    -- the file at a path, which is on the first of so many levels
+    abbrev pub file : ℕ → Bool → List ℕ → Held G → Loaded (Held G)
+    file zero is_root path s = may_open path 0 s.counts >>= (λ format. Err (TooDeep path))
+    file (suc levels) is_root path s = may_open path (suc levels) s.counts >>= (λ format. contents (file levels false) source is_root path format s)
+
+    -- the root, and 32 levels of includes below it
+    unfoldable pub root_file : List ℕ → Held G → Loaded (Held G)
+    root_file path s = file 33 true path s
+
+    -- what the files below a root bring to what has been gathered
+    unfoldable pub walked : List ℕ → List (List ℕ × List ℕ) → G → Loaded G
+    walked root given g =
+        named root >>= (λ path.
+        root_file path (record { counts = nothing_yet given; gathered = g }) >>= (λ s. Ok s.gathered))

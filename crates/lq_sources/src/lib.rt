@@ -1,0 +1,22 @@
+//! The files of a changelog: their paths, their includes and their properties, whatever else stands
+//! in them.
+#![tactic(auto)]
+
+mod blame;
+mod fault;
+mod gather;
+mod item;
+mod opening;
+mod path;
+mod reading;
+mod taking;
+mod values;
+mod walking;
+
+pub use fault::{LoadFault, What};
+pub use gather::Gather;
+pub use item::{Included, Item, Property, entry_of, item_at, items_of, place_of};
+pub use path::{Format, format_of, is_xml, joined, plain};
+pub use reading::Reading;
+pub use values::filled;
+pub use walking::walk;
