@@ -1,0 +1,1 @@
+-- What a command decides before it runs.
