@@ -1,1 +1,2 @@
 -- What a command decides before it runs.
+pub mod Index

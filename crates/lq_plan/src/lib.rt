@@ -3,5 +3,6 @@
 #![tactic(auto)]
 
 mod kept_rows;
+mod row_index;
 
 pub use kept_rows::{NoTag, suffix};
