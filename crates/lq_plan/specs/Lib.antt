@@ -1,2 +1,4 @@
 -- What a command decides before it runs.
+pub mod Head
 pub mod Index
+pub mod Work

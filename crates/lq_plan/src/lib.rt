@@ -2,7 +2,11 @@
 //! do, and what a rollback takes back.
 #![tactic(auto)]
 
+mod head;
 mod kept_rows;
 mod row_index;
+mod turns;
 
+pub use head::Head;
 pub use kept_rows::{NoTag, suffix};
+pub use turns::{Item, greatest, work};
