@@ -1,4 +1,5 @@
 -- What a command decides before it runs.
 pub mod Head
 pub mod Index
+pub mod Seen
 pub mod Work

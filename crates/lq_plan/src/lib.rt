@@ -5,8 +5,11 @@
 mod head;
 mod kept_rows;
 mod row_index;
+mod seen;
 mod turns;
+mod validation;
 
 pub use head::Head;
 pub use kept_rows::{NoTag, suffix};
 pub use turns::{Item, greatest, work};
+pub use validation::faults;

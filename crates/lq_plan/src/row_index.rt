@@ -9,7 +9,7 @@ use std::alloc::Global;
 use std::collections::BTreeMap;
 
 /// An identity as a key: a file, an id and an author.
-type IdentityKey<'a> = (&'a str, &'a str, &'a str);
+pub type IdentityKey<'a> = (&'a str, &'a str, &'a str);
 
 /// The rows, for looking up whose they are.
 pub type RowIndex<'a> = BTreeMap<IdentityKey<'a>, &'a Tracked>;
