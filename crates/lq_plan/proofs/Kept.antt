@@ -1,5 +1,5 @@
 -- The last row with a tag, looked for from the last row on.
-use Rattle.std.proofs.Common.{ap, sym, refl, ◌≡◌, ◌∙◌, ◌++◌, Bool, true, false, List, [], ◌∷◌, ℕ, suc, length, Option, Some, None}
+use Rattle.std.proofs.Common.{ap, sym, refl, ◌≡◌, ◌∙◌, ◌++◌, true, false, List, [], ◌∷◌, ℕ, suc, length, Option, Some, None}
 use Rattle.std.specs.Prelude.{if◌then◌else◌}
 use Rattle.lq_base.specs.declared.tracking.Tracked.{Tracked}
 use Rattle.lq_turns.specs.Rollback.{has_tag, tagged_place}

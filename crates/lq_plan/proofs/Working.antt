@@ -1,5 +1,5 @@
 -- The changesets that have a turn, one after another.
-use Rattle.std.proofs.Common.{add-one, ap, drop, get_or, length, map, refl, suc, sym, ◌+◌, ◌++◌, ◌<◌, ◌≡◌, ◌∙◌}
+use Rattle.std.proofs.Common.{add-one, drop, get_or, length, map, suc, ◌+◌, ◌++◌, ◌<◌, ◌≡◌, ◌∙◌}
 use Rattle.std.proofs.Math.Seq.{drop-cons}
 use Rattle.std.proofs.lemmas.List.{append_assoc}
 use Rattle.std.specs.Prelude.{List, Option, ℕ}

@@ -2,4 +2,5 @@
 pub mod Head
 pub mod Index
 pub mod Seen
+pub mod Told
 pub mod Work

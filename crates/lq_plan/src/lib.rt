@@ -4,6 +4,7 @@
 
 mod head;
 mod kept_rows;
+mod laws;
 mod row_index;
 mod seen;
 mod turns;
@@ -11,5 +12,6 @@ mod validation;
 
 pub use head::Head;
 pub use kept_rows::{NoTag, suffix};
+pub use laws::heads_tell;
 pub use turns::{Item, greatest, work};
 pub use validation::faults;
