@@ -1,7 +1,20 @@
-//! Changes of any type.
+//! Changes of any type, and the changesets that they stand in.
 #![tactic(auto)]
 
 mod any_change;
+mod change_set;
+mod changes;
+mod context;
+mod fault;
+mod heading;
+mod joined;
+mod label;
 mod named;
+mod reading;
+mod rollback;
+mod sum;
 
 pub use any_change::AnyChange;
+pub use change_set::{ChangeSet, Changelog};
+pub use fault::SetFault;
+pub use label::is_label;

@@ -1,0 +1,180 @@
+-- What a changeset of a tree is read as.
+use Rattle.std.specs.Option.{unwrap_or}
+use Rattle.std.specs.Prelude.{Bool, Err, List, None, Ok, Option, Result, Some, [], codes, cond, false, map, option_and_then, true, ℕ, ◌++◌, ◌∷◌, ◌≡◌}
+use Rattle.std.specs.Str.{bytes_eq}
+use Rattle.lq_base.specs.declared.dialect.Dialect.{Dialect}
+use Rattle.lq_base.specs.declared.fault.KindFault.TheVariants.{Bad, Missing, NotFor, OutOfMemory, Unknown}
+use Rattle.lq_base.specs.declared.run.OnFail.TheVariants.{Halt}
+use Rattle.lq_canon.specs.Checksum.{checksum_of}
+use Rattle.lq_cond.specs.Reading.{reaction}
+use Rattle.lq_cond.specs.declared.cond.Cond.TheVariants.{And}
+use Rattle.lq_cond.specs.declared.cond.Reaction.{Reaction}
+use Rattle.lq_model.specs.Canon.{canonical_changes}
+use Rattle.lq_tree.specs.Found.{Found, Taken, and_then, map_found, or_bad, within, within_list}
+use Rattle.lq_tree.specs.Given.{a_text, a_truth, if_so}
+use Rattle.lq_tree.specs.Items.{items_from, items_in}
+use Rattle.lq_tree.specs.Keys.{Keys, fields, known, optional, required, ◌⊛◌}
+use Rattle.lq_tree.specs.Look.{list_of, printed_of, value_at}
+use Rattle.lq_tree.specs.declared.node.Node.{Node}
+use Rattle.lq_kinds.specs.AnyChange.{canonical_of}
+use Rattle.lq_kinds.specs.Changes.{changes_keys, here_keys, rollback_keys}
+use Rattle.lq_kinds.specs.Context.{context_keys, labels}
+use Rattle.lq_kinds.specs.Label.{a_label, is_label}
+use Rattle.lq_kinds.specs.declared.any_change.AnyChange.{AnyChange}
+use Rattle.lq_kinds.specs.declared.change_set.ChangeSet.{ChangeSet}
+use Rattle.lq_kinds.specs.declared.context.Context.{Context}
+use Rattle.lq_kinds.specs.declared.context.LabelNames.{LabelNames}
+use Rattle.lq_kinds.specs.declared.fault.SetFault.{SetFault}
+use Rattle.lq_kinds.specs.declared.fault.SetFault.TheVariants.{BadPath, InKeys}
+use Rattle.lq_kinds.specs.declared.heading.Heading.{Heading}
+use Rattle.lq_kinds.specs.declared.heading.Notes.{Notes}
+use Rattle.lq_kinds.specs.declared.heading.Running.{Running}
+use Rattle.lq_kinds.specs.declared.heading.Selection.{Selection}
+
+-- a key that may be there, with what it says where it is not
+abbrev pub defaulted : {A : Type 0} → A → Keys (Option A) → Keys A
+defaulted a keys = record { names = keys.names; says = λ n. map_found (λ found. unwrap_or found a) (keys.says n) }
+
+-- the keys in order
+
+abbrev pub heading_keys : Dialect → Keys Heading
+heading_keys d =
+    fields (λ id author changes. record { id = id; author = author; changes = changes })
+    ⊛ required (codes "id") a_label
+    ⊛ required (codes "author") a_label
+    ⊛ changes_keys d
+
+abbrev pub selection_keys : Dialect → Keys Selection
+selection_keys d =
+    fields (λ context labels here. record { context = context; labels = labels; here = here })
+    ⊛ context_keys
+    ⊛ optional (codes "labels") labels
+    ⊛ here_keys d
+
+abbrev pub running_keys : Keys Running
+running_keys =
+    fields (λ always on_change fail transaction ignored. record { run_always = always; run_on_change = on_change; fail_on_error = fail; in_transaction = transaction; ignored = ignored })
+    ⊛ defaulted false (optional (codes "runAlways") a_truth)
+    ⊛ defaulted false (optional (codes "runOnChange") a_truth)
+    ⊛ defaulted true (optional (codes "failOnError") a_truth)
+    ⊛ defaulted true (optional (codes "runInTransaction") a_truth)
+    ⊛ defaulted false (optional (codes "ignore") a_truth)
+
+-- names are always quoted
+abbrev pub is_quoting : List ℕ → Bool
+is_quoting text = bytes_eq text (codes "QUOTE_ALL_OBJECTS")
+
+abbrev pub a_quoting : Taken (List ℕ)
+a_quoting n = or_bad (option_and_then (if_so is_quoting) (printed_of n))
+
+abbrev pub sums_by : Node → Option (List ℕ) → Found (List (List ℕ))
+sums_by n (Some text) = Ok (text ∷ [])
+sums_by n None = items_in (codes "validCheckSum") a_text (list_of n)
+
+abbrev pub sums_in : Option Node → Found (List (List ℕ))
+sums_in None = Ok []
+sums_in (Some value) = sums_by value (printed_of value)
+
+-- a text, or a list of texts
+abbrev pub sums_keys : Keys (List (List ℕ))
+sums_keys = record { names = codes "validCheckSum" ∷ []; says = λ n. sums_in (value_at (codes "validCheckSum") n) }
+
+abbrev pub reaction_in : Dialect → Option Node → Found (Option Reaction)
+reaction_in d None = Ok None
+reaction_in d (Some value) = map_found (λ found. Some found) (within_list (codes "preConditions") (reaction d value))
+
+abbrev pub reaction_keys : Dialect → Keys (Option Reaction)
+reaction_keys d = record { names = codes "preConditions" ∷ []; says = λ n. reaction_in d (value_at (codes "preConditions") n) }
+
+abbrev pub notes_keys : Dialect → Keys Notes
+notes_keys d =
+    fields (λ quoting sums comment stated rollback. record { valid_sums = sums; comment = comment; reaction = stated; rollback = rollback })
+    ⊛ optional (codes "objectQuotingStrategy") a_quoting
+    ⊛ sums_keys
+    ⊛ optional (codes "comment") a_text
+    ⊛ reaction_keys d
+    ⊛ rollback_keys d
+
+-- its path
+
+-- a fault of the keys stops the reading
+abbrev pub by_keys : {A B : Type 0} → Found A → (A → Result B SetFault) → Result B SetFault
+by_keys (Ok a) f = f a
+by_keys (Err fault) f = Err (InKeys fault)
+
+abbrev pub by_path : {B : Type 0} → Result (List ℕ) SetFault → (List ℕ → Result B SetFault) → Result B SetFault
+by_path (Ok path) f = f path
+by_path (Err fault) f = Err fault
+
+abbrev pub path_of : Option (List ℕ) → Result (List ℕ) SetFault
+path_of None = Err (InKeys (Bad (codes "logicalFilePath")))
+path_of (Some path) = cond (is_label path) (Ok path) (Err BadPath)
+
+-- `logicalFilePath`, and without it the path of the file
+abbrev pub path_in : List ℕ → Option Node → Result (List ℕ) SetFault
+path_in path None = Ok path
+path_in path (Some value) = path_of (printed_of value)
+
+-- all keys that a changeset may have
+abbrev pub set_names : Dialect → List (List ℕ)
+set_names d = (heading_keys d).names ++ (selection_keys d).names ++ running_keys.names ++ codes "logicalFilePath" ∷ (notes_keys d).names
+
+-- the checksum of changes
+abbrev pub sum_of : List AnyChange → List ℕ
+sum_of changes = checksum_of (canonical_changes (map canonical_of changes))
+
+abbrev pub no_reaction : Reaction
+no_reaction = record { cond = And []; on_fail = Halt; on_error = Halt }
+
+-- a context, and without one no text and no expression
+abbrev pub context_or : Option Context → Context
+context_or context = unwrap_or context (record { text = []; expression = None })
+
+-- labels, and without them no text and no name
+abbrev pub labels_or : Option LabelNames → LabelNames
+labels_or labels = unwrap_or labels (record { text = []; names = [] })
+
+abbrev pub set_with : Heading → Selection → Running → List ℕ → Notes → ChangeSet
+set_with h s r path a =
+    let stated = unwrap_or a.reaction no_reaction in
+    record {
+      identity = record { file = path; id = h.id; author = h.author };
+      here = s.here;
+      changes = h.changes;
+      rollback = a.rollback;
+      context = (context_or s.context).expression;
+      labels = (labels_or s.labels).names;
+      context_text = (context_or s.context).text;
+      labels_text = (labels_or s.labels).text;
+      comment = unwrap_or a.comment [];
+      run_always = r.run_always;
+      run_on_change = r.run_on_change;
+      fail_on_error = r.fail_on_error;
+      in_transaction = r.in_transaction;
+      valid_sums = a.valid_sums;
+      cond = stated.cond;
+      on_fail = stated.on_fail;
+      on_error = stated.on_error;
+      sum = sum_of h.changes;
+    }
+
+-- a changeset of the file at a path: none where it is to be ignored, after all of its keys were read
+unfoldable pub set_of : Dialect → List ℕ → Node → Result (Option ChangeSet) SetFault
+set_of d path n =
+    by_keys (known (set_names d) n) (λ _.
+    by_keys ((heading_keys d).says n) (λ h.
+    by_keys ((selection_keys d).says n) (λ s.
+    by_keys (running_keys.says n) (λ r.
+    by_path (path_in path (value_at (codes "logicalFilePath") n)) (λ p.
+    by_keys ((notes_keys d).says n) (λ a.
+    Ok (cond r.ignored None (Some (set_with h s r p a)))))))))
+
+-- how a reading of a changeset answers: as it is meant, unless memory ran out
+abbrev pub ReadsSet : {A : Type 0} → Result A SetFault → Result A SetFault → Type 0
+ReadsSet meant (Ok a) = meant ≡ Ok a
+ReadsSet meant (Err BadPath) = meant ≡ Err BadPath
+ReadsSet meant (Err (InKeys (Missing path))) = meant ≡ Err (InKeys (Missing path))
+ReadsSet meant (Err (InKeys (Unknown path))) = meant ≡ Err (InKeys (Unknown path))
+ReadsSet meant (Err (InKeys (Bad path))) = meant ≡ Err (InKeys (Bad path))
+ReadsSet meant (Err (InKeys (NotFor path dialect))) = meant ≡ Err (InKeys (NotFor path dialect))
+ReadsSet meant (Err (InKeys OutOfMemory)) = Unit {0}

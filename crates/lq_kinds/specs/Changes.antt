@@ -1,0 +1,121 @@
+-- The changes of a changeset, and what takes it back.
+use Rattle.std.specs.List.{position}
+use Rattle.std.specs.Option.{option_map, unwrap_or}
+use Rattle.std.specs.Prelude.{Bool, Err, List, None, Ok, Option, Some, [], codes, cond, drop, false, option_and_then, suc, true, ℕ, ◌+◌, ◌++◌, ◌∷◌}
+use Rattle.lq_base.specs.declared.dialect.Dialect.{Dialect}
+use Rattle.lq_base.specs.declared.fault.KindFault.TheVariants.{Bad}
+use Rattle.lq_cond.specs.Dialects.{is_meant, names_in}
+use Rattle.lq_tree.specs.Found.{Found, Taken, and_then, map_found, within}
+use Rattle.lq_tree.specs.Given.{a_text}
+use Rattle.lq_tree.specs.Items.{item_path, items_from}
+use Rattle.lq_tree.specs.Keys.{Keys, at_optional}
+use Rattle.lq_tree.specs.Look.{is_null, list_of, printed_of, value_at}
+use Rattle.lq_tree.specs.declared.node.Node.{Map as MapNode, Node, Text as TextNode}
+use Rattle.lq_kinds.specs.AnyChange.{any_change}
+use Rattle.lq_kinds.specs.declared.any_change.AnyChange.{AnyChange}
+use Rattle.lq_kinds.specs.declared.any_change.AnyChange.TheVariants.{TagDatabase}
+
+-- whether it is for the dialect
+
+abbrev pub a_dbms : Dialect → Taken Bool
+a_dbms d n = map_found (λ text. is_meant d (names_in text)) (a_text n)
+
+-- what `dbms` says, and true without it
+unfoldable pub here_at : Dialect → Taken Bool
+here_at d n = map_found (λ here. unwrap_or here true) (at_optional (codes "dbms") (a_dbms d) (value_at (codes "dbms") n))
+
+abbrev pub here_keys : Dialect → Keys Bool
+here_keys d = record { names = codes "dbms" ∷ []; says = here_at d }
+
+abbrev pub is_so : Found Bool → Bool
+is_so (Ok b) = b
+is_so (Err fault) = false
+
+-- whether the changes and the rollback are read: not where the changeset is not here, nor where its `dbms` is bad
+abbrev pub is_read : Dialect → Node → Bool
+is_read d n = is_so (here_at d n)
+
+-- its changes
+
+abbrev pub is_tagging : AnyChange → Bool
+is_tagging (TagDatabase x) = true
+is_tagging _ = false
+
+-- the place of the second tag of a changeset, counted from 0
+abbrev pub second_tag : List AnyChange → Option ℕ
+second_tag changes = option_and_then (λ i. option_map (λ j. suc (i + j)) (position is_tagging (drop (suc i) changes))) (position is_tagging changes)
+
+abbrev pub tag_path : ℕ → List ℕ
+tag_path i = item_path (codes "changes") i ++ codes ".tagDatabase"
+
+-- a second tag is bad
+abbrev pub if_tagged : List AnyChange → Option ℕ → Found (List AnyChange)
+if_tagged changes None = Ok changes
+if_tagged changes (Some i) = Err (Bad (tag_path i))
+
+abbrev pub once_tagged : List AnyChange → Found (List AnyChange)
+once_tagged changes = if_tagged changes (second_tag changes)
+
+-- each change in order, and then whether there is a second tag
+abbrev pub changes_of : Dialect → Option (List Node) → Found (List AnyChange)
+changes_of d None = Err (Bad (codes "changes"))
+changes_of d (Some ns) = and_then (items_from (codes "changes") 0 (any_change d) ns) once_tagged
+
+abbrev pub changes_in : Dialect → Option Node → Found (List AnyChange)
+changes_in d None = Ok []
+changes_in d (Some value) = changes_of d (list_of value)
+
+unfoldable pub changes_at : Dialect → Taken (List AnyChange)
+changes_at d n = cond (is_read d n) (changes_in d (value_at (codes "changes") n)) (Ok [])
+
+abbrev pub changes_keys : Dialect → Keys (List AnyChange)
+changes_keys d = record { names = codes "changes" ∷ []; says = changes_at d }
+
+-- what takes it back
+
+-- any fault is that of a bad value
+abbrev pub as_bad : {A : Type 0} → Found A → Found A
+as_bad (Ok a) = Ok a
+as_bad (Err fault) = Err (Bad [])
+
+-- the `sql` change of a text
+abbrev pub sql_node : List ℕ → Node
+sql_node text = MapNode ((codes "sql", MapNode ((codes "sql", TextNode text) ∷ [])) ∷ [])
+
+abbrev pub sql_change : Dialect → List ℕ → Found AnyChange
+sql_change d text = as_bad (any_change d (sql_node text))
+
+abbrev pub undoing_by : Dialect → Node → Option (List ℕ) → Found AnyChange
+undoing_by d n None = any_change d n
+undoing_by d n (Some text) = sql_change d text
+
+-- an item of a rollback block: a change, or the text of an `sql` change
+abbrev pub undoing : Dialect → Taken AnyChange
+undoing d n = undoing_by d n (printed_of n)
+
+-- the one change of a text, or none of an empty text
+abbrev pub undoing_text : Dialect → List ℕ → Found (List AnyChange)
+undoing_text d [] = Ok []
+undoing_text d (b ∷ bs) = map_found (λ change. change ∷ []) (within (codes "rollback") (sql_change d (b ∷ bs)))
+
+abbrev pub undoing_list : Dialect → Option (List Node) → Found (List AnyChange)
+undoing_list d None = Err (Bad (codes "rollback"))
+undoing_list d (Some ns) = items_from (codes "rollback") 0 (undoing d) ns
+
+abbrev pub undoing_scalar : Dialect → Node → Option (List ℕ) → Found (List AnyChange)
+undoing_scalar d n None = undoing_list d (list_of n)
+undoing_scalar d n (Some text) = undoing_text d text
+
+-- a rollback block: null, a text or a list
+abbrev pub block : Dialect → Taken (List AnyChange)
+block d n = cond (is_null n) (Ok []) (undoing_scalar d n (printed_of n))
+
+abbrev pub block_in : Dialect → Option Node → Found (Option (List AnyChange))
+block_in d None = Ok None
+block_in d (Some value) = map_found (λ changes. Some changes) (block d value)
+
+unfoldable pub rollback_at : Dialect → Taken (Option (List AnyChange))
+rollback_at d n = cond (is_read d n) (block_in d (value_at (codes "rollback") n)) (Ok None)
+
+abbrev pub rollback_keys : Dialect → Keys (Option (List AnyChange))
+rollback_keys d = record { names = codes "rollback" ∷ []; says = rollback_at d }

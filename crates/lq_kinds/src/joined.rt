@@ -1,0 +1,99 @@
+ghost use Rattle.std.specs.Option.{unwrap_or};
+ghost use Rattle.std.specs.Prelude.{◌≡◌, [], IfOk};
+ghost use Rattle.lq_kinds.specs.ChangeSets.{context_or, labels_or, no_reaction, set_with};
+
+use crate::change_set::ChangeSet;
+use crate::context::{Context, LabelNames};
+use crate::heading::{Heading, Notes, Running, Selection};
+use crate::sum::sum_of;
+use lq_base::{Identity, Items, NoMemory, OnFail, Text};
+use lq_cond::{Cond, Reaction};
+use std::alloc::Global;
+
+fn context_or(alloc: Global, context: Option<Context>) -> Result<Context, NoMemory>
+    ensures { IfOk result (λ found. found ≡ context_or context) }
+{
+    match context {
+        Some(context) => Ok(context),
+        None => Ok(Context {
+            text: Text::new(alloc, "")?,
+            expression: None,
+        }),
+    }
+}
+
+fn labels_or(alloc: Global, labels: Option<LabelNames>) -> Result<LabelNames, NoMemory>
+    ensures { IfOk result (λ found. found ≡ labels_or labels) }
+{
+    match labels {
+        Some(labels) => Ok(labels),
+        None => Ok(LabelNames {
+            text: Text::new(alloc, "")?,
+            names: Items::new(alloc),
+        }),
+    }
+}
+
+fn comment_or(alloc: Global, comment: Option<Text>) -> Result<Text, NoMemory>
+    ensures { IfOk result (λ found. found ≡ unwrap_or comment []) }
+{
+    match comment {
+        Some(comment) => Ok(comment),
+        None => Text::new(alloc, ""),
+    }
+}
+
+fn reaction_or(alloc: Global, reaction: Option<Reaction>) -> Reaction
+    ensures { result ≡ unwrap_or reaction no_reaction }
+{
+    match reaction {
+        Some(reaction) => reaction,
+        None => Reaction {
+            cond: Cond::And(Items::new(alloc)),
+            on_fail: OnFail::Halt,
+            on_error: OnFail::Halt,
+        },
+    }
+}
+
+/// The changeset of what was read of its keys.
+pub fn set_with(
+    alloc: Global,
+    heading: Heading,
+    selection: Selection,
+    running: Running,
+    path: Text,
+    notes: Notes,
+) -> Result<ChangeSet, NoMemory>
+    ensures { IfOk result (λ set. set ≡ set_with heading selection running path notes) }
+{
+    let sum = sum_of(alloc, heading.changes.as_slice())?;
+    let context = context_or(alloc, selection.context)?;
+    let labels = labels_or(alloc, selection.labels)?;
+    let comment = comment_or(alloc, notes.comment)?;
+    let reaction = reaction_or(alloc, notes.reaction);
+    Ok(ChangeSet {
+        identity: Identity {
+            file: path,
+            id: heading.id,
+            author: heading.author,
+        },
+        here: selection.here,
+        changes: heading.changes,
+        rollback: notes.rollback,
+        context: context.expression,
+        labels: labels.names,
+        context_text: context.text,
+        labels_text: labels.text,
+        comment,
+        run_always: running.run_always,
+        run_on_change: running.run_on_change,
+        fail_on_error: running.fail_on_error,
+        in_transaction: running.in_transaction,
+        valid_sums: notes.valid_sums,
+        cond: reaction.cond,
+        on_fail: reaction.on_fail,
+        on_error: reaction.on_error,
+        sum,
+    })
+}

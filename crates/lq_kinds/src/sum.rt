@@ -1,0 +1,42 @@
+ghost use Rattle.std.specs.Prelude.{◌≡◌, ◌++◌, IfOk, OnOk, map};
+ghost use Rattle.lq_model.specs.Canon.{IsFinished, canonical_changes, canonical_each};
+ghost use Rattle.lq_kinds.specs.AnyChange.{canonical_of};
+ghost use Rattle.lq_kinds.specs.ChangeSets.{sum_of};
+
+use crate::any_change::AnyChange;
+use lq_base::{NoMemory, Text};
+use lq_canon::checksum;
+use lq_model::{Canon, Change};
+use std::alloc::Global;
+
+fn write_each(canon: &mut Canon, changes: &[AnyChange]) -> Result<(), NoMemory>
+    ensures written { OnOk result (canon.new.written ≡ canon.old.written ++ canonical_each (map canonical_of changes.now)) }
+    ensures begun { OnOk result (canon.new.begun ≡ canon.old.begun) }
+{
+    let mut rest = changes;
+    while let [change, after @ ..] = rest {
+        change.canon(canon)?;
+        rest = after;
+    }
+    Ok(())
+}
+
+fn canonical_text(alloc: Global, changes: &[AnyChange]) -> Result<Canon, NoMemory>
+    ensures written { IfOk result (λ canon. canon.written ≡ canonical_changes (map canonical_of changes.now)) }
+    ensures finished { IfOk result IsFinished }
+{
+    let mut canon = Canon::new(alloc);
+    canon.begin_list()?;
+    write_each(&mut canon, changes)?;
+    canon.end_list()?;
+    Ok(canon)
+}
+
+/// The checksum of the changes of a changeset.
+pub fn sum_of(alloc: Global, changes: &[AnyChange]) -> Result<Text, NoMemory>
+    ensures { IfOk result (λ sum. sum ≡ sum_of changes.now) }
+{
+    let canon = canonical_text(alloc, changes)?;
+    let sum = checksum(alloc, &canon)?;
+    Ok(sum)
+}
