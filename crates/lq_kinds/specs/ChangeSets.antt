@@ -35,6 +35,17 @@ use Rattle.lq_kinds.specs.declared.heading.Selection.{Selection}
 abbrev pub defaulted : {A : Type 0} → A → Keys (Option A) → Keys A
 defaulted a keys = record { names = keys.names; says = λ n. map_found (λ found. unwrap_or found a) (keys.says n) }
 
+-- without a context no text and no expression
+abbrev pub no_context : Context
+no_context = record { text = []; expression = None }
+
+-- without labels no text and no name
+abbrev pub no_labels : LabelNames
+no_labels = record { text = []; names = [] }
+
+abbrev pub no_reaction : Reaction
+no_reaction = record { cond = And []; on_fail = Halt; on_error = Halt }
+
 -- the keys in order
 
 abbrev pub heading_keys : Dialect → Keys Heading
@@ -47,8 +58,8 @@ heading_keys d =
 abbrev pub selection_keys : Dialect → Keys Selection
 selection_keys d =
     fields (λ context labels here. record { context = context; labels = labels; here = here })
-    ⊛ context_keys
-    ⊛ optional (codes "labels") labels
+    ⊛ defaulted no_context context_keys
+    ⊛ defaulted no_labels (optional (codes "labels") labels)
     ⊛ here_keys d
 
 abbrev pub running_keys : Keys Running
@@ -59,6 +70,17 @@ running_keys =
     ⊛ defaulted true (optional (codes "failOnError") a_truth)
     ⊛ defaulted true (optional (codes "runInTransaction") a_truth)
     ⊛ defaulted false (optional (codes "ignore") a_truth)
+
+-- what these keys say, group by group
+
+unfoldable pub heading : Dialect → Taken Heading
+heading d = (heading_keys d).says
+
+unfoldable pub selection : Dialect → Taken Selection
+selection d = (selection_keys d).says
+
+unfoldable pub running : Taken Running
+running = running_keys.says
 
 -- names are always quoted
 abbrev pub is_quoting : List ℕ → Bool
@@ -91,9 +113,12 @@ notes_keys d =
     fields (λ quoting sums comment stated rollback. record { valid_sums = sums; comment = comment; reaction = stated; rollback = rollback })
     ⊛ optional (codes "objectQuotingStrategy") a_quoting
     ⊛ sums_keys
-    ⊛ optional (codes "comment") a_text
-    ⊛ reaction_keys d
+    ⊛ defaulted [] (optional (codes "comment") a_text)
+    ⊛ defaulted no_reaction (reaction_keys d)
     ⊛ rollback_keys d
+
+unfoldable pub notes : Dialect → Taken Notes
+notes d = (notes_keys d).says
 
 -- its path
 
@@ -115,59 +140,57 @@ abbrev pub path_in : List ℕ → Option Node → Result (List ℕ) SetFault
 path_in path None = Ok path
 path_in path (Some value) = path_of (printed_of value)
 
+unfoldable pub path_at : List ℕ → Node → Result (List ℕ) SetFault
+path_at path n = path_in path (value_at (codes "logicalFilePath") n)
+
 -- all keys that a changeset may have
 abbrev pub set_names : Dialect → List (List ℕ)
 set_names d = (heading_keys d).names ++ (selection_keys d).names ++ running_keys.names ++ codes "logicalFilePath" ∷ (notes_keys d).names
+
+-- a changeset has no other key
+unfoldable pub only_known : Dialect → Taken (Unit {0})
+only_known d = known (set_names d)
 
 -- the checksum of changes
 abbrev pub sum_of : List AnyChange → List ℕ
 sum_of changes = checksum_of (canonical_changes (map canonical_of changes))
 
-abbrev pub no_reaction : Reaction
-no_reaction = record { cond = And []; on_fail = Halt; on_error = Halt }
+unfoldable pub set_with : Heading → Selection → Running → List ℕ → Notes → ChangeSet
+set_with h s r path a = record {
+  identity = record { file = path; id = h.id; author = h.author };
+  here = s.here;
+  changes = h.changes;
+  rollback = a.rollback;
+  context = s.context.expression;
+  labels = s.labels.names;
+  context_text = s.context.text;
+  labels_text = s.labels.text;
+  comment = a.comment;
+  run_always = r.run_always;
+  run_on_change = r.run_on_change;
+  fail_on_error = r.fail_on_error;
+  in_transaction = r.in_transaction;
+  valid_sums = a.valid_sums;
+  cond = a.reaction.cond;
+  on_fail = a.reaction.on_fail;
+  on_error = a.reaction.on_error;
+  sum = sum_of h.changes;
+}
 
--- a context, and without one no text and no expression
-abbrev pub context_or : Option Context → Context
-context_or context = unwrap_or context (record { text = []; expression = None })
-
--- labels, and without them no text and no name
-abbrev pub labels_or : Option LabelNames → LabelNames
-labels_or labels = unwrap_or labels (record { text = []; names = [] })
-
-abbrev pub set_with : Heading → Selection → Running → List ℕ → Notes → ChangeSet
-set_with h s r path a =
-    let stated = unwrap_or a.reaction no_reaction in
-    record {
-      identity = record { file = path; id = h.id; author = h.author };
-      here = s.here;
-      changes = h.changes;
-      rollback = a.rollback;
-      context = (context_or s.context).expression;
-      labels = (labels_or s.labels).names;
-      context_text = (context_or s.context).text;
-      labels_text = (labels_or s.labels).text;
-      comment = unwrap_or a.comment [];
-      run_always = r.run_always;
-      run_on_change = r.run_on_change;
-      fail_on_error = r.fail_on_error;
-      in_transaction = r.in_transaction;
-      valid_sums = a.valid_sums;
-      cond = stated.cond;
-      on_fail = stated.on_fail;
-      on_error = stated.on_error;
-      sum = sum_of h.changes;
-    }
+-- none where it is to be ignored
+abbrev pub if_taken : Running → ChangeSet → Option ChangeSet
+if_taken r set = cond r.ignored None (Some set)
 
 -- a changeset of the file at a path: none where it is to be ignored, after all of its keys were read
 unfoldable pub set_of : Dialect → List ℕ → Node → Result (Option ChangeSet) SetFault
 set_of d path n =
-    by_keys (known (set_names d) n) (λ _.
-    by_keys ((heading_keys d).says n) (λ h.
-    by_keys ((selection_keys d).says n) (λ s.
-    by_keys (running_keys.says n) (λ r.
-    by_path (path_in path (value_at (codes "logicalFilePath") n)) (λ p.
-    by_keys ((notes_keys d).says n) (λ a.
-    Ok (cond r.ignored None (Some (set_with h s r p a)))))))))
+    by_keys (only_known d n) (λ _.
+    by_keys (heading d n) (λ h.
+    by_keys (selection d n) (λ s.
+    by_keys (running n) (λ r.
+    by_path (path_at path n) (λ p.
+    by_keys (notes d n) (λ a.
+    Ok (if_taken r (set_with h s r p a))))))))
 
 -- how a reading of a changeset answers: as it is meant, unless memory ran out
 abbrev pub ReadsSet : {A : Type 0} → Result A SetFault → Result A SetFault → Type 0

@@ -14,8 +14,8 @@ pub struct Heading {
 /// For which runs a changeset is.
 #[derive(Drop)]
 pub struct Selection {
-    pub context: Option<Context>,
-    pub labels: Option<LabelNames>,
+    pub context: Context,
+    pub labels: LabelNames,
     pub here: bool,
 }
 
@@ -33,7 +33,7 @@ pub struct Running {
 #[derive(Drop)]
 pub struct Notes {
     pub valid_sums: Items<Text>,
-    pub comment: Option<Text>,
-    pub reaction: Option<Reaction>,
+    pub comment: Text,
+    pub reaction: Reaction,
     pub rollback: Option<Items<AnyChange>>,
 }

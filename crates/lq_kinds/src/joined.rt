@@ -1,6 +1,6 @@
 ghost use Rattle.std.specs.Option.{unwrap_or};
 ghost use Rattle.std.specs.Prelude.{◌≡◌, [], IfOk};
-ghost use Rattle.lq_kinds.specs.ChangeSets.{context_or, labels_or, no_reaction, set_with};
+ghost use Rattle.lq_kinds.specs.ChangeSets.{no_context, no_labels, no_reaction, set_with, sum_of};
 
 use crate::change_set::ChangeSet;
 use crate::context::{Context, LabelNames};
@@ -10,8 +10,8 @@ use lq_base::{Identity, Items, NoMemory, OnFail, Text};
 use lq_cond::{Cond, Reaction};
 use std::alloc::Global;
 
-fn context_or(alloc: Global, context: Option<Context>) -> Result<Context, NoMemory>
-    ensures { IfOk result (λ found. found ≡ context_or context) }
+pub fn context_or(alloc: Global, context: Option<Context>) -> Result<Context, NoMemory>
+    ensures { IfOk result (λ found. found ≡ unwrap_or context no_context) }
 {
     match context {
         Some(context) => Ok(context),
@@ -22,8 +22,8 @@ fn context_or(alloc: Global, context: Option<Context>) -> Result<Context, NoMemo
     }
 }
 
-fn labels_or(alloc: Global, labels: Option<LabelNames>) -> Result<LabelNames, NoMemory>
-    ensures { IfOk result (λ found. found ≡ labels_or labels) }
+pub fn labels_or(alloc: Global, labels: Option<LabelNames>) -> Result<LabelNames, NoMemory>
+    ensures { IfOk result (λ found. found ≡ unwrap_or labels no_labels) }
 {
     match labels {
         Some(labels) => Ok(labels),
@@ -34,7 +34,7 @@ fn labels_or(alloc: Global, labels: Option<LabelNames>) -> Result<LabelNames, No
     }
 }
 
-fn comment_or(alloc: Global, comment: Option<Text>) -> Result<Text, NoMemory>
+pub fn comment_or(alloc: Global, comment: Option<Text>) -> Result<Text, NoMemory>
     ensures { IfOk result (λ found. found ≡ unwrap_or comment []) }
 {
     match comment {
@@ -43,7 +43,7 @@ fn comment_or(alloc: Global, comment: Option<Text>) -> Result<Text, NoMemory>
     }
 }
 
-fn reaction_or(alloc: Global, reaction: Option<Reaction>) -> Reaction
+pub fn reaction_or(alloc: Global, reaction: Option<Reaction>) -> Reaction
     ensures { result ≡ unwrap_or reaction no_reaction }
 {
     match reaction {
@@ -53,6 +53,60 @@ fn reaction_or(alloc: Global, reaction: Option<Reaction>) -> Reaction
             on_fail: OnFail::Halt,
             on_error: OnFail::Halt,
         },
+    }
+}
+
+/// The changeset of what was read of its keys, with its checksum.
+#[tactic(auto, unfolding(crate::specs::ChangeSets::set_with))]
+fn joined_with(
+    heading: Heading,
+    selection: Selection,
+    running: Running,
+    path: Text,
+    notes: Notes,
+    sum: Text,
+) -> ChangeSet
+    ensures { sum ≡ sum_of heading.changes → result ≡ set_with heading selection running path notes }
+{
+    let Heading {
+        id,
+        author,
+        changes,
+    } = heading;
+    let Selection {
+        context,
+        labels,
+        here,
+    } = selection;
+    let Notes {
+        valid_sums,
+        comment,
+        reaction,
+        rollback,
+    } = notes;
+    ChangeSet {
+        identity: Identity {
+            file: path,
+            id,
+            author,
+        },
+        here,
+        changes,
+        rollback,
+        context: context.expression,
+        labels: labels.names,
+        context_text: context.text,
+        labels_text: labels.text,
+        comment,
+        run_always: running.run_always,
+        run_on_change: running.run_on_change,
+        fail_on_error: running.fail_on_error,
+        in_transaction: running.in_transaction,
+        valid_sums,
+        cond: reaction.cond,
+        on_fail: reaction.on_fail,
+        on_error: reaction.on_error,
+        sum,
     }
 }
 
@@ -68,32 +122,5 @@ pub fn set_with(
     ensures { IfOk result (λ set. set ≡ set_with heading selection running path notes) }
 {
     let sum = sum_of(alloc, heading.changes.as_slice())?;
-    let context = context_or(alloc, selection.context)?;
-    let labels = labels_or(alloc, selection.labels)?;
-    let comment = comment_or(alloc, notes.comment)?;
-    let reaction = reaction_or(alloc, notes.reaction);
-    Ok(ChangeSet {
-        identity: Identity {
-            file: path,
-            id: heading.id,
-            author: heading.author,
-        },
-        here: selection.here,
-        changes: heading.changes,
-        rollback: notes.rollback,
-        context: context.expression,
-        labels: labels.names,
-        context_text: context.text,
-        labels_text: labels.text,
-        comment,
-        run_always: running.run_always,
-        run_on_change: running.run_on_change,
-        fail_on_error: running.fail_on_error,
-        in_transaction: running.in_transaction,
-        valid_sums: notes.valid_sums,
-        cond: reaction.cond,
-        on_fail: reaction.on_fail,
-        on_error: reaction.on_error,
-        sum,
-    })
+    Ok(joined_with(heading, selection, running, path, notes, sum))
 }

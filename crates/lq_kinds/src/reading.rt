@@ -1,14 +1,13 @@
 ghost use Rattle.std.specs.Prelude.{◌≡◌, IfOk, option_copied};
 ghost use Rattle.lq_tree.specs.Found.{Reads};
-ghost use Rattle.lq_tree.specs.Look.{value_at};
-ghost use Rattle.lq_kinds.specs.ChangeSets.{ReadsSet, heading_keys, is_quoting, notes_keys, path_in, reaction_in, running_keys, selection_keys, set_of, sums_in};
+ghost use Rattle.lq_kinds.specs.ChangeSets.{ReadsSet, heading, is_quoting, notes, only_known, path_at, path_in, reaction_in, running, selection, set_of, sums_in};
 
 use crate::change_set::ChangeSet;
 use crate::changes::{changes_at, here_at};
 use crate::context::{LabelLists, context_at};
 use crate::fault::SetFault;
 use crate::heading::{Heading, Notes, Running, Selection};
-use crate::joined::set_with;
+use crate::joined::{comment_or, context_or, labels_or, reaction_or, set_with};
 use crate::label::{Labels, is_label};
 use crate::rollback::rollback_at;
 use lq_base::{Dialect, Items, KindFault, Text};
@@ -89,6 +88,7 @@ impl Reader for Texts {
     }
 }
 
+#[tactic(auto, unfolding(crate::specs::ChangeSets::heading))]
 fn heading<P: SqlText>(
     alloc: Global,
     node: &Node,
@@ -96,7 +96,7 @@ fn heading<P: SqlText>(
     sql: &P,
 ) -> Result<Heading, KindFault>
     requires same { P.dialect ≡ dialect }
-    ensures { Reads ((heading_keys dialect).says node.now) result }
+    ensures { Reads (heading dialect node.now) result }
 {
     let id = required_by(alloc, node, "id", &Labels)?;
     let author = required_by(alloc, node, "author", &Labels)?;
@@ -108,11 +108,12 @@ fn heading<P: SqlText>(
     })
 }
 
+#[tactic(auto, unfolding(crate::specs::ChangeSets::selection))]
 fn selection(alloc: Global, node: &Node, dialect: Dialect) -> Result<Selection, KindFault>
-    ensures { Reads ((selection_keys dialect).says node.now) result }
+    ensures { Reads (selection dialect node.now) result }
 {
-    let context = context_at(alloc, node)?;
-    let labels = optional_by(alloc, node, "labels", &LabelLists)?;
+    let context = context_or(alloc, context_at(alloc, node)?)?;
+    let labels = labels_or(alloc, optional_by(alloc, node, "labels", &LabelLists)?)?;
     let here = here_at(alloc, node, dialect)?;
     Ok(Selection {
         context,
@@ -121,8 +122,9 @@ fn selection(alloc: Global, node: &Node, dialect: Dialect) -> Result<Selection, 
     })
 }
 
+#[tactic(auto, unfolding(crate::specs::ChangeSets::running))]
 fn running(alloc: Global, node: &Node) -> Result<Running, KindFault>
-    ensures { Reads (running_keys.says node.now) result }
+    ensures { Reads (running node.now) result }
 {
     let run_always: Option<bool> = optional(alloc, node, "runAlways")?;
     let run_on_change: Option<bool> = optional(alloc, node, "runOnChange")?;
@@ -153,6 +155,21 @@ fn path_in(alloc: Global, value: Option<&Node>, path: &str) -> Result<Text, SetF
     } else {
         Err(SetFault::BadPath)
     }
+}
+
+#[tactic(auto, unfolding(crate::specs::ChangeSets::path_at))]
+fn path_at(alloc: Global, node: &Node, path: &str) -> Result<Text, SetFault>
+    ensures { ReadsSet (path_at path.now node.now) result }
+{
+    path_in(alloc, node.value_at("logicalFilePath"), path)
+}
+
+#[tactic(auto, unfolding(crate::specs::ChangeSets::only_known))]
+fn only_known(alloc: Global, node: &Node, dialect: Dialect) -> Result<(), KindFault>
+    ensures { Reads (only_known dialect node.now) result }
+{
+    let _ = dialect;
+    known(alloc, node, &KEYS)
 }
 
 /// A text, or a list of texts.
@@ -191,6 +208,7 @@ fn reaction_in<P: SqlText>(
     }
 }
 
+#[tactic(auto, unfolding(crate::specs::ChangeSets::notes))]
 fn notes<P: SqlText>(
     alloc: Global,
     node: &Node,
@@ -198,12 +216,15 @@ fn notes<P: SqlText>(
     sql: &P,
 ) -> Result<Notes, KindFault>
     requires same { P.dialect ≡ dialect }
-    ensures { Reads ((notes_keys dialect).says node.now) result }
+    ensures { Reads (notes dialect node.now) result }
 {
     optional_by(alloc, node, "objectQuotingStrategy", &Quoting)?;
     let valid_sums = sums_in(alloc, node.value_at("validCheckSum"))?;
-    let comment = optional(alloc, node, "comment")?;
-    let reaction = reaction_in(alloc, node.value_at("preConditions"), dialect, sql)?;
+    let comment = comment_or(alloc, optional(alloc, node, "comment")?)?;
+    let reaction = reaction_or(
+        alloc,
+        reaction_in(alloc, node.value_at("preConditions"), dialect, sql)?,
+    );
     let rollback = rollback_at(alloc, node, dialect, sql)?;
     Ok(Notes {
         valid_sums,
@@ -227,11 +248,11 @@ impl ChangeSet {
         requires same { P.dialect ≡ dialect }
         ensures { ReadsSet (set_of dialect path.now node.now) result }
     {
-        known(alloc, node, &KEYS)?;
+        only_known(alloc, node, dialect)?;
         let heading = heading(alloc, node, dialect, sql)?;
         let selection = selection(alloc, node, dialect)?;
         let running = running(alloc, node)?;
-        let path = path_in(alloc, node.value_at("logicalFilePath"), path)?;
+        let path = path_at(alloc, node, path)?;
         let notes = notes(alloc, node, dialect, sql)?;
         if running.ignored {
             return Ok(None);
