@@ -2,6 +2,7 @@ ghost use Rattle.lq_model.specs.Sound.{IsSound};
 ghost use Rattle.lq_model.specs.Step.{step};
 ghost use Rattle.lq_rows.specs.Answers.{Carries};
 
+use crate::definition::define;
 use lq_base::Dialect;
 use lq_model::{By, Statement};
 use lq_parts::{Parts, RunFault};
@@ -10,7 +11,6 @@ use std::alloc::Global;
 
 /// Carries a statement out on a sound catalogue. It may change first and test its result afterwards:
 /// at a fault it may leave changes, which the caller undoes.
-#[tactic(auto, using(lq_rows::proofs::Continued::stays))]
 pub fn carry_out(
     alloc: Global,
     parts: &mut Parts,
@@ -38,7 +38,6 @@ pub fn carry_out(
         Statement::Update { table, sets, test } => {
             update(parts, alloc, by, dialect, table, sets.as_slice(), test)
         }
-        // Not written yet: a fault of memory may come at any time, and changes nothing.
-        _ => Err(RunFault::OutOfMemory),
+        _ => define(alloc, parts, dialect, by, statement),
     }
 }

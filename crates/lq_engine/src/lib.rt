@@ -2,6 +2,7 @@
 #![tactic(auto)]
 
 mod arms;
+mod definition;
 mod engine;
 mod look;
 mod source;
