@@ -11,7 +11,9 @@ use lq_keyops::{
     drop_index_of, drop_primary_key, drop_unique,
 };
 use lq_model::{By, Statement};
-use lq_objectops::{create_view, drop_sequence, drop_view, rename_sequence, rename_view};
+use lq_objectops::{
+    create_sequence, create_view, drop_sequence, drop_view, rename_sequence, rename_view,
+};
 use lq_parts::{Parts, RunFault};
 use lq_tableops::{NewTable, create_table, drop_table};
 use std::alloc::Global;
@@ -169,6 +171,9 @@ fn define_object(
         } => create_view(parts, alloc, by, dialect, view, query, *replace),
         Statement::DropView { view } => drop_view(parts, by, dialect, view),
         Statement::RenameView { view, to } => rename_view(parts, alloc, by, dialect, view, to),
+        Statement::CreateSequence { name, start, step } => create_sequence(
+            parts, alloc, by, dialect, name, *start, *step,
+        ),
         Statement::DropSequence { name } => drop_sequence(parts, by, dialect, name),
         Statement::RenameSequence { name, to } => rename_sequence(
             parts, alloc, by, dialect, name, to,
