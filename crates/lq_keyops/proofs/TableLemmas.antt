@@ -12,7 +12,7 @@ use Rattle.lq_chain.specs.History.{History, changed}
 use Rattle.lq_model.specs.Catalogue.{Catalogue, Table, no_table, table_of, the_table, with_table}
 use Rattle.lq_model.specs.DropConstraint.{has_index, without_index}
 use Rattle.lq_model.specs.declared.index.Index.{Index}
-use Rattle.lq_model.proofs.Lists.{any-map, filter_kept, not_false, or_false, or_left, or_right, same_name, true_false, whether}
+use Rattle.lq_model.proofs.Lists.{any-map, filter_kept, or_false, or_left, or_right, same_name, true_false, whether}
 use Rattle.lq_model.proofs.Maps.{below_gone, not_some, some_same, sorted_entries}
 use Rattle.lq_rows.specs.Answers.{Continues}
 use Rattle.lq_rows.specs.Stored.{Stored}
