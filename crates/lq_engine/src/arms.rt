@@ -2,6 +2,7 @@ ghost use Rattle.lq_model.specs.Sound.{IsSound};
 ghost use Rattle.lq_model.specs.Step.{step};
 ghost use Rattle.lq_rows.specs.Answers.{Carries};
 
+use crate::definition::define;
 use lq_base::Dialect;
 use lq_deletes::delete_from;
 use lq_model::{By, Statement};
@@ -11,7 +12,6 @@ use std::alloc::Global;
 
 /// Carries a statement out on a sound catalogue. It may change first and test its result afterwards:
 /// at a fault it may leave changes, which the caller undoes.
-#[tactic(auto, using(lq_rows::proofs::Continued::stays))]
 pub fn carry_out(
     alloc: Global,
     parts: &mut Parts,
@@ -39,8 +39,7 @@ pub fn carry_out(
         Statement::Update { table, sets, test } => {
             update(parts, alloc, by, dialect, table, sets.as_slice(), test)
         }
-        Statement::Delete { table, test } => { delete_from(parts, alloc, by, dialect, table, test) }
-        // Not written yet: a fault of memory may come at any time, and changes nothing.
-        _ => Err(RunFault::OutOfMemory),
+        Statement::Delete { table, test } => delete_from(parts, alloc, by, dialect, table, test),
+        _ => define(alloc, parts, dialect, by, statement),
     }
 }

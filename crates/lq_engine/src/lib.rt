@@ -3,6 +3,7 @@
 
 mod apart;
 mod arms;
+mod definition;
 mod engine;
 mod executor;
 mod look;

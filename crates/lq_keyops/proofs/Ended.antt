@@ -1,11 +1,8 @@
 -- Lemmas on how a statement ends.
-use Rattle.std.proofs.Common.{Bool, Err, List, None, Ok, Option, Result, Some, [], ap, cond, false, is_none, not, refl, subst, sym, true, unwrap_or, ◌&&◌, ◌||◌, ◌∙◌, ◌∷◌, ◌≡◌}
+use Rattle.std.proofs.Common.{Bool, Err, List, None, Some, [], ap, cond, false, is_none, not, refl, sym, true, unwrap_or, ◌&&◌, ◌||◌, ◌∙◌, ◌∷◌, ◌≡◌}
 use Rattle.std.specs.List.{list_any}
 use Rattle.std.specs.Prelude.{map}
-use Rattle.lq_arm.specs.Verdict.{tests_of, verdict_of}
-use Rattle.lq_arm.specs.declared.tests.Tests.{Tests}
 use Rattle.lq_base.specs.declared.name.Name.{Name}
-use Rattle.lq_base.specs.declared.reason.Reason.{Reason}
 use Rattle.lq_base.specs.declared.reason.Reason.TheVariants as reason
 use Rattle.lq_chain.specs.History.{History}
 use Rattle.lq_base.specs.Name.{is_named}
@@ -23,7 +20,6 @@ use Rattle.lq_model.specs.declared.caller.By.TheVariants.{Program, User}
 use Rattle.lq_model.proofs.Lists.{any-map}
 use Rattle.lq_rows.specs.Answers.{Answers}
 use Rattle.lq_rows.specs.Stored.{with_shape}
-use Rattle.lq_rows.specs.declared.fault.RunFault.{RunFault}
 use Rattle.lq_rows.specs.declared.fault.RunFault.TheVariants.{Refused}
 use Rattle.lq_rows.specs.declared.shape.Shape.{Shape}
 

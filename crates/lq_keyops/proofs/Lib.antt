@@ -1,3 +1,4 @@
 mod Ended
 mod MetLemmas
+mod TableLemmas
 mod TargetLemmas

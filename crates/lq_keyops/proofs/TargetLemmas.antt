@@ -1,5 +1,5 @@
 -- What foreign keys lose.
-use Rattle.std.proofs.Common.{Bool, List, ap, cond, false, not, refl, sym, true, ◌&&◌, ◌++◌, ◌||◌, ◌∙◌, ◌≡◌}
+use Rattle.std.proofs.Common.{Bool, List, ap, cond, false, not, sym, true, ◌&&◌, ◌||◌, ◌∙◌, ◌≡◌}
 use Rattle.std.specs.List.{list_any}
 use Rattle.std.specs.Prelude.{map}
 use Rattle.lq_base.specs.Name.{is_named}

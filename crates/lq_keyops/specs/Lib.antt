@@ -1,3 +1,4 @@
+pub mod AllTables
 pub mod Ends
 pub mod Met
 pub mod Parents

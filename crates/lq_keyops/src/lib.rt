@@ -2,6 +2,7 @@
 #![tactic(auto)]
 
 mod adding;
+mod anywhere;
 mod dropping;
 mod ending;
 mod equal;
@@ -12,6 +13,7 @@ mod primary;
 mod targets;
 
 pub use adding::{add_unique, create_index};
+pub use anywhere::drop_index;
 pub use dropping::{
     drop_constraint, drop_foreign_key, drop_index_of, drop_primary_key, drop_unique,
 };

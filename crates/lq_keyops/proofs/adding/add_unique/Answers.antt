@@ -4,7 +4,7 @@ use Rattle.lq_arm.proofs.Arms.{agree}
 use Rattle.lq_decide.specs.Faults.{add_unique_faults, are_twins}
 use Rattle.lq_decide.proofs.Keys.{add_unique_judged}
 use Rattle.lq_model.specs.AddConstraint as spec
-use Rattle.lq_model.specs.Catalogue.{table_of, the_table}
+use Rattle.lq_model.specs.Catalogue.{table_of}
 use Rattle.lq_model.specs.NameSpaces.{unique_taken}
 use Rattle.lq_model.specs.Names.{repeats}
 use Rattle.lq_model.specs.TableNames.{column_missing}

@@ -1,4 +1,4 @@
-use Rattle.std.proofs.Common.{false, map, rules, subst, sym, ◌||◌, ◌∙◌, ◌∷◌, ◌≡◌}
+use Rattle.std.proofs.Common.{map, rules, subst, sym, ◌||◌, ◌∙◌, ◌∷◌, ◌≡◌}
 use Rattle.std.specs.BTreeSet.{contains}
 use Rattle.std.specs.List.{list_any}
 use Rattle.lq_model.specs.Row.{has_equals, picked}

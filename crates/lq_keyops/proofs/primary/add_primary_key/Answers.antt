@@ -1,10 +1,10 @@
-use Rattle.std.proofs.Common.{None, Some, ap, is_some, refl, rules, sym, ◌∙◌, ◌≡◌, ◌||◌}
+use Rattle.std.proofs.Common.{None, Some, ap, is_some, refl, rules, sym, ◌∙◌, ◌≡◌}
 use Rattle.lq_arm.specs.Verdict.{verdict_of}
 use Rattle.lq_arm.proofs.Arms.{agree}
 use Rattle.lq_decide.specs.Faults.{add_primary_key_faults, are_twins, has_null_in}
 use Rattle.lq_decide.proofs.Keys.{add_primary_key_judged}
 use Rattle.lq_model.specs.AddConstraint as spec
-use Rattle.lq_model.specs.Catalogue.{table_of, the_table}
+use Rattle.lq_model.specs.Catalogue.{table_of}
 use Rattle.lq_model.specs.NameSpaces.{key_taken}
 use Rattle.lq_model.specs.Names.{repeats}
 use Rattle.lq_model.specs.TableNames.{column_missing}
