@@ -16,7 +16,7 @@ use lq_rows::{Held, Shape};
 use std::alloc::Global;
 
 /// Whether a foreign key of the table aims at another.
-fn targets_table(table: &Name, held: &Held) -> bool
+pub fn targets_table(table: &Name, held: &Held) -> bool
     ensures { result ≡ targets_table table.now held.now.now }
 {
     held.foreign_keys().iter().any(|key| *table == key.table)
