@@ -1,5 +1,5 @@
 -- Lemmas on a table's new name.
-use Rattle.std.proofs.Common.{Bool, List, None, Ok, Option, Some, T, [], ap, cond, false, is_none, is_some, map, refl, sym, true, ◌&&◌, ◌∙◌, ◌∷◌, ◌≡◌, ◌||◌}
+use Rattle.std.proofs.Common.{Bool, List, None, Ok, Option, Some, [], ap, cond, false, is_none, is_some, map, refl, true, ◌&&◌, ◌∙◌, ◌∷◌, ◌≡◌, ◌||◌}
 use Rattle.std.specs.List.{list_any}
 use Rattle.std.specs.List.Sorted.{IsStrictlySortedBy}
 use Rattle.std.specs.Map.{keys_of, lookup, remove_entry}

@@ -1,7 +1,7 @@
-use Rattle.std.proofs.Common.{sym, ◌∙◌}
+use Rattle.std.proofs.Common.{sym}
 use Rattle.lq_chain.specs.History.{changed}
 use Rattle.lq_model.specs.Catalogue.{with_view, without_view}
-use Rattle.lq_rows.proofs.Continued.{goes_on, goes_one_further, stays}
+use Rattle.lq_rows.proofs.Continued.{goes_on, goes_one_further}
 use Rattle.lq_renames.proofs.Renamed.{view_moves}
 use Rattle.lq_renames.proofs.table.move_view.Goals as goal
 

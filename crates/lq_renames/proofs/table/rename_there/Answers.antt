@@ -1,4 +1,4 @@
-use Rattle.std.proofs.Common.{false, is_some, rules, true, ◌≡◌}
+use Rattle.std.proofs.Common.{false, is_some, rules, ◌≡◌}
 use Rattle.lq_model.specs.Catalogue.{table_of}
 use Rattle.lq_renames.proofs.Renamed.{is_view}
 use Rattle.lq_renames.proofs.table.rename_there.Goals as goal
