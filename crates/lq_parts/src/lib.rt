@@ -10,6 +10,6 @@ mod slot;
 mod step;
 mod tables;
 
-pub use object::{Sequence, View};
 pub use lq_rows::RunFault;
+pub use object::{Sequence, View};
 pub use parts::Parts;
