@@ -1,0 +1,234 @@
+use lq_base::NoMemory;
+use lq_cli::{Line, WordsFault, read_words};
+use std::alloc::Global;
+use std::test::Fail;
+
+const URL: &str = "--url=postgresql:db";
+
+const MY: &str = "--url=mysql:a/b.db";
+
+const FILE: &str = "--changelog-file=a.json";
+
+fn words_of(alloc: Global, given: &[&str]) -> Result<Vec<String>, NoMemory> {
+    let mut words = Vec::new(alloc);
+    for word in given {
+        let word = String::from_str(alloc, word)?;
+        words.push(word)?;
+    }
+    Ok(words)
+}
+
+/// The job, the dialect, the database and the changelog.
+fn heading(alloc: Global, line: &Line) -> Result<String, NoMemory> {
+    let root = match &line.root {
+        Some(root) => root.as_str(),
+        None => "-",
+    };
+    let job = &line.job;
+    let dialect = line.options.dialect;
+    let path = line.path.as_str();
+    Ok(format!(in alloc; "{job:?} {dialect:?} {path} {root}")?)
+}
+
+fn push_contexts(text: &mut String, line: &Line) -> Result<(), NoMemory> {
+    for name in line.options.contexts.as_slice() {
+        text.push_str(" @")?;
+        text.push_str(name.as_str())?;
+    }
+    Ok(())
+}
+
+fn push_given(text: &mut String, line: &Line) -> Result<(), NoMemory> {
+    for (name, value) in line.given.as_slice() {
+        text.push_str(" ")?;
+        text.push_str(name.as_str())?;
+        text.push_str("=")?;
+        text.push_str(value.as_str())?;
+    }
+    Ok(())
+}
+
+/// The line in one text: contexts with `@`, then the label filter, then properties.
+fn shown(alloc: Global, line: &Line) -> Result<String, NoMemory> {
+    let mut text = heading(alloc, line)?;
+    push_contexts(&mut text, line)?;
+    if let Some(labels) = &line.options.labels {
+        let labels = format!(in alloc; " {labels:?}")?;
+        text.push_str(labels.as_str())?;
+    }
+    push_given(&mut text, line)?;
+    Ok(text)
+}
+
+/// What the words ask for, or `usage`.
+fn told(alloc: Global, given: &[&str]) -> Result<String, NoMemory> {
+    let words = words_of(alloc, given)?;
+    match read_words(alloc, words.as_slice()) {
+        Ok(line) => shown(alloc, &line),
+        Err(WordsFault::Usage) => Ok(String::from_str(alloc, "usage")?),
+        Err(WordsFault::OutOfMemory) => Err(NoMemory),
+    }
+}
+
+#[test]
+fn commands_are_read(rt: HostRuntime) -> Result<(), Fail> {
+    let cases: [(&[&str], &str); 22] = [
+        (
+            &["validate", URL, FILE],
+            "Run(Validate) Postgresql db a.json",
+        ),
+        (&["validate", FILE, MY], "Run(Validate) Mysql a/b.db a.json"),
+        (
+            &[
+                "status",
+                "--url",
+                "postgresql:db",
+                "--changelog-file",
+                "a.json",
+            ],
+            "Run(Status) Postgresql db a.json",
+        ),
+        (
+            &["update", URL, FILE, "--context-filter= a , b"],
+            "Run(Update) Postgresql db a.json @a @b",
+        ),
+        (
+            &["update", "--context-filter=", FILE, URL],
+            "Run(Update) Postgresql db a.json",
+        ),
+        (
+            &["update", "--label-filter", "l", URL, FILE],
+            "Run(Update) Postgresql db a.json Name(Text { text: \"l\" })",
+        ),
+        (
+            &["update", URL, "-Dx=1", FILE, "-Dy=", "-Dx=a=b"],
+            "Run(Update) Postgresql db a.json x=1 y= x=a=b",
+        ),
+        (
+            &["update", URL, "--changelog-file="],
+            "Run(Update) Postgresql db ",
+        ),
+        (&["update-sql", URL, FILE], "UpdateSql Postgresql db a.json"),
+        (
+            &["changelog-sync", URL, FILE, "--context-filter=a"],
+            "Run(Sync) Postgresql db a.json @a",
+        ),
+        (
+            &["rollback", URL, FILE, "--tag=v1"],
+            "Run(Rollback(Tag(Text { text: \"v1\" }))) Postgresql db a.json",
+        ),
+        (
+            &["rollback", "--tag", "v 1", FILE, URL, "-Da=b"],
+            "Run(Rollback(Tag(Text { text: \"v 1\" }))) Postgresql db a.json a=b",
+        ),
+        (
+            &["rollback-count", URL, FILE, "--count=0"],
+            "Run(Rollback(Count(0))) Postgresql db a.json",
+        ),
+        (
+            &["rollback-count", "--count", "4294967295", FILE, URL],
+            "Run(Rollback(Count(4294967295))) Postgresql db a.json",
+        ),
+        (
+            &["rollback-to-date", URL, FILE, "--date=1970-01-02"],
+            "Run(Rollback(Date(86400000))) Postgresql db a.json",
+        ),
+        (
+            &[
+                "rollback-to-date",
+                URL,
+                FILE,
+                "--date=1970-01-01T00:00:01.5",
+            ],
+            "usage",
+        ),
+        (
+            &[
+                "rollback-to-date",
+                URL,
+                FILE,
+                "--date=1970-01-01 00:00:01.500",
+            ],
+            "Run(Rollback(Date(1500))) Postgresql db a.json",
+        ),
+        (
+            &["rollback-sql", URL, FILE, "--count=1"],
+            "RollbackSql(Count(1)) Postgresql db a.json",
+        ),
+        (
+            &["rollback-sql", "--tag=t", URL, FILE],
+            "RollbackSql(Tag(Text { text: \"t\" })) Postgresql db a.json",
+        ),
+        (
+            &["tag", URL, "--tag=v1"],
+            "Run(Tag(Text { text: \"v1\" })) Postgresql db -",
+        ),
+        (&["release-locks", MY], "Run(Release) Mysql a/b.db -"),
+        (
+            &["soak", "--sets=10000", URL, "--number=0"],
+            "Soak { number: 0, sets: 10000 } Postgresql db -",
+        ),
+    ];
+    for (words, want) in cases {
+        let text = told(rt.alloc(), words)?;
+        assert_eq!(rt; text.as_str(), want);
+    }
+    Ok(())
+}
+
+#[test]
+fn other_words_are_usage(rt: HostRuntime) -> Result<(), Fail> {
+    let cases: [&[&str]; 40] = [
+        &[],
+        &["updates", URL, FILE],
+        &["Update", URL, FILE],
+        &["update"],
+        &["update", URL],
+        &["update", FILE],
+        &["update", URL, URL, FILE],
+        &["update", URL, FILE, FILE],
+        &["update", URL, FILE, "more"],
+        &["update", URL, FILE, "--"],
+        &["update", URL, FILE, "-"],
+        &["update", URL, FILE, "--help"],
+        &["update", URL, FILE, "--version"],
+        &["update", URL, FILE, "-h"],
+        &["update", URL, FILE, "--tag=v1"],
+        &["update", URL, FILE, "--count=1"],
+        &["update", URL, FILE, "-D"],
+        &["update", URL, FILE, "-D=b"],
+        &["update", URL, FILE, "-Dab"],
+        &["update", URL, FILE, "-D", "a=b"],
+        &["update", "--url=postgresql:", FILE],
+        &["update", "--url=oracle:db", FILE],
+        &["update", "--url=db", FILE],
+        &["update", "--url", "--changelog-file=a.json"],
+        &["update", URL, FILE, "--label-filter="],
+        &["update", URL, FILE, "--label-filter=a and"],
+        &["update", URL, FILE, "--context-filter=a b"],
+        &["update", URL, FILE, "--context-filter=@a"],
+        &[
+            "update",
+            URL,
+            FILE,
+            "--context-filter=a",
+            "--context-filter=b",
+        ],
+        &["validate", URL, FILE, "--context-filter=a"],
+        &["rollback", URL, FILE],
+        &["rollback", URL, FILE, "--tag="],
+        &["rollback-count", URL, FILE, "--count=+1"],
+        &["rollback-count", URL, FILE, "--count=01"],
+        &["rollback-count", URL, FILE, "--count=4294967296"],
+        &["rollback-to-date", URL, FILE, "--date=1970-02-30"],
+        &["rollback-sql", URL, FILE],
+        &["rollback-sql", URL, FILE, "--tag=t", "--count=1"],
+        &["tag", URL, "--tag=t", FILE],
+        &["drill", URL, "--runs=r"],
+    ];
+    for words in cases {
+        let text = told(rt.alloc(), words)?;
+        assert_eq!(rt; text.as_str(), "usage");
+    }
+    Ok(())
+}
