@@ -35,7 +35,8 @@ impl Reader for Dialects {
     }
 }
 
-/// What `dbms` says, true without it.
+/// Whether what stands at a node is for the dialect: what its `dbms` says, true without it. A faulty
+/// `dbms` is told by its path.
 #[tactic(auto, unfolding(crate::specs::Changes::here_at))]
 pub fn here_at(alloc: Global, node: &Node, dialect: Dialect) -> Result<bool, KindFault>
     ensures { Reads (here_at dialect node.now) result }

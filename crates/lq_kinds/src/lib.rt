@@ -16,5 +16,6 @@ mod sum;
 
 pub use any_change::AnyChange;
 pub use change_set::{ChangeSet, Changelog};
+pub use changes::here_at;
 pub use fault::SetFault;
 pub use label::is_label;
