@@ -6,4 +6,3 @@ mod Stated
 mod WentOn
 mod Makes
 mod Takes
-pub mod WellTurned

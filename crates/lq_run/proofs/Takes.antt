@@ -23,11 +23,12 @@ use Rattle.lq_turns.specs.declared.deed.OnLock.TheVariants.{Freed, LockMade, Loc
 use Rattle.lq_turns.specs.declared.stamp.Stamp.{Stamp}
 use Rattle.lq_beside.specs.Replays.{call_fits, calls_fit}
 use Rattle.lq_run.specs.Does.{Faults}
-use Rattle.lq_run.specs.Moves.{AreTurns, Goes, IsAt, IsNext, IsReady, Makes, MakesAs, Takes, calls_left, hand_place, opens, place_of}
+use Rattle.lq_hand.specs.Hand.{AreTurns, IsNext, IsReady, calls_left, hand_place, opens, place_of}
+use Rattle.lq_run.specs.Moves.{Goes, IsAt, Makes, MakesAs, Takes}
 use Rattle.lq_run.specs.Stands.{Stands}
-use Rattle.lq_run.specs.declared.hand.Hand.{Hand}
+use Rattle.lq_hand.specs.declared.hand.Hand.{Hand}
 use Rattle.lq_run.specs.declared.hand.Moved.TheVariants as moved
-use Rattle.lq_run.specs.declared.hand.Phase.TheVariants as phase
+use Rattle.lq_hand.specs.declared.hand.Phase.TheVariants as phase
 
 -- the last in the list is the first call
 pub last_first : (calls left : List Call) (call : Call) → calls ≡ left ++ call ∷ [] → reverse calls ≡ call ∷ reverse left

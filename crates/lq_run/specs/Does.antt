@@ -25,6 +25,7 @@ use Rattle.lq_turns.specs.declared.deed.Deed.{Deed}
 use Rattle.lq_turns.specs.declared.deed.Deed.TheVariants.{Locks, Rows, Users}
 use Rattle.lq_turns.specs.declared.deed.OnLock.TheVariants.{Taken}
 use Rattle.lq_turns.specs.declared.deed.OnRows.TheVariants.{Inserted, Renewed}
+use Rattle.lq_hand.specs.Writable.{IsWritable}
 use Rattle.lq_run.specs.Stands.{Stands, deed_text, entries_of}
 
 -- the text is the statement's, and is read back as it
@@ -35,15 +36,7 @@ Reads d s text = (text ≡ text_of d s) × (statement_in d text ≡ Some s)
 abbrev pub IsRead : Dialect → Deed → Type 0
 IsRead d deed = statement_in d (deed_text d deed) ≡ Some (made_of d deed).1
 
--- its statement can be written: a user's is of the dialect, and the program's has moments of the calendar
-abbrev pub IsWritable : Dialect → Deed → Type 0
-IsWritable d (Users s) = is_statement d s ≡ true
-IsWritable d (Rows (Inserted row)) = IsMoment row.date
-IsWritable d (Rows (Renewed row)) = IsMoment row.date
-IsWritable d (Locks (Taken at by)) = at ≤ 253402300799999
-IsWritable d _ = Unit {0}
-
--- and of a list of deeds each
+-- of a list of deeds each
 
 abbrev pub AllWritable : Dialect → List Deed → Type 0
 AllWritable d [] = Unit {0}

@@ -1,4 +1,3 @@
 pub mod Stands
 pub mod Does
 pub mod Moves
-pub mod Enters

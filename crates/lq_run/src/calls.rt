@@ -1,5 +1,6 @@
 ghost use Rattle.std.specs.Prelude.{◌≡◌, ◌++◌, IfOk, IsTrue, OnOk, false, true};
-ghost use Rattle.lq_run.specs.Does.{AbortFor, AllRead, AllWritable, AloneFor, BeginFor, CommitFor, DoesFor, IsRead, IsWritable};
+ghost use Rattle.lq_hand.specs.Writable.{IsWritable};
+ghost use Rattle.lq_run.specs.Does.{AbortFor, AllRead, AllWritable, AloneFor, BeginFor, CommitFor, DoesFor, IsRead};
 ghost use Rattle.lq_run.specs.Stands.{text_by, texts_of};
 ghost use Rattle.lq_store.specs.State.{is_open};
 

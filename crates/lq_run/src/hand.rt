@@ -1,36 +1,17 @@
 ghost use Rattle.std.specs.Prelude.{◌≡◌, ◌≢◌, IsTrue, [], false, true};
-ghost use Rattle.lq_run.specs.declared.hand.Phase.TheVariants as phase;
-ghost use Rattle.lq_run.specs.Moves.{AreTurns, IsNext, Makes, Takes, calls_left, moved_of};
+ghost use Rattle.lq_hand.specs.Hand.{AreTurns, IsNext, calls_left};
+ghost use Rattle.lq_hand.specs.declared.hand.Phase.TheVariants as phase;
+ghost use Rattle.lq_run.specs.Moves.{Makes, Takes, moved_of};
 ghost use Rattle.lq_store.specs.State.{is_open};
 ghost use Rattle.lq_turns.specs.declared.stamp.Stamp.{Stamp};
 
 use crate::calls::{begin, commit, do_deed};
-use crate::source::Source;
-use lq_base::{Dialect, Items, Reason};
+use lq_base::{Dialect, Reason};
+use lq_hand::{Hand, Phase, Source};
 use lq_model::{SqlText, StoreFault};
 use lq_store::Store;
 use lq_turns::Call;
 use std::alloc::Global;
-
-/// Where a command stands that has begun.
-#[derive(Clone, Copy, Debug)]
-pub enum Phase {
-    Inside,
-    /// A statement of the turn was refused.
-    GivingUp,
-    /// The lock is free again.
-    Over,
-}
-
-/// The turn in hand.
-#[derive(Debug, Drop)]
-pub struct Hand {
-    pub phase: Phase,
-    /// Its calls that are still to be made, the next of them last.
-    pub calls: Items<Call>,
-    /// Whether the command goes on where one of them is refused.
-    pub goes_on: bool,
-}
 
 /// What became of a call.
 #[derive(Clone, Copy, Debug)]

@@ -4,8 +4,6 @@
 mod calls;
 mod deed;
 mod hand;
-mod source;
 
 pub use calls::{abort, begin, commit, do_alone, do_deed};
-pub use hand::{Hand, Moved, Phase, take};
-pub use source::{Entered, Source};
+pub use hand::{Moved, take};

@@ -1,6 +1,7 @@
 use Rattle.std.proofs.Common.{subst, sym}
 use Rattle.lq_run.proofs.Makes.{deed_makes}
-use Rattle.lq_run.specs.Moves.{IsNext, Makes}
+use Rattle.lq_hand.specs.Hand.{IsNext}
+use Rattle.lq_run.specs.Moves.{Makes}
 use Rattle.lq_store.specs.State.{is_open}
 use Rattle.lq_turns.specs.declared.call.Call.TheVariants.{Execute}
 use Rattle.lq_run.proofs.hand.make.Goals as goal

@@ -10,11 +10,11 @@ use Rattle.lq_turns.specs.Script.{closing}
 use Rattle.lq_turns.specs.Set.{Meaning}
 use Rattle.lq_turns.specs.declared.call.Call.{Call}
 use Rattle.lq_turns.specs.declared.stamp.Stamp.{Stamp}
-use Rattle.lq_run.specs.Moves.{AreTurns, calls_left, place_of}
-use Rattle.lq_run.specs.declared.hand.Hand.{Hand}
-use Rattle.lq_run.specs.declared.hand.Phase.TheVariants as phase
-use Rattle.lq_run.specs.declared.source.Entered.{Entered}
-use Rattle.lq_run.specs.declared.source.Entered.TheVariants as entered
+use Rattle.lq_hand.specs.Hand.{AreTurns, calls_left, place_of}
+use Rattle.lq_hand.specs.declared.hand.Hand.{Hand}
+use Rattle.lq_hand.specs.declared.hand.Phase.TheVariants as phase
+use Rattle.lq_hand.specs.declared.source.Entered.{Entered}
+use Rattle.lq_hand.specs.declared.source.Entered.TheVariants as entered
 
 -- a turn in hand, of which no call is made
 pub record IsTurn (d : Dialect) (hand : Hand) : Type 0 where

@@ -14,8 +14,8 @@ use Rattle.lq_turns.specs.declared.call.Call.TheVariants.{Begin, Commit, Execute
 use Rattle.lq_turns.specs.declared.deed.Deed.TheVariants.{Locks, Rows, Users}
 use Rattle.lq_turns.specs.declared.deed.OnLock.TheVariants.{Marked}
 use Rattle.lq_turns.specs.declared.turn.Turn.{Turn}
-use Rattle.lq_run.specs.Does.{IsWritable}
-use Rattle.lq_run.specs.Moves.{AreTurns}
+use Rattle.lq_hand.specs.Writable.{IsWritable}
+use Rattle.lq_hand.specs.Hand.{AreTurns}
 
 module _ (d : Dialect) (who : List ℕ) (turn : Turn) where
   step_well : (whole own : Bool) (k : ℕ) (s : Statement) (more : List Call) → is_statement d s ≡ true → AreTurns d whole more

@@ -1,5 +1,5 @@
 ghost use Rattle.std.specs.Prelude.{◌≡◌};
-ghost use Rattle.lq_run.specs.Enters.{Enters};
+ghost use Rattle.lq_hand.specs.Enters.{Enters};
 ghost use Rattle.lq_turns.specs.Rest.{NoMore};
 
 use crate::hand::Hand;

@@ -1,0 +1,3 @@
+pub mod Writable
+pub mod Hand
+pub mod Enters
