@@ -1,4 +1,4 @@
-ghost use Rattle.std.specs.Prelude.{◌≡◌, ◌≤◌, ◌⊎◌, Err, IfOk, length, map};
+ghost use Rattle.std.specs.Prelude.{◌≡◌, ◌⊎◌, Err, IfOk, map};
 ghost use Rattle.std.specs.Str.Lines.{lines};
 ghost use Rattle.lq_sqlfile.specs.Machine.{file_of};
 ghost use Rattle.lq_sqlfile.specs.declared.fault.SqlFault.TheVariants as sql;
@@ -12,6 +12,9 @@ use lq_base::{Items, NoMemory, Text};
 use lq_sqlfile::{SqlFault, SqlFile, SqlSet, read_sql};
 use lq_tree::Node;
 use std::alloc::Global;
+
+/// The longest file that is read.
+const MOST_BYTES: usize = 16_777_216;
 
 fn items(alloc: Global, logical: &Option<Text>, sets: &[SqlSet]) -> Result<Items<Node>, NoMemory>
     ensures { IfOk result (λ nodes. nodes ≡ map (item logical.now) sets.now) }
@@ -32,18 +35,20 @@ fn tree_of(alloc: Global, file: &SqlFile) -> Result<Node, NoMemory>
     Ok(node)
 }
 
-/// The file, by what its lines say.
+/// The file, by what its lines say. One of more than 16,777,216 bytes finds no memory.
 fn file_in(alloc: Global, bytes: &[u8]) -> Result<SqlFile, SqlFault>
-    requires { length bytes.now ≤ 16_777_216 }
     ensures { (result ≡ Err sql.OutOfMemory) ⊎ (result ≡ file_of (lines bytes.now)) }
 {
+    if bytes.len() > MOST_BYTES {
+        return Err(SqlFault::OutOfMemory);
+    }
     read_sql(alloc, bytes)
 }
 
-/// The tree of a file of formatted SQL: at most 16,777,216 bytes. Each changeset has the keys that it
-/// has in JSON and YAML, and stands under the number of the line at which it begins.
+/// The tree of a file of formatted SQL. Each changeset has the keys that it has in JSON and YAML, and
+/// stands under the number of the line at which it begins. A file of more than 16,777,216 bytes, which
+/// no loading reads, is answered by want of memory.
 pub fn read_sql_tree(alloc: Global, bytes: &[u8]) -> Result<Node, SqlTreeFault>
-    requires { length bytes.now ≤ 16_777_216 }
     ensures { (result ≡ Err OutOfMemory) ⊎ (result ≡ sql_tree bytes.now) }
 {
     match file_in(alloc, bytes) {
