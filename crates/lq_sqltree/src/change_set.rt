@@ -1,5 +1,4 @@
 ghost use Rattle.std.specs.Prelude.{◌≡◌, ◌++◌, IfOk, OnOk};
-ghost use Rattle.lq_tree.specs.declared.node.Node.{List as ListNode, Text as TextNode};
 ghost use Rattle.lq_sqltree.specs.SqlTree.{change_set, changes, check, conditions, is_of_sql, item, names_path, own_keys, path_key, reaction, rollback_key, set_keys, sql_keys, undoing};
 
 use crate::entries::{push_entry, push_text, text_entry, under};

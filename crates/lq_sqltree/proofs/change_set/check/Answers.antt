@@ -1,4 +1,4 @@
-use Rattle.std.proofs.Common.{◌≡◌, ◌∙◌, List, ℕ, ap, codes}
+use Rattle.std.proofs.Common.{◌∙◌, List, ℕ, ap, codes}
 use Rattle.lq_tree.specs.declared.node.Node.{Map as MapNode, Node, Text as TextNode}
 use Rattle.lq_sqltree.specs.SqlTree.{under}
 use Rattle.lq_sqltree.proofs.Pushed.{pushed_two}

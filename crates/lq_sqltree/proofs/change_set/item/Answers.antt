@@ -1,7 +1,6 @@
-use Rattle.std.proofs.Common.{◌≡◌, ◌∙◌, List, ℕ, ap, codes}
+use Rattle.std.proofs.Common.{◌∙◌, List, ℕ, ap, codes}
 use Rattle.std.specs.Fmt.{decimal}
-use Rattle.lq_tree.specs.declared.node.Node.{Node}
-use Rattle.lq_sqltree.specs.SqlTree.{change_set, item, under}
+use Rattle.lq_sqltree.specs.SqlTree.{item, under}
 use Rattle.lq_sqltree.proofs.change_set.item.Goals as goal
 
 pub returns : goal.returns

@@ -1,4 +1,3 @@
-use Rattle.std.proofs.Common.{subst, sym, ◌≡◌}
 use Rattle.lq_sqltree.proofs.Files.{fault_read, tree_read}
 use Rattle.lq_sqltree.proofs.reading.read_sql_tree.Goals as goal
 

@@ -1,4 +1,4 @@
-use Rattle.std.proofs.Common.{◌≡◌, ◌∙◌, List, ap, codes, map}
+use Rattle.std.proofs.Common.{◌∙◌, List, ap, codes, map}
 use Rattle.lq_tree.specs.declared.node.Node.{List as ListNode, Node}
 use Rattle.lq_sqlfile.specs.declared.file.SqlSet.{SqlSet}
 use Rattle.lq_sqltree.specs.SqlTree.{item, tree_of, under}
