@@ -7,3 +7,5 @@ mod faults;
 mod files;
 #[cfg(test)]
 mod shown;
+#[cfg(test)]
+mod trees;
