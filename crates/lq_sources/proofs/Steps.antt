@@ -4,26 +4,27 @@ use Rattle.std.specs.Prelude.{cond, if◌then◌else◌, nat_le, slice_index_or,
 use Rattle.std.proofs.Math.Nat.{le_trans}
 use Rattle.std.proofs.Math.Seq.{drop-cons}
 use Rattle.lq_tree.specs.declared.node.Node.{Node}
-use Rattle.lq_sources.specs.Answers.{Answers, IsFree, Source}
+use Rattle.lq_sources.specs.Answers.{Answers, IsFree}
 use Rattle.lq_sources.specs.Faults.{Loaded, at_place, by_keys, in_file, ◌>>=◌}
 use Rattle.lq_sources.specs.Items.{items_of, place}
 use Rattle.lq_sources.specs.Meaning.{Meaning}
 use Rattle.lq_sources.specs.SoFar.{SoFar, nothing_yet, with_file, with_set}
-use Rattle.lq_sources.specs.Walk.{Held, bytes_read, contents, each_from, file, is_set, item_gathered, may_open, named, root_file, take_item, walked, written}
+use Rattle.lq_sources.specs.Source.{IsTold, Source}
+use Rattle.lq_sources.specs.Walk.{Held, bytes_read, contents, each, each_from, file, is_set, item_gathered, may_open, named, root_file, take_folder, take_item, take_path, taken_under, walked, written}
 use Rattle.lq_sources.specs.declared.fault.LoadFault.{LoadFault}
 use Rattle.lq_sources.specs.declared.fault.LoadFault.TheVariants.{OutOfMemory, TooDeep, TooMany}
 use Rattle.lq_sources.specs.declared.path.Format.{Format}
 
 module _ {G : Type 0} where
   -- how far a loop over items is
-  pub record Gone (whole rest : Source → Loaded (Held G)) (told_first told : Option Source) (first now : ℕ) : Type 0 where
+  pub record Gone (whole rest : Source → Loaded (Held G)) (told_first told : Option (List ℕ → Option (List ℕ))) (first now : ℕ) : Type 0 where
     pub same : told ≡ told_first
     pub later : first ≤ now
-    pub reads : (source : Source) → told_first ≡ Some source → whole source ≡ rest source
+    pub reads : (source : Source) → IsTold told_first source → whole source ≡ rest source
 
   -- what is meant so is meant by what is the same
-  same_meaning : {B : Type 0} (told : Option Source) (m n : Source → Loaded (Held G)) (r : Loaded B) (new : Held G)
-      → ((source : Source) → told ≡ Some source → m source ≡ n source) → Answers told n r new → Answers told m r new
+  same_meaning : {B : Type 0} (told : Option (List ℕ → Option (List ℕ))) (m n : Source → Loaded (Held G)) (r : Loaded B) (new : Held G)
+      → ((source : Source) → IsTold told source → m source ≡ n source) → Answers told n r new → Answers told m r new
   same_meaning told m n (Ok b) new same h = λ source is. same source is ∙ h source is
   same_meaning told m n (Err fault) new same (inl free) = inl free
   same_meaning told m n (Err fault) new same (inr h) = inr (λ source is. same source is ∙ h source is)
@@ -31,7 +32,7 @@ module _ {G : Type 0} where
   module _ (m : Meaning G) where
     -- what the file at a path means, on whatever level
     file_is : (source : Source) (levels : ℕ) (is_root : Bool) (path : List ℕ) (s : Held G)
-        → file m source levels is_root path s ≡ (may_open path levels s.counts >>= (λ format. contents m (file m source (levels - 1) false) source is_root path format s))
+        → file m source levels is_root path s ≡ (may_open path levels s.counts >>= (λ format. contents m source (file m source (levels - 1) false) is_root path format s))
     file_is source zero is_root path s = opened (written path)
       where
         shut : Format → Loaded Format
@@ -40,42 +41,56 @@ module _ {G : Type 0} where
         last : Format → Loaded (Held G)
         last format = Err (TooDeep path)
 
-        opened : (r : Loaded Format) → ((r >>= shut) >>= last) ≡ ((r >>= shut) >>= (λ format. contents m (file m source 0 false) source is_root path format s))
+        opened : (r : Loaded Format) → ((r >>= shut) >>= last) ≡ ((r >>= shut) >>= (λ format. contents m source (file m source 0 false) is_root path format s))
         opened (Ok format) = refl
         opened (Err fault) = refl
     file_is source (suc levels) is_root path s =
-        ap (λ n. may_open path (suc levels) s.counts >>= (λ format. contents m (file m source n false) source is_root path format s)) less
+        ap (λ n. may_open path (suc levels) s.counts >>= (λ format. contents m source (file m source n false) is_root path format s)) less
       where
         less : levels ≡ suc levels - 1
         less = omega arith
 
-    module _ (told : Option Source) (levels : ℕ) (is_root : Bool) (path : List ℕ) (s : Held G) where
+    module _ (told : Option (List ℕ → Option (List ℕ))) (levels : ℕ) (is_root : Bool) (path : List ℕ) (s : Held G) where
       pub not_opened : {B : Type 0} (r : Loaded B) (fault : LoadFault) (new : Held G) → r ≡ Err fault
           → (fault ≡ OutOfMemory) ⊎ (may_open path levels s.counts ≡ Err fault)
           → Answers told (λ source. file m source levels is_root path s) r new
       not_opened r fault new is blames = subst (λ q. Answers told (λ source. file m source levels is_root path s) q new) (sym is) (by blames)
         where
-          by : (fault ≡ OutOfMemory) ⊎ (may_open path levels s.counts ≡ Err fault) → IsFree fault ⊎ ((source : Source) → told ≡ Some source → file m source levels is_root path s ≡ Err fault)
+          by : (fault ≡ OutOfMemory) ⊎ (may_open path levels s.counts ≡ Err fault) → IsFree fault ⊎ ((source : Source) → IsTold told source → file m source levels is_root path s ≡ Err fault)
           by (inl memory) = inl (inl memory)
-          by (inr so) = inr (λ source known. file_is source levels is_root path s ∙ ap (λ f. f >>= (λ format. contents m (file m source (levels - 1) false) source is_root path format s)) so)
+          by (inr so) = inr (λ source known. file_is source levels is_root path s ∙ ap (λ f. f >>= (λ format. contents m source (file m source (levels - 1) false) is_root path format s)) so)
 
       pub opened : {B : Type 0} (r : Loaded B) (new : Held G) (format : Format) → may_open path levels s.counts ≡ Ok format
-          → Answers told (λ source. contents m (file m source (levels - 1) false) source is_root path format s) r new
+          → Answers told (λ source. contents m source (file m source (levels - 1) false) is_root path format s) r new
           → Answers told (λ source. file m source levels is_root path s) r new
-      opened r new format so h = same_meaning told _ (λ source. contents m (file m source (levels - 1) false) source is_root path format s) r new
-          (λ source known. file_is source levels is_root path s ∙ ap (λ f. f >>= (λ format. contents m (file m source (levels - 1) false) source is_root path format s)) so) h
+      opened r new format so h = same_meaning told _ (λ source. contents m source (file m source (levels - 1) false) is_root path format s) r new
+          (λ source known. file_is source levels is_root path s ∙ ap (λ f. f >>= (λ format. contents m source (file m source (levels - 1) false) is_root path format s)) so) h
 
-    pub contents_answer : {B : Type 0} (told after : Option Source) (include : Source → List ℕ → Held G → Loaded (Held G)) (is_root : Bool) (path : List ℕ) (format : Format) (s : Held G) (counts : SoFar)
+    pub contents_answer : {B : Type 0} (told after : Option (List ℕ → Option (List ℕ))) (include : Source → List ℕ → Held G → Loaded (Held G)) (is_root : Bool) (path : List ℕ) (format : Format) (s : Held G) (counts : SoFar)
         (bytes : List ℕ) (tree : Node) (items : List Node) (r : Loaded B) (new : Held G)
         → after ≡ told → counts ≡ with_file (length bytes) s.counts
-        → ((source : Source) → told ≡ Some source → bytes_read path (source path) s.counts ≡ Ok bytes)
+        → ((source : Source) → IsTold told source → bytes_read path (source.content path) s.counts ≡ Ok bytes)
         → in_file path (m.tree format bytes) ≡ Ok tree → in_file path (by_keys (items_of tree)) ≡ Ok items
-        → Answers after (λ source. each_from (take_item m (include source) is_root path) 0 items (record { counts = counts; gathered = s.gathered })) r new
-        → Answers told (λ source. contents m (include source) source is_root path format s) r new
+        → Answers after (λ source. each_from (take_item m source (include source) is_root path) 0 items (record { counts = counts; gathered = s.gathered })) r new
+        → Answers told (λ source. contents m source (include source) is_root path format s) r new
     contents_answer told after include is_root path format s counts bytes tree items r new same is read tree_is keys_are h =
-        same_meaning told _ (λ source. each_from (take_item m (include source) is_root path) 0 items (record { counts = counts; gathered = s.gathered })) r new
+        same_meaning told _ (λ source. each_from (take_item m source (include source) is_root path) 0 items (record { counts = counts; gathered = s.gathered })) r new
         (λ source known. rw (read source known, tree_is, keys_are, is) refl)
-        (subst (λ t. Answers t (λ source. each_from (take_item m (include source) is_root path) 0 items (record { counts = counts; gathered = s.gathered })) r new) same h)
+        (subst (λ t. Answers t (λ source. each_from (take_item m source (include source) is_root path) 0 items (record { counts = counts; gathered = s.gathered })) r new) same h)
+
+    pub folder_answer : {B : Type 0} (told after : Option (List ℕ → Option (List ℕ))) (include : Source → List ℕ → Held G → Loaded (Held G)) (folder : List ℕ) (s : Held G) (paths given : List (List ℕ)) (r : Loaded B) (new : Held G)
+        → after ≡ told → given ≡ paths → ((source : Source) → IsTold told source → taken_under source folder ≡ Ok paths)
+        → Answers after (λ source. each (take_path (include source)) given s) r new
+        → Answers told (λ source. take_folder (include source) source folder s) r new
+    folder_answer told after include folder s paths given r new same are found h =
+        same_meaning told (λ source. take_folder (include source) source folder s) (λ source. each (take_path (include source)) given s) r new
+        (λ source known. ap (λ f. f >>= (λ ps. each (take_path (include source)) ps s)) (found source known) ∙ ap (λ ps. each (take_path (include source)) ps s) (sym are))
+        (subst (λ t. Answers t (λ source. each (take_path (include source)) given s) r new) same h)
+
+    pub path_answer : {B : Type 0} (told : Option (List ℕ → Option (List ℕ))) (include : Source → List ℕ → Held G → Loaded (Held G)) (path : List ℕ) (s : Held G) (r : Loaded B) (new : Held G)
+        → named path ≡ Ok path → Answers told (λ source. include source path s) r new → Answers told (λ source. take_path (include source) path s) r new
+    path_answer told include path s r new is h =
+        same_meaning told (λ source. take_path (include source) path s) (λ source. include source path s) r new (λ source known. ap (λ f. f >>= (λ p. include source p s)) is) h
 
     abbrev full : Bool → Loaded (Held G) → Loaded (Held G)
     full so rest = if so then Err TooMany else rest
@@ -101,15 +116,15 @@ module _ {G : Type 0} where
     unfolding walked
     walked_err source root given g counts fault path begun read = rw (path, sym begun, read) refl
 
-    pub not_walked : (told : Option Source) (root : List ℕ) (given : List (List ℕ × List ℕ)) (g : G) (counts : SoFar) (fault : LoadFault) → named root ≡ Ok root → counts ≡ nothing_yet given
-        → IsFree fault ⊎ ((source : Source) → told ≡ Some source → root_file m source root (record { counts = counts; gathered = g }) ≡ Err fault)
-        → IsFree fault ⊎ ((source : Source) → told ≡ Some source → walked m source root given g ≡ Err fault)
+    pub not_walked : (told : Option (List ℕ → Option (List ℕ))) (root : List ℕ) (given : List (List ℕ × List ℕ)) (g : G) (counts : SoFar) (fault : LoadFault) → named root ≡ Ok root → counts ≡ nothing_yet given
+        → IsFree fault ⊎ ((source : Source) → IsTold told source → root_file m source root (record { counts = counts; gathered = g }) ≡ Err fault)
+        → IsFree fault ⊎ ((source : Source) → IsTold told source → walked m source root given g ≡ Err fault)
     not_walked told root given g counts fault path begun (inl free) = inl free
     not_walked told root given g counts fault path begun (inr h) = inr (λ source known. walked_err source root given g counts fault path begun (h source known))
 
   -- ---- the loop over items
 
-  module _ {A : Type 0} (whole : Source → Loaded (Held G)) (first_told told : Option Source) (first now : ℕ) (f : Source → ℕ → A → Held G → Loaded (Held G)) (xs : List A) (i : ℕ) (x d : A) (s : Held G) where
+  module _ {A : Type 0} (whole : Source → Loaded (Held G)) (first_told told : Option (List ℕ → Option (List ℕ))) (first now : ℕ) (f : Source → ℕ → A → Held G → Loaded (Held G)) (xs : List A) (i : ℕ) (x d : A) (s : Held G) where
     abbrev pub AtItem : Type 0
     AtItem = Gone whole (λ source. each_from (f source) i (drop i xs) s) first_told told first now
 
@@ -118,23 +133,23 @@ module _ {G : Type 0} where
     stepped source r lt is so =
         ap (λ l. each_from (f source) i l s) (drop-cons xs i d lt) ∙ (ap (λ y. f source i y s >>= each_from (f source) (suc i) (drop (suc i) xs)) (sym is) ∙ ap (λ q. q >>= each_from (f source) (suc i) (drop (suc i) xs)) so)
 
-    pub item_taken : (after : Option Source) (later : ℕ) (new : Held G) → i < length xs → x ≡ slice_index_or xs i d → AtItem → after ≡ told → now ≤ later
-        → ((source : Source) → told ≡ Some source → f source i x s ≡ Ok new)
+    pub item_taken : (after : Option (List ℕ → Option (List ℕ))) (later : ℕ) (new : Held G) → i < length xs → x ≡ slice_index_or xs i d → AtItem → after ≡ told → now ≤ later
+        → ((source : Source) → IsTold told source → f source i x s ≡ Ok new)
         → Gone whole (λ source. each_from (f source) (i + 1) (drop (i + 1) xs) new) first_told after first later
     item_taken after later new lt is gone same rises took = record {
       same = same ∙ gone.same;
       later = le_trans gone.later rises;
-      reads = λ source known. gone.reads source known ∙ (stepped source (Ok new) lt is (took source (gone.same ∙ known)) ∙ ap (λ n. each_from (f source) n (drop n xs) new) next);
+      reads = λ source known. gone.reads source known ∙ (stepped source (Ok new) lt is (took source (subst (λ t. IsTold t source) (sym gone.same) known)) ∙ ap (λ n. each_from (f source) n (drop n xs) new) next);
     }
       where
         next : suc i ≡ i + 1
         next = omega arith
 
     pub item_failed : {B : Type 0} (r : Loaded B) (fault : LoadFault) (new : Held G) → r ≡ Err fault → i < length xs → x ≡ slice_index_or xs i d → AtItem
-        → IsFree fault ⊎ ((source : Source) → told ≡ Some source → f source i x s ≡ Err fault)
+        → IsFree fault ⊎ ((source : Source) → IsTold told source → f source i x s ≡ Err fault)
         → Answers first_told whole r new
     item_failed r fault new so lt is gone blames = subst (λ q. Answers first_told whole q new) (sym so) (by blames)
       where
-        by : IsFree fault ⊎ ((source : Source) → told ≡ Some source → f source i x s ≡ Err fault) → IsFree fault ⊎ ((source : Source) → first_told ≡ Some source → whole source ≡ Err fault)
+        by : IsFree fault ⊎ ((source : Source) → IsTold told source → f source i x s ≡ Err fault) → IsFree fault ⊎ ((source : Source) → IsTold first_told source → whole source ≡ Err fault)
         by (inl free) = inl free
-        by (inr h) = inr (λ source known. gone.reads source known ∙ stepped source (Err fault) lt is (h source (gone.same ∙ known)))
+        by (inr h) = inr (λ source known. gone.reads source known ∙ stepped source (Err fault) lt is (h source (subst (λ t. IsTold t source) (sym gone.same) known)))

@@ -1,13 +1,10 @@
 -- How the calls of a loading answer.
-use Rattle.std.specs.Prelude.{Bool, Err, List, Ok, Option, Result, Some, false, true, ℕ, ◌≡◌, ◌⊎◌}
+use Rattle.std.specs.Prelude.{Bool, Err, List, Ok, Option, Result, false, true, ℕ, ◌≡◌, ◌⊎◌}
 use Rattle.lq_sources.specs.Faults.{Loaded, is_memory}
+pub use Rattle.lq_sources.specs.Source.{IsTold, Source}
 use Rattle.lq_sources.specs.declared.fault.LoadFault.{LoadFault}
 use Rattle.lq_sources.specs.declared.fault.LoadFault.TheVariants.{OutOfMemory, Read}
 use Rattle.lq_sources.specs.declared.fault.What.{What}
-
--- what each path holds
-abbrev pub Source : Type 0
-Source = List ℕ → Option (List ℕ)
 
 -- what no definition tells: want of memory, and files that fail
 abbrev pub IsFree : LoadFault → Type 0
@@ -28,14 +25,14 @@ Holds meant (Ok _) new = meant ≡ Ok new
 Holds meant (Err fault) new = ((fault ≡ OutOfMemory) ⊎ (meant ≡ Err fault)) × (is_read fault ≡ false)
 
 -- the answer of a reading that is meant so where the files hold a source
-abbrev pub Answers : {A B : Type 0} → Option Source → (Source → Loaded A) → Loaded B → A → Type 0
-Answers told meant (Ok _) new = (source : Source) → told ≡ Some source → meant source ≡ Ok new
-Answers told meant (Err fault) new = IsFree fault ⊎ ((source : Source) → told ≡ Some source → meant source ≡ Err fault)
+abbrev pub Answers : {A B : Type 0} → Option (List ℕ → Option (List ℕ)) → (Source → Loaded A) → Loaded B → A → Type 0
+Answers told meant (Ok _) new = (source : Source) → IsTold told source → meant source ≡ Ok new
+Answers told meant (Err fault) new = IsFree fault ⊎ ((source : Source) → IsTold told source → meant source ≡ Err fault)
 
 -- the same of a reading whose value is the answer
-abbrev pub Finds : {A : Type 0} → Option Source → (Source → Loaded A) → Loaded A → Type 0
-Finds told meant (Ok a) = (source : Source) → told ≡ Some source → meant source ≡ Ok a
-Finds told meant (Err fault) = IsFree fault ⊎ ((source : Source) → told ≡ Some source → meant source ≡ Err fault)
+abbrev pub Finds : {A : Type 0} → Option (List ℕ → Option (List ℕ)) → (Source → Loaded A) → Loaded A → Type 0
+Finds told meant (Ok a) = (source : Source) → IsTold told source → meant source ≡ Ok a
+Finds told meant (Err fault) = IsFree fault ⊎ ((source : Source) → IsTold told source → meant source ≡ Err fault)
 
 -- the answer of a reading of one file's contents, or want of memory
 abbrev pub Makes : {A B : Type 0} → Result A What → Result B What → A → Type 0

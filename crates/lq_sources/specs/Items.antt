@@ -12,7 +12,7 @@ use Rattle.lq_tree.specs.Look.{list_of, map_of, value_at}
 use Rattle.lq_tree.specs.declared.node.Node.{Node}
 use Rattle.lq_sources.specs.declared.item.Included.{Included}
 use Rattle.lq_sources.specs.declared.item.Item.{Item}
-use Rattle.lq_sources.specs.declared.item.Item.TheVariants.{Include, Other, Property as PropertyItem}
+use Rattle.lq_sources.specs.declared.item.Item.TheVariants.{Include, IncludeAll, Other, Property as PropertyItem}
 use Rattle.lq_sources.specs.declared.item.Property.{Property}
 
 abbrev listed : Option (List Node) → Found (List Node)
@@ -39,11 +39,11 @@ entry_in (Some es) = one_entry es
 abbrev pub entry_of : Node → Option (List ℕ × Node)
 entry_of item = entry_in (map_of item)
 
--- a file that is included, and whether its path is from the including file's folder
-unfoldable pub included : Taken Included
-included n =
-    and_then (known (codes "file" ∷ codes "relativeToChangelogFile" ∷ []) n) (λ _.
-    and_then (at_required (codes "file") a_text (value_at (codes "file") n)) (λ path.
+-- the path at this key that is included, and whether it is from the including file's folder
+unfoldable pub included : List ℕ → Taken Included
+included key n =
+    and_then (known (key ∷ codes "relativeToChangelogFile" ∷ []) n) (λ _.
+    and_then (at_required key a_text (value_at key n)) (λ path.
     and_then (at_optional (codes "relativeToChangelogFile") a_truth (value_at (codes "relativeToChangelogFile") n)) (λ relative.
     Ok (record { path = path; relative = unwrap_or relative false }))))
 
@@ -60,6 +60,7 @@ property here n =
 -- an item by its key
 unfoldable pub item_at : Taken Bool → List ℕ → Taken Item
 item_at here key n =
-    if bytes_eq key (codes "include") then within key (and_then (included n) (λ it. Ok (Include it)))
+    if bytes_eq key (codes "include") then within key (and_then (included (codes "file") n) (λ it. Ok (Include it)))
+    else if bytes_eq key (codes "includeAll") then within key (and_then (included (codes "path") n) (λ it. Ok (IncludeAll it)))
     else if bytes_eq key (codes "property") then within key (and_then (property here n) (λ it. Ok (PropertyItem it)))
     else Ok Other

@@ -4,5 +4,6 @@ pub mod Items
 pub mod Meaning
 pub mod Paths
 pub mod SoFar
+pub mod Source
 pub mod Values
 pub mod Walk

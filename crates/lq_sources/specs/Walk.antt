@@ -1,20 +1,21 @@
 -- What the files below a root bring, or the first fault.
-use Rattle.std.specs.Prelude.{Bool, Err, List, None, Ok, Option, Some, [], codes, cond, false, if◌then◌else◌, length, nat_le, nat_lt, not, suc, true, zero, ℕ, ◌&&◌, ◌+◌, ◌==◌, ◌∷◌}
+use Rattle.std.specs.Prelude.{Bool, Err, List, None, Ok, Option, Some, [], codes, cond, false, if◌then◌else◌, is_some, length, nat_le, nat_lt, not, suc, true, zero, ℕ, ◌&&◌, ◌+◌, ◌==◌, ◌||◌, ◌∷◌}
+use Rattle.std.specs.List.{filter}
 use Rattle.std.specs.Str.{bytes_eq}
 use Rattle.lq_base.specs.Character.{char_count, has_control}
 use Rattle.lq_base.specs.declared.fault.KindFault.TheVariants.{Bad}
 use Rattle.lq_tree.specs.declared.node.Node.{Node}
-use Rattle.lq_sources.specs.Answers.{Source}
 use Rattle.lq_sources.specs.Faults.{Loaded, at_place, by_keys, in_file, ◌>>=◌}
 use Rattle.lq_sources.specs.Items.{entry_of, item_at, items_of, place}
 use Rattle.lq_sources.specs.Meaning.{Meaning}
 use Rattle.lq_sources.specs.Paths.{format_of, is_xml, joined, plain}
 use Rattle.lq_sources.specs.SoFar.{SoFar, nothing_yet, so_far, with_file, with_property, with_set}
+use Rattle.lq_sources.specs.Source.{Source}
 use Rattle.lq_sources.specs.Values.{filled, value_in}
 use Rattle.lq_sources.specs.declared.fault.LoadFault.TheVariants.{Fault, NoFile, TooDeep, TooLong, TooMany, Xml}
 use Rattle.lq_sources.specs.declared.fault.What.TheVariants.{BadPath, Key, UnknownFormat}
 use Rattle.lq_sources.specs.declared.item.Item.{Item}
-use Rattle.lq_sources.specs.declared.item.Item.TheVariants.{Include, Other, Property}
+use Rattle.lq_sources.specs.declared.item.Item.TheVariants.{Include, IncludeAll, Other, Property}
 use Rattle.lq_sources.specs.declared.path.Format.{Format}
 use Rattle.lq_sources.specs.declared.reading.Reading.{Reading}
 
@@ -22,6 +23,9 @@ use Rattle.lq_sources.specs.declared.reading.Reading.{Reading}
 abbrev pub each_from : {A S : Type 0} → (ℕ → A → S → Loaded S) → ℕ → List A → S → Loaded S
 each_from take i [] s = Ok s
 each_from take i (x ∷ xs) s = take i x s >>= each_from take (suc i) xs
+
+abbrev pub each : {A S : Type 0} → (A → S → Loaded S) → List A → S → Loaded S
+each take xs s = each_from (λ i. take) 0 xs s
 
 -- ---- paths
 
@@ -33,9 +37,21 @@ may_name path = nat_le 1 (char_count path) && (nat_le (char_count path) 255 && n
 abbrev pub named : List ℕ → Loaded (List ℕ)
 named path = if may_name path then Ok path else Err (Fault path BadPath)
 
--- the path that an include leads to: it stays within the folders that it names, and may name a file
+-- the path that an include leads to: it stays within the folders that it names
 unfoldable pub target : List ℕ → Loaded (List ℕ)
-target path = elim (plain path) [ None ↦ Err (Fault path BadPath) | Some p ↦ named p ]
+target path = elim (plain path) [ None ↦ Err (Fault path BadPath) | Some p ↦ Ok p ]
+
+-- a file that an includeAll takes: those of another ending are passed over, but XML is refused when it is opened
+abbrev pub is_taken : List ℕ → Bool
+is_taken path = is_xml path || is_some (format_of path)
+
+abbrev pub some_taken : List ℕ → List (List ℕ) → Loaded (List (List ℕ))
+some_taken folder [] = Err (NoFile folder)
+some_taken folder (p ∷ ps) = Ok (p ∷ ps)
+
+-- the files under a folder that an includeAll takes: there is one
+unfoldable pub taken_under : Source → List ℕ → Loaded (List (List ℕ))
+taken_under source folder = some_taken folder (filter is_taken (source.under folder))
 
 -- what the file at a path is written in
 unfoldable pub written : List ℕ → Loaded Format
@@ -69,6 +85,15 @@ is_set key = bytes_eq key (codes "changeSet")
 unfoldable pub entry_at : List ℕ → ℕ → Node → Loaded (List ℕ × Node)
 entry_at path i n = elim (entry_of n) [ None ↦ Err (Fault path (Key (Bad (place i)))) | Some e ↦ Ok e ]
 
+module _ {G : Type 0} (include : List ℕ → Held G → Loaded (Held G)) where
+  -- the file at a path that an include or includeAll leads to
+  abbrev pub take_path : List ℕ → Held G → Loaded (Held G)
+  take_path path s = named path >>= (λ p. include p s)
+
+  -- the files that an includeAll takes, in order of the bytes of their paths
+  abbrev pub take_folder : Source → List ℕ → Held G → Loaded (Held G)
+  take_folder source folder s = taken_under source folder >>= (λ paths. each take_path paths s)
+
 module _ {G : Type 0} (m : Meaning G) where
   -- an item by its key
   unfoldable pub item_read : List ℕ → ℕ → List ℕ → Node → Loaded Item
@@ -85,10 +110,11 @@ module _ {G : Type 0} (m : Meaning G) where
   abbrev pub items_read : List ℕ → Format → List ℕ → Loaded (List Node)
   items_read path format bytes = in_file path (m.tree format bytes) >>= (λ tree. in_file path (by_keys (items_of tree)))
 
-  module _ (include : List ℕ → Held G → Loaded (Held G)) where
+  module _ (source : Source) (include : List ℕ → Held G → Loaded (Held G)) where
     -- what an item of the file at a path brings
     abbrev pub bring : Bool → List ℕ → ℕ → List ℕ → Node → Item → Held G → Loaded (Held G)
-    bring is_root path i key n (Include it) s = target (joined path it.relative it.path) >>= (λ p. include p s)
+    bring is_root path i key n (Include it) s = target (joined path it.relative it.path) >>= (λ p. take_path include p s)
+    bring is_root path i key n (IncludeAll it) s = target (joined path it.relative it.path) >>= (λ folder. take_folder include source folder s)
     bring is_root path i key n (Property it) s = Ok (record { counts = with_property path it s.counts; gathered = s.gathered })
     bring is_root path i key n Other s = item_gathered is_root path i key n s
 
@@ -100,9 +126,9 @@ module _ {G : Type 0} (m : Meaning G) where
     take_item is_root path i n s = entry_at path i (filled (value_in s.counts.values path) n) >>= (λ e. take_entry is_root path i e.0 e.1 s)
 
     -- what the file at a path brings
-    abbrev pub contents : Source → Bool → List ℕ → Format → Held G → Loaded (Held G)
-    contents source is_root path format s =
-        bytes_read path (source path) s.counts >>= (λ bytes.
+    abbrev pub contents : Bool → List ℕ → Format → Held G → Loaded (Held G)
+    contents is_root path format s =
+        bytes_read path (source.content path) s.counts >>= (λ bytes.
         items_read path format bytes >>= (λ items.
         each_from (take_item is_root path) 0 items (record { counts = with_file (length bytes) s.counts; gathered = s.gathered })))
 
@@ -110,7 +136,7 @@ module _ {G : Type 0} (m : Meaning G) where
     -- the file at a path, which is on the first of so many levels
     abbrev pub file : ℕ → Bool → List ℕ → Held G → Loaded (Held G)
     file zero is_root path s = may_open path 0 s.counts >>= (λ format. Err (TooDeep path))
-    file (suc levels) is_root path s = may_open path (suc levels) s.counts >>= (λ format. contents (file levels false) source is_root path format s)
+    file (suc levels) is_root path s = may_open path (suc levels) s.counts >>= (λ format. contents source (file levels false) is_root path format s)
 
     -- the root, and 32 levels of includes below it
     unfoldable pub root_file : List ℕ → Held G → Loaded (Held G)

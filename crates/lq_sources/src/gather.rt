@@ -24,8 +24,8 @@ pub trait Gather {
     fn is_here(&self, alloc: Global, node: &Node) -> Result<bool, KindFault>
         ensures { Reads ((means self.now).here node.now) result };
 
-    /// Gathers what stands at the key of an item that is no include and no property. The paths of
-    /// faults begin with the key.
+    /// Gathers what stands at the key of an item that is no include, no includeAll and no property.
+    /// The paths of faults begin with the key.
     fn gather(
         &self,
         alloc: Global,

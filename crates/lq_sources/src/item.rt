@@ -8,7 +8,7 @@ use lq_base::{KindFault, NoMemory, Text};
 use lq_tree::{Node, bad_key, known, missing, optional, placed, required};
 use std::alloc::Global;
 
-/// What an include says.
+/// What an include says of a file, or an includeAll of a folder.
 #[derive(Debug, Drop)]
 pub struct Included {
     pub path: Text,
@@ -29,17 +29,18 @@ pub struct Property {
 #[derive(Debug, Drop)]
 pub enum Item {
     Include(Included),
+    IncludeAll(Included),
     Property(Property),
     /// What is gathered.
     Other,
 }
 
 #[tactic(auto, unfolding(crate::specs::Items::included))]
-fn read_included(alloc: Global, node: &Node) -> Result<Included, KindFault>
-    ensures { Reads (included node.now) result }
+fn read_included(alloc: Global, node: &Node, key: &str) -> Result<Included, KindFault>
+    ensures { Reads (included key.now node.now) result }
 {
-    known(alloc, node, &["file", "relativeToChangelogFile"])?;
-    let path: Text = required(alloc, node, "file")?;
+    known(alloc, node, &[key, "relativeToChangelogFile"])?;
+    let path: Text = required(alloc, node, key)?;
     let relative: Option<bool> = optional(alloc, node, "relativeToChangelogFile")?;
     Ok(Included {
         path,
@@ -75,8 +76,12 @@ pub fn item_at<G: Gather>(
     ensures { Reads (item_at (G.means gather.now).here key.now node.now) result }
 {
     match key {
-        "include" => match read_included(alloc, node) {
+        "include" => match read_included(alloc, node, "file") {
             Ok(it) => Ok(Item::Include(it)),
+            Err(fault) => Err(placed(alloc, key, fault)),
+        },
+        "includeAll" => match read_included(alloc, node, "path") {
+            Ok(it) => Ok(Item::IncludeAll(it)),
             Err(fault) => Err(placed(alloc, key, fault)),
         },
         "property" => match read_property(alloc, gather, node) {

@@ -21,40 +21,27 @@ fn may_name(path: &str) -> bool
     1 <= count && count <= 255 && !has_control(path)
 }
 
-/// A path that may name a file.
-fn named(path: Text) -> Result<Text, LoadFault>
-    ensures { result ≡ named path }
+/// Tests that a path may name a file.
+pub fn test_name(alloc: Global, path: &str) -> Result<(), LoadFault>
+    ensures { Holds (named path.now) result path.now }
 {
-    if may_name(path.as_str()) {
-        return Ok(path);
-    }
-    Err(LoadFault::Fault {
-        path,
-        what: What::BadPath,
-    })
-}
-
-/// Tests that the path of the root may name a file.
-pub fn test_root(alloc: Global, root: &str) -> Result<(), LoadFault>
-    ensures { Holds (named root.now) result root.now }
-{
-    if may_name(root) {
+    if may_name(path) {
         return Ok(());
     }
     Err(LoadFault::Fault {
-        path: Text::new(alloc, root)?,
+        path: Text::new(alloc, path)?,
         what: What::BadPath,
     })
 }
 
-/// The path that an include leads to.
+/// The path that an include or includeAll leads to.
 #[tactic(auto, unfolding(crate::specs::Walk::target))]
 pub fn target_of(alloc: Global, path: &str, it: &Included) -> Result<Text, LoadFault>
     ensures { Loads (target (joined path.now it.now.relative it.now.path)) result }
 {
     let joined = joined(alloc, path, it.relative, it.path.as_str())?;
     match plain(alloc, joined.as_str())? {
-        Some(path) => named(path),
+        Some(path) => Ok(path),
         None => Err(LoadFault::Fault {
             path: joined,
             what: What::BadPath,
@@ -107,7 +94,7 @@ pub fn bytes_of<F: Files>(
     path: &str,
     reading: &Reading,
 ) -> Result<Items<u8>, LoadFault>
-    ensures found { Finds (F.told files.old) (λ source. bytes_read path.now (source path.now) (so_far reading.now)) result }
+    ensures found { Finds (F.told files.old) (λ source. bytes_read path.now (source.content path.now) (so_far reading.now)) result }
     ensures told { F.told files.new ≡ F.told files.old }
     ensures later { F.faults files.old ≤ F.faults files.new }
     ensures failed { IsErrOf result Read → Rose (F.faults files.old) (F.faults files.new) }

@@ -1,13 +1,14 @@
 ghost use Rattle.std.specs.Prelude.{◌≡◌, ◌≤◌, ◌<◌, IsErrOf, false};
 ghost use Rattle.lq_outside.specs.Count.{Rose};
 ghost use Rattle.lq_sources.specs.Answers.{Answers};
-ghost use Rattle.lq_sources.specs.Walk.{contents, each_from, file, held, root_file, take_entry, take_item, walked};
+ghost use Rattle.lq_sources.specs.Walk.{contents, each, each_from, file, held, root_file, take_entry, take_folder, take_item, take_path, walked};
 ghost use Rattle.lq_sources.specs.declared.fault.LoadFault.TheVariants.{Read};
 
 use crate::fault::LoadFault;
 use crate::gather::Gather;
 use crate::item::Item;
-use crate::opening::{bytes_of, may_open, target_of, test_root};
+use crate::listing::taken_under;
+use crate::opening::{bytes_of, may_open, target_of, test_name};
 use crate::path::Format;
 use crate::reading::Reading;
 use crate::taking::{entry_in, gather_item, items_in, read_item, tree_in};
@@ -60,7 +61,7 @@ fn read_contents<F: Files, G: Gather>(
     gathered: &mut G::Gathered,
 ) -> Result<(), LoadFault>
     requires { reading.old.files < 10_000 }
-    ensures reads { Answers (F.told files.old) (λ source. contents (G.means gather.now) (file (G.means gather.now) source terms.levels false) source terms.is_root path.now format (held reading.old gathered.old)) result (held reading.new gathered.new) }
+    ensures reads { Answers (F.told files.old) (λ source. contents (G.means gather.now) source (file (G.means gather.now) source terms.levels false) terms.is_root path.now format (held reading.old gathered.old)) result (held reading.new gathered.new) }
     ensures told { F.told files.new ≡ F.told files.old }
     ensures later { F.faults files.old ≤ F.faults files.new }
     ensures failed { IsErrOf result Read → Rose (F.faults files.old) (F.faults files.new) }
@@ -82,7 +83,7 @@ fn take_items<F: Files, G: Gather>(
     reading: &mut Reading,
     gathered: &mut G::Gathered,
 ) -> Result<(), LoadFault>
-    ensures reads { Answers (F.told files.old) (λ source. each_from (take_item (G.means gather.now) (file (G.means gather.now) source terms.levels false) terms.is_root path.now) 0 items.now (held reading.old gathered.old)) result (held reading.new gathered.new) }
+    ensures reads { Answers (F.told files.old) (λ source. each_from (take_item (G.means gather.now) source (file (G.means gather.now) source terms.levels false) terms.is_root path.now) 0 items.now (held reading.old gathered.old)) result (held reading.new gathered.new) }
     ensures told { F.told files.new ≡ F.told files.old }
     ensures later { F.faults files.old ≤ F.faults files.new }
     ensures failed { IsErrOf result Read → Rose (F.faults files.old) (F.faults files.new) }
@@ -104,7 +105,7 @@ fn take_item<F: Files, G: Gather>(
     reading: &mut Reading,
     gathered: &mut G::Gathered,
 ) -> Result<(), LoadFault>
-    ensures reads { Answers (F.told files.old) (λ source. take_item (G.means gather.now) (file (G.means gather.now) source terms.levels false) terms.is_root path.now i node.now (held reading.old gathered.old)) result (held reading.new gathered.new) }
+    ensures reads { Answers (F.told files.old) (λ source. take_item (G.means gather.now) source (file (G.means gather.now) source terms.levels false) terms.is_root path.now i node.now (held reading.old gathered.old)) result (held reading.new gathered.new) }
     ensures told { F.told files.new ≡ F.told files.old }
     ensures later { F.faults files.old ≤ F.faults files.new }
     ensures failed { IsErrOf result Read → Rose (F.faults files.old) (F.faults files.new) }
@@ -125,7 +126,7 @@ fn take_entry<F: Files, G: Gather>(
     reading: &mut Reading,
     gathered: &mut G::Gathered,
 ) -> Result<(), LoadFault>
-    ensures reads { Answers (F.told files.old) (λ source. take_entry (G.means gather.now) (file (G.means gather.now) source terms.levels false) terms.is_root path.now i entry.now.0 entry.now.1 (held reading.old gathered.old)) result (held reading.new gathered.new) }
+    ensures reads { Answers (F.told files.old) (λ source. take_entry (G.means gather.now) source (file (G.means gather.now) source terms.levels false) terms.is_root path.now i entry.now.0 entry.now.1 (held reading.old gathered.old)) result (held reading.new gathered.new) }
     ensures told { F.told files.new ≡ F.told files.old }
     ensures later { F.faults files.old ≤ F.faults files.new }
     ensures failed { IsErrOf result Read → Rose (F.faults files.old) (F.faults files.new) }
@@ -147,14 +148,76 @@ fn take_entry<F: Files, G: Gather>(
         }
         Item::Include(it) => {
             let target = target_of(terms.alloc, path, &it)?;
-            let terms = Terms {
-                alloc: terms.alloc,
-                levels: terms.levels,
-                is_root: false,
-            };
-            read_file(terms, gather, files, target.as_str(), reading, gathered)
+            read_path(terms, gather, files, target.as_str(), reading, gathered)
+        }
+        Item::IncludeAll(it) => {
+            let folder = target_of(terms.alloc, path, &it)?;
+            read_folder(terms, gather, files, folder.as_str(), reading, gathered)
         }
     }
+}
+
+/// Reads the files under a folder that an includeAll takes.
+#[cycle(file)]
+fn read_folder<F: Files, G: Gather>(
+    terms: Terms,
+    gather: &G,
+    files: &mut F,
+    folder: &str,
+    reading: &mut Reading,
+    gathered: &mut G::Gathered,
+) -> Result<(), LoadFault>
+    ensures reads { Answers (F.told files.old) (λ source. take_folder (file (G.means gather.now) source terms.levels false) source folder.now (held reading.old gathered.old)) result (held reading.new gathered.new) }
+    ensures told { F.told files.new ≡ F.told files.old }
+    ensures later { F.faults files.old ≤ F.faults files.new }
+    ensures failed { IsErrOf result Read → Rose (F.faults files.old) (F.faults files.new) }
+{
+    let paths = taken_under(terms.alloc, files, folder)?;
+    read_paths(terms, gather, files, paths.as_slice(), reading, gathered)
+}
+
+#[cycle(file)]
+fn read_paths<F: Files, G: Gather>(
+    terms: Terms,
+    gather: &G,
+    files: &mut F,
+    paths: &[Text],
+    reading: &mut Reading,
+    gathered: &mut G::Gathered,
+) -> Result<(), LoadFault>
+    ensures reads { Answers (F.told files.old) (λ source. each (take_path (file (G.means gather.now) source terms.levels false)) paths.now (held reading.old gathered.old)) result (held reading.new gathered.new) }
+    ensures told { F.told files.new ≡ F.told files.old }
+    ensures later { F.faults files.old ≤ F.faults files.new }
+    ensures failed { IsErrOf result Read → Rose (F.faults files.old) (F.faults files.new) }
+{
+    for path in paths {
+        read_path(terms, gather, files, path.as_str(), reading, gathered)?;
+    }
+    Ok(())
+}
+
+/// Reads the file at a path that an include or includeAll leads to.
+#[cycle(file)]
+fn read_path<F: Files, G: Gather>(
+    terms: Terms,
+    gather: &G,
+    files: &mut F,
+    path: &str,
+    reading: &mut Reading,
+    gathered: &mut G::Gathered,
+) -> Result<(), LoadFault>
+    ensures reads { Answers (F.told files.old) (λ source. take_path (file (G.means gather.now) source terms.levels false) path.now (held reading.old gathered.old)) result (held reading.new gathered.new) }
+    ensures told { F.told files.new ≡ F.told files.old }
+    ensures later { F.faults files.old ≤ F.faults files.new }
+    ensures failed { IsErrOf result Read → Rose (F.faults files.old) (F.faults files.new) }
+{
+    test_name(terms.alloc, path)?;
+    let terms = Terms {
+        alloc: terms.alloc,
+        levels: terms.levels,
+        is_root: false,
+    };
+    read_file(terms, gather, files, path, reading, gathered)
 }
 
 /// Reads the root and 32 levels of includes below it.
@@ -181,8 +244,8 @@ fn read_root<F: Files, G: Gather>(
 }
 
 /// Gathers what stands in the file `root` and in those that it includes, in order, with the
-/// properties of the command line (Liquibase's documentation, "include" and "Property Substitution in
-/// Changelogs"). The first fault is told, depth first: a whole file's tree before its items.
+/// properties of the command line (Liquibase's documentation, "include", "includeAll" and "Property
+/// Substitution in Changelogs"). The first fault is told, depth first: a whole file's tree before its items.
 #[tactic(auto, unfolding(crate::specs::Walk::walked))]
 pub fn walk<F: Files, G: Gather>(
     alloc: Global,
@@ -197,7 +260,7 @@ pub fn walk<F: Files, G: Gather>(
     ensures later { F.faults files.old ≤ F.faults files.new }
     ensures failed { IsErrOf result Read → Rose (F.faults files.old) (F.faults files.new) }
 {
-    test_root(alloc, root)?;
+    test_name(alloc, root)?;
     let mut reading = Reading::new(alloc, given)?;
     match read_root(alloc, gather, files, root, &mut reading, gathered) {
         Ok(()) => Ok(()),
