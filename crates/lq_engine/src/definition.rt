@@ -16,8 +16,7 @@ use lq_objectops::{
 };
 use lq_parts::{Parts, RunFault};
 use lq_renames::{rename_column, rename_table};
-use lq_shapes::NewTable;
-use lq_tableops::{create_table, drop_table};
+use lq_tableops::{NewTable, create_table, drop_table};
 use std::alloc::Global;
 
 /// Carries a statement of data definition out on a sound catalogue.

@@ -10,3 +10,4 @@ mod needs;
 
 pub use creating::create_table;
 pub use dropping::drop_table;
+pub use lq_shapes::NewTable;
