@@ -34,6 +34,7 @@ impl<'a> Model for Columns<'a> {
 }
 
 impl<'a> Columns<'a> {
+    /// These columns, in their order: in O(n log n).
     pub fn new(alloc: Global, columns: &'a [Column]) -> Result<Columns<'a>, NoMemory>
         ensures { IfOk result (λ it. it ≡ columns.now) }
     {

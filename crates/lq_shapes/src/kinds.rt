@@ -3,6 +3,7 @@ ghost use Rattle.lq_model.specs.Kinds.{equal_kinds, is_number, same_kind};
 
 use lq_base::Kind;
 
+/// Whether two kinds are the same, with their sizes.
 pub fn equal_kinds(a: Kind, b: Kind) -> bool
     ensures { result ≡ equal_kinds a b }
 {
@@ -30,6 +31,7 @@ pub fn same_kind(a: Option<Kind>, b: Option<Kind>) -> bool
     }
 }
 
+/// Whether the kind is INT or BIGINT, which a numbered column may have.
 pub fn is_number(kind: Kind) -> bool
     ensures { result ≡ is_number kind }
 {

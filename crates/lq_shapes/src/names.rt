@@ -29,6 +29,7 @@ impl<'a> Model for Names<'a> {
 }
 
 impl<'a> Names<'a> {
+    /// These names, in their order: in O(n log n).
     pub fn new(alloc: Global, names: Items<&'a Name>) -> Result<Names<'a>, NoMemory>
         ensures { IfOk result (λ it. it ≡ map (λ n. n.now) names.entry) }
     {
@@ -36,6 +37,7 @@ impl<'a> Names<'a> {
         Ok(Names { names, keys })
     }
 
+    /// The names in their order.
     pub fn as_slice(&self) -> &[&'a Name]
         ensures { map (λ n. n.now) result.now ≡ self.now }
     {

@@ -15,6 +15,7 @@ pub struct Stated {
     pub is_wide: bool,
 }
 
+/// The value that the literal becomes in a column of the kind, or which reason is against it.
 pub fn convert(alloc: Global, literal: &Literal, kind: Kind) -> Result<Stated, NoMemory>
     ensures { IfOk result (λ it. IsStated (into_kind literal.now kind) it) }
 {
@@ -46,6 +47,7 @@ pub struct NewColumn {
     pub is_wide: bool,
 }
 
+/// The column that a statement describes, with its default as a value of its kind.
 #[tactic(auto, using(crate::proofs::StatedLemmas::without_default, crate::proofs::StatedLemmas::with_default))]
 pub fn new_column(alloc: Global, def: &ColumnDef) -> Result<NewColumn, NoMemory>
     ensures { IfOk result (λ new. IsColumn def.now new) }
