@@ -1,4 +1,3 @@
 pub mod Arms
 pub mod NeedLemmas
 pub mod RowLemmas
-pub mod StatedLemmas

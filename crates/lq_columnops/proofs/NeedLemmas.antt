@@ -1,31 +1,14 @@
--- The names in the tests that have parts.
+-- The lists of a table that have a column.
 use Rattle.std.proofs.Common.{Bool, ap, false, map, refl, true, ◌∙◌, ◌||◌, ◌≡◌}
 use Rattle.std.specs.List.{list_any}
 use Rattle.lq_base.specs.declared.name.Name.{Name}
 use Rattle.lq_model.specs.Names.{is_in}
-use Rattle.lq_model.specs.Truth.{operand_names, test_names}
-use Rattle.lq_model.specs.declared.test.Op.{Op}
-use Rattle.lq_model.specs.declared.test.Operand.{Operand}
-use Rattle.lq_model.specs.declared.test.Test.{And, Compare, Not, Or, Test}
 use Rattle.lq_model.specs.Catalogue.{Table}
 use Rattle.lq_model.specs.TableNames.{column_lists, key_list, target_lists}
 use Rattle.lq_model.specs.declared.constraint.Key.{Key}
 use Rattle.lq_model.specs.declared.constraint.Unique.{Unique}
 use Rattle.lq_model.specs.declared.index.Index.{Index}
 use Rattle.lq_model.proofs.Lists.{any-append, any-map}
-use Rattle.lq_query.proofs.TestLemmas.{names_and, names_not, names_or}
-
-pub in_both : (n : Name) (a b : Test) → is_in n (test_names (And a b)) ≡ (is_in n (test_names a) || is_in n (test_names b))
-in_both n a b = ap (is_in n) (names_and a b) ∙ any-append _ (test_names a) (test_names b)
-
-pub in_either : (n : Name) (a b : Test) → is_in n (test_names (Or a b)) ≡ (is_in n (test_names a) || is_in n (test_names b))
-in_either n a b = ap (is_in n) (names_or a b) ∙ any-append _ (test_names a) (test_names b)
-
-pub in_turned : (n : Name) (a : Test) → is_in n (test_names (Not a)) ≡ is_in n (test_names a)
-in_turned n a = ap (is_in n) (names_not a)
-
-pub in_two : (n : Name) (op : Op) (x y : Operand) → is_in n (test_names (Compare op x y)) ≡ (is_in n (operand_names x) || is_in n (operand_names y))
-in_two n op x y = any-append _ (operand_names x) (operand_names y)
 
 grouped : (a b c : Bool) → ((a || b) || c) ≡ (a || (b || c))
 grouped true b c = refl

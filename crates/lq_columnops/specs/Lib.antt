@@ -1,4 +1,3 @@
 pub mod Change
 pub mod Done
 pub mod OnColumn
-pub mod Stated

@@ -13,14 +13,13 @@ ghost use Rattle.lq_rows.specs.Answers.{Answers};
 
 use crate::asked::column_tests;
 use crate::change::{Change, change_unless};
-use crate::kinds::same_kind;
 use crate::needs::{is_aimed, is_in_foreign, is_in_key, is_shown};
-use crate::stated::convert;
 use lq_arm::Tests;
 use lq_base::{Dialect, Kind, Literal, Name, Value};
 use lq_model::{By, Column};
 use lq_parts::{Parts, RunFault};
 use lq_rows::{Held, Row, by_name};
+use lq_shapes::{convert, same_kind};
 use std::alloc::Global;
 
 /// DROP NOT NULL on a sound catalogue, on someone's behalf.

@@ -14,12 +14,12 @@ use crate::asked::{column_tests, table_tests};
 use crate::change::copied_shape;
 use crate::needs::{is_aimed, is_bound, is_shown};
 use crate::rows::{push_columns_without, reshape, rows_less, rows_more};
-use crate::stated::new_column;
 use lq_arm::Tests;
 use lq_base::{Dialect, Items, Name, NoMemory};
 use lq_model::{By, Column, ColumnDef};
 use lq_parts::{Parts, RunFault};
 use lq_rows::{Shape, has_column, is_null};
+use lq_shapes::new_column;
 use std::alloc::Global;
 
 /// Drops the column, unless a test is against it.

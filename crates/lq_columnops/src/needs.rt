@@ -1,72 +1,22 @@
 ghost use Rattle.std.specs.List.{list_any};
 ghost use Rattle.std.specs.Option.{option_copied};
-ghost use Rattle.std.specs.Prelude.{◌≡◌, ◌&&◌, ◌||◌};
-ghost use Rattle.lq_base.specs.Name.{is_named};
+ghost use Rattle.std.specs.Prelude.{◌≡◌, ◌||◌};
 ghost use Rattle.lq_model.specs.Catalogue.{the_table};
 ghost use Rattle.lq_model.specs.Names.{is_in};
 ghost use Rattle.lq_model.specs.Needs.{aims_at, is_aimed, is_bound, is_in_foreign, is_in_key, is_shown};
 ghost use Rattle.lq_model.specs.TableNames.{column_lists, key_list};
-ghost use Rattle.lq_model.specs.Truth.{names_in, operand_names, test_names};
 
 use lq_base::Name;
-use lq_model::{ForeignKey, Index, Key, Operand, Test, Unique};
-use lq_parts::{Parts, View};
+use lq_model::{ForeignKey, Index, Key, Unique};
+use lq_parts::Parts;
 use lq_rows::Held;
-
-pub fn is_in(names: &[Name], name: &Name) -> bool
-    ensures { result ≡ is_in name.now names.now }
-{
-    names.iter().any(|other| *name == *other)
-}
-
-fn names_operand(operand: &Operand, column: &Name) -> bool
-    ensures { result ≡ is_in column.now (operand_names operand.now) }
-{
-    match operand {
-        Operand::Column(name) => *column == *name,
-        Operand::Literal(_) => false,
-    }
-}
-
-/// Whether a test names the column.
-#[tactic(auto, using(crate::proofs::NeedLemmas::in_both, crate::proofs::NeedLemmas::in_either, crate::proofs::NeedLemmas::in_turned, crate::proofs::NeedLemmas::in_two))]
-fn names(test: &Test, column: &Name) -> bool
-    ensures { result ≡ is_in column.now (test_names test.now) }
-{
-    match test {
-        Test::Compare { x, y, .. } => names_operand(x, column) | names_operand(y, column),
-        Test::IsNull(x) => names_operand(x, column),
-        Test::NotNull(x) => names_operand(x, column),
-        Test::And(a, b) => names(a.get(), column) | names(b.get(), column),
-        Test::Or(a, b) => names(a.get(), column) | names(b.get(), column),
-        Test::Not(a) => names(a.get(), column),
-    }
-}
-
-fn names_tested(test: &Option<Test>, column: &Name) -> bool
-    ensures { result ≡ is_in column.now (names_in test.now) }
-{
-    match test {
-        None => false,
-        Some(test) => names(test, column),
-    }
-}
-
-fn shows(view: &View, table: &Name, column: &Name) -> bool
-    ensures { result ≡ (is_named table.now view.now.query.table && (is_in column.now view.now.columns || is_in column.now (names_in view.now.query.test))) }
-{
-    *table == view.query().table
-        && (is_in(view.columns(), column) || names_tested(&view.query().test, column))
-}
+use lq_shapes::{is_in, shows};
 
 /// Whether a view names the column, among its columns or in its test.
 pub fn is_shown(parts: &Parts, table: &Name, column: &Name) -> bool
     ensures { result ≡ is_shown parts.now.now table.now column.now }
 {
-    parts
-        .views()
-        .iter()
-        .any(|entry| shows(&entry.1, table, column))
+    parts.views().iter().any(|entry| shows(entry.1.query(), entry.1.columns(), table, column))
 }
 
 /// Whether the key of the table has the column.

@@ -8,11 +8,11 @@ ghost use Rattle.lq_parts.specs.Steps.{edit_at};
 ghost use Rattle.lq_rows.specs.Answers.{Continues};
 ghost use Rattle.lq_rows.specs.Stored.{with_shape};
 
-use crate::shapes::targets_table;
 use lq_base::{Duplicate, Items, Name, NoMemory};
 use lq_model::ForeignKey;
 use lq_parts::Parts;
 use lq_rows::{Held, Shape};
+use lq_shapes::targets_table;
 use std::alloc::Global;
 
 /// A copy of the name, or the new one where it is the old one.

@@ -8,22 +8,30 @@ ghost use Rattle.lq_model.specs.Sound.{IsSound};
 ghost use Rattle.lq_rows.specs.Answers.{Answers};
 
 use crate::asked::{has_column_of, is_column_missing};
+use crate::names::is_shown;
 use crate::shapes::rename_in_all;
 use lq_arm::Tests;
 use lq_base::{Dialect, Name};
-use lq_columnops::{is_shown, table_tests};
 use lq_model::By;
 use lq_parts::{Parts, RunFault};
+use lq_query::is_reserved;
 use std::alloc::Global;
 
 fn rename_tests(parts: &Parts, by: By, table: &Name, column: &Name, to: &Name) -> Tests
     ensures { (d : kinds.Dialect) → verdict_of result ≡ verdict_of (tests_of (spec.rename_column by d table.now column.now to.now parts.now.now) no_faults) }
 {
     Tests {
+        reserved: is_reserved(by, table),
         missing: is_column_missing(parts, table, column),
         exists: has_column_of(parts, table, to),
         depends: is_shown(parts, table, column),
-        ..table_tests(parts, by, table)
+        wrong: false,
+        wide: false,
+        nulls: false,
+        twins: false,
+        orphans: false,
+        children: false,
+        full: false,
     }
 }
 

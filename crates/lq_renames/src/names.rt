@@ -1,7 +1,7 @@
 ghost use Rattle.std.specs.Prelude.{◌≡◌, ◌∷◌, [], ◌||◌};
 ghost use Rattle.lq_model.specs.NameSpaces as spaces;
 ghost use Rattle.lq_model.specs.Names.{is_in};
-ghost use Rattle.lq_model.specs.Needs.{is_viewed};
+ghost use Rattle.lq_model.specs.Needs.{is_shown, is_viewed};
 ghost use Rattle.lq_model.specs.Reserved as reserved;
 
 use lq_arm::{any_is_inner, takes_lock_key};
@@ -9,6 +9,7 @@ use lq_base::{Dialect, Name};
 use lq_model::By;
 use lq_parts::Parts;
 use lq_query::is_reserved;
+use lq_shapes::shows;
 
 /// Whether one of two names is reserved to the program.
 #[tactic(auto, using(crate::proofs::Renamed::reserved_two))]
@@ -65,4 +66,11 @@ pub fn is_viewed(parts: &Parts, table: &Name) -> bool
         .views()
         .iter()
         .any(|entry| *table == entry.1.query().table)
+}
+
+/// Whether a view names the column, among its columns or in its test.
+pub fn is_shown(parts: &Parts, table: &Name, column: &Name) -> bool
+    ensures { result ≡ is_shown parts.now.now table.now column.now }
+{
+    parts.views().iter().any(|entry| shows(entry.1.query(), entry.1.columns(), table, column))
 }

@@ -1,9 +1,7 @@
-ghost use Rattle.std.specs.List.{list_any};
 ghost use Rattle.std.specs.Prelude.{◌≡◌, ◌<◌, ◌||◌, IfOk, OnOk, length, map};
 ghost use Rattle.std.specs.List.Sorted.{IsStrictlySortedBy};
 ghost use Rattle.std.specs.Map.{keys_of};
 ghost use Rattle.lq_base.specs.Name.{is_named, name_cmp};
-ghost use Rattle.lq_model.specs.Needs.{targets_table};
 ghost use Rattle.lq_model.specs.RenameColumn.{with_column_renamed};
 ghost use Rattle.lq_parts.specs.Steps.{edit_at};
 ghost use Rattle.lq_rows.specs.Answers.{Continues};
@@ -13,14 +11,8 @@ use crate::lists::{columns, foreign_keys, indexes, key, uniques};
 use lq_base::{Duplicate, Name, NoMemory};
 use lq_parts::Parts;
 use lq_rows::{Held, Shape};
+use lq_shapes::targets_table;
 use std::alloc::Global;
-
-/// Whether a foreign key of the table aims at another.
-pub fn targets_table(table: &Name, held: &Held) -> bool
-    ensures { result ≡ targets_table table.now held.now.now }
-{
-    held.foreign_keys().iter().any(|key| *table == key.table)
-}
 
 /// What is left of a table but for its rows when a column of the table `table` has another name; `own`
 /// where it is that table itself.

@@ -18,7 +18,7 @@ use Rattle.lq_model.specs.declared.constraint.Unique.{Unique}
 use Rattle.lq_model.specs.declared.index.Index.{Index}
 use Rattle.lq_model.proofs.Lists.{any-append, any-map, any_same}
 use Rattle.lq_model.proofs.Maps.{found}
-use Rattle.lq_tableops.proofs.ShownLemmas.{either_way}
+use Rattle.lq_shapes.proofs.ShownLemmas.{either_way}
 
 none_of : {A : Type 0} (xs : List A) → list_any (λ x. false) xs ≡ false
 none_of [] = refl

@@ -29,10 +29,10 @@ use Rattle.lq_rows.specs.declared.fault.RunFault.{RunFault}
 use Rattle.lq_arm.specs.Verdict.{listed, tests_of, verdict_of}
 use Rattle.lq_arm.specs.declared.tests.Tests.{Tests}
 use Rattle.lq_arm.proofs.Arms.{agree, good}
-use Rattle.lq_tableops.specs.Aimed.{AreAims, made}
-use Rattle.lq_tableops.specs.Created.{IsDefined, shape_with}
+use Rattle.lq_shapes.specs.Created.{IsDefined, made, shape_with}
+use Rattle.lq_shapes.specs.declared.new_table.Defined.{Defined}
+use Rattle.lq_tableops.specs.Aimed.{AreAims}
 use Rattle.lq_tableops.specs.declared.aims.Aim.{Aim}
-use Rattle.lq_tableops.specs.declared.new_table.Defined.{Defined}
 
 grouped : (a b x y : Bool) → ((a || b) || (x || y)) ≡ (a || (b || (x || y)))
 grouped true b x y = refl

@@ -15,7 +15,7 @@ use Rattle.lq_model.specs.declared.constraint.ForeignKey.{ForeignKey}
 use Rattle.lq_model.specs.declared.constraint.Key.{Key}
 use Rattle.lq_model.specs.declared.constraint.Unique.{Unique}
 use Rattle.lq_model.proofs.Lists.{append-nil}
-use Rattle.lq_tableops.specs.Aimed.{made}
+use Rattle.lq_shapes.specs.Created.{made}
 
 module _ (cs : List Column) (key : Option Key) (us : List Unique) (fs : List ForeignKey) where
   -- names added in turn

@@ -1,6 +1,6 @@
 -- What is asked of the foreign keys of a new table.
 use Rattle.std.specs.List.{list_any}
-use Rattle.std.specs.Prelude.{Bool, List, Option, [], not, ◌||◌, ◌≡◌}
+use Rattle.std.specs.Prelude.{Bool, List, not, ◌||◌, ◌≡◌}
 use Rattle.lq_base.specs.declared.name.Name.{Name}
 use Rattle.lq_decide.specs.Faults.{misses_new}
 use Rattle.lq_model.specs.Catalogue.{Catalogue, Table, with_new}
@@ -8,17 +8,8 @@ use Rattle.lq_model.specs.CreateTable.{target_missing}
 use Rattle.lq_model.specs.Kinds.{kinds_at, kinds_differ, same_kinds}
 use Rattle.lq_model.specs.Names.{same_names}
 use Rattle.lq_model.specs.TableNames.{column_missing, target_lists}
-use Rattle.lq_model.specs.declared.column.Column.{Column}
 use Rattle.lq_model.specs.declared.constraint.ForeignKey.{ForeignKey}
-use Rattle.lq_model.specs.declared.constraint.Key.{Key}
-use Rattle.lq_model.specs.declared.constraint.Unique.{Unique}
-use Rattle.lq_rows.specs.Stored.{table_as}
-use Rattle.lq_tableops.specs.Created.{shape_with}
 use Rattle.lq_tableops.specs.declared.aims.Aim.{Aim}
-
--- a new table of these columns and constraints
-abbrev pub made : List Column → Option Key → List Unique → List ForeignKey → Table
-made columns key uniques foreign = table_as (shape_with columns key uniques foreign) 1 []
 
 -- what is against a foreign key of a table, by its target
 pub record AimsAt (gone : Bool) (it target : Table) (f : ForeignKey) (aim : Aim) : Type 0 where

@@ -1,3 +1,1 @@
 pub mod Aimed
-pub mod Created
-pub mod Shown

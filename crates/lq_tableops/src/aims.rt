@@ -5,13 +5,13 @@ ghost use Rattle.lq_model.specs.Catalogue as catalogue;
 ghost use Rattle.lq_model.specs.Catalogue.{table_of, the_table};
 ghost use Rattle.lq_model.specs.Names.{same_names};
 ghost use Rattle.lq_model.specs.TableNames.{key_list};
-ghost use Rattle.lq_tableops.specs.Aimed.{AimsAt, AreAims, IsAim, made};
+ghost use Rattle.lq_shapes.specs.Created.{made};
+ghost use Rattle.lq_tableops.specs.Aimed.{AimsAt, AreAims, IsAim};
 
-use crate::columns::{Columns, kinds_agree, own_kinds_agree};
-use crate::new_table::NewTable;
 use lq_base::{Name, NoMemory};
 use lq_model::{ForeignKey, Key, Unique};
 use lq_parts::Parts;
+use lq_shapes::{Columns, NewTable, kinds_agree, own_kinds_agree};
 use std::alloc::Global;
 
 /// What is against a foreign key of a new table.

@@ -8,12 +8,12 @@ ghost use Rattle.lq_model.specs.Names.{is_in};
 ghost use Rattle.lq_model.specs.Reserved.{is_reserved, lock_key, takes_lock_key};
 ghost use Rattle.lq_model.specs.TableNames.{inner_names, key_list};
 
-use crate::names::Names;
 use lq_base::{Dialect, Name};
 use lq_model::{By, ForeignKey, Index, Key, Unique};
 use lq_parts::Parts;
 use lq_query::is_reserved;
 use lq_rows::Held;
+use lq_shapes::Names;
 
 /// Whether one of the names is reserved to the program.
 pub fn one_reserved(by: By, names: &[&Name]) -> bool

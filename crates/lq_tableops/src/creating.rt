@@ -5,19 +5,19 @@ ghost use Rattle.lq_model.specs.Sound.{IsSound};
 ghost use Rattle.lq_decide.specs.Faults.{create_table_faults};
 ghost use Rattle.lq_arm.specs.Verdict.{tests_of, verdict_of};
 ghost use Rattle.lq_rows.specs.Answers.{Answers};
-ghost use Rattle.lq_tableops.specs.Created.{IsDefined};
+ghost use Rattle.lq_shapes.specs.Created.{IsDefined};
 
 use crate::aims::aims;
-use crate::columns::Columns;
-use crate::defined::{one_depends, one_numbers_wrongly, repeats_number};
 use crate::naming::{clashes, names_lock_key, names_reserved};
-use crate::new_table::{Defined, NewTable, define, new_shape};
-use crate::own::{lacks_own, lists_twice};
 use lq_arm::Tests;
 use lq_base::{Dialect, Duplicate, NoMemory};
 use lq_model::By;
 use lq_parts::{Parts, RunFault};
 use lq_rows::Held;
+use lq_shapes::{
+    Columns, Defined, NewTable, define, lacks_own, lists_twice, new_shape, one_depends,
+    one_numbers_wrongly, repeats_number,
+};
 use std::alloc::Global;
 
 fn create_tests(

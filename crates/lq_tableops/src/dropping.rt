@@ -10,9 +10,9 @@ ghost use Rattle.lq_rows.specs.Answers.{Answers};
 use crate::needs::{is_targeted, is_viewed};
 use lq_arm::Tests;
 use lq_base::{Dialect, Name};
-use lq_columnops::table_tests;
 use lq_model::By;
 use lq_parts::{Parts, RunFault};
+use lq_query::is_reserved;
 
 /// DROP TABLE on a sound catalogue, on someone's behalf.
 pub fn drop_table(
@@ -37,7 +37,16 @@ fn drop_tests(parts: &Parts, by: By, table: &Name) -> Tests
     ensures { (d : kinds.Dialect) → verdict_of result ≡ verdict_of (tests_of (spec.drop_table by d table.now parts.now.now) no_faults) }
 {
     Tests {
+        reserved: is_reserved(by, table),
+        missing: parts.table(table).is_none(),
+        exists: false,
         depends: is_viewed(parts, table) | is_targeted(parts, table),
-        ..table_tests(parts, by, table)
+        wrong: false,
+        wide: false,
+        nulls: false,
+        twins: false,
+        orphans: false,
+        children: false,
+        full: false,
     }
 }

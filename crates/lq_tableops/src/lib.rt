@@ -3,17 +3,11 @@
 
 mod aims;
 mod clashes;
-mod columns;
 mod creating;
-mod defined;
 mod dropping;
-mod named;
-mod names;
 mod naming;
 mod needs;
-mod new_table;
-mod own;
 
 pub use creating::create_table;
 pub use dropping::drop_table;
-pub use new_table::NewTable;
+pub use lq_shapes::NewTable;

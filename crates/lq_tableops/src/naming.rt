@@ -7,15 +7,13 @@ ghost use Rattle.lq_model.specs.Reserved.{is_reserved, takes_lock_key};
 ghost use Rattle.lq_model.specs.TableNames.{constraint_names, inner_names};
 ghost use Rattle.lq_model.specs.declared.column.Column.{Column};
 ghost use Rattle.lq_base.specs.declared.dialect.Dialect.TheVariants as dialects;
-ghost use Rattle.lq_tableops.specs.Aimed.{made};
+ghost use Rattle.lq_shapes.specs.Created.{made};
 
 use crate::clashes::{is_object, one_foreign, one_reserved, one_shared, takes_lock_key};
-use crate::named::{push_foreign, push_key, push_targets, push_uniques};
-use crate::names::{Names, repeats};
-use crate::new_table::NewTable;
 use lq_base::{Dialect, Items, Name, NoMemory};
 use lq_model::{By, ForeignKey, Unique};
 use lq_parts::Parts;
+use lq_shapes::{Names, NewTable, push_foreign, push_key, push_targets, push_uniques, repeats};
 use std::alloc::Global;
 
 /// Adds the names of its key, its unique constraints and its foreign keys.

@@ -6,6 +6,7 @@ ghost use Rattle.lq_model.specs.Needs.{is_targeted, is_viewed, targets_table};
 use lq_base::Name;
 use lq_parts::Parts;
 use lq_rows::Held;
+use lq_shapes::targets_table;
 
 /// Whether a view names the table.
 pub fn is_viewed(parts: &Parts, table: &Name) -> bool
@@ -15,13 +16,6 @@ pub fn is_viewed(parts: &Parts, table: &Name) -> bool
         .views()
         .iter()
         .any(|entry| *table == entry.1.query().table)
-}
-
-/// Whether a foreign key of the table aims at another.
-pub fn targets_table(table: &Name, held: &Held) -> bool
-    ensures { result ≡ targets_table table.now held.now.now }
-{
-    held.foreign_keys().iter().any(|key| *table == key.table)
 }
 
 fn is_other_aiming(table: &Name, name: &Name, held: &Held) -> bool

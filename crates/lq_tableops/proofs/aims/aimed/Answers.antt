@@ -1,7 +1,7 @@
 use Rattle.std.proofs.Common.{false, rules, refl, true, ◌≡◌}
 use Rattle.lq_base.specs.Name.{is_named}
-use Rattle.lq_tableops.specs.Aimed.{made}
-use Rattle.lq_tableops.proofs.CreatedLemmas as lemma
+use Rattle.lq_shapes.specs.Created.{made}
+use Rattle.lq_tableops.proofs.AimedLemmas as lemma
 use Rattle.lq_tableops.proofs.aims.aimed.Goals as goal
 
 pub returns-then-eq : goal.returns-then-eq

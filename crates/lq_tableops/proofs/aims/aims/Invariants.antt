@@ -1,5 +1,6 @@
 use Rattle.std.proofs.Common.{take}
-use Rattle.lq_tableops.specs.Aimed.{AreAims, made}
+use Rattle.lq_shapes.specs.Created.{made}
+use Rattle.lq_tableops.specs.Aimed.{AreAims}
 use Rattle.lq_tableops.proofs.aims.aims.Given as goal
 
 abbrev pub invariant-loop-key : goal.invariant-loop-key

@@ -1,5 +1,5 @@
 use Rattle.std.proofs.Common.{refl, ◌∷◌}
-use Rattle.lq_tableops.specs.Aimed.{made}
+use Rattle.lq_shapes.specs.Created.{made}
 use Rattle.lq_model.specs.TableNames.{constraint_names, inner_names}
 use Rattle.lq_tableops.proofs.NamingLemmas as lemma
 use Rattle.lq_tableops.proofs.naming.clashes_shared.Goals as goal

@@ -1,7 +1,7 @@
 use Rattle.std.proofs.Common.{ap, ◌∙◌}
 use Rattle.lq_model.specs.Names.{is_in}
 use Rattle.lq_model.specs.TableNames.{inner_names}
-use Rattle.lq_tableops.specs.Aimed.{made}
+use Rattle.lq_shapes.specs.Created.{made}
 use Rattle.lq_tableops.proofs.NamingLemmas as lemma
 use Rattle.lq_tableops.proofs.naming.inner_is_own.Goals as goal
 

@@ -1,7 +1,7 @@
 use Rattle.std.proofs.Common.{ap, ◌∙◌}
 use Rattle.lq_model.specs.Reserved.{takes_lock_key}
 use Rattle.lq_model.specs.TableNames.{inner_names}
-use Rattle.lq_tableops.specs.Aimed.{made}
+use Rattle.lq_shapes.specs.Created.{made}
 use Rattle.lq_tableops.proofs.NamingLemmas as lemma
 use Rattle.lq_tableops.proofs.naming.names_lock_key.Goals as goal
 

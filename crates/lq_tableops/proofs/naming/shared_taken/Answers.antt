@@ -3,7 +3,7 @@ use Rattle.std.specs.List.{list_any}
 use Rattle.lq_model.specs.NameSpaces.{shared_names}
 use Rattle.lq_model.specs.Names.{is_in}
 use Rattle.lq_model.specs.TableNames.{inner_names}
-use Rattle.lq_tableops.specs.Aimed.{made}
+use Rattle.lq_shapes.specs.Created.{made}
 use Rattle.lq_tableops.proofs.NamingLemmas as lemma
 use Rattle.lq_tableops.proofs.naming.shared_taken.Goals as goal
 

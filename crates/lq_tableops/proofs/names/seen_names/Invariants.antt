@@ -1,6 +1,0 @@
-use Rattle.std.proofs.Common.{drop}
-use Rattle.lq_tableops.proofs.ShownLemmas.{Gathers}
-use Rattle.lq_tableops.proofs.names.seen_names.Given as goal
-
-abbrev pub invariant-loop-name : goal.invariant-loop-name
-invariant-loop-name l = Gathers l.names l.seen (drop l.name-index l.names)
