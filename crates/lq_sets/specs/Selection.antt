@@ -5,11 +5,11 @@ use Rattle.lq_expr.specs.declared.expr.Expr.{Expr}
 use Rattle.lq_expr.specs.declared.options.Options.{Options}
 use Rattle.lq_kinds.specs.declared.change_set.ChangeSet.{ChangeSet}
 
--- the expression holds for the names: every expression does without names, and no expression does too
+-- the expression holds for the names; without an expression, and without names, nothing is asked
 abbrev pub is_met : Option Expr → List (List ℕ) → Bool
 is_met None names = true
 is_met (Some e) names = length names == 0 || holds names e
 
--- it is for the dialect, its context holds for the command's names, and the command's labels for its own
+-- it is for the dialect, its context holds for the command's names, and the command's label expression for its labels
 abbrev pub is_selected : Options → ChangeSet → Bool
 is_selected options set = set.here && (is_met set.context options.contexts && is_met options.labels set.labels)
