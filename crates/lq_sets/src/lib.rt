@@ -11,6 +11,7 @@ mod reversal;
 mod reverse_fault;
 mod selection;
 mod set_index;
+mod turn;
 mod turn_row;
 
 pub use laws::{meaning_is_kept, places_are_known};
@@ -18,4 +19,5 @@ pub use planning::{faults_of, pending_of, work_of};
 pub use reversal::{TakenBack, reversible};
 pub use reverse_fault::ReverseFault;
 pub use selection::is_selected;
+pub use turn::statements_of;
 pub use turn_row::{recorded_row, row_of_turn};
