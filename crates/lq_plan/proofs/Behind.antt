@@ -38,7 +38,7 @@ text_same a b = elim (is_text a b) as (λ x. is_text a b ≡ x → x ≡ is_text
   | false ↦ λ other. sym (other_way a b other)
 ] refl
 
-at_key : (k key : IdentityKey) (of : Identity) → k.0.now ≡ of.file → k.1.now ≡ of.id → k.2.now ≡ of.author → is_at (key_cmp k) key ≡ same_identity (keyed key) of
+pub at_key : (k key : IdentityKey) (of : Identity) → k.0.now ≡ of.file → k.1.now ≡ of.id → k.2.now ≡ of.author → is_at (key_cmp k) key ≡ same_identity (keyed key) of
 at_key k key of file id author =
     all_equal (text_cmp k.0.now key.0.now) (text_cmp k.1.now key.1.now) (text_cmp k.2.now key.2.now)
     ∙ rw (file, id, author, text_same of.file key.0.now, text_same of.id key.1.now, text_same of.author key.2.now) refl

@@ -3,6 +3,7 @@ use Rattle.std.specs.Prelude.{List, None, Ok, [], map, true, ◌≡◌}
 use Rattle.lq_base.specs.declared.run.OnFail.TheVariants.{Halt}
 use Rattle.lq_base.specs.declared.tracking.Tracked.{Tracked}
 use Rattle.lq_turns.specs.Faults.{faults}
+use Rattle.lq_turns.specs.Pending.{pending}
 use Rattle.lq_turns.specs.Set.{Set}
 use Rattle.lq_plan.specs.Head.{headed}
 use Rattle.lq_plan.specs.Work.{work}
@@ -32,6 +33,7 @@ bare x = record {
   labels = [];
 }
 
--- The heads of changesets tell their faults and their turns.
+-- The heads of changesets tell their faults, their turns and which of them a status lists.
 abbrev pub HeadsTell : Type 0 → Type 0
-HeadsTell Key = (hs : List Head) (xs : List (Set Key)) (rows : List Tracked) → map headed hs ≡ map bare xs → (faults (map headed hs) rows ≡ faults xs rows) × (work (map headed hs) rows ≡ work xs rows)
+HeadsTell Key = (hs : List Head) (xs : List (Set Key)) (rows : List Tracked) → map headed hs ≡ map bare xs
+    → (faults (map headed hs) rows ≡ faults xs rows) × (work (map headed hs) rows ≡ work xs rows) × (pending (map headed hs) rows ≡ pending xs rows)

@@ -13,5 +13,5 @@ mod validation;
 pub use head::Head;
 pub use kept_rows::{NoTag, suffix};
 pub use laws::heads_tell;
-pub use turns::{Item, greatest, work};
+pub use turns::{Item, greatest, pending, work};
 pub use validation::faults;

@@ -1,8 +1,9 @@
-ghost use Rattle.std.specs.List.{list_any};
+ghost use Rattle.std.specs.List.{cons_option, list_any};
 ghost use Rattle.std.specs.Option.{option_map};
-ghost use Rattle.std.specs.Prelude.{◌≡◌, ◌++◌, IfOk, List, OnOk, codes, map};
+ghost use Rattle.std.specs.Prelude.{◌≡◌, ◌++◌, [], IfOk, List, OnOk, codes, map};
 ghost use Rattle.lq_base.specs.Text.{is_text};
 ghost use Rattle.lq_base.specs.declared.tracking.Tracked.{Tracked as Row};
+ghost use Rattle.lq_turns.specs.Pending.{if_pending, pending};
 ghost use Rattle.lq_turns.specs.Set.{excuses};
 ghost use Rattle.lq_turns.specs.Settle.{greatest, has_changed, runs_again, what, what_by};
 ghost use Rattle.lq_plan.specs.Head.{headed};
@@ -11,7 +12,7 @@ ghost use Rattle.lq_plan.specs.Work.{item_at, work};
 
 use crate::head::Head;
 use crate::row_index::{RowIndex, index_of, row_at};
-use lq_base::{Items, NoMemory, Text, Tracked};
+use lq_base::{Duplicate, Identity, Items, NoMemory, Text, Tracked};
 use lq_turns::What;
 use std::alloc::Global;
 
@@ -45,6 +46,36 @@ fn add_item(items: &mut Items<Item>, index: usize, what: Option<What>) -> Result
 {
     if let Some(what) = what {
         items.push(Item { index, what })?;
+    }
+    Ok(())
+}
+
+/// The changesets whose turn on these rows is new or again, in order.
+pub fn pending<'a>(
+    alloc: Global,
+    heads: &'a [Head<'a>],
+    rows: &'a [Tracked],
+) -> Result<Items<Identity>, NoMemory>
+    ensures { IfOk result (λ found. found ≡ pending (map headed heads.now) rows.now) }
+{
+    let index = index_of(alloc, rows)?;
+    let mut found = Items::new(alloc);
+    for head in heads {
+        add_pending(alloc, &mut found, head.identity, what(&index, head))?;
+    }
+    Ok(found)
+}
+
+fn add_pending(
+    alloc: Global,
+    found: &mut Items<Identity>,
+    of: &Identity,
+    what: Option<What>,
+) -> Result<(), NoMemory>
+    ensures { OnOk result (found.new ≡ found.old ++ cons_option (if_pending of.now what) []) }
+{
+    if let Some(What::New | What::Again) = what {
+        found.push(of.duplicate(alloc)?)?;
     }
     Ok(())
 }

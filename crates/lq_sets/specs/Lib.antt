@@ -1,0 +1,5 @@
+-- The changesets of a changelog as the commands see them.
+pub mod Laws
+pub mod Reversal
+pub mod Selection
+pub mod View
