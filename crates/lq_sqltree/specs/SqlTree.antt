@@ -1,0 +1,115 @@
+-- The tree that a file of formatted SQL stands for: its changesets, with the keys that they have in JSON and YAML.
+use Rattle.std.specs.Fmt.{decimal}
+use Rattle.std.specs.List.{filter, list_any}
+use Rattle.std.specs.Prelude.{Bool, Err, List, None, Ok, Option, Result, Some, [], codes, if◌then◌else◌, map, not, ℕ, ◌++◌, ◌||◌, ◌∷◌}
+use Rattle.std.specs.Str.{bytes_eq}
+use Rattle.std.specs.Str.Lines.{lines}
+use Rattle.lq_sqlfile.specs.Machine.{file_of}
+use Rattle.lq_sqlfile.specs.declared.fault.SqlFault.{SqlFault}
+use Rattle.lq_sqlfile.specs.declared.fault.SqlFault.TheVariants as sql
+use Rattle.lq_sqlfile.specs.declared.file.SqlFile.{SqlFile}
+use Rattle.lq_sqlfile.specs.declared.file.SqlSet.{SqlSet}
+use Rattle.lq_tree.specs.declared.node.Node.{List as ListNode, Map as MapNode, Node, Text as TextNode}
+use Rattle.lq_sqltree.specs.declared.fault.SqlTreeFault.{SqlTreeFault}
+use Rattle.lq_sqltree.specs.declared.fault.SqlTreeFault.TheVariants.{Line, NoHeader, OutOfMemory}
+
+-- ---- keys
+
+-- a map of one key
+abbrev pub under : List ℕ → Node → Node
+under key value = MapNode ((key, value) ∷ [])
+
+-- names with their texts
+abbrev pub text_keys : List (List ℕ × List ℕ) → List (List ℕ × Node)
+text_keys pairs = map (λ p. (p.0, TextNode p.1)) pairs
+
+-- ---- the attributes of a heading
+
+-- the attributes that say how the body is taken apart
+abbrev pub is_of_sql : List ℕ → Bool
+is_of_sql name = bytes_eq name (codes "splitStatements") || (bytes_eq name (codes "endDelimiter") || bytes_eq name (codes "stripComments"))
+
+abbrev pub sql_keys : List (List ℕ × List ℕ) → List (List ℕ × Node)
+sql_keys attributes = text_keys (filter (λ p. is_of_sql p.0) attributes)
+
+-- all others are the changeset's own
+abbrev pub set_keys : List (List ℕ × List ℕ) → List (List ℕ × Node)
+set_keys attributes = text_keys (filter (λ p. not (is_of_sql p.0)) attributes)
+
+abbrev pub names_path : List (List ℕ × List ℕ) → Bool
+names_path attributes = list_any (λ p. bytes_eq p.0 (codes "logicalFilePath")) attributes
+
+-- the logical path of the file is that of each changeset whose heading names none
+abbrev pub path_key : Option (List ℕ) → List (List ℕ × List ℕ) → List (List ℕ × Node)
+path_key None attributes = []
+path_key (Some path) attributes = if names_path attributes then [] else (codes "logicalFilePath", TextNode path) ∷ []
+
+-- ---- preconditions
+
+abbrev pub reaction : List ℕ → Option (List ℕ) → List Node
+reaction key None = []
+reaction key (Some text) = under key (TextNode text) ∷ []
+
+-- a query with the result that is expected
+abbrev pub check : List ℕ × List ℕ → Node
+check p = under (codes "sqlCheck") (MapNode ((codes "expectedResult", TextNode p.0) ∷ (codes "sql", TextNode p.1) ∷ []))
+
+abbrev pub conditions : SqlSet → List Node
+conditions s = reaction (codes "onFail") s.on_fail ++ reaction (codes "onError") s.on_error ++ map check s.checks
+
+-- ---- changes and rollback
+
+-- the body is one `sql` change, and an empty one is none
+abbrev pub changes : List ℕ → List (List ℕ × Node) → List Node
+changes [] of_sql = []
+changes (b ∷ body) of_sql = under (codes "sql") (MapNode ((codes "sql", TextNode (b ∷ body)) ∷ of_sql)) ∷ []
+
+-- the empty block
+abbrev pub is_empty_block : List ℕ → Bool
+is_empty_block text = bytes_eq text (codes "empty") || bytes_eq text (codes "not required")
+
+-- a block of one text
+abbrev pub undoing : List ℕ → List Node
+undoing text = if is_empty_block text then [] else TextNode text ∷ []
+
+abbrev pub rollback_key : Option (List ℕ) → List (List ℕ × Node)
+rollback_key None = []
+rollback_key (Some text) = (codes "rollback", ListNode (undoing text)) ∷ []
+
+-- ---- changesets
+
+-- what stands beside the attributes
+abbrev pub own_keys : SqlSet → List (List ℕ × Node)
+own_keys s =
+    (codes "id", TextNode s.id)
+    ∷ (codes "author", TextNode s.author)
+    ∷ (codes "comment", TextNode s.comment)
+    ∷ (codes "preConditions", ListNode (conditions s))
+    ∷ (codes "changes", ListNode (changes s.body (sql_keys s.attributes)))
+    ∷ []
+
+-- a changeset of a file with that logical path
+unfoldable pub change_set : Option (List ℕ) → SqlSet → Node
+change_set logical s = MapNode (own_keys s ++ set_keys s.attributes ++ path_key logical s.attributes ++ rollback_key s.rollback)
+
+-- and as an item of the changelog, under the line at which it begins
+unfoldable pub item : Option (List ℕ) → SqlSet → Node
+item logical s = under (codes "changeSet") (under (decimal s.line) (change_set logical s))
+
+-- ---- files
+
+unfoldable pub tree_of : SqlFile → Node
+tree_of file = under (codes "databaseChangeLog") (ListNode (map (item file.logical) file.sets))
+
+abbrev pub fault_of : SqlFault → SqlTreeFault
+fault_of sql.NoHeader = NoHeader
+fault_of (sql.Line n) = Line n
+fault_of sql.OutOfMemory = OutOfMemory
+
+abbrev pub tree_or_fault : Result SqlFile SqlFault → Result Node SqlTreeFault
+tree_or_fault (Ok file) = Ok (tree_of file)
+tree_or_fault (Err fault) = Err (fault_of fault)
+
+-- the tree of a file's bytes, or what is wrong with them
+unfoldable pub sql_tree : List ℕ → Result Node SqlTreeFault
+sql_tree bytes = tree_or_fault (file_of (lines bytes))
