@@ -1,13 +1,12 @@
 -- What is read is laid out, and the line at which the reader stops is the least.
-use Rattle.std.proofs.Common.{◌≡◌, ℕ, ◌<◌, ◌≤◌, ◌+◌, ◌-◌, max, Bool, true, false, cond, length, take, get_or, arith, List, [], ◌∷◌, ◌++◌, Option, Some, None, option_and_then, option_map, refl, sym, ap, subst, ◌∙◌, chars, map, ◌==◌, nat_le, Result, Ok, Err, IfOk, IfErr, ◌↔◌, drop, ◌⊎◌, inl, inr}
+use Rattle.std.proofs.Common.{◌≡◌, ℕ, ◌<◌, ◌≤◌, ◌+◌, ◌-◌, max, Bool, true, false, cond, length, nat_lt, take, get_or, arith, append_assoc, List, [], ◌∷◌, ◌++◌, Option, Some, None, option_and_then, option_map, refl, sym, ap, subst, ◌∙◌, chars, map, nat_le, Result, Ok, Err, IfOk, IfErr, ◌↔◌, drop, ◌⊎◌, inl, inr}
 use Rattle.std.proofs.lemmas.Bool.{leb-true, leb-false}
-use Rattle.std.proofs.lemmas.List.{append-nil, take_more, map-append, take-map, length-map, take-append-drop}
-use Rattle.std.proofs.Math.Seq.{take-length}
-use Rattle.std.proofs.lemmas.List.Splits.{length-slice_split}
-use Rattle.std.proofs.lemmas.List.Sums.{count_by-le-length}
-use Rattle.std.specs.List.{slice_split}
-use Rattle.std.specs.Str.{IsUtf8}
-use Rattle.std.specs.Str.Lines.{lines, lines_of_parts}
+use Rattle.std.proofs.lemmas.Bool.Decides.{nat_tests}
+use Rattle.std.proofs.lemmas.List.{append-nil, drop_more, length-append, take-append-drop}
+use Rattle.std.proofs.Math.Seq.{drop-length, take-append-add, take-append_seam, take-length}
+use Rattle.std.proofs.lemmas.Str.{IsUtf8-from_is_utf8, is_utf8-from_IsUtf8}
+use Rattle.std.specs.Str.{IsUtf8, is_utf8}
+use Rattle.std.specs.Str.Lines.{lines}
 use denote.Ref.{Bor}
 use Rattle.lq_tree.specs.declared.node.Node.{Node}
 use Rattle.lq_yaml.specs.declared.fault.YamlFault.{YamlFault}
@@ -24,7 +23,8 @@ use Rattle.lq_yaml.specs.Line.{Lexed, line_tokens}
 use Rattle.lq_yaml.specs.LineMachine.{State, state, file_start, line_step, run_lines}
 use Rattle.lq_yaml.specs.Machine.{start, finish, reach}
 use Rattle.lq_yaml.specs.Tree.{Tree, levels, node_of}
-use Rattle.lq_yaml.proofs.Complete.{complete, not_above}
+use Rattle.lq_yaml.specs.Yaml.{IsYaml, TreesAreLaidOut, after_line, at_end, lines_tree, text_tree, yaml_tree}
+use Rattle.lq_yaml.proofs.Complete.{above, complete, not_above}
 use Rattle.lq_yaml.proofs.Sound as sound
 use Rattle.lq_yaml.proofs.LineForms.{file_found, file_written}
 use Rattle.lq_yaml.proofs.Runs.{leads, leads_back, tokens, back, mono, lines_dead, lines_append}
@@ -179,80 +179,123 @@ least_end ls s runs le none =
           cc (none, e.ends, at);
     }
 
--- ---- over the reader's lines
+-- ---- with each line in its turn
 
--- one more line
-pub one_line : (xs : List (Bor (List ℕ))) (i : ℕ) (d : Bor (List ℕ)) (s : State) → i < length xs → run_lines (shown_lines (take i xs)) file_start ≡ Some s
-    → run_lines (shown_lines (take (i + 1) xs)) file_start ≡ line_step (chars (get_or xs i d).now) s
-one_line xs i d s lt is =
-    ap (λ (l : List (Bor (List ℕ))). run_lines (shown_lines l) file_start) (take_more xs i d lt)
-    ∙ ap (λ (l : List (List ℕ)). run_lines l file_start) (map-append (λ (x : Bor (List ℕ)). chars x.now) (take i xs) (get_or xs i d ∷ []))
-    ∙ lines_append (shown_lines (take i xs)) (chars (get_or xs i d).now ∷ []) file_start s is
-    ∙ just (line_step (chars (get_or xs i d).now) s)
+-- one line more
+one_line : (before : List (List ℕ)) (l : List ℕ) (s : State) → run_lines before file_start ≡ Some s → run_lines (before ++ l ∷ []) file_start ≡ line_step l s
+one_line before l s is = lines_append before (l ∷ []) file_start s is ∙ just (line_step l s)
 
-shown_take : (i : ℕ) (xs : List (Bor (List ℕ))) → take i (shown_lines xs) ≡ shown_lines (take i xs)
-shown_take i xs = take-map (λ (x : Bor (List ℕ)). chars x.now) i xs
+far : (before rest : List (List ℕ)) (l : List ℕ) → length before < length (before ++ l ∷ rest)
+far before rest l = let is = length-append before (l ∷ rest) in omega (arith, is)
 
-long : (i : ℕ) (xs : List (Bor (List ℕ))) → i < length xs → i < length (shown_lines xs)
-long i xs lt = subst (λ (k : ℕ). i < k) (sym (length-map xs (λ (x : Bor (List ℕ)). chars x.now))) lt
+taken : (before rest : List (List ℕ)) (s : State) → run_lines before file_start ≡ Some s → run_lines (take (length before) (before ++ rest)) file_start ≡ Some s
+taken before rest s is = ap (λ (l : List (List ℕ)). run_lines l file_start) (take-append_seam before rest) ∙ is
 
-pub wrong : (xs : List (Bor (List ℕ))) (i : ℕ) (d : Bor (List ℕ)) (s : State) → i < length xs → run_lines (shown_lines (take i xs)) file_start ≡ Some s → s.deep.levels ≤ 64
-    → line_step (chars (get_or xs i d).now) s ≡ None → IsWrong (shown_lines xs) (i + 1)
-wrong xs i d s lt is le no_step =
-    let dies : run_lines (take (i + 1) (shown_lines xs)) file_start ≡ None =
-    ap (λ (l : List (List ℕ)). run_lines l file_start) (shown_take (i + 1) xs) ∙ one_line xs i d s lt is ∙ no_step in
-    let runs : run_lines (take i (shown_lines xs)) file_start ≡ Some s = ap (λ (l : List (List ℕ)). run_lines l file_start) (shown_take i xs) ∙ is in
-    let any = refused (take (i + 1) (shown_lines xs)) dies in
+taken_more : (before rest : List (List ℕ)) (l : List ℕ) (s : State) → run_lines before file_start ≡ Some s
+    → run_lines (take (length before + 1) (before ++ l ∷ rest)) file_start ≡ line_step l s
+taken_more before rest l s is = ap (λ (l : List (List ℕ)). run_lines l file_start) (take-append-add before (l ∷ rest) 1) ∙ one_line before l s is
+
+wrong : (before rest : List (List ℕ)) (l : List ℕ) (s : State) → run_lines before file_start ≡ Some s → s.deep.levels ≤ 64
+    → line_step l s ≡ None → IsWrong (before ++ l ∷ rest) (length before + 1)
+wrong before rest l s is le no_step =
+    let any = refused (take (length before + 1) (before ++ l ∷ rest)) (taken_more before rest l s is ∙ no_step) in
     record {
-      least = least (shown_lines xs) i s (long i xs lt) runs le (λ b. any (shallow (take (i + 1) (shown_lines xs)) b));
+      least = least (before ++ l ∷ rest) (length before) s (far before rest l) (taken before (l ∷ rest) s is) le (λ b. any (shallow (take (length before + 1) (before ++ l ∷ rest)) b));
       any = λ within b. any b;
     }
 
-pub deep_line : (xs : List (Bor (List ℕ))) (i : ℕ) (d : Bor (List ℕ)) (s n : State) → i < length xs → run_lines (shown_lines (take i xs)) file_start ≡ Some s → s.deep.levels ≤ 64
-    → line_step (chars (get_or xs i d).now) s ≡ Some n → 64 < n.deep.levels → IsTooDeep (shown_lines xs)
-deep_line xs i d s n lt is le stepped gt =
-    let on : run_lines (take (i + 1) (shown_lines xs)) file_start ≡ Some n =
-    ap (λ (l : List (List ℕ)). run_lines l file_start) (shown_take (i + 1) xs) ∙ one_line xs i d s lt is ∙ stepped in
-    let runs : run_lines (take i (shown_lines xs)) file_start ≡ Some s = ap (λ (l : List (List ℕ)). run_lines l file_start) (shown_take i xs) ∙ is in
-    let far = long i xs lt in
+deep_line : (before rest : List (List ℕ)) (l : List ℕ) (s n : State) → run_lines before file_start ≡ Some s → s.deep.levels ≤ 64
+    → line_step l s ≡ Some n → 64 < n.deep.levels → IsTooDeep (before ++ l ∷ rest)
+deep_line before rest l s n is le stepped gt =
+    let on : run_lines (take (length before + 1) (before ++ l ∷ rest)) file_start ≡ Some n = taken_more before rest l s is ∙ stepped in
+    let within = far before rest l in
     record {
-      line = i + 1;
-      within = omega arith;
-      least = least (shown_lines xs) i s far runs le (λ b. too_deep (take (i + 1) (shown_lines xs)) n on gt b);
-      deep = begins_deep (take (i + 1) (shown_lines xs)) n on;
+      line = length before + 1;
+      within = omega (arith, within);
+      least = least (before ++ l ∷ rest) (length before) s within (taken before (l ∷ rest) s is) le (λ b. too_deep (take (length before + 1) (before ++ l ∷ rest)) n on gt b);
+      deep = begins_deep (take (length before + 1) (before ++ l ∷ rest)) n on;
     }
 
-pub all_lines : (xs : List (Bor (List ℕ))) (i : ℕ) (s : State) → i ≡ length xs → run_lines (shown_lines (take i xs)) file_start ≡ Some s → run_lines (shown_lines xs) file_start ≡ Some s
-all_lines xs i s end is = ap (λ (l : List (Bor (List ℕ))). run_lines (shown_lines l) file_start) (sym (ap (λ (k : ℕ). take k xs) end ∙ take-length xs)) ∙ is
+-- what is read says this of the lines
+abbrev pub Says : List (List ℕ) → Result Node YamlFault → Type 0
+Says ls (Ok node) = IsRead ls node
+Says ls (Err NotUtf8) = ⊥
+Says ls (Err (Line n)) = IsWrong ls n
+Says ls (Err TooDeep) = IsTooDeep ls
+Says ls (Err OutOfMemory) = ⊥
 
-pub wrong_end : (xs : List (Bor (List ℕ))) (s : State) → run_lines (shown_lines xs) file_start ≡ Some s → s.deep.levels ≤ 64 → finish s.deep.at ≡ None → IsWrong (shown_lines xs) (length xs + 1)
-wrong_end xs s is le none =
-    subst (λ (k : ℕ). IsWrong (shown_lines xs) (k + 1)) (length-map xs (λ (x : Bor (List ℕ)). chars x.now))
-    (record { least = least_end (shown_lines xs) s is le none; any = λ within b. absurd (omega arith) })
+at_its_end : (ls : List (List ℕ)) (s : State) → run_lines ls file_start ≡ Some s → s.deep.levels ≤ 64 → (o : Option Node) → finish s.deep.at ≡ o → Says ls (at_end (length ls + 1) o)
+at_its_end ls s is le None end = record { least = least_end ls s is le end; any = λ within b. absurd (omega arith) }
+at_its_end ls s is le (Some node) end = is_read ls s node is end le
+
+gt_of : (q r : ℕ) → nat_lt q r ≡ true → q < r
+gt_of q r is = grind (arith, nat_tests)
+
+le_of : (q r : ℕ) → nat_lt q r ≡ false → r ≤ q
+le_of q r is = grind (arith, nat_tests)
+
+by_depth : (before rest : List (List ℕ)) (l : List ℕ) (s n : State) → run_lines before file_start ≡ Some s → s.deep.levels ≤ 64 → line_step l s ≡ Some n
+    → (n.deep.levels ≤ 64 → Says (before ++ l ∷ rest) (lines_tree (length before + 1 + 1) rest n))
+    → (b : Bool) → nat_lt 64 n.deep.levels ≡ b → Says (before ++ l ∷ rest) (cond b (Err TooDeep) (lines_tree (length before + 1 + 1) rest n))
+by_depth before rest l s n is le stepped more true deep = deep_line before rest l s n is le stepped (gt_of 64 n.deep.levels deep)
+by_depth before rest l s n is le stepped more false deep = more (le_of 64 n.deep.levels deep)
+
+by_step : (before rest : List (List ℕ)) (l : List ℕ) (s : State) → run_lines before file_start ≡ Some s → s.deep.levels ≤ 64
+    → ((n : State) → line_step l s ≡ Some n → n.deep.levels ≤ 64 → Says (before ++ l ∷ rest) (lines_tree (length before + 1 + 1) rest n))
+    → (o : Option State) → line_step l s ≡ o → Says (before ++ l ∷ rest) (after_line (length before + 1) (lines_tree (length before + 1 + 1) rest) o)
+by_step before rest l s is le more None stepped = wrong before rest l s is le stepped
+by_step before rest l s is le more (Some n) stepped = by_depth before rest l s n is le stepped (more n stepped) (nat_lt 64 n.deep.levels) refl
+
+says_from : (before ls : List (List ℕ)) (s : State) → run_lines before file_start ≡ Some s → s.deep.levels ≤ 64 → Says (before ++ ls) (lines_tree (length before + 1) ls s)
+says_from before [] s is le =
+    subst (λ (l : List (List ℕ)). Says l (at_end (length before + 1) (finish s.deep.at))) (sym (append-nil before)) (at_its_end before s is le (finish s.deep.at) refl)
+says_from before (l ∷ ls) s is le =
+    by_step before ls l s is le (λ n stepped low.
+    subst (λ (k : ℕ). Says (before ++ l ∷ ls) (lines_tree (k + 1) ls n)) (length-append before (l ∷ []))
+    (subst (λ (all : List (List ℕ)). Says all (lines_tree (length (before ++ l ∷ []) + 1) ls n)) (append_assoc before (l ∷ []) ls)
+    (says_from (before ++ l ∷ []) ls n (one_line before l s is ∙ stepped) low))) (line_step l s) refl
+
+pub says : (ls : List (List ℕ)) → Says ls (text_tree ls)
+unfolding text_tree
+says ls = says_from [] ls file_start refl (omega arith)
+
+-- ---- the reader's loop
+
+pub begun_tree : (xs : List (Bor (List ℕ))) (s : State) → s ≡ file_start → text_tree (shown_lines xs) ≡ lines_tree (0 + 1) (shown_lines (drop 0 xs)) s
+unfolding text_tree
+begun_tree xs s is = ap (lines_tree 1 (shown_lines xs)) (sym is)
+
+tree_at : (xs : List (Bor (List ℕ))) (i : ℕ) (d : Bor (List ℕ)) (s : State) → i < length xs
+    → lines_tree (i + 1) (shown_lines (drop i xs)) s ≡ after_line (i + 1) (lines_tree (i + 1 + 1) (shown_lines (drop (i + 1) xs))) (line_step (chars (get_or xs i d).now) s)
+tree_at xs i d s lt = ap (λ (l : List (Bor (List ℕ))). lines_tree (i + 1) (shown_lines l) s) (drop_more xs i d lt)
+
+pub stepped : (xs : List (Bor (List ℕ))) (i : ℕ) (d : Bor (List ℕ)) (s n : State) (t : Result Node YamlFault) → i < length xs → t ≡ lines_tree (i + 1) (shown_lines (drop i xs)) s
+    → line_step (chars (get_or xs i d).now) s ≡ Some n → n.deep.levels ≤ 64 → t ≡ lines_tree (i + 1 + 1) (shown_lines (drop (i + 1) xs)) n
+stepped xs i d s n t lt is step low =
+    is ∙ tree_at xs i d s lt
+    ∙ ap (λ (o : Option State). after_line (i + 1) (lines_tree (i + 1 + 1) (shown_lines (drop (i + 1) xs))) o) step
+    ∙ ap (λ (b : Bool). cond b (Err TooDeep) (lines_tree (i + 1 + 1) (shown_lines (drop (i + 1) xs)) n)) (not_above 64 n.deep.levels low)
+
+pub stuck : (xs : List (Bor (List ℕ))) (i : ℕ) (d : Bor (List ℕ)) (s : State) (t : Result Node YamlFault) → i < length xs → t ≡ lines_tree (i + 1) (shown_lines (drop i xs)) s
+    → line_step (chars (get_or xs i d).now) s ≡ None → t ≡ Err (Line (i + 1))
+stuck xs i d s t lt is step =
+    is ∙ tree_at xs i d s lt ∙ ap (λ (o : Option State). after_line (i + 1) (lines_tree (i + 1 + 1) (shown_lines (drop (i + 1) xs))) o) step
+
+pub deeper : (xs : List (Bor (List ℕ))) (i : ℕ) (d : Bor (List ℕ)) (s n : State) (t : Result Node YamlFault) → i < length xs → t ≡ lines_tree (i + 1) (shown_lines (drop i xs)) s
+    → line_step (chars (get_or xs i d).now) s ≡ Some n → 64 < n.deep.levels → t ≡ Err TooDeep
+deeper xs i d s n t lt is step high =
+    is ∙ tree_at xs i d s lt
+    ∙ ap (λ (o : Option State). after_line (i + 1) (lines_tree (i + 1 + 1) (shown_lines (drop (i + 1) xs))) o) step
+    ∙ ap (λ (b : Bool). cond b (Err TooDeep) (lines_tree (i + 1 + 1) (shown_lines (drop (i + 1) xs)) n)) (above 64 n.deep.levels high)
+
+pub ended : (xs : List (Bor (List ℕ))) (i : ℕ) (s : State) (t : Result Node YamlFault) (o : Option Node) → i ≡ length xs → t ≡ lines_tree (i + 1) (shown_lines (drop i xs)) s
+    → finish s.deep.at ≡ o → t ≡ at_end (length xs + 1) o
+ended xs i s t o end is found =
+    is ∙ ap (λ (k : ℕ). lines_tree (k + 1) (shown_lines (drop k xs)) s) end
+    ∙ ap (λ (l : List (Bor (List ℕ))). lines_tree (length xs + 1) (shown_lines l) s) (drop-length xs)
+    ∙ ap (at_end (length xs + 1)) found
 
 -- ---- the lines of a text
-
-parts : (ps : List (List ℕ)) → length (lines_of_parts ps) ≤ length ps
-parts [] = omega arith
-parts (x ∷ []) = last_part (length x == 0) x
-  where
-    last_part : (b : Bool) (x : List ℕ) → length (cond b [] (x ∷ [])) ≤ 1
-    last_part true x = omega arith
-    last_part false x = omega arith
-parts (x ∷ y ∷ more) = let le = parts (y ∷ more) in omega (arith, le)
-
-few : (text : List ℕ) → length (lines text) ≤ length text + 1
-few text =
-    let le = parts (slice_split (λ b. b == 10) text) in
-    let is = length-slice_split (λ (b : ℕ). b == 10) text in
-    let count = count_by-le-length (λ (b : ℕ). b == 10) text in
-    omega (arith, le, is, count)
-
-pub few_lines : (text : List ℕ) (ls : List (Bor (List ℕ))) → map (λ l. l.now) ls ≡ lines text → length ls ≤ length text + 1
-few_lines text ls is =
-    let same : length ls ≡ length (lines text) = sym (length-map ls (λ (l : Bor (List ℕ)). l.now)) ∙ ap (λ (l : List (List ℕ)). length l) is in
-    let le = few text in
-    omega (arith, same, le)
 
 shown_map : (ls : List (Bor (List ℕ))) → shown_lines ls ≡ map chars (map (λ l. l.now) ls)
 shown_map [] = refl
@@ -260,6 +303,10 @@ shown_map (l ∷ ls) = ap (λ (m : List (List ℕ)). chars l.now ∷ m) (shown_m
 
 pub shown : (text : List ℕ) (ls : List (Bor (List ℕ))) → map (λ l. l.now) ls ≡ lines text → shown_lines ls ≡ lines_of text
 shown text ls is = shown_map ls ∙ ap (λ (m : List (List ℕ)). map chars m) is
+
+pub found_in : (text : List ℕ) (ls : List (Bor (List ℕ))) (r : Result Node YamlFault) → map (λ l. l.now) ls ≡ lines text
+    → (r ≡ Err OutOfMemory) ⊎ (r ≡ text_tree (shown_lines ls)) → (r ≡ Err OutOfMemory) ⊎ (r ≡ text_tree (lines_of text))
+found_in text ls r is found = subst (λ (l : List (List ℕ)). (r ≡ Err OutOfMemory) ⊎ (r ≡ text_tree l)) (shown text ls is) found
 
 -- ---- UTF-8
 
@@ -282,10 +329,86 @@ not_least_by ls n node false is l r = l.end (leb-false n (length ls) is) r.0 r.2
 not_least : (ls : List (List ℕ)) (n : ℕ) (node : Node) → IsLeast ls n → IsRead ls node → ⊥
 not_least ls n node = not_least_by ls n node (nat_le n (length ls)) refl
 
+same_node : (ls : List (List ℕ)) (m n : Node) → IsRead ls m → IsRead ls n → m ≡ n
+same_node ls m n a b = sym a.3 ∙ one_tree ls a.0 b.0 a.1 b.1 ∙ b.3
+
 -- where lines lay out a node, it is the answer, or memory ran out
 pub whole : (ls : List (List ℕ)) (r : Result Node YamlFault) (node : Node) → IfOk r (λ found. IsRead ls found) → IfErr r (Blames ls) → IsRead ls node → (r ≡ Ok node) ⊎ (r ≡ Err OutOfMemory)
-whole ls (Ok found) node ok err r = inl (ap Ok (sym ok.3 ∙ one_tree ls ok.0 r.0 ok.1 r.1 ∙ r.3))
+whole ls (Ok found) node ok err r = inl (ap Ok (same_node ls found node ok r))
 whole ls (Err NotUtf8) node ok err r = absurd err
 whole ls (Err (Line n)) node ok err r = absurd (not_least ls n node err.least r)
 whole ls (Err TooDeep) node ok err r = absurd (not_least ls err.line node err.least r)
 whole ls (Err OutOfMemory) node ok err r = inr refl
+
+-- ---- what is read by the function
+
+ok_says : (ls : List (List ℕ)) (r : Result Node YamlFault) → Says ls r → IfOk r (λ node. IsRead ls node)
+ok_says ls (Ok node) says = says
+ok_says ls (Err fault) says = tt
+
+err_says : (ls : List (List ℕ)) (r : Result Node YamlFault) → Says ls r → IfErr r (λ fault. Blames ls fault)
+err_says ls (Ok node) says = tt
+err_says ls (Err NotUtf8) says = says
+err_says ls (Err (Line n)) says = says
+err_says ls (Err TooDeep) says = says
+err_says ls (Err OutOfMemory) says = tt
+
+pub ok_found : (ls : List (List ℕ)) (r : Result Node YamlFault) → (r ≡ Err OutOfMemory) ⊎ (r ≡ text_tree ls) → IfOk r (λ node. IsRead ls node)
+ok_found ls r (inl none) = subst (λ (r : Result Node YamlFault). IfOk r (λ node. IsRead ls node)) (sym none) tt
+ok_found ls r (inr is) = ok_says ls r (subst (Says ls) (sym is) (says ls))
+
+pub err_found : (ls : List (List ℕ)) (r : Result Node YamlFault) → (r ≡ Err OutOfMemory) ⊎ (r ≡ text_tree ls) → IfErr r (λ fault. Blames ls fault)
+err_found ls r (inl none) = subst (λ (r : Result Node YamlFault). IfErr r (λ fault. Blames ls fault)) (sym none) tt
+err_found ls r (inr is) = err_says ls r (subst (Says ls) (sym is) (says ls))
+
+of_text : (bytes : List ℕ) → IsUtf8 bytes → (r : Result Node YamlFault) → Says (lines_of bytes) r → IsYaml bytes r
+of_text bytes utf (Ok found) is = record {
+  tree = λ node. (λ e. (utf, subst (IsRead (lines_of bytes)) (let same : found ≡ node = cc in same) is), λ r. ap Ok (same_node (lines_of bytes) found node is r.1));
+  not_utf8 = (λ e. absurd cc, λ bad. absurd (bad utf));
+  line = λ n e. absurd cc;
+  deep = λ e. absurd cc;
+  memory = λ e. absurd cc;
+}
+of_text bytes utf (Err NotUtf8) is = absurd is
+of_text bytes utf (Err (Line k)) is = record {
+  tree = λ node. (λ e. absurd cc, λ r. absurd (not_least (lines_of bytes) k node is.least r.1));
+  not_utf8 = (λ e. absurd cc, λ bad. absurd (bad utf));
+  line = λ n e. subst (IsWrong (lines_of bytes)) (let same : k ≡ n = cc in same) is;
+  deep = λ e. absurd cc;
+  memory = λ e. absurd cc;
+}
+of_text bytes utf (Err TooDeep) is = record {
+  tree = λ node. (λ e. absurd cc, λ r. absurd (not_least (lines_of bytes) is.line node is.least r.1));
+  not_utf8 = (λ e. absurd cc, λ bad. absurd (bad utf));
+  line = λ n e. absurd cc;
+  deep = λ e. is;
+  memory = λ e. absurd cc;
+}
+of_text bytes utf (Err OutOfMemory) is = absurd is
+
+no_text : (bytes : List ℕ) → ¬ IsUtf8 bytes → IsYaml bytes (Err NotUtf8)
+no_text bytes bad = record {
+  tree = λ node. (λ e. absurd cc, λ r. absurd (bad r.0));
+  not_utf8 = (λ e. bad, λ bad. refl);
+  line = λ n e. absurd cc;
+  deep = λ e. absurd cc;
+  memory = λ e. absurd cc;
+}
+
+by_test : (bytes : List ℕ) (b : Bool) → is_utf8 bytes ≡ b → IsYaml bytes (cond b (text_tree (lines_of bytes)) (Err NotUtf8))
+by_test bytes true is = of_text bytes (IsUtf8-from_is_utf8 bytes is) (text_tree (lines_of bytes)) (says (lines_of bytes))
+by_test bytes false is = no_text bytes (λ utf. let yes = is_utf8-from_IsUtf8 bytes utf in absurd cc)
+
+pub trees : TreesAreLaidOut
+unfolding yaml_tree
+trees bytes = by_test bytes (is_utf8 bytes) refl
+
+pub utf8_tree : (bytes : List ℕ) → IsUtf8 bytes → yaml_tree bytes ≡ text_tree (lines_of bytes)
+unfolding yaml_tree
+utf8_tree bytes is = ap (λ (b : Bool). cond b (text_tree (lines_of bytes)) (Err NotUtf8)) (is_utf8-from_IsUtf8 bytes is)
+
+pub other_tree : (bytes : List ℕ) → ¬ IsUtf8 bytes → yaml_tree bytes ≡ Err NotUtf8
+other_tree bytes bad = (trees bytes).not_utf8.1 bad
+
+pub utf8_found : (bytes : List ℕ) (r : Result Node YamlFault) → IsUtf8 bytes → (r ≡ Err OutOfMemory) ⊎ (r ≡ text_tree (lines_of bytes)) → (r ≡ Err OutOfMemory) ⊎ (r ≡ yaml_tree bytes)
+utf8_found bytes r is found = subst (λ (t : Result Node YamlFault). (r ≡ Err OutOfMemory) ⊎ (r ≡ t)) (sym (utf8_tree bytes is)) found

@@ -16,3 +16,4 @@ pub mod Scan
 pub mod Tree
 pub mod View
 pub mod Written
+pub mod Yaml

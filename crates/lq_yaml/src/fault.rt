@@ -12,7 +12,7 @@ pub enum YamlFault {
     NotUtf8,
     /// The first line that is wrong, counted from 1; the end of the file counts as one more.
     #[error("line {0}")]
-    Line(u32),
+    Line(u64),
     /// More than 64 levels.
     #[error("too deep")]
     TooDeep,

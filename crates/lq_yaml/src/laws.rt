@@ -1,10 +1,16 @@
 ghost use Rattle.lq_yaml.specs.Examples.{ScalarExamples, LineExamples};
 ghost use Rattle.lq_yaml.specs.File.{LinesLayOutOne};
 ghost use Rattle.lq_yaml.specs.MadeLaws.{ScalarsAreFound, ContentsAreFound, FilesAreFound, LinesMeanOne};
+ghost use Rattle.lq_yaml.specs.Yaml.{TreesAreLaidOut};
 
 /// The lines of a file lay out at most one node.
 pub fn one_tree()
     ensures { LinesLayOutOne }
+{}
+
+/// The function by which bytes are read finds the tree that their lines lay out.
+pub fn laid_out()
+    ensures { TreesAreLaidOut }
 {}
 
 /// The scalar at the front of a text is the one that the reader finds.

@@ -18,5 +18,5 @@ mod reading;
 mod token;
 
 pub use fault::YamlFault;
-pub use laws::{contents, examples, one_tree, scalars, tokens};
+pub use laws::{contents, examples, laid_out, one_tree, scalars, tokens};
 pub use reading::read_yaml;

@@ -1,4 +1,4 @@
-ghost use Rattle.std.specs.Prelude.{◌≡◌, ◌↔◌, ◌⊎◌, ℕ, ◌<◌, ◌≤◌, ◌^◌, IfOk, IfErr, Ok, Err, length, map, chars};
+ghost use Rattle.std.specs.Prelude.{◌≡◌, ◌↔◌, ◌⊎◌, ℕ, IfOk, IfErr, Ok, Err, map, chars};
 ghost use Rattle.std.specs.Str.Lines.{lines};
 ghost use Rattle.std.specs.Str.{IsUtf8};
 ghost use Rattle.lq_tree.specs.Tree.{IsTree};
@@ -8,6 +8,7 @@ ghost use Rattle.lq_yaml.specs.DeepView.{state_of, shown_lines};
 ghost use Rattle.lq_yaml.specs.File.{lines_of, IsRead, IsWrong, IsTooDeep, Blames};
 ghost use Rattle.lq_yaml.specs.LineMachine.{line_step, file_start};
 ghost use Rattle.lq_yaml.specs.View.{Takes};
+ghost use Rattle.lq_yaml.specs.Yaml.{text_tree, yaml_tree};
 
 use crate::builder::Builder;
 use crate::chars::chars_of;
@@ -53,14 +54,12 @@ impl Reader {
 
 /// The node that the lines of a file lay out.
 fn read_lines(alloc: Global, lines: &[&str]) -> Result<Node, YamlFault>
-    requires { length lines.now < 2 ^ 25 }
-    ensures ok { IfOk result (λ node. IsRead (shown_lines lines.now) node) }
-    ensures err { IfErr result (λ fault. Blames (shown_lines lines.now) fault) }
+    ensures { (result ≡ Err OutOfMemory) ⊎ (result ≡ text_tree (shown_lines lines.now)) }
 {
     let mut reader = Reader::new(alloc);
     for (i, line) in lines.iter().enumerate() {
         if !reader.take_line(alloc, line)? {
-            return Err(YamlFault::Line(i as u32 + 1));
+            return Err(YamlFault::Line(i as u64 + 1));
         }
         if reader.builder.levels > 64 {
             return Err(YamlFault::TooDeep);
@@ -68,7 +67,7 @@ fn read_lines(alloc: Global, lines: &[&str]) -> Result<Node, YamlFault>
     }
     match reader.builder.finish()? {
         Some(node) => Ok(node),
-        None => Err(YamlFault::Line(lines.len() as u32 + 1)),
+        None => Err(YamlFault::Line(lines.len() as u64 + 1)),
     }
 }
 
@@ -80,7 +79,7 @@ fn lines_in(alloc: Global, text: &str) -> Result<Vec<&str>, AllocError>
 }
 
 fn read_text(alloc: Global, text: &str) -> Result<Node, YamlFault>
-    requires { length text.now ≤ 16_777_216 }
+    ensures found { (result ≡ Err OutOfMemory) ⊎ (result ≡ text_tree (lines_of text.now)) }
     ensures ok { IfOk result (λ node. IsRead (lines_of text.now) node) }
     ensures err { IfErr result (λ fault. Blames (lines_of text.now) fault) }
 {
@@ -88,9 +87,9 @@ fn read_text(alloc: Global, text: &str) -> Result<Node, YamlFault>
     read_lines(alloc, lines.as_slice())
 }
 
-/// The tree that the bytes of a YAML file lay out: at most 16,777,216 bytes.
+/// The tree that the bytes of a YAML file lay out.
 pub fn read_yaml(alloc: Global, bytes: &[u8]) -> Result<Node, YamlFault>
-    requires { length bytes.now ≤ 16_777_216 }
+    ensures found { (result ≡ Err OutOfMemory) ⊎ (result ≡ yaml_tree bytes.now) }
     ensures tree { IfOk result (λ node. IsRead (lines_of bytes.now) node) }
     ensures whole { (node : Node) → IsUtf8 bytes.now → IsRead (lines_of bytes.now) node → (result ≡ Ok node) ⊎ (result ≡ Err OutOfMemory) }
     ensures order { IfOk result IsTree }

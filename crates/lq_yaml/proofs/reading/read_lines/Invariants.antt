@@ -1,7 +1,7 @@
-use Rattle.std.proofs.Common.{◌≡◌, ◌≤◌, Some, take}
+use Rattle.std.proofs.Common.{◌≡◌, ◌+◌, drop}
 use Rattle.lq_yaml.specs.DeepView.{state_of, shown_lines}
-use Rattle.lq_yaml.specs.LineMachine.{file_start, run_lines}
+use Rattle.lq_yaml.specs.Yaml.{lines_tree, text_tree}
 use Rattle.lq_yaml.proofs.reading.read_lines.Given as goal
 
 abbrev pub invariant-loop-i : goal.invariant-loop-i
-invariant-loop-i l = (run_lines (shown_lines (take l.i l.lines)) file_start ≡ Some (state_of l.reader)) × (l.reader.builder.levels ≤ 64)
+invariant-loop-i l = text_tree (shown_lines l.lines) ≡ lines_tree (l.i + 1) (shown_lines (drop l.i l.lines)) (state_of l.reader)

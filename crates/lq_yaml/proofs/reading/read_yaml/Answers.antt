@@ -1,7 +1,9 @@
-use Rattle.std.proofs.Common.{rules, refl, IfErr, IfOk}
+use Rattle.std.proofs.Common.{rules, refl, sym, inr, Err, IfErr, IfOk, ◌⊎◌, ◌≡◌}
 use Rattle.std.specs.Str.{IsUtf8}
+use Rattle.lq_yaml.specs.declared.fault.YamlFault.TheVariants.{OutOfMemory}
 use Rattle.lq_yaml.specs.File.{lines_of, Blames, IsRead}
-use Rattle.lq_yaml.proofs.Files.{utf8, whole}
+use Rattle.lq_yaml.specs.Yaml.{text_tree}
+use Rattle.lq_yaml.proofs.Files.{other_tree, utf8, utf8_found, whole}
 use Rattle.lq_yaml.proofs.Trees.{ordered}
 use Rattle.lq_yaml.proofs.reading.read_yaml.Goals as goal
 
@@ -31,3 +33,14 @@ pub returns-in-Err-clause-whole : goal.returns-in-Err-clause-whole
 returns-in-Err-clause-whole c node utf r =
     let bad : ¬ IsUtf8 c.args.bytes.now = search rules in
     absurd (bad utf)
+
+pub returns-in-Ok-clause-found : goal.returns-in-Ok-clause-found
+returns-in-Ok-clause-found c =
+    let is : IsUtf8 c.args.bytes.now = search rules in
+    let found : (c.read_text.result ≡ Err OutOfMemory) ⊎ (c.read_text.result ≡ text_tree (lines_of c.args.bytes.now)) = search rules in
+    utf8_found c.args.bytes.now c.read_text.result is found
+
+pub returns-in-Err-clause-found : goal.returns-in-Err-clause-found
+returns-in-Err-clause-found c =
+    let bad : ¬ IsUtf8 c.args.bytes.now = search rules in
+    inr (sym (other_tree c.args.bytes.now bad))

@@ -1,0 +1,97 @@
+-- What a changelog gathers of its items.
+use Rattle.std.specs.Prelude.{Bool, Err, List, None, Ok, Option, Result, Some, [], codes, if◌then◌else◌, nat_lt, option_and_then, ℕ, ◌++◌, ◌∷◌}
+use Rattle.std.specs.Str.{bytes_eq}
+use Rattle.lq_base.specs.declared.dialect.Dialect.{Dialect}
+use Rattle.lq_base.specs.Kind.{plain_number}
+use Rattle.lq_base.specs.declared.fault.KindFault.TheVariants.{Bad, OutOfMemory, Unknown}
+use Rattle.lq_cond.specs.declared.cond.Reaction.{Reaction}
+use Rattle.lq_kinds.specs.ChangeSets.{set_of}
+use Rattle.lq_kinds.specs.Changes.{here_at}
+use Rattle.lq_kinds.specs.declared.change_set.ChangeSet.{ChangeSet}
+use Rattle.lq_kinds.specs.declared.fault.SetFault.{SetFault}
+use Rattle.lq_kinds.specs.declared.fault.SetFault.TheVariants as set
+use Rattle.lq_sources.specs.Faults.{by_keys}
+use Rattle.lq_sources.specs.Items.{entry_of}
+use Rattle.lq_sources.specs.Meaning.{Meaning}
+use Rattle.lq_sources.specs.declared.fault.What.{What}
+use Rattle.lq_sources.specs.declared.fault.What.TheVariants.{BadPath, Key, Line}
+use Rattle.lq_sources.specs.Paths.{format_of}
+use Rattle.lq_sources.specs.declared.path.Format.{Format}
+use Rattle.lq_sources.specs.declared.path.Format.TheVariants.{Json, Sql, Yaml}
+use Rattle.lq_tree.specs.Found.{placed, within_list}
+use Rattle.lq_tree.specs.declared.node.Node.{Node}
+use Rattle.lq_contents.specs.Own.{own_reaction}
+use Rattle.lq_contents.specs.Trees.{file_tree}
+use Rattle.lq_changelog.specs.declared.gathered.Gathered.{Gathered}
+
+-- one changeset more, if it is not to be ignored
+abbrev pub with_set : Option ChangeSet → Gathered → Gathered
+with_set None g = g
+with_set (Some set) g = record g { sets = g.sets ++ set ∷ [] }
+
+-- the conditions of each file join those before; only the root says how they are reacted to
+abbrev pub with_reaction : Bool → Reaction → Gathered → Gathered
+with_reaction is_root r g =
+    if is_root then record { conds = g.conds ++ r.cond ∷ []; on_fail = r.on_fail; on_error = r.on_error; sets = g.sets }
+    else record g { conds = g.conds ++ r.cond ∷ [] }
+
+-- a changeset of a tree, whose faults begin with its item's key
+abbrev pub in_tree : {A : Type 0} → Result A SetFault → Result A What
+in_tree (Ok a) = Ok a
+in_tree (Err (set.InKeys fault)) = Err (Key (placed (codes "changeSet") fault))
+in_tree (Err set.BadPath) = Err BadPath
+
+unfoldable pub tree_set : Dialect → List ℕ → Node → Result (Option ChangeSet) What
+tree_set d path n = in_tree (set_of d path n)
+
+-- a fault of a changeset of formatted SQL is at the line at which it begins
+abbrev pub what_at : ℕ → SetFault → What
+what_at line (set.InKeys OutOfMemory) = Key OutOfMemory
+what_at line (set.InKeys fault) = Line line
+what_at line set.BadPath = BadPath
+
+abbrev pub at_line : {A : Type 0} → ℕ → Result A SetFault → Result A What
+at_line line (Ok a) = Ok a
+at_line line (Err fault) = Err (what_at line fault)
+
+-- the number of a line
+abbrev pub line_of : List ℕ → Option ℕ
+line_of key = option_and_then (λ n. if nat_lt n 18446744073709551616 then Some n else None) (plain_number key)
+
+abbrev no_line : {A : Type 0} → Result A What
+no_line = Err (Key (Bad (codes "changeSet")))
+
+abbrev pub under_line : Dialect → List ℕ → Option (List ℕ × Node) → Result (Option ChangeSet) What
+under_line d path None = no_line
+under_line d path (Some e) = elim (line_of e.0) [ None ↦ no_line | Some line ↦ at_line line (set_of d path e.1) ]
+
+-- a changeset of formatted SQL stands under the number of its line
+unfoldable pub sql_set : Dialect → List ℕ → Node → Result (Option ChangeSet) What
+sql_set d path n = under_line d path (entry_of n)
+
+abbrev pub set_by : Option Format → Dialect → List ℕ → Node → Result (Option ChangeSet) What
+set_by (Some Sql) d path n = sql_set d path n
+set_by (Some Json) d path n = tree_set d path n
+set_by (Some Yaml) d path n = tree_set d path n
+set_by None d path n = tree_set d path n
+
+-- a changeset of the file at a path
+unfoldable pub set_in : Dialect → List ℕ → Node → Result (Option ChangeSet) What
+set_in d path n = set_by (format_of path) d path n
+
+unfoldable pub reaction_in : Dialect → Node → Result Reaction What
+reaction_in d n = by_keys (within_list (codes "preConditions") (own_reaction d n))
+
+abbrev pub map_made : {A B : Type 0} → (A → B) → Result A What → Result B What
+map_made f (Ok a) = Ok (f a)
+map_made f (Err what) = Err what
+
+-- an item by its key
+abbrev pub gathers : Dialect → Bool → List ℕ → List ℕ → Node → Gathered → Result Gathered What
+gathers d is_root path key n g =
+    if bytes_eq key (codes "changeSet") then map_made (λ found. with_set found g) (set_in d path n)
+    else if bytes_eq key (codes "preConditions") then map_made (λ found. with_reaction is_root found g) (reaction_in d n)
+    else Err (Key (Unknown key))
+
+abbrev pub meaning : Dialect → Meaning Gathered
+meaning d = record { tree = file_tree; here = here_at d; gathers = gathers d }

@@ -1,0 +1,2 @@
+pub mod Changelog
+pub mod Gathers

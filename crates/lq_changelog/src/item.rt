@@ -1,0 +1,113 @@
+ghost use Rattle.std.specs.Prelude.{◌≡◌};
+ghost use Rattle.lq_sources.specs.Answers.{IsMade};
+ghost use Rattle.lq_changelog.specs.Gathers.{line_of, reaction_in, set_in, sql_set, tree_set, what_at};
+
+use lq_base::{Dialect, KindFault, plain_number};
+use lq_cond::Reaction;
+use lq_contents::own_reaction;
+use lq_kinds::{ChangeSet, SetFault};
+use lq_model::SqlText;
+use lq_sources::{Format, What, entry_of, format_of};
+use lq_tree::{Node, bad_key, placed, placed_list};
+use std::alloc::Global;
+
+/// A changeset of a tree.
+#[tactic(auto, unfolding(crate::specs::Gathers::tree_set))]
+fn tree_set<P: SqlText>(
+    alloc: Global,
+    path: &str,
+    node: &Node,
+    dialect: Dialect,
+    sql: &P,
+) -> Result<Option<ChangeSet>, What>
+    requires same { P.dialect ≡ dialect }
+    ensures { IsMade (tree_set dialect path.now node.now) result }
+{
+    match ChangeSet::read(alloc, node, dialect, path, sql) {
+        Ok(set) => Ok(set),
+        Err(SetFault::BadPath) => Err(What::BadPath),
+        Err(SetFault::InKeys(fault)) => Err(What::Key(placed(alloc, "changeSet", fault))),
+    }
+}
+
+/// What a fault of a changeset of formatted SQL is, which begins at a line.
+fn what_at(line: u64, fault: SetFault) -> What
+    ensures { result ≡ what_at line fault }
+{
+    match fault {
+        SetFault::InKeys(KindFault::OutOfMemory) => What::Key(KindFault::OutOfMemory),
+        SetFault::InKeys(_) => What::Line(line),
+        SetFault::BadPath => What::BadPath,
+    }
+}
+
+/// The number of a line.
+fn line_of(key: &str) -> Option<u64>
+    ensures { result ≡ line_of key.now }
+{
+    let number = plain_number(key.as_bytes())?;
+    if number < 18_446_744_073_709_551_616 {
+        Some(number as u64)
+    } else {
+        None
+    }
+}
+
+/// A changeset of formatted SQL.
+#[tactic(auto, unfolding(crate::specs::Gathers::sql_set))]
+fn sql_set<P: SqlText>(
+    alloc: Global,
+    path: &str,
+    node: &Node,
+    dialect: Dialect,
+    sql: &P,
+) -> Result<Option<ChangeSet>, What>
+    requires same { P.dialect ≡ dialect }
+    ensures { IsMade (sql_set dialect path.now node.now) result }
+{
+    let Some(entry) = entry_of(node) else {
+        return Err(What::Key(bad_key(alloc, "changeSet")));
+    };
+    let Some(line) = line_of(entry.0.as_str()) else {
+        return Err(What::Key(bad_key(alloc, "changeSet")));
+    };
+    match ChangeSet::read(alloc, &entry.1, dialect, path, sql) {
+        Ok(set) => Ok(set),
+        Err(fault) => Err(what_at(line, fault)),
+    }
+}
+
+/// A changeset of the file at a path: `None` where it is to be ignored.
+#[tactic(auto, unfolding(crate::specs::Gathers::set_in))]
+pub fn set_in<P: SqlText>(
+    alloc: Global,
+    path: &str,
+    node: &Node,
+    dialect: Dialect,
+    sql: &P,
+) -> Result<Option<ChangeSet>, What>
+    requires same { P.dialect ≡ dialect }
+    ensures { IsMade (set_in dialect path.now node.now) result }
+{
+    match format_of(path) {
+        Some(Format::Sql) => sql_set(alloc, path, node, dialect, sql),
+        _ => tree_set(alloc, path, node, dialect, sql),
+    }
+}
+
+/// A changelog's own preconditions.
+#[tactic(auto, unfolding(crate::specs::Gathers::reaction_in))]
+pub fn reaction_in<P: SqlText>(
+    alloc: Global,
+    node: &Node,
+    dialect: Dialect,
+    sql: &P,
+) -> Result<Reaction, What>
+    requires same { P.dialect ≡ dialect }
+    ensures { IsMade (reaction_in dialect node.now) result }
+{
+    match own_reaction(alloc, node, dialect, sql) {
+        Ok(reaction) => Ok(reaction),
+        Err(fault) => Err(What::Key(placed_list(alloc, "preConditions", fault))),
+    }
+}
