@@ -1,44 +1,59 @@
-ghost use Rattle.std.specs.Prelude.{◌≡◌, ◌<◌, ◌≤◌, ◌+◌, ◌↔◌, [], ◌∷◌, ◌++◌, length, IsTrue, IfErr, IfOk, OnOk, OnErr, slice_set, vec_len};
+ghost use Rattle.std.specs.Prelude.{◌≡◌, ◌<◌, ◌≤◌, ◌+◌, ◌↔◌, [], ◌∷◌, ◌++◌, cond, length, IsTrue, IfErr, IfOk, OnOk, OnErr, slice_set};
 ghost use Rattle.std.specs.List.{remove};
-ghost use Rattle.std.specs.Vec.{vec_capacity};
-ghost use Rattle.lq_chain.specs.Marks.{kept_rows, gone_rows, merged, ousted, replaced};
-ghost use Rattle.lq_chain.specs.Done.{HasPlace, before, room_before};
+ghost use Rattle.lq_chain.specs.Marks.{kept_rows, replaced, with_new};
 ghost use Rattle.lq_chain.specs.History.{history, changed, undone_to, back, marked, forgotten, kept};
 
 use crate::done::Done;
+use crate::edits::{free_gone, free_list, undo_call};
+use crate::find::{find, finger_on};
+use crate::node::{Finger, Links};
 use crate::{Iter, Refused};
 use lq_base::NoMemory;
 use std::alloc::Global;
 use std::marker::Model;
-use std::mem;
 
 /// A list of rows, with what is needed to undo the changes since the last `forget`.
 ///
 /// Contracts see the rows, and the rows before each changing call since then. `push_back`, `unlink`,
 /// `replace`, `keep` and `replace_some` are the changing calls; each makes the room that undoing it
-/// needs.
-#[derive(Debug, Drop)]
+/// needs. Rows lie in linked nodes. A changing call at the last place that was used, or next to it,
+/// takes constant time; elsewhere it walks from there, from the front or from the end.
 pub struct Chain<T> {
-    rows: Vec<T>,
-    /// The changing calls since the last `forget`, the newest last.
-    done: Vec<Done<T>>,
+    links: Links<T>,
+    /// The steps of the changing calls since the last `forget`, the newest last.
+    done: Vec<Done>,
+    /// The number of these calls.
+    calls: u64,
+    /// The place that was used last.
+    finger: Option<Finger>,
 }
 
 impl<T> Model for Chain<T> {
-    ghost use Rattle.lq_chain.specs.History.{History, history_code, history};
+    ghost use Rattle.lq_chain.specs.History.{History, history_code};
     ghost use Rattle.std.specs.Coded.{coded_list};
-    ghost use Rattle.std.specs.Prelude.{List, reverse};
+    ghost use Rattle.std.specs.Prelude.{List};
+    ghost use Rattle.lq_chain.specs.State.{IsWhole, seen};
 
     ghost Value = { History (List T) };
 
     ghost coded = { history_code (coded_list T.code) };
 
-    ghost use Rattle.std.specs.Vec.{vec_capacity};
-    ghost use Rattle.lq_chain.specs.Done.{past_lists, CanUndo};
+    ghost view = { λ c. seen c.links c.done.items };
 
-    ghost view = { λ c. history c.rows.items (past_lists c.rows.items (reverse c.done.items)) };
+    ghost invariant = { λ c. IsWhole c.links c.done.items c.calls c.finger };
+}
 
-    ghost invariant = { λ c. CanUndo (vec_capacity c.rows) c.rows.items (reverse c.done.items) };
+impl<T: Drop> Drop for Chain<T> {
+    fn drop(self) {
+        let Chain {
+            mut links,
+            mut done,
+            calls: _,
+            finger: _,
+        } = self;
+        free_gone(&mut links, &mut done);
+        free_list(&mut links);
+    }
 }
 
 impl<T: Drop> Chain<T> {
@@ -47,8 +62,10 @@ impl<T: Drop> Chain<T> {
         ensures { result ≡ history [] [] }
     {
         Chain {
-            rows: Vec::new(alloc),
+            links: Links::new(alloc),
             done: Vec::new(alloc),
+            calls: 0,
+            finger: None,
         }
     }
 
@@ -56,13 +73,13 @@ impl<T: Drop> Chain<T> {
     pub fn len(&self) -> usize
         ensures { result ≡ length self.now.now }
     {
-        self.rows.len()
+        self.links.len
     }
 
     pub fn is_empty(&self) -> bool
         ensures { IsTrue result ↔ (self.now.now ≡ []) }
     {
-        self.rows.is_empty()
+        self.links.len == 0
     }
 
     /// The rows in order.
@@ -70,85 +87,92 @@ impl<T: Drop> Chain<T> {
         ensures { result ≡ self.now.now }
     {
         Iter {
-            rest: self.rows.as_slice(),
+            arena: &self.links.arena,
+            prev: None,
+            cur: self.links.head,
+            left: self.links.len,
         }
     }
 
     /// The number of changing calls since the last `forget` that are not undone.
-    #[tactic(auto, using(crate::proofs::DoneLemmas::length_past))]
     pub fn mark(&self) -> u64
         ensures { result ≡ marked self.now }
     {
-        self.done.len() as u64
+        self.calls
     }
 
     /// Adds the row at the end, or changes nothing and hands it back.
-    #[tactic(auto, using(crate::proofs::DoneLemmas::undo_with_more, crate::proofs::DoneLemmas::undo_pushed, crate::proofs::DoneLemmas::past_pushed, crate::proofs::DoneLemmas::newest_first))]
     pub fn push_back(&mut self, row: T) -> Result<(), Refused<T>>
         ensures ok { OnOk result (self.new ≡ changed self.old (self.old.now ++ row ∷ [])) }
         ensures err { OnErr result (self.new ≡ self.old) }
         ensures value { IfErr result (λ refused. refused.value ≡ row) }
     {
-        if self.done.reserve(1).is_err() {
+        if self.begin().is_err() {
             return Err(Refused { value: row });
         }
-        self.rows.push(row)?;
-        self.done.push_reserved(Done::Pushed);
+        if let Err(refused) = self.add(row) {
+            self.step_back();
+            return Err(refused);
+        }
         Ok(())
     }
 
     /// Takes the row at the place out of the list, or changes nothing.
-    #[tactic(auto, using(crate::proofs::DoneLemmas::newest_first))]
     pub fn unlink(&mut self, at: usize) -> Result<(), NoMemory>
         requires { at < length self.old.now }
         ensures ok { OnOk result (self.new ≡ changed self.old (remove self.old.now at)) }
         ensures err { OnErr result (self.new ≡ self.old) }
     {
-        self.done.reserve(1)?;
-        let row = self.rows.remove(at);
-        self.done.push_reserved(Done::Unlinked { at, row });
+        self.begin()?;
+        if self.take_out(at).is_err() {
+            self.step_back();
+            return Err(NoMemory);
+        }
         Ok(())
     }
 
     /// Puts another row in place of the one at the place, or changes nothing and hands it back.
-    #[tactic(auto, using(crate::proofs::DoneLemmas::newest_first))]
     pub fn replace(&mut self, at: usize, by: T) -> Result<(), Refused<T>>
         requires { at < length self.old.now }
         ensures ok { OnOk result (self.new ≡ changed self.old (slice_set self.old.now at by)) }
         ensures err { OnErr result (self.new ≡ self.old) }
         ensures value { IfErr result (λ refused. refused.value ≡ by) }
     {
-        if self.done.reserve(1).is_err() {
+        if self.begin().is_err() {
             return Err(Refused { value: by });
         }
-        let row = put_at(&mut self.rows, at, by);
-        self.done.push_reserved(Done::Replaced { at, row });
+        if let Err(refused) = self.put_in(at, by) {
+            self.step_back();
+            return Err(refused);
+        }
         Ok(())
     }
 
     /// Keeps the rows whose mark stands and takes the others out, or changes nothing.
-    #[tactic(auto, using(crate::proofs::DoneLemmas::newest_first))]
     pub fn keep(&mut self, alloc: Global, marks: Vec<bool>) -> Result<(), NoMemory>
         requires { length marks.items ≡ length self.old.now }
         ensures ok { OnOk result (self.new ≡ changed self.old (kept_rows marks.items self.old.now)) }
         ensures err { OnErr result (self.new ≡ self.old) }
     {
-        self.done.reserve(1)?;
-        let step = keep_rows(alloc, &mut self.rows, marks)?;
-        self.done.push_reserved(step);
+        self.begin()?;
+        if self.keep_marked(marks.as_slice()).is_err() {
+            self.step_back();
+            return Err(NoMemory);
+        }
         Ok(())
     }
 
     /// Puts other rows in place of those where there is one, or changes nothing.
-    #[tactic(auto, using(crate::proofs::DoneLemmas::newest_first))]
     pub fn replace_some(&mut self, alloc: Global, by: Vec<Option<T>>) -> Result<(), NoMemory>
         requires { length by.items ≡ length self.old.now }
         ensures ok { OnOk result (self.new ≡ changed self.old (replaced by.items self.old.now)) }
         ensures err { OnErr result (self.new ≡ self.old) }
     {
-        self.done.reserve(1)?;
-        let step = change_rows(alloc, &mut self.rows, by)?;
-        self.done.push_reserved(step);
+        self.begin()?;
+        if self.put_some(by).is_err() {
+            self.step_back();
+            return Err(NoMemory);
+        }
         Ok(())
     }
 
@@ -172,230 +196,146 @@ impl<T: Drop> Chain<T> {
         }
     }
 
-    /// Undoes the last changing call, if there is one.
-    fn step_back(&mut self)
-        ensures { self.new ≡ back 1 self.old.now self.old.past }
-    {
-        if let Some(step) = self.done.pop() {
-            go_back(&mut self.rows, step);
-        }
-    }
-
     /// Keeps the present list, and drops the rows that only undoing needed.
     pub fn forget(&mut self)
         ensures { self.new ≡ forgotten self.old }
     {
-        self.done.clear();
+        free_gone(&mut self.links, &mut self.done);
+        self.calls = 0;
     }
-}
 
-/// Puts another row at the place, and gives the one that stood there.
-#[tactic(auto, using(crate::proofs::DoneLemmas::set_back))]
-fn put_at<T>(rows: &mut Vec<T>, at: usize, by: T) -> T
-    requires { at < vec_len rows.old }
-    ensures items { rows.new.items ≡ slice_set rows.old.items at by }
-    ensures back { slice_set rows.new.items at result ≡ rows.old.items }
-    ensures len { vec_len rows.new ≡ vec_len rows.old }
-    ensures capacity { vec_capacity rows.new ≡ vec_capacity rows.old }
-{
-    mem::replace(&mut rows[at], by)
-}
-
-/// Takes the rows whose mark does not stand out of the list, or changes nothing.
-fn part<T: Drop>(alloc: Global, rows: &mut Vec<T>, marks: &[bool]) -> Result<Vec<T>, NoMemory>
-    requires { length marks.now ≡ length rows.old.items }
-    ensures kept { OnOk result (rows.new.items ≡ kept_rows marks.now rows.old.items) }
-    ensures gone { IfOk result (λ gone. gone.items ≡ gone_rows marks.now rows.old.items) }
-    ensures err { OnErr result (rows.new ≡ rows.old) }
-{
-    let mut kept = Vec::with_capacity(alloc, marks.len())?;
-    let mut gone = Vec::with_capacity(alloc, marks.len())?;
-    mem::swap(rows, &mut kept);
-    deal(marks, kept, rows, &mut gone);
-    Ok(gone)
-}
-
-/// Moves each row to the one list or the other.
-fn deal<T: Drop>(marks: &[bool], rows: Vec<T>, kept: &mut Vec<T>, gone: &mut Vec<T>)
-    requires each { length marks.now ≡ vec_len rows }
-    requires kept { vec_len kept.old + length marks.now ≤ vec_capacity kept.old }
-    requires gone { vec_len gone.old + length marks.now ≤ vec_capacity gone.old }
-    ensures kept { kept.new.items ≡ kept.old.items ++ kept_rows marks.now rows.items }
-    ensures gone { gone.new.items ≡ gone.old.items ++ gone_rows marks.now rows.items }
-{
-    let mut rest = rows.into_iter();
-    for mark in marks {
-        let Some(row) = rest.next() else {
-            unreachable!();
+    /// Begins a changing call.
+    fn begin(&mut self) -> Result<(), NoMemory>
+        ensures ok { OnOk result (self.new ≡ changed self.old self.old.now) }
+        ensures err { OnErr result (self.new ≡ self.old) }
+    {
+        let Some(calls) = self.calls.checked_add(1) else {
+            return Err(NoMemory);
         };
-        if *mark {
-            kept.push_reserved(row);
-        } else {
-            gone.push_reserved(row);
+        self.done.reserve(1)?;
+        self.done.push_reserved(Done::Begun);
+        self.calls = calls;
+        Ok(())
+    }
+
+    /// Undoes the last changing call, or what was done since it began.
+    fn step_back(&mut self)
+        ensures { self.new ≡ back 1 self.old.now self.old.past }
+    {
+        if self.calls > 0 {
+            undo_call(&mut self.links, &mut self.done);
+            self.calls -= 1;
+            self.finger = None;
         }
     }
-}
 
-/// Keeps the rows whose mark stands, or changes nothing.
-#[tactic(auto, using(crate::proofs::MarksLemmas::parted_merged))]
-fn keep_rows<T: Drop>(
-    alloc: Global,
-    rows: &mut Vec<T>,
-    marks: Vec<bool>,
-) -> Result<Done<T>, NoMemory>
-    requires { length marks.items ≡ length rows.old.items }
-    ensures rows { OnOk result (rows.new.items ≡ kept_rows marks.items rows.old.items) }
-    ensures back { IfOk result (λ step. before step rows.new.items ≡ rows.old.items) }
-    ensures place { IfOk result (λ step. HasPlace step rows.new.items) }
-    ensures room { IfOk result (λ step. room_before step (vec_capacity rows.new) ≡ vec_capacity rows.old) }
-    ensures err { OnErr result (rows.new ≡ rows.old) }
-{
-    let room = Vec::with_capacity(alloc, rows.capacity())?;
-    let gone = part(alloc, rows, marks.as_slice())?;
-    Ok(Done::Kept { marks, gone, room })
-}
-
-/// Puts the new rows in their places, or changes nothing.
-#[tactic(auto, using(crate::proofs::MarksLemmas::put_back, crate::proofs::MarksLemmas::as_long, crate::proofs::MarksLemmas::as_many))]
-fn change_rows<T: Drop>(
-    alloc: Global,
-    rows: &mut Vec<T>,
-    by: Vec<Option<T>>,
-) -> Result<Done<T>, NoMemory>
-    requires { length by.items ≡ length rows.old.items }
-    ensures rows { OnOk result (rows.new.items ≡ replaced by.items rows.old.items) }
-    ensures back { IfOk result (λ step. before step rows.new.items ≡ rows.old.items) }
-    ensures place { IfOk result (λ step. HasPlace step rows.new.items) }
-    ensures room { IfOk result (λ step. room_before step (vec_capacity rows.new) ≡ vec_capacity rows.old) }
-    ensures err { OnErr result (rows.new ≡ rows.old) }
-{
-    let room = Vec::with_capacity(alloc, rows.capacity())?;
-    let were = exchange(alloc, rows, by)?;
-    Ok(Done::Exchanged { were, room })
-}
-
-/// Gives the rows before the call. There is room for them.
-fn go_back<T: Drop>(rows: &mut Vec<T>, step: Done<T>)
-    requires place { HasPlace step rows.old.items }
-    requires room { length (before step rows.old.items) ≤ room_before step (vec_capacity rows.old) }
-    ensures rows { rows.new.items ≡ before step rows.old.items }
-    ensures capacity { vec_capacity rows.new ≡ room_before step (vec_capacity rows.old) }
-{
-    match step {
-        Done::Pushed => {
-            let _ = rows.pop();
+    /// A step of a changing call: the row comes to the end, or is handed back.
+    fn add(&mut self, row: T) -> Result<(), Refused<T>>
+        ensures ok { OnOk result (self.new ≡ history (self.old.now ++ row ∷ []) self.old.past) }
+        ensures err { OnErr result (self.new ≡ self.old) }
+        ensures value { IfErr result (λ refused. refused.value ≡ row) }
+    {
+        if self.done.reserve(1).is_err() {
+            return Err(Refused { value: row });
         }
-        Done::Unlinked { at, row } => {
-            let _ = rows.insert(at, row);
-        }
-        Done::Replaced { at, row } => {
-            rows[at] = row;
-        }
-        Done::Kept { marks, gone, room } => keep_all(rows, marks, gone, room),
-        Done::Exchanged { were, room } => change_back(rows, were, room),
+        let last = self.links.tail;
+        let spot = self.links.push_back(row)?;
+        self.done.push_reserved(Done::Pushed { spot, last });
+        Ok(())
     }
-}
 
-/// Undoes `keep`.
-fn keep_all<T: Drop>(rows: &mut Vec<T>, marks: Vec<bool>, gone: Vec<T>, room: Vec<T>)
-    requires empty { room.items ≡ [] }
-    requires fits { length marks.items ≤ vec_capacity room }
-    ensures items { rows.new.items ≡ merged marks.items rows.old.items gone.items }
-    ensures capacity { vec_capacity rows.new ≡ vec_capacity room }
-{
-    let kept = mem::replace(rows, room);
-    merge(marks.as_slice(), kept, gone, rows);
-}
-
-/// Undoes `replace_some`.
-fn change_back<T: Drop>(rows: &mut Vec<T>, were: Vec<Option<T>>, room: Vec<T>)
-    requires empty { room.items ≡ [] }
-    requires fits { length were.items ≤ vec_capacity room }
-    requires each { length were.items ≡ length rows.old.items }
-    ensures items { rows.new.items ≡ replaced were.items rows.old.items }
-    ensures capacity { vec_capacity rows.new ≡ vec_capacity room }
-{
-    let now = mem::replace(rows, room);
-    put_back(now, were, rows);
-}
-
-/// Puts the rows of both lists in their places.
-fn merge<T: Drop>(marks: &[bool], kept: Vec<T>, gone: Vec<T>, all: &mut Vec<T>)
-    requires { vec_len all.old + length marks.now ≤ vec_capacity all.old }
-    ensures items { all.new.items ≡ all.old.items ++ merged marks.now kept.items gone.items }
-    ensures capacity { vec_capacity all.new ≡ vec_capacity all.old }
-{
-    let mut kept = kept.into_iter();
-    let mut gone = gone.into_iter();
-    for mark in marks {
-        let next = if *mark { kept.next() } else { gone.next() };
-        if let Some(row) = next {
-            all.push_reserved(row);
-        }
-    }
-}
-
-/// Puts the new rows in their places, and gives those that stood there, or changes nothing.
-fn exchange<T: Drop>(
-    alloc: Global,
-    rows: &mut Vec<T>,
-    by: Vec<Option<T>>,
-) -> Result<Vec<Option<T>>, NoMemory>
-    requires { length by.items ≡ length rows.old.items }
-    ensures rows { OnOk result (rows.new.items ≡ replaced by.items rows.old.items) }
-    ensures were { IfOk result (λ were. were.items ≡ ousted by.items rows.old.items) }
-    ensures err { OnErr result (rows.new ≡ rows.old) }
-{
-    let mut now = Vec::with_capacity(alloc, by.len())?;
-    let mut were = Vec::with_capacity(alloc, by.len())?;
-    mem::swap(rows, &mut now);
-    place(now, by, rows, &mut were);
-    Ok(were)
-}
-
-/// Moves to the one list what stands at each place now, and to the other what stood there.
-fn place<T: Drop>(rows: Vec<T>, by: Vec<Option<T>>, now: &mut Vec<T>, were: &mut Vec<Option<T>>)
-    requires each { vec_len by ≡ vec_len rows }
-    requires now { vec_len now.old + vec_len by ≤ vec_capacity now.old }
-    requires were { vec_len were.old + vec_len by ≤ vec_capacity were.old }
-    ensures now { now.new.items ≡ now.old.items ++ replaced by.items rows.items }
-    ensures were { were.new.items ≡ were.old.items ++ ousted by.items rows.items }
-{
-    let mut rest = rows.into_iter();
-    let mut by = by.into_iter();
-    while let Some(new) = by.next() {
-        let Some(row) = rest.next() else {
-            unreachable!();
+    /// A step of a changing call: the row at the place is taken out.
+    fn take_out(&mut self, at: usize) -> Result<(), NoMemory>
+        requires { at < length self.old.now }
+        ensures ok { OnOk result (self.new ≡ history (remove self.old.now at) self.old.past) }
+        ensures err { OnErr result (self.new ≡ self.old) }
+    {
+        self.done.reserve(1)?;
+        let spot = match find(&self.links, self.finger, at) {
+            Some(spot) => spot,
+            None => unreachable!(),
         };
-        match new {
-            Some(new) => {
-                now.push_reserved(new);
-                were.push_reserved(Some(row));
-            }
-            None => {
-                now.push_reserved(row);
-                were.push_reserved(None);
-            }
-        }
+        let next = self.links.unlink(spot);
+        self.done.push_reserved(Done::Unlinked { spot });
+        self.finger = finger_on(at, next);
+        Ok(())
     }
-}
 
-/// Puts the rows that stood there in their places.
-fn put_back<T: Drop>(rows: Vec<T>, were: Vec<Option<T>>, all: &mut Vec<T>)
-    requires each { vec_len were ≡ vec_len rows }
-    requires room { vec_len all.old + vec_len were ≤ vec_capacity all.old }
-    ensures items { all.new.items ≡ all.old.items ++ replaced were.items rows.items }
-    ensures capacity { vec_capacity all.new ≡ vec_capacity all.old }
-{
-    let mut rest = rows.into_iter();
-    let mut were = were.into_iter();
-    while let Some(old) = were.next() {
-        let Some(row) = rest.next() else {
-            unreachable!();
-        };
-        match old {
-            Some(old) => all.push_reserved(old),
-            None => all.push_reserved(row),
+    /// A step of a changing call: another row comes to the place, or is handed back.
+    fn put_in(&mut self, at: usize, by: T) -> Result<(), Refused<T>>
+        requires { at < length self.old.now }
+        ensures ok { OnOk result (self.new ≡ history (slice_set self.old.now at by) self.old.past) }
+        ensures err { OnErr result (self.new ≡ self.old) }
+        ensures value { IfErr result (λ refused. refused.value ≡ by) }
+    {
+        if self.done.reserve(1).is_err() {
+            return Err(Refused { value: by });
         }
+        let spot = match find(&self.links, self.finger, at) {
+            Some(spot) => spot,
+            None => unreachable!(),
+        };
+        let put = self.links.replace(spot, by)?;
+        self.done.push_reserved(Done::Replaced { spot, by: put });
+        self.finger = finger_on(at, Some(put));
+        Ok(())
+    }
+
+    /// Takes the rows out whose mark does not stand, as far as there is memory.
+    fn keep_marked(&mut self, marks: &[bool]) -> Result<(), NoMemory>
+        requires { length marks.now ≡ length self.old.now }
+        ensures ok { OnOk result (self.new.now ≡ kept_rows marks.now self.old.now) }
+        ensures past { self.new.past ≡ self.old.past }
+    {
+        let mut at = 0;
+        for mark in marks {
+            at = self.keep_or_take(at, *mark)?;
+        }
+        Ok(())
+    }
+
+    /// Passes by the row at the place, or takes it out, and gives the place of the next one.
+    fn keep_or_take(&mut self, at: usize, mark: bool) -> Result<usize, NoMemory>
+        requires { at < length self.old.now }
+        ensures next { IfOk result (λ next. next ≡ cond mark (at + 1) at) }
+        ensures now { OnOk result (self.new.now ≡ cond mark self.old.now (remove self.old.now at)) }
+        ensures past { self.new.past ≡ self.old.past }
+    {
+        if mark {
+            return at.checked_add(1).ok_or(NoMemory);
+        }
+        self.take_out(at)?;
+        Ok(at)
+    }
+
+    /// Puts the new rows in their places, as far as there is memory.
+    fn put_some(&mut self, by: Vec<Option<T>>) -> Result<(), NoMemory>
+        requires { length by.items ≡ length self.old.now }
+        ensures ok { OnOk result (self.new.now ≡ replaced by.items self.old.now) }
+        ensures past { self.new.past ≡ self.old.past }
+    {
+        let mut by = by.into_iter();
+        let mut at = 0;
+        while let Some(new) = by.next() {
+            at = self.pass_or_put(at, new)?;
+        }
+        Ok(())
+    }
+
+    /// Passes by the row at the place, or puts another one there, and gives the place of the next one.
+    fn pass_or_put(&mut self, at: usize, new: Option<T>) -> Result<usize, NoMemory>
+        requires { at < length self.old.now }
+        ensures next { IfOk result (λ next. next ≡ at + 1) }
+        ensures now { OnOk result (self.new.now ≡ with_new self.old.now at new) }
+        ensures past { self.new.past ≡ self.old.past }
+    {
+        let Some(next) = at.checked_add(1) else {
+            return Err(NoMemory);
+        };
+        let Some(row) = new else {
+            return Ok(next);
+        };
+        self.put_in(at, row)?;
+        Ok(next)
     }
 }

@@ -1,27 +1,14 @@
-/// A changing call, with what is needed to undo it.
-#[derive(Debug, Drop)]
-pub enum Done<T> {
-    Pushed,
-    /// The row that stood at the place.
-    Unlinked {
-        at: usize,
-        row: T,
-    },
-    /// The row that the new one replaced.
-    Replaced {
-        at: usize,
-        row: T,
-    },
-    /// For each row before the call whether it was kept, those that were not, and an empty list with
-    /// room for all.
-    Kept {
-        marks: Vec<bool>,
-        gone: Vec<T>,
-        room: Vec<T>,
-    },
-    /// For each place the row that another one replaced, and an empty list with room for all.
-    Exchanged {
-        were: Vec<Option<T>>,
-        room: Vec<T>,
-    },
+use crate::node::Spot;
+
+/// A step of a changing call, with what is needed to undo it.
+#[derive(Clone, Copy)]
+pub enum Done {
+    /// A changing call begins.
+    Begun,
+    /// The new node, and the one that was the last.
+    Pushed { spot: Spot, last: Option<Spot> },
+    /// The node that was taken out.
+    Unlinked { spot: Spot },
+    /// The node that was taken out, and the one in its place.
+    Replaced { spot: Spot, by: Spot },
 }

@@ -1,0 +1,7 @@
+use Rattle.std.proofs.Common.{◌≡◌, ◌≤◌}
+use Rattle.lq_chain.specs.Nodes.{spot_at}
+use Rattle.lq_chain.specs.State.{state_of, spots}
+use Rattle.lq_chain.proofs.find.walk_on.Given as goal
+
+abbrev pub invariant-loop : goal.invariant-loop
+invariant-loop g l = (l.counter ≤ l.to) × (spot_at (spots (state_of l.links)) l.counter ≡ l.cur)
