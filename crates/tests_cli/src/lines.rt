@@ -72,7 +72,7 @@ fn told(alloc: Global, given: &[&str]) -> Result<String, NoMemory> {
 
 #[test]
 fn commands_are_read(rt: HostRuntime) -> Result<(), Fail> {
-    let cases: [(&[&str], &str); 22] = [
+    let cases: [(&[&str], &str); 25] = [
         (
             &["validate", URL, FILE],
             "Run(Validate) Postgresql db a.json",
@@ -163,6 +163,18 @@ fn commands_are_read(rt: HostRuntime) -> Result<(), Fail> {
             &["tag", URL, "--tag=v1"],
             "Run(Tag(Text { text: \"v1\" })) Postgresql db -",
         ),
+        (
+            &["tag", "--tag=-v", URL],
+            "Run(Tag(Text { text: \"-v\" })) Postgresql db -",
+        ),
+        (
+            &["status", "--label-filter=l", FILE, URL],
+            "Run(Status) Postgresql db a.json Name(Text { text: \"l\" })",
+        ),
+        (
+            &["soak", "--number", "7", "--sets", "1", URL],
+            "Soak { number: 7, sets: 1 } Postgresql db -",
+        ),
         (&["release-locks", MY], "Run(Release) Mysql a/b.db -"),
         (
             &["soak", "--sets=10000", URL, "--number=0"],
@@ -178,7 +190,7 @@ fn commands_are_read(rt: HostRuntime) -> Result<(), Fail> {
 
 #[test]
 fn other_words_are_usage(rt: HostRuntime) -> Result<(), Fail> {
-    let cases: [&[&str]; 40] = [
+    let cases: [&[&str]; 51] = [
         &[],
         &["updates", URL, FILE],
         &["Update", URL, FILE],
@@ -214,6 +226,30 @@ fn other_words_are_usage(rt: HostRuntime) -> Result<(), Fail> {
             "--context-filter=a",
             "--context-filter=b",
         ],
+        &[
+            "update",
+            URL,
+            FILE,
+            "--label-filter=a",
+            "--label-filter",
+            "a",
+        ],
+        &["rollback", URL, FILE, "--tag=t", "--tag=t"],
+        &["tag", URL, "--tag", "t", "--tag", "t"],
+        &["rollback-count", URL, FILE, "--count=1", "--count=1"],
+        &[
+            "rollback-to-date",
+            URL,
+            FILE,
+            "--date=1970-01-02",
+            "--date=1970-01-02",
+        ],
+        &["soak", URL, "--sets=1", "--sets=1", "--number=0"],
+        &["soak", URL, "--sets=1", "--number=0", "--number=0"],
+        &["tag", URL, "--tag", "-v"],
+        &["rollback-count", URL, FILE, "--count="],
+        &["rollback-count", URL, FILE, "--count=-1"],
+        &["rollback-to-date", URL, FILE, "--date="],
         &["validate", URL, FILE, "--context-filter=a"],
         &["rollback", URL, FILE],
         &["rollback", URL, FILE, "--tag="],
