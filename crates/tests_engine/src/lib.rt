@@ -1,0 +1,14 @@
+//! Tests of the engine: statements in the texts of both dialects, what they answer and leave, and that
+//! they are taken back.
+#![tactic(auto)]
+
+#[cfg(test)]
+mod definitions;
+#[cfg(test)]
+mod mysql;
+#[cfg(test)]
+mod rows;
+#[cfg(test)]
+mod shown;
+#[cfg(test)]
+mod tried;
