@@ -1,6 +1,6 @@
 -- A list with its record of steps, after one more step and after one less.
-use Rattle.std.proofs.Common.{◌≡◌, ◌≢◌, ◌⊎◌, inl, inr, ℕ, zero, suc, ◌+◌, ◌<◌, List, [], ◌∷◌, ◌++◌, length, Option, Some, None, refl, sym, ap, ◌∙◌, subst, arith}
-use Rattle.std.specs.Prelude.{reverse, slice_get, slice_set}
+use Rattle.std.proofs.Common.{◌≡◌, ◌⊎◌, inl, inr, ℕ, ◌+◌, ◌<◌, List, [], ◌∷◌, ◌++◌, length, Option, Some, None, refl, sym, ap, ◌∙◌, subst, arith}
+use Rattle.std.specs.Prelude.{reverse}
 use Rattle.std.proofs.lemmas.List.{reverse-append}
 use denote.RawPtr.{Ptr}
 use Rattle.lq_nodes.specs.Slots.{without_node}
@@ -10,9 +10,9 @@ use Rattle.lq_chain.specs.declared.node.Links.{Links}
 use Rattle.lq_chain.specs.declared.node.Finger.{Finger}
 use Rattle.lq_chain.specs.declared.done.Done.{Done}
 use Rattle.lq_chain.specs.declared.done.Done.TheVariants.{Begun, Pushed, Unlinked, Replaced}
-use Rattle.lq_chain.specs.History.{History, history, changed, back}
-use Rattle.lq_chain.specs.Nodes.{Has, node, first_or, Linked, rows, NotIn, IsThere, IsOn}
-use Rattle.lq_chain.specs.State.{State, state_of, Ties, IsNone, gone, before, CanUndo, IsList, spots_from, spots, Spare, IsSound, AllUndo, pasts, IsWhole, seen, nothing}
+use Rattle.lq_chain.specs.History.{history, changed, back}
+use Rattle.lq_chain.specs.Nodes.{Linked, rows, NotIn, IsOn}
+use Rattle.lq_chain.specs.State.{State, state_of, Ties, IsNone, gone, before, IsList, spots_from, spots, Spare, IsSound, AllUndo, pasts, IsWhole, seen, nothing}
 use Rattle.lq_chain.proofs.ShapeLemmas.{get_set_other}
 use Rattle.lq_chain.proofs.StepLemmas.{Made, list_is}
 

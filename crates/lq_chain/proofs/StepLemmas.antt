@@ -1,15 +1,15 @@
 -- What each step makes of the list, and that it can be undone.
-use Rattle.std.proofs.Common.{◌≡◌, ◌≢◌, ℕ, zero, suc, ◌+◌, ◌-◌, ◌<◌, ◌^◌, List, [], ◌∷◌, ◌++◌, length, take, Option, Some, None, refl, sym, ap, ◌∙◌, subst, arith}
+use Rattle.std.proofs.Common.{◌≡◌, ◌≢◌, ℕ, suc, ◌+◌, ◌-◌, ◌<◌, ◌^◌, List, [], ◌∷◌, ◌++◌, length, take, Option, Some, None, refl, sym, ap, ◌∙◌, subst, arith}
 use Rattle.std.specs.Prelude.{slice_get}
 use Rattle.std.proofs.lemmas.List.{append-nil, length-append, take-append-le, take_all}
 use denote.RawPtr.{Ptr}
 use Rattle.lq_chain.specs.declared.node.Node.{Node}
 use Rattle.lq_chain.specs.declared.node.Spot.{Spot}
 use Rattle.lq_chain.specs.declared.done.Done.{Done}
-use Rattle.lq_chain.specs.declared.done.Done.TheVariants.{Begun, Pushed, Unlinked, Replaced}
+use Rattle.lq_chain.specs.declared.done.Done.TheVariants.{Pushed, Unlinked, Replaced}
 use Rattle.lq_chain.specs.Nodes.{Has, node, first_or, last_or, Linked, NotIn, NotInIf, Apart, IsThere, IsThereIf}
-use Rattle.lq_chain.specs.State.{State, IsNone, gone, joined, rejoined, with_len, grown, popped, node_of, relinked_node, relinked, pushed, unlinked_node, unlinked, replaced_node, replaced_by, before, CanUndo, IsList, cons_node, spots_from, spots, Spare, IsSound, AllUndo, pasts}
-use Rattle.lq_chain.proofs.ShapeLemmas.{get_append, get_last, get_below, first_append, last_append, linked_append, linked_cut, linked_glue, notin_cut, notin_glue, apart_with, apart_without, apart_from, last_notin, first_notin, there_last, there_first, notin_new}
+use Rattle.lq_chain.specs.State.{State, IsNone, gone, joined, rejoined, with_len, grown, popped, node_of, relinked_node, relinked, pushed, unlinked_node, unlinked, replaced_node, replaced_by, before, CanUndo, IsList, cons_node, spots_from, spots, Spare, IsSound}
+use Rattle.lq_chain.proofs.ShapeLemmas.{get_append, get_last, get_below, first_append, last_append, linked_append, linked_cut, linked_glue, notin_cut, notin_glue, apart_with, apart_without, apart_from, there_last, there_first, notin_new}
 use Rattle.lq_chain.proofs.GapLemmas.{Gap, joined_keeps, there_joined, there_if_joined, length_joined, len_joined, gap_joined, rejoined_joined}
 
 module _ {X : Type 0} where

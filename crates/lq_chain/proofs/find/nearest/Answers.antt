@@ -1,4 +1,4 @@
-use Rattle.std.proofs.Common.{Some, ◌≡◌, ◌-◌, rules, sym, ◌∙◌, subst}
+use Rattle.std.proofs.Common.{◌≡◌, ◌-◌, rules, sym, subst}
 use Rattle.lq_chain.specs.Nodes.{IsOn}
 use Rattle.lq_chain.specs.State.{state_of, spots}
 use Rattle.lq_chain.specs.declared.node.Finger.{Finger}

@@ -1,10 +1,9 @@
-use Rattle.std.proofs.Common.{[], ◌∷◌, ◌++◌, ◌≡◌, List, sym, ap, ◌∙◌, subst}
+use Rattle.std.proofs.Common.{[], ◌∷◌, ◌++◌, sym, ap, ◌∙◌, subst}
 use Rattle.std.specs.Prelude.{reverse, map}
 use Rattle.std.proofs.lemmas.List.{map-append}
 use Rattle.lq_chain.specs.declared.done.Done.TheVariants.{Pushed}
-use Rattle.lq_chain.specs.declared.node.Spot.{Spot}
 use Rattle.lq_chain.specs.History.{history}
-use Rattle.lq_chain.specs.State.{State, state_of, spots}
+use Rattle.lq_chain.specs.State.{state_of, spots}
 use Rattle.lq_chain.proofs.ChainLemmas.{pushed_edit, step_whole, step_seen}
 use Rattle.lq_chain.proofs.FindLemmas.{on_pushed}
 use Rattle.lq_chain.proofs.StepLemmas.{Made, made_pushed, tail_in}

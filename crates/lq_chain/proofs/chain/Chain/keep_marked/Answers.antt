@@ -1,6 +1,4 @@
-use Rattle.std.proofs.Common.{false, ◌≡◌, ◌<◌, ◌≤◌, ◌+◌, suc, length, drop, List, ◌∷◌, [], refl, sym, ap, ◌∙◌, subst, rules, arith}
-use Rattle.std.specs.Prelude.{slice_index_or}
-use Rattle.lq_chain.specs.Marks.{kept_rows}
+use Rattle.std.proofs.Common.{false, ◌≡◌, ◌<◌, ◌≤◌, ◌+◌, suc, length, drop, sym, ap, ◌∙◌, rules, arith}
 use Rattle.lq_chain.proofs.KeepLemmas.{kept_from, keep_step, keep_count, from_end, drop_at, drop_past}
 use Rattle.lq_chain.proofs.chain.Chain.keep_marked.Goals as goal
 

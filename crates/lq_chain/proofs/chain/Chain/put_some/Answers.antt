@@ -1,4 +1,4 @@
-use Rattle.std.proofs.Common.{◌≡◌, ◌<◌, ◌+◌, suc, length, ◌∷◌, [], sym, ap, ◌∙◌, rules, arith}
+use Rattle.std.proofs.Common.{◌≡◌, ◌<◌, ◌+◌, suc, length, ◌∷◌, sym, ap, ◌∙◌, rules, arith}
 use Rattle.std.specs.Vec.Iter.{into_iter_items, into_iter_len}
 use Rattle.lq_chain.proofs.KeepLemmas.{replaced_from, put_step, put_count, replaced_end, none_left}
 use Rattle.lq_chain.proofs.chain.Chain.put_some.Goals as goal
