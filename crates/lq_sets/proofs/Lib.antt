@@ -1,2 +1,4 @@
+mod Chosen
 mod Indexed
+mod Seen
 mod Ways

@@ -1,5 +1,6 @@
 -- The changesets of a changelog as the commands see them.
 pub mod Laws
 pub mod Reversal
+pub mod Seen
 pub mod Selection
 pub mod View

@@ -3,6 +3,8 @@
 #![tactic(auto)]
 
 mod change_type;
+mod choosing;
+mod condition;
 mod described;
 mod heads;
 mod laws;
@@ -14,7 +16,9 @@ mod set_index;
 mod turn;
 mod turn_row;
 
-pub use laws::{meaning_is_kept, places_are_known};
+pub use choosing::{choice, own_choice};
+pub use condition::holds;
+pub use laws::{conditions_see_users, meaning_is_kept, places_are_known};
 pub use planning::{faults_of, pending_of, work_of};
 pub use reversal::{TakenBack, reversible};
 pub use reverse_fault::ReverseFault;

@@ -1,0 +1,26 @@
+-- What a condition sees of a database.
+use Rattle.std.specs.Prelude.{Bool, List, false, true, ◌≡◌}
+use Rattle.lq_base.specs.declared.dialect.Dialect.{Dialect}
+use Rattle.lq_base.specs.declared.tracking.Tracked.{Tracked}
+use Rattle.lq_cond.specs.Told.{told}
+use Rattle.lq_cond.specs.declared.cond.Cond.{Cond}
+use Rattle.lq_model.specs.Catalogue.{Catalogue}
+use Rattle.lq_track.specs.Database.{Database}
+use Rattle.lq_turns.specs.Held.{StandsFor}
+use Rattle.lq_turns.specs.declared.choice.What.{What}
+use Rattle.lq_turns.specs.declared.choice.What.TheVariants.{Again, Fill, New}
+
+-- A condition that is told of a catalogue, with the tracking tables in it, is told of the users' objects alone.
+abbrev pub ConditionsSee : Type 0
+ConditionsSee = (d : Dialect) (asked : Cond) (rows : List Tracked) (c : Catalogue) (database : Database) → StandsFor d c database → told d asked c rows ≡ told d asked database.users rows
+
+-- the database that a catalogue stands for, whose rows in run order are these
+pub record IsSeen (d : Dialect) (c : Catalogue) (rows : List Tracked) (database : Database) : Type 0 where
+  pub stands : StandsFor d c database
+  pub rows_are : database.rows ≡ rows
+
+-- its sum is filled in, and nothing runs
+abbrev pub is_fill : What → Bool
+is_fill New = false
+is_fill Again = false
+is_fill Fill = true
