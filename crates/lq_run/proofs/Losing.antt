@@ -1,7 +1,7 @@
 -- The lock of a command between two turns.
 use Rattle.std.proofs.Common.{ap, inl, inr, subst, sym, ◌∙◌}
 use Rattle.std.specs.Option.{option_and_then, option_map}
-use Rattle.std.specs.Prelude.{Bool, IfSome, List, MatchOption, None, Option, Some, [], false, pos, refl, true, ℕ, ◌++◌, ◌∷◌, ◌≡◌, ◌≢◌, ◌⊎◌}
+use Rattle.std.specs.Prelude.{Bool, IfSome, List, None, Option, Some, false, refl, true, ℕ, ◌≡◌}
 use Rattle.lq_base.specs.declared.dialect.Dialect.{Dialect}
 use Rattle.lq_base.specs.declared.tracking.Lock.{Lock}
 use Rattle.lq_base.specs.declared.tracking.Tracked.{Tracked}
@@ -15,9 +15,9 @@ use Rattle.lq_turns.specs.Rest.{Place}
 use Rattle.lq_turns.specs.Session.{Session}
 use Rattle.lq_turns.specs.Set.{Meaning}
 use Rattle.lq_turns.specs.declared.stamp.Stamp.{Stamp}
-use Rattle.lq_run.specs.Holds.{Holds, HoldsAs, IsHeld}
+use Rattle.lq_run.specs.Holds.{Holds, HoldsAs}
 use Rattle.lq_run.specs.Moves.{IsAt}
-use Rattle.lq_run.specs.Steps.{Closes, ClosesFor, EndsFor, IsBetween, IsThere, Standing, Steps, end_of, last_end, place}
+use Rattle.lq_run.specs.Steps.{Closes, ClosesFor, EndsFor, IsBetween, Standing, Steps, end_of, last_end, place}
 use Rattle.lq_run.specs.declared.holding.Holding.TheVariants as holding
 use Rattle.lq_run.specs.declared.runner.End.{End}
 use Rattle.lq_run.specs.declared.runner.Step.{Step}

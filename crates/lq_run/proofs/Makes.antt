@@ -1,23 +1,20 @@
 -- A call of a turn was the next of the script.
-use Rattle.std.proofs.Common.{ap, subst, sym, ◌∙◌}
-use Rattle.std.specs.Prelude.{Bool, Err, List, None, Ok, Option, Result, Some, false, refl, true, ℕ, ◌∷◌, ◌≡◌}
+use Rattle.std.proofs.Common.{ap, subst, sym}
+use Rattle.std.specs.Prelude.{Err, None, Ok, Option, Result, Some, false, refl, true, ℕ, ◌≡◌}
 use Rattle.lq_base.specs.declared.dialect.Dialect.{Dialect}
 use Rattle.lq_base.specs.declared.reason.Reason.{Reason}
-use Rattle.lq_model.specs.declared.caller.Room.TheVariants.{Ordinary}
 use Rattle.lq_model.specs.declared.fault.StoreFault.{StoreFault}
 use Rattle.lq_model.specs.declared.fault.StoreFault.TheVariants.{Busy, Disk, Full, NotSql, OutOfMemory, Refused}
 use Rattle.lq_store.specs.State.{State, Transaction, is_open}
 use Rattle.lq_turns.specs.Held.{fits}
-use Rattle.lq_turns.specs.Rest.{GivingUp, Inside, Turns, if_goes_on}
 use Rattle.lq_turns.specs.Session.{Session, called}
 use Rattle.lq_turns.specs.Set.{Meaning}
-use Rattle.lq_turns.specs.Stepped.{Went, both_of}
 use Rattle.lq_turns.specs.declared.call.Call.{Call}
 use Rattle.lq_turns.specs.declared.call.Call.TheVariants.{Begin, Commit, Execute}
 use Rattle.lq_turns.specs.declared.deed.Deed.{Deed}
 use Rattle.lq_turns.specs.declared.stamp.Stamp.{Stamp}
 use Rattle.lq_beside.specs.Replays.{call_fits}
-use Rattle.lq_run.specs.Does.{BeginFor, CommitFor, DoesDeed, DoesFor, Faults}
+use Rattle.lq_run.specs.Does.{BeginFor, CommitFor, DoesFor}
 use Rattle.lq_run.specs.Moves.{Makes, MakesAs, WasOpen, moved_of, reason_in}
 use Rattle.lq_run.specs.Stands.{IsBegun, Stands}
 use Rattle.lq_run.specs.declared.hand.Moved.{Moved}

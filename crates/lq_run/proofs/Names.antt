@@ -1,5 +1,5 @@
 -- What LOCKEDBY is to a name.
-use Rattle.std.proofs.Common.{Bor, ap, inl, inr, rules, subst, sym, ◌∙◌}
+use Rattle.std.proofs.Common.{Bor, ap, inl, inr, rules, sym, ◌∙◌}
 use Rattle.std.specs.Str.Pattern.{FindsTextPrefix, StripsPrefix}
 use Rattle.std.specs.Prelude.{Bool, List, MatchOption, None, Option, Some, [], false, pos, refl, true, ℕ, ℤ, ◌++◌, ◌∷◌, ◌≡◌, ◌≢◌, ◌⊎◌}
 use Rattle.lq_base.specs.declared.tracking.Lock.{Lock}

@@ -1,12 +1,10 @@
 -- The kinds of step.
 use Rattle.std.proofs.Common.{ap, inl, inr, subst, sym, ◌∙◌}
 use Rattle.std.proofs.lemmas.List.{length-reverse}
-use Rattle.std.specs.Prelude.{Bool, Err, IfSome, List, None, Ok, Option, Result, Some, [], false, length, refl, reverse, true, ℕ, ◌&&◌, ◌++◌, ◌∷◌, ◌≡◌, ◌≢◌, ◌⊎◌}
+use Rattle.std.specs.Prelude.{Bool, Err, List, None, Ok, Option, Result, Some, [], false, length, refl, reverse, true, ℕ, ◌&&◌, ◌++◌, ◌∷◌, ◌≡◌, ◌≢◌}
 use Rattle.lq_base.specs.declared.dialect.Dialect.{Dialect}
 use Rattle.lq_base.specs.declared.reason.Reason.{Reason}
-use Rattle.lq_base.specs.declared.tracking.Lock.{Lock}
 use Rattle.lq_base.specs.declared.tracking.Tracked.{Tracked}
-use Rattle.lq_model.specs.Catalogue.{Catalogue}
 use Rattle.lq_model.specs.declared.caller.Room.{Room}
 use Rattle.lq_model.specs.declared.caller.Room.TheVariants.{Ordinary, Release}
 use Rattle.lq_model.specs.declared.fault.StoreFault.{StoreFault}
@@ -15,34 +13,31 @@ use Rattle.lq_store.specs.State.{State, Transaction, is_open, seen, seen_in}
 use Rattle.lq_track.specs.Database.{Database}
 use Rattle.lq_turns.specs.Contents.{Contents, contents_of, with_contents}
 use Rattle.lq_turns.specs.Deed.{lock_after}
-use Rattle.lq_turns.specs.Goes.{Both, are_accepted, went}
+use Rattle.lq_turns.specs.Goes.{Both}
 use Rattle.lq_turns.specs.Held.{StandsFor, all_fit}
 use Rattle.lq_turns.specs.Rest.{GivingUp, Inside, NoMore, Over, Place, Turns, between, if_goes_on, rest}
 use Rattle.lq_turns.specs.Script.{closing}
 use Rattle.lq_turns.specs.Session.{Session, called, closed, is_own, settled_if}
 use Rattle.lq_turns.specs.Set.{Meaning}
-use Rattle.lq_turns.specs.Stepped.{Went, both_of}
+use Rattle.lq_turns.specs.Stepped.{both_of}
 use Rattle.lq_turns.specs.declared.call.Call.{Call}
 use Rattle.lq_turns.specs.declared.call.Call.TheVariants.{Abort}
 use Rattle.lq_turns.specs.declared.deed.Deed.TheVariants.{Locks}
 use Rattle.lq_turns.specs.declared.deed.OnLock.TheVariants.{Freed}
 use Rattle.lq_turns.specs.declared.stamp.Stamp.{Stamp}
 use Rattle.lq_beside.specs.Replays.{calls_fit}
-use Rattle.lq_hand.specs.Enters.{Enters, Expects, IsTurn, rest_at}
+use Rattle.lq_hand.specs.Enters.{Enters, Expects, rest_at}
 use Rattle.lq_hand.specs.Hand.{AreTurns, IsReady, calls_left, hand_place, place_of}
 use Rattle.lq_hand.specs.declared.hand.Hand.{Hand}
-use Rattle.lq_hand.specs.declared.hand.Phase.{Phase}
 use Rattle.lq_hand.specs.declared.hand.Phase.TheVariants as phase
 use Rattle.lq_hand.specs.declared.source.Entered.TheVariants as entered
 use Rattle.lq_run.proofs.Doing.{differ}
 use Rattle.lq_run.specs.Does.{AbortFor, AloneFor, DoesAlone, Faults}
-use Rattle.lq_run.specs.Holds.{HoldsAs, IsBare, IsHeld, IsMarked}
-use Rattle.lq_run.specs.Moves.{Accepts, BreaksOff, Continues, Goes, IsAt, Meets, Refuses, Takes, refusal_of}
+use Rattle.lq_run.specs.Moves.{BreaksOff, Continues, Goes, IsAt, Meets, Refuses, Takes, refusal_of}
 use Rattle.lq_run.specs.Stands.{IsBegun, Stands}
-use Rattle.lq_run.specs.Steps.{Advances, Closes, ClosesFor, Ends, EndsFor, FailsAs, FailsTo, Falls, IsBetween, IsThere, Known, KnownIn, Standing, Steps, StepsAs, TakesBack, end_of, enters_turns, is_disk, last_end, no_turn, place, stopped_by, turns_of}
+use Rattle.lq_run.specs.Steps.{Closes, Ends, EndsFor, FailsAs, FailsTo, IsBetween, IsThere, Known, KnownIn, Standing, Steps, StepsAs, end_of, enters_turns, is_disk, last_end, no_turn, place, stopped_by, turns_of}
 use Rattle.lq_run.specs.declared.hand.Moved.TheVariants as moved
 use Rattle.lq_run.specs.declared.runner.End.{End}
-use Rattle.lq_run.specs.declared.runner.End.TheVariants as end
 use Rattle.lq_run.specs.declared.runner.Step.{Step}
 use Rattle.lq_run.specs.declared.runner.Step.TheVariants as step
 

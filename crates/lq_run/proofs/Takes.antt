@@ -1,17 +1,16 @@
 -- The next call in hand.
 use Rattle.std.proofs.Common.{ap, subst, sym, ◌∙◌}
 use Rattle.std.proofs.lemmas.List.{reverse-append}
-use Rattle.std.specs.Prelude.{Bool, Err, List, Ok, Result, false, refl, reverse, true, ℕ, ◌<◌, ◌&&◌, ◌+◌, ◌++◌, ◌∷◌, ◌≡◌, []}
+use Rattle.std.specs.Prelude.{Bool, Err, List, Ok, Result, false, refl, reverse, true, ℕ, ◌++◌, ◌∷◌, ◌≡◌, []}
 use Rattle.lq_base.specs.declared.dialect.Dialect.{Dialect}
 use Rattle.lq_base.specs.declared.reason.Reason.{Reason}
 use Rattle.lq_model.proofs.Lists.{and_left, and_right}
-use Rattle.lq_model.specs.declared.caller.Room.TheVariants.{Ordinary}
 use Rattle.lq_model.specs.declared.fault.StoreFault.{StoreFault}
 use Rattle.lq_store.specs.State.{State}
 use Rattle.lq_track.specs.Database.{Database}
 use Rattle.lq_turns.specs.Contents.{Contents, contents_of, with_contents}
 use Rattle.lq_turns.specs.Deed.{contents_after, if_accepted, locked_after}
-use Rattle.lq_turns.specs.Rest.{GivingUp, Inside, Over, Place, Turns, if_goes_on, rest}
+use Rattle.lq_turns.specs.Rest.{GivingUp, Inside, Place, Turns, if_goes_on, rest}
 use Rattle.lq_turns.specs.Session.{Session, called, executed_as, is_own, settled_if}
 use Rattle.lq_turns.specs.Set.{Meaning}
 use Rattle.lq_turns.specs.Stepped.{Went, both_of}
@@ -22,9 +21,8 @@ use Rattle.lq_turns.specs.declared.deed.Deed.TheVariants.{Locks, Rows, Users}
 use Rattle.lq_turns.specs.declared.deed.OnLock.TheVariants.{Freed, LockMade, LockRowMade, LogMade, Marked, Taken}
 use Rattle.lq_turns.specs.declared.stamp.Stamp.{Stamp}
 use Rattle.lq_beside.specs.Replays.{call_fits, calls_fit}
-use Rattle.lq_run.specs.Does.{Faults}
 use Rattle.lq_hand.specs.Hand.{AreTurns, IsNext, IsReady, calls_left, hand_place, opens, place_of}
-use Rattle.lq_run.specs.Moves.{Accepts, Goes, IsAt, Makes, MakesAs, Meets, Refuses, Takes, refusal_of}
+use Rattle.lq_run.specs.Moves.{Accepts, Goes, IsAt, Makes, Refuses, Takes, refusal_of}
 use Rattle.lq_run.specs.Stands.{Stands}
 use Rattle.lq_hand.specs.declared.hand.Hand.{Hand}
 use Rattle.lq_run.specs.declared.hand.Moved.TheVariants as moved

@@ -1,6 +1,6 @@
 -- A deed that is accepted, or refused, was the next call of the script.
-use Rattle.std.proofs.Common.{ap, subst, sym, ◌∙◌}
-use Rattle.std.specs.Prelude.{Bool, Err, List, None, Ok, Result, Some, false, refl, true, ◌∷◌, ◌≡◌}
+use Rattle.std.proofs.Common.{ap, sym, ◌∙◌}
+use Rattle.std.specs.Prelude.{Bool, Err, List, Ok, false, refl, true, ◌∷◌, ◌≡◌}
 use Rattle.lq_base.specs.declared.dialect.Dialect.{Dialect}
 use Rattle.lq_base.specs.declared.reason.Reason.{Reason}
 use Rattle.lq_turns.proofs.Made.{At, after_ok}
@@ -9,7 +9,7 @@ use Rattle.lq_turns.specs.Contents.{Contents, contents_of, with_contents}
 use Rattle.lq_turns.specs.Deed.{contents_after, if_accepted, locked_after}
 use Rattle.lq_turns.specs.Goes.{Both, accepted_by, are_accepted, committed_if, went, went_by}
 use Rattle.lq_turns.specs.Rest.{GivingUp, Inside, Turns, if_goes_on, rest}
-use Rattle.lq_turns.specs.Session.{Session, accepted, before, called, executed_as, is_own, settled_if}
+use Rattle.lq_turns.specs.Session.{Session, accepted, called, executed_as, is_own, settled_if}
 use Rattle.lq_turns.specs.Set.{Meaning}
 use Rattle.lq_turns.specs.Stepped.{Went, both_of}
 use Rattle.lq_turns.specs.declared.call.Call.{Call}

@@ -1,6 +1,6 @@
 use Rattle.std.proofs.Common.{inl, inr, refl}
 use Rattle.lq_run.proofs.Losing.{lost_steps, told_at}
-use Rattle.lq_run.specs.Holds.{IsBare, IsHeld, IsMarked}
+use Rattle.lq_run.specs.Holds.{IsBare, IsMarked}
 use Rattle.lq_run.specs.Steps.{TellsLock, standing}
 use Rattle.lq_run.proofs.runner.Runner.between.Goals as goal
 
