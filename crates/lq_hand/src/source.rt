@@ -1,10 +1,11 @@
-ghost use Rattle.std.specs.Prelude.{◌≡◌};
+ghost use Rattle.std.specs.Prelude.{◌≡◌, List};
+ghost use Rattle.lq_base.specs.declared.tracking.Tracked.{Tracked};
 ghost use Rattle.lq_hand.specs.Enters.{Enters};
-ghost use Rattle.lq_turns.specs.Rest.{NoMore};
 
 use crate::hand::Hand;
 use lq_base::Dialect;
 use lq_model::Look;
+use lq_turns::Stamp;
 use std::alloc::Global;
 
 /// What comes where no turn is in hand.
@@ -18,9 +19,10 @@ pub enum Entered {
 
 /// The turns to come of a command.
 pub trait Source {
+    ghost use Rattle.std.specs.Prelude.{List};
+    ghost use Rattle.lq_base.specs.declared.tracking.Tracked.{Tracked};
     ghost use Rattle.lq_turns.specs.Rest.{Turns};
     ghost use Rattle.lq_turns.specs.Set.{Meaning};
-    ghost use Rattle.lq_turns.specs.declared.stamp.Stamp.{Stamp};
 
     /// What a change says.
     ghost Key: { Type 0 };
@@ -28,18 +30,27 @@ pub trait Source {
     /// What changes do.
     ghost meaning: { Meaning Key };
 
-    /// Who runs the command, and when.
-    ghost stamp: { Self → Stamp };
-
     ghost left: { Self → Turns Key };
 
-    /// Enters the next turn that makes a call. What is seen is what is committed.
-    fn enter<K: Look>(&mut self, alloc: Global, dialect: Dialect, look: &K) -> Entered
-        ensures enters { Enters dialect meaning (stamp self.old) (left self.old) (K.catalogue look.now) result (left self.new) }
-        ensures same { stamp self.new ≡ stamp self.old };
+    /// What it holds of the rows that are committed between two turns.
+    ghost knows: { Self → List Tracked → Type 0 };
 
-    /// No other turn comes.
-    fn stop(&mut self)
-        ensures none { left self.new ≡ NoMore }
-        ensures same { stamp self.new ≡ stamp self.old };
+    /// And of those that are there once the turn in hand has finished.
+    ghost awaits: { Self → List Tracked → Type 0 };
+
+    /// Enters the next turn that makes a call, of a command that has this stamp. What is seen is what
+    /// is committed.
+    fn enter<K: Look>(
+        &mut self,
+        alloc: Global,
+        dialect: Dialect,
+        stamp: &Stamp,
+        look: &K,
+    ) -> Entered
+        ensures enters { Enters dialect meaning stamp.now (left self.old) (knows self.old) (K.catalogue look.now) result (left self.new) (knows self.new) (awaits self.new) };
+
+    /// The turn in hand has finished.
+    fn finished(&mut self)
+        ensures knows { (rows : List Tracked) → awaits self.old rows → knows self.new rows }
+        ensures left { left self.new ≡ left self.old };
 }

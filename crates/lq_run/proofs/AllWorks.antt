@@ -1,7 +1,7 @@
 -- Several deeds in one call.
 use Rattle.std.proofs.Common.{ap, subst, sym, ◌∙◌}
 use Rattle.std.proofs.lemmas.List.{append-nil}
-use Rattle.std.specs.Prelude.{Bool, Err, List, None, Ok, Option, Result, Some, [], false, map, refl, true, ℕ, ◌&&◌, ◌++◌, ◌∷◌, ◌≡◌}
+use Rattle.std.specs.Prelude.{Bool, Err, List, None, Ok, Option, Result, Some, [], false, refl, true, ℕ, ◌++◌, ◌∷◌, ◌≡◌}
 use Rattle.lq_base.specs.declared.dialect.Dialect.{Dialect}
 use Rattle.lq_base.specs.declared.reason.Reason.{Reason}
 use Rattle.lq_model.proofs.Lists.{and_left, and_right}
@@ -10,13 +10,13 @@ use Rattle.lq_model.specs.declared.fault.StoreFault.{StoreFault}
 use Rattle.lq_model.specs.declared.fault.StoreFault.TheVariants.{Busy, Disk, Full, NotSql, OutOfMemory, Refused}
 use Rattle.lq_store.specs.Calls.{MayAlone, MayEnd, done_alone, ran_alone}
 use Rattle.lq_store.specs.State.{State, Transaction, is_open, other}
-use Rattle.lq_store.specs.Work.{End, NoStatement, Outcome, Ran, Stopped, Work, committed, goes_on, outcome, outcome_all, work_in}
+use Rattle.lq_store.specs.Work.{End, NoStatement, Outcome, Ran, Stopped, Work, goes_on, outcome, outcome_all, work_in}
 use Rattle.lq_store.specs.Work.{closed as closed_state}
 use Rattle.lq_track.specs.Database.{Database}
 use Rattle.lq_turns.specs.Contents.{Contents, contents_of, with_contents}
-use Rattle.lq_turns.specs.Deed.{all_done, contents_after, done, if_accepted, locked_after, made_of}
+use Rattle.lq_turns.specs.Deed.{all_done, contents_after, if_accepted, locked_after, made_of}
 use Rattle.lq_turns.specs.Held.{StandsFor, StatementsTell, all_fit, fits}
-use Rattle.lq_turns.specs.Session.{Session, aborted, accepted, all_executed, all_executed_as, called, closed, executed_as, is_own, settled_if}
+use Rattle.lq_turns.specs.Session.{Session, accepted, all_executed, all_executed_as, executed_as, is_own, settled_if}
 use Rattle.lq_turns.specs.declared.call.Call.TheVariants.{Alone}
 use Rattle.lq_turns.specs.declared.deed.Deed.{Deed}
 use Rattle.lq_run.specs.Does.{AllRead, Appends, DoesAlone}

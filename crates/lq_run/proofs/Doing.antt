@@ -3,27 +3,22 @@ use Rattle.std.proofs.Common.{ap, arith, rules, subst, sym, ◌∙◌}
 use Rattle.std.proofs.lemmas.List.{append-nil, append_assoc, map-append}
 use Rattle.std.proofs.lemmas.List.Sums.{sum_by-append}
 use Rattle.std.specs.Option.{option_map}
-use Rattle.std.specs.Prelude.{Bool, Err, List, cond, None, Ok, Option, Result, Some, [], false, map, refl, true, ℕ, ◌+◌, ◌++◌, ◌==◌, ◌∷◌, ◌≡◌}
-use Rattle.lq_base.specs.declared.dialect.Dialect.{Dialect}
+use Rattle.std.specs.Prelude.{Bool, Err, List, cond, None, Ok, Option, Result, Some, [], false, refl, true, ℕ, ◌+◌, ◌++◌, ◌==◌, ◌∷◌, ◌≡◌}
 use Rattle.lq_base.specs.declared.reason.Reason.{Reason}
 use Rattle.lq_model.specs.Catalogue.{Catalogue}
-use Rattle.lq_model.specs.Script.{if_any}
-use Rattle.lq_model.specs.declared.caller.Room.{Room}
 use Rattle.lq_model.specs.declared.caller.Room.TheVariants.{Ordinary}
 use Rattle.lq_model.specs.declared.fault.StoreFault.{StoreFault}
 use Rattle.lq_model.specs.declared.fault.StoreFault.TheVariants.{Busy, Disk, Full, NotSql, OutOfMemory, Refused}
-use Rattle.lq_store.specs.Calls.{MayBegin, MayCommit, MayEnd, MayExecute, aborted, executed, finished, with_begun}
+use Rattle.lq_store.specs.Calls.{MayBegin, MayCommit, MayEnd, MayExecute, aborted, finished}
 use Rattle.lq_store.specs.Journal.{Entry, entry_size, size_of_all}
 use Rattle.lq_store.specs.State.{State, Transaction, is_open, other, other_in, with_entries}
-use Rattle.lq_store.specs.Work.{End, NoStatement, Outcome, Ran, Stopped, Work, committed, kept_open, outcome, still_open, work_in, work_of}
+use Rattle.lq_store.specs.Work.{End, NoStatement, Outcome, Ran, Stopped, Work, kept_open, outcome, still_open, work_in, work_of}
 use Rattle.lq_store.specs.Work.{closed as closed_state}
-use Rattle.lq_track.specs.Database.{Database}
 use Rattle.lq_turns.specs.Contents.{Contents, contents_of, with_contents}
-use Rattle.lq_turns.specs.Deed.{contents_after, done, if_accepted, locked_after, made_of}
+use Rattle.lq_turns.specs.Deed.{contents_after, if_accepted, locked_after, made_of}
 use Rattle.lq_turns.specs.Held.{StandsFor, StatementsTell, fits}
 use Rattle.lq_turns.specs.Session.{Session, called, closed, executed_as, is_own, settled_if, settled_up}
-use Rattle.lq_turns.specs.declared.call.Call.{Call}
-use Rattle.lq_turns.specs.declared.call.Call.TheVariants.{Abort, Alone, Begin, Commit, Execute}
+use Rattle.lq_turns.specs.declared.call.Call.TheVariants.{Abort, Begin, Commit, Execute}
 use Rattle.lq_turns.specs.declared.deed.Deed.{Deed}
 use Rattle.lq_run.specs.Does.{Appends, DoesCall, DoesDeed, IsRead}
 use Rattle.lq_run.specs.Stands.{IsBegun, Stands, deed_text, entries_of, entry_of}

@@ -6,3 +6,6 @@ mod Stated
 mod WentOn
 mod Makes
 mod Takes
+mod Stepping
+mod Losing
+mod Names

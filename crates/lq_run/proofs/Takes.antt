@@ -1,17 +1,16 @@
 -- The next call in hand.
 use Rattle.std.proofs.Common.{ap, subst, sym, ◌∙◌}
 use Rattle.std.proofs.lemmas.List.{reverse-append}
-use Rattle.std.specs.Prelude.{Bool, Err, List, Ok, Result, false, refl, reverse, true, ℕ, ◌<◌, ◌&&◌, ◌+◌, ◌++◌, ◌∷◌, ◌≡◌, []}
+use Rattle.std.specs.Prelude.{Bool, Err, List, Ok, Result, false, refl, reverse, true, ℕ, ◌++◌, ◌∷◌, ◌≡◌, []}
 use Rattle.lq_base.specs.declared.dialect.Dialect.{Dialect}
 use Rattle.lq_base.specs.declared.reason.Reason.{Reason}
 use Rattle.lq_model.proofs.Lists.{and_left, and_right}
-use Rattle.lq_model.specs.declared.caller.Room.TheVariants.{Ordinary}
 use Rattle.lq_model.specs.declared.fault.StoreFault.{StoreFault}
 use Rattle.lq_store.specs.State.{State}
 use Rattle.lq_track.specs.Database.{Database}
 use Rattle.lq_turns.specs.Contents.{Contents, contents_of, with_contents}
 use Rattle.lq_turns.specs.Deed.{contents_after, if_accepted, locked_after}
-use Rattle.lq_turns.specs.Rest.{GivingUp, Inside, Over, Place, Turns, if_goes_on, rest}
+use Rattle.lq_turns.specs.Rest.{GivingUp, Inside, Place, Turns, if_goes_on, rest}
 use Rattle.lq_turns.specs.Session.{Session, called, executed_as, is_own, settled_if}
 use Rattle.lq_turns.specs.Set.{Meaning}
 use Rattle.lq_turns.specs.Stepped.{Went, both_of}
@@ -22,13 +21,15 @@ use Rattle.lq_turns.specs.declared.deed.Deed.TheVariants.{Locks, Rows, Users}
 use Rattle.lq_turns.specs.declared.deed.OnLock.TheVariants.{Freed, LockMade, LockRowMade, LogMade, Marked, Taken}
 use Rattle.lq_turns.specs.declared.stamp.Stamp.{Stamp}
 use Rattle.lq_beside.specs.Replays.{call_fits, calls_fit}
-use Rattle.lq_run.specs.Does.{Faults}
 use Rattle.lq_hand.specs.Hand.{AreTurns, IsNext, IsReady, calls_left, hand_place, opens, place_of}
-use Rattle.lq_run.specs.Moves.{Goes, IsAt, Makes, MakesAs, Takes}
+use Rattle.lq_run.specs.Moves.{Accepts, Goes, IsAt, Makes, Refuses, Takes, refusal_of}
 use Rattle.lq_run.specs.Stands.{Stands}
 use Rattle.lq_hand.specs.declared.hand.Hand.{Hand}
 use Rattle.lq_run.specs.declared.hand.Moved.TheVariants as moved
 use Rattle.lq_hand.specs.declared.hand.Phase.TheVariants as phase
+
+head_is : {c k : Call} {cs ks : List Call} → c ∷ cs ≡ k ∷ ks → c ≡ k
+head_is h = Prim.cc
 
 -- the last in the list is the first call
 pub last_first : (calls left : List Call) (call : Call) → calls ≡ left ++ call ∷ [] → reverse calls ≡ call ∷ reverse left
@@ -107,29 +108,56 @@ module _ {Key : Type 0} (d : Dialect) (m : Meaning Key) (stamp : Stamp) (number 
   -- and so for a hand
 
   module _ (hand : Hand) (left : List Call) (call : Call) (x y : State) (inside : hand.phase ≡ phase.Inside) (last : hand.calls ≡ left ++ call ∷ []) where
+    first : calls_left hand ≡ call ∷ reverse left
+    first = last_first hand.calls left call last
+
     here : (turns : Turns Key) → place_of hand turns ≡ Inside (call ∷ reverse left) hand.goes_on turns
-    here turns = ap (λ p. hand_place p (calls_left hand) hand.goes_on turns) inside ∙ ap (λ calls. Inside calls hand.goes_on turns) (last_first hand.calls left call last)
+    here turns = ap (λ p. hand_place p (calls_left hand) hand.goes_on turns) inside ∙ ap (λ calls. Inside calls hand.goes_on turns) first
 
     there : (turns : Turns Key) → place_of (record hand { calls = left }) turns ≡ Inside (reverse left) hand.goes_on turns
     there turns = ap (λ p. hand_place p (reverse left) hand.goes_on turns) inside
 
+    next_is : (c : Call) (calls : List Call) (on : Bool) (turns : Turns Key) (s : Session) → (more : List Call) × (rest d m stamp (Inside (c ∷ calls) on turns) (both_of s) ≡ c ∷ more)
+    next_is Begin calls on turns s = (_, refl)
+    next_is Commit calls on turns s = (_, refl)
+    next_is Abort calls on turns s = (_, refl)
+    next_is (Execute deed) calls on turns s = (_, refl)
+    next_is (Alone deeds room) calls on turns s = (_, refl)
+
     pub take_on : Makes d m stamp number call x moved.On y → Takes d m stamp number hand x moved.On (record hand { calls = left }) y
+    unfolding goes_to
     take_on makes turns start s is =
         let at = subst (λ p. IsAt d m stamp number p x start s) (here turns) is in
         let made = makes start s at.dialect at.stands (head_fits call (reverse left) hand.goes_on turns s at.fits) in
-        subst (λ p. Goes d m stamp number p (place_of (record hand { calls = left }) turns) start s y) (sym (here turns))
-        (subst (λ q. Goes d m stamp number (Inside (call ∷ reverse left) hand.goes_on turns) q start s y) (sym (there turns))
-        (goes_to call (Inside (reverse left) hand.goes_on turns) (reverse left) hand.goes_on turns x y start s at made.0 at.ready.1 (made.1 (reverse left) hand.goes_on turns)))
+        subst (λ ph. Accepts d m stamp number (hand_place ph (calls_left hand) hand.goes_on turns) (hand_place ph (reverse left) hand.goes_on turns) (calls_left hand) (reverse left) start s y) (sym inside)
+        (subst (λ calls. Accepts d m stamp number (Inside calls hand.goes_on turns) (Inside (reverse left) hand.goes_on turns) calls (reverse left) start s y) (sym first)
+        (record {
+          goes = goes_to call (Inside (reverse left) hand.goes_on turns) (reverse left) hand.goes_on turns x y start s at made.0 at.ready.1 (made.1 (reverse left) hand.goes_on turns);
+          continues = made.2 (reverse left);
+          none = ap (λ (c : Call). refusal_of d c s) (head_is (sym (made.1 (reverse left) hand.goes_on turns).next ∙ (next_is call (reverse left) hand.goes_on turns s).1)) ∙ made.3;
+        }))
 
     pub take_refused : (reason : Reason) → Makes d m stamp number call x (moved.Refused reason) y → Takes d m stamp number hand x (moved.Refused reason) (record hand { phase = phase.GivingUp; calls = left }) y
+    unfolding goes_to
     take_refused reason makes turns start s is =
         let at = subst (λ p. IsAt d m stamp number p x start s) (here turns) is in
         let made = makes start s at.dialect at.stands (head_fits call (reverse left) hand.goes_on turns s at.fits) in
-        subst (λ p. Goes d m stamp number p (GivingUp (if_goes_on hand.goes_on turns)) start s y) (sym (here turns))
-        (goes_to call (GivingUp (if_goes_on hand.goes_on turns)) (reverse left) hand.goes_on turns x y start s at made.0 made.1 (made.2 (reverse left) hand.goes_on turns))
+        subst (λ ph. Refuses d m stamp number (hand_place ph (calls_left hand) hand.goes_on turns) (GivingUp (if_goes_on hand.goes_on turns)) (calls_left hand) reason start s y) (sym inside)
+        (subst (λ calls. Refuses d m stamp number (Inside calls hand.goes_on turns) (GivingUp (if_goes_on hand.goes_on turns)) calls reason start s y) (sym first)
+        (record {
+          goes = goes_to call (GivingUp (if_goes_on hand.goes_on turns)) (reverse left) hand.goes_on turns x y start s at made.0 made.1 (made.2 (reverse left) hand.goes_on turns);
+          breaks_off = made.3 (reverse left);
+          why = ap (λ (c : Call). refusal_of d c s) (head_is (sym (made.2 (reverse left) hand.goes_on turns).next ∙ (next_is call (reverse left) hand.goes_on turns s).1)) ∙ made.4;
+        }))
 
     pub take_fault : (fault : StoreFault) → Makes d m stamp number call x (moved.Failed fault) y → Takes d m stamp number hand x (moved.Failed fault) (record hand { calls = left }) y
     take_fault fault makes turns start s is =
         let at = subst (λ p. IsAt d m stamp number p x start s) (here turns) is in
         let made = makes start s at.dialect at.stands (head_fits call (reverse left) hand.goes_on turns s at.fits) in
-        (call, made.0, made.1)
+        let next = next_is call (reverse left) hand.goes_on turns s in
+        (record { call = call; more = next.0; next = ap (λ p. rest d m stamp p (both_of s)) (here turns) ∙ next.1; faults = made.0 }, made.1)
+
+    pub take_lack : Makes d m stamp number call x moved.Lack y → Takes d m stamp number hand x moved.Lack (record hand { calls = left }) y
+    take_lack makes turns start s is =
+        let at = subst (λ p. IsAt d m stamp number p x start s) (here turns) is in
+        makes start s at.dialect at.stands (head_fits call (reverse left) hand.goes_on turns s at.fits)

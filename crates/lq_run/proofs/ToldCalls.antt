@@ -1,5 +1,5 @@
 -- The calls of a store, told by deeds, for every session for which it stands.
-use Rattle.std.proofs.Common.{ap, subst, sym, ◌∙◌}
+use Rattle.std.proofs.Common.{subst, sym}
 use Rattle.std.specs.Prelude.{List, Ok, Result, Some, false, true, ℕ, ◌≡◌}
 use Rattle.lq_base.specs.declared.dialect.Dialect.{Dialect}
 use Rattle.lq_beside.proofs.AllTold.{statements_tell}

@@ -1,21 +1,22 @@
 -- A deed that is accepted, or refused, was the next call of the script.
-use Rattle.std.proofs.Common.{ap, subst, sym, ◌∙◌}
-use Rattle.std.specs.Prelude.{Bool, Err, List, Ok, Result, false, refl, true, ◌∷◌, ◌≡◌}
+use Rattle.std.proofs.Common.{ap, sym, ◌∙◌}
+use Rattle.std.specs.Prelude.{Bool, Err, List, Ok, false, refl, true, ◌∷◌, ◌≡◌}
 use Rattle.lq_base.specs.declared.dialect.Dialect.{Dialect}
 use Rattle.lq_base.specs.declared.reason.Reason.{Reason}
 use Rattle.lq_turns.proofs.Made.{At, after_ok}
 use Rattle.lq_turns.proofs.Steps.{goes, stops}
 use Rattle.lq_turns.specs.Contents.{Contents, contents_of, with_contents}
 use Rattle.lq_turns.specs.Deed.{contents_after, if_accepted, locked_after}
-use Rattle.lq_turns.specs.Goes.{Both, committed_if}
+use Rattle.lq_turns.specs.Goes.{Both, accepted_by, are_accepted, committed_if, went, went_by}
 use Rattle.lq_turns.specs.Rest.{GivingUp, Inside, Turns, if_goes_on, rest}
-use Rattle.lq_turns.specs.Session.{Session, accepted, before, called, executed_as, is_own, settled_if}
+use Rattle.lq_turns.specs.Session.{Session, accepted, called, executed_as, is_own, settled_if}
 use Rattle.lq_turns.specs.Set.{Meaning}
 use Rattle.lq_turns.specs.Stepped.{Went, both_of}
 use Rattle.lq_turns.specs.declared.call.Call.{Call}
 use Rattle.lq_turns.specs.declared.call.Call.TheVariants.{Execute}
 use Rattle.lq_turns.specs.declared.deed.Deed.{Deed}
 use Rattle.lq_turns.specs.declared.stamp.Stamp.{Stamp}
+use Rattle.lq_run.specs.Moves.{BreaksOff, Continues}
 
 module _ (d : Dialect) (deed : Deed) (s : Session) where
   pair : (t : Session) (a b : Contents) → At t (a, b) → both_of t ≡ (a, b)
@@ -31,6 +32,18 @@ module _ (d : Dialect) (deed : Deed) (s : Session) where
 
   both_err : (reason : Reason) → contents_after d deed (contents_of s.seen) ≡ Err reason → both_of (called d (Execute deed) s) ≡ (committed_if (is_own d deed) (contents_of s.committed) (contents_of s.seen), contents_of s.seen)
   both_err reason is = ap (λ r. both_of (executed_as d deed s (if_accepted (with_contents (locked_after deed s.seen)) r))) is ∙ both_if (is_own d deed)
+
+  pub continues : (now : Contents) → contents_after d deed (contents_of s.seen) ≡ Ok now → (calls : List Call) → Continues d (Execute deed ∷ calls) calls s (called d (Execute deed) s)
+  continues now is calls = record {
+    contents = ap (went_by d deed (went d calls) (both_of s)) is ∙ ap (went d calls) (sym (both_ok now is));
+    accepted = ap (accepted_by d (are_accepted d calls)) is ∙ ap (λ (x : Both). are_accepted d calls x.1) (sym (both_ok now is));
+  }
+
+  pub breaks_off : (reason : Reason) → contents_after d deed (contents_of s.seen) ≡ Err reason → (calls : List Call) → BreaksOff d (Execute deed ∷ calls) s (called d (Execute deed) s)
+  breaks_off reason is calls = record {
+    contents = ap (λ r. (went_by d deed (went d calls) (both_of s) r).0) is ∙ ap (λ (x : Both). x.0) (sym (both_err reason is));
+    refused = ap (accepted_by d (are_accepted d calls)) is;
+  }
 
 module _ {Key : Type 0} (d : Dialect) (m : Meaning Key) (stamp : Stamp) (deed : Deed) (s t : Session) where
   pub goes_on : (now : Contents) → contents_after d deed (contents_of s.seen) ≡ Ok now → t ≡ called d (Execute deed) s → (calls : List Call) (on : Bool) (turns : Turns Key)

@@ -1,22 +1,18 @@
 -- The work of a call on a store, as deeds of a session.
 use Rattle.std.proofs.Common.{ap, subst, sym, ◌∙◌}
-use Rattle.std.proofs.lemmas.List.{append-nil, append_assoc, map-append}
-use Rattle.std.specs.Prelude.{Bool, Err, List, None, Ok, Option, Result, Some, [], false, map, refl, true, ℕ, ◌+◌, ◌++◌, ◌∷◌, ◌≡◌}
+use Rattle.std.proofs.lemmas.List.{append_assoc, map-append}
+use Rattle.std.specs.Prelude.{Bool, Err, List, Ok, Result, [], false, map, refl, true, ℕ, ◌++◌, ◌∷◌, ◌≡◌}
 use Rattle.lq_base.specs.declared.dialect.Dialect.{Dialect}
 use Rattle.lq_base.specs.declared.reason.Reason.{Reason}
 use Rattle.lq_model.specs.Catalogue.{Catalogue}
 use Rattle.lq_model.specs.Script.{if_any}
-use Rattle.lq_model.specs.SqlText.{statement_in}
 use Rattle.lq_model.specs.Step.{step}
-use Rattle.lq_model.specs.declared.caller.By.{By}
-use Rattle.lq_model.specs.declared.statement.Statement.{Statement}
-use Rattle.lq_store.specs.Journal.{Entry, size_of_all}
-use Rattle.lq_store.specs.Work.{End, NoStatement, Outcome, Ran, Stopped, Work, committed, outcome, outcome_by, outcome_of, refused, taken}
+use Rattle.lq_store.specs.Work.{End, Outcome, Ran, Stopped, Work, committed, outcome, outcome_by, outcome_of, refused, taken}
 use Rattle.lq_track.specs.Database.{Database}
 use Rattle.lq_turns.specs.Contents.{Contents, contents_of, with_contents}
-use Rattle.lq_turns.specs.Deed.{contents_after, done, if_accepted, locked_after, made_of}
+use Rattle.lq_turns.specs.Deed.{contents_after, if_accepted, locked_after, made_of}
 use Rattle.lq_turns.specs.Held.{Agrees, StandsFor, StatementsTell, fits}
-use Rattle.lq_turns.specs.Session.{Session, accepted, before, executed_as, is_own, settled_if, settled_up}
+use Rattle.lq_turns.specs.Session.{Session, executed_as, is_own, settled_if, settled_up}
 use Rattle.lq_turns.specs.declared.deed.Deed.{Deed}
 use Rattle.lq_run.specs.Does.{IsRead}
 use Rattle.lq_run.specs.Stands.{deed_text, entries_of, entry_of}

@@ -1,8 +1,9 @@
 ghost use Rattle.std.specs.Prelude.{◌≡◌, ◌++◌, IfOk, IsTrue, OnOk, false, true};
 ghost use Rattle.lq_hand.specs.Writable.{IsWritable};
-ghost use Rattle.lq_run.specs.Does.{AbortFor, AllRead, AllWritable, AloneFor, BeginFor, CommitFor, DoesFor, IsRead};
+ghost use Rattle.lq_run.specs.Does.{AbortFor, AllRead, AllWritable, AloneFor, BeginFor, CommitFor, DoesFor, IsRead, Reads};
 ghost use Rattle.lq_run.specs.Stands.{text_by, texts_of};
 ghost use Rattle.lq_store.specs.State.{is_open};
+ghost use Rattle.lq_turns.specs.Deed.{made_of};
 
 use crate::deed::{caller, print};
 use lq_base::{Dialect, Items, NoMemory};
@@ -11,27 +12,22 @@ use lq_store::Store;
 use lq_turns::Deed;
 use std::alloc::Global;
 
-/// Does a deed in the session's transaction.
-pub fn do_deed<S: Store, P: SqlText>(
-    alloc: Global,
+/// Does a deed in the session's transaction, by the text of its statement.
+pub fn do_deed<S: Store>(
     session: u32,
     store: &mut S,
-    sql: &P,
     dialect: Dialect,
     deed: &Deed,
+    text: &str,
 ) -> Result<(), StoreFault>
     requires valid { S.valid store.old }
     requires live { IsTrue (S.state store.old).live }
     requires open_here { is_open session (S.state store.old).begun ≡ true }
-    requires sql { P.dialect ≡ dialect }
-    requires writable { IsWritable dialect deed.now }
+    requires reads { Reads dialect (made_of dialect deed.now).1 text.now }
     ensures valid { S.valid store.new }
     ensures does { DoesFor dialect session deed.now (S.state store.old) result (S.state store.new) }
 {
-    let Ok(text) = print(alloc, sql, dialect, deed) else {
-        return Err(StoreFault::OutOfMemory);
-    };
-    match store.execute(session, caller(deed), text.as_str()) {
+    match store.execute(session, caller(deed), text) {
         Ok(_) => Ok(()),
         Err(fault) => Err(fault),
     }

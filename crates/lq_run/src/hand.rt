@@ -1,16 +1,19 @@
 ghost use Rattle.std.specs.Prelude.{◌≡◌, ◌≢◌, IsTrue, [], false, true};
 ghost use Rattle.lq_hand.specs.Hand.{AreTurns, IsNext, calls_left};
 ghost use Rattle.lq_hand.specs.declared.hand.Phase.TheVariants as phase;
-ghost use Rattle.lq_run.specs.Moves.{Makes, Takes, moved_of};
+ghost use Rattle.lq_hand.specs.Writable.{IsWritable};
+ghost use Rattle.lq_run.specs.Moves.{Makes, MovesTo, Takes, WasOpen, moved_of};
 ghost use Rattle.lq_store.specs.State.{is_open};
+ghost use Rattle.lq_turns.specs.declared.call.Call.TheVariants as call;
 ghost use Rattle.lq_turns.specs.declared.stamp.Stamp.{Stamp};
 
 use crate::calls::{begin, commit, do_deed};
+use crate::deed::print;
 use lq_base::{Dialect, Reason};
 use lq_hand::{Hand, Phase, Source};
 use lq_model::{SqlText, StoreFault};
 use lq_store::Store;
-use lq_turns::Call;
+use lq_turns::{Call, Deed};
 use std::alloc::Global;
 
 /// What became of a call.
@@ -19,6 +22,8 @@ pub enum Moved {
     On,
     Refused(Reason),
     Failed(StoreFault),
+    /// There was no memory for the text of its statement, and nothing was called.
+    Lack,
 }
 
 /// Makes the next call in hand.
@@ -40,6 +45,8 @@ pub fn take<T: Source, S: Store, P: SqlText>(
     ensures valid { S.valid store.new }
     ensures takes { (stamp : Stamp) → Takes dialect T.meaning stamp session hand.old (S.state store.old) result hand.new (S.state store.new) }
     ensures same { hand.new.goes_on ≡ hand.old.goes_on }
+    ensures phase { MovesTo result hand.new.phase }
+    ensures lack { WasOpen session (S.state store.old) result (S.state store.new) }
 {
     let Some(call) = hand.calls.pop() else {
         unreachable!();
@@ -51,6 +58,7 @@ pub fn take<T: Source, S: Store, P: SqlText>(
             Moved::Refused(reason)
         }
         Moved::Failed(fault) => Moved::Failed(fault),
+        Moved::Lack => Moved::Lack,
     }
 }
 
@@ -69,12 +77,36 @@ fn make<T: Source, S: Store, P: SqlText>(
     requires turn { IsNext dialect (is_open session (S.state store.old).begun) call.now }
     ensures valid { S.valid store.new }
     ensures makes { (stamp : Stamp) → Makes dialect T.meaning stamp session call.now (S.state store.old) result (S.state store.new) }
+    ensures lack { WasOpen session (S.state store.old) result (S.state store.new) }
 {
     match call {
         Call::Begin => move_of(begin(session, store, dialect)),
-        Call::Execute(deed) => move_of(do_deed(alloc, session, store, sql, dialect, deed)),
+        Call::Execute(deed) => execute::<T, S, P>(alloc, session, store, sql, dialect, deed),
         Call::Commit => move_of(commit(session, store, dialect)),
         Call::Abort | Call::Alone(_, _) => unreachable!(),
+    }
+}
+
+fn execute<T: Source, S: Store, P: SqlText>(
+    alloc: Global,
+    session: u32,
+    store: &mut S,
+    sql: &P,
+    dialect: Dialect,
+    deed: &Deed,
+) -> Moved
+    requires valid { S.valid store.old }
+    requires live { IsTrue (S.state store.old).live }
+    requires sql { P.dialect ≡ dialect }
+    requires open_here { is_open session (S.state store.old).begun ≡ true }
+    requires writable { IsWritable dialect deed.now }
+    ensures valid { S.valid store.new }
+    ensures makes { (stamp : Stamp) → Makes dialect T.meaning stamp session (call.Execute deed.now) (S.state store.old) result (S.state store.new) }
+    ensures lack { WasOpen session (S.state store.old) result (S.state store.new) }
+{
+    match print(alloc, sql, dialect, deed) {
+        Ok(text) => move_of(do_deed(session, store, dialect, deed, text.as_str())),
+        Err(_) => Moved::Lack,
     }
 }
 

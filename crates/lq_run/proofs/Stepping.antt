@@ -1,0 +1,410 @@
+-- The kinds of step.
+use Rattle.std.proofs.Common.{ap, inl, inr, subst, sym, ◌∙◌}
+use Rattle.std.proofs.lemmas.List.{length-reverse}
+use Rattle.std.specs.Prelude.{Bool, Err, List, None, Ok, Option, Result, Some, [], false, length, refl, reverse, true, ℕ, ◌&&◌, ◌++◌, ◌∷◌, ◌≡◌, ◌≢◌}
+use Rattle.lq_base.specs.declared.dialect.Dialect.{Dialect}
+use Rattle.lq_base.specs.declared.reason.Reason.{Reason}
+use Rattle.lq_base.specs.declared.tracking.Tracked.{Tracked}
+use Rattle.lq_model.specs.declared.caller.Room.{Room}
+use Rattle.lq_model.specs.declared.caller.Room.TheVariants.{Ordinary, Release}
+use Rattle.lq_model.specs.declared.fault.StoreFault.{StoreFault}
+use Rattle.lq_model.specs.declared.fault.StoreFault.TheVariants as fault
+use Rattle.lq_store.specs.State.{State, Transaction, is_open, seen, seen_in}
+use Rattle.lq_track.specs.Database.{Database}
+use Rattle.lq_turns.specs.Contents.{Contents, contents_of, with_contents}
+use Rattle.lq_turns.specs.Deed.{lock_after}
+use Rattle.lq_turns.specs.Goes.{Both}
+use Rattle.lq_turns.specs.Held.{StandsFor, all_fit}
+use Rattle.lq_turns.specs.Rest.{GivingUp, Inside, NoMore, Over, Place, Turns, between, if_goes_on, rest}
+use Rattle.lq_turns.specs.Script.{closing}
+use Rattle.lq_turns.specs.Session.{Session, called, closed, is_own, settled_if}
+use Rattle.lq_turns.specs.Set.{Meaning}
+use Rattle.lq_turns.specs.Stepped.{both_of}
+use Rattle.lq_turns.specs.declared.call.Call.{Call}
+use Rattle.lq_turns.specs.declared.call.Call.TheVariants.{Abort}
+use Rattle.lq_turns.specs.declared.deed.Deed.TheVariants.{Locks}
+use Rattle.lq_turns.specs.declared.deed.OnLock.TheVariants.{Freed}
+use Rattle.lq_turns.specs.declared.stamp.Stamp.{Stamp}
+use Rattle.lq_beside.specs.Replays.{calls_fit}
+use Rattle.lq_hand.specs.Enters.{Enters, Expects, rest_at}
+use Rattle.lq_hand.specs.Hand.{AreTurns, IsReady, calls_left, hand_place, place_of}
+use Rattle.lq_hand.specs.declared.hand.Hand.{Hand}
+use Rattle.lq_hand.specs.declared.hand.Phase.TheVariants as phase
+use Rattle.lq_hand.specs.declared.source.Entered.TheVariants as entered
+use Rattle.lq_run.proofs.Doing.{differ}
+use Rattle.lq_run.specs.Does.{AbortFor, AloneFor, DoesAlone, Faults}
+use Rattle.lq_run.specs.Moves.{BreaksOff, Continues, Goes, IsAt, Meets, Refuses, Takes, refusal_of}
+use Rattle.lq_run.specs.Stands.{IsBegun, Stands}
+use Rattle.lq_run.specs.Steps.{Closes, Ends, EndsFor, FailsAs, FailsTo, IsBetween, IsThere, Known, KnownIn, Standing, Steps, StepsAs, end_of, enters_turns, is_disk, last_end, no_turn, place, stopped_by, turns_of}
+use Rattle.lq_run.specs.declared.hand.Moved.TheVariants as moved
+use Rattle.lq_run.specs.declared.runner.End.{End}
+use Rattle.lq_run.specs.declared.runner.Step.{Step}
+use Rattle.lq_run.specs.declared.runner.Step.TheVariants as step
+
+not_err : {r : Database} {reason : Reason} → (let z : Result Database Reason = Ok r in z) ≡ Err reason → ⊥
+not_err h = Prim.cc
+
+not_true : false ≡ true → ⊥
+not_true h = Prim.cc
+
+cons_nil : (call : Call) (calls : List Call) → 0 ≡ length (call ∷ calls) → ⊥
+cons_nil call calls h = Prim.cc
+
+nil_of : (calls : List Call) → 0 ≡ length calls → calls ≡ []
+nil_of [] h = refl
+nil_of (call ∷ calls) h = absurd (cons_nil call calls h)
+
+pub some_left : (calls : List Call) → calls ≢ [] → reverse calls ≢ []
+some_left calls left none = left (nil_of calls (sym (ap length none) ∙ length-reverse calls))
+
+pub not_none : (calls : List Call) (b : Bool) → (calls ≡ [] → b ≡ true) → b ≡ false → calls ≢ []
+not_none calls b empty is none = not_true (sym is ∙ empty none)
+
+-- the answer after the last call
+abbrev pub closed_as : End → Result (Unit {0}) StoreFault → End
+closed_as last (Ok u) = last
+closed_as last (Err why) = end_of why
+
+-- what stops a command
+
+no_turns : {Key : Type 0} (why : StoreFault) (refused : Option Reason) (turns : Turns Key) (after : Option StoreFault) → after ≡ Some why → if_goes_on (enters_turns after refused) turns ≡ NoMore
+no_turns why refused turns after is = ap (λ f. if_goes_on (enters_turns f refused) turns) is
+
+stopped_turns : {Key : Type 0} (f : Option StoreFault) (r : Option Reason) (goes_on : Bool) (reason : Reason) (turns : Turns Key)
+    → if_goes_on (enters_turns f (stopped_by (Some reason) goes_on r)) turns ≡ if_goes_on goes_on (if_goes_on (enters_turns f r) turns)
+stopped_turns f r true reason turns = refl
+stopped_turns None r false reason turns = refl
+stopped_turns (Some why) r false reason turns = refl
+
+still_enters : (f : Option StoreFault) (r : Option Reason) (goes_on : Bool) (reason : Reason) → enters_turns f (stopped_by (Some reason) goes_on r) ≡ true → enters_turns f r ≡ true
+still_enters f r true reason h = h
+still_enters None r false reason h = absurd (not_true h)
+still_enters (Some why) r false reason h = absurd (not_true h)
+
+-- what the source knows
+
+module _ (d : Dialect) (knows awaits : List Tracked → Type 0) where
+  pub expects_on : (before after : List Call) (s t : Session) → Continues d before after s t → Expects d knows awaits before (both_of s) → Expects d knows awaits after (both_of t)
+  expects_on before after s t is e = record {
+    finished = λ all. subst (λ (x : Both). awaits x.0.rows) is.contents (e.finished (is.accepted ∙ all));
+    refused = λ none. subst (λ (x : Both). knows x.0.rows) is.contents (e.refused (is.accepted ∙ none));
+  }
+
+  knows_refused : (calls : List Call) (s t : Session) → BreaksOff d calls s t → Expects d knows awaits calls (both_of s) → knows (contents_of t.committed).rows
+  knows_refused calls s t is e = subst (λ (c : Contents). knows c.rows) is.contents (e.refused is.refused)
+
+  expects_in : (calls : List Call) (x : Both) → calls ≢ [] → KnownIn d knows awaits calls x → Expects d knows awaits calls x
+  expects_in [] x left known = absurd (left refl)
+  expects_in (call ∷ calls) x left known = known
+
+  pub known_left : (calls : List Call) (x : Both) → calls ≢ [] → Expects d knows awaits calls x → KnownIn d knows awaits calls x
+  known_left [] x left e = absurd (left refl)
+  known_left (call ∷ calls) x left e = e
+
+pub known_done : (d : Dialect) (knows awaits later next : List Tracked → Type 0) (calls : List Call) (x : Both) → calls ≡ [] → ((rows : List Tracked) → awaits rows → later rows)
+    → Expects d knows awaits (reverse calls) x → KnownIn d later next (reverse calls) x
+known_done d knows awaits later next calls x none finished e =
+    subst (λ cs. KnownIn d later next (reverse cs) x) (sym none) (finished x.0.rows ((subst (λ cs. Expects d knows awaits (reverse cs) x) none e).finished refl))
+
+module _ {Key : Type 0} (d : Dialect) (m : Meaning Key) (stamp : Stamp) (number : ℕ) where
+  -- after a fault the abort and the closing fit
+  last_fit : (s : Session) → s.committed.has_lock_row ≡ true → calls_fit d (rest d m stamp (GivingUp NoMore) (both_of s)) s ≡ true
+  last_fit s is = ap (λ b. (b && true) && true) is
+
+  given_up : (p : Place Key) (x start : State) (s : Session) → IsAt d m stamp number p x start s → s.is_open ≡ true → IsAt d m stamp number (GivingUp NoMore) x start s
+  given_up p x start s is opened = record { dialect = is.dialect; stands = is.stands; ready = opened; fits = last_fit s is.row.0; row = is.row }
+
+  unchanged : (why : StoreFault) (start : State) (s : Session) (x y : State) (room : Room) (call : Call) → is_disk why ≡ false → Faults start number x s room call why y → y ≡ x
+  unchanged fault.Disk start s x y room call other faults = absurd (not_true (sym other))
+  unchanged (fault.Full used next) start s x y room call other faults = faults.1
+  unchanged fault.OutOfMemory start s x y room call other faults = faults
+  unchanged (fault.Refused reason) start s x y room call other faults = absurd faults
+  unchanged fault.NotSql start s x y room call other faults = absurd faults
+  unchanged (fault.Busy n) start s x y room call other faults = absurd faults
+
+  disk_meets : (why : StoreFault) (p : Place Key) (start : State) (s : Session) (x y : State) → is_disk why ≡ true → Meets d m stamp number p start s x Ordinary why y → Meets d m stamp number p start s x Ordinary fault.Disk y
+  disk_meets fault.Disk p start s x y is meets = meets
+  disk_meets (fault.Full used next) p start s x y is meets = absurd (not_true is)
+  disk_meets fault.OutOfMemory p start s x y is meets = absurd (not_true is)
+  disk_meets (fault.Refused reason) p start s x y is meets = absurd (not_true is)
+  disk_meets fault.NotSql p start s x y is meets = absurd (not_true is)
+  disk_meets (fault.Busy n) p start s x y is meets = absurd (not_true is)
+
+  -- what is known of a turn in hand
+  in_hand : (before : Standing Key) (x start : State) (s : Session) → IsThere d m stamp number before x start s → before.hand.phase ≡ phase.Inside → before.hand.calls ≢ [] → enters_turns before.fault before.refused ≡ true
+      → Expects d before.knows before.awaits (calls_left before.hand) (both_of s)
+  in_hand before x start s is inside left enters =
+      expects_in d before.knows before.awaits (calls_left before.hand) (both_of s) (some_left before.hand.calls left)
+      (subst (λ ph. Known d before.knows before.awaits (hand_place ph (calls_left before.hand) before.hand.goes_on (turns_of before)) (both_of s)) inside (is.known enters))
+
+  -- a call is accepted
+  pub steps_on : (before : Standing Key) (new : Hand) (turns : Turns Key) (knows awaits : List Tracked → Type 0) (x y : State)
+      → before.hand.phase ≡ phase.Inside → before.hand.calls ≢ [] → new.phase ≡ phase.Inside → turns ≡ before.turns
+      → ((z : Both) → Expects d before.knows before.awaits (calls_left new) z → KnownIn d knows awaits (calls_left new) z)
+      → Takes d m stamp number before.hand x moved.On new y
+      → Steps d m stamp number before (record { hand = new; turns = turns; knows = knows; awaits = awaits; fault = before.fault; refused = before.refused }) x step.Going y
+  steps_on before new turns knows awaits x y inside left still same keeps takes start s is held =
+      let took = takes (turns_of before) start s is.at in
+      subst (λ t. StepsAs d m stamp number before (record { hand = new; turns = t; knows = knows; awaits = awaits; fault = before.fault; refused = before.refused }) start s x step.Going y) (sym same)
+      (inl (record {
+        goes = took.goes;
+        known = λ enters. subst (λ ph. Known d knows awaits (hand_place ph (calls_left new) new.goes_on (turns_of before)) (both_of took.goes.after)) (sym still)
+            (keeps (both_of took.goes.after) (expects_on d before.knows before.awaits (calls_left before.hand) (calls_left new) s took.goes.after took.continues (in_hand before x start s is inside left enters)));
+        fault = refl;
+        refused = sym (ap (λ o. stopped_by o new.goes_on before.refused) took.none);
+      }))
+
+  -- a call is refused
+  pub steps_refused : (before : Standing Key) (new : Hand) (reason : Reason) (x y : State) → before.hand.phase ≡ phase.Inside → before.hand.calls ≢ [] → new.phase ≡ phase.GivingUp → new.goes_on ≡ before.hand.goes_on
+      → Takes d m stamp number before.hand x (moved.Refused reason) new y
+      → Steps d m stamp number before (record { hand = new; turns = before.turns; knows = before.knows; awaits = before.awaits; fault = before.fault; refused = stopped_by (Some reason) new.goes_on before.refused }) x step.Going y
+  steps_refused before new reason x y inside left gives same takes start s is held =
+      let turns : if_goes_on before.hand.goes_on (turns_of before) ≡ if_goes_on (enters_turns before.fault (stopped_by (Some reason) new.goes_on before.refused)) before.turns
+      = ap (λ g. if_goes_on g (turns_of before)) (sym same) ∙ sym (stopped_turns before.fault before.refused new.goes_on reason before.turns) in
+      let took : Refuses d m stamp number (place before) (place_of new (if_goes_on (enters_turns before.fault (stopped_by (Some reason) new.goes_on before.refused)) before.turns)) (calls_left before.hand) reason start s y
+      = subst (λ t. Refuses d m stamp number (place before) (place_of new t) (calls_left before.hand) reason start s y) turns (takes (turns_of before) start s is.at) in
+      inl (record {
+        goes = took.goes;
+        known = λ enters. subst (λ ph. Known d before.knows before.awaits (hand_place ph (calls_left new) new.goes_on (if_goes_on (enters_turns before.fault (stopped_by (Some reason) new.goes_on before.refused)) before.turns)) (both_of took.goes.after)) (sym gives)
+            (knows_refused d before.knows before.awaits (calls_left before.hand) s took.goes.after took.breaks_off
+            (in_hand before x start s is inside left (still_enters before.fault before.refused new.goes_on reason enters)));
+        fault = refl;
+        refused = sym (ap (λ o. stopped_by o new.goes_on before.refused) took.why);
+      })
+
+  -- a fault in a transaction
+  pub steps_failed : (before after : Standing Key) (new : Hand) (why : StoreFault) (x y : State) (result : Step) → Takes d m stamp number before.hand x (moved.Failed why) new y
+      → FailsTo why after.hand.phase after.fault result → Steps d m stamp number before after x result y
+  steps_failed before after new why x y result takes fails start s is held = by (is_disk why) refl fails where
+    took : Meets d m stamp number (place before) start s x Ordinary why y × (s.is_open ≡ true)
+    took = takes (turns_of before) start s is.at
+
+    by : (b : Bool) → is_disk why ≡ b → FailsAs b why after.hand.phase after.fault result → StepsAs d m stamp number before after start s x result y
+    by true disk ended = subst (λ r. StepsAs d m stamp number before after start s x r y) (sym ended.0) (inr (inr (disk_meets why (place before) start s x y disk took.0, refl)))
+    by false other fails =
+        let gives : place after ≡ GivingUp NoMore = ap (λ a. hand_place a (calls_left after.hand) after.hand.goes_on (turns_of after)) fails.1 ∙ ap GivingUp (no_turns why after.refused after.turns after.fault fails.2) in
+        subst (λ r. StepsAs d m stamp number before after start s x r y) (sym fails.0)
+        (inr (inl (record {
+          why = why;
+          meets = took.0;
+          fault = fails.2;
+          gives_up = gives;
+          at = subst (λ q. IsAt d m stamp number q y start s) (sym gives)
+              (subst (λ z. IsAt d m stamp number (GivingUp NoMore) z start s) (sym (unchanged why start s x y Ordinary took.0.call other took.0.faults)) (given_up (place before) x start s is.at took.1));
+        })))
+
+  -- a transaction that there is no memory for is taken back
+  pub steps_lacked : (before after : Standing Key) (new : Hand) (x between_calls y : State) → Takes d m stamp number before.hand x moved.Lack new between_calls → AbortFor d number between_calls y
+      → after.hand ≡ no_turn → after.fault ≡ Some fault.OutOfMemory → Steps d m stamp number before after x step.Going y
+  steps_lacked before after new x between_calls y takes aborts hand lacks start s is held =
+      let took = takes (turns_of before) start s is.at in
+      let ends : place after ≡ between NoMore = ap (λ (h : Hand). place_of h (turns_of after)) hand ∙ ap (λ t. between t) (no_turns fault.OutOfMemory after.refused after.turns after.fault lacks) in
+      inr (inr (record {
+        opened = took.1;
+        fault = lacks;
+        ends_turns = ends;
+        at = subst (λ q. IsAt d m stamp number q y start (called d Abort s)) (sym ends) (record {
+          dialect = is.at.dialect;
+          stands = aborts start s is.at.dialect (subst (λ z. Stands start number z s) (sym took.0) is.at.stands);
+          ready = refl;
+          fits = ap (λ b. (b && true) && true) is.at.row.0;
+          row = (is.at.row.0, is.at.row.0);
+        });
+      }))
+
+  -- what was begun is taken back
+  pub steps_back : (before : Standing Key) (hand : Hand) (x y : State) → before.hand.phase ≡ phase.GivingUp → hand ≡ no_turn → AbortFor d number x y
+      → Steps d m stamp number before (record { hand = hand; turns = before.turns; knows = before.knows; awaits = before.awaits; fault = before.fault; refused = before.refused }) x step.Going y
+  steps_back before hand x y gives none aborts start s is held =
+      let here : place before ≡ GivingUp (turns_of before) = ap (λ p. hand_place p (calls_left before.hand) before.hand.goes_on (turns_of before)) gives in
+      subst (λ h. StepsAs d m stamp number before (record { hand = h; turns = before.turns; knows = before.knows; awaits = before.awaits; fault = before.fault; refused = before.refused }) start s x step.Going y) (sym none)
+      (inl (record {
+        goes = record {
+          after = called d Abort s;
+          at = record {
+            dialect = is.at.dialect;
+            stands = aborts start s is.at.dialect is.at.stands;
+            ready = refl;
+            fits = subst (λ p. calls_fit d (rest d m stamp p (both_of s)) s ≡ true) here is.at.fits;
+            row = (is.at.row.0, is.at.row.0);
+          };
+          went = record { call = Abort; next = ap (λ p. rest d m stamp p (both_of s)) here; is = refl };
+        };
+        known = λ enters. subst (λ ph. Known d before.knows before.awaits (hand_place ph (calls_left before.hand) before.hand.goes_on (turns_of before)) (both_of s)) gives (is.known enters);
+        fault = refl;
+        refused = refl;
+      }))
+
+  -- the last call
+
+  pub closes : (p : Place Key) (last : End) (x y start : State) (s : Session) (result : Result (Unit {0}) StoreFault) → AloneFor d number (Locks Freed ∷ []) Release x result y → IsAt d m stamp number p x start s
+      → rest d m stamp p (both_of s) ≡ closing ∷ [] → Closes d m stamp number p last start s x (closed_as last result) y
+  closes p last x y start s result alone is left = by result (alone start s is.dialect is.stands fit) where
+    fit : all_fit d (Locks Freed ∷ []) s.seen ≡ true
+    fit = ap (λ b. b && true) is.row.1
+
+    last_row : (called d closing s).committed.has_lock_row ≡ true
+    last_row = by_own (is_own d (Locks Freed)) where
+      by_own : (o : Bool) → (closed (settled_if o (record (settled_if o s) { seen = with_contents (lock_after Freed s.seen) (contents_of s.seen); begun = (settled_if o s).begun ++ Locks Freed ∷ [] }))).committed.has_lock_row ≡ true
+      by_own true = is.row.1
+      by_own false = is.row.1
+
+    faults_of : (why : StoreFault) → DoesAlone start number x s (Locks Freed ∷ []) Release (Err why) y → Faults start number x s Release closing why y
+    faults_of fault.Disk does = does
+    faults_of (fault.Full used next) does = does
+    faults_of fault.OutOfMemory does = does
+    faults_of (fault.Refused reason) does = absurd (not_err does.0)
+    faults_of fault.NotSql does = absurd does
+    faults_of (fault.Busy n) does = absurd does
+
+    by : (result : Result (Unit {0}) StoreFault) → DoesAlone start number x s (Locks Freed ∷ []) Release result y → Closes d m stamp number p last start s x (closed_as last result) y
+    by (Ok u) does = inl (
+      record {
+        after = called d closing s;
+        at = record {
+          dialect = is.dialect;
+          stands = subst (λ e. Stands start number y (called e closing s)) is.dialect does.2;
+          ready = refl;
+          fits = refl;
+          row = (last_row, last_row);
+        };
+        went = record { call = closing; next = left; is = refl };
+      },
+      refl,
+    )
+    by (Err why) does = inr (why, record { call = closing; more = []; next = left; faults = faults_of why does }, refl)
+
+  -- between two turns
+
+  module _ (x : State) (shut : is_open number x.begun ≡ false) (start : State) (s : Session) (stands : Stands start number x s) where
+    shut_by : (o : Option Transaction) → IsBegun start.dialect number s o → is_open number o ≡ false → (s.is_open ≡ false) × (s.seen ≡ s.committed) × (seen_in number o x.committed ≡ x.committed)
+    shut_by None begun h = (begun.0, begun.1, refl)
+    shut_by (Some t) begun h = absurd (differ t.session number begun.1 h)
+
+    pub is_shut : (s.is_open ≡ false) × (s.seen ≡ s.committed) × (seen number x ≡ x.committed)
+    is_shut = shut_by x.begun stands.begun shut
+
+    pub seen_stands : start.dialect ≡ d → StandsFor d (seen number x) s.committed
+    seen_stands is = subst (λ c. StandsFor d c s.committed) (sym is_shut.2) (subst (λ e. StandsFor e x.committed s.committed) is stands.committed)
+
+  lacks : (p : Place Key) (x start : State) (s : Session) → IsAt d m stamp number p x start s → s.is_open ≡ false → IsAt d m stamp number (between NoMore) x start s
+  lacks p x start s is shut = record { dialect = is.dialect; stands = is.stands; ready = shut; fits = ap (λ b. (b && true) && true) is.row.1; row = is.row }
+
+  -- what is to come is the same from another place
+  pub from_same : (before here after : Standing Key) (x y start : State) (s : Session) (result : Step) → rest d m stamp (place before) (both_of s) ≡ rest d m stamp (place here) (both_of s)
+      → here.fault ≡ before.fault → here.refused ≡ before.refused → StepsAs d m stamp number here after start s x result y → StepsAs d m stamp number before after start s x result y
+  from_same before here after x y start s result same same_fault same_refused steps = by result steps where
+    goes_so : (q : Place Key) → Goes d m stamp number (place here) q start s y → Goes d m stamp number (place before) q start s y
+    goes_so q is = record { after = is.after; at = is.at; went = record { call = is.went.call; next = same ∙ is.went.next; is = is.went.is } }
+
+    meets_so : (room : Room) (why : StoreFault) → Meets d m stamp number (place here) start s x room why y → Meets d m stamp number (place before) start s x room why y
+    meets_so room why is = record { call = is.call; more = is.more; next = same ∙ is.next; faults = is.faults }
+
+    closes_so : (last : End) (e : End) → Closes d m stamp number (place here) last start s x e y → Closes d m stamp number (place before) last start s x e y
+    closes_so last e (inl is) = inl (goes_so Over is.0, is.1)
+    closes_so last e (inr is) = inr (is.0, meets_so Release is.0 is.1, is.2)
+
+    ends_so : (f : Option StoreFault) (r : Option Reason) (e : End) → Ends d m stamp number (place here) f r start s x e y → Ends d m stamp number (place before) f r start s x e y
+    ends_so None r e is = closes_so (last_end None r) e is
+    ends_so (Some why) r e (inl is) = inl (is.0, closes_so (end_of why) e is.1)
+    ends_so (Some why) r e (inr is) = inr is
+
+    by : (result : Step) → StepsAs d m stamp number here after start s x result y → StepsAs d m stamp number before after start s x result y
+    by step.Going (inl is) = inl (record {
+      goes = goes_so (place after) is.goes;
+      known = is.known;
+      fault = is.fault ∙ same_fault;
+      refused = is.refused ∙ ap (stopped_by (refusal_of d is.goes.went.call s) after.hand.goes_on) same_refused;
+    })
+    by step.Going (inr (inl is)) = inr (inl (record { why = is.why; meets = meets_so Ordinary is.why is.meets; fault = is.fault; gives_up = is.gives_up; at = is.at }))
+    by step.Going (inr (inr is)) = inr (inr is)
+    by (step.Ended e) (inl is) = inl (subst (λ f. Ends d m stamp number (place before) f before.refused start s x e y) same_fault (subst (λ r. Ends d m stamp number (place before) here.fault r start s x e y) same_refused (ends_so here.fault here.refused e is)))
+    by (step.Ended e) (inr (inl is)) = inr (inl (subst (λ r. Ends d m stamp number (between NoMore) (Some fault.OutOfMemory) r start s x e y) same_refused is))
+    by (step.Ended e) (inr (inr is)) = inr (inr (meets_so Ordinary fault.Disk is.0, is.1))
+
+  module _ (before : Standing Key) (x : State) (inside : before.hand.phase ≡ phase.Inside) (none : before.hand.calls ≡ []) (shut : is_open number x.begun ≡ false) where
+    here : place before ≡ Inside [] before.hand.goes_on (turns_of before)
+    here = ap (λ p. hand_place p (calls_left before.hand) before.hand.goes_on (turns_of before)) inside ∙ ap (λ (calls : List Call). Inside (reverse calls) before.hand.goes_on (turns_of before)) none
+
+    -- both, as what is committed
+    both_is : (start : State) (s : Session) → Stands start number x s → both_of s ≡ (contents_of s.committed, contents_of s.committed)
+    both_is start s stands = ap (λ (z : Database). (contents_of s.committed, contents_of z)) (is_shut x shut start s stands).1
+
+    rest_between : (start : State) (s : Session) → Stands start number x s → rest d m stamp (place before) (both_of s) ≡ rest_at d m stamp (between (turns_of before)) (contents_of s.committed)
+    rest_between start s stands = ap (λ p. rest d m stamp p (both_of s)) here ∙ ap (λ b. rest d m stamp (between (turns_of before)) b) (both_is start s stands)
+
+    entering : enters_turns before.fault before.refused ≡ true → turns_of before ≡ before.turns
+    entering enters = ap (λ b. if_goes_on b before.turns) enters
+
+    rows_known : (start : State) (s : Session) → IsThere d m stamp number before x start s → enters_turns before.fault before.refused ≡ true → before.knows s.committed.rows
+    rows_known start s is enters = subst (λ p. Known d before.knows before.awaits p (both_of s)) here (is.known enters)
+
+    -- a turn is entered
+    pub steps_entered : enters_turns before.fault before.refused ≡ true → (hand : Hand) (turns : Turns Key) (knows awaits : List Tracked → Type 0) (after : Standing Key) (y : State) (result : Step)
+        → Enters d m stamp before.turns before.knows (seen number x) (entered.Turn hand) turns knows awaits
+        → Steps d m stamp number (record { hand = hand; turns = turns; knows = knows; awaits = awaits; fault = before.fault; refused = before.refused }) after x result y
+        → Steps d m stamp number before after x result y
+    steps_entered enters hand turns knows awaits after y result is_entered steps start s is held =
+        let now : Standing Key = record { hand = hand; turns = turns; knows = knows; awaits = awaits; fault = before.fault; refused = before.refused } in
+        let at_seen = is_entered.1 s.committed (seen_stands x shut start s is.at.stands is.at.dialect) (rows_known start s is enters) in
+        let first : rest d m stamp (place before) (both_of s) ≡ rest_at d m stamp (between before.turns) (contents_of s.committed) = rest_between start s is.at.stands ∙ ap (λ t. rest_at d m stamp (between t) (contents_of s.committed)) (entering enters) in
+        let later : rest_at d m stamp (place_of hand turns) (contents_of s.committed) ≡ rest d m stamp (place now) (both_of s)
+        = ap (λ b. rest d m stamp (place_of hand turns) b) (sym (both_is start s is.at.stands)) ∙ ap (λ t. rest d m stamp (place_of hand t) (both_of s)) (sym (ap (λ b. if_goes_on b turns) enters)) in
+        let same = first ∙ at_seen.0 ∙ later in
+        let left = some_left hand.calls is_entered.0.left in
+        from_same before now after x y start s result same refl refl (steps start s (record {
+          at = record {
+            dialect = is.at.dialect;
+            stands = is.at.stands;
+            ready = subst (λ p. IsReady d s.is_open (hand_place p (calls_left hand) hand.goes_on (turns_of now))) (sym is_entered.0.inside) (subst (λ o. AreTurns d o (calls_left hand)) (sym (is_shut x shut start s is.at.stands).0) is_entered.0.turn);
+            fits = subst (λ calls. calls_fit d calls s ≡ true) same is.at.fits;
+            row = is.at.row;
+          };
+          known = λ more. subst (λ p. Known d knows awaits (hand_place p (calls_left hand) hand.goes_on (turns_of now)) (both_of s)) (sym is_entered.0.inside)
+              (subst (λ b. KnownIn d knows awaits (calls_left hand) b) (sym (both_is start s is.at.stands)) (known_left d knows awaits (calls_left hand) _ left at_seen.1));
+        }) (λ there. absurd (is_entered.0.left there.1)))
+
+    ends_as : (f : Option StoreFault) (r : Option Reason) (after : Standing Key) (y start : State) (s : Session) (result : Step) (p : Place Key) → IsAt d m stamp number p x start s → rest d m stamp p (both_of s) ≡ closing ∷ []
+        → ((e : End) → Ends d m stamp number p f r start s x e y → StepsAs d m stamp number before after start s x (step.Ended e) y)
+        → EndsFor d m stamp number f r x result y → StepsAs d m stamp number before after start s x result y
+    ends_as f r after y start s step.Going p at left told ends = absurd ends
+    ends_as f r after y start s (step.Ended e) p at left told ends = told e (ends p start s at left)
+
+    -- there is no other turn
+    pub steps_ended : (after : Standing Key) (y : State) (result : Step) → enters_turns before.fault before.refused ≡ true → (turns : Turns Key) (knows awaits : List Tracked → Type 0)
+        → Enters d m stamp before.turns before.knows (seen number x) entered.NoTurn turns knows awaits
+        → EndsFor d m stamp number before.fault before.refused x result y → Steps d m stamp number before after x result y
+    steps_ended after y result enters turns knows awaits is_entered ends start s is held =
+        ends_as before.fault before.refused after y start s result (place before) is.at
+        (rest_between start s is.at.stands ∙ ap (λ t. rest_at d m stamp (between t) (contents_of s.committed)) (entering enters)
+        ∙ is_entered s.committed (seen_stands x shut start s is.at.stands is.at.dialect) (rows_known start s is enters))
+        (λ e told. inl told) ends
+
+    -- none is entered any more
+    pub steps_stopped : (after : Standing Key) (y : State) (result : Step) → enters_turns before.fault before.refused ≡ false → EndsFor d m stamp number before.fault before.refused x result y → Steps d m stamp number before after x result y
+    steps_stopped after y result stopped ends start s is held =
+        ends_as before.fault before.refused after y start s result (place before) is.at
+        (rest_between start s is.at.stands ∙ ap (λ b. rest_at d m stamp (between (if_goes_on b before.turns)) (contents_of s.committed)) stopped)
+        (λ e told. inl told) ends
+
+    -- there is no memory for the next
+    pub steps_short : (after : Standing Key) (y : State) (result : Step) → EndsFor d m stamp number (Some fault.OutOfMemory) before.refused x result y → Steps d m stamp number before after x result y
+    steps_short after y result ends start s is held =
+        ends_as (Some fault.OutOfMemory) before.refused after y start s result (between NoMore) (lacks (place before) x start s is.at (is_shut x shut start s is.at.stands).0) refl
+        (λ e told. inr (inl told)) ends
+
+-- places that ask for a transaction
+
+pub ready_inside : {Key : Type 0} (d : Dialect) (opened : Bool) (hand : Hand) (turns : Turns Key) → hand.phase ≡ phase.Inside → IsReady d opened (place_of hand turns) → AreTurns d opened (calls_left hand)
+ready_inside d opened hand turns is ready = subst (λ p. IsReady d opened (hand_place p (calls_left hand) hand.goes_on turns)) is ready
+
+pub ready_giving_up : {Key : Type 0} (d : Dialect) (opened : Bool) (hand : Hand) (turns : Turns Key) → hand.phase ≡ phase.GivingUp → IsReady d opened (place_of hand turns) → opened ≡ true
+ready_giving_up d opened hand turns is ready = subst (λ p. IsReady d opened (hand_place p (calls_left hand) hand.goes_on turns)) is ready
+
+pub none_left : (d : Dialect) (opened : Bool) (hand : Hand) → AreTurns d opened (calls_left hand) → hand.calls ≡ [] → opened ≡ false
+none_left d opened hand turns none = subst (λ (calls : List Call). AreTurns d opened (reverse calls)) none turns
+
+pub not_between : (hand : Hand) → hand.phase ≡ phase.GivingUp → IsBetween hand → ⊥
+not_between hand gives there = phases (sym gives ∙ there.0) where
+  phases : phase.GivingUp ≡ phase.Inside → ⊥
+  phases h = Prim.cc

@@ -1,0 +1,17 @@
+use Rattle.std.proofs.Common.{refl, subst, sym}
+use Rattle.lq_run.proofs.Makes.{deed_makes, lack_makes, never_lacks}
+use Rattle.lq_run.specs.Moves.{Makes, WasOpen}
+use Rattle.lq_turns.specs.declared.call.Call.TheVariants.{Execute}
+use Rattle.lq_run.proofs.hand.execute.Goals as goal
+
+pub returns-in-Ok-clause-makes : goal.returns-in-Ok-clause-makes
+returns-in-Ok-clause-makes g c = λ stamp.
+    subst (λ r. Makes c.args.dialect g.T.Source.meaning stamp c.args.session (Execute c.args.deed.now) (g.S.Store.state c.args.store.now) r (g.S.Store.state c.do_deed.new.store)) (sym c.move_of.ensures)
+    (deed_makes _ _ stamp c.args.session _ _ c.args.deed.now _ c.requires.open_here c.do_deed.ensures.does)
+
+pub returns-in-Ok-clause-lack : goal.returns-in-Ok-clause-lack
+returns-in-Ok-clause-lack g c =
+    subst (λ r. WasOpen c.args.session (g.S.Store.state c.args.store.now) r (g.S.Store.state c.do_deed.new.store)) (sym c.move_of.ensures) (never_lacks c.args.session _ _ _)
+
+pub returns-in-Err-clause-makes : goal.returns-in-Err-clause-makes
+returns-in-Err-clause-makes g c = λ stamp. lack_makes c.args.dialect g.T.Source.meaning stamp c.args.session (g.S.Store.state c.args.store.now) (g.S.Store.state c.args.store.now) c.args.deed.now c.requires.open_here refl

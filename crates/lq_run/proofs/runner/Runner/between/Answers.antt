@@ -1,0 +1,17 @@
+use Rattle.std.proofs.Common.{inl, inr, refl}
+use Rattle.lq_run.proofs.Losing.{lost_steps, told_at}
+use Rattle.lq_run.specs.Holds.{IsBare, IsMarked}
+use Rattle.lq_run.specs.Steps.{TellsLock, standing}
+use Rattle.lq_run.proofs.runner.Runner.between.Goals as goal
+
+pub returns-in-Bare-clause-lost : goal.returns-in-Bare-clause-lost
+returns-in-Bare-clause-lost g c = λ there is database stands lost. absurd (lost (inl (told_at (IsBare c.args.self.now.stamp) _ c.args.self.now.dialect _ database c.in-Bare.ensures is stands)))
+
+pub returns-in-Marked-clause-lost : goal.returns-in-Marked-clause-lost
+returns-in-Marked-clause-lost g c = λ there is database stands lost. absurd (lost (inr (told_at (IsMarked c.args.self.now.stamp) _ c.args.self.now.dialect _ database c.in-Marked.ensures is stands)))
+
+pub returns-in-Lost-clause-steps : goal.returns-in-Lost-clause-steps
+returns-in-Lost-clause-steps g c = lost_steps c.args.self.now.dialect g.T.Source.meaning c.args.self.now.stamp c.args.session (g.S.Store.state c.args.store.now) (standing g.T.Source.left g.T.Source.knows g.T.Source.awaits c.args.self.now) _ (g.S.Store.state c.args.store.now) c.locked.result (c.requires.inside, c.requires.none_left) c.in-Lost.ensures
+
+pub returns-in-Lost-clause-lost : goal.returns-in-Lost-clause-lost
+returns-in-Lost-clause-lost g c = λ there is database stands lost. (refl, told_at (λ lock. TellsLock lock c.locked.result) _ c.args.self.now.dialect _ database c.locked.ensures.tells is stands)

@@ -1,0 +1,15 @@
+use Rattle.std.proofs.Common.{subst, sym}
+use Rattle.std.specs.Prelude.{Err, Ok}
+use Rattle.lq_run.proofs.Stepping.{closes}
+use Rattle.lq_run.specs.Steps.{Closes, last_end}
+use Rattle.lq_run.proofs.runner.Runner.close.Goals as goal
+
+pub returns-in-Ok-clause-closes : goal.returns-in-Ok-clause-closes
+returns-in-Ok-clause-closes g c = λ p start s is left.
+    let last = last_end c.args.self.now.fault c.args.self.now.refused in
+    subst (λ e. Closes c.args.self.now.dialect g.T.Source.meaning c.args.self.now.stamp c.args.session p last start s (g.S.Store.state c.args.store.now) e (g.S.Store.state c.do_alone.new.store)) (sym c.last_end.ensures) (closes c.args.self.now.dialect g.T.Source.meaning c.args.self.now.stamp c.args.session p last (g.S.Store.state c.args.store.now) (g.S.Store.state c.do_alone.new.store) start s (Ok c.in-Ok.field-0) c.in-Ok.ensures.does is left)
+
+pub returns-in-Err-clause-closes : goal.returns-in-Err-clause-closes
+returns-in-Err-clause-closes g c = λ p start s is left.
+    let last = last_end c.args.self.now.fault c.args.self.now.refused in
+    subst (λ e. Closes c.args.self.now.dialect g.T.Source.meaning c.args.self.now.stamp c.args.session p last start s (g.S.Store.state c.args.store.now) e (g.S.Store.state c.do_alone.new.store)) (sym c.end_of.ensures) (closes c.args.self.now.dialect g.T.Source.meaning c.args.self.now.stamp c.args.session p last (g.S.Store.state c.args.store.now) (g.S.Store.state c.do_alone.new.store) start s (Err c.in-Err.fault) c.in-Err.ensures.does is left)

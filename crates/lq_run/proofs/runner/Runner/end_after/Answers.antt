@@ -1,0 +1,10 @@
+use Rattle.std.proofs.Common.{ap}
+use Rattle.lq_run.proofs.Losing.{ends_bare, ends_marked}
+use Rattle.lq_run.specs.Steps.{last_end}
+use Rattle.lq_run.proofs.runner.Runner.end_after.Goals as goal
+
+pub returns-then-is_marked-clause-ends : goal.returns-then-is_marked-clause-ends
+returns-then-is_marked-clause-ends g c = ends_marked c.args.self.now.dialect g.T.Source.meaning c.args.self.now.stamp c.args.session (g.S.Store.state c.args.store.now) c.args.fault c.args.self.now.refused c.end_of.result c.args.is_marked c.if-is_marked.true c.requires.lock c.end_of.ensures
+
+pub returns-clause-ends : goal.returns-clause-ends
+returns-clause-ends g c = ends_bare c.args.self.now.dialect g.T.Source.meaning c.args.self.now.stamp c.args.session (g.S.Store.state c.args.store.now) c.args.fault c.args.self.now.refused _ c.args.is_marked (g.S.Store.state c.close.new.store) c.close.result c.if-is_marked.false c.requires.lock (ap (λ f. last_end f c.args.self.now.refused) c.requires.fault) c.close.ensures.closes

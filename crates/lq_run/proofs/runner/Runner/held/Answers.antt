@@ -1,0 +1,12 @@
+use Rattle.std.proofs.Common.{sym, ◌∙◌}
+use Rattle.lq_run.proofs.Stepping.{steps_stopped}
+use Rattle.lq_run.specs.Steps.{standing}
+use Rattle.lq_run.proofs.runner.Runner.held.Goals as goal
+
+pub enter-requires-clause-enters : goal.enter-requires-clause-enters
+enter-requires-clause-enters g c = sym c.may_enter.ensures ∙ c.if-may_enter.true
+
+pub returns-else-may_enter-clause-steps : goal.returns-else-may_enter-clause-steps
+returns-else-may_enter-clause-steps g c =
+    let r = c.args.self.now in
+    steps_stopped r.dialect g.T.Source.meaning r.stamp c.args.session (standing g.T.Source.left g.T.Source.knows g.T.Source.awaits r) (g.S.Store.state c.args.store.now) c.requires.inside c.requires.none_left c.requires.closed (standing g.T.Source.left g.T.Source.knows g.T.Source.awaits c.end.new.self) (g.S.Store.state c.end.new.store) c.end.result (sym c.may_enter.ensures ∙ c.if-may_enter.false) c.end.ensures.ends

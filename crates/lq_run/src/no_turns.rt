@@ -1,0 +1,36 @@
+use lq_base::Dialect;
+use lq_hand::{Entered, Source};
+use lq_model::Look;
+use lq_turns::Stamp;
+use std::alloc::Global;
+
+/// The turns to come of a command that has none but the one in hand.
+#[derive(Clone, Copy, Debug)]
+pub struct NoTurns;
+
+impl Source for NoTurns {
+    ghost use Rattle.lq_run.specs.NoChanges.{no_changes};
+    ghost use Rattle.lq_turns.specs.Rest.{NoMore};
+
+    ghost Key = { Unit {0} };
+
+    ghost meaning = { no_changes };
+
+    ghost left = { λ source. NoMore };
+
+    ghost knows = { λ source rows. Unit {0} };
+
+    ghost awaits = { λ source rows. Unit {0} };
+
+    fn enter<K: Look>(
+        &mut self,
+        _alloc: Global,
+        _dialect: Dialect,
+        _stamp: &Stamp,
+        _look: &K,
+    ) -> Entered {
+        Entered::NoTurn
+    }
+
+    fn finished(&mut self) {}
+}

@@ -1,0 +1,481 @@
+ghost use Rattle.std.specs.Prelude.{◌≡◌, ◌≢◌, ◌<◌, ◌^◌, [], IfSome, IsTrue, Some, false, true};
+ghost use Rattle.lq_hand.specs.Enters.{Enters, Expects};
+ghost use Rattle.lq_hand.specs.Hand.{AreTurns, IsReady, calls_left};
+ghost use Rattle.lq_hand.specs.declared.hand.Phase.TheVariants as phase;
+ghost use Rattle.lq_model.specs.declared.fault.StoreFault.TheVariants as fault;
+ghost use Rattle.lq_run.specs.Does.{AbortFor};
+ghost use Rattle.lq_run.specs.Holds.{Holds, HoldsAs};
+ghost use Rattle.lq_run.specs.Steps.{ClosesFor, EndsFor, FailsTo, GoesOn, KnownIn, Loses, Steps, TellsLock, end_of, enters_turns, is_disk, is_over, last_end, no_turn, place, standing, stopped_by};
+ghost use Rattle.lq_run.specs.declared.runner.Step.TheVariants as step;
+ghost use Rattle.lq_store.specs.State.{is_open, seen};
+ghost use Rattle.lq_track.specs.Database.{lock_of};
+ghost use Rattle.lq_turns.specs.Goes.{Both};
+
+use crate::calls::{abort, do_alone};
+use crate::hand::{Moved, take};
+use crate::holding::{Holding, lock_held};
+use lq_base::{Dialect, Duplicate, Items, Lock, Reason};
+use lq_hand::{Entered, Hand, Phase, Source};
+use lq_model::{Room, SqlText, StoreFault};
+use lq_store::Store;
+use lq_turns::{Deed, OnLock, Stamp};
+use std::alloc::Global;
+
+/// How a command that had the lock ends.
+#[derive(Debug, Drop)]
+pub enum End {
+    Done,
+    /// A statement of a turn was refused.
+    Refused(Reason),
+    /// It no longer holds the lock, which is this.
+    Locked(Lock),
+    Disk,
+    /// The bytes of the journal, and those of the call's entries.
+    Full { used: u64, next: u64 },
+    OutOfMemory,
+}
+
+/// What a step of a command that has begun came to.
+#[derive(Debug, Drop)]
+pub enum Step {
+    /// It made a call, and one is still to be made.
+    Going,
+    Ended(End),
+}
+
+/// A command that took the lock.
+#[derive(Drop)]
+pub struct Runner<T: Source + Drop> {
+    pub alloc: Global,
+    pub dialect: Dialect,
+    pub stamp: Stamp,
+    pub source: T,
+    pub hand: Hand,
+    /// A fault of the store that ends it.
+    pub fault: Option<StoreFault>,
+    /// Why a statement was refused that ends it.
+    pub refused: Option<Reason>,
+}
+
+impl<T: Source + Drop> Runner<T> {
+    /// Makes the next call of the command, or of what comes after a fault. Its session is always the
+    /// same.
+    pub fn step<S: Store, P: SqlText>(&mut self, session: u32, store: &mut S, sql: &P) -> Step
+        requires valid { S.valid store.old }
+        requires live { IsTrue (S.state store.old).live }
+        requires sql { P.dialect ≡ self.old.dialect }
+        requires reading { self.old.stamp.reading < 2 ^ 63 }
+        requires begun { is_over self.old.hand.phase ≡ false }
+        requires ready { IsReady self.old.dialect (is_open session (S.state store.old).begun) (place (standing T.left T.knows T.awaits self.old)) }
+        ensures valid { S.valid store.new }
+        ensures same { (self.new.dialect ≡ self.old.dialect) × (self.new.stamp ≡ self.old.stamp) }
+        ensures steps { Steps self.old.dialect T.meaning self.old.stamp session (standing T.left T.knows T.awaits self.old) (standing T.left T.knows T.awaits self.new) (S.state store.old) result (S.state store.new) }
+        ensures lost { Loses self.old.dialect self.old.stamp self.old.hand (S.state store.old) result (S.state store.new) }
+        ensures going { GoesOn result self.new.hand.phase }
+    {
+        match self.hand.phase {
+            Phase::Inside => self.go_on(session, store, sql),
+            Phase::GivingUp => self.give_up(session, store),
+            Phase::Over => unreachable!(),
+        }
+    }
+
+    #[tactic(auto, using(crate::proofs::Stepping::none_left))]
+    fn go_on<S: Store, P: SqlText>(&mut self, session: u32, store: &mut S, sql: &P) -> Step
+        requires valid { S.valid store.old }
+        requires live { IsTrue (S.state store.old).live }
+        requires sql { P.dialect ≡ self.old.dialect }
+        requires reading { self.old.stamp.reading < 2 ^ 63 }
+        requires inside { self.old.hand.phase ≡ phase.Inside }
+        requires turns { AreTurns self.old.dialect (is_open session (S.state store.old).begun) (calls_left self.old.hand) }
+        ensures valid { S.valid store.new }
+        ensures same { (self.new.dialect ≡ self.old.dialect) × (self.new.stamp ≡ self.old.stamp) }
+        ensures steps { Steps self.old.dialect T.meaning self.old.stamp session (standing T.left T.knows T.awaits self.old) (standing T.left T.knows T.awaits self.new) (S.state store.old) result (S.state store.new) }
+        ensures lost { Loses self.old.dialect self.old.stamp self.old.hand (S.state store.old) result (S.state store.new) }
+        ensures going { GoesOn result self.new.hand.phase }
+    {
+        if self.hand.calls.is_empty() {
+            self.between(session, store, sql)
+        } else {
+            self.inside(session, store, sql)
+        }
+    }
+
+    /// Makes the next call of the turn in hand.
+    fn inside<S: Store, P: SqlText>(&mut self, session: u32, store: &mut S, sql: &P) -> Step
+        requires valid { S.valid store.old }
+        requires live { IsTrue (S.state store.old).live }
+        requires sql { P.dialect ≡ self.old.dialect }
+        requires inside { self.old.hand.phase ≡ phase.Inside }
+        requires left { self.old.hand.calls ≢ [] }
+        requires turns { AreTurns self.old.dialect (is_open session (S.state store.old).begun) (calls_left self.old.hand) }
+        ensures valid { S.valid store.new }
+        ensures same { (self.new.dialect ≡ self.old.dialect) × (self.new.stamp ≡ self.old.stamp) }
+        ensures steps { Steps self.old.dialect T.meaning self.old.stamp session (standing T.left T.knows T.awaits self.old) (standing T.left T.knows T.awaits self.new) (S.state store.old) result (S.state store.new) }
+        ensures lost { Loses self.old.dialect self.old.stamp self.old.hand (S.state store.old) result (S.state store.new) }
+        ensures going { GoesOn result self.new.hand.phase }
+    {
+        match take::<T, S, P>(
+            &mut self.hand,
+            self.alloc,
+            session,
+            store,
+            sql,
+            self.dialect,
+        ) {
+            Moved::On => {
+                taken(&mut self.source, &self.hand);
+                Step::Going
+            }
+            Moved::Refused(reason) => {
+                self.refused = stopped_by(self.hand.goes_on, self.refused, reason);
+                Step::Going
+            }
+            Moved::Failed(fault) => self.fail(fault),
+            Moved::Lack => self.take_back(session, store),
+        }
+    }
+
+    /// After a fault in a transaction nothing is called of its turn, and after one of the disk nothing
+    /// at all.
+    fn fail(&mut self, fault: StoreFault) -> Step
+        ensures same { (self.new.dialect ≡ self.old.dialect) × (self.new.stamp ≡ self.old.stamp) }
+        ensures fails { FailsTo fault self.new.hand.phase self.new.fault result }
+        ensures going { GoesOn result self.new.hand.phase }
+    {
+        if is_disk(fault) {
+            self.hand.phase = Phase::Over;
+            return Step::Ended(End::Disk);
+        }
+        self.fault = Some(fault);
+        self.hand.phase = Phase::GivingUp;
+        Step::Going
+    }
+
+    /// There is no memory for the next call of a transaction, which is taken back.
+    fn take_back<S: Store>(&mut self, session: u32, store: &mut S) -> Step
+        requires valid { S.valid store.old }
+        requires live { IsTrue (S.state store.old).live }
+        requires open_here { is_open session (S.state store.old).begun ≡ true }
+        ensures valid { S.valid store.new }
+        ensures same { (self.new.dialect ≡ self.old.dialect) × (self.new.stamp ≡ self.old.stamp) }
+        ensures result { result ≡ step.Going }
+        ensures fault { self.new.fault ≡ Some fault.OutOfMemory }
+        ensures hand { self.new.hand ≡ no_turn }
+        ensures aborts { AbortFor self.old.dialect session (S.state store.old) (S.state store.new) }
+        ensures going { GoesOn result self.new.hand.phase }
+    {
+        abort(session, store, self.dialect);
+        self.fault = Some(StoreFault::OutOfMemory);
+        self.hand = no_turn(self.alloc);
+        Step::Going
+    }
+
+    /// Takes back the turn of which a statement was refused, or that met a fault.
+    fn give_up<S: Store>(&mut self, session: u32, store: &mut S) -> Step
+        requires valid { S.valid store.old }
+        requires live { IsTrue (S.state store.old).live }
+        requires gives_up { self.old.hand.phase ≡ phase.GivingUp }
+        requires open_here { is_open session (S.state store.old).begun ≡ true }
+        ensures valid { S.valid store.new }
+        ensures same { (self.new.dialect ≡ self.old.dialect) × (self.new.stamp ≡ self.old.stamp) }
+        ensures steps { Steps self.old.dialect T.meaning self.old.stamp session (standing T.left T.knows T.awaits self.old) (standing T.left T.knows T.awaits self.new) (S.state store.old) result (S.state store.new) }
+        ensures lost { Loses self.old.dialect self.old.stamp self.old.hand (S.state store.old) result (S.state store.new) }
+        ensures going { GoesOn result self.new.hand.phase }
+    {
+        abort(session, store, self.dialect);
+        self.hand = no_turn(self.alloc);
+        Step::Going
+    }
+
+    /// Enters the next turn and makes its first call, or the last call of all, where it still holds the
+    /// lock.
+    fn between<S: Store, P: SqlText>(&mut self, session: u32, store: &mut S, sql: &P) -> Step
+        requires valid { S.valid store.old }
+        requires live { IsTrue (S.state store.old).live }
+        requires sql { P.dialect ≡ self.old.dialect }
+        requires reading { self.old.stamp.reading < 2 ^ 63 }
+        requires inside { self.old.hand.phase ≡ phase.Inside }
+        requires none_left { self.old.hand.calls ≡ [] }
+        requires closed { is_open session (S.state store.old).begun ≡ false }
+        ensures valid { S.valid store.new }
+        ensures same { (self.new.dialect ≡ self.old.dialect) × (self.new.stamp ≡ self.old.stamp) }
+        ensures steps { Steps self.old.dialect T.meaning self.old.stamp session (standing T.left T.knows T.awaits self.old) (standing T.left T.knows T.awaits self.new) (S.state store.old) result (S.state store.new) }
+        ensures lost { Loses self.old.dialect self.old.stamp self.old.hand (S.state store.old) result (S.state store.new) }
+        ensures going { GoesOn result self.new.hand.phase }
+    {
+        match stands(&self.stamp, store) {
+            Holding::Bare => self.held(session, store, sql, false),
+            Holding::Marked => self.held(session, store, sql, true),
+            Holding::Lost => {
+                self.hand.phase = Phase::Over;
+                locked(self.alloc, store)
+            }
+        }
+    }
+
+    fn held<S: Store, P: SqlText>(
+        &mut self,
+        session: u32,
+        store: &mut S,
+        sql: &P,
+        is_marked: bool,
+    ) -> Step
+        requires valid { S.valid store.old }
+        requires live { IsTrue (S.state store.old).live }
+        requires sql { P.dialect ≡ self.old.dialect }
+        requires inside { self.old.hand.phase ≡ phase.Inside }
+        requires none_left { self.old.hand.calls ≡ [] }
+        requires closed { is_open session (S.state store.old).begun ≡ false }
+        requires lock { IfSome (lock_of (S.state store.old).dialect (S.state store.old).committed) (λ lock. HoldsAs self.old.stamp lock is_marked) }
+        ensures valid { S.valid store.new }
+        ensures same { (self.new.dialect ≡ self.old.dialect) × (self.new.stamp ≡ self.old.stamp) }
+        ensures steps { Steps self.old.dialect T.meaning self.old.stamp session (standing T.left T.knows T.awaits self.old) (standing T.left T.knows T.awaits self.new) (S.state store.old) result (S.state store.new) }
+        ensures going { GoesOn result self.new.hand.phase }
+    {
+        if may_enter(self.fault, self.refused) {
+            self.enter(session, store, sql, is_marked)
+        } else {
+            self.end(session, store, sql, is_marked)
+        }
+    }
+
+    fn enter<S: Store, P: SqlText>(
+        &mut self,
+        session: u32,
+        store: &mut S,
+        sql: &P,
+        is_marked: bool,
+    ) -> Step
+        requires valid { S.valid store.old }
+        requires live { IsTrue (S.state store.old).live }
+        requires sql { P.dialect ≡ self.old.dialect }
+        requires inside { self.old.hand.phase ≡ phase.Inside }
+        requires none_left { self.old.hand.calls ≡ [] }
+        requires closed { is_open session (S.state store.old).begun ≡ false }
+        requires enters { enters_turns self.old.fault self.old.refused ≡ true }
+        requires lock { IfSome (lock_of (S.state store.old).dialect (S.state store.old).committed) (λ lock. HoldsAs self.old.stamp lock is_marked) }
+        ensures valid { S.valid store.new }
+        ensures same { (self.new.dialect ≡ self.old.dialect) × (self.new.stamp ≡ self.old.stamp) }
+        ensures steps { Steps self.old.dialect T.meaning self.old.stamp session (standing T.left T.knows T.awaits self.old) (standing T.left T.knows T.awaits self.new) (S.state store.old) result (S.state store.new) }
+        ensures going { GoesOn result self.new.hand.phase }
+    {
+        match next(
+            &mut self.source,
+            self.alloc,
+            self.dialect,
+            &self.stamp,
+            session,
+            store,
+        ) {
+            Entered::Turn(hand) => {
+                self.hand = hand;
+                self.inside(session, store, sql)
+            }
+            Entered::NoTurn => self.end(session, store, sql, is_marked),
+            Entered::Lack => {
+                self.fault = Some(StoreFault::OutOfMemory);
+                self.end(session, store, sql, is_marked)
+            }
+        }
+    }
+
+    /// Frees the lock; after a fault one that has a mark stays held.
+    fn end<S: Store, P: SqlText>(
+        &mut self,
+        session: u32,
+        store: &mut S,
+        sql: &P,
+        is_marked: bool,
+    ) -> Step
+        requires valid { S.valid store.old }
+        requires live { IsTrue (S.state store.old).live }
+        requires sql { P.dialect ≡ self.old.dialect }
+        requires closed { is_open session (S.state store.old).begun ≡ false }
+        requires lock { IfSome (lock_of (S.state store.old).dialect (S.state store.old).committed) (λ lock. HoldsAs self.old.stamp lock is_marked) }
+        ensures valid { S.valid store.new }
+        ensures same { (self.new.dialect ≡ self.old.dialect) × (self.new.stamp ≡ self.old.stamp) }
+        ensures ends { EndsFor self.old.dialect T.meaning self.old.stamp session self.old.fault self.old.refused (S.state store.old) result (S.state store.new) }
+        ensures going { GoesOn result self.new.hand.phase }
+    {
+        match self.fault {
+            None => self.close(session, store, sql),
+            Some(fault) => self.end_after(session, store, sql, is_marked, fault),
+        }
+    }
+
+    fn end_after<S: Store, P: SqlText>(
+        &mut self,
+        session: u32,
+        store: &mut S,
+        sql: &P,
+        is_marked: bool,
+        fault: StoreFault,
+    ) -> Step
+        requires valid { S.valid store.old }
+        requires live { IsTrue (S.state store.old).live }
+        requires sql { P.dialect ≡ self.old.dialect }
+        requires closed { is_open session (S.state store.old).begun ≡ false }
+        requires lock { IfSome (lock_of (S.state store.old).dialect (S.state store.old).committed) (λ lock. HoldsAs self.old.stamp lock is_marked) }
+        requires fault { self.old.fault ≡ Some fault }
+        ensures valid { S.valid store.new }
+        ensures same { (self.new.dialect ≡ self.old.dialect) × (self.new.stamp ≡ self.old.stamp) }
+        ensures ends { EndsFor self.old.dialect T.meaning self.old.stamp session (Some fault) self.old.refused (S.state store.old) result (S.state store.new) }
+        ensures going { GoesOn result self.new.hand.phase }
+    {
+        if is_marked {
+            self.hand.phase = Phase::Over;
+            return Step::Ended(end_of(fault));
+        }
+        self.close(session, store, sql)
+    }
+
+    fn close<S: Store, P: SqlText>(&mut self, session: u32, store: &mut S, sql: &P) -> Step
+        requires valid { S.valid store.old }
+        requires live { IsTrue (S.state store.old).live }
+        requires sql { P.dialect ≡ self.old.dialect }
+        requires closed { is_open session (S.state store.old).begun ≡ false }
+        ensures valid { S.valid store.new }
+        ensures same { (self.new.dialect ≡ self.old.dialect) × (self.new.stamp ≡ self.old.stamp) }
+        ensures closes { ClosesFor self.old.dialect T.meaning self.old.stamp session (last_end self.old.fault self.old.refused) (S.state store.old) result (S.state store.new) }
+        ensures going { GoesOn result self.new.hand.phase }
+    {
+        self.hand.phase = Phase::Over;
+        match do_alone(
+            self.alloc,
+            session,
+            store,
+            sql,
+            self.dialect,
+            &[Deed::Locks(OnLock::Freed)],
+            Room::Release,
+        ) {
+            Ok(()) => Step::Ended(last_end(self.fault, self.refused)),
+            Err(fault) => Step::Ended(end_of(fault)),
+        }
+    }
+}
+
+fn next<T: Source, S: Store>(
+    source: &mut T,
+    alloc: Global,
+    dialect: Dialect,
+    stamp: &Stamp,
+    session: u32,
+    store: &S,
+) -> Entered
+    requires valid { S.valid store.now }
+    requires live { IsTrue (S.state store.now).live }
+    ensures enters { Enters dialect T.meaning stamp.now (T.left source.old) (T.knows source.old) (seen session (S.state store.now)) result (T.left source.new) (T.knows source.new) (T.awaits source.new) }
+{
+    match store.look(session) {
+        Ok(view) => source.enter(alloc, dialect, stamp, view),
+        Err(_) => Entered::Lack,
+    }
+}
+
+// A call of the turn in hand was accepted, perhaps its last.
+fn taken<T: Source>(source: &mut T, hand: &Hand)
+    ensures left { T.left source.new ≡ T.left source.old }
+    ensures knows { (d : Dialect) (x : Both) → Expects d (T.knows source.old) (T.awaits source.old) (calls_left hand.now) x → KnownIn d (T.knows source.new) (T.awaits source.new) (calls_left hand.now) x }
+{
+    if !hand.calls.is_empty() {
+        return;
+    }
+    source.finished();
+}
+
+fn no_turn(alloc: Global) -> Hand
+    ensures { result ≡ no_turn }
+{
+    Hand {
+        phase: Phase::Inside,
+        calls: Items::new(alloc),
+        goes_on: true,
+    }
+}
+
+// How the store's lock stands.
+fn stands<S: Store>(stamp: &Stamp, store: &S) -> Holding
+    requires valid { S.valid store.now }
+    requires live { IsTrue (S.state store.now).live }
+    requires reading { stamp.now.reading < 2 ^ 63 }
+    ensures { IfSome (lock_of (S.state store.now).dialect (S.state store.now).committed) (λ lock. Holds stamp.now lock result) }
+{
+    lock_held(stamp, store.lock())
+}
+
+fn locked<S: Store>(alloc: Global, store: &S) -> Step
+    requires valid { S.valid store.now }
+    requires live { IsTrue (S.state store.now).live }
+    ensures tells { IfSome (lock_of (S.state store.now).dialect (S.state store.now).committed) (λ lock. TellsLock lock result) }
+    ensures over { GoesOn result phase.Over }
+{
+    tell(alloc, store.lock())
+}
+
+fn tell(alloc: Global, lock: &Lock) -> Step
+    ensures tells { TellsLock lock.now result }
+    ensures over { GoesOn result phase.Over }
+{
+    match lock.duplicate(alloc) {
+        Ok(lock) => Step::Ended(End::Locked(lock)),
+        Err(_) => Step::Ended(End::OutOfMemory),
+    }
+}
+
+fn may_enter(fault: Option<StoreFault>, refused: Option<Reason>) -> bool
+    ensures { result ≡ enters_turns fault refused }
+{
+    match fault {
+        Some(_) => false,
+        None => match refused {
+            Some(_) => false,
+            None => true,
+        },
+    }
+}
+
+fn stopped_by(goes_on: bool, before: Option<Reason>, reason: Reason) -> Option<Reason>
+    ensures { result ≡ stopped_by (Some reason) goes_on before }
+{
+    if goes_on { before } else { Some(reason) }
+}
+
+fn is_disk(fault: StoreFault) -> bool
+    ensures { result ≡ is_disk fault }
+{
+    match fault {
+        StoreFault::Disk => true,
+        StoreFault::Refused(_) => false,
+        StoreFault::NotSql => false,
+        StoreFault::Busy(_) => false,
+        StoreFault::Full { .. } => false,
+        StoreFault::OutOfMemory => false,
+    }
+}
+
+fn end_of(fault: StoreFault) -> End
+    ensures { result ≡ end_of fault }
+{
+    match fault {
+        StoreFault::Disk => End::Disk,
+        StoreFault::Full { used, next } => End::Full { used, next },
+        StoreFault::Refused(_) => End::OutOfMemory,
+        StoreFault::NotSql => End::OutOfMemory,
+        StoreFault::Busy(_) => End::OutOfMemory,
+        StoreFault::OutOfMemory => End::OutOfMemory,
+    }
+}
+
+fn last_end(fault: Option<StoreFault>, refused: Option<Reason>) -> End
+    ensures { result ≡ last_end fault refused }
+{
+    match fault {
+        Some(fault) => end_of(fault),
+        None => match refused {
+            Some(reason) => End::Refused(reason),
+            None => End::Done,
+        },
+    }
+}
