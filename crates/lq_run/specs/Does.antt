@@ -1,9 +1,6 @@
 -- What each call of a session answers, told by its deeds.
-use Rattle.std.specs.Prelude.{Bool, Err, List, None, Ok, Option, Result, Some, [], false, true, ℕ, ◌&&◌, ◌++◌, ◌∷◌, ◌≡◌, ◌≤◌}
-use Rattle.lq_base.specs.Moment.{IsMoment}
+use Rattle.std.specs.Prelude.{Err, List, Ok, Result, Some, [], true, ℕ, ◌++◌, ◌∷◌, ◌≡◌}
 use Rattle.lq_base.specs.declared.dialect.Dialect.{Dialect}
-use Rattle.lq_base.specs.declared.reason.Reason.{Reason}
-use Rattle.lq_model.specs.Statement.{is_statement}
 use Rattle.lq_model.specs.SqlText.{statement_in}
 use Rattle.lq_model.specs.StatementText.{text_of}
 use Rattle.lq_model.specs.declared.caller.Room.{Room}
@@ -22,9 +19,6 @@ use Rattle.lq_turns.specs.Session.{Session, called}
 use Rattle.lq_turns.specs.declared.call.Call.{Call}
 use Rattle.lq_turns.specs.declared.call.Call.TheVariants.{Abort, Alone, Begin, Commit, Execute}
 use Rattle.lq_turns.specs.declared.deed.Deed.{Deed}
-use Rattle.lq_turns.specs.declared.deed.Deed.TheVariants.{Locks, Rows, Users}
-use Rattle.lq_turns.specs.declared.deed.OnLock.TheVariants.{Taken}
-use Rattle.lq_turns.specs.declared.deed.OnRows.TheVariants.{Inserted, Renewed}
 use Rattle.lq_hand.specs.Writable.{IsWritable}
 use Rattle.lq_run.specs.Stands.{Stands, deed_text, entries_of}
 

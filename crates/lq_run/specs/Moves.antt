@@ -1,5 +1,5 @@
 -- What a runner makes of a call of its turn.
-use Rattle.std.specs.Prelude.{Bool, Err, List, None, Ok, Option, Result, Some, [], false, reverse, true, ℕ, ◌&&◌, ◌∷◌, ◌≡◌}
+use Rattle.std.specs.Prelude.{Bool, Err, List, None, Ok, Option, Result, Some, false, true, ℕ, ◌∷◌, ◌≡◌}
 use Rattle.lq_base.specs.declared.dialect.Dialect.{Dialect}
 use Rattle.lq_base.specs.declared.reason.Reason.{Reason}
 use Rattle.lq_model.specs.declared.caller.Room.{Room}
@@ -10,7 +10,7 @@ use Rattle.lq_store.specs.State.{State, is_open}
 use Rattle.lq_turns.specs.Contents.{contents_of}
 use Rattle.lq_turns.specs.Deed.{contents_after}
 use Rattle.lq_turns.specs.Goes.{are_accepted, went}
-use Rattle.lq_turns.specs.Rest.{GivingUp, Inside, Over, Place, Turns, if_goes_on, rest}
+use Rattle.lq_turns.specs.Rest.{GivingUp, Inside, Place, Turns, if_goes_on, rest}
 use Rattle.lq_turns.specs.Session.{Session, called}
 use Rattle.lq_turns.specs.Set.{Meaning}
 use Rattle.lq_turns.specs.Stepped.{Went, both_of}

@@ -6,7 +6,6 @@ use Rattle.lq_model.specs.declared.caller.ByText.{ByText}
 use Rattle.lq_model.specs.StatementText.{text_of}
 use Rattle.lq_store.specs.Journal.{Entry, size_of_all}
 use Rattle.lq_store.specs.State.{State, Transaction}
-use Rattle.lq_track.specs.Database.{Database}
 use Rattle.lq_turns.specs.Deed.{made_of}
 use Rattle.lq_turns.specs.Held.{StandsFor}
 use Rattle.lq_turns.specs.Session.{Session}
