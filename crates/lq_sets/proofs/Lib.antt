@@ -1,2 +1,5 @@
 mod Indexed
+mod Inverses
+mod RowsBack
+mod Spelled
 mod Ways

@@ -1,5 +1,5 @@
 ghost use Rattle.lq_turns.specs.Set.{IsKept};
-ghost use Rattle.lq_sets.specs.Laws.{PlacesAreKnown};
+ghost use Rattle.lq_sets.specs.Laws.{PlacesAreKnown, StatementsAreSpelled, TurnsBackAreSpelled, ViewsAreRead};
 ghost use Rattle.lq_sets.specs.View.{any_meaning};
 
 /// Changes of any type keep what changes promise, so that the laws of turns hold of the changesets.
@@ -10,4 +10,19 @@ pub fn meaning_is_kept()
 /// The place by which a row is taken back is that of the changeset of its identity.
 pub fn places_are_known()
     ensures { PlacesAreKnown }
+{}
+
+/// What the commands see of a changelog was read for the dialect that the changelog was read for.
+pub fn views_are_read()
+    ensures { ViewsAreRead }
+{}
+
+/// The statements of changes that were read for a dialect are statements of it.
+pub fn statements_are_spelled()
+    ensures { StatementsAreSpelled }
+{}
+
+/// So are those of the turns that take rows back.
+pub fn turns_back_are_spelled()
+    ensures { TurnsBackAreSpelled }
 {}
