@@ -1,5 +1,5 @@
 -- What is generated for changes, the last one first.
-use Rattle.std.proofs.Common.{ap, sym, refl, ◌≡◌, ◌∙◌, ◌++◌, Bool, true, List, [], ◌∷◌, Option, Some, None, option_map, length}
+use Rattle.std.proofs.Common.{ap, sym, refl, ◌≡◌, ◌∙◌, ◌++◌, true, List, [], ◌∷◌, Option, Some, None, option_map, length}
 use Rattle.std.proofs.lemmas.List.{append-nil, append_assoc}
 use Rattle.std.specs.List.{list_all}
 use Rattle.std.specs.Prelude.{option_and_then}

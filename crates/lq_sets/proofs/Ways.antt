@@ -157,9 +157,11 @@ by_found xs row n f unmarked at true so is =
     let same : f.0 ≡ n = Prim.cc in
     let place = place_is 0 f.0 (identity_of row) xs f.1 at in
     let from : f.0 ≡ 0 + place.0 = place.1 in
-    let there : place.0 ≡ n = omega (arith, from, same) in
-    (f.1, ap (slice_get xs) (sym there) ∙ place.2,
-      record { undoable = so; unmarked = unmarked; known = λ o. set_found o 0 (identity_of row) xs ∙ ap (option_map (λ (g : ℕ × ChangeSet). view o g.1)) at })
+    let there : place.0 ≡ n = omega (arith, from, same) in (
+      f.1,
+      ap (slice_get xs) (sym there) ∙ place.2,
+      record { undoable = so; unmarked = unmarked; known = λ o. set_found o 0 (identity_of row) xs ∙ ap (option_map (λ (g : ℕ × ChangeSet). view o g.1)) at },
+    )
 
 by_way : (xs : List ChangeSet) (row : Tracked) (n : ℕ) (b : Bool) → is_mark_ran row.exec ≡ b → (found : Option (ℕ × ChangeSet)) → found_at (identity_of row) xs ≡ found → cond b (Some Alone) (option_and_then by_place found) ≡ Some (By n) → AtPlace xs row n
 by_way xs row n true marked found at is = Prim.cc

@@ -1,4 +1,4 @@
-use Rattle.std.proofs.Common.{rules, sym, ◌≡◌, ◌++◌, ◌∷◌, [], None, Some}
+use Rattle.std.proofs.Common.{rules, ◌≡◌, ◌++◌, ◌∷◌, [], None, Some}
 use Rattle.lq_kinds.specs.AnyChange.{inverse}
 use Rattle.lq_sets.proofs.Inverses.{all_made, begun, front_read, last_read, none_generated, one_more}
 use Rattle.lq_sets.proofs.inverse.inverses.Goals as goal

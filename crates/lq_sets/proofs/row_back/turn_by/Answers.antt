@@ -1,4 +1,4 @@
-use Rattle.std.proofs.Common.{rules, sym, ◌≡◌, None, Some}
+use Rattle.std.proofs.Common.{rules, ◌≡◌, None, Some}
 use Rattle.lq_sets.proofs.RowsBack.{never_absent, turn_by_set}
 use Rattle.lq_sets.proofs.row_back.turn_by.Goals as goal
 
