@@ -1,4 +1,7 @@
 mod Chosen
 mod Indexed
+mod Inverses
+mod RowsBack
 mod Seen
+mod Spelled
 mod Ways

@@ -1,9 +1,9 @@
 -- What takes a row back is told by its changeset, looked for in the changelog.
-use Rattle.std.proofs.Common.{ap, arith, sym, refl, subst, ◌≡◌, ◌∙◌, ◌+◌, ◌++◌, Bool, true, false, cond, is_none, is_some, not, List, [], ◌∷◌, map, Option, Some, None, option_map, length, suc, ℕ}
+use Rattle.std.proofs.Common.{ap, arith, sym, refl, ◌≡◌, ◌∙◌, ◌+◌, ◌++◌, Bool, true, false, cond, is_none, is_some, not, List, [], ◌∷◌, map, Option, Some, None, option_map, length, suc, ℕ}
 use Rattle.std.proofs.lemmas.List.{append_assoc, reverse-append}
 use Rattle.std.specs.List.{list_all, slice_get}
 use Rattle.std.specs.Option.{unwrap_or}
-use Rattle.std.specs.Prelude.{Err, IfSome, option_and_then, reverse, ◌&&◌, ◌||◌}
+use Rattle.std.specs.Prelude.{Err, option_and_then, reverse, ◌&&◌, ◌||◌}
 use Rattle.lq_base.specs.declared.dialect.Dialect.{Dialect}
 use Rattle.lq_base.specs.declared.identity.Identity.{Identity}
 use Rattle.lq_base.specs.declared.tracking.Tracked.{Tracked}
@@ -14,7 +14,7 @@ use Rattle.lq_kinds.specs.declared.any_change.AnyChange.TheVariants.{DropTable}
 use Rattle.lq_kinds.specs.declared.change_set.ChangeSet.{ChangeSet}
 use Rattle.lq_sets.proofs.Indexed.{one}
 use Rattle.lq_sets.specs.Laws.{PlacesAreKnown}
-use Rattle.lq_sets.specs.Reversal.{IsRefusal, IsReversed, found_at, found_from, has_inverse, is_its, is_undoable, taken_back}
+use Rattle.lq_sets.specs.Reversal.{IsRefusal, IsReversed, by_place, found_at, found_from, has_inverse, is_its, is_undoable, taken_back}
 use Rattle.lq_sets.specs.View.{any_meaning, view, views}
 use Rattle.lq_sets.specs.declared.reversal.TakenBack.{TakenBack}
 use Rattle.lq_sets.specs.declared.reversal.TakenBack.TheVariants.{Alone, By}
@@ -41,10 +41,10 @@ have_inverses : (d : Dialect) (xs : List AnyChange) → list_all has_inverse xs 
 have_inverses d [] = refl
 have_inverses d (x ∷ xs) = ap (λ b. b && list_all has_inverse xs) (its_inverse d x) ∙ (ap (λ b. is_some (inverse d x) && b) (have_inverses d xs) ∙ both_there (inverse d x) (inverses d any_meaning xs))
 
-abbrev undone : Dialect → Option (List AnyChange) → List AnyChange → Option (List Statement)
+abbrev pub undone : Dialect → Option (List AnyChange) → List AnyChange → Option (List Statement)
 undone d r xs = elim r [ Some block ↦ Some (statements_of d any_meaning block) | None ↦ inverses d any_meaning xs ]
 
-undone_by : (d : Dialect) (r : Option (List AnyChange)) (xs : List AnyChange) → (is_some r || list_all has_inverse xs) ≡ is_some (undone d r xs)
+pub undone_by : (d : Dialect) (r : Option (List AnyChange)) (xs : List AnyChange) → (is_some r || list_all has_inverse xs) ≡ is_some (undone d r xs)
 undone_by d (Some block) xs = refl
 undone_by d None xs = have_inverses d xs
 
@@ -53,7 +53,7 @@ undoable o x = undone_by o.dialect x.rollback x.changes
 
 -- the changeset of a row
 
-set_found : (o : Options) (n : ℕ) (of : Identity) (xs : List ChangeSet) → set_of (views o xs) of ≡ option_map (λ (f : ℕ × ChangeSet). view o f.1) (found_from n of xs)
+pub set_found : (o : Options) (n : ℕ) (of : Identity) (xs : List ChangeSet) → set_of (views o xs) of ≡ option_map (λ (f : ℕ × ChangeSet). view o f.1) (found_from n of xs)
 set_found o n of [] = refl
 set_found o n of (x ∷ xs) =
     elim (is_its of x) as (λ b. cond b (Some (view o x)) (set_of (views o xs) of) ≡ option_map (λ (f : ℕ × ChangeSet). view o f.1) (cond b (one n x) (found_from (suc n) of xs))) [
@@ -61,7 +61,7 @@ set_found o n of (x ∷ xs) =
       | false ↦ set_found o (suc n) of xs
     ]
 
-abbrev Stands : ℕ → ℕ → List ChangeSet → ChangeSet → Type 0
+abbrev pub Stands : ℕ → ℕ → List ChangeSet → ChangeSet → Type 0
 Stands n m xs x = (k : ℕ) × (m ≡ n + k) × (slice_get xs k ≡ Some x)
 
 stands_by : (n m : ℕ) (of : Identity) (y : ChangeSet) (ys : List ChangeSet) (x : ChangeSet) (b : Bool) → (found_from (suc n) of ys ≡ one m x → Stands (suc n) m ys x) → cond b (one n y) (found_from (suc n) of ys) ≡ one m x → Stands n m (y ∷ ys) x
@@ -74,7 +74,7 @@ stands_by n m of y ys x false more later =
     let at : m ≡ suc n + found.0 = found.1 in
     (suc found.0, omega (arith, at), found.2)
 
-place_is : (n m : ℕ) (of : Identity) (xs : List ChangeSet) (x : ChangeSet) → found_from n of xs ≡ one m x → Stands n m xs x
+pub place_is : (n m : ℕ) (of : Identity) (xs : List ChangeSet) (x : ChangeSet) → found_from n of xs ≡ one m x → Stands n m xs x
 place_is n m of [] x is = Prim.cc
 place_is n m of (y ∷ ys) x is = stands_by n m of y ys x (is_its of y) (λ later. place_is (suc n) m of ys x later) is
 
@@ -96,20 +96,19 @@ module _ (o : Options) (xs : List ChangeSet) (row : Tracked) where
   none_found way n x is unmarked found =
       ap is_none is ∙ (none_if (is_undoable x) n ∙ (ap not (undoable o x) ∙ rw (unmarked, set_found o 0 (identity_of row) xs, ← found) (none_of (undoing o.dialect any_meaning (view o x)) _)))
 
-pub way_found : (xs : List ChangeSet) (row : Tracked) (n : ℕ) (x : ChangeSet) → is_mark_ran row.exec ≡ false → one n x ≡ found_at (identity_of row) xs → taken_back xs row ≡ Some (By n)
-way_found xs row n x unmarked found = rw (unmarked, ← found) refl
+pub way_is : (xs : List ChangeSet) (row : Tracked) (way : Option TakenBack) (n : ℕ) (x : ChangeSet) → way ≡ cond (is_undoable x) (Some (By n)) None → is_mark_ran row.exec ≡ false → one n x ≡ found_at (identity_of row) xs → way ≡ taken_back xs row
+way_is xs row way n x is unmarked found = is ∙ (rw (unmarked, ← found) refl)
 
-pub way_by : (xs : List ChangeSet) (row : Tracked) (way : Option TakenBack) (n : ℕ) (b : Bool) → way ≡ cond b (Some (By n)) None → taken_back xs row ≡ Some (By n) → IfSome way (λ w. taken_back xs row ≡ Some w)
-way_by xs row way n true is goes = subst (λ o. IfSome o (λ w. taken_back xs row ≡ Some w)) (sym is) goes
-way_by xs row way n false is goes = subst (λ o. IfSome o (λ w. taken_back xs row ≡ Some w)) (sym is) tt
+pub way_lost : (xs : List ChangeSet) (row : Tracked) → is_mark_ran row.exec ≡ false → None ≡ found_at (identity_of row) xs → None ≡ taken_back xs row
+way_lost xs row unmarked lost = rw (unmarked, ← lost) refl
 
 -- rows one after another, the last one first
 
-map_behind : {A B : Type 0} (f : A → B) (xs : List A) (x : A) → map f (xs ++ x ∷ []) ≡ map f xs ++ f x ∷ []
+pub map_behind : {A B : Type 0} (f : A → B) (xs : List A) (x : A) → map f (xs ++ x ∷ []) ≡ map f xs ++ f x ∷ []
 map_behind f [] x = refl
 map_behind f (y ∷ xs) x = ap (λ ys. f y ∷ ys) (map_behind f xs x)
 
-last_first : (rest front : List Tracked) (row : Tracked) → rest ≡ front ++ row ∷ [] → reverse rest ≡ row ∷ reverse front
+pub last_first : {A : Type 0} (rest front : List A) (row : A) → rest ≡ front ++ row ∷ [] → reverse rest ≡ row ∷ reverse front
 last_first rest front row is = ap reverse is ∙ reverse-append front (row ∷ [])
 
 abbrev pub some_way : TakenBack → Option TakenBack
@@ -141,18 +140,36 @@ pub none_left : (o : Options) (xs : List ChangeSet) (rest : List Tracked) {all :
 none_left o xs [] none so = sym so
 none_left o xs (row ∷ rest) none so = Prim.cc
 
--- the law on places
+-- the changeset by which a row is taken back
 
-known : (o : Options) (xs : List ChangeSet) (row : Tracked) (n : ℕ) (b : Bool) → is_mark_ran row.exec ≡ b → (found : Option (ℕ × ChangeSet)) → found_at (identity_of row) xs ≡ found → cond b (Some Alone) (option_map (λ (f : ℕ × ChangeSet). By f.0) found) ≡ Some (By n)
-    → (x : ChangeSet) × (slice_get xs n ≡ Some x) × (set_of (views o xs) (identity_of row) ≡ Some (view o x)) × (is_mark_ran row.exec ≡ false)
-known o xs row n true marked found at is = Prim.cc
-known o xs row n false unmarked None at is = Prim.cc
-known o xs row n false unmarked (Some f) at is =
+pub record IsBy (xs : List ChangeSet) (row : Tracked) (x : ChangeSet) : Type 0 where
+  pub undoable : is_undoable x ≡ true
+  pub unmarked : is_mark_ran row.exec ≡ false
+  pub known : (o : Options) → set_of (views o xs) (identity_of row) ≡ Some (view o x)
+
+-- it stands at the place
+abbrev pub AtPlace : List ChangeSet → Tracked → ℕ → Type 0
+AtPlace xs row n = (x : ChangeSet) × (slice_get xs n ≡ Some x) × IsBy xs row x
+
+by_found : (xs : List ChangeSet) (row : Tracked) (n : ℕ) (f : ℕ × ChangeSet) → is_mark_ran row.exec ≡ false → found_at (identity_of row) xs ≡ Some f → (b : Bool) → is_undoable f.1 ≡ b → cond b (Some (By f.0)) None ≡ Some (By n) → AtPlace xs row n
+by_found xs row n f unmarked at false not_so is = Prim.cc
+by_found xs row n f unmarked at true so is =
     let same : f.0 ≡ n = Prim.cc in
     let place = place_is 0 f.0 (identity_of row) xs f.1 at in
     let from : f.0 ≡ 0 + place.0 = place.1 in
-    let there : place.0 ≡ n = omega (arith, from, same) in
-    (f.1, ap (slice_get xs) (sym there) ∙ place.2, set_found o 0 (identity_of row) xs ∙ ap (option_map (λ (g : ℕ × ChangeSet). view o g.1)) at, unmarked)
+    let there : place.0 ≡ n = omega (arith, from, same) in (
+      f.1,
+      ap (slice_get xs) (sym there) ∙ place.2,
+      record { undoable = so; unmarked = unmarked; known = λ o. set_found o 0 (identity_of row) xs ∙ ap (option_map (λ (g : ℕ × ChangeSet). view o g.1)) at },
+    )
+
+by_way : (xs : List ChangeSet) (row : Tracked) (n : ℕ) (b : Bool) → is_mark_ran row.exec ≡ b → (found : Option (ℕ × ChangeSet)) → found_at (identity_of row) xs ≡ found → cond b (Some Alone) (option_and_then by_place found) ≡ Some (By n) → AtPlace xs row n
+by_way xs row n true marked found at is = Prim.cc
+by_way xs row n false unmarked None at is = Prim.cc
+by_way xs row n false unmarked (Some f) at is = by_found xs row n f unmarked at (is_undoable f.1) refl is
+
+pub at_place : (xs : List ChangeSet) (row : Tracked) (n : ℕ) → taken_back xs row ≡ Some (By n) → AtPlace xs row n
+at_place xs row n is = by_way xs row n (is_mark_ran row.exec) refl (found_at (identity_of row) xs) refl is
 
 pub places_are_known : PlacesAreKnown
-places_are_known = λ o xs row n is. known o xs row n (is_mark_ran row.exec) refl (found_at (identity_of row) xs) refl is
+places_are_known = λ o xs row n is. let found = at_place xs row n is in (found.0, found.1, found.2.known o, found.2.unmarked)

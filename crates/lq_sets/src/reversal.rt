@@ -1,10 +1,10 @@
 ghost use Rattle.std.specs.List.{list_all};
-ghost use Rattle.std.specs.Prelude.{◌≡◌, IfOk, IfSome, List, None, Some, if◌then◌else◌, is_none, map, reverse};
+ghost use Rattle.std.specs.Prelude.{◌≡◌, IfOk, List, None, Some, if◌then◌else◌, is_none, reverse};
 ghost use Rattle.lq_expr.specs.declared.options.Options.{Options};
 ghost use Rattle.lq_kinds.specs.declared.change_set.ChangeSet.{ChangeSet as OneSet};
 ghost use Rattle.lq_track.specs.Log.{identity_of};
 ghost use Rattle.lq_turns.specs.Rollback.{is_mark_ran, not_reversible, undo_turn};
-ghost use Rattle.lq_sets.specs.Reversal.{HasSets, IsRefusal, IsReversed, has_inverse, is_undoable, taken_back};
+ghost use Rattle.lq_sets.specs.Reversal.{AreWays, HasSets, IsRefusal, IsReversed, has_inverse, is_undoable, taken_back};
 ghost use Rattle.lq_sets.specs.View.{any_meaning, views};
 ghost use Rattle.lq_sets.specs.declared.reversal.TakenBack.TheVariants.{By};
 
@@ -45,7 +45,7 @@ fn is_marked(row: &Tracked) -> bool
 
 /// How the row is taken back, where something takes it back.
 fn way_of<'a>(index: &SetIndex<'a>, row: &'a Tracked) -> Option<TakenBack>
-    ensures way { (xs : List OneSet) → HasSets xs index.now → IfSome result (λ way. taken_back xs row.now ≡ Some way) }
+    ensures way { (xs : List OneSet) → HasSets xs index.now → result ≡ taken_back xs row.now }
     ensures none { (xs : List OneSet) (options : Options) → HasSets xs index.now → is_none result ≡ is_none (undo_turn options.dialect any_meaning (views options xs) row.now) }
 {
     if is_marked(row) {
@@ -67,7 +67,8 @@ fn by_set(place: Place<'_>) -> Option<TakenBack>
     }
 }
 
-fn identity_of(alloc: Global, row: &Tracked) -> Result<Identity, NoMemory>
+/// What names the changeset of the row.
+pub fn identity_of(alloc: Global, row: &Tracked) -> Result<Identity, NoMemory>
     ensures { IfOk result (λ of. of ≡ identity_of row.now) }
 {
     Ok(Identity {
@@ -94,7 +95,7 @@ pub fn reversible(
     changelog: &Changelog,
     rows: &[Tracked],
 ) -> Result<Items<TakenBack>, ReverseFault>
-    ensures ways { IfOk result (λ ways. map (λ way. Some way) ways ≡ map (taken_back changelog.now.sets) (reverse rows.now)) }
+    ensures ways { IfOk result (λ ways. AreWays changelog.now.sets rows.now ways) }
     ensures reversed { (options : Options) → IsReversed (not_reversible options.dialect any_meaning (views options changelog.now.sets) (reverse rows.now)) result }
 {
     let index = index_of(alloc, changelog.sets.as_slice())?;
