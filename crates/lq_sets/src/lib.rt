@@ -1,6 +1,6 @@
 //! The changesets of a changelog as the commands see them: which are selected, what each tells of
-//! itself, what its row is, what becomes of it by its
-//! precondition, what it runs at its turn, and what takes a row back.
+//! itself, what its row is, what becomes of it by its precondition, what it runs at its turn, and what
+//! takes a row back.
 #![tactic(auto)]
 
 mod change_type;
