@@ -14,7 +14,6 @@ use std::alloc::Global;
 
 /// The calls of a turn, the last first: each statement, after its mark where it has one, and then
 /// its row. They are in one transaction, or each statement is in one of its own.
-#[tactic(none)]
 pub fn turn_calls(
     alloc: Global,
     dialect: Dialect,

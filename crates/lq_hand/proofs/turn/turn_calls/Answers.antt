@@ -1,12 +1,6 @@
-use Rattle.std.proofs.Common.{refl, rules}
+use Rattle.std.proofs.Common.{rules}
 use Rattle.lq_hand.proofs.Laying.{turn_laid}
 use Rattle.lq_hand.proofs.turn.turn_calls.Goals as goal
-
-pub same-calls : goal.same-calls
-same-calls c = refl
-
-pub same-calls-2 : goal.same-calls-2
-same-calls-2 c = refl
 
 pub returns-in_err-push_end : goal.returns-in_err-push_end
 returns-in_err-push_end c = search rules
