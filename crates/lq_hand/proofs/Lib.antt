@@ -1,1 +1,3 @@
 pub mod WellTurned
+pub mod Laying
+pub mod InHand

@@ -1,3 +1,4 @@
 pub mod Writable
 pub mod Hand
 pub mod Enters
+pub mod TurnCalls

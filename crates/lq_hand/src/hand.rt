@@ -1,5 +1,16 @@
-use lq_base::Items;
-use lq_turns::Call;
+ghost use Rattle.std.specs.List.{list_all};
+ghost use Rattle.std.specs.Prelude.{◌≡◌, IfOk, true};
+ghost use Rattle.lq_hand.specs.Enters.{IsTurn};
+ghost use Rattle.lq_hand.specs.Hand.{calls_left};
+ghost use Rattle.lq_hand.specs.Writable.{IsWritable};
+ghost use Rattle.lq_model.specs.Statement.{is_statement};
+ghost use Rattle.lq_turns.specs.Turn.{turn_calls};
+ghost use Rattle.lq_turns.specs.declared.deed.Deed.TheVariants.{Rows};
+
+use crate::turn::turn_calls;
+use lq_base::{Dialect, Items, NoMemory, Text};
+use lq_turns::{Call, Turn};
+use std::alloc::Global;
 
 /// Where a command stands that has begun.
 #[derive(Clone, Copy, Debug)]
@@ -19,4 +30,30 @@ pub struct Hand {
     pub calls: Items<Call>,
     /// Whether the command goes on where one of them is refused.
     pub goes_on: bool,
+}
+
+impl Hand {
+    /// A turn of which no call is made. Its statements are of the dialect, and its row's date is one
+    /// of the calendar.
+    #[tactic(none)]
+    pub fn of_turn(
+        alloc: Global,
+        dialect: Dialect,
+        who: &Text,
+        turn: Turn,
+        goes_on: bool,
+    ) -> Result<Hand, NoMemory>
+        requires statements { list_all (is_statement dialect) turn.statements ≡ true }
+        requires row { IsWritable dialect (Rows turn.row) }
+        ensures turn { IfOk result (λ hand. IsTurn dialect hand) }
+        ensures calls { IfOk result (λ hand. calls_left hand ≡ turn_calls dialect who.now turn) }
+        ensures goes_on { IfOk result (λ hand. hand.goes_on ≡ goes_on) }
+    {
+        let calls = turn_calls(alloc, dialect, who, turn)?;
+        Ok(Hand {
+            phase: Phase::Inside,
+            calls,
+            goes_on,
+        })
+    }
 }

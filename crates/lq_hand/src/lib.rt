@@ -2,7 +2,10 @@
 #![tactic(auto)]
 
 mod hand;
+mod marking;
 mod source;
+mod turn;
 
 pub use hand::{Hand, Phase};
 pub use source::{Entered, Source};
+pub use turn::turn_calls;
