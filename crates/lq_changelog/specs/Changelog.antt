@@ -8,14 +8,14 @@ use Rattle.lq_sources.specs.Answers.{Source}
 use Rattle.lq_sources.specs.Faults.{Loaded, ◌>>=◌}
 use Rattle.lq_sources.specs.Walk.{walked}
 use Rattle.lq_changelog.specs.Gathers.{meaning}
-use Rattle.lq_changelog.specs.declared.gathered.Gathered.{Gathered}
+use Rattle.lq_changelog.specs.Contents.{Contents}
 
 -- before the root is read
-abbrev pub nothing : Gathered
+abbrev pub nothing : Contents
 nothing = record { conds = []; on_fail = Halt; on_error = Halt; sets = [] }
 
 -- all conditions have to hold
-abbrev pub changelog_of : Gathered → Changelog
+abbrev pub changelog_of : Contents → Changelog
 changelog_of g = record { cond = And g.conds; on_fail = g.on_fail; on_error = g.on_error; sets = g.sets }
 
 unfoldable pub changelog : Source → List ℕ → Dialect → List (List ℕ × List ℕ) → Loaded Changelog

@@ -1,12 +1,14 @@
 -- What a changelog gathers of its items.
-use Rattle.std.specs.Prelude.{Bool, Err, List, None, Ok, Option, Result, Some, [], codes, if◌then◌else◌, nat_lt, option_and_then, ℕ, ◌++◌, ◌∷◌}
+use Rattle.std.specs.Prelude.{Bool, Err, List, None, Ok, Option, Result, Some, [], codes, if◌then◌else◌, nat_lt, option_and_then, cond, false, length, ℕ, ◌==◌, ◌++◌, ◌∷◌}
 use Rattle.std.specs.Str.{bytes_eq}
 use Rattle.lq_base.specs.declared.dialect.Dialect.{Dialect}
 use Rattle.lq_base.specs.Kind.{plain_number}
 use Rattle.lq_base.specs.declared.fault.KindFault.TheVariants.{Bad, OutOfMemory, Unknown}
 use Rattle.lq_cond.specs.declared.cond.Reaction.{Reaction}
-use Rattle.lq_kinds.specs.ChangeSets.{set_of}
-use Rattle.lq_kinds.specs.Changes.{here_at}
+use Rattle.lq_kinds.specs.AnyChange.{gives}
+use Rattle.lq_kinds.specs.ChangeSets.{set_of, sum_of}
+use Rattle.lq_kinds.specs.Changes.{here_at, is_read}
+use Rattle.lq_kinds.specs.declared.any_change.AnyChange.{AnyChange}
 use Rattle.lq_kinds.specs.declared.change_set.ChangeSet.{ChangeSet}
 use Rattle.lq_kinds.specs.declared.fault.SetFault.{SetFault}
 use Rattle.lq_kinds.specs.declared.fault.SetFault.TheVariants as set
@@ -19,18 +21,19 @@ use Rattle.lq_sources.specs.Paths.{format_of}
 use Rattle.lq_sources.specs.declared.path.Format.{Format}
 use Rattle.lq_sources.specs.declared.path.Format.TheVariants.{Json, Sql, Yaml}
 use Rattle.lq_tree.specs.Found.{placed, within_list}
+use Rattle.lq_tree.specs.Look.{value_at}
 use Rattle.lq_tree.specs.declared.node.Node.{Node}
 use Rattle.lq_contents.specs.Own.{own_reaction}
 use Rattle.lq_contents.specs.Trees.{file_tree}
-use Rattle.lq_changelog.specs.declared.gathered.Gathered.{Gathered}
+use Rattle.lq_changelog.specs.Contents.{Contents}
 
 -- one changeset more, if it is not to be ignored
-abbrev pub with_set : Option ChangeSet → Gathered → Gathered
+abbrev pub with_set : Option ChangeSet → Contents → Contents
 with_set None g = g
 with_set (Some set) g = record g { sets = g.sets ++ set ∷ [] }
 
 -- the conditions of each file join those before; only the root says how they are reacted to
-abbrev pub with_reaction : Bool → Reaction → Gathered → Gathered
+abbrev pub with_reaction : Bool → Reaction → Contents → Contents
 with_reaction is_root r g =
     if is_root then record { conds = g.conds ++ r.cond ∷ []; on_fail = r.on_fail; on_error = r.on_error; sets = g.sets }
     else record g { conds = g.conds ++ r.cond ∷ [] }
@@ -61,9 +64,48 @@ line_of key = option_and_then (λ n. if nat_lt n 18446744073709551616 then Some 
 abbrev no_line : {A : Type 0} → Result A What
 no_line = Err (Key (Bad (codes "changeSet")))
 
+-- a map of a changeset's keys; none such is missing in what comes from a file
+abbrev pub part_in : Dialect → List ℕ → Option Node → Result (Option ChangeSet) SetFault
+part_in d path None = Err (set.InKeys (Bad []))
+part_in d path (Some n) = set_of d path n
+
+abbrev pub then_set : {A : Type 0} → Result (Option ChangeSet) SetFault → Result A SetFault → Result A SetFault
+then_set (Ok _) next = next
+then_set (Err fault) next = Err fault
+
+-- a change that has no statement
+abbrev pub is_idle : Dialect → List AnyChange → Bool
+is_idle d (x ∷ []) = length (gives d x) == 0
+is_idle d _ = false
+
+-- a body that holds no statement is no change
+abbrev pub without_idle : Dialect → Option ChangeSet → Option ChangeSet
+without_idle d None = None
+without_idle d (Some x) = if is_idle d x.changes then Some (record x { changes = []; sum = sum_of [] }) else Some x
+
+abbrev pub map_set : (Option ChangeSet → Option ChangeSet) → Result (Option ChangeSet) SetFault → Result (Option ChangeSet) SetFault
+map_set f (Ok found) = Ok (f found)
+map_set f (Err fault) = Err fault
+
+abbrev pub is_there : Dialect → Option Node → Bool
+is_there d None = false
+is_there d (Some n) = is_read d n
+
+unfoldable pub away : Dialect → List ℕ → Node → Result (Option ChangeSet) SetFault
+away d path n = part_in d path (value_at (codes "elsewhere") n)
+
+-- a fault of its path is told before those of its body, its checks and its rollback
+unfoldable pub at_home : Dialect → List ℕ → Node → Result (Option ChangeSet) SetFault
+at_home d path n = then_set (away d path n) (map_set (without_idle d) (part_in d path (value_at (codes "here") n)))
+
+-- a changeset as its heading, what it is elsewhere, and what it is here: a fault of the heading is told first
+unfoldable pub parts_set : Dialect → List ℕ → Node → Result (Option ChangeSet) SetFault
+parts_set d path n =
+    then_set (part_in d path (value_at (codes "heading") n)) (cond (is_there d (value_at (codes "elsewhere") n)) (at_home d path n) (away d path n))
+
 abbrev pub under_line : Dialect → List ℕ → Option (List ℕ × Node) → Result (Option ChangeSet) What
 under_line d path None = no_line
-under_line d path (Some e) = elim (line_of e.0) [ None ↦ no_line | Some line ↦ at_line line (set_of d path e.1) ]
+under_line d path (Some e) = elim (line_of e.0) [ None ↦ no_line | Some line ↦ at_line line (parts_set d path e.1) ]
 
 -- a changeset of formatted SQL stands under the number of its line
 unfoldable pub sql_set : Dialect → List ℕ → Node → Result (Option ChangeSet) What
@@ -87,11 +129,11 @@ map_made f (Ok a) = Ok (f a)
 map_made f (Err what) = Err what
 
 -- an item by its key
-abbrev pub gathers : Dialect → Bool → List ℕ → List ℕ → Node → Gathered → Result Gathered What
+abbrev pub gathers : Dialect → Bool → List ℕ → List ℕ → Node → Contents → Result Contents What
 gathers d is_root path key n g =
     if bytes_eq key (codes "changeSet") then map_made (λ found. with_set found g) (set_in d path n)
     else if bytes_eq key (codes "preConditions") then map_made (λ found. with_reaction is_root found g) (reaction_in d n)
     else Err (Key (Unknown key))
 
-abbrev pub meaning : Dialect → Meaning Gathered
+abbrev pub meaning : Dialect → Meaning Contents
 meaning d = record { tree = file_tree; here = here_at d; gathers = gathers d }

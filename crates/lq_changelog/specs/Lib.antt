@@ -1,2 +1,3 @@
 pub mod Changelog
+pub mod Contents
 pub mod Gathers

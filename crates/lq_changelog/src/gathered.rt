@@ -1,26 +1,49 @@
-ghost use Rattle.std.specs.Prelude.{◌≡◌, OnOk};
+ghost use Rattle.std.specs.Prelude.{◌≡◌, OnOk, true};
+ghost use Rattle.lq_base.specs.Options.{if_there};
+ghost use Rattle.lq_kinds.specs.Dialects.{AreFor, is_read_for};
 
 use lq_base::{Items, NoMemory, OnFail};
 use lq_cond::{Cond, Reaction};
 use lq_kinds::{ChangeSet, Changelog};
+use lq_model::SqlText;
 use std::alloc::Global;
+use std::marker::{Model, PhantomData};
 
-/// What has been gathered of a changelog.
-#[derive(Debug, Drop)]
-pub struct Gathered {
+/// What has been gathered of a changelog: changesets that were read for the dialect of `P`.
+#[derive(Drop)]
+pub struct Gathered<P: SqlText> {
     /// The conditions of all files.
-    pub conds: Items<Cond>,
+    conds: Items<Cond>,
     /// What the root says.
-    pub on_fail: OnFail,
-    pub on_error: OnFail,
-    pub sets: Items<ChangeSet>,
+    on_fail: OnFail,
+    on_error: OnFail,
+    sets: Items<ChangeSet>,
+    sql: PhantomData<P>,
 }
 
-impl Gathered {
+impl<P: SqlText> Model for Gathered<P> {
+    ghost use Rattle.std.specs.Coded.{codes};
+    ghost use Rattle.std.specs.List.{list_all};
+    ghost use Rattle.std.specs.Prelude.{◌≡◌, true};
+    ghost use Rattle.lq_cond.specs.contracts.cond.Cond as cond;
+    ghost use Rattle.lq_kinds.specs.Dialects.{is_read_for};
+    ghost use Rattle.lq_kinds.specs.contracts.change_set.ChangeSet as set;
+    ghost use Rattle.lq_changelog.specs.Contents.{Contents};
+
+    ghost Value = { Contents };
+
+    ghost coded = { Prim.hlevel (codes, cond.the_row.coded, set.the_row.coded) };
+
+    ghost view = { λ g. record { conds = g.conds; on_fail = g.on_fail; on_error = g.on_error; sets = g.sets } };
+
+    ghost invariant = { λ g. list_all (is_read_for P.dialect) g.sets ≡ true };
+}
+
+impl<P: SqlText> Gathered<P> {
     ghost use Rattle.lq_changelog.specs.Changelog.{changelog_of, nothing};
     ghost use Rattle.lq_changelog.specs.Gathers.{with_reaction, with_set};
 
-    pub fn new(alloc: Global) -> Gathered
+    pub fn new(alloc: Global) -> Gathered<P>
         ensures { result ≡ nothing }
     {
         Gathered {
@@ -28,11 +51,13 @@ impl Gathered {
             on_fail: OnFail::Halt,
             on_error: OnFail::Halt,
             sets: Items::new(alloc),
+            sql: PhantomData,
         }
     }
 
     /// Adds a changeset, if it is not to be ignored.
     pub fn add_set(&mut self, set: Option<ChangeSet>) -> Result<(), NoMemory>
+        requires { if_there (is_read_for P.dialect) set ≡ true }
         ensures { OnOk result (self.new ≡ with_set set self.old) }
     {
         let Some(set) = set else {
@@ -60,7 +85,8 @@ impl Gathered {
     }
 
     pub fn into_changelog(self) -> Changelog
-        ensures { result ≡ changelog_of self }
+        ensures all { result ≡ changelog_of self }
+        ensures right { AreFor P.dialect result }
     {
         Changelog {
             cond: Cond::And(self.conds),

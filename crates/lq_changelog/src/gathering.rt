@@ -21,7 +21,7 @@ pub struct Reader<'a, P: SqlText> {
 impl<'a, P: SqlText> Gather for Reader<'a, P> {
     ghost use Rattle.lq_changelog.specs.Gathers.{meaning};
 
-    type Gathered = Gathered;
+    type Gathered = Gathered<P>;
 
     ghost means = { λ reader. meaning reader.dialect };
 
@@ -40,7 +40,7 @@ impl<'a, P: SqlText> Gather for Reader<'a, P> {
         path: &str,
         key: &str,
         node: &Node,
-        gathered: &mut Gathered,
+        gathered: &mut Gathered<P>,
     ) -> Result<(), What> {
         match key {
             "changeSet" => {

@@ -1,7 +1,10 @@
-ghost use Rattle.std.specs.Prelude.{◌≡◌};
+ghost use Rattle.std.specs.Prelude.{◌≡◌, IfOk, true};
+ghost use Rattle.lq_base.specs.Options.{if_there};
+ghost use Rattle.lq_kinds.specs.Dialects.{is_read_for};
 ghost use Rattle.lq_sources.specs.Answers.{IsMade};
 ghost use Rattle.lq_changelog.specs.Gathers.{line_of, reaction_in, set_in, sql_set, tree_set, what_at};
 
+use crate::sql_parts::parts_set;
 use lq_base::{Dialect, KindFault, plain_number};
 use lq_cond::Reaction;
 use lq_contents::own_reaction;
@@ -21,7 +24,8 @@ fn tree_set<P: SqlText>(
     sql: &P,
 ) -> Result<Option<ChangeSet>, What>
     requires same { P.dialect ≡ dialect }
-    ensures { IsMade (tree_set dialect path.now node.now) result }
+    ensures made { IsMade (tree_set dialect path.now node.now) result }
+    ensures right { IfOk result (λ set. if_there (is_read_for dialect) set ≡ true) }
 {
     match ChangeSet::read(alloc, node, dialect, path, sql) {
         Ok(set) => Ok(set),
@@ -63,7 +67,8 @@ fn sql_set<P: SqlText>(
     sql: &P,
 ) -> Result<Option<ChangeSet>, What>
     requires same { P.dialect ≡ dialect }
-    ensures { IsMade (sql_set dialect path.now node.now) result }
+    ensures made { IsMade (sql_set dialect path.now node.now) result }
+    ensures right { IfOk result (λ set. if_there (is_read_for dialect) set ≡ true) }
 {
     let Some(entry) = entry_of(node) else {
         return Err(What::Key(bad_key(alloc, "changeSet")));
@@ -71,7 +76,7 @@ fn sql_set<P: SqlText>(
     let Some(line) = line_of(entry.0.as_str()) else {
         return Err(What::Key(bad_key(alloc, "changeSet")));
     };
-    match ChangeSet::read(alloc, &entry.1, dialect, path, sql) {
+    match parts_set(alloc, path, &entry.1, dialect, sql) {
         Ok(set) => Ok(set),
         Err(fault) => Err(what_at(line, fault)),
     }
@@ -87,7 +92,8 @@ pub fn set_in<P: SqlText>(
     sql: &P,
 ) -> Result<Option<ChangeSet>, What>
     requires same { P.dialect ≡ dialect }
-    ensures { IsMade (set_in dialect path.now node.now) result }
+    ensures made { IsMade (set_in dialect path.now node.now) result }
+    ensures right { IfOk result (λ set. if_there (is_read_for dialect) set ≡ true) }
 {
     match format_of(path) {
         Some(Format::Sql) => sql_set(alloc, path, node, dialect, sql),

@@ -5,5 +5,6 @@ mod gathered;
 mod gathering;
 mod item;
 mod loading;
+mod sql_parts;
 
 pub use loading::load;

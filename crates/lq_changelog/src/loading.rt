@@ -1,4 +1,5 @@
-ghost use Rattle.std.specs.Prelude.{◌≡◌, ◌≤◌, IsErrOf};
+ghost use Rattle.std.specs.Prelude.{◌≡◌, ◌≤◌, IfOk, IsErrOf};
+ghost use Rattle.lq_kinds.specs.Dialects.{AreFor};
 ghost use Rattle.lq_outside.specs.Count.{Rose};
 ghost use Rattle.lq_sources.specs.Answers.{Finds};
 ghost use Rattle.lq_sources.specs.declared.fault.LoadFault.TheVariants.{Read};
@@ -16,7 +17,8 @@ use std::alloc::Global;
 /// The changelog of the file `root` and of the files that it includes, for a dialect, with the
 /// properties of the command line (Liquibase's documentation, "Changelog", "include", "Property
 /// Substitution in Changelogs" and "Preconditions"). The first fault is told, depth first: a whole
-/// file's tree before its items, and each item's faults before the next item.
+/// file's tree before its items, and each item's faults before the next item. What is loaded is for
+/// the dialect.
 #[tactic(auto, unfolding(crate::specs::Changelog::changelog))]
 pub fn load<F: Files, P: SqlText>(
     alloc: Global,
@@ -28,12 +30,13 @@ pub fn load<F: Files, P: SqlText>(
 ) -> Result<Changelog, LoadFault>
     requires same { P.dialect ≡ dialect }
     ensures loaded { Finds (F.told files.old) (λ source. changelog source root.now dialect given.now) result }
+    ensures right { IfOk result (λ g. AreFor dialect g) }
     ensures told { F.told files.new ≡ F.told files.old }
     ensures later { F.faults files.old ≤ F.faults files.new }
     ensures failed { IsErrOf result Read → Rose (F.faults files.old) (F.faults files.new) }
 {
     let reader = Reader { dialect, sql };
-    let mut gathered = Gathered::new(alloc);
+    let mut gathered = Gathered::<P>::new(alloc);
     match walk(alloc, &reader, files, root, given, &mut gathered) {
         Ok(()) => Ok(gathered.into_changelog()),
         Err(fault) => Err(fault),

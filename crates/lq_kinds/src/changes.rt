@@ -1,15 +1,16 @@
-ghost use Rattle.std.specs.List.{position};
-ghost use Rattle.std.specs.Prelude.{◌≡◌, IfOk, codes, option_copied};
-ghost use Rattle.lq_tree.specs.Found.{Reads, within};
-ghost use Rattle.lq_tree.specs.Items.{item_path, items_from};
-ghost use Rattle.lq_kinds.specs.AnyChange.{any_change};
+ghost use Rattle.std.specs.List.{list_all, position};
+ghost use Rattle.std.specs.Prelude.{◌≡◌, IfOk, option_copied, true};
+ghost use Rattle.lq_tree.specs.Found.{Reads};
+ghost use Rattle.lq_tree.specs.Items.{item_path};
+ghost use Rattle.lq_kinds.specs.AnyChange.{is_for};
 ghost use Rattle.lq_kinds.specs.Changes.{changes_at, changes_in, here_at, is_read, is_tagging, once_tagged, second_tag, tag_path};
 
 use crate::any_change::AnyChange;
+use crate::readers::Changes;
 use lq_base::{Dialect, Items, KindFault, NoMemory, Text};
 use lq_cond::{dialect_names, is_meant};
 use lq_model::SqlText;
-use lq_tree::{Given, Node, Reader, bad_key, optional_by, placed};
+use lq_tree::{Given, Node, Reader, bad_key, each_item, optional_by};
 use std::alloc::Global;
 
 /// Reads `dbms`: whether it means a dialect (Liquibase's documentation, "dbms").
@@ -81,7 +82,7 @@ fn second_tag(changes: &[AnyChange]) -> Option<usize>
 }
 
 /// The path of an item of the list that stands at a key.
-pub fn item_path(alloc: Global, key: &str, place: usize) -> Result<Text, NoMemory>
+fn item_path(alloc: Global, key: &str, place: usize) -> Result<Text, NoMemory>
     ensures { IfOk result (λ path. path ≡ item_path key.now place) }
 {
     let digits = format!(in alloc; "{place}")?;
@@ -99,48 +100,13 @@ fn tag_path(alloc: Global, place: usize) -> Result<Text, NoMemory>
 }
 
 fn once_tagged(alloc: Global, changes: Items<AnyChange>) -> Result<Items<AnyChange>, KindFault>
-    ensures { Reads (once_tagged changes) result }
+    ensures read { Reads (once_tagged changes) result }
+    ensures kept { IfOk result (λ kept. kept ≡ changes) }
 {
     match second_tag(changes.as_slice()) {
         None => Ok(changes),
         Some(place) => Err(KindFault::Bad(tag_path(alloc, place)?)),
     }
-}
-
-fn change_at<P: SqlText>(
-    alloc: Global,
-    place: usize,
-    node: &Node,
-    dialect: Dialect,
-    sql: &P,
-) -> Result<AnyChange, KindFault>
-    requires same { P.dialect ≡ dialect }
-    ensures { Reads (within (item_path (codes "changes") place) (any_change dialect node.now)) result }
-{
-    match AnyChange::read(alloc, node, dialect, sql) {
-        Ok(change) => Ok(change),
-        Err(fault) => {
-            let path = item_path(alloc, "changes", place)?;
-            Err(placed(alloc, path.as_str(), fault))
-        }
-    }
-}
-
-fn each_change<P: SqlText>(
-    alloc: Global,
-    nodes: &[Node],
-    dialect: Dialect,
-    sql: &P,
-) -> Result<Items<AnyChange>, KindFault>
-    requires same { P.dialect ≡ dialect }
-    ensures { Reads (items_from (codes "changes") 0 (any_change dialect) nodes.now) result }
-{
-    let mut changes = Items::new(alloc);
-    for node in nodes {
-        let change = change_at(alloc, changes.len(), node, dialect, sql)?;
-        changes.push(change)?;
-    }
-    Ok(changes)
 }
 
 fn changes_in<P: SqlText>(
@@ -150,7 +116,8 @@ fn changes_in<P: SqlText>(
     sql: &P,
 ) -> Result<Items<AnyChange>, KindFault>
     requires same { P.dialect ≡ dialect }
-    ensures { Reads (changes_in dialect (option_copied value.entry)) result }
+    ensures read { Reads (changes_in dialect (option_copied value.entry)) result }
+    ensures right { IfOk result (λ changes. list_all (is_for dialect) changes ≡ true) }
 {
     let Some(value) = value else {
         return Ok(Items::new(alloc));
@@ -158,7 +125,7 @@ fn changes_in<P: SqlText>(
     let Some(nodes) = value.as_list() else {
         return Err(bad_key(alloc, "changes"));
     };
-    let changes = each_change(alloc, nodes, dialect, sql)?;
+    let changes = each_item(alloc, "changes", nodes, &Changes { dialect, sql })?;
     once_tagged(alloc, changes)
 }
 
@@ -171,7 +138,8 @@ pub fn changes_at<P: SqlText>(
     sql: &P,
 ) -> Result<Items<AnyChange>, KindFault>
     requires same { P.dialect ≡ dialect }
-    ensures { Reads (changes_at dialect node.now) result }
+    ensures read { Reads (changes_at dialect node.now) result }
+    ensures right { IfOk result (λ changes. list_all (is_for dialect) changes ≡ true) }
 {
     if !is_read(alloc, node, dialect)? {
         return Ok(Items::new(alloc));

@@ -1,6 +1,10 @@
-ghost use Rattle.std.specs.Prelude.{◌≡◌, IfOk, option_copied};
+ghost use Rattle.std.specs.List.{list_all};
+ghost use Rattle.std.specs.Prelude.{◌≡◌, IfOk, option_copied, true};
+ghost use Rattle.lq_base.specs.Options.{if_there};
 ghost use Rattle.lq_tree.specs.Found.{Reads};
+ghost use Rattle.lq_kinds.specs.AnyChange.{is_for};
 ghost use Rattle.lq_kinds.specs.ChangeSets.{ReadsSet, heading, is_quoting, notes, only_known, path_at, path_in, reaction_in, running, selection, set_of, sums_in};
+ghost use Rattle.lq_kinds.specs.Dialects.{is_block_for, is_read_for};
 
 use crate::change_set::ChangeSet;
 use crate::changes::{changes_at, here_at};
@@ -96,7 +100,8 @@ fn heading<P: SqlText>(
     sql: &P,
 ) -> Result<Heading, KindFault>
     requires same { P.dialect ≡ dialect }
-    ensures { Reads (heading dialect node.now) result }
+    ensures read { Reads (heading dialect node.now) result }
+    ensures right { IfOk result (λ found. list_all (is_for dialect) found.changes ≡ true) }
 {
     let id = required_by(alloc, node, "id", &Labels)?;
     let author = required_by(alloc, node, "author", &Labels)?;
@@ -216,7 +221,8 @@ fn notes<P: SqlText>(
     sql: &P,
 ) -> Result<Notes, KindFault>
     requires same { P.dialect ≡ dialect }
-    ensures { Reads (notes dialect node.now) result }
+    ensures read { Reads (notes dialect node.now) result }
+    ensures right { IfOk result (λ found. is_block_for dialect found.rollback ≡ true) }
 {
     optional_by(alloc, node, "objectQuotingStrategy", &Quoting)?;
     let valid_sums = sums_in(alloc, node.value_at("validCheckSum"))?;
@@ -236,7 +242,7 @@ fn notes<P: SqlText>(
 
 impl ChangeSet {
     /// The changeset of a node of the file at a path: `None` where it is to be ignored. The first
-    /// fault is told in the order of the keys (docs/DECISIONS.md).
+    /// fault is told in the order of the keys (docs/DECISIONS.md). What is read is for the dialect.
     #[tactic(auto, unfolding(crate::specs::ChangeSets::set_of))]
     pub fn read<P: SqlText>(
         alloc: Global,
@@ -246,7 +252,8 @@ impl ChangeSet {
         sql: &P,
     ) -> Result<Option<ChangeSet>, SetFault>
         requires same { P.dialect ≡ dialect }
-        ensures { ReadsSet (set_of dialect path.now node.now) result }
+        ensures read { ReadsSet (set_of dialect path.now node.now) result }
+        ensures right { IfOk result (λ set. if_there (is_read_for dialect) set ≡ true) }
     {
         only_known(alloc, node, dialect)?;
         let heading = heading(alloc, node, dialect, sql)?;

@@ -1,14 +1,17 @@
-ghost use Rattle.std.specs.Prelude.{◌≡◌, ◌∷◌, [], IfOk, codes};
-ghost use Rattle.lq_tree.specs.Found.{Reads, within};
-ghost use Rattle.lq_tree.specs.Items.{item_path, items_from};
+ghost use Rattle.std.specs.List.{list_all};
+ghost use Rattle.std.specs.Prelude.{◌≡◌, ◌∷◌, [], IfOk, true};
+ghost use Rattle.lq_tree.specs.Found.{Reads};
 ghost use Rattle.lq_tree.specs.declared.node.Node.{Map as MapNode};
+ghost use Rattle.lq_kinds.specs.AnyChange.{is_for};
+ghost use Rattle.lq_kinds.specs.Dialects.{is_block_for};
 ghost use Rattle.lq_kinds.specs.Changes.{block, rollback_at, sql_change, sql_node, undoing, undoing_text};
 
 use crate::any_change::AnyChange;
-use crate::changes::{is_read, item_path};
+use crate::changes::is_read;
+use crate::readers::Undoings;
 use lq_base::{Dialect, Items, KindFault, NoMemory, Text};
 use lq_model::SqlText;
-use lq_tree::{Node, bad, bad_key, placed};
+use lq_tree::{Node, bad, bad_key, each_item, placed};
 use std::alloc::Global;
 
 fn map_of_one(alloc: Global, key: &str, value: Node) -> Result<Node, NoMemory>
@@ -36,7 +39,8 @@ fn sql_change<P: SqlText>(
     sql: &P,
 ) -> Result<AnyChange, KindFault>
     requires same { P.dialect ≡ dialect }
-    ensures { Reads (sql_change dialect text.now) result }
+    ensures read { Reads (sql_change dialect text.now) result }
+    ensures right { IfOk result (λ change. is_for dialect change ≡ true) }
 {
     let node = sql_node(alloc, text)?;
     match AnyChange::read(alloc, &node, dialect, sql) {
@@ -46,55 +50,21 @@ fn sql_change<P: SqlText>(
     }
 }
 
-fn undoing<P: SqlText>(
+/// An item of a rollback block: a change, or the text of an `sql` change.
+pub fn undoing<P: SqlText>(
     alloc: Global,
     node: &Node,
     dialect: Dialect,
     sql: &P,
 ) -> Result<AnyChange, KindFault>
     requires same { P.dialect ≡ dialect }
-    ensures { Reads (undoing dialect node.now) result }
+    ensures read { Reads (undoing dialect node.now) result }
+    ensures right { IfOk result (λ change. is_for dialect change ≡ true) }
 {
     match node.printed(alloc)? {
         Some(text) => sql_change(alloc, text.as_str(), dialect, sql),
         None => AnyChange::read(alloc, node, dialect, sql),
     }
-}
-
-fn undoing_at<P: SqlText>(
-    alloc: Global,
-    place: usize,
-    node: &Node,
-    dialect: Dialect,
-    sql: &P,
-) -> Result<AnyChange, KindFault>
-    requires same { P.dialect ≡ dialect }
-    ensures { Reads (within (item_path (codes "rollback") place) (undoing dialect node.now)) result }
-{
-    match undoing(alloc, node, dialect, sql) {
-        Ok(change) => Ok(change),
-        Err(fault) => {
-            let path = item_path(alloc, "rollback", place)?;
-            Err(placed(alloc, path.as_str(), fault))
-        }
-    }
-}
-
-fn each_undoing<P: SqlText>(
-    alloc: Global,
-    nodes: &[Node],
-    dialect: Dialect,
-    sql: &P,
-) -> Result<Items<AnyChange>, KindFault>
-    requires same { P.dialect ≡ dialect }
-    ensures { Reads (items_from (codes "rollback") 0 (undoing dialect) nodes.now) result }
-{
-    let mut changes = Items::new(alloc);
-    for node in nodes {
-        let change = undoing_at(alloc, changes.len(), node, dialect, sql)?;
-        changes.push(change)?;
-    }
-    Ok(changes)
 }
 
 fn undoing_text<P: SqlText>(
@@ -104,7 +74,8 @@ fn undoing_text<P: SqlText>(
     sql: &P,
 ) -> Result<Items<AnyChange>, KindFault>
     requires same { P.dialect ≡ dialect }
-    ensures { Reads (undoing_text dialect text.now) result }
+    ensures read { Reads (undoing_text dialect text.now) result }
+    ensures right { IfOk result (λ changes. list_all (is_for dialect) changes ≡ true) }
 {
     let mut changes = Items::new(alloc);
     if text.is_empty() {
@@ -127,7 +98,8 @@ fn block<P: SqlText>(
     sql: &P,
 ) -> Result<Items<AnyChange>, KindFault>
     requires same { P.dialect ≡ dialect }
-    ensures { Reads (block dialect node.now) result }
+    ensures read { Reads (block dialect node.now) result }
+    ensures right { IfOk result (λ changes. list_all (is_for dialect) changes ≡ true) }
 {
     if node.is_null() {
         return Ok(Items::new(alloc));
@@ -136,7 +108,7 @@ fn block<P: SqlText>(
         return undoing_text(alloc, text.as_str(), dialect, sql);
     }
     match node.as_list() {
-        Some(nodes) => each_undoing(alloc, nodes, dialect, sql),
+        Some(nodes) => each_item(alloc, "rollback", nodes, &Undoings { dialect, sql }),
         None => Err(bad_key(alloc, "rollback")),
     }
 }
@@ -150,7 +122,8 @@ pub fn rollback_at<P: SqlText>(
     sql: &P,
 ) -> Result<Option<Items<AnyChange>>, KindFault>
     requires same { P.dialect ≡ dialect }
-    ensures { Reads (rollback_at dialect node.now) result }
+    ensures read { Reads (rollback_at dialect node.now) result }
+    ensures right { IfOk result (λ found. is_block_for dialect found ≡ true) }
 {
     if !is_read(alloc, node, dialect)? {
         return Ok(None);

@@ -12,7 +12,7 @@ use Rattle.lq_sqlfile.specs.Machine.{read_from, take_line, with_line}
 use Rattle.lq_sqlfile.specs.Pairs.{attributes, new_pair, pair, value}
 use Rattle.lq_sqlfile.specs.Words.{after, attribute_words, directive_of, is_word}
 use Rattle.lq_sqltree.specs.Examples.{SqlTreeExamples, checked, checked_tree, whole_body, whole_tree}
-use Rattle.lq_sqltree.specs.SqlTree.{change_set, item, sql_tree, tree_of}
+use Rattle.lq_sqltree.specs.SqlTree.{change_set, elsewhere, heading as keys_of_heading, here, item, sql_tree, tree_of}
 
 abbrev are_ascii : List ℕ → Bool
 are_ascii [] = true
@@ -34,7 +34,7 @@ utf8 : (text : List ℕ) → are_ascii text ≡ true → is_utf8 text ≡ true
 utf8 text is = is_utf8-from_IsUtf8 text (IsUtf8-from_ascii text (ascii text is))
 
 whole : sql_tree whole_body ≡ Ok whole_tree
-unfolding after cut_at from is_word until attribute_words behind_this check conditions directive_of header heading marked part_of attributes new_pair pair value read_from take_line with_line change_set item sql_tree tree_of
+unfolding after cut_at from is_word until attribute_words behind_this check conditions directive_of header heading marked part_of attributes new_pair pair value read_from take_line with_line change_set elsewhere here item keys_of_heading sql_tree tree_of
 whole =
     let a = utf8 (codes "--liquibase formatted sql logicalFilePath:a.sql") refl in
     let b = utf8 (codes "--changeset bob:1 dbms:mysql splitStatements:false") refl in
@@ -44,7 +44,7 @@ whole =
     rw (a, b, c, d, e, decimal_digit 2 (lit< tt)) refl
 
 conditioned : sql_tree checked ≡ Ok checked_tree
-unfolding after cut_at from is_word until attribute_words behind_this check conditions directive_of header heading marked part_of attributes new_pair pair value read_from take_line with_line change_set item sql_tree tree_of
+unfolding after cut_at from is_word until attribute_words behind_this check conditions directive_of header heading marked part_of attributes new_pair pair value read_from take_line with_line change_set elsewhere here item keys_of_heading sql_tree tree_of
 conditioned =
     let a = utf8 (codes "--liquibase formatted sql") refl in
     let b = utf8 [] refl in

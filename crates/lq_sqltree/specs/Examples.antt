@@ -16,23 +16,36 @@ whole_body =
     (line (codes "--rollback C")
     []))))
 
-abbrev pub whole_tree : Node
-whole_tree = under (codes "databaseChangeLog") (ListNode (under (codes "changeSet") (under (codes "2") (MapNode (
-    (codes "id", TextNode (codes "1"))
+-- a changeset's keys: its ID, its comment, its preconditions, its changes, and what follows them
+abbrev pub bobs : List ℕ → List ℕ → List Node → List Node → List (List ℕ × Node) → Node
+bobs id comment asked made more = MapNode (
+    (codes "id", TextNode id)
     ∷ (codes "author", TextNode (codes "bob"))
-    ∷ (codes "comment", TextNode [])
-    ∷ (codes "preConditions", ListNode [])
-    ∷ (
-      codes "changes",
-      ListNode (under (codes "sql") (MapNode (
-          (codes "sql", TextNode (codes "A;" ++ 10 ∷ codes "B;"))
-          ∷ (codes "splitStatements", TextNode (codes "false"))
-          ∷ [])) ∷ []),
-    )
-    ∷ (codes "dbms", TextNode (codes "mysql"))
+    ∷ (codes "comment", TextNode comment)
+    ∷ (codes "preConditions", ListNode asked)
+    ∷ (codes "changes", ListNode made)
+    ∷ more)
+
+-- the one changeset of a file, at a line: as its heading says, as it is elsewhere, and as it is here
+abbrev pub one_set : List ℕ → Node → Node → Node → Node
+one_set at heading elsewhere here = under (codes "databaseChangeLog") (ListNode (under (codes "changeSet") (under at (MapNode (
+    (codes "heading", heading)
+    ∷ (codes "elsewhere", elsewhere)
+    ∷ (codes "here", here)
+    ∷ []))) ∷ []))
+
+abbrev pub unsplit : List ℕ → Node
+unsplit body = under (codes "sql") (MapNode ((codes "sql", TextNode body) ∷ (codes "splitStatements", TextNode (codes "false")) ∷ []))
+
+abbrev pub whole_tree : Node
+whole_tree = one_set (codes "2")
+    (bobs (codes "1") [] [] (unsplit [] ∷ []) [])
+    (bobs (codes "1") [] [] [] ((codes "dbms", TextNode (codes "mysql")) ∷ (codes "logicalFilePath", TextNode (codes "a.sql")) ∷ []))
+    (bobs (codes "1") [] [] (unsplit (codes "A;" ++ 10 ∷ codes "B;") ∷ []) (
+    (codes "dbms", TextNode (codes "mysql"))
     ∷ (codes "logicalFilePath", TextNode (codes "a.sql"))
     ∷ (codes "rollback", ListNode (TextNode (codes "C") ∷ []))
-    ∷ []))) ∷ []))
+    ∷ []))
 
 -- preconditions, no body, and the empty rollback
 abbrev pub checked : List ℕ
@@ -46,22 +59,17 @@ checked =
     (line (codes "--rollback not required")
     []))))))
 
+abbrev pub reacting : List Node
+reacting = under (codes "onFail") (TextNode (codes "HALT")) ∷ under (codes "onError") (TextNode (codes "WARN")) ∷ []
+
+abbrev pub asking : Node
+asking = under (codes "sqlCheck") (MapNode ((codes "expectedResult", TextNode (codes "0")) ∷ (codes "sql", TextNode (codes "Q")) ∷ []))
+
 abbrev pub checked_tree : Node
-checked_tree = under (codes "databaseChangeLog") (ListNode (under (codes "changeSet") (under (codes "3") (MapNode (
-    (codes "id", TextNode (codes "2"))
-    ∷ (codes "author", TextNode (codes "bob"))
-    ∷ (codes "comment", TextNode (codes "hi"))
-    ∷ (
-      codes "preConditions",
-      ListNode (
-          under (codes "onFail") (TextNode (codes "HALT"))
-          ∷ under (codes "onError") (TextNode (codes "WARN"))
-          ∷ under (codes "sqlCheck") (MapNode ((codes "expectedResult", TextNode (codes "0")) ∷ (codes "sql", TextNode (codes "Q")) ∷ []))
-          ∷ []),
-    )
-    ∷ (codes "changes", ListNode [])
-    ∷ (codes "rollback", ListNode [])
-    ∷ []))) ∷ []))
+checked_tree = one_set (codes "3")
+    (bobs (codes "2") (codes "hi") reacting (under (codes "sql") (under (codes "sql") (TextNode [])) ∷ []) [])
+    (bobs (codes "2") (codes "hi") reacting [] [])
+    (bobs (codes "2") (codes "hi") (reacting ++ asking ∷ []) [] ((codes "rollback", ListNode []) ∷ []))
 
 pub record SqlTreeExamples : Type 0 where
   pub whole : sql_tree whole_body ≡ Ok whole_tree

@@ -1,4 +1,4 @@
--- The tree that a file of formatted SQL stands for: its changesets, with the keys that they have in JSON and YAML.
+-- The tree that a file of formatted SQL stands for: its changesets, each as three maps with the keys that changesets have in JSON and YAML.
 use Rattle.std.specs.Fmt.{decimal}
 use Rattle.std.specs.List.{filter, list_any}
 use Rattle.std.specs.Prelude.{Bool, Err, List, None, Ok, Option, Result, Some, [], codes, if◌then◌else◌, map, not, ℕ, ◌++◌, ◌||◌, ◌∷◌}
@@ -10,6 +10,8 @@ use Rattle.lq_sqlfile.specs.declared.fault.SqlFault.TheVariants as sql
 use Rattle.lq_sqlfile.specs.declared.file.SqlFile.{SqlFile}
 use Rattle.lq_sqlfile.specs.declared.file.SqlSet.{SqlSet}
 use Rattle.lq_tree.specs.declared.node.Node.{List as ListNode, Map as MapNode, Node, Text as TextNode}
+use Rattle.lq_sqltree.specs.declared.attributes.Keys.{Keys}
+use Rattle.lq_sqltree.specs.declared.attributes.Keys.TheVariants.{OfHeading, OfSet, OfSql}
 use Rattle.lq_sqltree.specs.declared.fault.SqlTreeFault.{SqlTreeFault}
 use Rattle.lq_sqltree.specs.declared.fault.SqlTreeFault.TheVariants.{Line, NoHeader, OutOfMemory}
 
@@ -29,12 +31,18 @@ text_keys pairs = map (λ p. (p.0, TextNode p.1)) pairs
 abbrev pub is_of_sql : List ℕ → Bool
 is_of_sql name = bytes_eq name (codes "splitStatements") || (bytes_eq name (codes "endDelimiter") || bytes_eq name (codes "stripComments"))
 
-abbrev pub sql_keys : List (List ℕ × List ℕ) → List (List ℕ × Node)
-sql_keys attributes = text_keys (filter (λ p. is_of_sql p.0) attributes)
+-- the attributes that say something else for each database or path
+abbrev pub is_of_place : List ℕ → Bool
+is_of_place name = bytes_eq name (codes "dbms") || bytes_eq name (codes "logicalFilePath")
 
--- all others are the changeset's own
-abbrev pub set_keys : List (List ℕ × List ℕ) → List (List ℕ × Node)
-set_keys attributes = text_keys (filter (λ p. not (is_of_sql p.0)) attributes)
+-- whether an attribute is a key of that map
+abbrev pub is_key : Keys → List ℕ → Bool
+is_key OfSql name = is_of_sql name
+is_key OfSet name = not (is_of_sql name)
+is_key OfHeading name = not (is_of_sql name || is_of_place name)
+
+abbrev pub keys_of : Keys → List (List ℕ × List ℕ) → List (List ℕ × Node)
+keys_of which attributes = text_keys (filter (λ p. is_key which p.0) attributes)
 
 abbrev pub names_path : List (List ℕ × List ℕ) → Bool
 names_path attributes = list_any (λ p. bytes_eq p.0 (codes "logicalFilePath")) attributes
@@ -54,15 +62,22 @@ reaction key (Some text) = under key (TextNode text) ∷ []
 abbrev pub check : List ℕ × List ℕ → Node
 check p = under (codes "sqlCheck") (MapNode ((codes "expectedResult", TextNode p.0) ∷ (codes "sql", TextNode p.1) ∷ []))
 
+abbrev pub reactions : SqlSet → List Node
+reactions s = reaction (codes "onFail") s.on_fail ++ reaction (codes "onError") s.on_error
+
 abbrev pub conditions : SqlSet → List Node
-conditions s = reaction (codes "onFail") s.on_fail ++ reaction (codes "onError") s.on_error ++ map check s.checks
+conditions s = reactions s ++ map check s.checks
 
 -- ---- changes and rollback
 
--- the body is one `sql` change, and an empty one is none
+-- the `sql` change of a body that is taken apart so
+abbrev pub sql_change : List ℕ → List (List ℕ × Node) → Node
+sql_change body of_sql = under (codes "sql") (MapNode ((codes "sql", TextNode body) ∷ of_sql))
+
+-- an empty body is no change
 abbrev pub changes : List ℕ → List (List ℕ × Node) → List Node
 changes [] of_sql = []
-changes (b ∷ body) of_sql = under (codes "sql") (MapNode ((codes "sql", TextNode (b ∷ body)) ∷ of_sql)) ∷ []
+changes (b ∷ body) of_sql = sql_change (b ∷ body) of_sql ∷ []
 
 -- the empty block
 abbrev pub is_empty_block : List ℕ → Bool
@@ -78,19 +93,39 @@ rollback_key (Some text) = (codes "rollback", ListNode (undoing text)) ∷ []
 
 -- ---- changesets
 
--- what stands beside the attributes
-abbrev pub own_keys : SqlSet → List (List ℕ × Node)
-own_keys s =
+-- what stands beside the attributes, with these preconditions and changes
+abbrev pub own_keys : SqlSet → List Node → List Node → List (List ℕ × Node)
+own_keys s asked made =
     (codes "id", TextNode s.id)
     ∷ (codes "author", TextNode s.author)
     ∷ (codes "comment", TextNode s.comment)
-    ∷ (codes "preConditions", ListNode (conditions s))
-    ∷ (codes "changes", ListNode (changes s.body (sql_keys s.attributes)))
+    ∷ (codes "preConditions", ListNode asked)
+    ∷ (codes "changes", ListNode made)
     ∷ []
 
--- a changeset of a file with that logical path
+-- the keys of its heading with a text for the file's path
+abbrev pub placed_keys : Option (List ℕ) → SqlSet → List (List ℕ × Node)
+placed_keys logical s = keys_of OfSet s.attributes ++ path_key logical s.attributes
+
+-- what its heading says for every database and path: the body is empty, but for how it is taken apart
+unfoldable pub heading : SqlSet → Node
+heading s = MapNode (own_keys s (reactions s) (sql_change [] (keys_of OfSql s.attributes) ∷ []) ++ keys_of OfHeading s.attributes)
+
+-- what it is where it is not here: neither its checks nor its body nor its rollback is looked at
+unfoldable pub elsewhere : Option (List ℕ) → SqlSet → Node
+elsewhere logical s = MapNode (own_keys s (reactions s) [] ++ placed_keys logical s)
+
+-- what it is where it is here
+unfoldable pub here : Option (List ℕ) → SqlSet → Node
+here logical s = MapNode (own_keys s (conditions s) (changes s.body (keys_of OfSql s.attributes)) ++ placed_keys logical s ++ rollback_key s.rollback)
+
+-- a changeset of a file with that logical path: as its heading says, as it is elsewhere, and as it is here
 unfoldable pub change_set : Option (List ℕ) → SqlSet → Node
-change_set logical s = MapNode (own_keys s ++ set_keys s.attributes ++ path_key logical s.attributes ++ rollback_key s.rollback)
+change_set logical s = MapNode (
+    (codes "heading", heading s)
+    ∷ (codes "elsewhere", elsewhere logical s)
+    ∷ (codes "here", here logical s)
+    ∷ [])
 
 -- and as an item of the changelog, under the line at which it begins
 unfoldable pub item : Option (List ℕ) → SqlSet → Node

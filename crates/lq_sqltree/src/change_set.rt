@@ -1,41 +1,13 @@
-ghost use Rattle.std.specs.Prelude.{◌≡◌, ◌++◌, IfOk, OnOk};
-ghost use Rattle.lq_sqltree.specs.SqlTree.{change_set, changes, check, conditions, is_of_sql, item, names_path, own_keys, path_key, reaction, rollback_key, set_keys, sql_keys, undoing};
+ghost use Rattle.std.specs.Prelude.{◌≡◌, [], ◌∷◌, ◌++◌, IfOk, OnOk};
+ghost use Rattle.lq_sqltree.specs.SqlTree.{change_set, changes, check, conditions, elsewhere, heading, here, item, keys_of, own_keys, placed_keys, reaction, reactions, rollback_key, sql_change, undoing};
+ghost use Rattle.lq_sqltree.specs.declared.attributes.Keys.TheVariants.{OfSql};
 
-use crate::entries::{push_entry, push_text, text_entry, under};
+use crate::attributes::{Keys, keys_of, push_path};
+use crate::entries::{push_entry, push_text, under};
 use lq_base::{Items, NoMemory, Text};
 use lq_sqlfile::SqlSet;
 use lq_tree::Node;
 use std::alloc::Global;
-
-/// A heading's attributes as the keys of the changeset and of its `sql` change.
-#[derive(Drop)]
-struct Attributes {
-    of_set: Items<(Text, Node)>,
-    of_sql: Items<(Text, Node)>,
-}
-
-/// Whether an attribute says how the body is taken apart.
-fn is_of_sql(name: &str) -> bool
-    ensures { result ≡ is_of_sql name.now }
-{
-    name == "splitStatements" || name == "endDelimiter" || name == "stripComments"
-}
-
-fn parted(alloc: Global, pairs: &[(Text, Text)]) -> Result<Attributes, NoMemory>
-    ensures { IfOk result (λ found. found ≡ record { of_set = set_keys pairs.now; of_sql = sql_keys pairs.now }) }
-{
-    let mut of_set = Items::new(alloc);
-    let mut of_sql = Items::new(alloc);
-    for pair in pairs {
-        let entry = text_entry(alloc, pair.0.as_str(), pair.1.as_str())?;
-        if is_of_sql(pair.0.as_str()) {
-            of_sql.push(entry)?;
-        } else {
-            of_set.push(entry)?;
-        }
-    }
-    Ok(Attributes { of_set, of_sql })
-}
 
 /// Appends what follows a precondition that fails or cannot be tested, if it is stated.
 fn push_reaction(
@@ -62,30 +34,54 @@ fn check(alloc: Global, expected: &str, query: &str) -> Result<Node, NoMemory>
     Ok(node)
 }
 
-fn conditions(alloc: Global, set: &SqlSet) -> Result<Items<Node>, NoMemory>
-    ensures { IfOk result (λ nodes. nodes ≡ conditions set.now) }
+fn reactions(alloc: Global, set: &SqlSet) -> Result<Items<Node>, NoMemory>
+    ensures { IfOk result (λ nodes. nodes ≡ reactions set.now) }
 {
     let mut nodes = Items::new(alloc);
     push_reaction(alloc, "onFail", &set.on_fail, &mut nodes)?;
     push_reaction(alloc, "onError", &set.on_error, &mut nodes)?;
+    Ok(nodes)
+}
+
+fn conditions(alloc: Global, set: &SqlSet) -> Result<Items<Node>, NoMemory>
+    ensures { IfOk result (λ nodes. nodes ≡ conditions set.now) }
+{
+    let mut nodes = reactions(alloc, set)?;
     for pair in set.checks.as_slice() {
         nodes.push(check(alloc, pair.0.as_str(), pair.1.as_str())?)?;
     }
     Ok(nodes)
 }
 
+/// The `sql` change of a body that is taken apart as the attributes say.
+fn sql_change(alloc: Global, body: &str, pairs: &[(Text, Text)]) -> Result<Node, NoMemory>
+    ensures { IfOk result (λ node. node ≡ sql_change body.now (keys_of OfSql pairs.now)) }
+{
+    let mut keys = Items::new(alloc);
+    push_text(alloc, "sql", body, &mut keys)?;
+    keys.append(keys_of(alloc, Keys::OfSql, pairs)?)?;
+    let node = under(alloc, "sql", Node::Map(keys))?;
+    Ok(node)
+}
+
+/// The one change of an empty body, which says how the body is taken apart.
+fn no_statement(alloc: Global, pairs: &[(Text, Text)]) -> Result<Items<Node>, NoMemory>
+    ensures { IfOk result (λ nodes. nodes ≡ sql_change [] (keys_of OfSql pairs.now) ∷ []) }
+{
+    let mut nodes = Items::new(alloc);
+    nodes.push(sql_change(alloc, "", pairs)?)?;
+    Ok(nodes)
+}
+
 /// The body as an `sql` change, where there is one.
-fn changes(alloc: Global, body: &str, of_sql: Items<(Text, Node)>) -> Result<Items<Node>, NoMemory>
-    ensures { IfOk result (λ nodes. nodes ≡ changes body.now of_sql) }
+fn changes(alloc: Global, body: &str, pairs: &[(Text, Text)]) -> Result<Items<Node>, NoMemory>
+    ensures { IfOk result (λ nodes. nodes ≡ changes body.now (keys_of OfSql pairs.now)) }
 {
     let mut nodes = Items::new(alloc);
     if body.is_empty() {
         return Ok(nodes);
     }
-    let mut keys = Items::new(alloc);
-    push_text(alloc, "sql", body, &mut keys)?;
-    keys.append(of_sql)?;
-    nodes.push(under(alloc, "sql", Node::Map(keys))?)?;
+    nodes.push(sql_change(alloc, body, pairs)?)?;
     Ok(nodes)
 }
 
@@ -117,62 +113,86 @@ fn push_rollback(
     }
 }
 
-fn names_path(pairs: &[(Text, Text)]) -> bool
-    ensures { result ≡ names_path pairs.now }
-{
-    pairs
-        .iter()
-        .any(|pair| pair.0.as_str() == "logicalFilePath")
-}
-
-/// Appends the file's logical path, where the heading names none.
-fn push_path(
-    alloc: Global,
-    logical: &Option<Text>,
-    pairs: &[(Text, Text)],
-    to: &mut Items<(Text, Node)>,
-) -> Result<(), NoMemory>
-    ensures { OnOk result (to.new ≡ to.old ++ path_key logical.now pairs.now) }
-{
-    let Some(path) = logical else {
-        return Ok(());
-    };
-    if !names_path(pairs) {
-        push_text(alloc, "logicalFilePath", path.as_str(), to)?;
-    }
-    Ok(())
-}
-
-/// The keys that stand beside the attributes.
+/// The keys that stand beside the attributes, with these preconditions and changes.
 fn own_keys(
     alloc: Global,
     set: &SqlSet,
-    of_sql: Items<(Text, Node)>,
+    asked: Items<Node>,
+    made: Items<Node>,
 ) -> Result<Items<(Text, Node)>, NoMemory>
-    ensures { of_sql ≡ sql_keys set.now.attributes → IfOk result (λ keys. keys ≡ own_keys set.now) }
+    ensures { IfOk result (λ keys. keys ≡ own_keys set.now asked made) }
 {
-    let conditions = Node::List(conditions(alloc, set)?);
-    let changes = Node::List(changes(alloc, set.body.as_str(), of_sql)?);
     let mut keys = Items::new(alloc);
     push_text(alloc, "id", set.id.as_str(), &mut keys)?;
     push_text(alloc, "author", set.author.as_str(), &mut keys)?;
     push_text(alloc, "comment", set.comment.as_str(), &mut keys)?;
-    push_entry(alloc, "preConditions", conditions, &mut keys)?;
-    push_entry(alloc, "changes", changes, &mut keys)?;
+    push_entry(alloc, "preConditions", Node::List(asked), &mut keys)?;
+    push_entry(alloc, "changes", Node::List(made), &mut keys)?;
     Ok(keys)
+}
+
+/// Appends the attributes of a changeset of a file with that logical path.
+fn push_attributes(
+    alloc: Global,
+    logical: &Option<Text>,
+    set: &SqlSet,
+    to: &mut Items<(Text, Node)>,
+) -> Result<(), NoMemory>
+    ensures { OnOk result (to.new ≡ to.old ++ placed_keys logical.now set.now) }
+{
+    let pairs = set.attributes.as_slice();
+    to.append(keys_of(alloc, Keys::OfSet, pairs)?)?;
+    push_path(alloc, logical, pairs, to)
+}
+
+#[tactic(auto, unfolding(crate::specs::SqlTree::heading))]
+fn heading(alloc: Global, set: &SqlSet) -> Result<Node, NoMemory>
+    ensures { IfOk result (λ node. node ≡ heading set.now) }
+{
+    let pairs = set.attributes.as_slice();
+    let asked = reactions(alloc, set)?;
+    let made = no_statement(alloc, pairs)?;
+    let mut keys = own_keys(alloc, set, asked, made)?;
+    keys.append(keys_of(alloc, Keys::OfHeading, pairs)?)?;
+    Ok(Node::Map(keys))
+}
+
+#[tactic(auto, unfolding(crate::specs::SqlTree::elsewhere))]
+fn elsewhere(alloc: Global, logical: &Option<Text>, set: &SqlSet) -> Result<Node, NoMemory>
+    ensures { IfOk result (λ node. node ≡ elsewhere logical.now set.now) }
+{
+    let asked = reactions(alloc, set)?;
+    let mut keys = own_keys(alloc, set, asked, Items::new(alloc))?;
+    push_attributes(alloc, logical, set, &mut keys)?;
+    Ok(Node::Map(keys))
+}
+
+#[tactic(auto, unfolding(crate::specs::SqlTree::here))]
+fn here(alloc: Global, logical: &Option<Text>, set: &SqlSet) -> Result<Node, NoMemory>
+    ensures { IfOk result (λ node. node ≡ here logical.now set.now) }
+{
+    let asked = conditions(alloc, set)?;
+    let made = changes(alloc, set.body.as_str(), set.attributes.as_slice())?;
+    let mut keys = own_keys(alloc, set, asked, made)?;
+    push_attributes(alloc, logical, set, &mut keys)?;
+    push_rollback(alloc, &set.rollback, &mut keys)?;
+    Ok(Node::Map(keys))
 }
 
 #[tactic(auto, unfolding(crate::specs::SqlTree::change_set))]
 fn change_set(alloc: Global, logical: &Option<Text>, set: &SqlSet) -> Result<Node, NoMemory>
     ensures { IfOk result (λ node. node ≡ change_set logical.now set.now) }
 {
-    let pairs = set.attributes.as_slice();
-    let Attributes { of_set, of_sql } = parted(alloc, pairs)?;
-    let mut keys = own_keys(alloc, set, of_sql)?;
-    keys.append(of_set)?;
-    push_path(alloc, logical, pairs, &mut keys)?;
-    push_rollback(alloc, &set.rollback, &mut keys)?;
-    Ok(Node::Map(keys))
+    let mut parts = Items::new(alloc);
+    push_entry(alloc, "heading", heading(alloc, set)?, &mut parts)?;
+    push_entry(
+        alloc,
+        "elsewhere",
+        elsewhere(alloc, logical, set)?,
+        &mut parts,
+    )?;
+    push_entry(alloc, "here", here(alloc, logical, set)?, &mut parts)?;
+    Ok(Node::Map(parts))
 }
 
 /// A changeset of a file with that logical path, as an item of the changelog.

@@ -1,6 +1,7 @@
 //! Formatted SQL as the tree that changesets are read from.
 #![tactic(auto)]
 
+mod attributes;
 mod change_set;
 mod entries;
 mod fault;

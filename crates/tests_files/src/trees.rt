@@ -53,19 +53,19 @@ fn trees_are_read(rt: HostRuntime) -> Result<(), Fail> {
         ("\nSELECT 1", "line 2"),
         (
             "\n\n--changeset bob:1",
-            "{databaseChangeLog:[{changeSet:{3:{id:'1' author:'bob' comment:'' preConditions:[]changes:[]}}}]}",
+            "{databaseChangeLog:[{changeSet:{3:{heading:{id:'1' author:'bob' comment:'' preConditions:[]changes:[{sql:{sql:'' }}]}elsewhere:{id:'1' author:'bob' comment:'' preConditions:[]changes:[]}here:{id:'1' author:'bob' comment:'' preConditions:[]changes:[]}}}}]}",
         ),
         (
             "logicalFilePath:a\n--changeset b:1\n--rollback empty\n--changeset b:2 logicalFilePath:c\n--rollback",
-            "{databaseChangeLog:[{changeSet:{2:{id:'1' author:'b' comment:'' preConditions:[]changes:[]logicalFilePath:'a' rollback:[]}}}{changeSet:{4:{id:'2' author:'b' comment:'' preConditions:[]changes:[]logicalFilePath:'c' rollback:['' ]}}}]}",
+            "{databaseChangeLog:[{changeSet:{2:{heading:{id:'1' author:'b' comment:'' preConditions:[]changes:[{sql:{sql:'' }}]}elsewhere:{id:'1' author:'b' comment:'' preConditions:[]changes:[]logicalFilePath:'a' }here:{id:'1' author:'b' comment:'' preConditions:[]changes:[]logicalFilePath:'a' rollback:[]}}}}{changeSet:{4:{heading:{id:'2' author:'b' comment:'' preConditions:[]changes:[{sql:{sql:'' }}]}elsewhere:{id:'2' author:'b' comment:'' preConditions:[]changes:[]logicalFilePath:'c' }here:{id:'2' author:'b' comment:'' preConditions:[]changes:[]logicalFilePath:'c' rollback:['' ]}}}}]}",
         ),
         (
-            "\n--changeset b:1 stripComments:x labels:l endDelimiter:/ ignore:${i}\nA /\n--comment c\n\nB\n\n--rollback C\n--rollback empty",
-            "{databaseChangeLog:[{changeSet:{2:{id:'1' author:'b' comment:'c' preConditions:[]changes:[{sql:{sql:'A /\n\nB' stripComments:'x' endDelimiter:'/' }}]labels:'l' ignore:'${i}' rollback:['C\nempty' ]}}}]}",
+            "\n--changeset b:1 stripComments:x labels:l endDelimiter:/ ignore:${i} dbms:mysql\nA /\n--comment c\n\nB\n\n--rollback C\n--rollback empty",
+            "{databaseChangeLog:[{changeSet:{2:{heading:{id:'1' author:'b' comment:'c' preConditions:[]changes:[{sql:{sql:'' stripComments:'x' endDelimiter:'/' }}]labels:'l' ignore:'${i}' }elsewhere:{id:'1' author:'b' comment:'c' preConditions:[]changes:[]labels:'l' ignore:'${i}' dbms:'mysql' }here:{id:'1' author:'b' comment:'c' preConditions:[]changes:[{sql:{sql:'A /\n\nB' stripComments:'x' endDelimiter:'/' }}]labels:'l' ignore:'${i}' dbms:'mysql' rollback:['C\nempty' ]}}}}]}",
         ),
         (
             "\n--changeset b:1\n--precondition-sql-check expectedResult:\"a b\" Q\n--preconditions onError:x onFail:y\n--precondition-sql-check expectedResult:1\n",
-            "{databaseChangeLog:[{changeSet:{2:{id:'1' author:'b' comment:'' preConditions:[{onFail:'y' }{onError:'x' }{sqlCheck:{expectedResult:'a b' sql:'Q' }}{sqlCheck:{expectedResult:'1' sql:'' }}]changes:[]}}}]}",
+            "{databaseChangeLog:[{changeSet:{2:{heading:{id:'1' author:'b' comment:'' preConditions:[{onFail:'y' }{onError:'x' }]changes:[{sql:{sql:'' }}]}elsewhere:{id:'1' author:'b' comment:'' preConditions:[{onFail:'y' }{onError:'x' }]changes:[]}here:{id:'1' author:'b' comment:'' preConditions:[{onFail:'y' }{onError:'x' }{sqlCheck:{expectedResult:'a b' sql:'Q' }}{sqlCheck:{expectedResult:'1' sql:'' }}]changes:[]}}}}]}",
         ),
     ];
     for (lines, want) in cases {

@@ -1,0 +1,104 @@
+ghost use Rattle.std.specs.Prelude.{◌≡◌};
+
+use crate::given::{File, files_of, given_of};
+use crate::shown::{shown, sums};
+use lq_base::{Dialect, Text};
+use lq_changelog::load;
+use lq_kinds::Changelog;
+use lq_model::SqlText;
+use lq_my::My;
+use lq_pg::Pg;
+use lq_sources::LoadFault;
+use std::alloc::Global;
+use std::process::Abort;
+
+/// Files, the first of which is the root, and what they are loaded as.
+#[derive(Clone, Copy)]
+pub struct Case<'a> {
+    pub files: &'a [File<'a>],
+    pub wanted: &'a str,
+}
+
+fn loaded<P: SqlText>(
+    rt: &impl Abort,
+    alloc: Global,
+    dialect: Dialect,
+    sql: &P,
+    given: &[(&str, &str)],
+    files: &[File<'_>],
+) -> Result<Changelog, LoadFault>
+    requires { P.dialect ≡ dialect }
+{
+    let mut held = files_of(alloc, files).expect(rt, "memory");
+    let given = given_of(alloc, given).expect(rt, "memory");
+    let root = files.first().expect(rt, "a root").0;
+    load(alloc, &mut held, root, dialect, sql, given.as_slice())
+}
+
+fn told<P: SqlText>(
+    rt: &impl Abort,
+    alloc: Global,
+    dialect: Dialect,
+    sql: &P,
+    given: &[(&str, &str)],
+    files: &[File<'_>],
+) -> Text
+    requires { P.dialect ≡ dialect }
+{
+    let loaded = loaded(rt, alloc, dialect, sql, given, files);
+    shown(alloc, &loaded).expect(rt, "memory")
+}
+
+fn tell_all<P: SqlText>(
+    rt: &impl Abort,
+    alloc: Global,
+    dialect: Dialect,
+    sql: &P,
+    given: &[(&str, &str)],
+    cases: &[Case<'_>],
+)
+    requires { P.dialect ≡ dialect }
+{
+    for case in cases {
+        let told = told(rt, alloc, dialect, sql, given, case.files);
+        assert_eq!(rt; told.as_str(), case.wanted);
+    }
+}
+
+fn sums_of<P: SqlText>(
+    rt: &impl Abort,
+    alloc: Global,
+    dialect: Dialect,
+    sql: &P,
+    files: &[File<'_>],
+) -> Text
+    requires { P.dialect ≡ dialect }
+{
+    let loaded = loaded(rt, alloc, dialect, sql, &[], files);
+    sums(alloc, &loaded).expect(rt, "memory")
+}
+
+/// What files are loaded as for PostgreSQL, with properties of the command line.
+pub fn tell_given(rt: &impl Abort, alloc: Global, given: &[(&str, &str)], cases: &[Case<'_>]) {
+    tell_all(rt, alloc, Dialect::Postgresql, &Pg, given, cases)
+}
+
+/// What files are loaded as for PostgreSQL.
+pub fn tell(rt: &impl Abort, alloc: Global, cases: &[Case<'_>]) {
+    tell_given(rt, alloc, &[], cases)
+}
+
+/// What files are loaded as for MySQL.
+pub fn tell_my(rt: &impl Abort, alloc: Global, cases: &[Case<'_>]) {
+    tell_all(rt, alloc, Dialect::Mysql, &My, &[], cases)
+}
+
+/// What files are loaded as for PostgreSQL.
+pub fn told_of(rt: &impl Abort, alloc: Global, files: &[File<'_>]) -> Text {
+    told(rt, alloc, Dialect::Postgresql, &Pg, &[], files)
+}
+
+/// The checksums of what files are loaded as for PostgreSQL.
+pub fn summed(rt: &impl Abort, alloc: Global, files: &[File<'_>]) -> Text {
+    sums_of(rt, alloc, Dialect::Postgresql, &Pg, files)
+}
