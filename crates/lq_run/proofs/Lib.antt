@@ -9,3 +9,11 @@ mod Takes
 mod Stepping
 mod Losing
 mod Names
+mod Grows
+mod Keeping
+mod Ending
+mod Opens
+mod Begins
+mod Counting
+mod Whole
+pub mod Scripts

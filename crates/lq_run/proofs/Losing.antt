@@ -8,13 +8,13 @@ use Rattle.lq_base.specs.declared.tracking.Tracked.{Tracked}
 use Rattle.lq_model.specs.Catalogue.{Catalogue}
 use Rattle.lq_store.specs.State.{State}
 use Rattle.lq_track.specs.Database.{Database, lock_of, rows_of}
-use Rattle.lq_base.specs.declared.reason.Reason.{Reason}
 use Rattle.lq_model.specs.declared.fault.StoreFault.{StoreFault}
 use Rattle.lq_turns.specs.Held.{StandsFor}
 use Rattle.lq_turns.specs.Rest.{Place}
 use Rattle.lq_turns.specs.Session.{Session}
 use Rattle.lq_turns.specs.Set.{Meaning}
 use Rattle.lq_turns.specs.declared.stamp.Stamp.{Stamp}
+use Rattle.lq_turns.specs.declared.stop.Refusal.{Refusal}
 use Rattle.lq_run.specs.Holds.{Holds, HoldsAs}
 use Rattle.lq_run.specs.Moves.{IsAt}
 use Rattle.lq_run.specs.Steps.{Closes, ClosesFor, EndsFor, IsBetween, Standing, Steps, end_of, last_end, place}
@@ -53,16 +53,16 @@ module _ {Key : Type 0} (d : Dialect) (m : Meaning Key) (stamp : Stamp) (number 
   pub lost_steps : (before after : Standing Key) (y : State) (result : Step) → IsBetween before.hand → IfSome (lock_of x.dialect x.committed) (λ lock. Holds stamp lock holding.Lost) → Steps d m stamp number before after x result y
   lost_steps before after y result there lost start s is held = absurd (at_place (λ lock. Holds stamp lock holding.Lost) start s (place before) lost is.at (held there))
 
-  pub ends_none : (f : Option StoreFault) (r : Option Reason) (y : State) (result : Step) → f ≡ None → ClosesFor d m stamp number (last_end f r) x result y → EndsFor d m stamp number f r x result y
+  pub ends_none : (f : Option StoreFault) (r : Option Refusal) (y : State) (result : Step) → f ≡ None → ClosesFor d m stamp number (last_end f r) x result y → EndsFor d m stamp number f r x result y
   ends_none f r y result is = subst (λ o. ClosesFor d m stamp number (last_end o r) x result y → EndsFor d m stamp number o r x result y) (sym is) (at_none result) where
     at_none : (result : Step) → ClosesFor d m stamp number (last_end None r) x result y → EndsFor d m stamp number None r x result y
     at_none step.Going closes = closes
     at_none (step.Ended e) closes = closes
 
-  pub ends_marked : (why : StoreFault) (r : Option Reason) (e : End) (marked : Bool) → marked ≡ true → IfSome (lock_of x.dialect x.committed) (λ lock. HoldsAs stamp lock marked) → e ≡ end_of why → EndsFor d m stamp number (Some why) r x (step.Ended e) x
+  pub ends_marked : (why : StoreFault) (r : Option Refusal) (e : End) (marked : Bool) → marked ≡ true → IfSome (lock_of x.dialect x.committed) (λ lock. HoldsAs stamp lock marked) → e ≡ end_of why → EndsFor d m stamp number (Some why) r x (step.Ended e) x
   ends_marked why r e marked is told end p start s at left = inr (at_place (λ lock. HoldsAs stamp lock true) start s p (subst (λ b. IfSome (lock_of x.dialect x.committed) (λ lock. HoldsAs stamp lock b)) is told) at, refl, end)
 
-  pub ends_bare : (why : StoreFault) (r : Option Reason) (last : End) (marked : Bool) (y : State) (result : Step) → marked ≡ false → IfSome (lock_of x.dialect x.committed) (λ lock. HoldsAs stamp lock marked) → last ≡ end_of why
+  pub ends_bare : (why : StoreFault) (r : Option Refusal) (last : End) (marked : Bool) (y : State) (result : Step) → marked ≡ false → IfSome (lock_of x.dialect x.committed) (λ lock. HoldsAs stamp lock marked) → last ≡ end_of why
       → ClosesFor d m stamp number last x result y → EndsFor d m stamp number (Some why) r x result y
   ends_bare why r last marked y step.Going is told same closes = closes
   ends_bare why r last marked y (step.Ended e) is told same closes = λ p start s at left.

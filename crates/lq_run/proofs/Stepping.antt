@@ -25,18 +25,23 @@ use Rattle.lq_turns.specs.declared.call.Call.TheVariants.{Abort}
 use Rattle.lq_turns.specs.declared.deed.Deed.TheVariants.{Locks}
 use Rattle.lq_turns.specs.declared.deed.OnLock.TheVariants.{Freed}
 use Rattle.lq_turns.specs.declared.stamp.Stamp.{Stamp}
+use Rattle.lq_turns.specs.declared.stop.Refusal.{Refusal}
 use Rattle.lq_beside.specs.Replays.{calls_fit}
 use Rattle.lq_hand.specs.Enters.{Enters, Expects, rest_at}
 use Rattle.lq_hand.specs.Hand.{AreTurns, IsReady, calls_left, hand_place, place_of}
 use Rattle.lq_hand.specs.declared.hand.Hand.{Hand}
+use Rattle.lq_hand.specs.declared.hand.Phase.{Phase}
 use Rattle.lq_hand.specs.declared.hand.Phase.TheVariants as phase
 use Rattle.lq_hand.specs.declared.source.Entered.TheVariants as entered
 use Rattle.lq_run.proofs.Doing.{differ}
+use Rattle.lq_run.specs.Counts.{coming_of, first_coming, no_progress, progress_after, refusal_at, refusal_by, with_accepted, with_refused}
 use Rattle.lq_run.specs.Does.{AbortFor, AloneFor, DoesAlone, Faults}
 use Rattle.lq_run.specs.Moves.{BreaksOff, Continues, Goes, IsAt, Meets, Refuses, Takes, refusal_of}
 use Rattle.lq_run.specs.Stands.{IsBegun, Stands}
-use Rattle.lq_run.specs.Steps.{Closes, Ends, EndsFor, FailsAs, FailsTo, IsBetween, IsThere, Known, KnownIn, Standing, Steps, StepsAs, end_of, enters_turns, is_disk, last_end, no_turn, place, stopped_by, turns_of}
+use Rattle.lq_run.specs.Steps.{Closes, Ends, EndsFor, FailsAs, FailsTo, IsBetween, IsThere, Known, KnownIn, Standing, Steps, StepsAs, end_of, enters_turns, is_disk, last_end, no_turn, place, progress_at, progress_in, stopped_by, turns_of}
 use Rattle.lq_run.specs.declared.hand.Moved.TheVariants as moved
+use Rattle.lq_run.specs.declared.progress.Coming.{Coming}
+use Rattle.lq_run.specs.declared.progress.Progress.{Progress}
 use Rattle.lq_run.specs.declared.runner.End.{End}
 use Rattle.lq_run.specs.declared.runner.Step.{Step}
 use Rattle.lq_run.specs.declared.runner.Step.TheVariants as step
@@ -67,19 +72,39 @@ closed_as last (Err why) = end_of why
 
 -- what stops a command
 
-no_turns : {Key : Type 0} (why : StoreFault) (refused : Option Reason) (turns : Turns Key) (after : Option StoreFault) → after ≡ Some why → if_goes_on (enters_turns after refused) turns ≡ NoMore
+no_turns : {Key : Type 0} (why : StoreFault) (refused : Option Refusal) (turns : Turns Key) (after : Option StoreFault) → after ≡ Some why → if_goes_on (enters_turns after refused) turns ≡ NoMore
 no_turns why refused turns after is = ap (λ f. if_goes_on (enters_turns f refused) turns) is
 
-stopped_turns : {Key : Type 0} (f : Option StoreFault) (r : Option Reason) (goes_on : Bool) (reason : Reason) (turns : Turns Key)
-    → if_goes_on (enters_turns f (stopped_by (Some reason) goes_on r)) turns ≡ if_goes_on goes_on (if_goes_on (enters_turns f r) turns)
-stopped_turns f r true reason turns = refl
-stopped_turns None r false reason turns = refl
-stopped_turns (Some why) r false reason turns = refl
+stopped_turns : {Key : Type 0} (f : Option StoreFault) (r : Option Refusal) (goes_on : Bool) (refusal : Refusal) (turns : Turns Key)
+    → if_goes_on (enters_turns f (stopped_by (Some refusal) goes_on r)) turns ≡ if_goes_on goes_on (if_goes_on (enters_turns f r) turns)
+stopped_turns f r true refusal turns = refl
+stopped_turns None r false refusal turns = refl
+stopped_turns (Some why) r false refusal turns = refl
 
-still_enters : (f : Option StoreFault) (r : Option Reason) (goes_on : Bool) (reason : Reason) → enters_turns f (stopped_by (Some reason) goes_on r) ≡ true → enters_turns f r ≡ true
-still_enters f r true reason h = h
-still_enters None r false reason h = absurd (not_true h)
-still_enters (Some why) r false reason h = absurd (not_true h)
+still_enters : (f : Option StoreFault) (r : Option Refusal) (goes_on : Bool) (refusal : Refusal) → enters_turns f (stopped_by (Some refusal) goes_on r) ≡ true → enters_turns f r ≡ true
+still_enters f r true refusal h = h
+still_enters None r false refusal h = absurd (not_true h)
+still_enters (Some why) r false refusal h = absurd (not_true h)
+
+-- how far a turn has come
+
+progress_none : (at : Phase) (calls : List Call) → progress_at at calls no_progress ≡ no_progress
+progress_none phase.Inside [] = refl
+progress_none phase.Inside (call ∷ calls) = refl
+progress_none phase.GivingUp calls = refl
+progress_none phase.Over calls = refl
+
+progress_begun : (at : Phase) (calls : List Call) (p : Progress) → calls ≢ [] → progress_at at calls p ≡ p
+progress_begun phase.Inside [] p left = absurd (left refl)
+progress_begun phase.Inside (call ∷ calls) p left = refl
+progress_begun phase.GivingUp calls p left = refl
+progress_begun phase.Over calls p left = refl
+
+-- the first of these calls was counted
+counted : (d : Dialect) (why : Option Reason) (coming : Coming) (calls more : List Call) (call : Call) (at : Phase) (held : List Call) (p : Progress) → coming ≡ first_coming d calls → calls ≡ call ∷ more → held ≢ []
+    → progress_after coming why p ≡ progress_after (coming_of d call) why (progress_at at held p)
+counted d why coming calls more call at held p is first left =
+    ap (λ c. progress_after c why p) (is ∙ ap (first_coming d) first) ∙ ap (progress_after (coming_of d call) why) (sym (progress_begun at held p left))
 
 -- what the source knows
 
@@ -92,6 +117,18 @@ module _ (d : Dialect) (knows awaits : List Tracked → Type 0) where
 
   knows_refused : (calls : List Call) (s t : Session) → BreaksOff d calls s t → Expects d knows awaits calls (both_of s) → knows (contents_of t.committed).rows
   knows_refused calls s t is e = subst (λ (c : Contents). knows c.rows) is.contents (e.refused is.refused)
+
+  -- the source has looked at something, and holds as much
+
+  module _ (knew awaited : List Tracked → Type 0) (keeps : (rows : List Tracked) → knows rows → knew rows) (waits : (rows : List Tracked) → awaits rows → awaited rows) where
+    expects_still : (calls : List Call) (x : Both) → Expects d knows awaits calls x → Expects d knew awaited calls x
+    expects_still calls x e = record { finished = λ all. waits _ (e.finished all); refused = λ none. keeps _ (e.refused none) }
+
+    known_still : {Key : Type 0} (p : Place Key) (x : Both) → Known d knows awaits p x → Known d knew awaited p x
+    known_still (Inside [] goes_on turns) x known = keeps _ known
+    known_still (Inside (call ∷ calls) goes_on turns) x known = expects_still (call ∷ calls) x known
+    known_still (GivingUp turns) x known = keeps _ known
+    known_still Over x known = tt
 
   expects_in : (calls : List Call) (x : Both) → calls ≢ [] → KnownIn d knows awaits calls x → Expects d knows awaits calls x
   expects_in [] x left known = absurd (left refl)
@@ -138,39 +175,50 @@ module _ {Key : Type 0} (d : Dialect) (m : Meaning Key) (stamp : Stamp) (number 
       (subst (λ ph. Known d before.knows before.awaits (hand_place ph (calls_left before.hand) before.hand.goes_on (turns_of before)) (both_of s)) inside (is.known enters))
 
   -- a call is accepted
-  pub steps_on : (before : Standing Key) (new : Hand) (turns : Turns Key) (knows awaits : List Tracked → Type 0) (x y : State)
+  pub steps_on : (before : Standing Key) (new : Hand) (turns : Turns Key) (knows awaits : List Tracked → Type 0) (coming : Coming) (p : Progress) (x y : State)
       → before.hand.phase ≡ phase.Inside → before.hand.calls ≢ [] → new.phase ≡ phase.Inside → turns ≡ before.turns
       → ((z : Both) → Expects d before.knows before.awaits (calls_left new) z → KnownIn d knows awaits (calls_left new) z)
+      → coming ≡ first_coming d (calls_left before.hand) → p ≡ with_accepted coming before.progress
       → Takes d m stamp number before.hand x moved.On new y
-      → Steps d m stamp number before (record { hand = new; turns = turns; knows = knows; awaits = awaits; fault = before.fault; refused = before.refused }) x step.Going y
-  steps_on before new turns knows awaits x y inside left still same keeps takes start s is held =
+      → Steps d m stamp number before (record { hand = new; turns = turns; knows = knows; awaits = awaits; progress = p; fault = before.fault; refused = before.refused }) x step.Going y
+  steps_on before new turns knows awaits coming p x y inside left still same keeps is_coming counts takes start s is held =
       let took = takes (turns_of before) start s is.at in
-      subst (λ t. StepsAs d m stamp number before (record { hand = new; turns = t; knows = knows; awaits = awaits; fault = before.fault; refused = before.refused }) start s x step.Going y) (sym same)
+      subst (λ t. StepsAs d m stamp number before (record { hand = new; turns = t; knows = knows; awaits = awaits; progress = p; fault = before.fault; refused = before.refused }) start s x step.Going y) (sym same)
       (inl (record {
         goes = took.goes;
         known = λ enters. subst (λ ph. Known d knows awaits (hand_place ph (calls_left new) new.goes_on (turns_of before)) (both_of took.goes.after)) (sym still)
             (keeps (both_of took.goes.after) (expects_on d before.knows before.awaits (calls_left before.hand) (calls_left new) s took.goes.after took.continues (in_hand before x start s is inside left enters)));
         fault = refl;
-        refused = sym (ap (λ o. stopped_by o new.goes_on before.refused) took.none);
+        progress = counts ∙ counted d None coming (calls_left before.hand) (calls_left new) took.goes.went.call before.hand.phase before.hand.calls before.progress is_coming took.first left
+            ∙ ap (λ o. progress_after (coming_of d took.goes.went.call) o (progress_in before)) (sym took.none);
+        refused = sym (ap (λ o. stopped_by (refusal_by p o) new.goes_on before.refused) took.none);
       }))
 
   -- a call is refused
-  pub steps_refused : (before : Standing Key) (new : Hand) (reason : Reason) (x y : State) → before.hand.phase ≡ phase.Inside → before.hand.calls ≢ [] → new.phase ≡ phase.GivingUp → new.goes_on ≡ before.hand.goes_on
+  pub steps_refused : (before : Standing Key) (new : Hand) (turns : Turns Key) (knows awaits : List Tracked → Type 0) (coming : Coming) (p : Progress) (reason : Reason) (stops : Option Refusal) (x y : State)
+      → before.hand.phase ≡ phase.Inside → before.hand.calls ≢ [] → new.phase ≡ phase.GivingUp → new.goes_on ≡ before.hand.goes_on → turns ≡ before.turns
+      → ((rows : List Tracked) → before.knows rows → knows rows)
+      → coming ≡ first_coming d (calls_left before.hand) → p ≡ with_refused coming before.progress → stops ≡ stopped_by (Some (refusal_at p reason)) new.goes_on before.refused
       → Takes d m stamp number before.hand x (moved.Refused reason) new y
-      → Steps d m stamp number before (record { hand = new; turns = before.turns; knows = before.knows; awaits = before.awaits; fault = before.fault; refused = stopped_by (Some reason) new.goes_on before.refused }) x step.Going y
-  steps_refused before new reason x y inside left gives same takes start s is held =
-      let turns : if_goes_on before.hand.goes_on (turns_of before) ≡ if_goes_on (enters_turns before.fault (stopped_by (Some reason) new.goes_on before.refused)) before.turns
-      = ap (λ g. if_goes_on g (turns_of before)) (sym same) ∙ sym (stopped_turns before.fault before.refused new.goes_on reason before.turns) in
-      let took : Refuses d m stamp number (place before) (place_of new (if_goes_on (enters_turns before.fault (stopped_by (Some reason) new.goes_on before.refused)) before.turns)) (calls_left before.hand) reason start s y
-      = subst (λ t. Refuses d m stamp number (place before) (place_of new t) (calls_left before.hand) reason start s y) turns (takes (turns_of before) start s is.at) in
-      inl (record {
+      → Steps d m stamp number before (record { hand = new; turns = turns; knows = knows; awaits = awaits; progress = p; fault = before.fault; refused = stops }) x step.Going y
+  steps_refused before new turns knows awaits coming p reason stops x y inside left gives on same keeps is_coming counts stopped takes start s is held =
+      let stop : Option Refusal = stopped_by (Some (refusal_at p reason)) new.goes_on before.refused in
+      let left_turns : if_goes_on before.hand.goes_on (turns_of before) ≡ if_goes_on (enters_turns before.fault stop) before.turns
+      = ap (λ g. if_goes_on g (turns_of before)) (sym on) ∙ sym (stopped_turns before.fault before.refused new.goes_on (refusal_at p reason) before.turns) in
+      let took : Refuses d m stamp number (place before) (place_of new (if_goes_on (enters_turns before.fault stop) before.turns)) (calls_left before.hand) reason start s y
+      = subst (λ t. Refuses d m stamp number (place before) (place_of new t) (calls_left before.hand) reason start s y) left_turns (takes (turns_of before) start s is.at) in
+      subst (λ t. StepsAs d m stamp number before (record { hand = new; turns = t; knows = knows; awaits = awaits; progress = p; fault = before.fault; refused = stops }) start s x step.Going y) (sym same)
+      (subst (λ w. StepsAs d m stamp number before (record { hand = new; turns = before.turns; knows = knows; awaits = awaits; progress = p; fault = before.fault; refused = w }) start s x step.Going y) (sym stopped)
+      (inl (record {
         goes = took.goes;
-        known = λ enters. subst (λ ph. Known d before.knows before.awaits (hand_place ph (calls_left new) new.goes_on (if_goes_on (enters_turns before.fault (stopped_by (Some reason) new.goes_on before.refused)) before.turns)) (both_of took.goes.after)) (sym gives)
-            (knows_refused d before.knows before.awaits (calls_left before.hand) s took.goes.after took.breaks_off
-            (in_hand before x start s is inside left (still_enters before.fault before.refused new.goes_on reason enters)));
+        known = λ enters. subst (λ ph. Known d knows awaits (hand_place ph (calls_left new) new.goes_on (if_goes_on (enters_turns before.fault stop) before.turns)) (both_of took.goes.after)) (sym gives)
+            (keeps _ (knows_refused d before.knows before.awaits (calls_left before.hand) s took.goes.after took.breaks_off
+            (in_hand before x start s is inside left (still_enters before.fault before.refused new.goes_on (refusal_at p reason) enters))));
         fault = refl;
-        refused = sym (ap (λ o. stopped_by o new.goes_on before.refused) took.why);
-      })
+        progress = counts ∙ counted d (Some reason) coming (calls_left before.hand) took.more took.goes.went.call before.hand.phase before.hand.calls before.progress is_coming took.first left
+            ∙ ap (λ o. progress_after (coming_of d took.goes.went.call) o (progress_in before)) (sym took.why);
+        refused = sym (ap (λ o. stopped_by (refusal_by p o) new.goes_on before.refused) took.why);
+      })))
 
   -- a fault in a transaction
   pub steps_failed : (before after : Standing Key) (new : Hand) (why : StoreFault) (x y : State) (result : Step) → Takes d m stamp number before.hand x (moved.Failed why) new y
@@ -214,10 +262,10 @@ module _ {Key : Type 0} (d : Dialect) (m : Meaning Key) (stamp : Stamp) (number 
 
   -- what was begun is taken back
   pub steps_back : (before : Standing Key) (hand : Hand) (x y : State) → before.hand.phase ≡ phase.GivingUp → hand ≡ no_turn → AbortFor d number x y
-      → Steps d m stamp number before (record { hand = hand; turns = before.turns; knows = before.knows; awaits = before.awaits; fault = before.fault; refused = before.refused }) x step.Going y
+      → Steps d m stamp number before (record { hand = hand; turns = before.turns; knows = before.knows; awaits = before.awaits; progress = before.progress; fault = before.fault; refused = before.refused }) x step.Going y
   steps_back before hand x y gives none aborts start s is held =
       let here : place before ≡ GivingUp (turns_of before) = ap (λ p. hand_place p (calls_left before.hand) before.hand.goes_on (turns_of before)) gives in
-      subst (λ h. StepsAs d m stamp number before (record { hand = h; turns = before.turns; knows = before.knows; awaits = before.awaits; fault = before.fault; refused = before.refused }) start s x step.Going y) (sym none)
+      subst (λ h. StepsAs d m stamp number before (record { hand = h; turns = before.turns; knows = before.knows; awaits = before.awaits; progress = before.progress; fault = before.fault; refused = before.refused }) start s x step.Going y) (sym none)
       (inl (record {
         goes = record {
           after = called d Abort s;
@@ -232,6 +280,7 @@ module _ {Key : Type 0} (d : Dialect) (m : Meaning Key) (stamp : Stamp) (number 
         };
         known = λ enters. subst (λ ph. Known d before.knows before.awaits (hand_place ph (calls_left before.hand) before.hand.goes_on (turns_of before)) (both_of s)) gives (is.known enters);
         fault = refl;
+        progress = sym (ap (λ a. progress_at a before.hand.calls before.progress) gives);
         refused = refl;
       }))
 
@@ -272,7 +321,7 @@ module _ {Key : Type 0} (d : Dialect) (m : Meaning Key) (stamp : Stamp) (number 
       },
       refl,
     )
-    by (Err why) does = inr (why, record { call = closing; more = []; next = left; faults = faults_of why does }, refl)
+    by (Err why) does = inr (why, record { call = closing; more = []; next = left; by = refl; faults = faults_of why does }, refl)
 
   -- between two turns
 
@@ -292,19 +341,19 @@ module _ {Key : Type 0} (d : Dialect) (m : Meaning Key) (stamp : Stamp) (number 
 
   -- what is to come is the same from another place
   pub from_same : (before here after : Standing Key) (x y start : State) (s : Session) (result : Step) → rest d m stamp (place before) (both_of s) ≡ rest d m stamp (place here) (both_of s)
-      → here.fault ≡ before.fault → here.refused ≡ before.refused → StepsAs d m stamp number here after start s x result y → StepsAs d m stamp number before after start s x result y
-  from_same before here after x y start s result same same_fault same_refused steps = by result steps where
+      → here.fault ≡ before.fault → here.refused ≡ before.refused → progress_in here ≡ progress_in before → StepsAs d m stamp number here after start s x result y → StepsAs d m stamp number before after start s x result y
+  from_same before here after x y start s result same same_fault same_refused same_progress steps = by result steps where
     goes_so : (q : Place Key) → Goes d m stamp number (place here) q start s y → Goes d m stamp number (place before) q start s y
     goes_so q is = record { after = is.after; at = is.at; went = record { call = is.went.call; next = same ∙ is.went.next; is = is.went.is } }
 
     meets_so : (room : Room) (why : StoreFault) → Meets d m stamp number (place here) start s x room why y → Meets d m stamp number (place before) start s x room why y
-    meets_so room why is = record { call = is.call; more = is.more; next = same ∙ is.next; faults = is.faults }
+    meets_so room why is = record { call = is.call; more = is.more; next = same ∙ is.next; by = is.by; faults = is.faults }
 
     closes_so : (last : End) (e : End) → Closes d m stamp number (place here) last start s x e y → Closes d m stamp number (place before) last start s x e y
     closes_so last e (inl is) = inl (goes_so Over is.0, is.1)
     closes_so last e (inr is) = inr (is.0, meets_so Release is.0 is.1, is.2)
 
-    ends_so : (f : Option StoreFault) (r : Option Reason) (e : End) → Ends d m stamp number (place here) f r start s x e y → Ends d m stamp number (place before) f r start s x e y
+    ends_so : (f : Option StoreFault) (r : Option Refusal) (e : End) → Ends d m stamp number (place here) f r start s x e y → Ends d m stamp number (place before) f r start s x e y
     ends_so None r e is = closes_so (last_end None r) e is
     ends_so (Some why) r e (inl is) = inl (is.0, closes_so (end_of why) e is.1)
     ends_so (Some why) r e (inr is) = inr is
@@ -314,7 +363,8 @@ module _ {Key : Type 0} (d : Dialect) (m : Meaning Key) (stamp : Stamp) (number 
       goes = goes_so (place after) is.goes;
       known = is.known;
       fault = is.fault ∙ same_fault;
-      refused = is.refused ∙ ap (stopped_by (refusal_of d is.goes.went.call s) after.hand.goes_on) same_refused;
+      progress = is.progress ∙ ap (progress_after (coming_of d is.goes.went.call) (refusal_of d is.goes.went.call s)) same_progress;
+      refused = is.refused ∙ ap (stopped_by (refusal_by after.progress (refusal_of d is.goes.went.call s)) after.hand.goes_on) same_refused;
     })
     by step.Going (inr (inl is)) = inr (inl (record { why = is.why; meets = meets_so Ordinary is.why is.meets; fault = is.fault; gives_up = is.gives_up; at = is.at }))
     by step.Going (inr (inr is)) = inr (inr is)
@@ -322,9 +372,22 @@ module _ {Key : Type 0} (d : Dialect) (m : Meaning Key) (stamp : Stamp) (number 
     by (step.Ended e) (inr (inl is)) = inr (inl (subst (λ r. Ends d m stamp number (between NoMore) (Some fault.OutOfMemory) r start s x e y) same_refused is))
     by (step.Ended e) (inr (inr is)) = inr (inr (meets_so Ordinary fault.Disk is.0, is.1))
 
+  -- the source has looked at what a statement will see
+  pub steps_shown : (before after : Standing Key) (turns : Turns Key) (knows awaits : List Tracked → Type 0) (x y : State) (result : Step) → turns ≡ before.turns
+      → ((rows : List Tracked) → before.knows rows → knows rows) → ((rows : List Tracked) → before.awaits rows → awaits rows)
+      → Steps d m stamp number (record { hand = before.hand; turns = turns; knows = knows; awaits = awaits; progress = before.progress; fault = before.fault; refused = before.refused }) after x result y
+      → Steps d m stamp number before after x result y
+  steps_shown before after turns knows awaits x y result same keeps waits steps start s is held =
+      let shown : Turns Key → Standing Key = λ t. record { hand = before.hand; turns = t; knows = knows; awaits = awaits; progress = before.progress; fault = before.fault; refused = before.refused } in
+      let stepped : Steps d m stamp number (shown before.turns) after x result y = subst (λ t. Steps d m stamp number (shown t) after x result y) same steps in
+      from_same before (shown before.turns) after x y start s result refl refl refl refl (stepped start s (record { at = is.at; known = λ enters. known_still d before.knows before.awaits knows awaits keeps waits (place before) (both_of s) (is.known enters) }) held)
+
   module _ (before : Standing Key) (x : State) (inside : before.hand.phase ≡ phase.Inside) (none : before.hand.calls ≡ []) (shut : is_open number x.begun ≡ false) where
     here : place before ≡ Inside [] before.hand.goes_on (turns_of before)
     here = ap (λ p. hand_place p (calls_left before.hand) before.hand.goes_on (turns_of before)) inside ∙ ap (λ (calls : List Call). Inside (reverse calls) before.hand.goes_on (turns_of before)) none
+
+    none_begun : progress_in before ≡ no_progress
+    none_begun = ap (λ a. progress_at a before.hand.calls before.progress) inside ∙ ap (λ calls. progress_at phase.Inside calls before.progress) none
 
     -- both, as what is committed
     both_is : (start : State) (s : Session) → Stands start number x s → both_of s ≡ (contents_of s.committed, contents_of s.committed)
@@ -340,19 +403,19 @@ module _ {Key : Type 0} (d : Dialect) (m : Meaning Key) (stamp : Stamp) (number 
     rows_known start s is enters = subst (λ p. Known d before.knows before.awaits p (both_of s)) here (is.known enters)
 
     -- a turn is entered
-    pub steps_entered : enters_turns before.fault before.refused ≡ true → (hand : Hand) (turns : Turns Key) (knows awaits : List Tracked → Type 0) (after : Standing Key) (y : State) (result : Step)
-        → Enters d m stamp before.turns before.knows (seen number x) (entered.Turn hand) turns knows awaits
-        → Steps d m stamp number (record { hand = hand; turns = turns; knows = knows; awaits = awaits; fault = before.fault; refused = before.refused }) after x result y
+    pub steps_entered : enters_turns before.fault before.refused ≡ true → (hand : Hand) (turns : Turns Key) (knows awaits : List Tracked → Type 0) (p : Progress) (after : Standing Key) (y : State) (result : Step)
+        → p ≡ no_progress → Enters d m stamp before.turns before.knows (seen number x) (entered.Turn hand) turns knows awaits
+        → Steps d m stamp number (record { hand = hand; turns = turns; knows = knows; awaits = awaits; progress = p; fault = before.fault; refused = before.refused }) after x result y
         → Steps d m stamp number before after x result y
-    steps_entered enters hand turns knows awaits after y result is_entered steps start s is held =
-        let now : Standing Key = record { hand = hand; turns = turns; knows = knows; awaits = awaits; fault = before.fault; refused = before.refused } in
+    steps_entered enters hand turns knows awaits p after y result begins is_entered steps start s is held =
+        let now : Standing Key = record { hand = hand; turns = turns; knows = knows; awaits = awaits; progress = p; fault = before.fault; refused = before.refused } in
         let at_seen = is_entered.1 s.committed (seen_stands x shut start s is.at.stands is.at.dialect) (rows_known start s is enters) in
         let first : rest d m stamp (place before) (both_of s) ≡ rest_at d m stamp (between before.turns) (contents_of s.committed) = rest_between start s is.at.stands ∙ ap (λ t. rest_at d m stamp (between t) (contents_of s.committed)) (entering enters) in
         let later : rest_at d m stamp (place_of hand turns) (contents_of s.committed) ≡ rest d m stamp (place now) (both_of s)
         = ap (λ b. rest d m stamp (place_of hand turns) b) (sym (both_is start s is.at.stands)) ∙ ap (λ t. rest d m stamp (place_of hand t) (both_of s)) (sym (ap (λ b. if_goes_on b turns) enters)) in
         let same = first ∙ at_seen.0 ∙ later in
         let left = some_left hand.calls is_entered.0.left in
-        from_same before now after x y start s result same refl refl (steps start s (record {
+        from_same before now after x y start s result same refl refl (ap (progress_at hand.phase hand.calls) begins ∙ progress_none hand.phase hand.calls ∙ sym none_begun) (steps start s (record {
           at = record {
             dialect = is.at.dialect;
             stands = is.at.stands;
@@ -364,7 +427,7 @@ module _ {Key : Type 0} (d : Dialect) (m : Meaning Key) (stamp : Stamp) (number 
               (subst (λ b. KnownIn d knows awaits (calls_left hand) b) (sym (both_is start s is.at.stands)) (known_left d knows awaits (calls_left hand) _ left at_seen.1));
         }) (λ there. absurd (is_entered.0.left there.1)))
 
-    ends_as : (f : Option StoreFault) (r : Option Reason) (after : Standing Key) (y start : State) (s : Session) (result : Step) (p : Place Key) → IsAt d m stamp number p x start s → rest d m stamp p (both_of s) ≡ closing ∷ []
+    ends_as : (f : Option StoreFault) (r : Option Refusal) (after : Standing Key) (y start : State) (s : Session) (result : Step) (p : Place Key) → IsAt d m stamp number p x start s → rest d m stamp p (both_of s) ≡ closing ∷ []
         → ((e : End) → Ends d m stamp number p f r start s x e y → StepsAs d m stamp number before after start s x (step.Ended e) y)
         → EndsFor d m stamp number f r x result y → StepsAs d m stamp number before after start s x result y
     ends_as f r after y start s step.Going p at left told ends = absurd ends

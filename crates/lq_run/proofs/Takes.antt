@@ -5,6 +5,7 @@ use Rattle.std.specs.Prelude.{Bool, Err, List, Ok, Result, false, refl, reverse,
 use Rattle.lq_base.specs.declared.dialect.Dialect.{Dialect}
 use Rattle.lq_base.specs.declared.reason.Reason.{Reason}
 use Rattle.lq_model.proofs.Lists.{and_left, and_right}
+use Rattle.lq_model.specs.declared.caller.Room.TheVariants.{Ordinary}
 use Rattle.lq_model.specs.declared.fault.StoreFault.{StoreFault}
 use Rattle.lq_store.specs.State.{State}
 use Rattle.lq_track.specs.Database.{Database}
@@ -22,7 +23,7 @@ use Rattle.lq_turns.specs.declared.deed.OnLock.TheVariants.{Freed, LockMade, Loc
 use Rattle.lq_turns.specs.declared.stamp.Stamp.{Stamp}
 use Rattle.lq_beside.specs.Replays.{call_fits, calls_fit}
 use Rattle.lq_hand.specs.Hand.{AreTurns, IsNext, IsReady, calls_left, hand_place, opens, place_of}
-use Rattle.lq_run.specs.Moves.{Accepts, Goes, IsAt, Makes, Refuses, Takes, refusal_of}
+use Rattle.lq_run.specs.Moves.{Accepts, Goes, IsAt, Makes, Refuses, Takes, refusal_of, room_of}
 use Rattle.lq_run.specs.Stands.{Stands}
 use Rattle.lq_hand.specs.declared.hand.Hand.{Hand}
 use Rattle.lq_run.specs.declared.hand.Moved.TheVariants as moved
@@ -79,6 +80,13 @@ module _ {Key : Type 0} (d : Dialect) (m : Meaning Key) (stamp : Stamp) (number 
       ]
   row_by deed s (Err reason) is = elim (is_own d deed) as (λ o. HasRow (settled_if o s)) [ true ↦ (is.1, is.1) | false ↦ is ]
 
+  ordinary : (call : Call) (opened : Bool) → IsNext d opened call → room_of call ≡ Ordinary
+  ordinary Begin opened next = refl
+  ordinary Commit opened next = refl
+  ordinary Abort opened next = refl
+  ordinary (Alone deeds room) opened next = absurd next
+  ordinary (Execute deed) opened next = refl
+
   has_row : (call : Call) (s : Session) → IsNext d s.is_open call → HasRow s → HasRow (called d call s)
   has_row Begin s next is = is
   has_row Commit s next is = (is.1, is.1)
@@ -134,6 +142,7 @@ module _ {Key : Type 0} (d : Dialect) (m : Meaning Key) (stamp : Stamp) (number 
         (record {
           goes = goes_to call (Inside (reverse left) hand.goes_on turns) (reverse left) hand.goes_on turns x y start s at made.0 at.ready.1 (made.1 (reverse left) hand.goes_on turns);
           continues = made.2 (reverse left);
+          first = ap (λ (c : Call). c ∷ reverse left) (sym (head_is (sym (made.1 (reverse left) hand.goes_on turns).next ∙ (next_is call (reverse left) hand.goes_on turns s).1)));
           none = ap (λ (c : Call). refusal_of d c s) (head_is (sym (made.1 (reverse left) hand.goes_on turns).next ∙ (next_is call (reverse left) hand.goes_on turns s).1)) ∙ made.3;
         }))
 
@@ -147,6 +156,8 @@ module _ {Key : Type 0} (d : Dialect) (m : Meaning Key) (stamp : Stamp) (number 
         (record {
           goes = goes_to call (GivingUp (if_goes_on hand.goes_on turns)) (reverse left) hand.goes_on turns x y start s at made.0 made.1 (made.2 (reverse left) hand.goes_on turns);
           breaks_off = made.3 (reverse left);
+          more = reverse left;
+          first = ap (λ (c : Call). c ∷ reverse left) (sym (head_is (sym (made.2 (reverse left) hand.goes_on turns).next ∙ (next_is call (reverse left) hand.goes_on turns s).1)));
           why = ap (λ (c : Call). refusal_of d c s) (head_is (sym (made.2 (reverse left) hand.goes_on turns).next ∙ (next_is call (reverse left) hand.goes_on turns s).1)) ∙ made.4;
         }))
 
@@ -155,7 +166,7 @@ module _ {Key : Type 0} (d : Dialect) (m : Meaning Key) (stamp : Stamp) (number 
         let at = subst (λ p. IsAt d m stamp number p x start s) (here turns) is in
         let made = makes start s at.dialect at.stands (head_fits call (reverse left) hand.goes_on turns s at.fits) in
         let next = next_is call (reverse left) hand.goes_on turns s in
-        (record { call = call; more = next.0; next = ap (λ p. rest d m stamp p (both_of s)) (here turns) ∙ next.1; faults = made.0 }, made.1)
+        (record { call = call; more = next.0; next = ap (λ p. rest d m stamp p (both_of s)) (here turns) ∙ next.1; by = ordinary call s.is_open at.ready.0; faults = made.0 }, made.1)
 
     pub take_lack : Makes d m stamp number call x moved.Lack y → Takes d m stamp number hand x moved.Lack (record hand { calls = left }) y
     take_lack makes turns start s is =

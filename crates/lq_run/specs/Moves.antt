@@ -39,6 +39,14 @@ WasOpen number x moved.On y = Unit {0}
 WasOpen number x (moved.Refused reason) y = Unit {0}
 WasOpen number x (moved.Failed fault) y = Unit {0}
 
+-- how much of the journal a call may fill
+abbrev pub room_of : Call → Room
+room_of (Alone deeds room) = room
+room_of Begin = Ordinary
+room_of (Execute deed) = Ordinary
+room_of Commit = Ordinary
+room_of Abort = Ordinary
+
 -- where the turn stands then
 abbrev pub MovesTo : Moved → Phase → Type 0
 MovesTo moved.On at = at ≡ phase.Inside
@@ -104,18 +112,22 @@ module _ {Key : Type 0} (d : Dialect) (m : Meaning Key) (stamp : Stamp) (number 
     pub call : Call
     pub more : List Call
     pub next : rest d m stamp p (both_of s) ≡ call ∷ more
+    pub by : room_of call ≡ room
     pub faults : Faults start number x s room call fault y
 
   -- the first of the calls of a turn was made and accepted
   pub record Accepts (p q : Place Key) (before after : List Call) (start : State) (s : Session) (y : State) : Type 0 where
     pub goes : Goes p q start s y
     pub continues : Continues d before after s goes.after
+    pub first : before ≡ goes.went.call ∷ after
     pub none : refusal_of d goes.went.call s ≡ None
 
   -- or it was refused
   pub record Refuses (p q : Place Key) (calls : List Call) (reason : Reason) (start : State) (s : Session) (y : State) : Type 0 where
     pub goes : Goes p q start s y
     pub breaks_off : BreaksOff d calls s goes.after
+    pub more : List Call
+    pub first : calls ≡ goes.went.call ∷ more
     pub why : refusal_of d goes.went.call s ≡ Some reason
 
   -- the next call in hand was made, whatever turns come

@@ -1,7 +1,6 @@
 -- A step of a command that has begun.
 use Rattle.std.specs.Prelude.{Bool, List, None, Option, Some, [], false, true, ℕ, ◌∷◌, ◌≡◌, ◌⊎◌}
 use Rattle.lq_base.specs.declared.dialect.Dialect.{Dialect}
-use Rattle.lq_base.specs.declared.reason.Reason.{Reason}
 use Rattle.lq_base.specs.declared.tracking.Lock.{Lock}
 use Rattle.lq_base.specs.declared.tracking.Tracked.{Tracked}
 use Rattle.lq_model.specs.declared.caller.Room.TheVariants.{Ordinary, Release}
@@ -19,13 +18,16 @@ use Rattle.lq_turns.specs.Stepped.{both_of}
 use Rattle.lq_turns.specs.declared.call.Call.{Call}
 use Rattle.lq_turns.specs.declared.call.Call.TheVariants.{Abort}
 use Rattle.lq_turns.specs.declared.stamp.Stamp.{Stamp}
+use Rattle.lq_turns.specs.declared.stop.Refusal.{Refusal}
 use Rattle.lq_hand.specs.Enters.{Expects}
 use Rattle.lq_hand.specs.Hand.{place_of}
 use Rattle.lq_hand.specs.declared.hand.Hand.{Hand}
 use Rattle.lq_hand.specs.declared.hand.Phase.{Phase}
 use Rattle.lq_hand.specs.declared.hand.Phase.TheVariants as phase
+use Rattle.lq_run.specs.Counts.{coming_of, no_progress, progress_after, refusal_by}
 use Rattle.lq_run.specs.Holds.{IsBare, IsHeld, IsMarked}
 use Rattle.lq_run.specs.Moves.{Goes, IsAt, Meets, refusal_of}
+use Rattle.lq_run.specs.declared.progress.Progress.{Progress}
 use Rattle.lq_run.specs.declared.runner.End.{End}
 use Rattle.lq_run.specs.declared.runner.End.TheVariants as end
 use Rattle.lq_run.specs.declared.runner.Runner.{Runner}
@@ -39,16 +41,18 @@ pub record Standing (Key : Type 0) : Type 1 where
   pub turns : Turns Key
   pub knows : List Tracked → Type 0
   pub awaits : List Tracked → Type 0
+  -- how far the turn in hand has come
+  pub progress : Progress
   -- after a fault of the store, or a refused statement, no other turn is entered
   pub fault : Option StoreFault
-  pub refused : Option Reason
+  pub refused : Option Refusal
 
 abbrev pub standing : {Key T : Type 0} → (T → Turns Key) → (T → List Tracked → Type 0) → (T → List Tracked → Type 0) → Runner T → Standing Key
-standing left knows awaits r = record { hand = r.hand; turns = left r.source; knows = knows r.source; awaits = awaits r.source; fault = r.fault; refused = r.refused }
+standing left knows awaits r = record { hand = r.hand; turns = left r.source; knows = knows r.source; awaits = awaits r.source; progress = r.progress; fault = r.fault; refused = r.refused }
 
-abbrev pub enters_turns : Option StoreFault → Option Reason → Bool
+abbrev pub enters_turns : Option StoreFault → Option Refusal → Bool
 enters_turns None None = true
-enters_turns None (Some reason) = false
+enters_turns None (Some refusal) = false
 enters_turns (Some why) refused = false
 
 abbrev pub turns_of : {Key : Type 0} → Standing Key → Turns Key
@@ -74,16 +78,26 @@ end_of fault.NotSql = end.OutOfMemory
 end_of (fault.Refused reason) = end.OutOfMemory
 
 -- and a command whose last call is made
-abbrev pub last_end : Option StoreFault → Option Reason → End
+abbrev pub last_end : Option StoreFault → Option Refusal → End
 last_end (Some why) refused = end_of why
-last_end None (Some reason) = end.Refused reason
+last_end None (Some refusal) = end.Refused refusal
 last_end None None = end.Done
 
--- why the command is stopped after a call that was refused, or was not
-abbrev pub stopped_by : Option Reason → Bool → Option Reason → Option Reason
+-- what stops the command after a call that was refused, or was not
+abbrev pub stopped_by : Option Refusal → Bool → Option Refusal → Option Refusal
 stopped_by None goes_on before = before
-stopped_by (Some reason) true before = before
-stopped_by (Some reason) false before = Some reason
+stopped_by (Some refusal) true before = before
+stopped_by (Some refusal) false before = Some refusal
+
+-- between two turns none has begun
+abbrev pub progress_at : Phase → List Call → Progress → Progress
+progress_at phase.Inside [] p = no_progress
+progress_at phase.Inside (call ∷ calls) p = p
+progress_at phase.GivingUp calls p = p
+progress_at phase.Over calls p = p
+
+abbrev pub progress_in : {Key : Type 0} → Standing Key → Progress
+progress_in r = progress_at r.hand.phase r.hand.calls r.progress
 
 -- what the source holds of the rows, with these calls left of the turn in hand
 abbrev pub KnownIn : Dialect → (List Tracked → Type 0) → (List Tracked → Type 0) → List Call → Both → Type 0
@@ -106,7 +120,8 @@ module _ {Key : Type 0} (d : Dialect) (m : Meaning Key) (stamp : Stamp) (number 
     pub goes : Goes d m stamp number (place before) (place after) start s y
     pub known : enters_turns after.fault after.refused ≡ true → Known d after.knows after.awaits (place after) (both_of goes.after)
     pub fault : after.fault ≡ before.fault
-    pub refused : after.refused ≡ stopped_by (refusal_of d goes.went.call s) after.hand.goes_on before.refused
+    pub progress : after.progress ≡ progress_after (coming_of d goes.went.call) (refusal_of d goes.went.call s) (progress_in before)
+    pub refused : after.refused ≡ stopped_by (refusal_by after.progress (refusal_of d goes.went.call s)) after.hand.goes_on before.refused
 
   -- it met a fault of the store, which left the session as it was; its transaction is to be taken back
   pub record Falls (before after : Standing Key) (start : State) (s : Session) (x y : State) : Type 0 where
@@ -128,7 +143,7 @@ module _ {Key : Type 0} (d : Dialect) (m : Meaning Key) (stamp : Stamp) (number 
   Closes p last start s x e y = (Goes d m stamp number p Over start s y × (e ≡ last)) ⊎ ((why : StoreFault) × Meets d m stamp number p start s x Release why y × (e ≡ end_of why))
 
   -- after a fault a lock that has a mark stays held
-  abbrev pub Ends : Place Key → Option StoreFault → Option Reason → State → Session → State → End → State → Type 0
+  abbrev pub Ends : Place Key → Option StoreFault → Option Refusal → State → Session → State → End → State → Type 0
   Ends p None refused start s x e y = Closes p (last_end None refused) start s x e y
   Ends p (Some why) refused start s x e y = (IsBare stamp s.committed.lock × Closes p (end_of why) start s x e y) ⊎ (IsMarked stamp s.committed.lock × (y ≡ x) × (e ≡ end_of why))
 
@@ -148,7 +163,7 @@ module _ {Key : Type 0} (d : Dialect) (m : Meaning Key) (stamp : Stamp) (number 
   ClosesFor last x step.Going y = ⊥
   ClosesFor last x (step.Ended e) y = (p : Place Key) (start : State) (s : Session) → IsAt d m stamp number p x start s → rest d m stamp p (both_of s) ≡ closing ∷ [] → Closes p last start s x e y
 
-  abbrev pub EndsFor : Option StoreFault → Option Reason → State → Step → State → Type 0
+  abbrev pub EndsFor : Option StoreFault → Option Refusal → State → Step → State → Type 0
   EndsFor why refused x step.Going y = ⊥
   EndsFor why refused x (step.Ended e) y = (p : Place Key) (start : State) (s : Session) → IsAt d m stamp number p x start s → rest d m stamp p (both_of s) ≡ closing ∷ [] → Ends p why refused start s x e y
 
@@ -158,7 +173,7 @@ TellsLock lock step.Going = ⊥
 TellsLock lock (step.Ended (end.Locked it)) = it ≡ lock
 TellsLock lock (step.Ended end.OutOfMemory) = Unit {0}
 TellsLock lock (step.Ended end.Done) = ⊥
-TellsLock lock (step.Ended (end.Refused reason)) = ⊥
+TellsLock lock (step.Ended (end.Refused refusal)) = ⊥
 TellsLock lock (step.Ended end.Disk) = ⊥
 TellsLock lock (step.Ended (end.Full used next)) = ⊥
 

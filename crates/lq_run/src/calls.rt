@@ -2,6 +2,7 @@ ghost use Rattle.std.specs.Prelude.{◌≡◌, ◌++◌, IfOk, IsTrue, OnOk, fal
 ghost use Rattle.lq_hand.specs.Writable.{IsWritable};
 ghost use Rattle.lq_run.specs.Does.{AbortFor, AllRead, AllWritable, AloneFor, BeginFor, CommitFor, DoesFor, IsRead, Reads};
 ghost use Rattle.lq_run.specs.Stands.{text_by, texts_of};
+ghost use Rattle.lq_store.specs.Calls.{CountsDisk};
 ghost use Rattle.lq_store.specs.State.{is_open};
 ghost use Rattle.lq_turns.specs.Deed.{made_of};
 
@@ -26,6 +27,7 @@ pub fn do_deed<S: Store>(
     requires reads { Reads dialect (made_of dialect deed.now).1 text.now }
     ensures valid { S.valid store.new }
     ensures does { DoesFor dialect session deed.now (S.state store.old) result (S.state store.new) }
+    ensures faults { CountsDisk result (S.faults store.old) (S.faults store.new) }
 {
     match store.execute(session, caller(deed), text) {
         Ok(_) => Ok(()),
@@ -40,6 +42,7 @@ pub fn commit<S: Store>(session: u32, store: &mut S, dialect: Dialect) -> Result
     requires open_here { is_open session (S.state store.old).begun ≡ true }
     ensures valid { S.valid store.new }
     ensures does { CommitFor dialect session (S.state store.old) result (S.state store.new) }
+    ensures faults { CountsDisk result (S.faults store.old) (S.faults store.new) }
 {
     store.commit(session)
 }
@@ -51,6 +54,7 @@ pub fn begin<S: Store>(session: u32, store: &mut S, dialect: Dialect) -> Result<
     requires closed { is_open session (S.state store.old).begun ≡ false }
     ensures valid { S.valid store.new }
     ensures does { BeginFor dialect session (S.state store.old) result (S.state store.new) }
+    ensures faults { CountsDisk result (S.faults store.old) (S.faults store.new) }
 {
     store.begin(session)
 }
@@ -62,6 +66,7 @@ pub fn abort<S: Store>(session: u32, store: &mut S, dialect: Dialect)
     requires open_here { is_open session (S.state store.old).begun ≡ true }
     ensures valid { S.valid store.new }
     ensures does { AbortFor dialect session (S.state store.old) (S.state store.new) }
+    ensures faults { S.faults store.new ≡ S.faults store.old }
 {
     store.abort(session);
 }
@@ -83,6 +88,7 @@ pub fn do_alone<S: Store, P: SqlText>(
     requires writable { AllWritable dialect deeds.now }
     ensures valid { S.valid store.new }
     ensures does { AloneFor dialect session deeds.now room (S.state store.old) result (S.state store.new) }
+    ensures faults { CountsDisk result (S.faults store.old) (S.faults store.new) }
 {
     let mut texts = Items::new(alloc);
     let Ok(()) = print_all(alloc, sql, dialect, deeds, &mut texts) else {

@@ -1,7 +1,9 @@
-ghost use Rattle.std.specs.Prelude.{◌≡◌, ◌≢◌, IsTrue, [], false, true};
+ghost use Rattle.std.specs.Prelude.{◌≡◌, ◌≢◌, ◌≤◌, IsTrue, [], false, true};
 ghost use Rattle.lq_hand.specs.Hand.{AreTurns, IsNext, calls_left};
 ghost use Rattle.lq_hand.specs.declared.hand.Phase.TheVariants as phase;
 ghost use Rattle.lq_hand.specs.Writable.{IsWritable};
+ghost use Rattle.lq_outside.specs.Count.{Rose};
+ghost use Rattle.lq_run.specs.Faults.{is_disk_move};
 ghost use Rattle.lq_run.specs.Moves.{Makes, MovesTo, Takes, WasOpen, moved_of};
 ghost use Rattle.lq_store.specs.State.{is_open};
 ghost use Rattle.lq_turns.specs.declared.call.Call.TheVariants as call;
@@ -47,6 +49,8 @@ pub fn take<T: Source, S: Store, P: SqlText>(
     ensures same { hand.new.goes_on ≡ hand.old.goes_on }
     ensures phase { MovesTo result hand.new.phase }
     ensures lack { WasOpen session (S.state store.old) result (S.state store.new) }
+    ensures later { S.faults store.old ≤ S.faults store.new }
+    ensures rose { is_disk_move result ≡ true → Rose (S.faults store.old) (S.faults store.new) }
 {
     let Some(call) = hand.calls.pop() else {
         unreachable!();
@@ -78,6 +82,8 @@ fn make<T: Source, S: Store, P: SqlText>(
     ensures valid { S.valid store.new }
     ensures makes { (stamp : Stamp) → Makes dialect T.meaning stamp session call.now (S.state store.old) result (S.state store.new) }
     ensures lack { WasOpen session (S.state store.old) result (S.state store.new) }
+    ensures later { S.faults store.old ≤ S.faults store.new }
+    ensures rose { is_disk_move result ≡ true → Rose (S.faults store.old) (S.faults store.new) }
 {
     match call {
         Call::Begin => move_of(begin(session, store, dialect)),
@@ -103,6 +109,8 @@ fn execute<T: Source, S: Store, P: SqlText>(
     ensures valid { S.valid store.new }
     ensures makes { (stamp : Stamp) → Makes dialect T.meaning stamp session (call.Execute deed.now) (S.state store.old) result (S.state store.new) }
     ensures lack { WasOpen session (S.state store.old) result (S.state store.new) }
+    ensures later { S.faults store.old ≤ S.faults store.new }
+    ensures rose { is_disk_move result ≡ true → Rose (S.faults store.old) (S.faults store.new) }
 {
     match print(alloc, sql, dialect, deed) {
         Ok(text) => move_of(do_deed(session, store, dialect, deed, text.as_str())),

@@ -1,6 +1,6 @@
 use lq_base::Dialect;
 use lq_hand::{Entered, Source};
-use lq_model::Look;
+use lq_model::{Look, SqlText};
 use lq_turns::Stamp;
 use std::alloc::Global;
 
@@ -22,15 +22,22 @@ impl Source for NoTurns {
 
     ghost awaits = { λ source rows. Unit {0} };
 
-    fn enter<K: Look>(
+    ghost reads = { λ source dialect. Unit {0} };
+
+    fn enter<K: Look, P: SqlText>(
         &mut self,
         _alloc: Global,
         _dialect: Dialect,
         _stamp: &Stamp,
         _look: &K,
+        _sql: &P,
     ) -> Entered {
         Entered::NoTurn
     }
 
+    fn looks<K: Look>(&mut self, _dialect: Dialect, _look: &K) {}
+
     fn finished(&mut self) {}
+
+    fn refused(&mut self) {}
 }

@@ -1,9 +1,15 @@
-ghost use Rattle.std.specs.Prelude.{◌≡◌, ◌≢◌, ◌<◌, ◌^◌, [], IfSome, IsTrue, Some, false, true};
+ghost use Rattle.std.specs.Prelude.{◌≡◌, ◌≢◌, ◌≤◌, [], IfSome, IsTrue, List, None, Some, false, true};
 ghost use Rattle.lq_hand.specs.Enters.{Enters, Expects};
 ghost use Rattle.lq_hand.specs.Hand.{AreTurns, IsReady, calls_left};
 ghost use Rattle.lq_hand.specs.declared.hand.Phase.TheVariants as phase;
 ghost use Rattle.lq_model.specs.declared.fault.StoreFault.TheVariants as fault;
+ghost use Rattle.lq_base.specs.declared.dialect.Dialect.{Dialect};
+ghost use Rattle.lq_base.specs.declared.tracking.Tracked.{Tracked};
+ghost use Rattle.lq_outside.specs.Count.{Rose};
+ghost use Rattle.lq_run.specs.Counts.{first_coming};
 ghost use Rattle.lq_run.specs.Does.{AbortFor};
+ghost use Rattle.lq_run.specs.Ends.{disk_failed};
+ghost use Rattle.lq_run.specs.Faults.{is_disk_step};
 ghost use Rattle.lq_run.specs.Holds.{Holds, HoldsAs};
 ghost use Rattle.lq_run.specs.Steps.{ClosesFor, EndsFor, FailsTo, GoesOn, KnownIn, Loses, Steps, TellsLock, end_of, enters_turns, is_disk, is_over, last_end, no_turn, place, standing, stopped_by};
 ghost use Rattle.lq_run.specs.declared.runner.Step.TheVariants as step;
@@ -14,11 +20,12 @@ ghost use Rattle.lq_turns.specs.Goes.{Both};
 use crate::calls::{abort, do_alone};
 use crate::hand::{Moved, take};
 use crate::holding::{Holding, lock_held};
-use lq_base::{Dialect, Duplicate, Items, Lock, Reason};
+use crate::progress::{Coming, Progress, next_coming};
+use lq_base::{Dialect, Duplicate, Items, Lock};
 use lq_hand::{Entered, Hand, Phase, Source};
 use lq_model::{Room, SqlText, StoreFault};
 use lq_store::Store;
-use lq_turns::{Deed, OnLock, Stamp};
+use lq_turns::{Deed, OnLock, Refusal, Stamp};
 use std::alloc::Global;
 
 /// How a command that had the lock ends.
@@ -26,7 +33,7 @@ use std::alloc::Global;
 pub enum End {
     Done,
     /// A statement of a turn was refused.
-    Refused(Reason),
+    Refused(Refusal),
     /// It no longer holds the lock, which is this.
     Locked(Lock),
     Disk,
@@ -43,7 +50,7 @@ pub enum Step {
     Ended(End),
 }
 
-/// A command that took the lock.
+/// A command and how far it is.
 #[derive(Drop)]
 pub struct Runner<T: Source + Drop> {
     pub alloc: Global,
@@ -51,26 +58,52 @@ pub struct Runner<T: Source + Drop> {
     pub stamp: Stamp,
     pub source: T,
     pub hand: Hand,
+    pub progress: Progress,
     /// A fault of the store that ends it.
     pub fault: Option<StoreFault>,
-    /// Why a statement was refused that ends it.
-    pub refused: Option<Reason>,
+    /// The refusal that ends it.
+    pub refused: Option<Refusal>,
 }
 
 impl<T: Source + Drop> Runner<T> {
+    /// A command that has made no call, and has no turn in hand.
+    pub fn new(alloc: Global, dialect: Dialect, stamp: Stamp, source: T) -> Runner<T>
+        ensures command { (result.dialect ≡ dialect) × (result.stamp ≡ stamp) }
+        ensures source { result.source ≡ source }
+        ensures hand { result.hand ≡ no_turn }
+        ensures unstopped { (result.fault ≡ None) × (result.refused ≡ None) }
+    {
+        Runner {
+            alloc,
+            dialect,
+            stamp,
+            source,
+            hand: no_turn(alloc),
+            progress: Progress::none(),
+            fault: None,
+            refused: None,
+        }
+    }
+
     /// Makes the next call of the command, or of what comes after a fault. Its session is always the
     /// same.
     pub fn step<S: Store, P: SqlText>(&mut self, session: u32, store: &mut S, sql: &P) -> Step
         requires valid { S.valid store.old }
+        requires reads { T.reads self.old.source self.old.dialect }
         requires live { IsTrue (S.state store.old).live }
         requires sql { P.dialect ≡ self.old.dialect }
-        requires reading { self.old.stamp.reading < 2 ^ 63 }
+        requires moment { self.old.stamp.reading ≤ 253402300799999 }
         requires begun { is_over self.old.hand.phase ≡ false }
         requires ready { IsReady self.old.dialect (is_open session (S.state store.old).begun) (place (standing T.left T.knows T.awaits self.old)) }
+        requires disk { disk_failed self.old.fault ≡ false }
         ensures valid { S.valid store.new }
         ensures same { (self.new.dialect ≡ self.old.dialect) × (self.new.stamp ≡ self.old.stamp) }
+        ensures reads { T.reads self.new.source self.new.dialect }
         ensures steps { Steps self.old.dialect T.meaning self.old.stamp session (standing T.left T.knows T.awaits self.old) (standing T.left T.knows T.awaits self.new) (S.state store.old) result (S.state store.new) }
         ensures lost { Loses self.old.dialect self.old.stamp self.old.hand (S.state store.old) result (S.state store.new) }
+        ensures disk { disk_failed self.new.fault ≡ false }
+        ensures later { S.faults store.old ≤ S.faults store.new }
+        ensures rose { is_disk_step result ≡ true → Rose (S.faults store.old) (S.faults store.new) }
         ensures going { GoesOn result self.new.hand.phase }
     {
         match self.hand.phase {
@@ -83,15 +116,21 @@ impl<T: Source + Drop> Runner<T> {
     #[tactic(auto, using(crate::proofs::Stepping::none_left))]
     fn go_on<S: Store, P: SqlText>(&mut self, session: u32, store: &mut S, sql: &P) -> Step
         requires valid { S.valid store.old }
+        requires reads { T.reads self.old.source self.old.dialect }
         requires live { IsTrue (S.state store.old).live }
         requires sql { P.dialect ≡ self.old.dialect }
-        requires reading { self.old.stamp.reading < 2 ^ 63 }
+        requires moment { self.old.stamp.reading ≤ 253402300799999 }
         requires inside { self.old.hand.phase ≡ phase.Inside }
         requires turns { AreTurns self.old.dialect (is_open session (S.state store.old).begun) (calls_left self.old.hand) }
+        requires disk { disk_failed self.old.fault ≡ false }
         ensures valid { S.valid store.new }
         ensures same { (self.new.dialect ≡ self.old.dialect) × (self.new.stamp ≡ self.old.stamp) }
+        ensures reads { T.reads self.new.source self.new.dialect }
         ensures steps { Steps self.old.dialect T.meaning self.old.stamp session (standing T.left T.knows T.awaits self.old) (standing T.left T.knows T.awaits self.new) (S.state store.old) result (S.state store.new) }
         ensures lost { Loses self.old.dialect self.old.stamp self.old.hand (S.state store.old) result (S.state store.new) }
+        ensures disk { disk_failed self.new.fault ≡ false }
+        ensures later { S.faults store.old ≤ S.faults store.new }
+        ensures rose { is_disk_step result ≡ true → Rose (S.faults store.old) (S.faults store.new) }
         ensures going { GoesOn result self.new.hand.phase }
     {
         if self.hand.calls.is_empty() {
@@ -104,15 +143,51 @@ impl<T: Source + Drop> Runner<T> {
     /// Makes the next call of the turn in hand.
     fn inside<S: Store, P: SqlText>(&mut self, session: u32, store: &mut S, sql: &P) -> Step
         requires valid { S.valid store.old }
+        requires reads { T.reads self.old.source self.old.dialect }
         requires live { IsTrue (S.state store.old).live }
         requires sql { P.dialect ≡ self.old.dialect }
         requires inside { self.old.hand.phase ≡ phase.Inside }
         requires left { self.old.hand.calls ≢ [] }
         requires turns { AreTurns self.old.dialect (is_open session (S.state store.old).begun) (calls_left self.old.hand) }
+        requires disk { disk_failed self.old.fault ≡ false }
         ensures valid { S.valid store.new }
         ensures same { (self.new.dialect ≡ self.old.dialect) × (self.new.stamp ≡ self.old.stamp) }
+        ensures reads { T.reads self.new.source self.new.dialect }
         ensures steps { Steps self.old.dialect T.meaning self.old.stamp session (standing T.left T.knows T.awaits self.old) (standing T.left T.knows T.awaits self.new) (S.state store.old) result (S.state store.new) }
         ensures lost { Loses self.old.dialect self.old.stamp self.old.hand (S.state store.old) result (S.state store.new) }
+        ensures disk { disk_failed self.new.fault ≡ false }
+        ensures later { S.faults store.old ≤ S.faults store.new }
+        ensures rose { is_disk_step result ≡ true → Rose (S.faults store.old) (S.faults store.new) }
+        ensures going { GoesOn result self.new.hand.phase }
+    {
+        let call = next_coming(self.dialect, &self.hand);
+        show(&mut self.source, call, self.dialect, session, store);
+        self.advance(session, store, sql, call)
+    }
+
+    fn advance<S: Store, P: SqlText>(
+        &mut self,
+        session: u32,
+        store: &mut S,
+        sql: &P,
+        call: Coming,
+    ) -> Step
+        requires valid { S.valid store.old }
+        requires reads { T.reads self.old.source self.old.dialect }
+        requires live { IsTrue (S.state store.old).live }
+        requires sql { P.dialect ≡ self.old.dialect }
+        requires inside { self.old.hand.phase ≡ phase.Inside }
+        requires left { self.old.hand.calls ≢ [] }
+        requires turns { AreTurns self.old.dialect (is_open session (S.state store.old).begun) (calls_left self.old.hand) }
+        requires call { call ≡ first_coming self.old.dialect (calls_left self.old.hand) }
+        requires disk { disk_failed self.old.fault ≡ false }
+        ensures valid { S.valid store.new }
+        ensures same { (self.new.dialect ≡ self.old.dialect) × (self.new.stamp ≡ self.old.stamp) }
+        ensures reads { T.reads self.new.source self.new.dialect }
+        ensures steps { Steps self.old.dialect T.meaning self.old.stamp session (standing T.left T.knows T.awaits self.old) (standing T.left T.knows T.awaits self.new) (S.state store.old) result (S.state store.new) }
+        ensures disk { disk_failed self.new.fault ≡ false }
+        ensures later { S.faults store.old ≤ S.faults store.new }
+        ensures rose { is_disk_step result ≡ true → Rose (S.faults store.old) (S.faults store.new) }
         ensures going { GoesOn result self.new.hand.phase }
     {
         match take::<T, S, P>(
@@ -124,11 +199,18 @@ impl<T: Source + Drop> Runner<T> {
             self.dialect,
         ) {
             Moved::On => {
+                self.progress = self.progress.with_accepted(call);
                 taken(&mut self.source, &self.hand);
                 Step::Going
             }
             Moved::Refused(reason) => {
-                self.refused = stopped_by(self.hand.goes_on, self.refused, reason);
+                self.progress = self.progress.with_refused(call);
+                self.refused = stopped_by(
+                    self.hand.goes_on,
+                    self.refused,
+                    self.progress.refusal(reason),
+                );
+                self.source.refused();
                 Step::Going
             }
             Moved::Failed(fault) => self.fail(fault),
@@ -139,8 +221,13 @@ impl<T: Source + Drop> Runner<T> {
     /// After a fault in a transaction nothing is called of its turn, and after one of the disk nothing
     /// at all.
     fn fail(&mut self, fault: StoreFault) -> Step
+        requires reads { T.reads self.old.source self.old.dialect }
+        requires disk { disk_failed self.old.fault ≡ false }
         ensures same { (self.new.dialect ≡ self.old.dialect) × (self.new.stamp ≡ self.old.stamp) }
+        ensures reads { T.reads self.new.source self.new.dialect }
         ensures fails { FailsTo fault self.new.hand.phase self.new.fault result }
+        ensures disk { disk_failed self.new.fault ≡ false }
+        ensures told { is_disk_step result ≡ is_disk fault }
         ensures going { GoesOn result self.new.hand.phase }
     {
         if is_disk(fault) {
@@ -155,14 +242,19 @@ impl<T: Source + Drop> Runner<T> {
     /// There is no memory for the next call of a transaction, which is taken back.
     fn take_back<S: Store>(&mut self, session: u32, store: &mut S) -> Step
         requires valid { S.valid store.old }
+        requires reads { T.reads self.old.source self.old.dialect }
         requires live { IsTrue (S.state store.old).live }
         requires open_here { is_open session (S.state store.old).begun ≡ true }
+        requires disk { disk_failed self.old.fault ≡ false }
         ensures valid { S.valid store.new }
         ensures same { (self.new.dialect ≡ self.old.dialect) × (self.new.stamp ≡ self.old.stamp) }
+        ensures reads { T.reads self.new.source self.new.dialect }
         ensures result { result ≡ step.Going }
         ensures fault { self.new.fault ≡ Some fault.OutOfMemory }
         ensures hand { self.new.hand ≡ no_turn }
         ensures aborts { AbortFor self.old.dialect session (S.state store.old) (S.state store.new) }
+        ensures disk { disk_failed self.new.fault ≡ false }
+        ensures faults { S.faults store.new ≡ S.faults store.old }
         ensures going { GoesOn result self.new.hand.phase }
     {
         abort(session, store, self.dialect);
@@ -174,13 +266,19 @@ impl<T: Source + Drop> Runner<T> {
     /// Takes back the turn of which a statement was refused, or that met a fault.
     fn give_up<S: Store>(&mut self, session: u32, store: &mut S) -> Step
         requires valid { S.valid store.old }
+        requires reads { T.reads self.old.source self.old.dialect }
         requires live { IsTrue (S.state store.old).live }
         requires gives_up { self.old.hand.phase ≡ phase.GivingUp }
         requires open_here { is_open session (S.state store.old).begun ≡ true }
+        requires disk { disk_failed self.old.fault ≡ false }
         ensures valid { S.valid store.new }
         ensures same { (self.new.dialect ≡ self.old.dialect) × (self.new.stamp ≡ self.old.stamp) }
+        ensures reads { T.reads self.new.source self.new.dialect }
         ensures steps { Steps self.old.dialect T.meaning self.old.stamp session (standing T.left T.knows T.awaits self.old) (standing T.left T.knows T.awaits self.new) (S.state store.old) result (S.state store.new) }
         ensures lost { Loses self.old.dialect self.old.stamp self.old.hand (S.state store.old) result (S.state store.new) }
+        ensures disk { disk_failed self.new.fault ≡ false }
+        ensures later { S.faults store.old ≤ S.faults store.new }
+        ensures rose { is_disk_step result ≡ true → Rose (S.faults store.old) (S.faults store.new) }
         ensures going { GoesOn result self.new.hand.phase }
     {
         abort(session, store, self.dialect);
@@ -192,16 +290,22 @@ impl<T: Source + Drop> Runner<T> {
     /// lock.
     fn between<S: Store, P: SqlText>(&mut self, session: u32, store: &mut S, sql: &P) -> Step
         requires valid { S.valid store.old }
+        requires reads { T.reads self.old.source self.old.dialect }
         requires live { IsTrue (S.state store.old).live }
         requires sql { P.dialect ≡ self.old.dialect }
-        requires reading { self.old.stamp.reading < 2 ^ 63 }
+        requires moment { self.old.stamp.reading ≤ 253402300799999 }
         requires inside { self.old.hand.phase ≡ phase.Inside }
         requires none_left { self.old.hand.calls ≡ [] }
         requires closed { is_open session (S.state store.old).begun ≡ false }
+        requires disk { disk_failed self.old.fault ≡ false }
         ensures valid { S.valid store.new }
         ensures same { (self.new.dialect ≡ self.old.dialect) × (self.new.stamp ≡ self.old.stamp) }
+        ensures reads { T.reads self.new.source self.new.dialect }
         ensures steps { Steps self.old.dialect T.meaning self.old.stamp session (standing T.left T.knows T.awaits self.old) (standing T.left T.knows T.awaits self.new) (S.state store.old) result (S.state store.new) }
         ensures lost { Loses self.old.dialect self.old.stamp self.old.hand (S.state store.old) result (S.state store.new) }
+        ensures disk { disk_failed self.new.fault ≡ false }
+        ensures later { S.faults store.old ≤ S.faults store.new }
+        ensures rose { is_disk_step result ≡ true → Rose (S.faults store.old) (S.faults store.new) }
         ensures going { GoesOn result self.new.hand.phase }
     {
         match stands(&self.stamp, store) {
@@ -222,15 +326,22 @@ impl<T: Source + Drop> Runner<T> {
         is_marked: bool,
     ) -> Step
         requires valid { S.valid store.old }
+        requires reads { T.reads self.old.source self.old.dialect }
         requires live { IsTrue (S.state store.old).live }
         requires sql { P.dialect ≡ self.old.dialect }
+        requires moment { self.old.stamp.reading ≤ 253402300799999 }
         requires inside { self.old.hand.phase ≡ phase.Inside }
         requires none_left { self.old.hand.calls ≡ [] }
         requires closed { is_open session (S.state store.old).begun ≡ false }
         requires lock { IfSome (lock_of (S.state store.old).dialect (S.state store.old).committed) (λ lock. HoldsAs self.old.stamp lock is_marked) }
+        requires disk { disk_failed self.old.fault ≡ false }
         ensures valid { S.valid store.new }
         ensures same { (self.new.dialect ≡ self.old.dialect) × (self.new.stamp ≡ self.old.stamp) }
+        ensures reads { T.reads self.new.source self.new.dialect }
         ensures steps { Steps self.old.dialect T.meaning self.old.stamp session (standing T.left T.knows T.awaits self.old) (standing T.left T.knows T.awaits self.new) (S.state store.old) result (S.state store.new) }
+        ensures disk { disk_failed self.new.fault ≡ false }
+        ensures later { S.faults store.old ≤ S.faults store.new }
+        ensures rose { is_disk_step result ≡ true → Rose (S.faults store.old) (S.faults store.new) }
         ensures going { GoesOn result self.new.hand.phase }
     {
         if may_enter(self.fault, self.refused) {
@@ -248,16 +359,23 @@ impl<T: Source + Drop> Runner<T> {
         is_marked: bool,
     ) -> Step
         requires valid { S.valid store.old }
+        requires reads { T.reads self.old.source self.old.dialect }
         requires live { IsTrue (S.state store.old).live }
         requires sql { P.dialect ≡ self.old.dialect }
+        requires moment { self.old.stamp.reading ≤ 253402300799999 }
         requires inside { self.old.hand.phase ≡ phase.Inside }
         requires none_left { self.old.hand.calls ≡ [] }
         requires closed { is_open session (S.state store.old).begun ≡ false }
         requires enters { enters_turns self.old.fault self.old.refused ≡ true }
         requires lock { IfSome (lock_of (S.state store.old).dialect (S.state store.old).committed) (λ lock. HoldsAs self.old.stamp lock is_marked) }
+        requires disk { disk_failed self.old.fault ≡ false }
         ensures valid { S.valid store.new }
         ensures same { (self.new.dialect ≡ self.old.dialect) × (self.new.stamp ≡ self.old.stamp) }
+        ensures reads { T.reads self.new.source self.new.dialect }
         ensures steps { Steps self.old.dialect T.meaning self.old.stamp session (standing T.left T.knows T.awaits self.old) (standing T.left T.knows T.awaits self.new) (S.state store.old) result (S.state store.new) }
+        ensures disk { disk_failed self.new.fault ≡ false }
+        ensures later { S.faults store.old ≤ S.faults store.new }
+        ensures rose { is_disk_step result ≡ true → Rose (S.faults store.old) (S.faults store.new) }
         ensures going { GoesOn result self.new.hand.phase }
     {
         match next(
@@ -267,9 +385,11 @@ impl<T: Source + Drop> Runner<T> {
             &self.stamp,
             session,
             store,
+            sql,
         ) {
             Entered::Turn(hand) => {
                 self.hand = hand;
+                self.progress = Progress::none();
                 self.inside(session, store, sql)
             }
             Entered::NoTurn => self.end(session, store, sql, is_marked),
@@ -289,13 +409,19 @@ impl<T: Source + Drop> Runner<T> {
         is_marked: bool,
     ) -> Step
         requires valid { S.valid store.old }
+        requires reads { T.reads self.old.source self.old.dialect }
         requires live { IsTrue (S.state store.old).live }
         requires sql { P.dialect ≡ self.old.dialect }
         requires closed { is_open session (S.state store.old).begun ≡ false }
         requires lock { IfSome (lock_of (S.state store.old).dialect (S.state store.old).committed) (λ lock. HoldsAs self.old.stamp lock is_marked) }
+        requires disk { disk_failed self.old.fault ≡ false }
         ensures valid { S.valid store.new }
         ensures same { (self.new.dialect ≡ self.old.dialect) × (self.new.stamp ≡ self.old.stamp) }
+        ensures reads { T.reads self.new.source self.new.dialect }
         ensures ends { EndsFor self.old.dialect T.meaning self.old.stamp session self.old.fault self.old.refused (S.state store.old) result (S.state store.new) }
+        ensures disk { disk_failed self.new.fault ≡ false }
+        ensures later { S.faults store.old ≤ S.faults store.new }
+        ensures rose { is_disk_step result ≡ true → Rose (S.faults store.old) (S.faults store.new) }
         ensures going { GoesOn result self.new.hand.phase }
     {
         match self.fault {
@@ -304,6 +430,7 @@ impl<T: Source + Drop> Runner<T> {
         }
     }
 
+    #[tactic(auto, using(crate::proofs::Counting::end_disk))]
     fn end_after<S: Store, P: SqlText>(
         &mut self,
         session: u32,
@@ -313,14 +440,20 @@ impl<T: Source + Drop> Runner<T> {
         fault: StoreFault,
     ) -> Step
         requires valid { S.valid store.old }
+        requires reads { T.reads self.old.source self.old.dialect }
         requires live { IsTrue (S.state store.old).live }
         requires sql { P.dialect ≡ self.old.dialect }
         requires closed { is_open session (S.state store.old).begun ≡ false }
         requires lock { IfSome (lock_of (S.state store.old).dialect (S.state store.old).committed) (λ lock. HoldsAs self.old.stamp lock is_marked) }
         requires fault { self.old.fault ≡ Some fault }
+        requires disk { disk_failed self.old.fault ≡ false }
         ensures valid { S.valid store.new }
         ensures same { (self.new.dialect ≡ self.old.dialect) × (self.new.stamp ≡ self.old.stamp) }
+        ensures reads { T.reads self.new.source self.new.dialect }
         ensures ends { EndsFor self.old.dialect T.meaning self.old.stamp session (Some fault) self.old.refused (S.state store.old) result (S.state store.new) }
+        ensures disk { disk_failed self.new.fault ≡ false }
+        ensures later { S.faults store.old ≤ S.faults store.new }
+        ensures rose { is_disk_step result ≡ true → Rose (S.faults store.old) (S.faults store.new) }
         ensures going { GoesOn result self.new.hand.phase }
     {
         if is_marked {
@@ -332,12 +465,18 @@ impl<T: Source + Drop> Runner<T> {
 
     fn close<S: Store, P: SqlText>(&mut self, session: u32, store: &mut S, sql: &P) -> Step
         requires valid { S.valid store.old }
+        requires reads { T.reads self.old.source self.old.dialect }
         requires live { IsTrue (S.state store.old).live }
         requires sql { P.dialect ≡ self.old.dialect }
         requires closed { is_open session (S.state store.old).begun ≡ false }
+        requires disk { disk_failed self.old.fault ≡ false }
         ensures valid { S.valid store.new }
         ensures same { (self.new.dialect ≡ self.old.dialect) × (self.new.stamp ≡ self.old.stamp) }
+        ensures reads { T.reads self.new.source self.new.dialect }
         ensures closes { ClosesFor self.old.dialect T.meaning self.old.stamp session (last_end self.old.fault self.old.refused) (S.state store.old) result (S.state store.new) }
+        ensures disk { disk_failed self.new.fault ≡ false }
+        ensures later { S.faults store.old ≤ S.faults store.new }
+        ensures rose { is_disk_step result ≡ true → Rose (S.faults store.old) (S.faults store.new) }
         ensures going { GoesOn result self.new.hand.phase }
     {
         self.hand.phase = Phase::Over;
@@ -356,21 +495,69 @@ impl<T: Source + Drop> Runner<T> {
     }
 }
 
-fn next<T: Source, S: Store>(
+fn next<T: Source, S: Store, P: SqlText>(
     source: &mut T,
     alloc: Global,
     dialect: Dialect,
     stamp: &Stamp,
     session: u32,
     store: &S,
+    sql: &P,
 ) -> Entered
     requires valid { S.valid store.now }
     requires live { IsTrue (S.state store.now).live }
+    requires reads { T.reads source.old dialect }
+    requires sql { P.dialect ≡ dialect }
+    requires moment { stamp.now.reading ≤ 253402300799999 }
     ensures enters { Enters dialect T.meaning stamp.now (T.left source.old) (T.knows source.old) (seen session (S.state store.now)) result (T.left source.new) (T.knows source.new) (T.awaits source.new) }
+    ensures reads { T.reads source.new dialect }
 {
     match store.look(session) {
-        Ok(view) => source.enter(alloc, dialect, stamp, view),
+        Ok(view) => source.enter(alloc, dialect, stamp, view, sql),
         Err(_) => Entered::Lack,
+    }
+}
+
+// Before a user's statement the source looks at what that will see. No other session has a transaction
+// open there.
+fn show<T: Source, S: Store>(
+    source: &mut T,
+    call: Coming,
+    dialect: Dialect,
+    session: u32,
+    store: &S,
+)
+    requires valid { S.valid store.now }
+    requires live { IsTrue (S.state store.now).live }
+    requires reads { T.reads source.old dialect }
+    ensures left { T.left source.new ≡ T.left source.old }
+    ensures knows { (rows : List Tracked) → T.knows source.old rows → T.knows source.new rows }
+    ensures awaits { (rows : List Tracked) → T.awaits source.old rows → T.awaits source.new rows }
+    ensures reads { T.reads source.new dialect }
+{
+    if is_statement(call) {
+        look_at(source, dialect, session, store);
+    }
+}
+
+fn look_at<T: Source, S: Store>(source: &mut T, dialect: Dialect, session: u32, store: &S)
+    requires valid { S.valid store.now }
+    requires live { IsTrue (S.state store.now).live }
+    requires reads { T.reads source.old dialect }
+    ensures left { T.left source.new ≡ T.left source.old }
+    ensures knows { (rows : List Tracked) → T.knows source.old rows → T.knows source.new rows }
+    ensures awaits { (rows : List Tracked) → T.awaits source.old rows → T.awaits source.new rows }
+    ensures reads { T.reads source.new dialect }
+{
+    if let Ok(view) = store.look(session) {
+        source.looks(dialect, view);
+    }
+}
+
+fn is_statement(call: Coming) -> bool {
+    match call {
+        Coming::Statement(_) => true,
+        Coming::Commit | Coming::Other => false,
     }
 }
 
@@ -378,6 +565,7 @@ fn next<T: Source, S: Store>(
 fn taken<T: Source>(source: &mut T, hand: &Hand)
     ensures left { T.left source.new ≡ T.left source.old }
     ensures knows { (d : Dialect) (x : Both) → Expects d (T.knows source.old) (T.awaits source.old) (calls_left hand.now) x → KnownIn d (T.knows source.new) (T.awaits source.new) (calls_left hand.now) x }
+    ensures reads { (d : Dialect) → T.reads source.old d → T.reads source.new d }
 {
     if !hand.calls.is_empty() {
         return;
@@ -399,7 +587,7 @@ fn no_turn(alloc: Global) -> Hand
 fn stands<S: Store>(stamp: &Stamp, store: &S) -> Holding
     requires valid { S.valid store.now }
     requires live { IsTrue (S.state store.now).live }
-    requires reading { stamp.now.reading < 2 ^ 63 }
+    requires moment { stamp.now.reading ≤ 253402300799999 }
     ensures { IfSome (lock_of (S.state store.now).dialect (S.state store.now).committed) (λ lock. Holds stamp.now lock result) }
 {
     lock_held(stamp, store.lock())
@@ -409,6 +597,7 @@ fn locked<S: Store>(alloc: Global, store: &S) -> Step
     requires valid { S.valid store.now }
     requires live { IsTrue (S.state store.now).live }
     ensures tells { IfSome (lock_of (S.state store.now).dialect (S.state store.now).committed) (λ lock. TellsLock lock result) }
+    ensures told { is_disk_step result ≡ false }
     ensures over { GoesOn result phase.Over }
 {
     tell(alloc, store.lock())
@@ -416,6 +605,7 @@ fn locked<S: Store>(alloc: Global, store: &S) -> Step
 
 fn tell(alloc: Global, lock: &Lock) -> Step
     ensures tells { TellsLock lock.now result }
+    ensures told { is_disk_step result ≡ false }
     ensures over { GoesOn result phase.Over }
 {
     match lock.duplicate(alloc) {
@@ -424,7 +614,7 @@ fn tell(alloc: Global, lock: &Lock) -> Step
     }
 }
 
-fn may_enter(fault: Option<StoreFault>, refused: Option<Reason>) -> bool
+fn may_enter(fault: Option<StoreFault>, refused: Option<Refusal>) -> bool
     ensures { result ≡ enters_turns fault refused }
 {
     match fault {
@@ -436,10 +626,10 @@ fn may_enter(fault: Option<StoreFault>, refused: Option<Reason>) -> bool
     }
 }
 
-fn stopped_by(goes_on: bool, before: Option<Reason>, reason: Reason) -> Option<Reason>
-    ensures { result ≡ stopped_by (Some reason) goes_on before }
+fn stopped_by(goes_on: bool, before: Option<Refusal>, refusal: Refusal) -> Option<Refusal>
+    ensures { result ≡ stopped_by (Some refusal) goes_on before }
 {
-    if goes_on { before } else { Some(reason) }
+    if goes_on { before } else { Some(refusal) }
 }
 
 fn is_disk(fault: StoreFault) -> bool
@@ -455,7 +645,8 @@ fn is_disk(fault: StoreFault) -> bool
     }
 }
 
-fn end_of(fault: StoreFault) -> End
+/// What a fault of the store comes to.
+pub fn end_of(fault: StoreFault) -> End
     ensures { result ≡ end_of fault }
 {
     match fault {
@@ -468,13 +659,13 @@ fn end_of(fault: StoreFault) -> End
     }
 }
 
-fn last_end(fault: Option<StoreFault>, refused: Option<Reason>) -> End
+fn last_end(fault: Option<StoreFault>, refused: Option<Refusal>) -> End
     ensures { result ≡ last_end fault refused }
 {
     match fault {
         Some(fault) => end_of(fault),
         None => match refused {
-            Some(reason) => End::Refused(reason),
+            Some(refusal) => End::Refused(refusal),
             None => End::Done,
         },
     }

@@ -1,4 +1,5 @@
-use Rattle.std.proofs.Common.{inl, inr, refl}
+use Rattle.std.proofs.Common.{inl, inr, refl, sym, ◌∙◌}
+use Rattle.lq_run.proofs.Counting.{not_true}
 use Rattle.lq_run.proofs.Losing.{lost_steps, told_at}
 use Rattle.lq_run.specs.Holds.{IsBare, IsMarked}
 use Rattle.lq_run.specs.Steps.{TellsLock, standing}
@@ -15,3 +16,6 @@ returns-in-Lost-clause-steps g c = lost_steps c.args.self.now.dialect g.T.Source
 
 pub returns-in-Lost-clause-lost : goal.returns-in-Lost-clause-lost
 returns-in-Lost-clause-lost g c = λ there is database stands lost. (refl, told_at (λ lock. TellsLock lock c.locked.result) _ c.args.self.now.dialect _ database c.locked.ensures.tells is stands)
+
+pub returns-in-Lost-clause-rose : goal.returns-in-Lost-clause-rose
+returns-in-Lost-clause-rose g c = λ is. absurd (not_true (sym c.locked.ensures.told ∙ is))

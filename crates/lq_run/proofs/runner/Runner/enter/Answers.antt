@@ -4,8 +4,8 @@ use Rattle.lq_run.proofs.runner.Runner.enter.Goals as goal
 
 pub returns-in-Turn-clause-steps : goal.returns-in-Turn-clause-steps
 returns-in-Turn-clause-steps g c =
-    steps_entered c.args.self.now.dialect g.T.Source.meaning c.args.self.now.stamp c.args.session (standing g.T.Source.left g.T.Source.knows g.T.Source.awaits c.args.self.now) (g.S.Store.state c.args.store.now) c.requires.inside c.requires.none_left c.requires.closed c.requires.enters c.in-Turn.hand (g.T.Source.left c.next.new.source) (g.T.Source.knows c.next.new.source) (g.T.Source.awaits c.next.new.source)
-    (standing g.T.Source.left g.T.Source.knows g.T.Source.awaits c.inside.new.self) (g.S.Store.state c.inside.new.store) c.inside.result c.in-Turn.ensures.enters c.inside.ensures.steps
+    steps_entered c.args.self.now.dialect g.T.Source.meaning c.args.self.now.stamp c.args.session (standing g.T.Source.left g.T.Source.knows g.T.Source.awaits c.args.self.now) (g.S.Store.state c.args.store.now) c.requires.inside c.requires.none_left c.requires.closed c.requires.enters c.in-Turn.hand (g.T.Source.left c.next.new.source) (g.T.Source.knows c.next.new.source) (g.T.Source.awaits c.next.new.source) c.none-self.result
+    (standing g.T.Source.left g.T.Source.knows g.T.Source.awaits c.inside.new.self) (g.S.Store.state c.inside.new.store) c.inside.result c.none-self.ensures c.in-Turn.ensures.enters c.inside.ensures.steps
 
 pub returns-in-NoTurn-clause-steps : goal.returns-in-NoTurn-clause-steps
 returns-in-NoTurn-clause-steps g c =

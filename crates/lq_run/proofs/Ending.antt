@@ -1,0 +1,306 @@
+-- Step after step to the end.
+use Rattle.std.proofs.Common.{ap, inl, inr, rules, subst, sym, ◌∙◌}
+use Rattle.std.specs.Prelude.{Bool, List, None, Option, Some, [], false, refl, true, ℕ, ◌==◌, ◌++◌, ◌||◌, ◌∷◌, ◌≡◌, ◌≢◌, ◌⊎◌}
+use Rattle.lq_base.specs.declared.dialect.Dialect.{Dialect}
+use Rattle.lq_model.specs.declared.caller.Room.{Room}
+use Rattle.lq_model.specs.declared.caller.Room.TheVariants.{Ordinary, Release}
+use Rattle.lq_model.specs.declared.fault.StoreFault.{StoreFault}
+use Rattle.lq_model.specs.declared.fault.StoreFault.TheVariants as fault
+use Rattle.lq_store.specs.State.{State, Transaction, is_open}
+use Rattle.lq_turns.specs.Goes.{Both, are_accepted, went}
+use Rattle.lq_turns.specs.Rest.{NoMore, Over, Place, Turns, between, if_goes_on, rest, turns_calls}
+use Rattle.lq_turns.specs.Script.{closing}
+use Rattle.lq_turns.specs.Session.{Session, all_called, called}
+use Rattle.lq_turns.specs.Set.{Meaning}
+use Rattle.lq_turns.specs.Stepped.{both_of}
+use Rattle.lq_turns.specs.declared.call.Call.{Call}
+use Rattle.lq_turns.specs.declared.call.Call.TheVariants.{Abort, Alone, Begin, Commit, Execute}
+use Rattle.lq_turns.specs.declared.stamp.Stamp.{Stamp}
+use Rattle.lq_turns.specs.declared.stop.Refusal.{Refusal}
+use Rattle.lq_turns.specs.Turn.{made}
+use Rattle.lq_hand.specs.Hand.{IsReady, calls_left, hand_place}
+use Rattle.lq_hand.specs.declared.hand.Phase.{Phase}
+use Rattle.lq_hand.specs.declared.hand.Phase.TheVariants as phase
+use Rattle.lq_run.proofs.Grows.{calls_grow}
+use Rattle.lq_run.proofs.Keeping.{call_holds}
+use Rattle.lq_run.specs.Does.{Breaks, Faults}
+use Rattle.lq_run.specs.Ends.{AllHoldOn, AreLast, EndsAs, HoldsOn, IsBefore, IsOnWay, IsRunning, KeepsLock, Reaches, StandsBefore, at_end, disk_failed}
+use Rattle.lq_run.specs.Holds.{IsBare, IsHeld}
+use Rattle.lq_run.specs.Moves.{Goes, IsAt, Meets, room_of}
+use Rattle.lq_run.specs.Stands.{IsBegun, Stands}
+use Rattle.lq_run.specs.Steps.{Advances, Closes, Ends, Falls, Standing, Steps, StepsAs, TakesBack, end_of, enters_turns, is_disk, is_over, last_end, place, turns_of}
+use Rattle.lq_run.specs.declared.runner.End.{End}
+use Rattle.lq_run.specs.declared.runner.End.TheVariants as end
+use Rattle.lq_run.specs.declared.runner.Step.TheVariants as step
+
+self_eq : (n : ℕ) → (n == n) ≡ true
+self_eq n = Prim.search rules
+
+not_true : false ≡ true → ⊥
+not_true h = Prim.cc
+
+some_none : {why : StoreFault} → (let o : Option StoreFault = Some why in o) ≡ None → ⊥
+some_none h = Prim.cc
+
+same_some : {a b : StoreFault} → (let o : Option StoreFault = Some a in o) ≡ Some b → a ≡ b
+same_some h = Prim.cc
+
+head_is : {c k : Call} {cs ks : List Call} → c ∷ cs ≡ k ∷ ks → c ≡ k
+head_is h = Prim.cc
+
+tail_is : {c k : Call} {cs ks : List Call} → c ∷ cs ≡ k ∷ ks → cs ≡ ks
+tail_is h = Prim.cc
+
+not_nil : {c : Call} {cs : List Call} → c ∷ cs ≡ [] → ⊥
+not_nil h = Prim.cc
+
+rooms_differ : (let room : Room = Ordinary in room) ≡ Release → ⊥
+rooms_differ h = Prim.cc
+
+some_last : (calls : List Call) → calls ++ closing ∷ [] ≢ []
+some_last [] h = not_nil h
+some_last (call ∷ calls) h = not_nil h
+
+-- the call that frees the lock is the last
+only_last : (front : List Call) (call : Call) → call ∷ [] ≡ front ++ closing ∷ [] → call ≡ closing
+only_last [] call is = head_is is
+only_last (c ∷ front) call is = absurd (some_last front (sym (tail_is is)))
+
+keeps_split : (who : List ℕ) (call : Call) (more front : List Call) → call ∷ more ≡ front ++ closing ∷ [] → more ≢ [] → AllHoldOn who front → HoldsOn who call × KeepsLock who more
+keeps_split who call more [] is some all = absurd (some (tail_is is))
+keeps_split who call more (c ∷ front) is some all = (subst (HoldsOn who) (sym (head_is is)) all.0, record { front = front; is = tail_is is; holds = all.1 })
+
+-- of the calls of a turn none has room to free the lock
+holds_ordinary : (who : List ℕ) (call : Call) → HoldsOn who call → room_of call ≡ Release → ⊥
+holds_ordinary who Begin on room = rooms_differ room
+holds_ordinary who (Execute deed) on room = rooms_differ room
+holds_ordinary who Commit on room = rooms_differ room
+holds_ordinary who Abort on room = rooms_differ room
+holds_ordinary who (Alone deeds r) on room = on
+
+frees_last : (who : List ℕ) (front : List Call) (call : Call) (more : List Call) → call ∷ more ≡ front ++ closing ∷ [] → AllHoldOn who front → room_of call ≡ Release → call ≡ closing
+frees_last who [] call more is all room = head_is is
+frees_last who (c ∷ front) call more is all room = absurd (holds_ordinary who c all.0 (sym (ap room_of (head_is is)) ∙ room))
+
+module _ {Key : Type 0} (d : Dialect) (m : Meaning Key) (stamp : Stamp) (number : ℕ) where
+  pub opened_is : (start x : State) (s : Session) → Stands start number x s → is_open number x.begun ≡ s.is_open
+  opened_is start x s stands = by x.begun stands.begun where
+    by : (o : Option Transaction) → IsBegun start.dialect number s o → is_open number o ≡ s.is_open
+    by None begun = sym begun.0
+    by (Some t) begun = subst (λ n. (t.session == n) ≡ true) begun.1 (self_eq t.session) ∙ sym begun.0
+
+  pub ready_at : (p : Place Key) (start x : State) (s : Session) → IsAt d m stamp number p x start s → IsReady d (is_open number x.begun) p
+  ready_at p start x s is = subst (λ o. IsReady d o p) (sym (opened_is start x s is.stands)) is.ready
+
+  rest_left : (at : Phase) (calls : List Call) (goes_on : Bool) (turns : Turns Key) (x : Both) → is_over at ≡ false → rest d m stamp (hand_place at calls goes_on turns) x ≢ []
+  rest_left phase.Inside calls goes_on turns x h = some_last (made d calls x.1 ++ turns_calls d m stamp (if_goes_on (are_accepted d calls x.1 || goes_on) turns) (went d calls x).0)
+  rest_left phase.GivingUp calls goes_on turns x h = λ e. not_nil e
+  rest_left phase.Over calls goes_on turns x h = absurd (not_true (sym h))
+
+  left_after : (r : Standing Key) (x : Both) → is_over r.hand.phase ≡ false → rest d m stamp (place r) x ≢ []
+  left_after r x = rest_left r.hand.phase (calls_left r.hand) r.hand.goes_on (turns_of r) x
+
+  none_enters : (f : Option StoreFault) (refused : Option Refusal) (why : StoreFault) → f ≡ Some why → enters_turns f refused ≡ true → ⊥
+  none_enters f refused why is enters = not_true (sym (ap (λ o. enters_turns o refused) is) ∙ enters)
+
+  -- a call of the way
+  along : (p q : Place Key) (start : State) (s : Session) (y : State) (is : Goes d m stamp number p q start s y) → at_end d m stamp number q is.after ≡ at_end d m stamp number p s
+  along p q start s y is = ap (λ z. all_called d (rest d m stamp q (both_of is.after)) z) is.went.is ∙ sym (ap (λ calls. all_called d calls s) is.went.next)
+
+  before_last : (r : Standing Key) (s last : Session) → IsOnWay d m stamp number r s last → IsBefore s last
+  before_last r s last (inl same) = subst (IsBefore s) same (calls_grow d (rest d m stamp (place r) (both_of s)) s)
+  before_last r s last (inr fell) = fell.3
+
+  -- after the last call but one
+
+  module _ (start : State) (last : Session) (before after : Standing Key) (s : Session) (y : State) (more : is_over after.hand.phase ≡ false) (on : Advances d m stamp number before after start s y) where
+    abbrev goes : Goes d m stamp number (place before) (place after) start s y
+    goes = on.goes
+
+    goes_last : (why : StoreFault) → before.fault ≡ Some why → IsBefore s last → AreLast (rest d m stamp (place before) (both_of s)) → IsOnWay d m stamp number after goes.after last
+    goes_last why is way (inl closes) = absurd (left_after after (both_of goes.after) more (tail_is (sym goes.went.next ∙ closes)))
+    goes_last why is way (inr aborts) =
+        let next = sym goes.went.next ∙ aborts in
+        let ends : goes.after ≡ called d Abort s = goes.went.is ∙ ap (λ c. called d c s) (head_is next) in
+        inr (why, on.fault ∙ is, inl (tail_is next), subst (λ z. IsBefore z last) (sym ends) (record { more = way.more; entries = way.entries }))
+
+    goes_on_way : IsOnWay d m stamp number before s last → IsOnWay d m stamp number after goes.after last
+    goes_on_way (inl same) = inl (along (place before) (place after) start s y goes ∙ same)
+    goes_on_way (inr fell) = goes_last fell.0 fell.1 fell.3 fell.2
+
+    goes_on : (x : State) → IsRunning d m stamp number before x start s → IsOnWay d m stamp number before s last → Reaches d m stamp number after y start last
+    goes_on x is way =
+        let split = keeps_split stamp.who goes.went.call (rest d m stamp (place after) (both_of goes.after)) is.keeps.front (sym goes.went.next ∙ is.keeps.is) (left_after after (both_of goes.after) more) is.keeps.holds in
+        let held = call_holds stamp d goes.went.call s split.0 (is.committed, is.seen) in
+        record {
+          session = goes.after;
+          is = record {
+            there = record { at = goes.at; known = on.known };
+            committed = subst (λ z. IsHeld stamp z.committed.lock) (sym goes.went.is) held.0;
+            seen = subst (λ z. IsHeld stamp z.seen.lock) (sym goes.went.is) held.1;
+            keeps = split.1;
+            disk = ap disk_failed on.fault ∙ is.disk;
+          };
+          way = goes_on_way way;
+        }
+
+  -- a fault that is not the disk's
+
+  still_live : (why : StoreFault) (call : Call) (start : State) (s : Session) (x y : State) (room : Room) → Faults start number x s room call why y → y.live ≡ true → is_disk why ≡ false
+  still_live fault.Disk call start s x y room faults live = absurd (not_true (sym faults.fails.dead ∙ live))
+  still_live (fault.Full used next) call start s x y room faults live = refl
+  still_live fault.OutOfMemory call start s x y room faults live = refl
+  still_live (fault.Busy n) call start s x y room faults live = refl
+  still_live fault.NotSql call start s x y room faults live = refl
+  still_live (fault.Refused reason) call start s x y room faults live = refl
+
+  falls : (before after : Standing Key) (start : State) (last s : Session) (x y : State) → Falls d m stamp number before after start s x y → IsRunning d m stamp number before x start s → IsBefore s last → Reaches d m stamp number after y start last
+  falls before after start last s x y fell is way =
+      let left : rest d m stamp (place after) (both_of s) ≡ Abort ∷ closing ∷ [] = ap (λ p. rest d m stamp p (both_of s)) fell.gives_up in
+      record {
+        session = s;
+        is = record {
+          there = record { at = fell.at; known = λ enters. absurd (none_enters after.fault after.refused fell.why fell.fault enters) };
+          committed = is.committed;
+          seen = is.seen;
+          keeps = record { front = Abort ∷ []; is = left; holds = (tt, tt) };
+          disk = ap disk_failed fell.fault ∙ still_live fell.why fell.meets.call start s x y Ordinary fell.meets.faults fell.at.stands.live;
+        };
+        way = inr (fell.why, fell.fault, inr left, way);
+      }
+
+  takes_back : (before after : Standing Key) (start : State) (last s : Session) (x y : State) → TakesBack d m stamp number after start s y → IsRunning d m stamp number before x start s → IsBefore s last → Reaches d m stamp number after y start last
+  takes_back before after start last s x y back is way =
+      let left : rest d m stamp (place after) (both_of (called d Abort s)) ≡ closing ∷ [] = ap (λ p. rest d m stamp p (both_of (called d Abort s))) back.ends_turns in
+      record {
+        session = called d Abort s;
+        is = record {
+          there = record { at = back.at; known = λ enters. absurd (none_enters after.fault after.refused fault.OutOfMemory back.fault enters) };
+          committed = is.committed;
+          seen = is.committed;
+          keeps = record { front = []; is = left; holds = tt };
+          disk = ap disk_failed back.fault;
+        };
+        way = inr (fault.OutOfMemory, back.fault, inl left, record { more = way.more; entries = way.entries });
+      }
+
+  pub reaches : (before after : Standing Key) (start : State) (last : Session) (x y : State) → is_over after.hand.phase ≡ false → Reaches d m stamp number before x start last
+      → Steps d m stamp number before after x step.Going y → Reaches d m stamp number after y start last
+  reaches before after start last x y more is steps = by (steps start is.session is.is.there (λ there. is.is.committed)) where
+    way : IsBefore is.session last
+    way = before_last before is.session last is.way
+
+    by : StepsAs d m stamp number before after start is.session x step.Going y → Reaches d m stamp number after y start last
+    by (inl on) = goes_on start last before after is.session y more on x is.is is.way
+    by (inr (inl fell)) = falls before after start last is.session x y fell is.is way
+    by (inr (inr back)) = takes_back before after start last is.session x y back is.is way
+
+  -- the end
+
+  module _ (start : State) (last s : Session) (x y : State) (stands : Stands start number x s) (same_dialect : start.dialect ≡ d) (way : IsBefore s last) where
+    stands_still : y ≡ x → StandsBefore d m stamp number start last y
+    stands_still is = (s, way, inl (subst (λ z. Stands start number z s) (sym is) stands))
+
+    -- a call on the way, or the one that frees a lock without a mark, met a fault
+    meets : (p : Place Key) (room : Room) (why : StoreFault) (is : Meets d m stamp number p start s x room why y) → (IsBefore (called d is.call s) last ⊎ ((is.call ≡ closing) × IsBare stamp s.committed.lock × IsBefore s last))
+        → EndsAs d m stamp number start last (end_of why) y
+    meets p room fault.Disk is next = record { s = s; x = x; stands = stands; call = is.call; breaks = subst (λ e. Breaks e is.call s x y) same_dialect is.faults; before = next }
+    meets p room (fault.Full used more) is next = stands_still is.faults.1
+    meets p room fault.OutOfMemory is next = stands_still is.faults
+    meets p room (fault.Busy n) is next = absurd is.faults
+    meets p room fault.NotSql is next = absurd is.faults
+    meets p room (fault.Refused reason) is next = absurd is.faults
+
+    -- the lock is freed after a fault
+    frees : (why : StoreFault) → is_disk why ≡ false → StandsBefore d m stamp number start last y → EndsAs d m stamp number start last (end_of why) y
+    frees fault.Disk other is = absurd (not_true (sym other))
+    frees (fault.Full used more) other is = is
+    frees fault.OutOfMemory other is = is
+    frees (fault.Busy n) other is = is
+    frees fault.NotSql other is = is
+    frees (fault.Refused reason) other is = is
+
+    closes_bare : (p : Place Key) (why : StoreFault) (e : End) → is_disk why ≡ false → IsBare stamp s.committed.lock
+        → ((call : Call) (more : List Call) → rest d m stamp p (both_of s) ≡ call ∷ more → room_of call ≡ Release → (call ≡ closing))
+        → ((call : Call) → rest d m stamp p (both_of s) ≡ call ∷ [] → call ≡ closing)
+        → Closes d m stamp number p (end_of why) start s x e y → EndsAs d m stamp number start last e y
+    closes_bare p why e other bare at_room only (inl went) =
+        let is = went.0 in
+        let ends : is.after ≡ called d closing s = is.went.is ∙ ap (λ c. called d c s) (only is.went.call is.went.next) in
+        subst (λ a. EndsAs d m stamp number start last a y) (sym went.1) (frees why other (s, way, inr (bare, subst (Stands start number y) ends is.at.stands)))
+    closes_bare p why e other bare at_room only (inr failed) =
+        subst (λ a. EndsAs d m stamp number start last a y) (sym failed.2) (meets p Release failed.0 failed.1 (inr (at_room failed.1.call failed.1.more failed.1.next failed.1.by, bare, way)))
+
+    ends_bare : (p : Place Key) (why : StoreFault) (refused : Option Refusal) (e : End) → is_disk why ≡ false
+        → ((call : Call) (more : List Call) → rest d m stamp p (both_of s) ≡ call ∷ more → room_of call ≡ Release → (call ≡ closing))
+        → ((call : Call) → rest d m stamp p (both_of s) ≡ call ∷ [] → call ≡ closing)
+        → Ends d m stamp number p (Some why) refused start s x e y → EndsAs d m stamp number start last e y
+    ends_bare p why refused e other at_room only (inl bare) = closes_bare p why e other bare.0 at_room only bare.1
+    ends_bare p why refused e other at_room only (inr marked) = subst (λ a. EndsAs d m stamp number start last a y) (sym marked.2) (frees why other (stands_still marked.1))
+
+  module _ (before : Standing Key) (start : State) (last : Session) (x y : State) (is : Reaches d m stamp number before x start last) where
+    abbrev s : Session
+    s = is.session
+
+    here : IsRunning d m stamp number before x start s
+    here = is.is
+
+    abbrev calls : List Call
+    calls = rest d m stamp (place before) (both_of s)
+
+    way : IsBefore s last
+    way = before_last before s last is.way
+
+    on_way : (call : Call) (more : List Call) → calls ≡ call ∷ more → room_of call ≡ Ordinary → IsBefore (called d call s) last
+    on_way call more next room = by is.way where
+      by : IsOnWay d m stamp number before s last → IsBefore (called d call s) last
+      by (inl same) = subst (IsBefore (called d call s)) (sym (ap (λ cs. all_called d cs s) next) ∙ same) (calls_grow d more (called d call s))
+      by (inr fell) = by_last fell.2 where
+        by_last : AreLast calls → IsBefore (called d call s) last
+        by_last (inl closes) = absurd (rooms_differ (sym room ∙ ap room_of (head_is (sym next ∙ closes))))
+        by_last (inr aborts) = subst (λ c. IsBefore (called d c s) last) (sym (head_is (sym next ∙ aborts))) (record { more = way.more; entries = way.entries })
+
+    -- without a fault so far
+    at_last : before.fault ≡ None → at_end d m stamp number (place before) s ≡ last
+    at_last none = by is.way where
+      by : IsOnWay d m stamp number before s last → at_end d m stamp number (place before) s ≡ last
+      by (inl same) = same
+      by (inr fell) = absurd (some_none (sym fell.1 ∙ none))
+
+    ends_last : (refused : Option Refusal) → Stands start number y last → EndsAs d m stamp number start last (last_end None refused) y
+    ends_last None stands = stands
+    ends_last (Some refusal) stands = stands
+
+    ends_none : (refused : Option Refusal) (e : End) → before.fault ≡ None → Closes d m stamp number (place before) (last_end None refused) start s x e y → EndsAs d m stamp number start last e y
+    ends_none refused e none (inl went) =
+        subst (λ a. EndsAs d m stamp number start last a y) (sym went.1)
+        (ends_last refused (subst (Stands start number y) (along (place before) Over start s y went.0 ∙ at_last none) went.0.at.stands))
+    ends_none refused e none (inr failed) =
+        let it = failed.1 in
+        subst (λ a. EndsAs d m stamp number start last a y) (sym failed.2)
+        (meets start last s x y here.there.at.stands here.there.at.dialect way (place before) Release failed.0 it
+        (inl (subst (IsBefore (called d it.call s)) (sym (ap (λ cs. all_called d cs s) it.next) ∙ at_last none) (calls_grow d it.more (called d it.call s)))))
+
+    ends_by : (f : Option StoreFault) (e : End) → before.fault ≡ f → Ends d m stamp number (place before) f before.refused start s x e y → EndsAs d m stamp number start last e y
+    ends_by None e none ends = ends_none before.refused e none ends
+    ends_by (Some why) e some ends =
+        ends_bare start last s x y here.there.at.stands here.there.at.dialect way (place before) why before.refused e (sym (ap disk_failed some) ∙ here.disk)
+        (λ call more next room. frees_last stamp.who here.keeps.front call more (sym next ∙ here.keeps.is) here.keeps.holds room)
+        (λ call next. only_last here.keeps.front call (sym next ∙ here.keeps.is)) ends
+
+    by_end : (after : Standing Key) (e : End) → StepsAs d m stamp number before after start s x (step.Ended e) y → EndsAs d m stamp number start last e y
+    by_end after e (inl ends) = ends_by before.fault e refl ends
+    by_end after e (inr (inl short)) =
+        ends_bare start last s x y here.there.at.stands here.there.at.dialect way (between NoMore) fault.OutOfMemory before.refused e refl
+        (λ call more next room. sym (head_is next)) (λ call next. sym (head_is next)) short
+    by_end after e (inr (inr failed)) =
+        let it = failed.0 in
+        subst (λ a. EndsAs d m stamp number start last a y) (sym failed.1)
+        (meets start last s x y here.there.at.stands here.there.at.dialect way (place before) Ordinary fault.Disk it (inl (on_way it.call it.more it.next it.by)))
+
+    pub ends : (after : Standing Key) (e : End) → Steps d m stamp number before after x (step.Ended e) y → EndsAs d m stamp number start last e y
+    ends after e steps = by_end after e (steps start s here.there (λ there. here.committed))
+
+  -- a runner that has made too many calls stands where it is
+  pub stops : (r : Standing Key) (start : State) (last : Session) (x : State) → Reaches d m stamp number r x start last → EndsAs d m stamp number start last end.OutOfMemory x
+  stops r start last x is = (is.session, before_last r is.session last is.way, inl is.is.there.at.stands)

@@ -1,0 +1,14 @@
+use Rattle.std.proofs.Common.{rules, subst, ◌≡◌}
+use Rattle.lq_model.specs.declared.caller.Room.TheVariants.{Ordinary}
+use Rattle.lq_run.proofs.Opens.{fails_first, takes_lock}
+use Rattle.lq_run.specs.Does.{AloneFor}
+use Rattle.lq_run.proofs.alone.take_lock.Goals as goal
+
+pub returns-in-Ok-clause-does : goal.returns-in-Ok-clause-does
+returns-in-Ok-clause-does g c =
+    let is : c.as_slice.result.now ≡ c.in-Ok.deeds = search rules in
+    takes_lock c.args.dialect c.args.stamp.now c.args.session (g.S.Store.state c.args.store.now) (g.S.Store.state c.do_alone.new.store) c.in-Ok.deeds c.do_alone.result c.requires.moment c.requires.closed c.in-Ok.ensures.opens
+    (subst (λ deeds. AloneFor c.args.dialect c.args.session deeds Ordinary (g.S.Store.state c.args.store.now) c.do_alone.result (g.S.Store.state c.do_alone.new.store)) is c.do_alone.ensures.does)
+
+pub returns-in-Err-clause-does : goal.returns-in-Err-clause-does
+returns-in-Err-clause-does g c = fails_first c.args.dialect c.args.stamp.now c.args.session (g.S.Store.state c.args.store.now) c.in-Err.fault c.in-Err.ensures.fails

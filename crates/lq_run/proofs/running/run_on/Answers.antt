@@ -1,0 +1,65 @@
+use Rattle.std.proofs.Common.{inl, le_trans, refl, rules, subst, sym, ◌∙◌}
+use Rattle.lq_hand.specs.Hand.{IsReady}
+use Rattle.lq_run.proofs.Counting.{rose_later}
+use Rattle.lq_run.proofs.Ending.{ends, reaches, ready_at, stops}
+use Rattle.lq_run.specs.Ends.{at_end}
+use Rattle.lq_run.specs.Steps.{Steps, place, standing}
+use Rattle.lq_run.specs.declared.runner.Step.TheVariants as step
+use Rattle.lq_store.specs.State.{is_open}
+use Rattle.lq_run.proofs.running.run_on.Goals as goal
+
+pub loop-init : goal.loop-init
+loop-init g c = record { valid = c.requires.valid; dialect = refl; stamp = refl; reads = c.requires.reads; begun = c.requires.begun; disk = c.requires.runs.is.disk; later = search rules; reaches = λ start s is. record { session = s; is = is; way = inl refl } }
+
+pub step-requires-clause-live : goal.step-requires-clause-live
+step-requires-clause-live g c = (c.loop.invariant.reaches c.requires.runs.start c.requires.runs.session c.requires.runs.is).is.there.at.stands.live
+
+pub step-requires-clause-ready : goal.step-requires-clause-ready
+step-requires-clause-ready g c =
+    let k = c.loop.invariant in
+    let here = k.reaches c.requires.runs.start c.requires.runs.session c.requires.runs.is in
+    let r = c.args.runner.now in
+    subst (λ d. IsReady d (is_open c.args.session (g.S.Store.state c.loop.store).begun) (place (standing g.T.Source.left g.T.Source.knows g.T.Source.awaits c.loop.runner))) (sym k.dialect)
+    (ready_at r.dialect g.T.Source.meaning r.stamp c.args.session (place (standing g.T.Source.left g.T.Source.knows g.T.Source.awaits c.loop.runner)) c.requires.runs.start (g.S.Store.state c.loop.store) here.session here.is.there.at)
+
+pub loop-preserved : goal.loop-preserved
+loop-preserved g c =
+    let k = c.loop.invariant in
+    let r = c.args.runner.now in
+    let same = c.in-Going.ensures.same in
+    let now = standing g.T.Source.left g.T.Source.knows g.T.Source.awaits c.loop.runner in
+    let next = standing g.T.Source.left g.T.Source.knows g.T.Source.awaits c.step.new.self in
+    record {
+      valid = c.in-Going.ensures.valid;
+      dialect = same.0 ∙ k.dialect;
+      stamp = same.1 ∙ k.stamp;
+      reads = c.in-Going.ensures.reads;
+      begun = c.in-Going.ensures.going;
+      disk = c.in-Going.ensures.disk;
+      later = le_trans k.later c.in-Going.ensures.later;
+      reaches = λ start s is. reaches r.dialect g.T.Source.meaning r.stamp c.args.session now next start (at_end r.dialect g.T.Source.meaning r.stamp c.args.session (place (standing g.T.Source.left g.T.Source.knows g.T.Source.awaits r)) s)
+          (g.S.Store.state c.loop.store) (g.S.Store.state c.step.new.store) c.in-Going.ensures.going (k.reaches start s is)
+          (subst (λ d. Steps d g.T.Source.meaning r.stamp c.args.session now next (g.S.Store.state c.loop.store) step.Going (g.S.Store.state c.step.new.store)) k.dialect
+          (subst (λ t. Steps c.loop.runner.dialect g.T.Source.meaning t c.args.session now next (g.S.Store.state c.loop.store) step.Going (g.S.Store.state c.step.new.store)) k.stamp c.in-Going.ensures.steps));
+    }
+
+pub returns-in-Ended-clause-ends : goal.returns-in-Ended-clause-ends
+returns-in-Ended-clause-ends g c =
+    let k = c.loop.invariant in
+    let r = c.args.runner.now in
+    let now = standing g.T.Source.left g.T.Source.knows g.T.Source.awaits c.loop.runner in
+    let next = standing g.T.Source.left g.T.Source.knows g.T.Source.awaits c.step.new.self in
+    λ start s is. ends r.dialect g.T.Source.meaning r.stamp c.args.session now start (at_end r.dialect g.T.Source.meaning r.stamp c.args.session (place (standing g.T.Source.left g.T.Source.knows g.T.Source.awaits r)) s)
+    (g.S.Store.state c.loop.store) (g.S.Store.state c.step.new.store) (k.reaches start s is) next c.in-Ended.end
+    (subst (λ d. Steps d g.T.Source.meaning r.stamp c.args.session now next (g.S.Store.state c.loop.store) (step.Ended c.in-Ended.end) (g.S.Store.state c.step.new.store)) k.dialect
+    (subst (λ t. Steps c.loop.runner.dialect g.T.Source.meaning t c.args.session now next (g.S.Store.state c.loop.store) (step.Ended c.in-Ended.end) (g.S.Store.state c.step.new.store)) k.stamp c.in-Ended.ensures.steps))
+
+pub returns-clause-ends : goal.returns-clause-ends
+returns-clause-ends g c =
+    let k = c.loop.invariant in
+    let r = c.args.runner.now in
+    λ start s is. stops r.dialect g.T.Source.meaning r.stamp c.args.session (standing g.T.Source.left g.T.Source.knows g.T.Source.awaits c.loop.runner) start (at_end r.dialect g.T.Source.meaning r.stamp c.args.session (place (standing g.T.Source.left g.T.Source.knows g.T.Source.awaits r)) s)
+    (g.S.Store.state c.loop.store) (k.reaches start s is)
+
+pub returns-in-Ended-clause-rose : goal.returns-in-Ended-clause-rose
+returns-in-Ended-clause-rose g c = λ is. rose_later (g.S.Store.faults c.args.store.now) (g.S.Store.faults c.loop.store) (g.S.Store.faults c.step.new.store) c.loop.invariant.later (c.in-Ended.ensures.rose is)

@@ -1,0 +1,24 @@
+use Rattle.std.proofs.Common.{◌≡◌, false}
+use Rattle.std.specs.Prelude.{◌≤◌}
+use Rattle.lq_store.specs.State.{State}
+use Rattle.lq_turns.specs.Session.{Session}
+use Rattle.lq_run.specs.Ends.{IsRunning, Reaches, at_end, disk_failed}
+use Rattle.lq_run.specs.Steps.{is_over, place, standing}
+use Rattle.lq_run.proofs.running.run_on.Given as goal
+
+-- wherever it began, it is on the way to the same end
+abbrev pub invariant-loop : goal.invariant-loop
+invariant-loop g l =
+    let r = l.fn.runner in
+    record {
+      valid : g.S.Store.valid l.store;
+      dialect : l.runner.dialect ≡ r.dialect;
+      stamp : l.runner.stamp ≡ r.stamp;
+      reads : g.T.Source.reads l.runner.source l.runner.dialect;
+      begun : is_over l.runner.hand.phase ≡ false;
+      disk : disk_failed l.runner.fault ≡ false;
+      later : g.S.Store.faults l.fn.store ≤ g.S.Store.faults l.store;
+      reaches : (start : State) (s : Session) → IsRunning r.dialect g.T.Source.meaning r.stamp l.session (standing g.T.Source.left g.T.Source.knows g.T.Source.awaits r) (g.S.Store.state l.fn.store) start s
+          → Reaches r.dialect g.T.Source.meaning r.stamp l.session (standing g.T.Source.left g.T.Source.knows g.T.Source.awaits l.runner) (g.S.Store.state l.store) start
+          (at_end r.dialect g.T.Source.meaning r.stamp l.session (place (standing g.T.Source.left g.T.Source.knows g.T.Source.awaits r)) s);
+    }

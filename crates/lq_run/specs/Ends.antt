@@ -1,0 +1,120 @@
+-- How a command ends that runs alone.
+use Rattle.std.specs.Prelude.{Bool, List, None, Option, Some, [], false, ℕ, ◌++◌, ◌∷◌, ◌≡◌, ◌⊎◌}
+use Rattle.lq_base.specs.declared.dialect.Dialect.{Dialect}
+use Rattle.lq_model.specs.declared.fault.StoreFault.{StoreFault}
+use Rattle.lq_store.specs.State.{State}
+use Rattle.lq_turns.specs.Rest.{Place, rest}
+use Rattle.lq_turns.specs.Script.{closing}
+use Rattle.lq_turns.specs.Session.{Session, all_called, called}
+use Rattle.lq_turns.specs.Set.{Meaning}
+use Rattle.lq_turns.specs.Stepped.{both_of}
+use Rattle.lq_turns.specs.declared.call.Call.{Call}
+use Rattle.lq_turns.specs.declared.call.Call.TheVariants.{Abort, Alone, Begin, Commit, Execute}
+use Rattle.lq_turns.specs.declared.deed.Deed.{Deed}
+use Rattle.lq_turns.specs.declared.deed.Deed.TheVariants.{Locks, Rows, Users}
+use Rattle.lq_turns.specs.declared.deed.OnLock.TheVariants.{Freed, LockMade, LockRowMade, LogMade, Marked, Taken}
+use Rattle.lq_turns.specs.declared.stamp.Stamp.{Stamp}
+use Rattle.lq_run.specs.Does.{Breaks}
+use Rattle.lq_run.specs.Holds.{IsBare, IsHeld}
+use Rattle.lq_run.specs.Stands.{Stands}
+use Rattle.lq_run.specs.Steps.{IsThere, Standing, is_disk, place}
+use Rattle.lq_run.specs.declared.runner.End.{End}
+use Rattle.lq_run.specs.declared.runner.End.TheVariants as end
+
+-- the name, bare or with a mark behind it
+abbrev pub IsNameOf : List ℕ → List ℕ → Type 0
+IsNameOf who by = (by ≡ who) ⊎ ((mark : List ℕ) × (by ≡ who ++ 124 ∷ mark))
+
+-- the call leaves the lock held by who holds it
+abbrev pub HoldsOn : List ℕ → Call → Type 0
+HoldsOn who Begin = Unit {0}
+HoldsOn who Commit = Unit {0}
+HoldsOn who Abort = Unit {0}
+HoldsOn who (Alone deeds room) = ⊥
+HoldsOn who (Execute (Users s)) = Unit {0}
+HoldsOn who (Execute (Rows w)) = Unit {0}
+HoldsOn who (Execute (Locks LogMade)) = Unit {0}
+HoldsOn who (Execute (Locks LockMade)) = Unit {0}
+HoldsOn who (Execute (Locks LockRowMade)) = Unit {0}
+HoldsOn who (Execute (Locks (Taken at by))) = ⊥
+HoldsOn who (Execute (Locks (Marked by))) = IsNameOf who by
+HoldsOn who (Execute (Locks Freed)) = ⊥
+
+abbrev pub AllHoldOn : List ℕ → List Call → Type 0
+AllHoldOn who [] = Unit {0}
+AllHoldOn who (call ∷ calls) = HoldsOn who call × AllHoldOn who calls
+
+-- the last of the calls frees the lock, and those before it leave it held
+pub record KeepsLock (who : List ℕ) (calls : List Call) : Type 0 where
+  pub front : List Call
+  pub is : calls ≡ front ++ closing ∷ []
+  pub holds : AllHoldOn who front
+
+abbrev pub disk_failed : Option StoreFault → Bool
+disk_failed None = false
+disk_failed (Some why) = is_disk why
+
+-- what a session's calls have written is a front of what the last one's have
+pub record IsBefore (s last : Session) : Type 0 where
+  pub more : List (List Deed)
+  pub entries : last.entries ≡ s.entries ++ more
+
+-- the last call alone is to come, or it after an abort
+abbrev pub AreLast : List Call → Type 0
+AreLast calls = (calls ≡ closing ∷ []) ⊎ (calls ≡ Abort ∷ closing ∷ [])
+
+module _ {Key : Type 0} (d : Dialect) (m : Meaning Key) (stamp : Stamp) (number : ℕ) where
+  -- The store stands for a session at the command's place, and the command holds the lock until its last call.
+  pub record IsRunning (r : Standing Key) (x start : State) (s : Session) : Type 0 where
+    pub there : IsThere d m stamp number r x start s
+    pub committed : IsHeld stamp s.committed.lock
+    pub seen : IsHeld stamp s.seen.lock
+    pub keeps : KeepsLock stamp.who (rest d m stamp (place r) (both_of s))
+    pub disk : disk_failed r.fault ≡ false
+
+  -- it does so for some session
+  pub record Runs (r : Standing Key) (x : State) : Type 0 where
+    pub start : State
+    pub session : Session
+    pub is : IsRunning r x start session
+
+  -- the session after all calls to come
+  abbrev pub at_end : Place Key → Session → Session
+  at_end p s = all_called d (rest d m stamp p (both_of s)) s
+
+  -- the calls to come lead to the last session; or a fault was met, and no other turn comes
+  abbrev pub IsOnWay : Standing Key → Session → Session → Type 0
+  IsOnWay r s last = (at_end (place r) s ≡ last) ⊎ ((why : StoreFault) × (r.fault ≡ Some why) × AreLast (rest d m stamp (place r) (both_of s)) × IsBefore s last)
+
+  -- on the way to the last session
+  pub record Reaches (r : Standing Key) (x start : State) (last : Session) : Type 0 where
+    pub session : Session
+    pub is : IsRunning r x start session
+    pub way : IsOnWay r session last
+
+  module _ (start : State) (last : Session) where
+    -- the store stands for a session on the way; after it the lock may have been freed, where it had no mark
+    abbrev pub StandsBefore : State → Type 0
+    StandsBefore y = (s : Session) × IsBefore s last × (Stands start number y s ⊎ (IsBare stamp s.committed.lock × Stands start number y (called d closing s)))
+
+    -- the disk failed at a call on the way, or at the one that frees the lock after another fault
+    pub record BreaksBefore (y : State) : Type 0 where
+      pub s : Session
+      pub x : State
+      pub stands : Stands start number x s
+      pub call : Call
+      pub breaks : Breaks d call s x y
+      pub before : IsBefore (called d call s) last ⊎ ((call ≡ closing) × IsBare stamp s.committed.lock × IsBefore s last)
+
+    -- without a fault the store stands for the last session
+    abbrev pub EndsAs : End → State → Type 0
+    EndsAs end.Done y = Stands start number y last
+    EndsAs (end.Refused refusal) y = Stands start number y last
+    EndsAs (end.Locked lock) y = ⊥
+    EndsAs end.Disk y = BreaksBefore y
+    EndsAs (end.Full used next) y = StandsBefore y
+    EndsAs end.OutOfMemory y = StandsBefore y
+
+  -- for every session for which it runs
+  abbrev pub RunsOn : Standing Key → State → End → State → Type 0
+  RunsOn r x e y = (start : State) (s : Session) → IsRunning r x start s → EndsAs start (at_end (place r) s) e y

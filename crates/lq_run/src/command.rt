@@ -1,0 +1,49 @@
+ghost use Rattle.std.specs.Prelude.{◌≡◌, ◌≤◌, true};
+ghost use Rattle.lq_run.specs.Commands.{IsNew, LeavesAll, RunsWhole, SomeMayRun};
+ghost use Rattle.lq_outside.specs.Count.{Rose};
+ghost use Rattle.lq_run.specs.Faults.{is_disk_end};
+ghost use Rattle.lq_run.specs.Steps.{standing};
+
+use crate::alone::take_lock;
+use crate::runner::{End, Runner, end_of};
+use crate::running::run_on;
+use lq_hand::Source;
+use lq_model::SqlText;
+use lq_store::Store;
+
+/// Takes the lock, makes all calls that a command has still to make, and frees the lock. The command
+/// has made none.
+///
+/// Where it is done, or a statement was refused, the store stands for what the whole script leaves. A
+/// fault of the store before the lock is taken leaves it as it was, but for what a fault of the disk
+/// has written; after that it stands for what a front of the script leaves.
+pub fn run_command<T: Source + Drop, S: Store, P: SqlText>(
+    runner: &mut Runner<T>,
+    session: u32,
+    store: &mut S,
+    sql: &P,
+) -> End
+    requires valid { S.valid store.old }
+    requires reads { T.reads runner.old.source runner.old.dialect }
+    requires sql { P.dialect ≡ runner.old.dialect }
+    requires moment { runner.old.stamp.reading ≤ 253402300799999 }
+    requires new { IsNew runner.old.dialect T.meaning runner.old.stamp (standing T.left T.knows T.awaits runner.old) }
+    requires may_run { SomeMayRun runner.old.dialect T.meaning runner.old.stamp session (standing T.left T.knows T.awaits runner.old) (S.state store.old) }
+    ensures valid { S.valid store.new }
+    ensures ends { RunsWhole runner.old.dialect T.meaning runner.old.stamp session (standing T.left T.knows T.awaits runner.old) (S.state store.old) result (S.state store.new) }
+    ensures leaves { LeavesAll runner.old.dialect T.meaning runner.old.stamp (standing T.left T.knows T.awaits runner.old) (S.state store.old) result (S.state store.new) }
+    ensures later { S.faults store.old ≤ S.faults store.new }
+    ensures rose { is_disk_end result ≡ true → Rose (S.faults store.old) (S.faults store.new) }
+{
+    match take_lock(
+        runner.alloc,
+        session,
+        store,
+        sql,
+        runner.dialect,
+        &runner.stamp,
+    ) {
+        Ok(()) => run_on(runner, session, store, sql),
+        Err(fault) => end_of(fault),
+    }
+}
