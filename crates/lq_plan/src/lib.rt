@@ -13,5 +13,7 @@ mod validation;
 pub use head::Head;
 pub use kept_rows::{NoTag, suffix};
 pub use laws::heads_tell;
+pub use row_index::{RowIndex, index_of, row_at};
+pub use seen::key_of;
 pub use turns::{Item, greatest, pending, work};
 pub use validation::faults;

@@ -7,11 +7,11 @@ use Rattle.lq_base.specs.declared.dialect.Dialect.{Dialect}
 use Rattle.lq_base.specs.declared.tracking.Tracked.{Tracked}
 use Rattle.lq_expr.specs.declared.options.Options.{Options}
 use Rattle.lq_kinds.specs.AnyChange.{is_for}
+use Rattle.lq_kinds.specs.Dialects.{is_read_for}
 use Rattle.lq_kinds.specs.declared.change_set.ChangeSet.{ChangeSet}
 use Rattle.lq_model.proofs.Lists.{and_left, and_right, and_true}
 use Rattle.lq_model.specs.declared.statement.Statement.{Statement}
 use Rattle.lq_sets.proofs.Ways.{IsBy, at_place, last_first, map_behind, some_way, undone_by}
-use Rattle.lq_sets.specs.Dialects.{is_read_for}
 use Rattle.lq_sets.specs.Laws.{ViewsAreRead}
 use Rattle.lq_sets.specs.Reversal.{AreWays, by_place, found_at, is_undoable, taken_back, turn_back}
 use Rattle.lq_sets.specs.View.{any_meaning, view, views}

@@ -31,7 +31,6 @@ use Rattle.lq_model.specs.declared.index.Index.{Index}
 use Rattle.lq_model.specs.declared.query.Query.{Query}
 use Rattle.lq_sets.specs.Seen.{ConditionsSee, IsSeen}
 use Rattle.lq_track.specs.Database.{Database}
-use Rattle.lq_turns.specs.Held.{StandsFor}
 
 abbrev as_told : Bool → Result Bool Reason
 as_told b = Ok b

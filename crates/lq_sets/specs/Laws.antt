@@ -5,12 +5,13 @@ use Rattle.lq_base.specs.declared.dialect.Dialect.{Dialect}
 use Rattle.lq_base.specs.declared.tracking.Tracked.{Tracked}
 use Rattle.lq_expr.specs.declared.options.Options.{Options}
 use Rattle.lq_kinds.specs.AnyChange.{is_for}
+use Rattle.lq_kinds.specs.Dialects.{AreFor}
 use Rattle.lq_kinds.specs.declared.any_change.AnyChange.{AnyChange}
 use Rattle.lq_kinds.specs.declared.change_set.ChangeSet.{ChangeSet}
 use Rattle.lq_kinds.specs.declared.change_set.Changelog.{Changelog}
 use Rattle.lq_model.specs.Statement.{is_statement}
-use Rattle.lq_sets.specs.Dialects.{AreFor}
 use Rattle.lq_sets.specs.Reversal.{taken_back}
+use Rattle.lq_sets.specs.RowTurns.{goes_back}
 use Rattle.lq_sets.specs.View.{any_meaning, view, view_log, views}
 use Rattle.lq_sets.specs.declared.reversal.TakenBack.TheVariants.{By}
 use Rattle.lq_track.specs.Log.{identity_of}
@@ -32,7 +33,7 @@ ViewsAreRead = (d : Dialect) (options : Options) (g : Changelog) → AreFor d g 
 abbrev pub StatementsAreSpelled : Type 0
 StatementsAreSpelled = (d : Dialect) (xs : List AnyChange) → list_all (is_for d) xs ≡ true → list_all (is_statement d) (statements_of d any_meaning xs) ≡ true
 
--- so are those of the turns that take rows back
+-- so are those of the turns that take rows back, and each deletes its row
 abbrev pub TurnsBackAreSpelled : Type 0
 TurnsBackAreSpelled = (d : Dialect) (options : Options) (g : Changelog) (rows : List Tracked) (turns : List Turn) → AreFor d g → undo_turns d any_meaning (views options g.sets) rows ≡ Some turns
-    → list_all (λ (turn : Turn). list_all (is_statement d) turn.statements) turns ≡ true
+    → list_all (goes_back d) turns ≡ true

@@ -1,5 +1,5 @@
 -- What a condition sees of a database.
-use Rattle.std.specs.Prelude.{Bool, List, false, true, ◌≡◌}
+use Rattle.std.specs.Prelude.{Bool, List, None, false, true, ◌≡◌}
 use Rattle.lq_base.specs.declared.dialect.Dialect.{Dialect}
 use Rattle.lq_base.specs.declared.tracking.Tracked.{Tracked}
 use Rattle.lq_cond.specs.Told.{told}
@@ -7,6 +7,8 @@ use Rattle.lq_cond.specs.declared.cond.Cond.{Cond}
 use Rattle.lq_model.specs.Catalogue.{Catalogue}
 use Rattle.lq_track.specs.Database.{Database}
 use Rattle.lq_turns.specs.Held.{StandsFor}
+use Rattle.lq_turns.specs.declared.choice.Choice.{Choice}
+use Rattle.lq_turns.specs.declared.choice.Choice.TheVariants.{Fills, Runs}
 use Rattle.lq_turns.specs.declared.choice.What.{What}
 use Rattle.lq_turns.specs.declared.choice.What.TheVariants.{Again, Fill, New}
 
@@ -24,3 +26,9 @@ abbrev pub is_fill : What → Bool
 is_fill New = false
 is_fill Again = false
 is_fill Fill = true
+
+-- what comes of a changeset without a precondition
+abbrev pub unasked : What → Choice
+unasked New = Runs New None
+unasked Again = Runs Again None
+unasked Fill = Fills

@@ -28,7 +28,7 @@ pub fn statements_are_spelled()
     ensures { StatementsAreSpelled }
 {}
 
-/// So are those of the turns that take rows back.
+/// So are those of the turns that take rows back, and each deletes its row.
 pub fn turns_back_are_spelled()
     ensures { TurnsBackAreSpelled }
 {}

@@ -1,8 +1,8 @@
 use Rattle.std.proofs.Common.{rules, sym, ◌≡◌, None, Some}
 use Rattle.std.specs.List.{slice_get}
+use Rattle.lq_kinds.specs.Dialects.{is_read_for}
 use Rattle.lq_sets.proofs.RowsBack.{all_at, by_its, its_set, no_set}
 use Rattle.lq_sets.proofs.row_back.turn_at.Goals as goal
-use Rattle.lq_sets.specs.Dialects.{is_read_for}
 
 pub unreachable-requires : goal.unreachable-requires
 unreachable-requires c =

@@ -1,0 +1,105 @@
+-- A row's turn is entered.
+use Rattle.std.proofs.Common.{ap, sym, refl, ◌≡◌, ◌∙◌, ◌++◌, true, false, List, [], ◌∷◌, map, ℕ}
+use Rattle.std.specs.List.{list_all}
+use Rattle.std.specs.Prelude.{reverse}
+use Rattle.lq_base.specs.declared.dialect.Dialect.{Dialect}
+use Rattle.lq_base.specs.declared.identity.Identity.{Identity}
+use Rattle.lq_base.specs.declared.run.Printed.{Printed}
+use Rattle.lq_base.specs.declared.tracking.Tracked.{Tracked}
+use Rattle.lq_hand.specs.Enters.{Enters, IsTurn}
+use Rattle.lq_hand.specs.Hand.{calls_left, hand_place, place_of}
+use Rattle.lq_hand.specs.Writable.{IsWritable}
+use Rattle.lq_hand.specs.declared.hand.Hand.{Hand}
+use Rattle.lq_hand.specs.declared.source.Entered.TheVariants.{NoTurn, Turn as InHand}
+use Rattle.lq_kinds.specs.AnyChangeLaws.{does, restores, spelled}
+use Rattle.lq_kinds.specs.declared.any_change.AnyChange.{AnyChange}
+use Rattle.lq_model.proofs.Lists.{and_left, and_right}
+use Rattle.lq_model.specs.Catalogue.{Catalogue}
+use Rattle.lq_model.specs.Statement.{is_statement}
+use Rattle.lq_model.specs.StatementText.{text_of}
+use Rattle.lq_model.specs.declared.statement.Statement.{Statement}
+use Rattle.lq_sets.proofs.Ways.{last_first}
+use Rattle.lq_sets.specs.RowTurns.{goes_back, is_deletion, printed}
+use Rattle.lq_sets.specs.View.{any_meaning}
+use Rattle.lq_turns.proofs.Entered.{enters_row}
+use Rattle.lq_turns.specs.Contents.{Contents, contents_of}
+use Rattle.lq_turns.specs.Rest.{Inside, OfRows, Turns, between, rest}
+use Rattle.lq_turns.specs.Set.{IsKept}
+use Rattle.lq_turns.specs.Turn.{turn_calls}
+use Rattle.lq_turns.specs.declared.call.Call.{Call}
+use Rattle.lq_turns.specs.declared.deed.Deed.TheVariants.{Rows}
+use Rattle.lq_turns.specs.declared.deed.OnRows.{OnRows}
+use Rattle.lq_turns.specs.declared.deed.OnRows.TheVariants.{Deleted, Filled, Inserted, Renewed, Tagged}
+use Rattle.lq_turns.specs.declared.stamp.Stamp.{Stamp}
+use Rattle.lq_turns.specs.declared.turn.Turn.{Turn}
+
+-- nothing is held of the rows
+abbrev pub Any : List Tracked → Type 0
+Any rows = Unit {0}
+
+abbrev pub left_of : List Turn → Turns AnyChange
+left_of turns = OfRows (reverse turns)
+
+kept : IsKept any_meaning
+kept = record { spelled = spelled; does = does; restores = restores }
+
+module _ (d : Dialect) (stamp : Stamp) (seen : Catalogue) where
+  -- the calls to come, where nothing is begun
+  abbrev calls_to_come : List Turn → Contents → List Call
+  calls_to_come turns c = rest d any_meaning stamp (between (OfRows turns)) (c, c)
+
+  pub none_left : (before after : List Turn) → before ≡ [] → Enters d any_meaning stamp (left_of before) Any seen NoTurn (left_of after) Any Any
+  none_left before after none database stands known = ap (λ (turns : List Turn). rest d any_meaning stamp (between (left_of turns)) (contents_of database, contents_of database)) none
+
+  module _ (before after : List Turn) (turn : Turn) (is : before ≡ after ++ turn ∷ []) (hand : Hand) (its : IsTurn d hand) (calls : calls_left hand ≡ turn_calls d stamp.who turn) (stops : hand.goes_on ≡ false) where
+    placed : (c : Contents) → rest d any_meaning stamp (place_of hand (left_of after)) (c, c) ≡ rest d any_meaning stamp (Inside (turn_calls d stamp.who turn) false (left_of after)) (c, c)
+    placed c =
+        ap (λ p. rest d any_meaning stamp (hand_place p (calls_left hand) hand.goes_on (left_of after)) (c, c)) its.inside
+        ∙ (ap (λ cs. rest d any_meaning stamp (Inside cs hand.goes_on (left_of after)) (c, c)) calls
+        ∙ ap (λ b. rest d any_meaning stamp (Inside (turn_calls d stamp.who turn) b (left_of after)) (c, c)) stops)
+
+    pub row_entered : Enters d any_meaning stamp (left_of before) Any seen (InHand hand) (left_of after) Any Any
+    row_entered = (
+      its,
+      λ database stands known. (
+        ap (λ (turns : List Turn). calls_to_come turns (contents_of database)) (last_first before after turn is)
+            ∙ (enters_row d any_meaning kept stamp turn (reverse after) (contents_of database) ∙ sym (placed (contents_of database))),
+        record { finished = λ all. tt; refused = λ one. tt },
+      ),
+    )
+
+-- what is left was read for the dialect
+
+module _ (d : Dialect) (before after : List Turn) (turn : Turn) (is : before ≡ after ++ turn ∷ []) (read : list_all (goes_back d) (reverse before) ≡ true) where
+  both_read : list_all (goes_back d) (turn ∷ reverse after) ≡ true
+  both_read = ap (list_all (goes_back d)) (sym (last_first before after turn is)) ∙ read
+
+  pub turn_read : goes_back d turn ≡ true
+  turn_read = and_left (goes_back d turn) _ both_read
+
+  pub rest_read : list_all (goes_back d) (reverse after) ≡ true
+  rest_read = and_right (goes_back d turn) _ both_read
+
+  pub statements_read : list_all (is_statement d) turn.statements ≡ true
+  statements_read = and_right (is_deletion turn.row) _ turn_read
+
+deleted : (d : Dialect) (row : OnRows) → is_deletion row ≡ true → IsWritable d (Rows row)
+deleted d (Deleted of) is = tt
+deleted d (Inserted row) is = absurd Prim.cc
+deleted d (Renewed row) is = absurd Prim.cc
+deleted d (Filled of sum) is = absurd Prim.cc
+deleted d (Tagged of tag) is = absurd Prim.cc
+
+pub row_written : (d : Dialect) (turn : Turn) → goes_back d turn ≡ true → IsWritable d (Rows turn.row)
+row_written d turn back = deleted d turn.row (and_left (is_deletion turn.row) _ back)
+
+pub none_read : (d : Dialect) (turns : List Turn) → turns ≡ [] → list_all (goes_back d) (reverse turns) ≡ true
+none_read d turns none = ap (λ (ts : List Turn). list_all (goes_back d) (reverse ts)) none
+
+-- what is told of it
+
+pub printed_is : (d : Dialect) (turn : Turn) (before now : List Printed) (identity : Identity) (texts : List (List ℕ)) (statements : List Statement) → now ≡ before ++ record { identity = identity; texts = texts } ∷ []
+    → identity ≡ turn.identity → statements ≡ turn.statements → texts ≡ map (text_of d) statements → now ≡ before ++ printed d turn ∷ []
+printed_is d turn before now identity texts statements pushed its same made =
+    let whole : texts ≡ map (text_of d) turn.statements = made ∙ ap (map (text_of d)) same in
+    pushed ∙ (rw (its, whole) refl)

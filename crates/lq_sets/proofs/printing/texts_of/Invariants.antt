@@ -1,0 +1,10 @@
+use Rattle.std.proofs.Common.{length, true, ◌≡◌}
+use Rattle.std.specs.List.{list_all}
+use Rattle.lq_model.specs.Statement.{is_statement}
+use Rattle.lq_sets.proofs.printing.texts_of.Given as goal
+
+abbrev pub invariant-loop-statement : goal.invariant-loop-statement
+invariant-loop-statement g l = list_all (is_statement g.P.SqlText.dialect) l.rest ≡ true
+
+abbrev pub decreases-loop-statement : goal.decreases-loop-statement
+decreases-loop-statement g l = length l.rest

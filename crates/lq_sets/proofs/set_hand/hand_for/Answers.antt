@@ -1,0 +1,16 @@
+use Rattle.std.proofs.Common.{ap, ◌∙◌}
+use Rattle.std.specs.List.{list_all}
+use Rattle.lq_model.specs.Statement.{is_statement}
+use Rattle.lq_sets.proofs.TurnMade.{can_be_made}
+use Rattle.lq_sets.proofs.set_hand.hand_for.Goals as goal
+
+pub keep_texts-requires : goal.keep_texts-requires
+keep_texts-requires g c =
+    let can = can_be_made c.args.making.now.dialect c.args.making.now.stamp.now c.args.set.now c.args.making.now.last c.requires.read c.requires.moment c.args.choice c.in_ok-turn.turn c.in_ok-turn.ensures.made in
+    ap (λ d. list_all (is_statement d) c.as_slice.result.now) c.requires.sql ∙ (ap (list_all (is_statement c.args.making.now.dialect)) c.as_slice.ensures ∙ can.0)
+
+pub of_turn-requires-clause-statements : goal.of_turn-requires-clause-statements
+of_turn-requires-clause-statements g c = (can_be_made c.args.making.now.dialect c.args.making.now.stamp.now c.args.set.now c.args.making.now.last c.requires.read c.requires.moment c.args.choice c.in_ok-turn.turn c.in_ok-turn.ensures.made).0
+
+pub of_turn-requires-clause-row : goal.of_turn-requires-clause-row
+of_turn-requires-clause-row g c = (can_be_made c.args.making.now.dialect c.args.making.now.stamp.now c.args.set.now c.args.making.now.last c.requires.read c.requires.moment c.args.choice c.in_ok-turn.turn c.in_ok-turn.ensures.made).1

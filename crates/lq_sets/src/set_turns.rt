@@ -1,0 +1,301 @@
+ghost use Rattle.std.specs.List.{list_all};
+ghost use Rattle.std.specs.Prelude.{◌≡◌, ◌≤◌, ◌<◌, ◌+◌, [], IfOk, IfSome, OnOk, length, reverse, true};
+ghost use Rattle.lq_expr.specs.declared.options.Options.{Options as Given};
+ghost use Rattle.lq_kinds.specs.AnyChange.{is_for};
+ghost use Rattle.lq_kinds.specs.Dialects.{AreFor};
+ghost use Rattle.lq_plan.specs.Work.{work};
+ghost use Rattle.lq_sets.specs.SetTurns.{CameBy, CameTo, IsReadFor, Knows, has_turn, sets_left};
+ghost use Rattle.lq_sets.specs.View.{view, view_log};
+ghost use Rattle.lq_track.specs.Database.{Database};
+ghost use Rattle.lq_turns.specs.Contents.{contents_of};
+ghost use Rattle.lq_turns.specs.Faults.{faults};
+ghost use Rattle.lq_turns.specs.Held.{StandsFor};
+ghost use Rattle.lq_turns.specs.Settle.{choice_of, greatest};
+
+use crate::in_hand::InHand;
+use crate::outcome::Outcome;
+use crate::planning::work_of;
+use crate::seen_choice::seen_choice;
+use crate::set_hand::{Making, hand_for, last_after, runs};
+use crate::telling::{take_back, tell};
+use lq_base::{Dialect, Items, NoMemory, Printed, Tracked};
+use lq_expr::Options;
+use lq_hand::{Entered, Hand, Source};
+use lq_kinds::{ChangeSet, Changelog};
+use lq_model::{Look, SqlText};
+use lq_plan::{Item, greatest};
+use lq_turns::{Choice, Stamp, What};
+use std::alloc::Global;
+
+/// The greatest place in run order: it has 31 bits, and a row with a greater one is refused.
+const LAST_PLACE: u32 = 2147483647;
+
+/// The turns of an update, changeset after changeset (Liquibase's documentation, "update").
+#[derive(Debug, Drop)]
+pub struct SetTurns {
+    changelog: Changelog,
+    options: Options,
+    /// The changesets that have a turn still to come, the next one last.
+    items: Items<Item>,
+    /// The place behind the last changeset whose turn came, from 0.
+    next: usize,
+    /// The last place in run order, 0 without a row.
+    last: u32,
+    /// The same once the turn in hand has finished.
+    last_after: u32,
+    /// Whether the statements' texts are wanted.
+    prints: bool,
+    turn: Option<InHand>,
+    pub outcome: Outcome,
+}
+
+/// What came of an item.
+enum Tried {
+    Turn(Hand),
+    Skipped,
+    /// Its precondition halts the command.
+    Halted,
+    Lack,
+}
+
+impl SetTurns {
+    /// The turns that a changelog has on these rows. It has no fault there, and was read for the
+    /// dialect of the options.
+    pub fn new(
+        alloc: Global,
+        changelog: Changelog,
+        options: Options,
+        rows: &[Tracked],
+        prints: bool,
+    ) -> Result<SetTurns, NoMemory>
+        requires read { AreFor options.dialect changelog }
+        requires faultless { faults (view_log options changelog).sets rows.now ≡ [] }
+        ensures reads { IfOk result (λ source. IsReadFor source options.dialect) }
+        ensures left { IfOk result (λ source. sets_left source ≡ (view_log options changelog).sets) }
+        ensures knows { IfOk result (λ source. greatest rows.now ≤ 2147483647 → Knows source rows.now) }
+    {
+        let items = planned(alloc, &options, &changelog, rows)?;
+        let last = greatest(rows).min(LAST_PLACE);
+        Ok(SetTurns {
+            changelog,
+            options,
+            items,
+            next: 0,
+            last,
+            last_after: last,
+            prints,
+            turn: None,
+            outcome: Outcome::new(alloc),
+        })
+    }
+
+    /// The changeset of an item that comes next.
+    fn try_item<K: Look, P: SqlText>(
+        &mut self,
+        alloc: Global,
+        dialect: Dialect,
+        stamp: &Stamp,
+        look: &K,
+        sql: &P,
+        item: Item,
+    ) -> Tried
+        requires reads { IsReadFor self.old dialect }
+        requires sql { P.dialect ≡ dialect }
+        requires moment { stamp.now.reading ≤ 253402300799999 }
+        requires place { item.index < length self.old.changelog.sets }
+        ensures came { CameTo dialect stamp.now (K.catalogue look.now) self.old self.new item result }
+        ensures reads { IsReadFor self.new dialect }
+        ensures items { self.new.items ≡ self.old.items }
+    {
+        let next = place_behind(&self.changelog, item.index);
+        let Some(set) = self.changelog.sets.get(item.index) else {
+            unreachable!();
+        };
+        let Ok(choice) = choose(alloc, item.what, set, dialect, look, &mut self.outcome) else {
+            return Tried::Lack;
+        };
+        self.next = next;
+        let making = Making {
+            dialect,
+            stamp,
+            last: self.last,
+            prints: self.prints,
+        };
+        let texts = &mut self.outcome.printed;
+        let tried = act(alloc, &making, sql, set, choice, &mut self.turn, texts);
+        self.last_after = last_after(choice, self.last);
+        tried
+    }
+}
+
+/// The changesets that have a turn on these rows, the next one last.
+fn planned(
+    alloc: Global,
+    options: &Options,
+    changelog: &Changelog,
+    rows: &[Tracked],
+) -> Result<Items<Item>, NoMemory>
+    ensures { IfOk result (λ items. reverse items ≡ work (view_log options.now changelog.now).sets rows.now) }
+{
+    let items = work_of(alloc, options, changelog, rows)?;
+    let turned = next_last(alloc, items)?;
+    Ok(turned)
+}
+
+fn next_last(alloc: Global, items: Items<Item>) -> Result<Items<Item>, NoMemory>
+    ensures { IfOk result (λ turned. reverse turned ≡ items) }
+{
+    let mut left = items;
+    let mut turned = Items::new(alloc);
+    while let Some(item) = left.pop() {
+        turned.push(item)?;
+    }
+    Ok(turned)
+}
+
+/// What a changeset does, which is written down.
+fn choose<K: Look>(
+    alloc: Global,
+    what: What,
+    set: &ChangeSet,
+    dialect: Dialect,
+    look: &K,
+    outcome: &mut Outcome,
+) -> Result<Choice, NoMemory>
+    ensures { IfOk result (λ made. (options : Given) (database : Database) → options.dialect ≡ dialect → StandsFor dialect (K.catalogue look.now) database → made ≡ choice_of (view options set.now) (contents_of database) (Some what)) }
+{
+    let choice = seen_choice(alloc, what, set, dialect, look)?;
+    tell(alloc, &set.identity, choice, outcome)?;
+    Ok(choice)
+}
+
+/// The place behind one of the changelog.
+fn place_behind(changelog: &Changelog, place: usize) -> usize
+    requires { place < length changelog.now.sets }
+    ensures { result ≡ place + 1 }
+{
+    let _count = changelog.sets.len();
+    place + 1
+}
+
+/// What comes of a changeset by its choice.
+fn act<P: SqlText>(
+    alloc: Global,
+    making: &Making<'_>,
+    sql: &P,
+    set: &ChangeSet,
+    choice: Choice,
+    turn: &mut Option<InHand>,
+    texts: &mut Items<Printed>,
+) -> Tried
+    requires sql { P.dialect ≡ making.now.dialect }
+    requires read { list_all (is_for making.now.dialect) set.now.changes ≡ true }
+    requires moment { making.now.stamp.now.reading ≤ 253402300799999 }
+    requires room { making.now.last ≤ 2147483647 }
+    ensures { CameBy making.now.dialect making.now.stamp.now set.now making.now.last choice result }
+{
+    match choice {
+        Choice::Passes => Tried::Skipped,
+        Choice::Skips => Tried::Skipped,
+        Choice::Halts(_) => Tried::Halted,
+        Choice::Fills => try_turn(alloc, making, sql, set, choice, turn, texts),
+        Choice::Marks(_) => try_turn(alloc, making, sql, set, choice, turn, texts),
+        Choice::Runs(_, _) => try_turn(alloc, making, sql, set, choice, turn, texts),
+    }
+}
+
+/// Takes the turn of a changeset in hand.
+fn try_turn<P: SqlText>(
+    alloc: Global,
+    making: &Making<'_>,
+    sql: &P,
+    set: &ChangeSet,
+    choice: Choice,
+    turn: &mut Option<InHand>,
+    texts: &mut Items<Printed>,
+) -> Tried
+    requires sql { P.dialect ≡ making.now.dialect }
+    requires read { list_all (is_for making.now.dialect) set.now.changes ≡ true }
+    requires moment { making.now.stamp.now.reading ≤ 253402300799999 }
+    requires room { making.now.last ≤ 2147483647 }
+    requires turn { has_turn choice ≡ true }
+    ensures { CameBy making.now.dialect making.now.stamp.now set.now making.now.last choice result }
+{
+    let Ok(in_hand) = InHand::new(alloc, making.dialect, set, choice) else {
+        return Tried::Lack;
+    };
+    *turn = Some(in_hand);
+    match hand_for(alloc, making, sql, set, choice, texts) {
+        Ok(hand) => Tried::Turn(hand),
+        Err(_) => Tried::Lack,
+    }
+}
+
+impl Source for SetTurns {
+    ghost use Rattle.lq_kinds.specs.declared.any_change.AnyChange.{AnyChange};
+    ghost use Rattle.lq_sets.specs.SetTurns.{Awaits, IsReadFor, Knows, sets_left};
+    ghost use Rattle.lq_sets.specs.View.{any_meaning};
+    ghost use Rattle.lq_turns.specs.Rest.{OfSets};
+
+    ghost Key = { AnyChange };
+
+    ghost meaning = { any_meaning };
+
+    ghost left = { λ source. OfSets (sets_left source) };
+
+    ghost knows = { Knows };
+
+    ghost awaits = { Awaits };
+
+    ghost reads = { IsReadFor };
+
+    fn enter<K: Look, P: SqlText>(
+        &mut self,
+        alloc: Global,
+        dialect: Dialect,
+        stamp: &Stamp,
+        look: &K,
+        sql: &P,
+    ) -> Entered {
+        while let Some(item) = self.items.pop() {
+            match self.try_item(alloc, dialect, stamp, look, sql, item) {
+                Tried::Turn(hand) => return Entered::Turn(hand),
+                Tried::Skipped => {}
+                Tried::Halted => {
+                    self.items = Items::new(alloc);
+                    return Entered::NoTurn;
+                }
+                Tried::Lack => return Entered::Lack,
+            }
+        }
+        Entered::NoTurn
+    }
+
+    fn looks<K: Look>(&mut self, dialect: Dialect, look: &K) {
+        let Some(place) = self.next.checked_sub(1) else {
+            return;
+        };
+        let Some(set) = self.changelog.sets.get(place) else {
+            return;
+        };
+        if let Some(turn) = &mut self.turn {
+            turn.looks(dialect, set.changes.as_slice(), look);
+        }
+    }
+
+    fn finished(&mut self) {
+        if let Some(turn) = self.turn.take() {
+            self.outcome.not_fresh = self.outcome.not_fresh.saturating_add(turn.not_fresh);
+        }
+        self.last = self.last_after.min(LAST_PLACE);
+    }
+
+    fn refused(&mut self) {
+        if let Some(turn) = self.turn.take() {
+            if self.prints && runs(turn.choice) {
+                self.outcome.printed.pop();
+            }
+            take_back(turn.identity, turn.stops, turn.choice, &mut self.outcome);
+        }
+    }
+}
