@@ -1,5 +1,5 @@
 -- A journal's texts run in turn.
-use Rattle.std.proofs.Common.{◌≡◌, ◌∙◌, ◌&&◌, not, is_some, ℕ, Bool, true, false, List, [], ◌∷◌, map, arith, Ok, Err, Result, Option, None, Some, IfSome, refl, sym, ap, subst}
+use Rattle.std.proofs.Common.{◌≡◌, ◌∙◌, ◌&&◌, not, is_some, ℕ, Bool, true, false, cond, List, [], ◌∷◌, map, arith, Ok, Err, Result, Option, None, Some, IfSome, refl, sym, ap, subst}
 use Rattle.lq_base.specs.declared.dialect.Dialect.{Dialect}
 use Rattle.lq_store.specs.Apart.{is_apart}
 use Rattle.lq_store.specs.Executor.{Held, Runs, forgotten, holding, kept}
@@ -111,6 +111,19 @@ pub raised_catalogue : (p d : Dialect) (l : ℕ) (told : Option (List ℕ)) (ent
 raised_catalogue p d l told entries seen h lock p_is seen_is are is =
     let there : IsRaised d entries h lock = rw (p_is, seen_is) at is in
     catalogue_is d l told entries (Ok (kept h)) are (there.read ∙ ap Ok (sym there.kept_is))
+
+-- what is read of entries is clean
+read_clean : (d : Dialect) (entries : List Placed) (c e : Catalogue) → folded d entries no_objects ≡ Ok e → read_entries d (Ok entries) ≡ Ok c → is_clean d c ≡ true
+read_clean d entries c e ran read = by (is_clean d e) refl (ap (if_clean d (used_by entries)) (sym ran) ∙ read)
+  where
+    by : (b : Bool) → is_clean d e ≡ b → cond b (Ok e) (Err (used_by entries)) ≡ Ok c → is_clean d c ≡ true
+    by true is h = let same : e ≡ c = cc in ap (is_clean d) (sym same) ∙ is
+    by false is h = cc
+
+pub raised_clean : (p d : Dialect) (entries : List Placed) (h : Held) (lock : Lock) → p ≡ d → IsRaised p entries h lock → is_clean d (kept h) ≡ true
+raised_clean p d entries h lock p_is is =
+    let there : IsRaised d entries h lock = rw p_is at is in
+    ap (is_clean d) there.kept_is ∙ read_clean d entries there.catalogue there.catalogue there.ran there.read
 
 -- the tracking tables are as they are made
 

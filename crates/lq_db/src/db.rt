@@ -1,6 +1,6 @@
-ghost use Rattle.std.specs.Prelude.{◌≡◌, ◌≤◌, IfOk, IfErr, IfSome, MatchResult, Ok};
+ghost use Rattle.std.specs.Prelude.{◌≡◌, ◌≤◌, IfOk, IfErr, IfSome, MatchResult, Ok, true};
 ghost use Rattle.lq_db.specs.Db.{lives};
-ghost use Rattle.lq_db.specs.Load.{IsDbFault, catalogue_of};
+ghost use Rattle.lq_db.specs.Load.{IsDbFault, catalogue_of, is_clean};
 ghost use Rattle.lq_outside.specs.Crash.{LeavesOnly};
 ghost use Rattle.lq_store.specs.Executor.{kept};
 
@@ -53,6 +53,7 @@ impl<D: Disk, P: SqlText + Drop, E: Executor + Drop> Db<D, P, E> {
         ensures valid { IfOk result (λ db. IsDb P.dialect (D.told (disk_in db)) (D.crashes (disk_in db)) (E.held (engine_in db)) db) }
         ensures new { IfOk result (λ db. IsNew dialect limit db) }
         ensures catalogue { IfOk result (λ db. IfSome (D.told disk) (λ bytes. catalogue_of dialect limit bytes ≡ Ok (kept (E.held (engine_in db))))) }
+        ensures clean { IfOk result (λ db. is_clean dialect (kept (E.held (engine_in db))) ≡ true) }
         ensures told { MatchResult result (λ db. D.told (disk_in db) ≡ D.told disk) (λ refused. D.told refused.disk ≡ D.told disk) }
 
         // Each fault has its cause.

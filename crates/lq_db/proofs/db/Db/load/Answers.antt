@@ -1,6 +1,6 @@
 use Rattle.std.proofs.Common.{◌∙◌, refl, sym, ap}
 use Rattle.lq_journal.specs.State.{dialect_of, limit_of, disk_of}
-use Rattle.lq_db.proofs.Loads.{db_fault, raised_catalogue, raised_held, undamaged}
+use Rattle.lq_db.proofs.Loads.{db_fault, raised_catalogue, raised_clean, raised_held, undamaged}
 use Rattle.lq_db.proofs.db.Db.load.Goals as goal
 
 pub returns-in-Err-raise-clause-fault : goal.returns-in-Err-raise-clause-fault
@@ -24,3 +24,7 @@ returns-in-Ok-raise-clause-valid g c =
 pub returns-in-Ok-raise-clause-catalogue : goal.returns-in-Ok-raise-clause-catalogue
 returns-in-Ok-raise-clause-catalogue g c =
     raised_catalogue g.P.SqlText.dialect c.args.dialect c.args.limit _ _ c.as_slice.result.now (g.E.Executor.held c.in-Ok-raise.raised.engine) c.in-Ok-raise.raised.lock c.requires.sql c.as_slice.ensures c.in-Ok.ensures.entries c.in-Ok-raise.ensures
+
+pub returns-in-Ok-raise-clause-clean : goal.returns-in-Ok-raise-clause-clean
+returns-in-Ok-raise-clause-clean g c =
+    raised_clean g.P.SqlText.dialect c.args.dialect _ (g.E.Executor.held c.in-Ok-raise.raised.engine) c.in-Ok-raise.raised.lock c.requires.sql c.in-Ok-raise.ensures
