@@ -1,0 +1,6 @@
+pub mod Early
+pub mod Lines
+pub mod Log
+pub mod Status
+pub mod Texts
+pub mod Told

@@ -1,0 +1,54 @@
+-- How a command ends, and when it writes a text to its output.
+use Rattle.std.specs.Prelude.{Bool, Err, List, None, Ok, Option, Result, Some, [], false, true, ℕ, ◌≡◌, ◌⊎◌}
+use Rattle.lq_tell.specs.declared.done.Done.{Done}
+use Rattle.lq_tell.specs.declared.status.Status.{Status}
+use Rattle.lq_tell.specs.declared.status.Status.TheVariants as status
+
+-- the work was done, or it halted or was refused in the run
+abbrev pub has_output : Status → Bool
+has_output status.Done = true
+has_output status.Usage = false
+has_output status.ReadFault = false
+has_output (status.Changelog fault) = false
+has_output (status.Invalid faults) = false
+has_output (status.Locked lock) = false
+has_output (status.Halted place why) = true
+has_output (status.Refused identity statement kept reason) = true
+has_output status.NoTarget = false
+has_output (status.NotReversible identity) = false
+has_output status.DiskFault = false
+has_output (status.Damaged at) = false
+has_output (status.Full used next) = false
+has_output status.WriteFault = false
+has_output status.OutOfMemory = false
+has_output (status.Busy session) = false
+
+-- there is a text for the output only with such a status
+abbrev pub ComesOnlyWith : {T : Type 0} → Option T → Status → Type 0
+ComesOnlyWith out s = has_output s ≡ false → out ≡ None
+
+-- nothing is written to the output
+abbrev pub IsSilent : Status → Type 0
+IsSilent status.WriteFault = ⊥
+IsSilent s = has_output s ≡ false
+
+-- the text that is there, or none
+abbrev pub text_or_none : Option (List ℕ) → List ℕ
+text_or_none (Some text) = text
+text_or_none None = []
+
+-- the status of what a command did, and its text for the output
+abbrev pub status_done : Result Done Status → Status
+status_done (Ok done) = done.status
+status_done (Err s) = s
+
+abbrev pub out_of : Result Done Status → Option (List ℕ)
+out_of (Ok done) = done.out
+out_of (Err s) = None
+
+abbrev pub out_text : Result Done Status → List ℕ
+out_text done = text_or_none (out_of done)
+
+-- it ends so, or there was no memory for its texts, or its output could not be written
+abbrev pub EndsAs : Status → Status → Type 0
+EndsAs ended s = (s ≡ ended) ⊎ (s ≡ status.OutOfMemory) ⊎ (s ≡ status.WriteFault)

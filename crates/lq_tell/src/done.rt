@@ -1,0 +1,33 @@
+use crate::status::Status;
+use lq_base::{Identity, Items, Text, Why};
+use std::alloc::Global;
+
+/// What a command did, as far as it came.
+#[derive(Debug, Drop)]
+pub struct Done {
+    pub status: Status,
+    /// Its text for the output.
+    pub out: Option<Text>,
+    /// Why the changelog's own precondition only warns.
+    pub own: Option<Why>,
+    /// Preconditions that did not hold, and that only warn, with their changesets.
+    pub warned: Items<(Option<Identity>, Why)>,
+}
+
+impl Done {
+    ghost use Rattle.lq_tell.specs.Early.{IsEarly};
+    ghost use Rattle.lq_tell.specs.Texts.{ComesOnlyWith};
+
+    /// Its work is done, and this is its output.
+    pub fn with(alloc: Global, out: Text) -> Done
+        ensures only { ComesOnlyWith result.out result.status }
+        ensures not_early { IsEarly result.status → ⊥ }
+    {
+        Done {
+            status: Status::Done,
+            out: Some(out),
+            own: None,
+            warned: Items::new(alloc),
+        }
+    }
+}
