@@ -9,7 +9,8 @@ use std::io;
 use std::os::unix::fs::FileExt;
 use std::path::Path;
 
-/// A file of the system, or one that could not be opened, of which every call fails.
+/// A file of the system, or one that could not be opened, of which every call fails. Its advisory
+/// lock is held until it is dropped.
 #[derive(Drop)]
 pub struct FileDisk {
     file: Option<File>,
@@ -17,7 +18,8 @@ pub struct FileDisk {
 }
 
 impl FileDisk {
-    /// Opens the file at a path. An absent file is made empty.
+    /// Opens the file at a path. An absent file is made empty. A file that another program has open
+    /// in this way cannot be opened.
     pub fn open(rt: &HostRuntime, path: &str) -> FileDisk {
         FileDisk {
             file: open_or_make(rt, path).ok(),
@@ -27,11 +29,16 @@ impl FileDisk {
 }
 
 fn open_or_make(rt: &HostRuntime, path: &str) -> io::Result<File> {
-    let file = OpenOptions::new()
+    let opened = OpenOptions::new()
         .read(true)
         .write(true)
         .create(true)
         .open(rt, path)?;
+    // Where a standard stream is closed the file gets its descriptor, and what is printed would be
+    // written over the database. A duplicate's descriptor is at least 3.
+    let file = opened.try_clone()?;
+    // The duplicate shares the lock, so that closing the first handle leaves it.
+    file.try_lock()?;
     if len(&file)? == 0 {
         // A new file outlasts a crash once its folder is synced too. Not every file system can do
         // that, so a failure is none of the database file.
@@ -103,7 +110,24 @@ impl Disk for FileDisk {
 mod tests {
     use super::*;
     use std::fs;
+    use std::os::fd::AsRawFd;
     use std::test::Fail;
+
+    #[test]
+    fn a_file_has_no_descriptor_of_a_standard_stream(rt: HostRuntime) -> Result<(), Fail> {
+        let path = "file_disk_descriptor.lq";
+        // The system gives the lowest descriptor that is free, as that of a closed standard stream.
+        let lowest = File::create(&rt, path)?.as_raw_fd();
+        match &FileDisk::open(&rt, path).file {
+            Some(file) => {
+                assert!(rt; file.as_raw_fd() > lowest);
+                assert!(rt; file.as_raw_fd() >= 3);
+            }
+            None => assert!(rt; false),
+        }
+        fs::remove_file(&rt, path)?;
+        Ok(())
+    }
 
     #[test]
     fn a_file_keeps_what_is_written(rt: HostRuntime) -> Result<(), Fail> {
@@ -114,6 +138,12 @@ mod tests {
         disk.write_at(0, b"abcdef")?;
         disk.write_at(4, b"EFGH")?;
         disk.sync()?;
+
+        let mut locked_out = FileDisk::open(&rt, path);
+        assert!(rt; locked_out.size().is_err());
+        assert_eq!(rt; locked_out.faults, 1);
+        assert_eq!(rt; disk.size()?, 8);
+        drop(disk);
 
         let mut again = FileDisk::open(&rt, path);
         assert_eq!(rt; again.size()?, 8);
