@@ -1,7 +1,6 @@
 use crate::recorded::{Turn, record_all, write_all};
 use crate::shown::{Case, plan_all, reverse_all, select_all};
 use crate::statements::say_all;
-use crate::synced::sync_all;
 use lq_base::Dialect;
 use lq_pg::Pg;
 use std::alloc::Global;
@@ -40,9 +39,4 @@ pub fn write(rt: &impl Abort, alloc: Global, cases: &[(&str, u32, &str)]) {
 /// The statements of two changes.
 pub fn say(rt: &impl Abort, alloc: Global, cases: &[(&str, &str, &str)]) {
     say_all(rt, alloc, Dialect::Postgresql, &Pg, cases)
-}
-
-/// The rows of a changelog-sync.
-pub fn sync(rt: &impl Abort, alloc: Global, cases: &[Case<'_>]) {
-    sync_all(rt, alloc, Dialect::Postgresql, &Pg, cases)
 }

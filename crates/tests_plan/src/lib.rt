@@ -1,6 +1,5 @@
 //! Tests of what commands decide before they run: what is wrong with a changelog, what each changeset
-//! is to do, which are selected, what a rollback takes back and how, the rows that a sync inserts, and
-//! the rows that are written.
+//! is to do, which are selected, what a rollback takes back and how, and the rows that are written.
 #![tactic(auto)]
 
 #[cfg(test)]
@@ -23,8 +22,6 @@ mod shown;
 mod statements;
 #[cfg(test)]
 mod stays;
-#[cfg(test)]
-mod synced;
 #[cfg(test)]
 mod validated;
 #[cfg(test)]

@@ -1,7 +1,6 @@
 use crate::rows::{rows, text};
 use lq_base::{Target, Tracked};
-use lq_plan::greatest;
-use lq_sets::rows_to_undo;
+use lq_plan::{greatest, suffix};
 use std::alloc::Global;
 use std::process::Abort;
 
@@ -19,10 +18,7 @@ const DATED: &str = "1 ann db/a.json EXECUTED s1 null 1 1
 
 // How many rows stay.
 fn stay(rows: &[Tracked], target: &Target) -> Option<usize> {
-    match rows_to_undo(rows, target) {
-        Ok(left) => Some(rows.len().saturating_sub(left.len())),
-        Err(_) => None,
-    }
+    suffix(rows, target).ok()
 }
 
 fn stay_by_tag(rt: &impl Abort, alloc: Global, script: &str, tag: &str) -> Option<usize> {
