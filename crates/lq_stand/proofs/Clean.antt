@@ -34,7 +34,7 @@ use Rattle.lq_stand.specs.Clean.{CleanStands}
 use Rattle.lq_stand.proofs.Apart.{names_free, none_aimed, untargeted, unviewed}
 
 -- what holds of rows holds of them in run order
-all_placed : (p : Tracked → Bool) (rs : List Tracked) → list_all p rs ≡ true → list_all p (in_run_order rs) ≡ true
+pub all_placed : (p : Tracked → Bool) (rs : List Tracked) → list_all p rs ≡ true → list_all p (in_run_order rs) ≡ true
 all_placed p [] h = refl
 all_placed p (r ∷ rs) h = placed_all p r (in_run_order rs) (and_left (p r) _ h) (all_placed p rs (and_right (p r) _ h))
 

@@ -1,1 +1,4 @@
 pub mod Clean
+pub mod First
+pub mod Places
+pub mod Stays

@@ -1,6 +1,56 @@
 ghost use Rattle.lq_stand.specs.Clean.{CleanStands};
+ghost use Rattle.lq_stand.specs.Places.{PlacesAreSmall};
+ghost use Rattle.lq_stand.specs.Stays.{CallsStayClean, CleanIsFound, ReleaseIsFirst, RollbackIsFirst, StatementsStayApart, SyncIsFirst, TagIsFirst, UpdateIsFirst};
+ghost use Rattle.lq_turns.specs.Promised.{meaning};
+
+use lq_model::Change;
 
 /// A sound catalogue that is clean, as one that was loaded is, stands for a database.
 pub fn clean_stands()
     ensures { CleanStands }
+{}
+
+/// Each place in run order has 31 bits, in a database that a sound catalogue stands for.
+pub fn places_are_small()
+    ensures { PlacesAreSmall }
+{}
+
+/// A user's statement leaves the users' objects apart from the tracking tables.
+pub fn statements_stay_apart()
+    ensures { StatementsStayApart }
+{}
+
+/// A catalogue that stands for a clean database is clean.
+pub fn clean_is_found()
+    ensures { CleanIsFound }
+{}
+
+/// Calls that fit, and whose new rows are the first of their identities, leave a clean database.
+pub fn calls_stay_clean()
+    ensures { CallsStayClean }
+{}
+
+/// The new rows of an update are the first of their identities.
+pub fn update_is_first<C: Change>()
+    ensures { UpdateIsFirst (meaning C.is_for C.gives C.effect C.fresh C.inverse) }
+{}
+
+/// Those of a changelog-sync too.
+pub fn sync_is_first<K>()
+    ensures { SyncIsFirst K }
+{}
+
+/// A rollback has none.
+pub fn rollback_is_first()
+    ensures { RollbackIsFirst }
+{}
+
+/// A tag has none.
+pub fn tag_is_first()
+    ensures { TagIsFirst }
+{}
+
+/// A release-locks has none.
+pub fn release_is_first()
+    ensures { ReleaseIsFirst }
 {}

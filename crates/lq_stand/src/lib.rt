@@ -1,6 +1,9 @@
-//! What a database that was loaded stands for.
+//! What a database that was loaded stands for, and that what a command leaves can be loaded.
 #![tactic(auto)]
 
 mod laws;
 
-pub use laws::clean_stands;
+pub use laws::{
+    calls_stay_clean, clean_is_found, clean_stands, places_are_small, release_is_first,
+    rollback_is_first, statements_stay_apart, sync_is_first, tag_is_first, update_is_first,
+};
