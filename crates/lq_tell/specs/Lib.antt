@@ -1,4 +1,3 @@
-pub mod Early
 pub mod Lines
 pub mod Log
 pub mod Status

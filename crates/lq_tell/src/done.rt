@@ -15,13 +15,12 @@ pub struct Done {
 }
 
 impl Done {
-    ghost use Rattle.lq_tell.specs.Early.{IsEarly};
-    ghost use Rattle.lq_tell.specs.Texts.{ComesOnlyWith};
+    ghost use Rattle.std.specs.Prelude.{◌≡◌, Some};
 
     /// Its work is done, and this is its output.
     pub fn with(alloc: Global, out: Text) -> Done
-        ensures only { ComesOnlyWith result.out result.status }
-        ensures not_early { IsEarly result.status → ⊥ }
+        ensures status { result.status ≡ Status.Done }
+        ensures out { result.out ≡ Some out }
     {
         Done {
             status: Status::Done,

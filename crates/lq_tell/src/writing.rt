@@ -1,12 +1,12 @@
 ghost use Rattle.std.specs.Option.{option_copied, option_map};
-ghost use Rattle.std.specs.Prelude.{◌≡◌, ◌⊎◌, ◌++◌, IsTrue, List, Ok, OnErr, OnOk, Option, Result, false, true, ℕ};
+ghost use Rattle.std.specs.Prelude.{◌≡◌, ◌⊎◌, ◌++◌, IsTrue, List, Ok, OnErr, OnOk, Option, Result, false, is_some, true, ℕ};
 ghost use Rattle.lq_outside.specs.Count.{Rose};
 ghost use Rattle.lq_outside.specs.Sink.{IsPart};
 ghost use Rattle.lq_tell.specs.Log.{log_text};
 ghost use Rattle.lq_tell.specs.declared.done.Done.{Done};
 ghost use Rattle.lq_tell.specs.declared.status.Status.{Status};
 ghost use Rattle.lq_tell.specs.Told.{HasTexts};
-ghost use Rattle.lq_tell.specs.Texts.{EndsAs, IsSilent, has_output, out_text, status_done, text_or_none};
+ghost use Rattle.lq_tell.specs.Texts.{EndsAs, IsSilent, has_output, out_of, out_text, status_done, text_or_none};
 
 use crate::done::Done;
 use crate::log::{log_lines, lone_line};
@@ -29,6 +29,8 @@ pub fn tell<O: Sink, L: Sink>(
 ) -> Status
     ensures status { EndsAs (status_done done) result }
     ensures write { result ≡ Status.WriteFault → (status_done done ≡ Status.WriteFault) ⊎ Rose (O.faults out.old) (O.faults out.new) }
+    ensures cut { result ≡ Status.WriteFault → (status_done done ≡ Status.WriteFault) ⊎ IsTrue (has_output (status_done done)) }
+    ensures had { result ≡ Status.WriteFault → (status_done done ≡ Status.WriteFault) ⊎ IsTrue (is_some (out_of done)) }
     ensures silent { IsSilent result → O.told out.new ≡ O.told out.old }
     ensures whole { IsTrue (has_output result) → O.told out.new ≡ option_map (λ before. before ++ out_text done) (O.told out.old) }
     ensures part { IsPart (out_text done) (O.told out.old) (O.told out.new) }
@@ -47,6 +49,8 @@ pub fn tell<O: Sink, L: Sink>(
 fn write_told<O: Sink, L: Sink>(told: Told, out: &mut O, log: &mut L) -> Status
     ensures status { (result ≡ told.status) ⊎ (result ≡ Status.WriteFault) }
     ensures write { result ≡ Status.WriteFault → (told.status ≡ Status.WriteFault) ⊎ Rose (O.faults out.old) (O.faults out.new) }
+    ensures cut { result ≡ Status.WriteFault → (told.status ≡ Status.WriteFault) ⊎ IsTrue (has_output told.status) }
+    ensures had { result ≡ Status.WriteFault → (told.status ≡ Status.WriteFault) ⊎ IsTrue (is_some told.out) }
     ensures silent { IsSilent result → O.told out.new ≡ O.told out.old }
     ensures whole { IsTrue (has_output result) → O.told out.new ≡ option_map (λ before. before ++ text_or_none told.out) (O.told out.old) }
     ensures part { IsPart (text_or_none told.out) (O.told out.old) (O.told out.new) }
@@ -74,6 +78,7 @@ fn write_told<O: Sink, L: Sink>(told: Told, out: &mut O, log: &mut L) -> Status
 // Writes the text for the output, where the status is one with an output.
 fn write_text<O: Sink>(status: &Status, text: &Option<Text>, out: &mut O) -> Result<(), SinkFailed>
     ensures silent { has_output status.now ≡ false → (result ≡ Ok tt) × (O.told out.new ≡ O.told out.old) }
+    ensures none { is_some text.now ≡ false → result ≡ Ok tt }
     ensures whole { has_output status.now ≡ true → OnOk result (O.told out.new ≡ option_map (λ before. before ++ text_or_none text.now) (O.told out.old)) }
     ensures part { IsPart (text_or_none text.now) (O.told out.old) (O.told out.new) }
     ensures failed { OnErr result (Rose (O.faults out.old) (O.faults out.new)) }
@@ -86,6 +91,7 @@ fn write_text<O: Sink>(status: &Status, text: &Option<Text>, out: &mut O) -> Res
 }
 
 fn write_some<O: Sink>(text: &Option<Text>, out: &mut O) -> Result<(), SinkFailed>
+    ensures none { is_some text.now ≡ false → result ≡ Ok tt }
     ensures whole { OnOk result (O.told out.new ≡ option_map (λ before. before ++ text_or_none text.now) (O.told out.old)) }
     ensures part { IsPart (text_or_none text.now) (O.told out.old) (O.told out.new) }
     ensures failed { OnErr result (Rose (O.faults out.old) (O.faults out.new)) }
