@@ -1,5 +1,6 @@
 -- A turn's calls in hand.
 use Rattle.std.proofs.Common.{ap, subst, sym, ◌∙◌}
+use Rattle.std.proofs.lemmas.List.{reverse-append}
 use Rattle.std.specs.List.{list_all}
 use Rattle.std.specs.Prelude.{Bool, List, [], false, if◌then◌else◌, refl, reverse, true, ℕ, ◌++◌, ◌∷◌, ◌≡◌}
 use Rattle.lq_base.specs.declared.dialect.Dialect.{Dialect}
@@ -14,6 +15,10 @@ use Rattle.lq_hand.specs.Hand.{AreTurns}
 use Rattle.lq_hand.specs.Writable.{IsWritable}
 use Rattle.lq_hand.specs.declared.hand.Phase.TheVariants.{Inside}
 use Rattle.lq_hand.proofs.WellTurned.{turn_well}
+
+-- the last in the list is the first call
+pub last_first : (calls left : List Call) (call : Call) → calls ≡ left ++ call ∷ [] → reverse calls ≡ call ∷ reverse left
+last_first calls left call is = ap reverse is ∙ reverse-append left (call ∷ [])
 
 has_one : (calls more : List Call) (call : Call) → calls ++ call ∷ more ≡ [] → ⊥
 has_one [] more call none = Prim.cc

@@ -1,3 +1,6 @@
 pub mod WellTurned
 pub mod Laying
 pub mod InHand
+pub mod Counted
+pub mod Sighted
+pub mod Expected

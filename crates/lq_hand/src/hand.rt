@@ -1,10 +1,13 @@
 ghost use Rattle.std.specs.List.{list_all};
 ghost use Rattle.std.specs.Prelude.{◌≡◌, IfOk, true};
+ghost use Rattle.lq_hand.specs.Counts.{no_progress};
 ghost use Rattle.lq_hand.specs.Enters.{IsTurn};
 ghost use Rattle.lq_hand.specs.Hand.{calls_left};
+ghost use Rattle.lq_hand.specs.Way.{refusal_at_end, refused_in, seen_along, sights};
 ghost use Rattle.lq_hand.specs.Writable.{IsWritable};
 ghost use Rattle.lq_model.specs.Statement.{is_statement};
-ghost use Rattle.lq_turns.specs.Turn.{turn_calls};
+ghost use Rattle.lq_turns.specs.Contents.{Contents};
+ghost use Rattle.lq_turns.specs.Turn.{ending, turn_calls};
 ghost use Rattle.lq_turns.specs.declared.deed.Deed.TheVariants.{Rows};
 
 use crate::turn::turn_calls;
@@ -34,7 +37,7 @@ pub struct Hand {
 
 impl Hand {
     /// A turn of which no call is made. Its statements are of the dialect, and its row's date is one
-    /// of the calendar.
+    /// of the calendar. Where a call is refused, its refusal is the one in how the turn ends.
     #[tactic(none)]
     pub fn of_turn(
         alloc: Global,
@@ -48,8 +51,11 @@ impl Hand {
         ensures turn { IfOk result (λ hand. IsTurn dialect hand) }
         ensures calls { IfOk result (λ hand. calls_left hand ≡ turn_calls dialect who.now turn) }
         ensures goes_on { IfOk result (λ hand. hand.goes_on ≡ goes_on) }
+        ensures refused { IfOk result (λ hand. (c : Contents) → refused_in dialect (calls_left hand) no_progress c ≡ refusal_at_end (ending dialect turn c)) }
+        ensures seen { IfOk result (λ hand. (c : Contents) → sights dialect (calls_left hand) c ≡ seen_along dialect turn.statements c.users) }
     {
         let calls = turn_calls(alloc, dialect, who, turn)?;
+        let _count = calls.len();
         Ok(Hand {
             phase: Phase::Inside,
             calls,

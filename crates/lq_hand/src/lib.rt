@@ -3,9 +3,11 @@
 
 mod hand;
 mod marking;
+mod progress;
 mod source;
 mod turn;
 
 pub use hand::{Hand, Phase};
+pub use progress::{Coming, Progress, next_coming};
 pub use source::{Entered, Source};
 pub use turn::turn_calls;

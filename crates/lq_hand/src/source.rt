@@ -1,7 +1,9 @@
-ghost use Rattle.std.specs.Prelude.{◌≡◌, ◌≤◌, List};
+ghost use Rattle.std.specs.Prelude.{◌≡◌, ◌≤◌, [], List};
 ghost use Rattle.lq_base.specs.declared.dialect.Dialect.{Dialect};
-ghost use Rattle.lq_base.specs.declared.tracking.Tracked.{Tracked};
 ghost use Rattle.lq_hand.specs.Enters.{Enters};
+ghost use Rattle.lq_hand.specs.Way.{GivesUp, Looks, Way};
+ghost use Rattle.lq_turns.specs.Contents.{Contents};
+ghost use Rattle.lq_turns.specs.declared.stamp.Stamp.{Stamp};
 
 use crate::hand::Hand;
 use lq_base::Dialect;
@@ -20,11 +22,11 @@ pub enum Entered {
 
 /// The turns to come of a command.
 pub trait Source {
-    ghost use Rattle.std.specs.Prelude.{List};
     ghost use Rattle.lq_base.specs.declared.dialect.Dialect.{Dialect};
-    ghost use Rattle.lq_base.specs.declared.tracking.Tracked.{Tracked};
+    ghost use Rattle.lq_hand.specs.Way.{Way};
     ghost use Rattle.lq_turns.specs.Rest.{Turns};
     ghost use Rattle.lq_turns.specs.Set.{Meaning};
+    ghost use Rattle.lq_turns.specs.declared.stamp.Stamp.{Stamp};
 
     /// What a change says.
     ghost Key: { Type 0 };
@@ -34,11 +36,11 @@ pub trait Source {
 
     ghost left: { Self → Turns Key };
 
-    /// What it holds of the rows that are committed between two turns.
-    ghost knows: { Self → List Tracked → Type 0 };
+    /// What it tells of a command at its end.
+    ghost Told: { Type 0 };
 
-    /// And of those that are there once the turn in hand has finished.
-    ghost awaits: { Self → List Tracked → Type 0 };
+    /// What it holds of a command that has this stamp, on its way to having told so much.
+    ghost way: { Self → Dialect → Stamp → Told → Way };
 
     /// What it has was read for this dialect.
     ghost reads: { Self → Dialect → Type 0 };
@@ -56,26 +58,25 @@ pub trait Source {
         requires reads { reads self.old dialect }
         requires sql { P.dialect ≡ dialect }
         requires moment { stamp.now.reading ≤ 253402300799999 }
-        ensures enters { Enters dialect meaning stamp.now (left self.old) (knows self.old) (K.catalogue look.now) result (left self.new) (knows self.new) (awaits self.new) }
+        ensures enters { Enters dialect meaning stamp.now (left self.old) (way self.old dialect stamp.now) (K.catalogue look.now) result (left self.new) (way self.new dialect stamp.now) }
         ensures reads { reads self.new dialect };
 
     /// A user's statement of the turn in hand comes next, and this is what it will see.
     fn looks<K: Look>(&mut self, dialect: Dialect, look: &K)
         requires reads { reads self.old dialect }
         ensures left { left self.new ≡ left self.old }
-        ensures knows { (rows : List Tracked) → knows self.old rows → knows self.new rows }
-        ensures awaits { (rows : List Tracked) → awaits self.old rows → awaits self.new rows }
+        ensures looks { (stamp : Stamp) (told : Told) → Looks dialect (K.catalogue look.now) (way self.old dialect stamp told) (way self.new dialect stamp told) }
         ensures reads { reads self.new dialect };
 
     /// The turn in hand has finished.
     fn finished(&mut self)
-        ensures knows { (rows : List Tracked) → awaits self.old rows → knows self.new rows }
+        ensures knows { (d : Dialect) (stamp : Stamp) (told : Told) (c : Contents) → (way self.old d stamp told).awaits [] c → (way self.new d stamp told).knows c }
         ensures left { left self.new ≡ left self.old }
         ensures reads { (d : Dialect) → reads self.old d → reads self.new d };
 
     /// A statement of the turn in hand was refused, so the turn is taken back.
     fn refused(&mut self)
         ensures left { left self.new ≡ left self.old }
-        ensures knows { (rows : List Tracked) → knows self.old rows → knows self.new rows }
+        ensures gives_up { (d : Dialect) (stamp : Stamp) (told : Told) → GivesUp (way self.old d stamp told) (way self.new d stamp told) }
         ensures reads { (d : Dialect) → reads self.old d → reads self.new d };
 }

@@ -20,7 +20,7 @@ use Rattle.lq_turns.specs.declared.stamp.Stamp.{Stamp}
 use Rattle.lq_beside.specs.Replays.{calls_fit}
 use Rattle.lq_hand.specs.Hand.{AreTurns, IsReady, calls_left, hand_place}
 use Rattle.lq_run.proofs.Keeping.{inside_keeps}
-use Rattle.lq_run.specs.Commands.{IsNew, KnowsRows, both_on, script}
+use Rattle.lq_run.specs.Commands.{IsNew, KnowsContents, both_on, script}
 use Rattle.lq_run.specs.Ends.{IsRunning, KeepsLock, at_end, disk_failed}
 use Rattle.lq_run.specs.Stands.{Stands}
 use Rattle.lq_run.specs.Steps.{Known, KnownIn, Standing, place, turns_of}
@@ -58,7 +58,7 @@ is_opened Mysql stamp x es false true false = record { committed = refl; seen = 
 is_opened Mysql stamp x es false false true = record { committed = refl; seen = refl; row = (refl, refl); shut = refl; both = refl }
 is_opened Mysql stamp x es false false false = record { committed = refl; seen = refl; row = (refl, refl); shut = refl; both = refl }
 
-module _ {Key : Type 0} (d : Dialect) (m : Meaning Key) (stamp : Stamp) (r : Standing Key) (new : IsNew d m stamp r) where
+module _ {Key Told : Type 0} (d : Dialect) (m : Meaning Key) (stamp : Stamp) (r : Standing Key Told) (new : IsNew d m stamp r) where
   new_at : place r ≡ Inside (calls_left r.hand) r.hand.goes_on (turns_of r)
   new_at = ap (λ p. hand_place p (calls_left r.hand) r.hand.goes_on (turns_of r)) new.inside
 
@@ -73,9 +73,9 @@ module _ {Key : Type 0} (d : Dialect) (m : Meaning Key) (stamp : Stamp) (number 
   opened : IsOpened stamp database first_session
   opened = is_opened d stamp database entries database.has_log database.has_lock database.has_lock_row
 
-  pub begins : (r : Standing Key) (start y : State) → IsNew d m stamp r → start.dialect ≡ d → Stands start number y first_session → KnowsRows d m stamp r database
-      → calls_fit d (rest d m stamp (place r) (both_on database)) first_session ≡ true → IsRunning d m stamp number r y start first_session
-  begins r start y new is stands known fits =
+  pub begins : {Told : Type 0} (r : Standing Key Told) (told : Told) (start y : State) → IsNew d m stamp r → start.dialect ≡ d → Stands start number y first_session → KnowsContents d m stamp r database told
+      → calls_fit d (rest d m stamp (place r) (both_on database)) first_session ≡ true → IsRunning d m stamp number r y start first_session told
+  begins r told start y new is stands known fits =
       let at_hand = new_at d m stamp r new in
       record {
         there = record {
@@ -86,7 +86,9 @@ module _ {Key : Type 0} (d : Dialect) (m : Meaning Key) (stamp : Stamp) (number 
             fits = subst (λ b. calls_fit d (rest d m stamp (place r) b) first_session ≡ true) (sym opened.both) fits;
             row = opened.row;
           };
-          known = λ enters. subst (λ p. Known d r.knows r.awaits p (both_of first_session)) (sym at_hand) (subst (KnownIn d r.knows r.awaits (calls_left r.hand)) (sym opened.both) known);
+          known = λ healthy. subst (λ p. Known d (r.way d stamp told) r.refused p r.progress (both_of first_session)) (sym at_hand)
+              (subst (λ o. Known d (r.way d stamp told) o (Inside (calls_left r.hand) r.hand.goes_on (turns_of r)) r.progress (both_of first_session)) (sym new.refused)
+              (subst (KnownIn d (r.way d stamp told) r.hand.goes_on (calls_left r.hand) r.progress) (sym opened.both) known));
         };
         committed = inl opened.committed;
         seen = inl opened.seen;

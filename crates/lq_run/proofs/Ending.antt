@@ -7,28 +7,30 @@ use Rattle.lq_model.specs.declared.caller.Room.TheVariants.{Ordinary, Release}
 use Rattle.lq_model.specs.declared.fault.StoreFault.{StoreFault}
 use Rattle.lq_model.specs.declared.fault.StoreFault.TheVariants as fault
 use Rattle.lq_store.specs.State.{State, Transaction, is_open}
+use Rattle.lq_turns.specs.Contents.{Contents}
 use Rattle.lq_turns.specs.Goes.{Both, are_accepted, went}
-use Rattle.lq_turns.specs.Rest.{NoMore, Over, Place, Turns, between, if_goes_on, rest, turns_calls}
+use Rattle.lq_turns.specs.Rest.{GivingUp, Inside, NoMore, Over, Place, Turns, between, if_goes_on, rest, turns_calls}
 use Rattle.lq_turns.specs.Script.{closing}
 use Rattle.lq_turns.specs.Session.{Session, all_called, called}
 use Rattle.lq_turns.specs.Set.{Meaning}
 use Rattle.lq_turns.specs.Stepped.{both_of}
 use Rattle.lq_turns.specs.declared.call.Call.{Call}
 use Rattle.lq_turns.specs.declared.call.Call.TheVariants.{Abort, Alone, Begin, Commit, Execute}
+use Rattle.lq_turns.specs.declared.deed.Deed.{Deed}
 use Rattle.lq_turns.specs.declared.stamp.Stamp.{Stamp}
 use Rattle.lq_turns.specs.declared.stop.Refusal.{Refusal}
 use Rattle.lq_turns.specs.Turn.{made}
-use Rattle.lq_hand.specs.Hand.{IsReady, calls_left, hand_place}
+use Rattle.lq_hand.specs.Hand.{AreTurns, IsReady, calls_left, hand_place}
 use Rattle.lq_hand.specs.declared.hand.Phase.{Phase}
 use Rattle.lq_hand.specs.declared.hand.Phase.TheVariants as phase
-use Rattle.lq_run.proofs.Grows.{calls_grow}
+use Rattle.lq_run.proofs.Grows.{calls_grow, came_on}
 use Rattle.lq_run.proofs.Keeping.{call_holds}
 use Rattle.lq_run.specs.Does.{Breaks, Faults}
-use Rattle.lq_run.specs.Ends.{AllHoldOn, AreLast, EndsAs, HoldsOn, IsBefore, IsOnWay, IsRunning, KeepsLock, Reaches, StandsBefore, at_end, disk_failed}
+use Rattle.lq_run.specs.Ends.{AllHoldOn, AreLast, CameFrom, EndsAs, HoldsOn, IsBefore, IsOnWay, IsRunning, KeepsLock, Reaches, StandsBefore, at_end, disk_failed}
 use Rattle.lq_run.specs.Holds.{IsBare, IsHeld}
 use Rattle.lq_run.specs.Moves.{Goes, IsAt, Meets, room_of}
 use Rattle.lq_run.specs.Stands.{IsBegun, Stands}
-use Rattle.lq_run.specs.Steps.{Advances, Closes, Ends, Falls, Standing, Steps, StepsAs, TakesBack, end_of, enters_turns, is_disk, is_over, last_end, place, turns_of}
+use Rattle.lq_run.specs.Steps.{Advances, Closes, Ends, EndsStep, Falls, Standing, Steps, StepsAs, TakesBack, TellsAs, end_of, is_disk, is_over, last_end, place, turns_of}
 use Rattle.lq_run.specs.declared.runner.End.{End}
 use Rattle.lq_run.specs.declared.runner.End.TheVariants as end
 use Rattle.lq_run.specs.declared.runner.Step.TheVariants as step
@@ -45,6 +47,9 @@ some_none h = Prim.cc
 same_some : {a b : StoreFault} → (let o : Option StoreFault = Some a in o) ≡ Some b → a ≡ b
 same_some h = Prim.cc
 
+not_healthy : (f : Option StoreFault) (why : StoreFault) → f ≡ Some why → f ≡ None → ⊥
+not_healthy f why is none = some_none (sym is ∙ none)
+
 head_is : {c k : Call} {cs ks : List Call} → c ∷ cs ≡ k ∷ ks → c ≡ k
 head_is h = Prim.cc
 
@@ -56,6 +61,15 @@ not_nil h = Prim.cc
 
 rooms_differ : (let room : Room = Ordinary in room) ≡ Release → ⊥
 rooms_differ h = Prim.cc
+
+not_executed : {deed : Deed} → Execute deed ≡ closing → ⊥
+not_executed h = Prim.cc
+
+not_committed : Commit ≡ closing → ⊥
+not_committed h = Prim.cc
+
+not_aborted : Abort ≡ closing → ⊥
+not_aborted h = Prim.cc
 
 some_last : (calls : List Call) → calls ++ closing ∷ [] ≢ []
 some_last [] h = not_nil h
@@ -97,52 +111,23 @@ module _ {Key : Type 0} (d : Dialect) (m : Meaning Key) (stamp : Stamp) (number 
   rest_left phase.GivingUp calls goes_on turns x h = λ e. not_nil e
   rest_left phase.Over calls goes_on turns x h = absurd (not_true (sym h))
 
-  left_after : (r : Standing Key) (x : Both) → is_over r.hand.phase ≡ false → rest d m stamp (place r) x ≢ []
-  left_after r x = rest_left r.hand.phase (calls_left r.hand) r.hand.goes_on (turns_of r) x
+  -- at the call that frees the lock no transaction is open
+  shut_inside : (calls : List Call) (opened : Bool) (c : Contents) (others more : List Call) → AreTurns d opened calls → made d calls c ++ others ++ closing ∷ [] ≡ closing ∷ more → opened ≡ false
+  shut_inside [] opened c others more turns is = turns
+  shut_inside (Begin ∷ calls) opened c others more turns is = turns.0
+  shut_inside (Execute deed ∷ calls) opened c others more turns is = absurd (not_executed (head_is is))
+  shut_inside (Commit ∷ calls) opened c others more turns is = absurd (not_committed (head_is is))
+  shut_inside (Abort ∷ calls) opened c others more turns is = absurd turns.0
+  shut_inside (Alone deeds room ∷ calls) opened c others more turns is = absurd turns.0
 
-  none_enters : (f : Option StoreFault) (refused : Option Refusal) (why : StoreFault) → f ≡ Some why → enters_turns f refused ≡ true → ⊥
-  none_enters f refused why is enters = not_true (sym (ap (λ o. enters_turns o refused) is) ∙ enters)
+  shut_at : (p : Place Key) (opened : Bool) (x : Both) (more : List Call) → IsReady d opened p → rest d m stamp p x ≡ closing ∷ more → opened ≡ false
+  shut_at (Inside calls goes_on turns) opened x more ready is = shut_inside calls opened x.1 (turns_calls d m stamp (if_goes_on (are_accepted d calls x.1 || goes_on) turns) (went d calls x).0) more ready is
+  shut_at (GivingUp turns) opened x more ready is = absurd (not_aborted (head_is is))
+  shut_at Over opened x more ready is = ready
 
   -- a call of the way
   along : (p q : Place Key) (start : State) (s : Session) (y : State) (is : Goes d m stamp number p q start s y) → at_end d m stamp number q is.after ≡ at_end d m stamp number p s
   along p q start s y is = ap (λ z. all_called d (rest d m stamp q (both_of is.after)) z) is.went.is ∙ sym (ap (λ calls. all_called d calls s) is.went.next)
-
-  before_last : (r : Standing Key) (s last : Session) → IsOnWay d m stamp number r s last → IsBefore s last
-  before_last r s last (inl same) = subst (IsBefore s) same (calls_grow d (rest d m stamp (place r) (both_of s)) s)
-  before_last r s last (inr fell) = fell.3
-
-  -- after the last call but one
-
-  module _ (start : State) (last : Session) (before after : Standing Key) (s : Session) (y : State) (more : is_over after.hand.phase ≡ false) (on : Advances d m stamp number before after start s y) where
-    abbrev goes : Goes d m stamp number (place before) (place after) start s y
-    goes = on.goes
-
-    goes_last : (why : StoreFault) → before.fault ≡ Some why → IsBefore s last → AreLast (rest d m stamp (place before) (both_of s)) → IsOnWay d m stamp number after goes.after last
-    goes_last why is way (inl closes) = absurd (left_after after (both_of goes.after) more (tail_is (sym goes.went.next ∙ closes)))
-    goes_last why is way (inr aborts) =
-        let next = sym goes.went.next ∙ aborts in
-        let ends : goes.after ≡ called d Abort s = goes.went.is ∙ ap (λ c. called d c s) (head_is next) in
-        inr (why, on.fault ∙ is, inl (tail_is next), subst (λ z. IsBefore z last) (sym ends) (record { more = way.more; entries = way.entries }))
-
-    goes_on_way : IsOnWay d m stamp number before s last → IsOnWay d m stamp number after goes.after last
-    goes_on_way (inl same) = inl (along (place before) (place after) start s y goes ∙ same)
-    goes_on_way (inr fell) = goes_last fell.0 fell.1 fell.3 fell.2
-
-    goes_on : (x : State) → IsRunning d m stamp number before x start s → IsOnWay d m stamp number before s last → Reaches d m stamp number after y start last
-    goes_on x is way =
-        let split = keeps_split stamp.who goes.went.call (rest d m stamp (place after) (both_of goes.after)) is.keeps.front (sym goes.went.next ∙ is.keeps.is) (left_after after (both_of goes.after) more) is.keeps.holds in
-        let held = call_holds stamp d goes.went.call s split.0 (is.committed, is.seen) in
-        record {
-          session = goes.after;
-          is = record {
-            there = record { at = goes.at; known = on.known };
-            committed = subst (λ z. IsHeld stamp z.committed.lock) (sym goes.went.is) held.0;
-            seen = subst (λ z. IsHeld stamp z.seen.lock) (sym goes.went.is) held.1;
-            keeps = split.1;
-            disk = ap disk_failed on.fault ∙ is.disk;
-          };
-          way = goes_on_way way;
-        }
 
   -- a fault that is not the disk's
 
@@ -154,57 +139,22 @@ module _ {Key : Type 0} (d : Dialect) (m : Meaning Key) (stamp : Stamp) (number 
   still_live fault.NotSql call start s x y room faults live = refl
   still_live (fault.Refused reason) call start s x y room faults live = refl
 
-  falls : (before after : Standing Key) (start : State) (last s : Session) (x y : State) → Falls d m stamp number before after start s x y → IsRunning d m stamp number before x start s → IsBefore s last → Reaches d m stamp number after y start last
-  falls before after start last s x y fell is way =
-      let left : rest d m stamp (place after) (both_of s) ≡ Abort ∷ closing ∷ [] = ap (λ p. rest d m stamp p (both_of s)) fell.gives_up in
-      record {
-        session = s;
-        is = record {
-          there = record { at = fell.at; known = λ enters. absurd (none_enters after.fault after.refused fell.why fell.fault enters) };
-          committed = is.committed;
-          seen = is.seen;
-          keeps = record { front = Abort ∷ []; is = left; holds = (tt, tt) };
-          disk = ap disk_failed fell.fault ∙ still_live fell.why fell.meets.call start s x y Ordinary fell.meets.faults fell.at.stands.live;
-        };
-        way = inr (fell.why, fell.fault, inr left, way);
-      }
-
-  takes_back : (before after : Standing Key) (start : State) (last s : Session) (x y : State) → TakesBack d m stamp number after start s y → IsRunning d m stamp number before x start s → IsBefore s last → Reaches d m stamp number after y start last
-  takes_back before after start last s x y back is way =
-      let left : rest d m stamp (place after) (both_of (called d Abort s)) ≡ closing ∷ [] = ap (λ p. rest d m stamp p (both_of (called d Abort s))) back.ends_turns in
-      record {
-        session = called d Abort s;
-        is = record {
-          there = record { at = back.at; known = λ enters. absurd (none_enters after.fault after.refused fault.OutOfMemory back.fault enters) };
-          committed = is.committed;
-          seen = is.committed;
-          keeps = record { front = []; is = left; holds = tt };
-          disk = ap disk_failed back.fault;
-        };
-        way = inr (fault.OutOfMemory, back.fault, inl left, record { more = way.more; entries = way.entries });
-      }
-
-  pub reaches : (before after : Standing Key) (start : State) (last : Session) (x y : State) → is_over after.hand.phase ≡ false → Reaches d m stamp number before x start last
-      → Steps d m stamp number before after x step.Going y → Reaches d m stamp number after y start last
-  reaches before after start last x y more is steps = by (steps start is.session is.is.there (λ there. is.is.committed)) where
-    way : IsBefore is.session last
-    way = before_last before is.session last is.way
-
-    by : StepsAs d m stamp number before after start is.session x step.Going y → Reaches d m stamp number after y start last
-    by (inl on) = goes_on start last before after is.session y more on x is.is is.way
-    by (inr (inl fell)) = falls before after start last is.session x y fell is.is way
-    by (inr (inr back)) = takes_back before after start last is.session x y back is.is way
-
   -- the end
 
-  module _ (start : State) (last s : Session) (x y : State) (stands : Stands start number x s) (same_dialect : start.dialect ≡ d) (way : IsBefore s last) where
-    stands_still : y ≡ x → StandsBefore d m stamp number start last y
-    stands_still is = (s, way, inl (subst (λ z. Stands start number z s) (sym is) stands))
+  module _ (start : State) (first last s : Session) (x y : State) (stands : Stands start number x s) (same_dialect : start.dialect ≡ d) (came : CameFrom d first s) (way : IsBefore s last) where
+    begun_none : s.is_open ≡ false → s.begun ≡ []
+    begun_none = by x.begun stands.begun where
+      by : (o : Option Transaction) → IsBegun start.dialect number s o → s.is_open ≡ false → s.begun ≡ []
+      by None begun shut = begun.2
+      by (Some t) begun shut = absurd (not_true (sym shut ∙ begun.0))
+
+    stands_still : y ≡ x → StandsBefore d m stamp number start first last y
+    stands_still is = (s, came, way, inl (subst (λ z. Stands start number z s) (sym is) stands))
 
     -- a call on the way, or the one that frees a lock without a mark, met a fault
-    meets : (p : Place Key) (room : Room) (why : StoreFault) (is : Meets d m stamp number p start s x room why y) → (IsBefore (called d is.call s) last ⊎ ((is.call ≡ closing) × IsBare stamp s.committed.lock × IsBefore s last))
-        → EndsAs d m stamp number start last (end_of why) y
-    meets p room fault.Disk is next = record { s = s; x = x; stands = stands; call = is.call; breaks = subst (λ e. Breaks e is.call s x y) same_dialect is.faults; before = next }
+    meets : (p : Place Key) (room : Room) (why : StoreFault) (is : Meets d m stamp number p start s x room why y) → (IsBefore (called d is.call s) last ⊎ ((is.call ≡ closing) × IsBare stamp s.committed.lock × (s.begun ≡ []) × IsBefore s last))
+        → EndsAs d m stamp number start first last (end_of why) y
+    meets p room fault.Disk is next = record { s = s; x = x; stands = stands; came = came; call = is.call; breaks = subst (λ e. Breaks e is.call s x y) same_dialect is.faults; before = next }
     meets p room (fault.Full used more) is next = stands_still is.faults.1
     meets p room fault.OutOfMemory is next = stands_still is.faults
     meets p room (fault.Busy n) is next = absurd is.faults
@@ -212,7 +162,7 @@ module _ {Key : Type 0} (d : Dialect) (m : Meaning Key) (stamp : Stamp) (number 
     meets p room (fault.Refused reason) is next = absurd is.faults
 
     -- the lock is freed after a fault
-    frees : (why : StoreFault) → is_disk why ≡ false → StandsBefore d m stamp number start last y → EndsAs d m stamp number start last (end_of why) y
+    frees : (why : StoreFault) → is_disk why ≡ false → StandsBefore d m stamp number start first last y → EndsAs d m stamp number start first last (end_of why) y
     frees fault.Disk other is = absurd (not_true (sym other))
     frees (fault.Full used more) other is = is
     frees fault.OutOfMemory other is = is
@@ -223,26 +173,116 @@ module _ {Key : Type 0} (d : Dialect) (m : Meaning Key) (stamp : Stamp) (number 
     closes_bare : (p : Place Key) (why : StoreFault) (e : End) → is_disk why ≡ false → IsBare stamp s.committed.lock
         → ((call : Call) (more : List Call) → rest d m stamp p (both_of s) ≡ call ∷ more → room_of call ≡ Release → (call ≡ closing))
         → ((call : Call) → rest d m stamp p (both_of s) ≡ call ∷ [] → call ≡ closing)
-        → Closes d m stamp number p (end_of why) start s x e y → EndsAs d m stamp number start last e y
-    closes_bare p why e other bare at_room only (inl went) =
+        → ((call : Call) (more : List Call) → rest d m stamp p (both_of s) ≡ call ∷ more → call ≡ closing → s.is_open ≡ false)
+        → Closes d m stamp number p (end_of why) start s x e y → EndsAs d m stamp number start first last e y
+    closes_bare p why e other bare at_room only shut (inl went) =
         let is = went.0 in
+        let none = begun_none (shut is.went.call [] is.went.next (only is.went.call is.went.next)) in
         let ends : is.after ≡ called d closing s = is.went.is ∙ ap (λ c. called d c s) (only is.went.call is.went.next) in
-        subst (λ a. EndsAs d m stamp number start last a y) (sym went.1) (frees why other (s, way, inr (bare, subst (Stands start number y) ends is.at.stands)))
-    closes_bare p why e other bare at_room only (inr failed) =
-        subst (λ a. EndsAs d m stamp number start last a y) (sym failed.2) (meets p Release failed.0 failed.1 (inr (at_room failed.1.call failed.1.more failed.1.next failed.1.by, bare, way)))
+        subst (λ a. EndsAs d m stamp number start first last a y) (sym went.1) (frees why other (s, came, way, inr (bare, none, subst (Stands start number y) ends is.at.stands)))
+    closes_bare p why e other bare at_room only shut (inr failed) =
+        let it = failed.1 in
+        let frees_it = at_room it.call it.more it.next it.by in
+        subst (λ a. EndsAs d m stamp number start first last a y) (sym failed.2) (meets p Release failed.0 it (inr (frees_it, bare, begun_none (shut it.call it.more it.next frees_it), way)))
 
     ends_bare : (p : Place Key) (why : StoreFault) (refused : Option Refusal) (e : End) → is_disk why ≡ false
         → ((call : Call) (more : List Call) → rest d m stamp p (both_of s) ≡ call ∷ more → room_of call ≡ Release → (call ≡ closing))
         → ((call : Call) → rest d m stamp p (both_of s) ≡ call ∷ [] → call ≡ closing)
-        → Ends d m stamp number p (Some why) refused start s x e y → EndsAs d m stamp number start last e y
-    ends_bare p why refused e other at_room only (inl bare) = closes_bare p why e other bare.0 at_room only bare.1
-    ends_bare p why refused e other at_room only (inr marked) = subst (λ a. EndsAs d m stamp number start last a y) (sym marked.2) (frees why other (stands_still marked.1))
+        → ((call : Call) (more : List Call) → rest d m stamp p (both_of s) ≡ call ∷ more → call ≡ closing → s.is_open ≡ false)
+        → Ends d m stamp number p (Some why) refused start s x e y → EndsAs d m stamp number start first last e y
+    ends_bare p why refused e other at_room only shut (inl bare) = closes_bare p why e other bare.0 at_room only shut bare.1
+    ends_bare p why refused e other at_room only shut (inr marked) = subst (λ a. EndsAs d m stamp number start first last a y) (sym marked.2) (frees why other (stands_still marked.1))
 
-  module _ (before : Standing Key) (start : State) (last : Session) (x y : State) (is : Reaches d m stamp number before x start last) where
+module _ {Key Told : Type 0} (d : Dialect) (m : Meaning Key) (stamp : Stamp) (number : ℕ) where
+  left_after : (r : Standing Key Told) (x : Both) → is_over r.hand.phase ≡ false → rest d m stamp (place r) x ≢ []
+  left_after r x = rest_left d m stamp number r.hand.phase (calls_left r.hand) r.hand.goes_on (turns_of r) x
+
+  before_last : (r : Standing Key Told) (s last : Session) → IsOnWay d m stamp number r s last → IsBefore s last
+  before_last r s last (inl same) = subst (IsBefore s) same (calls_grow d (rest d m stamp (place r) (both_of s)) s)
+  before_last r s last (inr fell) = fell.3
+
+  -- after the last call but one
+
+  module _ (start : State) (last : Session) (told : Told) (before after : Standing Key Told) (s : Session) (y : State) (more : is_over after.hand.phase ≡ false) (on : Advances d m stamp number before after told start s y) where
+    abbrev goes : Goes d m stamp number (place before) (place after) start s y
+    goes = on.goes
+
+    goes_last : (why : StoreFault) → before.fault ≡ Some why → IsBefore s last → AreLast (rest d m stamp (place before) (both_of s)) → IsOnWay d m stamp number after goes.after last
+    goes_last why is way (inl closes) = absurd (left_after after (both_of goes.after) more (tail_is (sym goes.went.next ∙ closes)))
+    goes_last why is way (inr aborts) =
+        let next = sym goes.went.next ∙ aborts in
+        let ends : goes.after ≡ called d Abort s = goes.went.is ∙ ap (λ c. called d c s) (head_is next) in
+        inr (why, on.fault ∙ is, inl (tail_is next), subst (λ z. IsBefore z last) (sym ends) (record { more = way.more; entries = way.entries }))
+
+    goes_on_way : IsOnWay d m stamp number before s last → IsOnWay d m stamp number after goes.after last
+    goes_on_way (inl same) = inl (along d m stamp number (place before) (place after) start s y goes ∙ same)
+    goes_on_way (inr fell) = goes_last fell.0 fell.1 fell.3 fell.2
+
+    goes_on : (x : State) (first : Session) → CameFrom d first s → IsRunning d m stamp number before x start s told → IsOnWay d m stamp number before s last → Reaches d m stamp number after y start first last told
+    goes_on x first came is way =
+        let split = keeps_split stamp.who goes.went.call (rest d m stamp (place after) (both_of goes.after)) is.keeps.front (sym goes.went.next ∙ is.keeps.is) (left_after after (both_of goes.after) more) is.keeps.holds in
+        let held = call_holds stamp d goes.went.call s split.0 (is.committed, is.seen) in
+        record {
+          session = goes.after;
+          came = subst (CameFrom d first) (sym goes.went.is) (came_on d first s goes.went.call came);
+          is = record {
+            there = record { at = goes.at; known = on.known };
+            committed = subst (λ z. IsHeld stamp z.committed.lock) (sym goes.went.is) held.0;
+            seen = subst (λ z. IsHeld stamp z.seen.lock) (sym goes.went.is) held.1;
+            keeps = split.1;
+            disk = ap disk_failed on.fault ∙ is.disk;
+          };
+          way = goes_on_way way;
+        }
+
+  falls : (before after : Standing Key Told) (told : Told) (start : State) (first last s : Session) (x y : State) → Falls d m stamp number before after start s x y → CameFrom d first s → IsRunning d m stamp number before x start s told → IsBefore s last → Reaches d m stamp number after y start first last told
+  falls before after told start first last s x y fell came is way =
+      let left : rest d m stamp (place after) (both_of s) ≡ Abort ∷ closing ∷ [] = ap (λ p. rest d m stamp p (both_of s)) fell.gives_up in
+      record {
+        session = s;
+        came = came;
+        is = record {
+          there = record { at = fell.at; known = λ healthy. absurd (not_healthy after.fault fell.why fell.fault healthy) };
+          committed = is.committed;
+          seen = is.seen;
+          keeps = record { front = Abort ∷ []; is = left; holds = (tt, tt) };
+          disk = ap disk_failed fell.fault ∙ still_live d m stamp number fell.why fell.meets.call start s x y Ordinary fell.meets.faults fell.at.stands.live;
+        };
+        way = inr (fell.why, fell.fault, inr left, way);
+      }
+
+  takes_back : (before after : Standing Key Told) (told : Told) (start : State) (first last s : Session) (x y : State) → TakesBack d m stamp number after start s y → CameFrom d first s → IsRunning d m stamp number before x start s told → IsBefore s last → Reaches d m stamp number after y start first last told
+  takes_back before after told start first last s x y back came is way =
+      let left : rest d m stamp (place after) (both_of (called d Abort s)) ≡ closing ∷ [] = ap (λ p. rest d m stamp p (both_of (called d Abort s))) back.ends_turns in
+      record {
+        session = called d Abort s;
+        came = came_on d first s Abort came;
+        is = record {
+          there = record { at = back.at; known = λ healthy. absurd (not_healthy after.fault fault.OutOfMemory back.fault healthy) };
+          committed = is.committed;
+          seen = is.committed;
+          keeps = record { front = []; is = left; holds = tt };
+          disk = ap disk_failed back.fault;
+        };
+        way = inr (fault.OutOfMemory, back.fault, inl left, record { more = way.more; entries = way.entries });
+      }
+
+  pub reaches : (before after : Standing Key Told) (told : Told) (start : State) (first last : Session) (x y : State) → is_over after.hand.phase ≡ false → Reaches d m stamp number before x start first last told
+      → Steps d m stamp number before after x step.Going y → Reaches d m stamp number after y start first last told
+  reaches before after told start first last x y more is steps = by (steps start is.session told is.is.there (λ there. is.is.committed)) where
+    way : IsBefore is.session last
+    way = before_last before is.session last is.way
+
+    by : StepsAs d m stamp number before after told start is.session x step.Going y → Reaches d m stamp number after y start first last told
+    by (inl on) = goes_on start last told before after is.session y more on x first is.came is.is is.way
+    by (inr (inl fell)) = falls before after told start first last is.session x y fell is.came is.is way
+    by (inr (inr back)) = takes_back before after told start first last is.session x y back is.came is.is way
+
+  module _ (before : Standing Key Told) (told : Told) (start : State) (first last : Session) (x y : State) (is : Reaches d m stamp number before x start first last told) where
     abbrev s : Session
     s = is.session
 
-    here : IsRunning d m stamp number before x start s
+    here : IsRunning d m stamp number before x start s told
     here = is.is
 
     abbrev calls : List Call
@@ -267,40 +307,45 @@ module _ {Key : Type 0} (d : Dialect) (m : Meaning Key) (stamp : Stamp) (number 
       by (inl same) = same
       by (inr fell) = absurd (some_none (sym fell.1 ∙ none))
 
-    ends_last : (refused : Option Refusal) → Stands start number y last → EndsAs d m stamp number start last (last_end None refused) y
+    ends_last : (refused : Option Refusal) → Stands start number y last → EndsAs d m stamp number start first last (last_end None refused) y
     ends_last None stands = stands
     ends_last (Some refusal) stands = stands
 
-    ends_none : (refused : Option Refusal) (e : End) → before.fault ≡ None → Closes d m stamp number (place before) (last_end None refused) start s x e y → EndsAs d m stamp number start last e y
+    ends_none : (refused : Option Refusal) (e : End) → before.fault ≡ None → Closes d m stamp number (place before) (last_end None refused) start s x e y → EndsAs d m stamp number start first last e y
     ends_none refused e none (inl went) =
-        subst (λ a. EndsAs d m stamp number start last a y) (sym went.1)
-        (ends_last refused (subst (Stands start number y) (along (place before) Over start s y went.0 ∙ at_last none) went.0.at.stands))
+        subst (λ a. EndsAs d m stamp number start first last a y) (sym went.1)
+        (ends_last refused (subst (Stands start number y) (along d m stamp number (place before) Over start s y went.0 ∙ at_last none) went.0.at.stands))
     ends_none refused e none (inr failed) =
         let it = failed.1 in
-        subst (λ a. EndsAs d m stamp number start last a y) (sym failed.2)
-        (meets start last s x y here.there.at.stands here.there.at.dialect way (place before) Release failed.0 it
+        subst (λ a. EndsAs d m stamp number start first last a y) (sym failed.2)
+        (meets d m stamp number start first last s x y here.there.at.stands here.there.at.dialect is.came way (place before) Release failed.0 it
         (inl (subst (IsBefore (called d it.call s)) (sym (ap (λ cs. all_called d cs s) it.next) ∙ at_last none) (calls_grow d it.more (called d it.call s)))))
 
-    ends_by : (f : Option StoreFault) (e : End) → before.fault ≡ f → Ends d m stamp number (place before) f before.refused start s x e y → EndsAs d m stamp number start last e y
+    ends_by : (f : Option StoreFault) (e : End) → before.fault ≡ f → Ends d m stamp number (place before) f before.refused start s x e y → EndsAs d m stamp number start first last e y
     ends_by None e none ends = ends_none before.refused e none ends
     ends_by (Some why) e some ends =
-        ends_bare start last s x y here.there.at.stands here.there.at.dialect way (place before) why before.refused e (sym (ap disk_failed some) ∙ here.disk)
+        ends_bare d m stamp number start first last s x y here.there.at.stands here.there.at.dialect is.came way (place before) why before.refused e (sym (ap disk_failed some) ∙ here.disk)
         (λ call more next room. frees_last stamp.who here.keeps.front call more (sym next ∙ here.keeps.is) here.keeps.holds room)
-        (λ call next. only_last here.keeps.front call (sym next ∙ here.keeps.is)) ends
+        (λ call next. only_last here.keeps.front call (sym next ∙ here.keeps.is))
+        (λ call more next frees_it. shut_at d m stamp number (place before) s.is_open (both_of s) more here.there.at.ready (next ∙ ap (λ c. c ∷ more) frees_it)) ends
 
-    by_end : (after : Standing Key) (e : End) → StepsAs d m stamp number before after start s x (step.Ended e) y → EndsAs d m stamp number start last e y
-    by_end after e (inl ends) = ends_by before.fault e refl ends
-    by_end after e (inr (inl short)) =
-        ends_bare start last s x y here.there.at.stands here.there.at.dialect way (between NoMore) fault.OutOfMemory before.refused e refl
-        (λ call more next room. sym (head_is next)) (λ call next. sym (head_is next)) short
-    by_end after e (inr (inr failed)) =
+    by_end : (e : End) → EndsStep d m stamp number before start s x e y → EndsAs d m stamp number start first last e y
+    by_end e (inl ends) = ends_by before.fault e refl ends
+    by_end e (inr (inl short)) =
+        ends_bare d m stamp number start first last s x y here.there.at.stands here.there.at.dialect is.came way (between NoMore) fault.OutOfMemory before.refused e refl
+        (λ call more next room. sym (head_is next)) (λ call next. sym (head_is next)) (λ call more next frees_it. short.0) short.1
+    by_end e (inr (inr failed)) =
         let it = failed.0 in
-        subst (λ a. EndsAs d m stamp number start last a y) (sym failed.1)
-        (meets start last s x y here.there.at.stands here.there.at.dialect way (place before) Ordinary fault.Disk it (inl (on_way it.call it.more it.next it.by)))
+        subst (λ a. EndsAs d m stamp number start first last a y) (sym failed.1)
+        (meets d m stamp number start first last s x y here.there.at.stands here.there.at.dialect is.came way (place before) Ordinary fault.Disk it (inl (on_way it.call it.more it.next it.by)))
 
-    pub ends : (after : Standing Key) (e : End) → Steps d m stamp number before after x (step.Ended e) y → EndsAs d m stamp number start last e y
-    ends after e steps = by_end after e (steps start s here.there (λ there. here.committed))
+    pub ends : (after : Standing Key Told) (e : End) → Steps d m stamp number before after x (step.Ended e) y → EndsAs d m stamp number start first last e y
+    ends after e steps = by_end e (steps start s told here.there (λ there. here.committed)).0
+
+    -- and its source has told all
+    pub tells : (after : Standing Key Told) (e : End) → Steps d m stamp number before after x (step.Ended e) y → TellsAs (after.way d stamp told) e
+    tells after e steps = (steps start s told here.there (λ there. here.committed)).1
 
   -- a runner that has made too many calls stands where it is
-  pub stops : (r : Standing Key) (start : State) (last : Session) (x : State) → Reaches d m stamp number r x start last → EndsAs d m stamp number start last end.OutOfMemory x
-  stops r start last x is = (is.session, before_last r is.session last is.way, inl is.is.there.at.stands)
+  pub stops : (r : Standing Key Told) (told : Told) (start : State) (first last : Session) (x : State) → Reaches d m stamp number r x start first last told → EndsAs d m stamp number start first last end.OutOfMemory x
+  stops r told start first last x is = (is.session, is.came, before_last r is.session last is.way, inl is.is.there.at.stands)

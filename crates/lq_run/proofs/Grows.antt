@@ -6,12 +6,13 @@ use Rattle.lq_base.specs.declared.dialect.Dialect.{Dialect}
 use Rattle.lq_base.specs.declared.reason.Reason.{Reason}
 use Rattle.lq_model.specs.Script.{if_any}
 use Rattle.lq_track.specs.Database.{Database}
+use Rattle.lq_turns.proofs.Made.{calls_both}
 use Rattle.lq_turns.specs.Deed.{done}
-use Rattle.lq_turns.specs.Session.{Session, aborted, accepted, all_called, all_executed, all_executed_as, closed, executed_as, is_own, settled_if}
+use Rattle.lq_turns.specs.Session.{Session, aborted, accepted, all_called, all_executed, all_executed_as, called, closed, executed_as, is_own, settled_if}
 use Rattle.lq_turns.specs.declared.call.Call.{Call}
 use Rattle.lq_turns.specs.declared.call.Call.TheVariants.{Abort, Alone, Begin, Commit, Execute}
 use Rattle.lq_turns.specs.declared.deed.Deed.{Deed}
-use Rattle.lq_run.specs.Ends.{IsBefore}
+use Rattle.lq_run.specs.Ends.{CameFrom, IsBefore}
 
 same : (s : Session) → IsBefore s s
 same s = record { more = []; entries = sym (append-nil s.entries) }
@@ -55,3 +56,11 @@ module _ (d : Dialect) where
   calls_grow (Execute deed ∷ calls) s = let t = executed_as d deed s (done d deed s.seen) in onwards s t (all_called d calls t) (executes deed s (done d deed s.seen)) (calls_grow calls t)
   calls_grow (Commit ∷ calls) s = onwards s (closed s) (all_called d calls (closed s)) (closes s) (calls_grow calls (closed s))
   calls_grow (Abort ∷ calls) s = let it = calls_grow calls (aborted s) in record { more = it.more; entries = it.entries }
+
+  -- a session that came from another came from where that came from
+
+  pub came_all : (a b s : Session) → CameFrom d a b → CameFrom d b s → CameFrom d a s
+  came_all a b s first second = record { calls = first.calls ++ second.calls; is = second.is ∙ ap (all_called d second.calls) first.is ∙ sym (calls_both d first.calls second.calls a) }
+
+  pub came_on : (first s : Session) (call : Call) → CameFrom d first s → CameFrom d first (called d call s)
+  came_on first s call came = came_all first s (called d call s) came (record { calls = call ∷ []; is = refl })

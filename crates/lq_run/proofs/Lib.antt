@@ -6,6 +6,7 @@ mod Stated
 mod WentOn
 mod Makes
 mod Takes
+mod Known
 mod Stepping
 mod Losing
 mod Names
@@ -15,5 +16,7 @@ mod Ending
 mod Opens
 mod Begins
 mod Counting
+mod Left
 mod Whole
+mod Stopped
 pub mod Scripts

@@ -50,8 +50,8 @@ module _ {Key : Type 0} (d : Dialect) (m : Meaning Key) (stamp : Stamp) (number 
   at_place : (P : Lock → Type 0) (start : State) (s : Session) (p : Place Key) → IfSome (lock_of x.dialect x.committed) P → IsAt d m stamp number p x start s → P s.committed.lock
   at_place P start s p told is = told_at P x.dialect d x.committed s.committed told (is.stands.dialect ∙ is.dialect) (subst (λ e. StandsFor e x.committed s.committed) is.dialect is.stands.committed)
 
-  pub lost_steps : (before after : Standing Key) (y : State) (result : Step) → IsBetween before.hand → IfSome (lock_of x.dialect x.committed) (λ lock. Holds stamp lock holding.Lost) → Steps d m stamp number before after x result y
-  lost_steps before after y result there lost start s is held = absurd (at_place (λ lock. Holds stamp lock holding.Lost) start s (place before) lost is.at (held there))
+  pub lost_steps : {Told : Type 0} (before after : Standing Key Told) (y : State) (result : Step) → IsBetween before.hand → IfSome (lock_of x.dialect x.committed) (λ lock. Holds stamp lock holding.Lost) → Steps d m stamp number before after x result y
+  lost_steps before after y result there lost start s told is held = absurd (at_place (λ lock. Holds stamp lock holding.Lost) start s (place before) lost is.at (held there))
 
   pub ends_none : (f : Option StoreFault) (r : Option Refusal) (y : State) (result : Step) → f ≡ None → ClosesFor d m stamp number (last_end f r) x result y → EndsFor d m stamp number f r x result y
   ends_none f r y result is = subst (λ o. ClosesFor d m stamp number (last_end o r) x result y → EndsFor d m stamp number o r x result y) (sym is) (at_none result) where

@@ -63,7 +63,7 @@ module _ {Key : Type 0} (d : Dialect) (m : Meaning Key) (stamp : Stamp) (number 
   lack_makes deed opened same = at (Execute deed) moved.Lack (λ start s stands fit is. (same, open_as start s stands opened))
 
   pub commit_makes : (result : Result (Unit {0}) StoreFault) → is_open number x.begun ≡ true → CommitFor d number x result y → Makes d m stamp number Commit x (moved_of result) y
-  commit_makes (Ok u) opened does = at Commit moved.On (λ start s stands fit is. (does start s is stands, λ calls on turns. record { call = Commit; next = refl; is = refl }, λ calls. record { contents = refl; accepted = refl }, refl))
+  commit_makes (Ok u) opened does = at Commit moved.On (λ start s stands fit is. (does start s is stands, λ calls on turns. record { call = Commit; next = refl; is = refl }, λ calls. record { contents = refl; accepted = refl; seen = refl; counted = λ p. refl }, refl))
   commit_makes (Err (Refused reason)) opened does = at Commit (moved.Refused reason) (λ start s stands fit is. absurd (does start s is stands))
   commit_makes (Err NotSql) opened does = at Commit (moved.Failed NotSql) (λ start s stands fit is. absurd (does start s is stands))
   commit_makes (Err (Busy n)) opened does = at Commit (moved.Failed (Busy n)) (λ start s stands fit is. absurd (does start s is stands))
@@ -75,7 +75,7 @@ module _ {Key : Type 0} (d : Dialect) (m : Meaning Key) (stamp : Stamp) (number 
   begun_ok result fault h k = Prim.cc
 
   pub begin_makes : (result : Result (Unit {0}) StoreFault) → BeginFor d number x result y → Makes d m stamp number Begin x (moved_of result) y
-  begin_makes (Ok u) does = at Begin moved.On (λ start s stands fit is. (subst (λ e. Stands start number y (called e Begin s)) (sym is) (does start s is stands).1, λ calls on turns. record { call = Begin; next = refl; is = refl }, λ calls. record { contents = refl; accepted = refl }, refl))
+  begin_makes (Ok u) does = at Begin moved.On (λ start s stands fit is. (subst (λ e. Stands start number y (called e Begin s)) (sym is) (does start s is stands).1, λ calls on turns. record { call = Begin; next = refl; is = refl }, λ calls. record { contents = refl; accepted = refl; seen = refl; counted = λ p. refl }, refl))
   begin_makes (Err fault) does = λ start s is stands fit. absurd (begun_ok (Err fault) fault refl (does start s is stands).0)
 
 pub never_lacks : (number : ℕ) (x y : State) (done : Result (Unit {0}) StoreFault) → WasOpen number x (moved_of done) y

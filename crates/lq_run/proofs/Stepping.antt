@@ -4,14 +4,13 @@ use Rattle.std.proofs.lemmas.List.{length-reverse}
 use Rattle.std.specs.Prelude.{Bool, Err, List, None, Ok, Option, Result, Some, [], false, length, refl, reverse, true, ℕ, ◌&&◌, ◌++◌, ◌∷◌, ◌≡◌, ◌≢◌}
 use Rattle.lq_base.specs.declared.dialect.Dialect.{Dialect}
 use Rattle.lq_base.specs.declared.reason.Reason.{Reason}
-use Rattle.lq_base.specs.declared.tracking.Tracked.{Tracked}
 use Rattle.lq_model.specs.declared.caller.Room.{Room}
 use Rattle.lq_model.specs.declared.caller.Room.TheVariants.{Ordinary, Release}
 use Rattle.lq_model.specs.declared.fault.StoreFault.{StoreFault}
 use Rattle.lq_model.specs.declared.fault.StoreFault.TheVariants as fault
 use Rattle.lq_store.specs.State.{State, Transaction, is_open, seen, seen_in}
 use Rattle.lq_track.specs.Database.{Database}
-use Rattle.lq_turns.specs.Contents.{Contents, contents_of, with_contents}
+use Rattle.lq_turns.specs.Contents.{contents_of, with_contents}
 use Rattle.lq_turns.specs.Deed.{lock_after}
 use Rattle.lq_turns.specs.Goes.{Both}
 use Rattle.lq_turns.specs.Held.{StandsFor, all_fit}
@@ -27,21 +26,23 @@ use Rattle.lq_turns.specs.declared.deed.OnLock.TheVariants.{Freed}
 use Rattle.lq_turns.specs.declared.stamp.Stamp.{Stamp}
 use Rattle.lq_turns.specs.declared.stop.Refusal.{Refusal}
 use Rattle.lq_beside.specs.Replays.{calls_fit}
-use Rattle.lq_hand.specs.Enters.{Enters, Expects, rest_at}
+use Rattle.lq_hand.specs.Enters.{Enters, rest_at}
 use Rattle.lq_hand.specs.Hand.{AreTurns, IsReady, calls_left, hand_place, place_of}
+use Rattle.lq_hand.specs.Way.{Expects, GivesUp, Way}
 use Rattle.lq_hand.specs.declared.hand.Hand.{Hand}
 use Rattle.lq_hand.specs.declared.hand.Phase.{Phase}
 use Rattle.lq_hand.specs.declared.hand.Phase.TheVariants as phase
 use Rattle.lq_hand.specs.declared.source.Entered.TheVariants as entered
 use Rattle.lq_run.proofs.Doing.{differ}
-use Rattle.lq_run.specs.Counts.{coming_of, first_coming, no_progress, progress_after, refusal_at, refusal_by, with_accepted, with_refused}
+use Rattle.lq_run.proofs.Known.{expects_on, known_back, known_left, known_on, known_refused, known_shown, shows_own, tells_fault, unstopped, yields_refused}
+use Rattle.lq_hand.specs.Counts.{coming_of, first_coming, no_progress, progress_after, refusal_at, refusal_by, with_accepted, with_refused}
 use Rattle.lq_run.specs.Does.{AbortFor, AloneFor, DoesAlone, Faults}
-use Rattle.lq_run.specs.Moves.{BreaksOff, Continues, Goes, IsAt, Meets, Refuses, Takes, refusal_of}
+use Rattle.lq_run.specs.Moves.{Goes, IsAt, Meets, Refuses, Takes, refusal_of}
 use Rattle.lq_run.specs.Stands.{IsBegun, Stands}
-use Rattle.lq_run.specs.Steps.{Closes, Ends, EndsFor, FailsAs, FailsTo, IsBetween, IsThere, Known, KnownIn, Standing, Steps, StepsAs, end_of, enters_turns, is_disk, last_end, no_turn, place, progress_at, progress_in, stopped_by, turns_of}
+use Rattle.lq_run.specs.Steps.{Closes, Ends, EndsFor, EndsStep, FailsAs, FailsTo, IsBetween, IsShowing, IsThere, Known, KnownIn, Shows, Standing, Steps, StepsAs, StepsShown, TellsAs, end_of, enters_turns, is_disk, last_end, no_turn, place, progress_at, progress_in, stopped_by, turns_of}
 use Rattle.lq_run.specs.declared.hand.Moved.TheVariants as moved
-use Rattle.lq_run.specs.declared.progress.Coming.{Coming}
-use Rattle.lq_run.specs.declared.progress.Progress.{Progress}
+use Rattle.lq_hand.specs.declared.progress.Coming.{Coming}
+use Rattle.lq_hand.specs.declared.progress.Progress.{Progress}
 use Rattle.lq_run.specs.declared.runner.End.{End}
 use Rattle.lq_run.specs.declared.runner.Step.{Step}
 use Rattle.lq_run.specs.declared.runner.Step.TheVariants as step
@@ -51,6 +52,9 @@ not_err h = Prim.cc
 
 not_true : false ≡ true → ⊥
 not_true h = Prim.cc
+
+some_none : {why : StoreFault} → (let o : Option StoreFault = Some why in o) ≡ None → ⊥
+some_none h = Prim.cc
 
 cons_nil : (call : Call) (calls : List Call) → 0 ≡ length (call ∷ calls) → ⊥
 cons_nil call calls h = Prim.cc
@@ -81,11 +85,6 @@ stopped_turns f r true refusal turns = refl
 stopped_turns None r false refusal turns = refl
 stopped_turns (Some why) r false refusal turns = refl
 
-still_enters : (f : Option StoreFault) (r : Option Refusal) (goes_on : Bool) (refusal : Refusal) → enters_turns f (stopped_by (Some refusal) goes_on r) ≡ true → enters_turns f r ≡ true
-still_enters f r true refusal h = h
-still_enters None r false refusal h = absurd (not_true h)
-still_enters (Some why) r false refusal h = absurd (not_true h)
-
 -- how far a turn has come
 
 progress_none : (at : Phase) (calls : List Call) → progress_at at calls no_progress ≡ no_progress
@@ -105,43 +104,6 @@ counted : (d : Dialect) (why : Option Reason) (coming : Coming) (calls more : Li
     → progress_after coming why p ≡ progress_after (coming_of d call) why (progress_at at held p)
 counted d why coming calls more call at held p is first left =
     ap (λ c. progress_after c why p) (is ∙ ap (first_coming d) first) ∙ ap (progress_after (coming_of d call) why) (sym (progress_begun at held p left))
-
--- what the source knows
-
-module _ (d : Dialect) (knows awaits : List Tracked → Type 0) where
-  pub expects_on : (before after : List Call) (s t : Session) → Continues d before after s t → Expects d knows awaits before (both_of s) → Expects d knows awaits after (both_of t)
-  expects_on before after s t is e = record {
-    finished = λ all. subst (λ (x : Both). awaits x.0.rows) is.contents (e.finished (is.accepted ∙ all));
-    refused = λ none. subst (λ (x : Both). knows x.0.rows) is.contents (e.refused (is.accepted ∙ none));
-  }
-
-  knows_refused : (calls : List Call) (s t : Session) → BreaksOff d calls s t → Expects d knows awaits calls (both_of s) → knows (contents_of t.committed).rows
-  knows_refused calls s t is e = subst (λ (c : Contents). knows c.rows) is.contents (e.refused is.refused)
-
-  -- the source has looked at something, and holds as much
-
-  module _ (knew awaited : List Tracked → Type 0) (keeps : (rows : List Tracked) → knows rows → knew rows) (waits : (rows : List Tracked) → awaits rows → awaited rows) where
-    expects_still : (calls : List Call) (x : Both) → Expects d knows awaits calls x → Expects d knew awaited calls x
-    expects_still calls x e = record { finished = λ all. waits _ (e.finished all); refused = λ none. keeps _ (e.refused none) }
-
-    known_still : {Key : Type 0} (p : Place Key) (x : Both) → Known d knows awaits p x → Known d knew awaited p x
-    known_still (Inside [] goes_on turns) x known = keeps _ known
-    known_still (Inside (call ∷ calls) goes_on turns) x known = expects_still (call ∷ calls) x known
-    known_still (GivingUp turns) x known = keeps _ known
-    known_still Over x known = tt
-
-  expects_in : (calls : List Call) (x : Both) → calls ≢ [] → KnownIn d knows awaits calls x → Expects d knows awaits calls x
-  expects_in [] x left known = absurd (left refl)
-  expects_in (call ∷ calls) x left known = known
-
-  pub known_left : (calls : List Call) (x : Both) → calls ≢ [] → Expects d knows awaits calls x → KnownIn d knows awaits calls x
-  known_left [] x left e = absurd (left refl)
-  known_left (call ∷ calls) x left e = e
-
-pub known_done : (d : Dialect) (knows awaits later next : List Tracked → Type 0) (calls : List Call) (x : Both) → calls ≡ [] → ((rows : List Tracked) → awaits rows → later rows)
-    → Expects d knows awaits (reverse calls) x → KnownIn d later next (reverse calls) x
-known_done d knows awaits later next calls x none finished e =
-    subst (λ cs. KnownIn d later next (reverse cs) x) (sym none) (finished x.0.rows ((subst (λ cs. Expects d knows awaits (reverse cs) x) none e).finished refl))
 
 module _ {Key : Type 0} (d : Dialect) (m : Meaning Key) (stamp : Stamp) (number : ℕ) where
   -- after a fault the abort and the closing fit
@@ -166,123 +128,6 @@ module _ {Key : Type 0} (d : Dialect) (m : Meaning Key) (stamp : Stamp) (number 
   disk_meets (fault.Refused reason) p start s x y is meets = absurd (not_true is)
   disk_meets fault.NotSql p start s x y is meets = absurd (not_true is)
   disk_meets (fault.Busy n) p start s x y is meets = absurd (not_true is)
-
-  -- what is known of a turn in hand
-  in_hand : (before : Standing Key) (x start : State) (s : Session) → IsThere d m stamp number before x start s → before.hand.phase ≡ phase.Inside → before.hand.calls ≢ [] → enters_turns before.fault before.refused ≡ true
-      → Expects d before.knows before.awaits (calls_left before.hand) (both_of s)
-  in_hand before x start s is inside left enters =
-      expects_in d before.knows before.awaits (calls_left before.hand) (both_of s) (some_left before.hand.calls left)
-      (subst (λ ph. Known d before.knows before.awaits (hand_place ph (calls_left before.hand) before.hand.goes_on (turns_of before)) (both_of s)) inside (is.known enters))
-
-  -- a call is accepted
-  pub steps_on : (before : Standing Key) (new : Hand) (turns : Turns Key) (knows awaits : List Tracked → Type 0) (coming : Coming) (p : Progress) (x y : State)
-      → before.hand.phase ≡ phase.Inside → before.hand.calls ≢ [] → new.phase ≡ phase.Inside → turns ≡ before.turns
-      → ((z : Both) → Expects d before.knows before.awaits (calls_left new) z → KnownIn d knows awaits (calls_left new) z)
-      → coming ≡ first_coming d (calls_left before.hand) → p ≡ with_accepted coming before.progress
-      → Takes d m stamp number before.hand x moved.On new y
-      → Steps d m stamp number before (record { hand = new; turns = turns; knows = knows; awaits = awaits; progress = p; fault = before.fault; refused = before.refused }) x step.Going y
-  steps_on before new turns knows awaits coming p x y inside left still same keeps is_coming counts takes start s is held =
-      let took = takes (turns_of before) start s is.at in
-      subst (λ t. StepsAs d m stamp number before (record { hand = new; turns = t; knows = knows; awaits = awaits; progress = p; fault = before.fault; refused = before.refused }) start s x step.Going y) (sym same)
-      (inl (record {
-        goes = took.goes;
-        known = λ enters. subst (λ ph. Known d knows awaits (hand_place ph (calls_left new) new.goes_on (turns_of before)) (both_of took.goes.after)) (sym still)
-            (keeps (both_of took.goes.after) (expects_on d before.knows before.awaits (calls_left before.hand) (calls_left new) s took.goes.after took.continues (in_hand before x start s is inside left enters)));
-        fault = refl;
-        progress = counts ∙ counted d None coming (calls_left before.hand) (calls_left new) took.goes.went.call before.hand.phase before.hand.calls before.progress is_coming took.first left
-            ∙ ap (λ o. progress_after (coming_of d took.goes.went.call) o (progress_in before)) (sym took.none);
-        refused = sym (ap (λ o. stopped_by (refusal_by p o) new.goes_on before.refused) took.none);
-      }))
-
-  -- a call is refused
-  pub steps_refused : (before : Standing Key) (new : Hand) (turns : Turns Key) (knows awaits : List Tracked → Type 0) (coming : Coming) (p : Progress) (reason : Reason) (stops : Option Refusal) (x y : State)
-      → before.hand.phase ≡ phase.Inside → before.hand.calls ≢ [] → new.phase ≡ phase.GivingUp → new.goes_on ≡ before.hand.goes_on → turns ≡ before.turns
-      → ((rows : List Tracked) → before.knows rows → knows rows)
-      → coming ≡ first_coming d (calls_left before.hand) → p ≡ with_refused coming before.progress → stops ≡ stopped_by (Some (refusal_at p reason)) new.goes_on before.refused
-      → Takes d m stamp number before.hand x (moved.Refused reason) new y
-      → Steps d m stamp number before (record { hand = new; turns = turns; knows = knows; awaits = awaits; progress = p; fault = before.fault; refused = stops }) x step.Going y
-  steps_refused before new turns knows awaits coming p reason stops x y inside left gives on same keeps is_coming counts stopped takes start s is held =
-      let stop : Option Refusal = stopped_by (Some (refusal_at p reason)) new.goes_on before.refused in
-      let left_turns : if_goes_on before.hand.goes_on (turns_of before) ≡ if_goes_on (enters_turns before.fault stop) before.turns
-      = ap (λ g. if_goes_on g (turns_of before)) (sym on) ∙ sym (stopped_turns before.fault before.refused new.goes_on (refusal_at p reason) before.turns) in
-      let took : Refuses d m stamp number (place before) (place_of new (if_goes_on (enters_turns before.fault stop) before.turns)) (calls_left before.hand) reason start s y
-      = subst (λ t. Refuses d m stamp number (place before) (place_of new t) (calls_left before.hand) reason start s y) left_turns (takes (turns_of before) start s is.at) in
-      subst (λ t. StepsAs d m stamp number before (record { hand = new; turns = t; knows = knows; awaits = awaits; progress = p; fault = before.fault; refused = stops }) start s x step.Going y) (sym same)
-      (subst (λ w. StepsAs d m stamp number before (record { hand = new; turns = before.turns; knows = knows; awaits = awaits; progress = p; fault = before.fault; refused = w }) start s x step.Going y) (sym stopped)
-      (inl (record {
-        goes = took.goes;
-        known = λ enters. subst (λ ph. Known d knows awaits (hand_place ph (calls_left new) new.goes_on (if_goes_on (enters_turns before.fault stop) before.turns)) (both_of took.goes.after)) (sym gives)
-            (keeps _ (knows_refused d before.knows before.awaits (calls_left before.hand) s took.goes.after took.breaks_off
-            (in_hand before x start s is inside left (still_enters before.fault before.refused new.goes_on (refusal_at p reason) enters))));
-        fault = refl;
-        progress = counts ∙ counted d (Some reason) coming (calls_left before.hand) took.more took.goes.went.call before.hand.phase before.hand.calls before.progress is_coming took.first left
-            ∙ ap (λ o. progress_after (coming_of d took.goes.went.call) o (progress_in before)) (sym took.why);
-        refused = sym (ap (λ o. stopped_by (refusal_by p o) new.goes_on before.refused) took.why);
-      })))
-
-  -- a fault in a transaction
-  pub steps_failed : (before after : Standing Key) (new : Hand) (why : StoreFault) (x y : State) (result : Step) → Takes d m stamp number before.hand x (moved.Failed why) new y
-      → FailsTo why after.hand.phase after.fault result → Steps d m stamp number before after x result y
-  steps_failed before after new why x y result takes fails start s is held = by (is_disk why) refl fails where
-    took : Meets d m stamp number (place before) start s x Ordinary why y × (s.is_open ≡ true)
-    took = takes (turns_of before) start s is.at
-
-    by : (b : Bool) → is_disk why ≡ b → FailsAs b why after.hand.phase after.fault result → StepsAs d m stamp number before after start s x result y
-    by true disk ended = subst (λ r. StepsAs d m stamp number before after start s x r y) (sym ended.0) (inr (inr (disk_meets why (place before) start s x y disk took.0, refl)))
-    by false other fails =
-        let gives : place after ≡ GivingUp NoMore = ap (λ a. hand_place a (calls_left after.hand) after.hand.goes_on (turns_of after)) fails.1 ∙ ap GivingUp (no_turns why after.refused after.turns after.fault fails.2) in
-        subst (λ r. StepsAs d m stamp number before after start s x r y) (sym fails.0)
-        (inr (inl (record {
-          why = why;
-          meets = took.0;
-          fault = fails.2;
-          gives_up = gives;
-          at = subst (λ q. IsAt d m stamp number q y start s) (sym gives)
-              (subst (λ z. IsAt d m stamp number (GivingUp NoMore) z start s) (sym (unchanged why start s x y Ordinary took.0.call other took.0.faults)) (given_up (place before) x start s is.at took.1));
-        })))
-
-  -- a transaction that there is no memory for is taken back
-  pub steps_lacked : (before after : Standing Key) (new : Hand) (x between_calls y : State) → Takes d m stamp number before.hand x moved.Lack new between_calls → AbortFor d number between_calls y
-      → after.hand ≡ no_turn → after.fault ≡ Some fault.OutOfMemory → Steps d m stamp number before after x step.Going y
-  steps_lacked before after new x between_calls y takes aborts hand lacks start s is held =
-      let took = takes (turns_of before) start s is.at in
-      let ends : place after ≡ between NoMore = ap (λ (h : Hand). place_of h (turns_of after)) hand ∙ ap (λ t. between t) (no_turns fault.OutOfMemory after.refused after.turns after.fault lacks) in
-      inr (inr (record {
-        opened = took.1;
-        fault = lacks;
-        ends_turns = ends;
-        at = subst (λ q. IsAt d m stamp number q y start (called d Abort s)) (sym ends) (record {
-          dialect = is.at.dialect;
-          stands = aborts start s is.at.dialect (subst (λ z. Stands start number z s) (sym took.0) is.at.stands);
-          ready = refl;
-          fits = ap (λ b. (b && true) && true) is.at.row.0;
-          row = (is.at.row.0, is.at.row.0);
-        });
-      }))
-
-  -- what was begun is taken back
-  pub steps_back : (before : Standing Key) (hand : Hand) (x y : State) → before.hand.phase ≡ phase.GivingUp → hand ≡ no_turn → AbortFor d number x y
-      → Steps d m stamp number before (record { hand = hand; turns = before.turns; knows = before.knows; awaits = before.awaits; progress = before.progress; fault = before.fault; refused = before.refused }) x step.Going y
-  steps_back before hand x y gives none aborts start s is held =
-      let here : place before ≡ GivingUp (turns_of before) = ap (λ p. hand_place p (calls_left before.hand) before.hand.goes_on (turns_of before)) gives in
-      subst (λ h. StepsAs d m stamp number before (record { hand = h; turns = before.turns; knows = before.knows; awaits = before.awaits; progress = before.progress; fault = before.fault; refused = before.refused }) start s x step.Going y) (sym none)
-      (inl (record {
-        goes = record {
-          after = called d Abort s;
-          at = record {
-            dialect = is.at.dialect;
-            stands = aborts start s is.at.dialect is.at.stands;
-            ready = refl;
-            fits = subst (λ p. calls_fit d (rest d m stamp p (both_of s)) s ≡ true) here is.at.fits;
-            row = (is.at.row.0, is.at.row.0);
-          };
-          went = record { call = Abort; next = ap (λ p. rest d m stamp p (both_of s)) here; is = refl };
-        };
-        known = λ enters. subst (λ ph. Known d before.knows before.awaits (hand_place ph (calls_left before.hand) before.hand.goes_on (turns_of before)) (both_of s)) gives (is.known enters);
-        fault = refl;
-        progress = sym (ap (λ a. progress_at a before.hand.calls before.progress) gives);
-        refused = refl;
-      }))
 
   -- the last call
 
@@ -339,10 +184,145 @@ module _ {Key : Type 0} (d : Dialect) (m : Meaning Key) (stamp : Stamp) (number 
   lacks : (p : Place Key) (x start : State) (s : Session) → IsAt d m stamp number p x start s → s.is_open ≡ false → IsAt d m stamp number (between NoMore) x start s
   lacks p x start s is shut = record { dialect = is.dialect; stands = is.stands; ready = shut; fits = ap (λ b. (b && true) && true) is.row.1; row = is.row }
 
+  -- at an end
+
+  tells_closed : (way : Way) (p : Place Key) (last : End) (start : State) (s : Session) (x : State) (e : End) (y : State) → TellsAs way last → Closes d m stamp number p last start s x e y → TellsAs way e
+  tells_closed way p last start s x e y tells (inl is) = subst (TellsAs way) (sym is.1) tells
+  tells_closed way p last start s x e y tells (inr is) = subst (TellsAs way) (sym is.2) (tells_fault way is.0)
+
+  tells_ended : (way : Way) (p : Place Key) (f : Option StoreFault) (r : Option Refusal) (start : State) (s : Session) (x : State) (e : End) (y : State) → (f ≡ None → TellsAs way (last_end None r))
+      → Ends d m stamp number p f r start s x e y → TellsAs way e
+  tells_ended way p None r start s x e y tells ends = tells_closed way p (last_end None r) start s x e y (tells refl) ends
+  tells_ended way p (Some why) r start s x e y tells (inl is) = tells_closed way p (end_of why) start s x e y (tells_fault way why) is.1
+  tells_ended way p (Some why) r start s x e y tells (inr is) = subst (TellsAs way) (sym is.2) (tells_fault way why)
+
+module _ {Key Told : Type 0} (d : Dialect) (m : Meaning Key) (stamp : Stamp) (number : ℕ) where
+  -- a call is accepted
+  pub steps_on : (before : Standing Key Told) (new : Hand) (turns : Turns Key) (way : Dialect → Stamp → Told → Way) (coming : Coming) (p : Progress) (x y : State)
+      → before.hand.phase ≡ phase.Inside → before.hand.calls ≢ [] → new.phase ≡ phase.Inside → new.goes_on ≡ before.hand.goes_on → turns ≡ before.turns
+      → ((told : Told) (on : Bool) (q : Progress) (z : Both) → Expects d (before.way d stamp told) on (calls_left new) q z → KnownIn d (way d stamp told) on (calls_left new) q z)
+      → coming ≡ first_coming d (calls_left before.hand) → p ≡ with_accepted coming before.progress
+      → Takes d m stamp number before.hand x moved.On new y
+      → StepsShown d m stamp number before (record { hand = new; turns = turns; way = way; progress = p; fault = before.fault; refused = before.refused }) x step.Going y
+  steps_on before new turns way coming p x y inside left still on same keeps is_coming counts takes start s told is =
+      let took = takes (turns_of before) start s is.at in
+      let counted_on : p ≡ with_accepted (first_coming d (calls_left before.hand)) before.progress = counts ∙ ap (λ c. with_accepted c before.progress) is_coming in
+      let now : Both = both_of took.goes.after in
+      subst (λ t. StepsAs d m stamp number before (record { hand = new; turns = t; way = way; progress = p; fault = before.fault; refused = before.refused }) told start s x step.Going y) (sym same)
+      (inl (record {
+        goes = took.goes;
+        known = λ healthy. subst (λ ph. Known d (way d stamp told) before.refused (hand_place ph (calls_left new) new.goes_on (turns_of before)) p now) (sym still)
+            (known_on d (before.way d stamp told) (way d stamp told) before.hand.goes_on (calls_left before.hand) before.progress (both_of s) before.refused (calls_left new) new.goes_on (turns_of before) p now (is.known healthy)
+            (λ e. keeps told new.goes_on p now
+            (subst (λ b. Expects d (before.way d stamp told) b (calls_left new) p now) (sym on)
+            (subst (λ q. Expects d (before.way d stamp told) before.hand.goes_on (calls_left new) q now) (sym counted_on)
+            (expects_on d (before.way d stamp told) before.hand.goes_on (calls_left before.hand) (calls_left new) s took.goes.after before.progress took.continues e)))));
+        fault = refl;
+        progress = counts ∙ counted d None coming (calls_left before.hand) (calls_left new) took.goes.went.call before.hand.phase before.hand.calls before.progress is_coming took.first left
+            ∙ ap (λ o. progress_after (coming_of d took.goes.went.call) o (progress_in before)) (sym took.none);
+        refused = sym (ap (λ o. stopped_by (refusal_by p o) new.goes_on before.refused) took.none);
+      }))
+
+  -- a call is refused
+  pub steps_refused : (before : Standing Key Told) (new : Hand) (turns : Turns Key) (way : Dialect → Stamp → Told → Way) (coming : Coming) (p : Progress) (reason : Reason) (stops : Option Refusal) (x y : State)
+      → before.hand.phase ≡ phase.Inside → before.hand.calls ≢ [] → new.phase ≡ phase.GivingUp → new.goes_on ≡ before.hand.goes_on → turns ≡ before.turns
+      → ((told : Told) → GivesUp (before.way d stamp told) (way d stamp told))
+      → coming ≡ first_coming d (calls_left before.hand) → p ≡ with_refused coming before.progress → stops ≡ stopped_by (Some (refusal_at p reason)) new.goes_on before.refused
+      → Takes d m stamp number before.hand x (moved.Refused reason) new y
+      → StepsShown d m stamp number before (record { hand = new; turns = turns; way = way; progress = p; fault = before.fault; refused = stops }) x step.Going y
+  steps_refused before new turns way coming p reason stops x y inside left gives on same gives_up is_coming counts stopped takes start s told is =
+      let stop : Option Refusal = stopped_by (Some (refusal_at p reason)) new.goes_on before.refused in
+      let left_turns : if_goes_on before.hand.goes_on (turns_of before) ≡ if_goes_on (enters_turns before.fault stop) before.turns
+      = ap (λ g. if_goes_on g (turns_of before)) (sym on) ∙ sym (stopped_turns before.fault before.refused new.goes_on (refusal_at p reason) before.turns) in
+      let took : Refuses d m stamp number (place before) (place_of new (if_goes_on (enters_turns before.fault stop) before.turns)) (calls_left before.hand) reason start s y
+      = subst (λ t. Refuses d m stamp number (place before) (place_of new t) (calls_left before.hand) reason start s y) left_turns (takes (turns_of before) start s is.at) in
+      let counted_off : refusal_at (with_refused (first_coming d (calls_left before.hand)) before.progress) reason ≡ refusal_at p reason
+      = ap (λ q. refusal_at q reason) (sym (counts ∙ ap (λ c. with_refused c before.progress) is_coming)) in
+      let now : Both = both_of took.goes.after in
+      subst (λ t. StepsAs d m stamp number before (record { hand = new; turns = t; way = way; progress = p; fault = before.fault; refused = stops }) told start s x step.Going y) (sym same)
+      (subst (λ w. StepsAs d m stamp number before (record { hand = new; turns = before.turns; way = way; progress = p; fault = before.fault; refused = w }) told start s x step.Going y) (sym stopped)
+      (inl (record {
+        goes = took.goes;
+        known = λ healthy. subst (λ ph. Known d (way d stamp told) stop (hand_place ph (calls_left new) new.goes_on (if_goes_on (enters_turns before.fault stop) before.turns)) p now) (sym gives)
+            (known_refused d (before.way d stamp told) (way d stamp told) before.hand.goes_on (calls_left before.hand) before.progress (both_of s) before.refused new.goes_on (refusal_at p reason) (if_goes_on (enters_turns before.fault stop) before.turns) p now (is.known healthy) (gives_up told)
+            (λ e. subst (λ b. (before.way d stamp told).yields b (refusal_at p reason) now.0) (sym on)
+            (subst (λ r. (before.way d stamp told).yields before.hand.goes_on r now.0) counted_off
+            (yields_refused d (before.way d stamp told) before.hand.goes_on (calls_left before.hand) reason s took.goes.after before.progress took.breaks_off e))));
+        fault = refl;
+        progress = counts ∙ counted d (Some reason) coming (calls_left before.hand) took.more took.goes.went.call before.hand.phase before.hand.calls before.progress is_coming took.first left
+            ∙ ap (λ o. progress_after (coming_of d took.goes.went.call) o (progress_in before)) (sym took.why);
+        refused = sym (ap (λ o. stopped_by (refusal_by p o) new.goes_on before.refused) took.why);
+      })))
+
+  -- a fault in a transaction
+  pub steps_failed : (before after : Standing Key Told) (new : Hand) (why : StoreFault) (x y : State) (result : Step) → Takes d m stamp number before.hand x (moved.Failed why) new y
+      → FailsTo why after.hand.phase after.fault result → StepsShown d m stamp number before after x result y
+  steps_failed before after new why x y result takes fails start s told is = by (is_disk why) refl fails where
+    took : Meets d m stamp number (place before) start s x Ordinary why y × (s.is_open ≡ true)
+    took = takes (turns_of before) start s is.at
+
+    by : (b : Bool) → is_disk why ≡ b → FailsAs b why after.hand.phase after.fault result → StepsAs d m stamp number before after told start s x result y
+    by true disk ended = subst (λ r. StepsAs d m stamp number before after told start s x r y) (sym ended.0) (inr (inr (disk_meets d m stamp number why (place before) start s x y disk took.0, refl)), tt)
+    by false other fails =
+        let gives : place after ≡ GivingUp NoMore = ap (λ a. hand_place a (calls_left after.hand) after.hand.goes_on (turns_of after)) fails.1 ∙ ap GivingUp (no_turns why after.refused after.turns after.fault fails.2) in
+        subst (λ r. StepsAs d m stamp number before after told start s x r y) (sym fails.0)
+        (inr (inl (record {
+          why = why;
+          meets = took.0;
+          fault = fails.2;
+          gives_up = gives;
+          at = subst (λ q. IsAt d m stamp number q y start s) (sym gives)
+              (subst (λ z. IsAt d m stamp number (GivingUp NoMore) z start s) (sym (unchanged d m stamp number why start s x y Ordinary took.0.call other took.0.faults)) (given_up d m stamp number (place before) x start s is.at took.1));
+        })))
+
+  -- a transaction that there is no memory for is taken back
+  pub steps_lacked : (before after : Standing Key Told) (new : Hand) (x between_calls y : State) → Takes d m stamp number before.hand x moved.Lack new between_calls → AbortFor d number between_calls y
+      → after.hand ≡ no_turn → after.fault ≡ Some fault.OutOfMemory → StepsShown d m stamp number before after x step.Going y
+  steps_lacked before after new x between_calls y takes aborts hand lacks start s told is =
+      let took = takes (turns_of before) start s is.at in
+      let ends : place after ≡ between NoMore = ap (λ (h : Hand). place_of h (turns_of after)) hand ∙ ap (λ t. between t) (no_turns fault.OutOfMemory after.refused after.turns after.fault lacks) in
+      inr (inr (record {
+        opened = took.1;
+        fault = lacks;
+        ends_turns = ends;
+        at = subst (λ q. IsAt d m stamp number q y start (called d Abort s)) (sym ends) (record {
+          dialect = is.at.dialect;
+          stands = aborts start s is.at.dialect (subst (λ z. Stands start number z s) (sym took.0) is.at.stands);
+          ready = refl;
+          fits = ap (λ b. (b && true) && true) is.at.row.0;
+          row = (is.at.row.0, is.at.row.0);
+        });
+      }))
+
+  -- what was begun is taken back
+  pub steps_back : (before : Standing Key Told) (hand : Hand) (x y : State) → before.hand.phase ≡ phase.GivingUp → hand ≡ no_turn → AbortFor d number x y
+      → Steps d m stamp number before (record { hand = hand; turns = before.turns; way = before.way; progress = before.progress; fault = before.fault; refused = before.refused }) x step.Going y
+  steps_back before hand x y gives none aborts start s told is held =
+      let here : place before ≡ GivingUp (turns_of before) = ap (λ p. hand_place p (calls_left before.hand) before.hand.goes_on (turns_of before)) gives in
+      subst (λ h. StepsAs d m stamp number before (record { hand = h; turns = before.turns; way = before.way; progress = before.progress; fault = before.fault; refused = before.refused }) told start s x step.Going y) (sym none)
+      (inl (record {
+        goes = record {
+          after = called d Abort s;
+          at = record {
+            dialect = is.at.dialect;
+            stands = aborts start s is.at.dialect is.at.stands;
+            ready = refl;
+            fits = subst (λ p. calls_fit d (rest d m stamp p (both_of s)) s ≡ true) here is.at.fits;
+            row = (is.at.row.0, is.at.row.0);
+          };
+          went = record { call = Abort; next = ap (λ p. rest d m stamp p (both_of s)) here; is = refl };
+        };
+        known = λ healthy. known_back d (before.way d stamp told) before.refused true (turns_of before) before.progress (both_of s) (contents_of s.committed, contents_of s.committed) refl
+            (subst (λ p. Known d (before.way d stamp told) before.refused p before.progress (both_of s)) here (is.known healthy));
+        fault = refl;
+        progress = sym (ap (λ a. progress_at a before.hand.calls before.progress) gives);
+        refused = refl;
+      }))
+
   -- what is to come is the same from another place
-  pub from_same : (before here after : Standing Key) (x y start : State) (s : Session) (result : Step) → rest d m stamp (place before) (both_of s) ≡ rest d m stamp (place here) (both_of s)
-      → here.fault ≡ before.fault → here.refused ≡ before.refused → progress_in here ≡ progress_in before → StepsAs d m stamp number here after start s x result y → StepsAs d m stamp number before after start s x result y
-  from_same before here after x y start s result same same_fault same_refused same_progress steps = by result steps where
+  pub from_same : (before here after : Standing Key Told) (told : Told) (x y start : State) (s : Session) (result : Step) → rest d m stamp (place before) (both_of s) ≡ rest d m stamp (place here) (both_of s)
+      → here.fault ≡ before.fault → here.refused ≡ before.refused → progress_in here ≡ progress_in before → StepsAs d m stamp number here after told start s x result y → StepsAs d m stamp number before after told start s x result y
+  from_same before here after told x y start s result same same_fault same_refused same_progress steps = by result steps where
     goes_so : (q : Place Key) → Goes d m stamp number (place here) q start s y → Goes d m stamp number (place before) q start s y
     goes_so q is = record { after = is.after; at = is.at; went = record { call = is.went.call; next = same ∙ is.went.next; is = is.went.is } }
 
@@ -358,7 +338,12 @@ module _ {Key : Type 0} (d : Dialect) (m : Meaning Key) (stamp : Stamp) (number 
     ends_so (Some why) r e (inl is) = inl (is.0, closes_so (end_of why) e is.1)
     ends_so (Some why) r e (inr is) = inr is
 
-    by : (result : Step) → StepsAs d m stamp number here after start s x result y → StepsAs d m stamp number before after start s x result y
+    ended : (e : End) → EndsStep d m stamp number here start s x e y → EndsStep d m stamp number before start s x e y
+    ended e (inl is) = inl (subst (λ f. Ends d m stamp number (place before) f before.refused start s x e y) same_fault (subst (λ r. Ends d m stamp number (place before) here.fault r start s x e y) same_refused (ends_so here.fault here.refused e is)))
+    ended e (inr (inl is)) = inr (inl (is.0, subst (λ r. Ends d m stamp number (between NoMore) (Some fault.OutOfMemory) r start s x e y) same_refused is.1))
+    ended e (inr (inr is)) = inr (inr (meets_so Ordinary fault.Disk is.0, is.1))
+
+    by : (result : Step) → StepsAs d m stamp number here after told start s x result y → StepsAs d m stamp number before after told start s x result y
     by step.Going (inl is) = inl (record {
       goes = goes_so (place after) is.goes;
       known = is.known;
@@ -368,21 +353,26 @@ module _ {Key : Type 0} (d : Dialect) (m : Meaning Key) (stamp : Stamp) (number 
     })
     by step.Going (inr (inl is)) = inr (inl (record { why = is.why; meets = meets_so Ordinary is.why is.meets; fault = is.fault; gives_up = is.gives_up; at = is.at }))
     by step.Going (inr (inr is)) = inr (inr is)
-    by (step.Ended e) (inl is) = inl (subst (λ f. Ends d m stamp number (place before) f before.refused start s x e y) same_fault (subst (λ r. Ends d m stamp number (place before) here.fault r start s x e y) same_refused (ends_so here.fault here.refused e is)))
-    by (step.Ended e) (inr (inl is)) = inr (inl (subst (λ r. Ends d m stamp number (between NoMore) (Some fault.OutOfMemory) r start s x e y) same_refused is))
-    by (step.Ended e) (inr (inr is)) = inr (inr (meets_so Ordinary fault.Disk is.0, is.1))
+    by (step.Ended e) is = (ended e is.0, is.1)
 
-  -- the source has looked at what a statement will see
-  pub steps_shown : (before after : Standing Key) (turns : Turns Key) (knows awaits : List Tracked → Type 0) (x y : State) (result : Step) → turns ≡ before.turns
-      → ((rows : List Tracked) → before.knows rows → knows rows) → ((rows : List Tracked) → before.awaits rows → awaits rows)
-      → Steps d m stamp number (record { hand = before.hand; turns = turns; knows = knows; awaits = awaits; progress = before.progress; fault = before.fault; refused = before.refused }) after x result y
+  -- the source looks at what the next call sees
+  pub steps_shown : (before after : Standing Key Told) (turns : Turns Key) (way : Dialect → Stamp → Told → Way) (coming : Coming) (x y : State) (result : Step)
+      → before.hand.phase ≡ phase.Inside → before.hand.calls ≢ [] → turns ≡ before.turns → coming ≡ first_coming d (calls_left before.hand)
+      → (IsShowing number x → (told : Told) → Shows d coming (seen number x) (before.way d stamp told) (way d stamp told))
+      → StepsShown d m stamp number (record { hand = before.hand; turns = turns; way = way; progress = before.progress; fault = before.fault; refused = before.refused }) after x result y
       → Steps d m stamp number before after x result y
-  steps_shown before after turns knows awaits x y result same keeps waits steps start s is held =
-      let shown : Turns Key → Standing Key = λ t. record { hand = before.hand; turns = t; knows = knows; awaits = awaits; progress = before.progress; fault = before.fault; refused = before.refused } in
-      let stepped : Steps d m stamp number (shown before.turns) after x result y = subst (λ t. Steps d m stamp number (shown t) after x result y) same steps in
-      from_same before (shown before.turns) after x y start s result refl refl refl refl (stepped start s (record { at = is.at; known = λ enters. known_still d before.knows before.awaits knows awaits keeps waits (place before) (both_of s) (is.known enters) }) held)
+  steps_shown before after turns way coming x y result inside left same is_coming shows steps start s told is held =
+      let now : Turns Key → Standing Key Told = λ t. record { hand = before.hand; turns = t; way = way; progress = before.progress; fault = before.fault; refused = before.refused } in
+      let stepped : StepsShown d m stamp number (now before.turns) after x result y = subst (λ t. StepsShown d m stamp number (now t) after x result y) same steps in
+      let sees = shows_own d number start x s is.at.stands is.at.dialect in
+      from_same before (now before.turns) after told x y start s result refl refl refl refl (stepped start s told (record {
+        at = is.at;
+        known = λ healthy. known_shown d (before.way d stamp told) (way d stamp told) before.hand.goes_on before.progress s (seen number x) sees.1 before.refused (calls_left before.hand) (turns_of before) (some_left before.hand.calls left)
+            (subst (λ c. Shows d c (seen number x) (before.way d stamp told) (way d stamp told)) is_coming (shows sees.0 told))
+            (subst (λ ph. Known d (before.way d stamp told) before.refused (hand_place ph (calls_left before.hand) before.hand.goes_on (turns_of before)) before.progress (both_of s)) inside (is.known healthy));
+      }))
 
-  module _ (before : Standing Key) (x : State) (inside : before.hand.phase ≡ phase.Inside) (none : before.hand.calls ≡ []) (shut : is_open number x.begun ≡ false) where
+  module _ (before : Standing Key Told) (x : State) (inside : before.hand.phase ≡ phase.Inside) (none : before.hand.calls ≡ []) (shut : is_open number x.begun ≡ false) where
     here : place before ≡ Inside [] before.hand.goes_on (turns_of before)
     here = ap (λ p. hand_place p (calls_left before.hand) before.hand.goes_on (turns_of before)) inside ∙ ap (λ (calls : List Call). Inside (reverse calls) before.hand.goes_on (turns_of before)) none
 
@@ -391,7 +381,7 @@ module _ {Key : Type 0} (d : Dialect) (m : Meaning Key) (stamp : Stamp) (number 
 
     -- both, as what is committed
     both_is : (start : State) (s : Session) → Stands start number x s → both_of s ≡ (contents_of s.committed, contents_of s.committed)
-    both_is start s stands = ap (λ (z : Database). (contents_of s.committed, contents_of z)) (is_shut x shut start s stands).1
+    both_is start s stands = ap (λ (z : Database). (contents_of s.committed, contents_of z)) (is_shut d m stamp number x shut start s stands).1
 
     rest_between : (start : State) (s : Session) → Stands start number x s → rest d m stamp (place before) (both_of s) ≡ rest_at d m stamp (between (turns_of before)) (contents_of s.committed)
     rest_between start s stands = ap (λ p. rest d m stamp p (both_of s)) here ∙ ap (λ b. rest d m stamp (between (turns_of before)) b) (both_is start s stands)
@@ -399,62 +389,78 @@ module _ {Key : Type 0} (d : Dialect) (m : Meaning Key) (stamp : Stamp) (number 
     entering : enters_turns before.fault before.refused ≡ true → turns_of before ≡ before.turns
     entering enters = ap (λ b. if_goes_on b before.turns) enters
 
-    rows_known : (start : State) (s : Session) → IsThere d m stamp number before x start s → enters_turns before.fault before.refused ≡ true → before.knows s.committed.rows
-    rows_known start s is enters = subst (λ p. Known d before.knows before.awaits p (both_of s)) here (is.known enters)
+    contents_known : (start : State) (s : Session) (told : Told) → IsThere d m stamp number before x start s told → before.fault ≡ None → Known d (before.way d stamp told) before.refused (Inside [] before.hand.goes_on (turns_of before)) before.progress (both_of s)
+    contents_known start s told is healthy = subst (λ p. Known d (before.way d stamp told) before.refused p before.progress (both_of s)) here (is.known healthy)
+
+    knows_them : (start : State) (s : Session) (told : Told) → IsThere d m stamp number before x start s told → enters_turns before.fault before.refused ≡ true → (before.way d stamp told).knows (contents_of s.committed)
+    knows_them start s told is enters =
+        let none = unstopped before.fault before.refused enters in
+        subst (λ r. Known d (before.way d stamp told) r (Inside [] before.hand.goes_on (turns_of before)) before.progress (both_of s)) none.1 (contents_known start s told is none.0)
 
     -- a turn is entered
-    pub steps_entered : enters_turns before.fault before.refused ≡ true → (hand : Hand) (turns : Turns Key) (knows awaits : List Tracked → Type 0) (p : Progress) (after : Standing Key) (y : State) (result : Step)
-        → p ≡ no_progress → Enters d m stamp before.turns before.knows (seen number x) (entered.Turn hand) turns knows awaits
-        → Steps d m stamp number (record { hand = hand; turns = turns; knows = knows; awaits = awaits; progress = p; fault = before.fault; refused = before.refused }) after x result y
+    pub steps_entered : enters_turns before.fault before.refused ≡ true → (hand : Hand) (turns : Turns Key) (way : Dialect → Stamp → Told → Way) (p : Progress) (after : Standing Key Told) (y : State) (result : Step)
+        → p ≡ no_progress → Enters d m stamp before.turns (before.way d stamp) (seen number x) (entered.Turn hand) turns (way d stamp)
+        → Steps d m stamp number (record { hand = hand; turns = turns; way = way; progress = p; fault = before.fault; refused = before.refused }) after x result y
         → Steps d m stamp number before after x result y
-    steps_entered enters hand turns knows awaits p after y result begins is_entered steps start s is held =
-        let now : Standing Key = record { hand = hand; turns = turns; knows = knows; awaits = awaits; progress = p; fault = before.fault; refused = before.refused } in
-        let at_seen = is_entered.1 s.committed (seen_stands x shut start s is.at.stands is.at.dialect) (rows_known start s is enters) in
+    steps_entered enters hand turns way p after y result begins is_entered steps start s told is held =
+        let now : Standing Key Told = record { hand = hand; turns = turns; way = way; progress = p; fault = before.fault; refused = before.refused } in
+        let at_seen = is_entered.1 s.committed (seen_stands d m stamp number x shut start s is.at.stands is.at.dialect) told (knows_them start s told is enters) in
         let first : rest d m stamp (place before) (both_of s) ≡ rest_at d m stamp (between before.turns) (contents_of s.committed) = rest_between start s is.at.stands ∙ ap (λ t. rest_at d m stamp (between t) (contents_of s.committed)) (entering enters) in
         let later : rest_at d m stamp (place_of hand turns) (contents_of s.committed) ≡ rest d m stamp (place now) (both_of s)
         = ap (λ b. rest d m stamp (place_of hand turns) b) (sym (both_is start s is.at.stands)) ∙ ap (λ t. rest d m stamp (place_of hand t) (both_of s)) (sym (ap (λ b. if_goes_on b turns) enters)) in
         let same = first ∙ at_seen.0 ∙ later in
         let left = some_left hand.calls is_entered.0.left in
-        from_same before now after x y start s result same refl refl (ap (progress_at hand.phase hand.calls) begins ∙ progress_none hand.phase hand.calls ∙ sym none_begun) (steps start s (record {
+        from_same before now after told x y start s result same refl refl (ap (progress_at hand.phase hand.calls) begins ∙ progress_none hand.phase hand.calls ∙ sym none_begun) (steps start s told (record {
           at = record {
             dialect = is.at.dialect;
             stands = is.at.stands;
-            ready = subst (λ p. IsReady d s.is_open (hand_place p (calls_left hand) hand.goes_on (turns_of now))) (sym is_entered.0.inside) (subst (λ o. AreTurns d o (calls_left hand)) (sym (is_shut x shut start s is.at.stands).0) is_entered.0.turn);
+            ready = subst (λ p. IsReady d s.is_open (hand_place p (calls_left hand) hand.goes_on (turns_of now))) (sym is_entered.0.inside) (subst (λ o. AreTurns d o (calls_left hand)) (sym (is_shut d m stamp number x shut start s is.at.stands).0) is_entered.0.turn);
             fits = subst (λ calls. calls_fit d calls s ≡ true) same is.at.fits;
             row = is.at.row;
           };
-          known = λ more. subst (λ p. Known d knows awaits (hand_place p (calls_left hand) hand.goes_on (turns_of now)) (both_of s)) (sym is_entered.0.inside)
-              (subst (λ b. KnownIn d knows awaits (calls_left hand) b) (sym (both_is start s is.at.stands)) (known_left d knows awaits (calls_left hand) _ left at_seen.1));
+          known = λ healthy. subst (λ ph. Known d (way d stamp told) before.refused (hand_place ph (calls_left hand) hand.goes_on (turns_of now)) p (both_of s)) (sym is_entered.0.inside)
+              (subst (λ r. Known d (way d stamp told) r (Inside (calls_left hand) hand.goes_on (turns_of now)) p (both_of s)) (sym (unstopped before.fault before.refused enters).1)
+              (subst (λ q. KnownIn d (way d stamp told) hand.goes_on (calls_left hand) q (both_of s)) (sym begins)
+              (subst (λ b. KnownIn d (way d stamp told) hand.goes_on (calls_left hand) no_progress b) (sym (both_is start s is.at.stands)) (known_left d (way d stamp told) hand.goes_on (calls_left hand) no_progress _ left at_seen.1))));
         }) (λ there. absurd (is_entered.0.left there.1)))
 
-    ends_as : (f : Option StoreFault) (r : Option Refusal) (after : Standing Key) (y start : State) (s : Session) (result : Step) (p : Place Key) → IsAt d m stamp number p x start s → rest d m stamp p (both_of s) ≡ closing ∷ []
-        → ((e : End) → Ends d m stamp number p f r start s x e y → StepsAs d m stamp number before after start s x (step.Ended e) y)
-        → EndsFor d m stamp number f r x result y → StepsAs d m stamp number before after start s x result y
-    ends_as f r after y start s step.Going p at left told ends = absurd ends
-    ends_as f r after y start s (step.Ended e) p at left told ends = told e (ends p start s at left)
+    ends_as : (f : Option StoreFault) (r : Option Refusal) (after : Standing Key Told) (told : Told) (y start : State) (s : Session) (result : Step) (p : Place Key) → IsAt d m stamp number p x start s → rest d m stamp p (both_of s) ≡ closing ∷ []
+        → ((e : End) → Ends d m stamp number p f r start s x e y → EndsStep d m stamp number before start s x e y) → (f ≡ None → TellsAs (after.way d stamp told) (last_end None r))
+        → EndsFor d m stamp number f r x result y → StepsAs d m stamp number before after told start s x result y
+    ends_as f r after told y start s step.Going p at left so tells ends = absurd ends
+    ends_as f r after told y start s (step.Ended e) p at left so tells ends =
+        let it = ends p start s at left in
+        (so e it, tells_ended d m stamp number (after.way d stamp told) p f r start s x e y tells it)
 
     -- there is no other turn
-    pub steps_ended : (after : Standing Key) (y : State) (result : Step) → enters_turns before.fault before.refused ≡ true → (turns : Turns Key) (knows awaits : List Tracked → Type 0)
-        → Enters d m stamp before.turns before.knows (seen number x) entered.NoTurn turns knows awaits
+    pub steps_ended : (after : Standing Key Told) (y : State) (result : Step) → enters_turns before.fault before.refused ≡ true → (turns : Turns Key) (way : Told → Way)
+        → Enters d m stamp before.turns (before.way d stamp) (seen number x) entered.NoTurn turns way
+        → ((told : Told) (r : Option Refusal) → (way told).tells r → (after.way d stamp told).tells r)
         → EndsFor d m stamp number before.fault before.refused x result y → Steps d m stamp number before after x result y
-    steps_ended after y result enters turns knows awaits is_entered ends start s is held =
-        ends_as before.fault before.refused after y start s result (place before) is.at
-        (rest_between start s is.at.stands ∙ ap (λ t. rest_at d m stamp (between t) (contents_of s.committed)) (entering enters)
-        ∙ is_entered s.committed (seen_stands x shut start s is.at.stands is.at.dialect) (rows_known start s is enters))
-        (λ e told. inl told) ends
+    steps_ended after y result enters turns way is_entered same ends start s told is held =
+        let none = unstopped before.fault before.refused enters in
+        let at_seen = is_entered s.committed (seen_stands d m stamp number x shut start s is.at.stands is.at.dialect) told (knows_them start s told is enters) in
+        ends_as before.fault before.refused after told y start s result (place before) is.at
+        (rest_between start s is.at.stands ∙ ap (λ t. rest_at d m stamp (between t) (contents_of s.committed)) (entering enters) ∙ at_seen.0)
+        (λ e so. inl so) (λ healthy. subst (λ r. TellsAs (after.way d stamp told) (last_end None r)) (sym none.1) (same told None at_seen.1)) ends
 
     -- none is entered any more
-    pub steps_stopped : (after : Standing Key) (y : State) (result : Step) → enters_turns before.fault before.refused ≡ false → EndsFor d m stamp number before.fault before.refused x result y → Steps d m stamp number before after x result y
-    steps_stopped after y result stopped ends start s is held =
-        ends_as before.fault before.refused after y start s result (place before) is.at
+    pub steps_stopped : (after : Standing Key Told) (y : State) (result : Step) → enters_turns before.fault before.refused ≡ false
+        → ((told : Told) (r : Option Refusal) → (before.way d stamp told).tells r → (after.way d stamp told).tells r)
+        → EndsFor d m stamp number before.fault before.refused x result y → Steps d m stamp number before after x result y
+    steps_stopped after y result stopped same ends start s told is held =
+        ends_as before.fault before.refused after told y start s result (place before) is.at
         (rest_between start s is.at.stands ∙ ap (λ b. rest_at d m stamp (between (if_goes_on b before.turns)) (contents_of s.committed)) stopped)
-        (λ e told. inl told) ends
+        (λ e so. inl so) (λ healthy. tells_stopped before.refused (sym (ap (λ f. enters_turns f before.refused) healthy) ∙ stopped) (contents_known start s told is healthy)) ends where
+          tells_stopped : (r : Option Refusal) → enters_turns None r ≡ false → Known d (before.way d stamp told) r (Inside [] before.hand.goes_on (turns_of before)) before.progress (both_of s) → TellsAs (after.way d stamp told) (last_end None r)
+          tells_stopped None enters known = absurd (not_true (sym enters))
+          tells_stopped (Some refusal) enters known = same told (Some refusal) known
 
     -- there is no memory for the next
-    pub steps_short : (after : Standing Key) (y : State) (result : Step) → EndsFor d m stamp number (Some fault.OutOfMemory) before.refused x result y → Steps d m stamp number before after x result y
-    steps_short after y result ends start s is held =
-        ends_as (Some fault.OutOfMemory) before.refused after y start s result (between NoMore) (lacks (place before) x start s is.at (is_shut x shut start s is.at.stands).0) refl
-        (λ e told. inr (inl told)) ends
+    pub steps_short : (after : Standing Key Told) (y : State) (result : Step) → EndsFor d m stamp number (Some fault.OutOfMemory) before.refused x result y → Steps d m stamp number before after x result y
+    steps_short after y result ends start s told is held =
+        ends_as (Some fault.OutOfMemory) before.refused after told y start s result (between NoMore) (lacks d m stamp number (place before) x start s is.at (is_shut d m stamp number x shut start s is.at.stands).0) refl
+        (λ e so. inr (inl ((is_shut d m stamp number x shut start s is.at.stands).0, so))) (λ healthy. absurd (some_none healthy)) ends
 
 -- places that ask for a transaction
 

@@ -1,6 +1,5 @@
 -- The next call in hand.
 use Rattle.std.proofs.Common.{ap, subst, sym, ◌∙◌}
-use Rattle.std.proofs.lemmas.List.{reverse-append}
 use Rattle.std.specs.Prelude.{Bool, Err, List, Ok, Result, false, refl, reverse, true, ℕ, ◌++◌, ◌∷◌, ◌≡◌, []}
 use Rattle.lq_base.specs.declared.dialect.Dialect.{Dialect}
 use Rattle.lq_base.specs.declared.reason.Reason.{Reason}
@@ -22,6 +21,7 @@ use Rattle.lq_turns.specs.declared.deed.Deed.TheVariants.{Locks, Rows, Users}
 use Rattle.lq_turns.specs.declared.deed.OnLock.TheVariants.{Freed, LockMade, LockRowMade, LogMade, Marked, Taken}
 use Rattle.lq_turns.specs.declared.stamp.Stamp.{Stamp}
 use Rattle.lq_beside.specs.Replays.{call_fits, calls_fit}
+use Rattle.lq_hand.proofs.InHand.{last_first}
 use Rattle.lq_hand.specs.Hand.{AreTurns, IsNext, IsReady, calls_left, hand_place, opens, place_of}
 use Rattle.lq_run.specs.Moves.{Accepts, Goes, IsAt, Makes, Refuses, Takes, refusal_of, room_of}
 use Rattle.lq_run.specs.Stands.{Stands}
@@ -31,10 +31,6 @@ use Rattle.lq_hand.specs.declared.hand.Phase.TheVariants as phase
 
 head_is : {c k : Call} {cs ks : List Call} → c ∷ cs ≡ k ∷ ks → c ≡ k
 head_is h = Prim.cc
-
--- the last in the list is the first call
-pub last_first : (calls left : List Call) (call : Call) → calls ≡ left ++ call ∷ [] → reverse calls ≡ call ∷ reverse left
-last_first calls left call is = ap reverse is ∙ reverse-append left (call ∷ [])
 
 pub next_in_hand : (d : Dialect) (opened : Bool) (calls left : List Call) (call : Call) → calls ≡ left ++ call ∷ [] → AreTurns d opened (reverse calls) → IsNext d opened call
 next_in_hand d opened calls left call is turns = (subst (AreTurns d opened) (last_first calls left call is) turns).0

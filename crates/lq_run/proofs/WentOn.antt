@@ -16,6 +16,8 @@ use Rattle.lq_turns.specs.declared.call.Call.{Call}
 use Rattle.lq_turns.specs.declared.call.Call.TheVariants.{Execute}
 use Rattle.lq_turns.specs.declared.deed.Deed.{Deed}
 use Rattle.lq_turns.specs.declared.stamp.Stamp.{Stamp}
+use Rattle.lq_hand.specs.Counts.{coming_of, with_accepted}
+use Rattle.lq_hand.specs.Way.{refused_by, refused_in, seen_after, sights}
 use Rattle.lq_run.specs.Moves.{BreaksOff, Continues}
 
 module _ (d : Dialect) (deed : Deed) (s : Session) where
@@ -37,12 +39,14 @@ module _ (d : Dialect) (deed : Deed) (s : Session) where
   continues now is calls = record {
     contents = ap (went_by d deed (went d calls) (both_of s)) is ∙ ap (went d calls) (sym (both_ok now is));
     accepted = ap (accepted_by d (are_accepted d calls)) is ∙ ap (λ (x : Both). are_accepted d calls x.1) (sym (both_ok now is));
+    seen = ap (seen_after d (sights d calls)) is ∙ ap (λ (x : Both). sights d calls x.1) (sym (both_ok now is));
+    counted = λ p. ap (refused_by d deed (refused_in d calls) p) is ∙ ap (λ (x : Both). refused_in d calls (with_accepted (coming_of d (Execute deed)) p) x.1) (sym (both_ok now is));
   }
 
-  pub breaks_off : (reason : Reason) → contents_after d deed (contents_of s.seen) ≡ Err reason → (calls : List Call) → BreaksOff d (Execute deed ∷ calls) s (called d (Execute deed) s)
+  pub breaks_off : (reason : Reason) → contents_after d deed (contents_of s.seen) ≡ Err reason → (calls : List Call) → BreaksOff d (Execute deed ∷ calls) reason s (called d (Execute deed) s)
   breaks_off reason is calls = record {
     contents = ap (λ r. (went_by d deed (went d calls) (both_of s) r).0) is ∙ ap (λ (x : Both). x.0) (sym (both_err reason is));
-    refused = ap (accepted_by d (are_accepted d calls)) is;
+    counted = λ p. ap (refused_by d deed (refused_in d calls) p) is;
   }
 
 module _ {Key : Type 0} (d : Dialect) (m : Meaning Key) (stamp : Stamp) (deed : Deed) (s t : Session) where

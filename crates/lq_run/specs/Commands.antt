@@ -22,7 +22,8 @@ use Rattle.lq_hand.specs.Hand.{AreTurns, calls_left}
 use Rattle.lq_hand.specs.declared.hand.Phase.TheVariants as phase
 use Rattle.lq_run.specs.Ends.{AllHoldOn, EndsAs}
 use Rattle.lq_run.specs.Stands.{Stands, entries_of}
-use Rattle.lq_run.specs.Steps.{KnownIn, Standing, place}
+use Rattle.lq_hand.specs.Way.{Way}
+use Rattle.lq_run.specs.Steps.{KnownIn, Standing, TellsAs, place}
 use Rattle.lq_run.specs.declared.runner.End.{End}
 use Rattle.lq_run.specs.declared.runner.End.TheVariants as end
 
@@ -36,35 +37,36 @@ module _ {Key : Type 0} (d : Dialect) (m : Meaning Key) (stamp : Stamp) where
   script p database = Alone (map Locks (opening stamp database)) Ordinary ∷ rest d m stamp p (both_on database)
 
   -- it has made no call, and met no fault and no refusal; the calls in hand are a turn's, which leave it the lock
-  pub record IsNew (r : Standing Key) : Type 0 where
+  pub record IsNew {Told : Type 0} (r : Standing Key Told) : Type 0 where
     pub inside : r.hand.phase ≡ phase.Inside
     pub turn : AreTurns d false (calls_left r.hand)
     pub holds : AllHoldOn stamp.who (calls_left r.hand)
     pub fault : r.fault ≡ None
     pub refused : r.refused ≡ None
 
-  -- its source knows the rows of the database
-  abbrev pub KnowsRows : Standing Key → Database → Type 0
-  KnowsRows r database = KnownIn d r.knows r.awaits (calls_left r.hand) (both_on database)
+  -- its source knows the contents of the database, on its way to having told so much
+  abbrev pub KnowsContents : {Told : Type 0} → Standing Key Told → Database → Told → Type 0
+  KnowsContents r database told = KnownIn d (r.way d stamp told) r.hand.goes_on (calls_left r.hand) r.progress (both_on database)
 
-  module _ (number : ℕ) where
-    -- The store stands for a session without a transaction, the rows are known, and the deeds of its calls fit.
-    pub record MayRun (r : Standing Key) (x start : State) (s : Session) : Type 0 where
+  module _ {Told : Type 0} (number : ℕ) where
+    -- The store stands for a session without a transaction, the contents are known, and the deeds of its calls fit.
+    pub record MayRun (r : Standing Key Told) (x start : State) (s : Session) (told : Told) : Type 0 where
       pub dialect : start.dialect ≡ d
       pub stands : Stands start number x s
       pub shut : s.is_open ≡ false
-      pub known : KnowsRows r s.committed
+      pub known : KnowsContents r s.committed told
       pub fits : calls_fit d (script (place r) s.committed) s ≡ true
 
     -- it may for some session
-    pub record SomeMayRun (r : Standing Key) (x : State) : Type 0 where
+    pub record SomeMayRun (r : Standing Key Told) (x : State) : Type 0 where
       pub start : State
       pub session : Session
-      pub is : MayRun r x start session
+      pub told : Told
+      pub is : MayRun r x start session told
 
     -- for every session for which it may run
-    abbrev pub RunsWhole : Standing Key → State → End → State → Type 0
-    RunsWhole r x e y = (start : State) (s : Session) → MayRun r x start s → EndsAs d m stamp number start (all_called d (script (place r) s.committed) s) e y
+    abbrev pub RunsWhole : Standing Key Told → State → End → State → Type 0
+    RunsWhole r x e y = (start : State) (s : Session) (told : Told) → MayRun r x start s told → EndsAs d m stamp number start s (all_called d (script (place r) s.committed) s) e y
 
 -- The same in words of databases.
 
@@ -91,7 +93,14 @@ LeavesAs d calls database x end.Disk y = Unit {0}
 LeavesAs d calls database x (end.Full used next) y = Unit {0}
 LeavesAs d calls database x end.OutOfMemory y = Unit {0}
 
--- on every database whose rows are known, and on which its calls fit
-abbrev pub LeavesAll : {Key : Type 0} → Dialect → Meaning Key → Stamp → Standing Key → State → End → State → Type 0
-LeavesAll d m stamp r x e y = (database : Database) → HasDatabase d x database → KnowsRows d m stamp r database → calls_fit d (script d m stamp (place r) database) (session_on database) ≡ true
-    → LeavesAs d (script d m stamp (place r) database) database x e y
+-- on every database whose contents are known, and on which its calls fit
+abbrev pub OnAll : {Key Told : Type 0} → Dialect → Meaning Key → Stamp → Standing Key Told → State → (Database → Told → Type 0) → Type 0
+OnAll {Key} {Told} d m stamp r x holds = (database : Database) (told : Told) → HasDatabase d x database → KnowsContents d m stamp r database told → calls_fit d (script d m stamp (place r) database) (session_on database) ≡ true → holds database told
+
+-- the database of the whole script is left
+abbrev pub LeavesAll : {Key Told : Type 0} → Dialect → Meaning Key → Stamp → Standing Key Told → State → End → State → Type 0
+LeavesAll d m stamp r x e y = OnAll d m stamp r x (λ database told. LeavesAs d (script d m stamp (place r) database) database x e y)
+
+-- and what its source was on its way to tell is told
+abbrev pub TellsAll : {Key Told : Type 0} → Dialect → Meaning Key → Stamp → Standing Key Told → State → End → (Dialect → Stamp → Told → Way) → Type 0
+TellsAll d m stamp r x e way = OnAll d m stamp r x (λ database told. TellsAs (way d stamp told) e)

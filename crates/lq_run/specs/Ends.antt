@@ -17,7 +17,8 @@ use Rattle.lq_turns.specs.declared.stamp.Stamp.{Stamp}
 use Rattle.lq_run.specs.Does.{Breaks}
 use Rattle.lq_run.specs.Holds.{IsBare, IsHeld}
 use Rattle.lq_run.specs.Stands.{Stands}
-use Rattle.lq_run.specs.Steps.{IsThere, Standing, is_disk, place}
+use Rattle.lq_hand.specs.Way.{Way}
+use Rattle.lq_run.specs.Steps.{IsThere, Standing, TellsAs, is_disk, place}
 use Rattle.lq_run.specs.declared.runner.End.{End}
 use Rattle.lq_run.specs.declared.runner.End.TheVariants as end
 
@@ -59,52 +60,34 @@ pub record IsBefore (s last : Session) : Type 0 where
   pub more : List (List Deed)
   pub entries : last.entries ≡ s.entries ++ more
 
+-- calls led from the first session to this one
+pub record CameFrom (d : Dialect) (first s : Session) : Type 0 where
+  pub calls : List Call
+  pub is : s ≡ all_called d calls first
+
 -- the last call alone is to come, or it after an abort
 abbrev pub AreLast : List Call → Type 0
 AreLast calls = (calls ≡ closing ∷ []) ⊎ (calls ≡ Abort ∷ closing ∷ [])
 
 module _ {Key : Type 0} (d : Dialect) (m : Meaning Key) (stamp : Stamp) (number : ℕ) where
-  -- The store stands for a session at the command's place, and the command holds the lock until its last call.
-  pub record IsRunning (r : Standing Key) (x start : State) (s : Session) : Type 0 where
-    pub there : IsThere d m stamp number r x start s
-    pub committed : IsHeld stamp s.committed.lock
-    pub seen : IsHeld stamp s.seen.lock
-    pub keeps : KeepsLock stamp.who (rest d m stamp (place r) (both_of s))
-    pub disk : disk_failed r.fault ≡ false
-
-  -- it does so for some session
-  pub record Runs (r : Standing Key) (x : State) : Type 0 where
-    pub start : State
-    pub session : Session
-    pub is : IsRunning r x start session
-
   -- the session after all calls to come
   abbrev pub at_end : Place Key → Session → Session
   at_end p s = all_called d (rest d m stamp p (both_of s)) s
 
-  -- the calls to come lead to the last session; or a fault was met, and no other turn comes
-  abbrev pub IsOnWay : Standing Key → Session → Session → Type 0
-  IsOnWay r s last = (at_end (place r) s ≡ last) ⊎ ((why : StoreFault) × (r.fault ≡ Some why) × AreLast (rest d m stamp (place r) (both_of s)) × IsBefore s last)
-
-  -- on the way to the last session
-  pub record Reaches (r : Standing Key) (x start : State) (last : Session) : Type 0 where
-    pub session : Session
-    pub is : IsRunning r x start session
-    pub way : IsOnWay r session last
-
-  module _ (start : State) (last : Session) where
-    -- the store stands for a session on the way; after it the lock may have been freed, where it had no mark
+  module _ (start : State) (first last : Session) where
+    -- the store stands for a session on the way; after it the lock may have been freed, where it had no mark and nothing was begun
     abbrev pub StandsBefore : State → Type 0
-    StandsBefore y = (s : Session) × IsBefore s last × (Stands start number y s ⊎ (IsBare stamp s.committed.lock × Stands start number y (called d closing s)))
+    StandsBefore y = (s : Session) × CameFrom d first s × IsBefore s last × (Stands start number y s ⊎ (IsBare stamp s.committed.lock × (s.begun ≡ []) × Stands start number y (called d closing s)))
 
     -- the disk failed at a call on the way, or at the one that frees the lock after another fault
     pub record BreaksBefore (y : State) : Type 0 where
       pub s : Session
       pub x : State
       pub stands : Stands start number x s
+      pub came : CameFrom d first s
       pub call : Call
       pub breaks : Breaks d call s x y
-      pub before : IsBefore (called d call s) last ⊎ ((call ≡ closing) × IsBare stamp s.committed.lock × IsBefore s last)
+      pub before : IsBefore (called d call s) last ⊎ ((call ≡ closing) × IsBare stamp s.committed.lock × (s.begun ≡ []) × IsBefore s last)
 
     -- without a fault the store stands for the last session
     abbrev pub EndsAs : End → State → Type 0
@@ -115,6 +98,37 @@ module _ {Key : Type 0} (d : Dialect) (m : Meaning Key) (stamp : Stamp) (number 
     EndsAs (end.Full used next) y = StandsBefore y
     EndsAs end.OutOfMemory y = StandsBefore y
 
+module _ {Key Told : Type 0} (d : Dialect) (m : Meaning Key) (stamp : Stamp) (number : ℕ) where
+  -- The store stands for a session at the command's place, and the command holds the lock until its last call.
+  pub record IsRunning (r : Standing Key Told) (x start : State) (s : Session) (told : Told) : Type 0 where
+    pub there : IsThere d m stamp number r x start s told
+    pub committed : IsHeld stamp s.committed.lock
+    pub seen : IsHeld stamp s.seen.lock
+    pub keeps : KeepsLock stamp.who (rest d m stamp (place r) (both_of s))
+    pub disk : disk_failed r.fault ≡ false
+
+  -- it does so for some session
+  pub record Runs (r : Standing Key Told) (x : State) : Type 0 where
+    pub start : State
+    pub session : Session
+    pub told : Told
+    pub is : IsRunning r x start session told
+
+  -- the calls to come lead to the last session; or a fault was met, and no other turn comes
+  abbrev pub IsOnWay : Standing Key Told → Session → Session → Type 0
+  IsOnWay r s last = (at_end d m stamp number (place r) s ≡ last) ⊎ ((why : StoreFault) × (r.fault ≡ Some why) × AreLast (rest d m stamp (place r) (both_of s)) × IsBefore s last)
+
+  -- on the way from the first session to the last
+  pub record Reaches (r : Standing Key Told) (x start : State) (first last : Session) (told : Told) : Type 0 where
+    pub session : Session
+    pub came : CameFrom d first session
+    pub is : IsRunning r x start session told
+    pub way : IsOnWay r session last
+
   -- for every session for which it runs
-  abbrev pub RunsOn : Standing Key → State → End → State → Type 0
-  RunsOn r x e y = (start : State) (s : Session) → IsRunning r x start s → EndsAs start (at_end (place r) s) e y
+  abbrev pub RunsOn : Standing Key Told → State → End → State → Type 0
+  RunsOn r x e y = (start : State) (s : Session) (told : Told) → IsRunning r x start s told → EndsAs d m stamp number start s (at_end d m stamp number (place r) s) e y
+
+  -- and what its source has told then
+  abbrev pub TellsOn : Standing Key Told → State → End → (Dialect → Stamp → Told → Way) → Type 0
+  TellsOn r x e way = (start : State) (s : Session) (told : Told) → IsRunning r x start s told → TellsAs (way d stamp told) e

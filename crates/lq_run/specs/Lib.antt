@@ -3,9 +3,9 @@ pub mod Does
 pub mod Moves
 pub mod Holds
 pub mod NoChanges
-pub mod Counts
 pub mod Steps
 pub mod Ends
 pub mod Commands
 pub mod Faults
 pub mod Opens
+pub mod Left

@@ -1,13 +1,14 @@
 -- What a runner makes of a call of its turn.
-use Rattle.std.specs.Prelude.{Bool, Err, List, None, Ok, Option, Result, Some, false, true, ℕ, ◌∷◌, ◌≡◌}
+use Rattle.std.specs.Prelude.{Bool, Err, List, None, Ok, Option, Result, Some, [], true, ℕ, ◌∷◌, ◌≡◌}
 use Rattle.lq_base.specs.declared.dialect.Dialect.{Dialect}
 use Rattle.lq_base.specs.declared.reason.Reason.{Reason}
+use Rattle.lq_model.specs.Catalogue.{Catalogue}
 use Rattle.lq_model.specs.declared.caller.Room.{Room}
 use Rattle.lq_model.specs.declared.caller.Room.TheVariants.{Ordinary}
 use Rattle.lq_model.specs.declared.fault.StoreFault.{StoreFault}
 use Rattle.lq_model.specs.declared.fault.StoreFault.TheVariants as fault
 use Rattle.lq_store.specs.State.{State, is_open}
-use Rattle.lq_turns.specs.Contents.{contents_of}
+use Rattle.lq_turns.specs.Contents.{Contents, contents_of}
 use Rattle.lq_turns.specs.Deed.{contents_after}
 use Rattle.lq_turns.specs.Goes.{are_accepted, went}
 use Rattle.lq_turns.specs.Rest.{GivingUp, Inside, Place, Turns, if_goes_on, rest}
@@ -18,10 +19,13 @@ use Rattle.lq_turns.specs.declared.call.Call.{Call}
 use Rattle.lq_turns.specs.declared.call.Call.TheVariants.{Abort, Alone, Begin, Commit, Execute}
 use Rattle.lq_turns.specs.declared.stamp.Stamp.{Stamp}
 use Rattle.lq_beside.specs.Replays.{call_fits, calls_fit}
+use Rattle.lq_hand.specs.Counts.{first_coming, refusal_at, with_accepted, with_refused}
 use Rattle.lq_hand.specs.Hand.{IsReady, calls_left, opens, place_of}
+use Rattle.lq_hand.specs.Way.{refused_in, seen_after, sights}
 use Rattle.lq_hand.specs.declared.hand.Hand.{Hand}
 use Rattle.lq_hand.specs.declared.hand.Phase.{Phase}
 use Rattle.lq_hand.specs.declared.hand.Phase.TheVariants as phase
+use Rattle.lq_hand.specs.declared.progress.Progress.{Progress}
 use Rattle.lq_run.specs.Does.{Faults}
 use Rattle.lq_run.specs.Stands.{Stands}
 use Rattle.lq_run.specs.declared.hand.Moved.{Moved}
@@ -67,15 +71,23 @@ module _ (d : Dialect) where
   refusal_of Abort s = None
   refusal_of (Alone deeds room) s = None
 
-  -- from where the session has come the calls that are left are accepted alike, and lead to the same
+  -- what the user's statements of these calls see, where the first has been looked at
+  abbrev pub unseen : List Call → Contents → List Catalogue
+  unseen [] c = []
+  unseen (Execute deed ∷ calls) c = seen_after d (sights d calls) (contents_after d deed c)
+  unseen (call ∷ calls) c = sights d calls c
+
+  -- from where the session has come the calls that are left are accepted alike, see and lead to the same, and are counted on
   pub record Continues (before after : List Call) (s t : Session) : Type 0 where
     pub contents : went d before (both_of s) ≡ went d after (both_of t)
     pub accepted : are_accepted d before (contents_of s.seen) ≡ are_accepted d after (contents_of t.seen)
+    pub seen : unseen before (contents_of s.seen) ≡ sights d after (contents_of t.seen)
+    pub counted : (p : Progress) → refused_in d before p (contents_of s.seen) ≡ refused_in d after (with_accepted (first_coming d before) p) (contents_of t.seen)
 
   -- the first of the calls was refused, and so much is committed
-  pub record BreaksOff (calls : List Call) (s t : Session) : Type 0 where
+  pub record BreaksOff (calls : List Call) (reason : Reason) (s t : Session) : Type 0 where
     pub contents : (went d calls (both_of s)).0 ≡ contents_of t.committed
-    pub refused : are_accepted d calls (contents_of s.seen) ≡ false
+    pub counted : (p : Progress) → refused_in d calls p (contents_of s.seen) ≡ Some (refusal_at (with_refused (first_coming d calls) p) reason)
 
 module _ {Key : Type 0} (d : Dialect) (m : Meaning Key) (stamp : Stamp) (number : ℕ) where
   -- whatever comes after the call, it was the next of the script
@@ -85,7 +97,7 @@ module _ {Key : Type 0} (d : Dialect) (m : Meaning Key) (stamp : Stamp) (number 
       × ((calls : List Call) → Continues d (call ∷ calls) calls s (called d call s)) × (refusal_of d call s ≡ None)
   MakesAs call start s x (moved.Refused reason) y = Stands start number y (called d call s) × (opens call ≡ true)
       × ((calls : List Call) (on : Bool) (turns : Turns Key) → Went d m stamp (Inside (call ∷ calls) on turns) (GivingUp (if_goes_on on turns)) s (called d call s))
-      × ((calls : List Call) → BreaksOff d (call ∷ calls) s (called d call s)) × (refusal_of d call s ≡ Some reason)
+      × ((calls : List Call) → BreaksOff d (call ∷ calls) reason s (called d call s)) × (refusal_of d call s ≡ Some reason)
   MakesAs call start s x (moved.Failed fault) y = Faults start number x s Ordinary call fault y × (s.is_open ≡ true)
   MakesAs call start s x moved.Lack y = (y ≡ x) × (s.is_open ≡ true)
 
@@ -125,7 +137,7 @@ module _ {Key : Type 0} (d : Dialect) (m : Meaning Key) (stamp : Stamp) (number 
   -- or it was refused
   pub record Refuses (p q : Place Key) (calls : List Call) (reason : Reason) (start : State) (s : Session) (y : State) : Type 0 where
     pub goes : Goes p q start s y
-    pub breaks_off : BreaksOff d calls s goes.after
+    pub breaks_off : BreaksOff d calls reason s goes.after
     pub more : List Call
     pub first : calls ≡ goes.went.call ∷ more
     pub why : refusal_of d goes.went.call s ≡ Some reason

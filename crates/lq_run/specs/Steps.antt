@@ -2,13 +2,14 @@
 use Rattle.std.specs.Prelude.{Bool, List, None, Option, Some, [], false, true, ℕ, ◌∷◌, ◌≡◌, ◌⊎◌}
 use Rattle.lq_base.specs.declared.dialect.Dialect.{Dialect}
 use Rattle.lq_base.specs.declared.tracking.Lock.{Lock}
-use Rattle.lq_base.specs.declared.tracking.Tracked.{Tracked}
+use Rattle.lq_model.specs.Catalogue.{Catalogue}
 use Rattle.lq_model.specs.declared.caller.Room.TheVariants.{Ordinary, Release}
 use Rattle.lq_model.specs.declared.fault.StoreFault.{StoreFault}
 use Rattle.lq_model.specs.declared.fault.StoreFault.TheVariants as fault
-use Rattle.lq_store.specs.State.{State}
+use Rattle.lq_store.specs.State.{State, other}
 use Rattle.lq_track.specs.Database.{Database}
-use Rattle.lq_turns.specs.Goes.{Both}
+use Rattle.lq_turns.specs.Contents.{Contents}
+use Rattle.lq_turns.specs.Goes.{Both, are_accepted, went}
 use Rattle.lq_turns.specs.Held.{StandsFor}
 use Rattle.lq_turns.specs.Rest.{GivingUp, Inside, NoMore, Over, Place, Turns, between, if_goes_on, rest}
 use Rattle.lq_turns.specs.Script.{closing}
@@ -19,15 +20,17 @@ use Rattle.lq_turns.specs.declared.call.Call.{Call}
 use Rattle.lq_turns.specs.declared.call.Call.TheVariants.{Abort}
 use Rattle.lq_turns.specs.declared.stamp.Stamp.{Stamp}
 use Rattle.lq_turns.specs.declared.stop.Refusal.{Refusal}
-use Rattle.lq_hand.specs.Enters.{Expects}
-use Rattle.lq_hand.specs.Hand.{place_of}
+use Rattle.lq_hand.specs.Hand.{calls_left, place_of}
+use Rattle.lq_hand.specs.Way.{Expects, Way, refused_in}
 use Rattle.lq_hand.specs.declared.hand.Hand.{Hand}
 use Rattle.lq_hand.specs.declared.hand.Phase.{Phase}
 use Rattle.lq_hand.specs.declared.hand.Phase.TheVariants as phase
-use Rattle.lq_run.specs.Counts.{coming_of, no_progress, progress_after, refusal_by}
+use Rattle.lq_hand.specs.Counts.{coming_of, no_progress, progress_after, refusal_by}
 use Rattle.lq_run.specs.Holds.{IsBare, IsHeld, IsMarked}
-use Rattle.lq_run.specs.Moves.{Goes, IsAt, Meets, refusal_of}
-use Rattle.lq_run.specs.declared.progress.Progress.{Progress}
+use Rattle.lq_run.specs.Moves.{Goes, IsAt, Meets, refusal_of, unseen}
+use Rattle.lq_hand.specs.declared.progress.Coming.{Coming}
+use Rattle.lq_hand.specs.declared.progress.Coming.TheVariants as coming
+use Rattle.lq_hand.specs.declared.progress.Progress.{Progress}
 use Rattle.lq_run.specs.declared.runner.End.{End}
 use Rattle.lq_run.specs.declared.runner.End.TheVariants as end
 use Rattle.lq_run.specs.declared.runner.Runner.{Runner}
@@ -35,30 +38,29 @@ use Rattle.lq_run.specs.declared.runner.Step.{Step}
 use Rattle.lq_run.specs.declared.runner.Step.TheVariants as step
 
 -- how a command stands between two of its steps
-pub record Standing (Key : Type 0) : Type 1 where
+pub record Standing (Key Told : Type 0) : Type 1 where
   pub hand : Hand
-  -- the turns that its source has, and what that knows of the rows
+  -- the turns that its source has, and what that holds on its way to having told so much
   pub turns : Turns Key
-  pub knows : List Tracked → Type 0
-  pub awaits : List Tracked → Type 0
+  pub way : Dialect → Stamp → Told → Way
   -- how far the turn in hand has come
   pub progress : Progress
   -- after a fault of the store, or a refused statement, no other turn is entered
   pub fault : Option StoreFault
   pub refused : Option Refusal
 
-abbrev pub standing : {Key T : Type 0} → (T → Turns Key) → (T → List Tracked → Type 0) → (T → List Tracked → Type 0) → Runner T → Standing Key
-standing left knows awaits r = record { hand = r.hand; turns = left r.source; knows = knows r.source; awaits = awaits r.source; progress = r.progress; fault = r.fault; refused = r.refused }
+abbrev pub standing : {Key Told T : Type 0} → (T → Turns Key) → (T → Dialect → Stamp → Told → Way) → Runner T → Standing Key Told
+standing left way r = record { hand = r.hand; turns = left r.source; way = way r.source; progress = r.progress; fault = r.fault; refused = r.refused }
 
 abbrev pub enters_turns : Option StoreFault → Option Refusal → Bool
 enters_turns None None = true
 enters_turns None (Some refusal) = false
 enters_turns (Some why) refused = false
 
-abbrev pub turns_of : {Key : Type 0} → Standing Key → Turns Key
+abbrev pub turns_of : {Key Told : Type 0} → Standing Key Told → Turns Key
 turns_of r = if_goes_on (enters_turns r.fault r.refused) r.turns
 
-abbrev pub place : {Key : Type 0} → Standing Key → Place Key
+abbrev pub place : {Key Told : Type 0} → Standing Key Told → Place Key
 place r = place_of r.hand (turns_of r)
 
 -- no turn is in hand
@@ -96,48 +98,64 @@ progress_at phase.Inside (call ∷ calls) p = p
 progress_at phase.GivingUp calls p = p
 progress_at phase.Over calls p = p
 
-abbrev pub progress_in : {Key : Type 0} → Standing Key → Progress
+abbrev pub progress_in : {Key Told : Type 0} → Standing Key Told → Progress
 progress_in r = progress_at r.hand.phase r.hand.calls r.progress
 
--- what the source holds of the rows, with these calls left of the turn in hand
-abbrev pub KnownIn : Dialect → (List Tracked → Type 0) → (List Tracked → Type 0) → List Call → Both → Type 0
-KnownIn d knows awaits [] x = knows x.0.rows
-KnownIn d knows awaits (call ∷ calls) x = Expects d knows awaits (call ∷ calls) x
+-- what the source holds, with these calls left of the turn in hand
+abbrev pub KnownIn : Dialect → Way → Bool → List Call → Progress → Both → Type 0
+KnownIn d way goes_on [] p x = way.knows x.0
+KnownIn d way goes_on (call ∷ calls) p x = Expects d way goes_on (call ∷ calls) p x
 
-abbrev pub Known : {Key : Type 0} → Dialect → (List Tracked → Type 0) → (List Tracked → Type 0) → Place Key → Both → Type 0
-Known d knows awaits (Inside calls goes_on turns) x = KnownIn d knows awaits calls x
-Known d knows awaits (GivingUp turns) x = knows x.0.rows
-Known d knows awaits Over x = Unit {0}
+-- what it holds at a place; where a refusal has stopped the command, all is told
+abbrev pub Known : {Key : Type 0} → Dialect → Way → Option Refusal → Place Key → Progress → Both → Type 0
+Known d way None (Inside calls goes_on turns) p x = KnownIn d way goes_on calls p x
+Known d way None (GivingUp turns) p x = way.knows x.0
+Known d way None Over p x = Unit {0}
+Known d way (Some refusal) (Inside [] goes_on turns) p x = way.tells (Some refusal)
+Known d way (Some refusal) (Inside (call ∷ calls) goes_on turns) p x = ⊥
+Known d way (Some refusal) (GivingUp turns) p x = way.tells (Some refusal)
+Known d way (Some refusal) Over p x = Unit {0}
+
+-- what it holds of the calls that are left, where it has looked at what the first of them sees
+pub record ExpectsNext (d : Dialect) (way : Way) (goes_on : Bool) (calls : List Call) (p : Progress) (x : Both) : Type 0 where
+  pub finished : are_accepted d calls x.1 ≡ true → way.awaits (unseen d calls x.1) (went d calls x).0
+  pub refused : (refusal : Refusal) → refused_in d calls p x.1 ≡ Some refusal → way.yields goes_on refusal (went d calls x).0
+
+abbrev pub KnownNext : Dialect → Way → Option Refusal → Bool → List Call → Progress → Both → Type 0
+KnownNext d way None goes_on calls p x = ExpectsNext d way goes_on calls p x
+KnownNext d way (Some refusal) goes_on calls p x = ⊥
+
+-- before a user's statement what it sees is looked at
+abbrev pub shown : Coming → Catalogue → List Catalogue → List Catalogue
+shown (coming.Statement commits) users more = users ∷ more
+shown coming.Commit users more = more
+shown coming.Other users more = more
+
+abbrev pub is_statement : Coming → Bool
+is_statement (coming.Statement commits) = true
+is_statement coming.Commit = false
+is_statement coming.Other = false
+
+-- no other session has a transaction open
+abbrev pub IsShowing : ℕ → State → Type 0
+IsShowing number x = other number x ≡ None
+
+-- before a statement the source has looked at what is seen
+pub record Shows (d : Dialect) (call : Coming) (seen : Catalogue) (before after : Way) : Type 0 where
+  pub knows : (c : Contents) → before.knows c → after.knows c
+  pub awaits : (database : Database) → StandsFor d seen database → (more : List Catalogue) (c : Contents) → before.awaits (shown call database.users more) c → after.awaits more c
+  pub yields : (goes_on : Bool) (refusal : Refusal) (c : Contents) → before.yields goes_on refusal c → after.yields goes_on refusal c
+
+-- where a command has ended its source has told all
+abbrev pub TellsAs : Way → End → Type 0
+TellsAs way end.Done = way.tells None
+TellsAs way (end.Refused refusal) = way.tells (Some refusal)
+TellsAs way (end.Locked lock) = Unit {0}
+TellsAs way end.Disk = Unit {0}
+TellsAs way (end.Full used next) = Unit {0}
+TellsAs way end.OutOfMemory = Unit {0}
 
 module _ {Key : Type 0} (d : Dialect) (m : Meaning Key) (stamp : Stamp) (number : ℕ) where
-  -- the store stands for a session at the command's place, and its source knows the rows
-  pub record IsThere (r : Standing Key) (x start : State) (s : Session) : Type 0 where
-    pub at : IsAt d m stamp number (place r) x start s
-    pub known : enters_turns r.fault r.refused ≡ true → Known d r.knows r.awaits (place r) (both_of s)
-
-  -- the next call of the script was made
-  pub record Advances (before after : Standing Key) (start : State) (s : Session) (y : State) : Type 0 where
-    pub goes : Goes d m stamp number (place before) (place after) start s y
-    pub known : enters_turns after.fault after.refused ≡ true → Known d after.knows after.awaits (place after) (both_of goes.after)
-    pub fault : after.fault ≡ before.fault
-    pub progress : after.progress ≡ progress_after (coming_of d goes.went.call) (refusal_of d goes.went.call s) (progress_in before)
-    pub refused : after.refused ≡ stopped_by (refusal_by after.progress (refusal_of d goes.went.call s)) after.hand.goes_on before.refused
-
-  -- it met a fault of the store, which left the session as it was; its transaction is to be taken back
-  pub record Falls (before after : Standing Key) (start : State) (s : Session) (x y : State) : Type 0 where
-    pub why : StoreFault
-    pub meets : Meets d m stamp number (place before) start s x Ordinary why y
-    pub fault : after.fault ≡ Some why
-    pub gives_up : place after ≡ GivingUp NoMore
-    pub at : IsAt d m stamp number (place after) y start s
-
-  -- there was no memory for its text: the transaction is taken back
-  pub record TakesBack (after : Standing Key) (start : State) (s : Session) (y : State) : Type 0 where
-    pub opened : s.is_open ≡ true
-    pub fault : after.fault ≡ Some fault.OutOfMemory
-    pub ends_turns : place after ≡ between NoMore
-    pub at : IsAt d m stamp number (place after) y start (called d Abort s)
-
   -- the last call is made, or it meets a fault
   abbrev pub Closes : Place Key → End → State → Session → State → End → State → Type 0
   Closes p last start s x e y = (Goes d m stamp number p Over start s y × (e ≡ last)) ⊎ ((why : StoreFault) × Meets d m stamp number p start s x Release why y × (e ≡ end_of why))
@@ -146,16 +164,6 @@ module _ {Key : Type 0} (d : Dialect) (m : Meaning Key) (stamp : Stamp) (number 
   abbrev pub Ends : Place Key → Option StoreFault → Option Refusal → State → Session → State → End → State → Type 0
   Ends p None refused start s x e y = Closes p (last_end None refused) start s x e y
   Ends p (Some why) refused start s x e y = (IsBare stamp s.committed.lock × Closes p (end_of why) start s x e y) ⊎ (IsMarked stamp s.committed.lock × (y ≡ x) × (e ≡ end_of why))
-
-  -- at its end the last call was made; or there was no memory for another turn; or the disk failed
-  abbrev pub StepsAs : Standing Key → Standing Key → State → Session → State → Step → State → Type 0
-  StepsAs before after start s x step.Going y = Advances before after start s y ⊎ (Falls before after start s x y ⊎ TakesBack after start s y)
-  StepsAs before after start s x (step.Ended e) y = Ends (place before) before.fault before.refused start s x e y
-      ⊎ (Ends (between NoMore) (Some fault.OutOfMemory) before.refused start s x e y ⊎ (Meets d m stamp number (place before) start s x Ordinary fault.Disk y × (e ≡ end.Disk)))
-
-  -- for every session for which the store stands there, where the lock is still held
-  abbrev pub Steps : Standing Key → Standing Key → State → Step → State → Type 0
-  Steps before after x result y = (start : State) (s : Session) → IsThere before x start s → (IsBetween before.hand → IsHeld stamp s.committed.lock) → StepsAs before after start s x result y
 
   -- from each place from which the last call alone is to come
 
@@ -166,6 +174,57 @@ module _ {Key : Type 0} (d : Dialect) (m : Meaning Key) (stamp : Stamp) (number 
   abbrev pub EndsFor : Option StoreFault → Option Refusal → State → Step → State → Type 0
   EndsFor why refused x step.Going y = ⊥
   EndsFor why refused x (step.Ended e) y = (p : Place Key) (start : State) (s : Session) → IsAt d m stamp number p x start s → rest d m stamp p (both_of s) ≡ closing ∷ [] → Ends p why refused start s x e y
+
+module _ {Key Told : Type 0} (d : Dialect) (m : Meaning Key) (stamp : Stamp) (number : ℕ) where
+  -- the store stands for a session at the command's place, and its source knows the contents, on its way to having told so much
+  pub record IsThere (r : Standing Key Told) (x start : State) (s : Session) (told : Told) : Type 0 where
+    pub at : IsAt d m stamp number (place r) x start s
+    pub known : r.fault ≡ None → Known d (r.way d stamp told) r.refused (place r) r.progress (both_of s)
+
+  -- the source has looked at what the next call sees as well
+  pub record IsShown (r : Standing Key Told) (x start : State) (s : Session) (told : Told) : Type 0 where
+    pub at : IsAt d m stamp number (place r) x start s
+    pub known : r.fault ≡ None → KnownNext d (r.way d stamp told) r.refused r.hand.goes_on (calls_left r.hand) r.progress (both_of s)
+
+  -- the next call of the script was made
+  pub record Advances (before after : Standing Key Told) (told : Told) (start : State) (s : Session) (y : State) : Type 0 where
+    pub goes : Goes d m stamp number (place before) (place after) start s y
+    pub known : after.fault ≡ None → Known d (after.way d stamp told) after.refused (place after) after.progress (both_of goes.after)
+    pub fault : after.fault ≡ before.fault
+    pub progress : after.progress ≡ progress_after (coming_of d goes.went.call) (refusal_of d goes.went.call s) (progress_in before)
+    pub refused : after.refused ≡ stopped_by (refusal_by after.progress (refusal_of d goes.went.call s)) after.hand.goes_on before.refused
+
+  -- it met a fault of the store, which left the session as it was; its transaction is to be taken back
+  pub record Falls (before after : Standing Key Told) (start : State) (s : Session) (x y : State) : Type 0 where
+    pub why : StoreFault
+    pub meets : Meets d m stamp number (place before) start s x Ordinary why y
+    pub fault : after.fault ≡ Some why
+    pub gives_up : place after ≡ GivingUp NoMore
+    pub at : IsAt d m stamp number (place after) y start s
+
+  -- there was no memory for its text: the transaction is taken back
+  pub record TakesBack (after : Standing Key Told) (start : State) (s : Session) (y : State) : Type 0 where
+    pub opened : s.is_open ≡ true
+    pub fault : after.fault ≡ Some fault.OutOfMemory
+    pub ends_turns : place after ≡ between NoMore
+    pub at : IsAt d m stamp number (place after) y start (called d Abort s)
+
+  -- at its end the last call was made; or between two turns there was no memory for another; or the disk failed
+  abbrev pub EndsStep : Standing Key Told → State → Session → State → End → State → Type 0
+  EndsStep before start s x e y = Ends d m stamp number (place before) before.fault before.refused start s x e y
+      ⊎ (((s.is_open ≡ false) × Ends d m stamp number (between NoMore) (Some fault.OutOfMemory) before.refused start s x e y) ⊎ (Meets d m stamp number (place before) start s x Ordinary fault.Disk y × (e ≡ end.Disk)))
+
+  abbrev pub StepsAs : Standing Key Told → Standing Key Told → Told → State → Session → State → Step → State → Type 0
+  StepsAs before after told start s x step.Going y = Advances before after told start s y ⊎ (Falls before after start s x y ⊎ TakesBack after start s y)
+  StepsAs before after told start s x (step.Ended e) y = EndsStep before start s x e y × TellsAs (after.way d stamp told) e
+
+  -- for every session for which the store stands there, where the lock is still held
+  abbrev pub Steps : Standing Key Told → Standing Key Told → State → Step → State → Type 0
+  Steps before after x result y = (start : State) (s : Session) (told : Told) → IsThere before x start s told → (IsBetween before.hand → IsHeld stamp s.committed.lock) → StepsAs before after told start s x result y
+
+  -- and where the source has looked at what the next call sees
+  abbrev pub StepsShown : Standing Key Told → Standing Key Told → State → Step → State → Type 0
+  StepsShown before after x result y = (start : State) (s : Session) (told : Told) → IsShown before x start s told → StepsAs before after told start s x result y
 
 -- the answer tells the lock, where there is memory for it
 abbrev pub TellsLock : Lock → Step → Type 0

@@ -1,6 +1,7 @@
 ghost use Rattle.std.specs.Prelude.{◌≡◌, ◌++◌, ◌∷◌, ◌≤◌, [], IfErr, IfOk, IsTrue, OnOk, false, is_some, map, nat_lt, option_map, unwrap_or};
 ghost use Rattle.lq_model.specs.Catalogue.{table_of};
 ghost use Rattle.lq_run.specs.Does.{AllWritable, AloneFor};
+ghost use Rattle.lq_run.specs.Left.{LeavesOpened, LeavesReleased, LeavesTagged};
 ghost use Rattle.lq_run.specs.Opens.{FailsFirst, OpensOn, TakesLock, opening_by};
 ghost use Rattle.lq_store.specs.Calls.{CountsDisk};
 ghost use Rattle.lq_store.specs.State.{is_open, seen};
@@ -46,6 +47,7 @@ pub fn take_lock<S: Store, P: SqlText>(
     requires moment { stamp.now.reading ≤ 253402300799999 }
     ensures valid { S.valid store.new }
     ensures does { TakesLock dialect stamp.now session (S.state store.old) result (S.state store.new) }
+    ensures leaves { LeavesOpened dialect stamp.now (S.state store.old) result (S.state store.new) }
     ensures faults { CountsDisk result (S.faults store.old) (S.faults store.new) }
 {
     match first_deeds(alloc, session, store, dialect, stamp) {
@@ -78,6 +80,7 @@ pub fn tag_row<S: Store, P: SqlText>(
     requires sql { P.dialect ≡ dialect }
     ensures valid { S.valid store.new }
     ensures does { AloneFor dialect session (deed.Rows (on_rows.Tagged of tag) ∷ []) room.Ordinary (S.state store.old) result (S.state store.new) }
+    ensures leaves { LeavesTagged dialect of tag (S.state store.old) result (S.state store.new) }
     ensures faults { CountsDisk result (S.faults store.old) (S.faults store.new) }
 {
     do_alone(
@@ -105,6 +108,7 @@ pub fn free_lock<S: Store, P: SqlText>(
     requires sql { P.dialect ≡ dialect }
     ensures valid { S.valid store.new }
     ensures does { AloneFor dialect session (deed.Locks on_lock.Freed ∷ []) room.Release (S.state store.old) result (S.state store.new) }
+    ensures leaves { LeavesReleased dialect (S.state store.old) result (S.state store.new) }
     ensures faults { CountsDisk result (S.faults store.old) (S.faults store.new) }
 {
     do_alone(

@@ -8,7 +8,6 @@ mod deed;
 mod hand;
 mod holding;
 mod no_turns;
-mod progress;
 mod runner;
 mod running;
 
@@ -18,6 +17,5 @@ pub use command::run_command;
 pub use hand::{Moved, take};
 pub use holding::{Holding, lock_held};
 pub use no_turns::NoTurns;
-pub use progress::{Coming, Progress};
 pub use runner::{End, Runner, Step};
 pub use running::run_on;

@@ -9,7 +9,7 @@ use std::alloc::Global;
 pub struct NoTurns;
 
 impl Source for NoTurns {
-    ghost use Rattle.lq_run.specs.NoChanges.{no_changes};
+    ghost use Rattle.lq_run.specs.NoChanges.{no_changes, nothing_told};
     ghost use Rattle.lq_turns.specs.Rest.{NoMore};
 
     ghost Key = { Unit {0} };
@@ -18,9 +18,9 @@ impl Source for NoTurns {
 
     ghost left = { λ source. NoMore };
 
-    ghost knows = { λ source rows. Unit {0} };
+    ghost Told = { Unit {0} };
 
-    ghost awaits = { λ source rows. Unit {0} };
+    ghost way = { λ source dialect stamp told. nothing_told };
 
     ghost reads = { λ source dialect. Unit {0} };
 

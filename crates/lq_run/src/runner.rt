@@ -1,28 +1,29 @@
-ghost use Rattle.std.specs.Prelude.{◌≡◌, ◌≢◌, ◌≤◌, [], IfSome, IsTrue, List, None, Some, false, true};
-ghost use Rattle.lq_hand.specs.Enters.{Enters, Expects};
+ghost use Rattle.std.specs.Prelude.{◌≡◌, ◌≢◌, ◌≤◌, [], Bool, IfSome, IsTrue, None, Some, false, true};
+ghost use Rattle.lq_hand.specs.Enters.{Enters};
+ghost use Rattle.lq_hand.specs.Way.{Expects, Looks};
 ghost use Rattle.lq_hand.specs.Hand.{AreTurns, IsReady, calls_left};
 ghost use Rattle.lq_hand.specs.declared.hand.Phase.TheVariants as phase;
 ghost use Rattle.lq_model.specs.declared.fault.StoreFault.TheVariants as fault;
 ghost use Rattle.lq_base.specs.declared.dialect.Dialect.{Dialect};
-ghost use Rattle.lq_base.specs.declared.tracking.Tracked.{Tracked};
 ghost use Rattle.lq_outside.specs.Count.{Rose};
-ghost use Rattle.lq_run.specs.Counts.{first_coming};
+ghost use Rattle.lq_hand.specs.Counts.{first_coming};
 ghost use Rattle.lq_run.specs.Does.{AbortFor};
 ghost use Rattle.lq_run.specs.Ends.{disk_failed};
 ghost use Rattle.lq_run.specs.Faults.{is_disk_step};
 ghost use Rattle.lq_run.specs.Holds.{Holds, HoldsAs};
-ghost use Rattle.lq_run.specs.Steps.{ClosesFor, EndsFor, FailsTo, GoesOn, KnownIn, Loses, Steps, TellsLock, end_of, enters_turns, is_disk, is_over, last_end, no_turn, place, standing, stopped_by};
+ghost use Rattle.lq_run.specs.Steps.{ClosesFor, EndsFor, FailsTo, GoesOn, IsShowing, KnownIn, Loses, Shows, Steps, StepsShown, TellsLock, end_of, enters_turns, is_disk, is_over, is_statement, last_end, no_turn, place, standing, stopped_by};
 ghost use Rattle.lq_run.specs.declared.runner.Step.TheVariants as step;
 ghost use Rattle.lq_store.specs.State.{is_open, seen};
 ghost use Rattle.lq_track.specs.Database.{lock_of};
+ghost use Rattle.lq_hand.specs.declared.progress.Progress.{Progress as Counted};
 ghost use Rattle.lq_turns.specs.Goes.{Both};
+ghost use Rattle.lq_turns.specs.declared.stamp.Stamp.{Stamp as Clocked};
 
 use crate::calls::{abort, do_alone};
 use crate::hand::{Moved, take};
 use crate::holding::{Holding, lock_held};
-use crate::progress::{Coming, Progress, next_coming};
 use lq_base::{Dialect, Duplicate, Items, Lock};
-use lq_hand::{Entered, Hand, Phase, Source};
+use lq_hand::{Coming, Entered, Hand, Phase, Progress, Source, next_coming};
 use lq_model::{Room, SqlText, StoreFault};
 use lq_store::Store;
 use lq_turns::{Deed, OnLock, Refusal, Stamp};
@@ -94,12 +95,12 @@ impl<T: Source + Drop> Runner<T> {
         requires sql { P.dialect ≡ self.old.dialect }
         requires moment { self.old.stamp.reading ≤ 253402300799999 }
         requires begun { is_over self.old.hand.phase ≡ false }
-        requires ready { IsReady self.old.dialect (is_open session (S.state store.old).begun) (place (standing T.left T.knows T.awaits self.old)) }
+        requires ready { IsReady self.old.dialect (is_open session (S.state store.old).begun) (place (standing T.left T.way self.old)) }
         requires disk { disk_failed self.old.fault ≡ false }
         ensures valid { S.valid store.new }
         ensures same { (self.new.dialect ≡ self.old.dialect) × (self.new.stamp ≡ self.old.stamp) }
         ensures reads { T.reads self.new.source self.new.dialect }
-        ensures steps { Steps self.old.dialect T.meaning self.old.stamp session (standing T.left T.knows T.awaits self.old) (standing T.left T.knows T.awaits self.new) (S.state store.old) result (S.state store.new) }
+        ensures steps { Steps self.old.dialect T.meaning self.old.stamp session (standing T.left T.way self.old) (standing T.left T.way self.new) (S.state store.old) result (S.state store.new) }
         ensures lost { Loses self.old.dialect self.old.stamp self.old.hand (S.state store.old) result (S.state store.new) }
         ensures disk { disk_failed self.new.fault ≡ false }
         ensures later { S.faults store.old ≤ S.faults store.new }
@@ -126,7 +127,7 @@ impl<T: Source + Drop> Runner<T> {
         ensures valid { S.valid store.new }
         ensures same { (self.new.dialect ≡ self.old.dialect) × (self.new.stamp ≡ self.old.stamp) }
         ensures reads { T.reads self.new.source self.new.dialect }
-        ensures steps { Steps self.old.dialect T.meaning self.old.stamp session (standing T.left T.knows T.awaits self.old) (standing T.left T.knows T.awaits self.new) (S.state store.old) result (S.state store.new) }
+        ensures steps { Steps self.old.dialect T.meaning self.old.stamp session (standing T.left T.way self.old) (standing T.left T.way self.new) (S.state store.old) result (S.state store.new) }
         ensures lost { Loses self.old.dialect self.old.stamp self.old.hand (S.state store.old) result (S.state store.new) }
         ensures disk { disk_failed self.new.fault ≡ false }
         ensures later { S.faults store.old ≤ S.faults store.new }
@@ -153,7 +154,7 @@ impl<T: Source + Drop> Runner<T> {
         ensures valid { S.valid store.new }
         ensures same { (self.new.dialect ≡ self.old.dialect) × (self.new.stamp ≡ self.old.stamp) }
         ensures reads { T.reads self.new.source self.new.dialect }
-        ensures steps { Steps self.old.dialect T.meaning self.old.stamp session (standing T.left T.knows T.awaits self.old) (standing T.left T.knows T.awaits self.new) (S.state store.old) result (S.state store.new) }
+        ensures steps { Steps self.old.dialect T.meaning self.old.stamp session (standing T.left T.way self.old) (standing T.left T.way self.new) (S.state store.old) result (S.state store.new) }
         ensures lost { Loses self.old.dialect self.old.stamp self.old.hand (S.state store.old) result (S.state store.new) }
         ensures disk { disk_failed self.new.fault ≡ false }
         ensures later { S.faults store.old ≤ S.faults store.new }
@@ -184,7 +185,7 @@ impl<T: Source + Drop> Runner<T> {
         ensures valid { S.valid store.new }
         ensures same { (self.new.dialect ≡ self.old.dialect) × (self.new.stamp ≡ self.old.stamp) }
         ensures reads { T.reads self.new.source self.new.dialect }
-        ensures steps { Steps self.old.dialect T.meaning self.old.stamp session (standing T.left T.knows T.awaits self.old) (standing T.left T.knows T.awaits self.new) (S.state store.old) result (S.state store.new) }
+        ensures steps { StepsShown self.old.dialect T.meaning self.old.stamp session (standing T.left T.way self.old) (standing T.left T.way self.new) (S.state store.old) result (S.state store.new) }
         ensures disk { disk_failed self.new.fault ≡ false }
         ensures later { S.faults store.old ≤ S.faults store.new }
         ensures rose { is_disk_step result ≡ true → Rose (S.faults store.old) (S.faults store.new) }
@@ -274,7 +275,7 @@ impl<T: Source + Drop> Runner<T> {
         ensures valid { S.valid store.new }
         ensures same { (self.new.dialect ≡ self.old.dialect) × (self.new.stamp ≡ self.old.stamp) }
         ensures reads { T.reads self.new.source self.new.dialect }
-        ensures steps { Steps self.old.dialect T.meaning self.old.stamp session (standing T.left T.knows T.awaits self.old) (standing T.left T.knows T.awaits self.new) (S.state store.old) result (S.state store.new) }
+        ensures steps { Steps self.old.dialect T.meaning self.old.stamp session (standing T.left T.way self.old) (standing T.left T.way self.new) (S.state store.old) result (S.state store.new) }
         ensures lost { Loses self.old.dialect self.old.stamp self.old.hand (S.state store.old) result (S.state store.new) }
         ensures disk { disk_failed self.new.fault ≡ false }
         ensures later { S.faults store.old ≤ S.faults store.new }
@@ -301,7 +302,7 @@ impl<T: Source + Drop> Runner<T> {
         ensures valid { S.valid store.new }
         ensures same { (self.new.dialect ≡ self.old.dialect) × (self.new.stamp ≡ self.old.stamp) }
         ensures reads { T.reads self.new.source self.new.dialect }
-        ensures steps { Steps self.old.dialect T.meaning self.old.stamp session (standing T.left T.knows T.awaits self.old) (standing T.left T.knows T.awaits self.new) (S.state store.old) result (S.state store.new) }
+        ensures steps { Steps self.old.dialect T.meaning self.old.stamp session (standing T.left T.way self.old) (standing T.left T.way self.new) (S.state store.old) result (S.state store.new) }
         ensures lost { Loses self.old.dialect self.old.stamp self.old.hand (S.state store.old) result (S.state store.new) }
         ensures disk { disk_failed self.new.fault ≡ false }
         ensures later { S.faults store.old ≤ S.faults store.new }
@@ -338,7 +339,7 @@ impl<T: Source + Drop> Runner<T> {
         ensures valid { S.valid store.new }
         ensures same { (self.new.dialect ≡ self.old.dialect) × (self.new.stamp ≡ self.old.stamp) }
         ensures reads { T.reads self.new.source self.new.dialect }
-        ensures steps { Steps self.old.dialect T.meaning self.old.stamp session (standing T.left T.knows T.awaits self.old) (standing T.left T.knows T.awaits self.new) (S.state store.old) result (S.state store.new) }
+        ensures steps { Steps self.old.dialect T.meaning self.old.stamp session (standing T.left T.way self.old) (standing T.left T.way self.new) (S.state store.old) result (S.state store.new) }
         ensures disk { disk_failed self.new.fault ≡ false }
         ensures later { S.faults store.old ≤ S.faults store.new }
         ensures rose { is_disk_step result ≡ true → Rose (S.faults store.old) (S.faults store.new) }
@@ -372,7 +373,7 @@ impl<T: Source + Drop> Runner<T> {
         ensures valid { S.valid store.new }
         ensures same { (self.new.dialect ≡ self.old.dialect) × (self.new.stamp ≡ self.old.stamp) }
         ensures reads { T.reads self.new.source self.new.dialect }
-        ensures steps { Steps self.old.dialect T.meaning self.old.stamp session (standing T.left T.knows T.awaits self.old) (standing T.left T.knows T.awaits self.new) (S.state store.old) result (S.state store.new) }
+        ensures steps { Steps self.old.dialect T.meaning self.old.stamp session (standing T.left T.way self.old) (standing T.left T.way self.new) (S.state store.old) result (S.state store.new) }
         ensures disk { disk_failed self.new.fault ≡ false }
         ensures later { S.faults store.old ≤ S.faults store.new }
         ensures rose { is_disk_step result ≡ true → Rose (S.faults store.old) (S.faults store.new) }
@@ -419,6 +420,7 @@ impl<T: Source + Drop> Runner<T> {
         ensures same { (self.new.dialect ≡ self.old.dialect) × (self.new.stamp ≡ self.old.stamp) }
         ensures reads { T.reads self.new.source self.new.dialect }
         ensures ends { EndsFor self.old.dialect T.meaning self.old.stamp session self.old.fault self.old.refused (S.state store.old) result (S.state store.new) }
+        ensures source { self.new.source ≡ self.old.source }
         ensures disk { disk_failed self.new.fault ≡ false }
         ensures later { S.faults store.old ≤ S.faults store.new }
         ensures rose { is_disk_step result ≡ true → Rose (S.faults store.old) (S.faults store.new) }
@@ -451,6 +453,7 @@ impl<T: Source + Drop> Runner<T> {
         ensures same { (self.new.dialect ≡ self.old.dialect) × (self.new.stamp ≡ self.old.stamp) }
         ensures reads { T.reads self.new.source self.new.dialect }
         ensures ends { EndsFor self.old.dialect T.meaning self.old.stamp session (Some fault) self.old.refused (S.state store.old) result (S.state store.new) }
+        ensures source { self.new.source ≡ self.old.source }
         ensures disk { disk_failed self.new.fault ≡ false }
         ensures later { S.faults store.old ≤ S.faults store.new }
         ensures rose { is_disk_step result ≡ true → Rose (S.faults store.old) (S.faults store.new) }
@@ -474,6 +477,7 @@ impl<T: Source + Drop> Runner<T> {
         ensures same { (self.new.dialect ≡ self.old.dialect) × (self.new.stamp ≡ self.old.stamp) }
         ensures reads { T.reads self.new.source self.new.dialect }
         ensures closes { ClosesFor self.old.dialect T.meaning self.old.stamp session (last_end self.old.fault self.old.refused) (S.state store.old) result (S.state store.new) }
+        ensures source { self.new.source ≡ self.old.source }
         ensures disk { disk_failed self.new.fault ≡ false }
         ensures later { S.faults store.old ≤ S.faults store.new }
         ensures rose { is_disk_step result ≡ true → Rose (S.faults store.old) (S.faults store.new) }
@@ -509,7 +513,7 @@ fn next<T: Source, S: Store, P: SqlText>(
     requires reads { T.reads source.old dialect }
     requires sql { P.dialect ≡ dialect }
     requires moment { stamp.now.reading ≤ 253402300799999 }
-    ensures enters { Enters dialect T.meaning stamp.now (T.left source.old) (T.knows source.old) (seen session (S.state store.now)) result (T.left source.new) (T.knows source.new) (T.awaits source.new) }
+    ensures enters { Enters dialect T.meaning stamp.now (T.left source.old) (T.way source.old dialect stamp.now) (seen session (S.state store.now)) result (T.left source.new) (T.way source.new dialect stamp.now) }
     ensures reads { T.reads source.new dialect }
 {
     match store.look(session) {
@@ -518,8 +522,7 @@ fn next<T: Source, S: Store, P: SqlText>(
     }
 }
 
-// Before a user's statement the source looks at what that will see. No other session has a transaction
-// open there.
+// Before a user's statement the source looks at what that will see.
 fn show<T: Source, S: Store>(
     source: &mut T,
     call: Coming,
@@ -531,8 +534,7 @@ fn show<T: Source, S: Store>(
     requires live { IsTrue (S.state store.now).live }
     requires reads { T.reads source.old dialect }
     ensures left { T.left source.new ≡ T.left source.old }
-    ensures knows { (rows : List Tracked) → T.knows source.old rows → T.knows source.new rows }
-    ensures awaits { (rows : List Tracked) → T.awaits source.old rows → T.awaits source.new rows }
+    ensures shows { IsShowing session (S.state store.now) → (stamp : Clocked) (told : T.Told) → Shows dialect call (seen session (S.state store.now)) (T.way source.old dialect stamp told) (T.way source.new dialect stamp told) }
     ensures reads { T.reads source.new dialect }
 {
     if is_statement(call) {
@@ -540,21 +542,24 @@ fn show<T: Source, S: Store>(
     }
 }
 
+// No other session has a transaction open there.
 fn look_at<T: Source, S: Store>(source: &mut T, dialect: Dialect, session: u32, store: &S)
     requires valid { S.valid store.now }
     requires live { IsTrue (S.state store.now).live }
     requires reads { T.reads source.old dialect }
     ensures left { T.left source.new ≡ T.left source.old }
-    ensures knows { (rows : List Tracked) → T.knows source.old rows → T.knows source.new rows }
-    ensures awaits { (rows : List Tracked) → T.awaits source.old rows → T.awaits source.new rows }
+    ensures looks { IsShowing session (S.state store.now) → (stamp : Clocked) (told : T.Told) → Looks dialect (seen session (S.state store.now)) (T.way source.old dialect stamp told) (T.way source.new dialect stamp told) }
     ensures reads { T.reads source.new dialect }
 {
-    if let Ok(view) = store.look(session) {
-        source.looks(dialect, view);
+    match store.look(session) {
+        Ok(view) => source.looks(dialect, view),
+        Err(_) => {}
     }
 }
 
-fn is_statement(call: Coming) -> bool {
+fn is_statement(call: Coming) -> bool
+    ensures { result ≡ is_statement call }
+{
     match call {
         Coming::Statement(_) => true,
         Coming::Commit | Coming::Other => false,
@@ -564,7 +569,7 @@ fn is_statement(call: Coming) -> bool {
 // A call of the turn in hand was accepted, perhaps its last.
 fn taken<T: Source>(source: &mut T, hand: &Hand)
     ensures left { T.left source.new ≡ T.left source.old }
-    ensures knows { (d : Dialect) (x : Both) → Expects d (T.knows source.old) (T.awaits source.old) (calls_left hand.now) x → KnownIn d (T.knows source.new) (T.awaits source.new) (calls_left hand.now) x }
+    ensures knows { (d : Dialect) (stamp : Clocked) (told : T.Told) (goes_on : Bool) (p : Counted) (x : Both) → Expects d (T.way source.old d stamp told) goes_on (calls_left hand.now) p x → KnownIn d (T.way source.new d stamp told) goes_on (calls_left hand.now) p x }
     ensures reads { (d : Dialect) → T.reads source.old d → T.reads source.new d }
 {
     if !hand.calls.is_empty() {

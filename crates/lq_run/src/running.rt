@@ -1,5 +1,5 @@
 ghost use Rattle.std.specs.Prelude.{◌≡◌, ◌≤◌, false, true};
-ghost use Rattle.lq_run.specs.Ends.{Runs, RunsOn};
+ghost use Rattle.lq_run.specs.Ends.{Runs, RunsOn, TellsOn};
 ghost use Rattle.lq_outside.specs.Count.{Rose};
 ghost use Rattle.lq_run.specs.Faults.{is_disk_end};
 ghost use Rattle.lq_run.specs.Steps.{is_over, standing};
@@ -13,7 +13,8 @@ use lq_store::Store;
 ///
 /// Where it is done, or a statement was refused, the store stands for what the whole script leaves.
 /// After a fault of the store it stands for what a front of the script leaves; and the lock is free
-/// again where it had no mark.
+/// again where it had no mark. Where there was no fault the source has told what it was on its way to
+/// tell.
 pub fn run_on<T: Source + Drop, S: Store, P: SqlText>(
     runner: &mut Runner<T>,
     session: u32,
@@ -25,9 +26,10 @@ pub fn run_on<T: Source + Drop, S: Store, P: SqlText>(
     requires sql { P.dialect ≡ runner.old.dialect }
     requires moment { runner.old.stamp.reading ≤ 253402300799999 }
     requires begun { is_over runner.old.hand.phase ≡ false }
-    requires runs { Runs runner.old.dialect T.meaning runner.old.stamp session (standing T.left T.knows T.awaits runner.old) (S.state store.old) }
+    requires runs { Runs runner.old.dialect T.meaning runner.old.stamp session (standing T.left T.way runner.old) (S.state store.old) }
     ensures valid { S.valid store.new }
-    ensures ends { RunsOn runner.old.dialect T.meaning runner.old.stamp session (standing T.left T.knows T.awaits runner.old) (S.state store.old) result (S.state store.new) }
+    ensures ends { RunsOn runner.old.dialect T.meaning runner.old.stamp session (standing T.left T.way runner.old) (S.state store.old) result (S.state store.new) }
+    ensures tells { TellsOn runner.old.dialect T.meaning runner.old.stamp session (standing T.left T.way runner.old) (S.state store.old) result (T.way runner.new.source) }
     ensures later { S.faults store.old ≤ S.faults store.new }
     ensures rose { is_disk_end result ≡ true → Rose (S.faults store.old) (S.faults store.new) }
 {

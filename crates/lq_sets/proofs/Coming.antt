@@ -1,12 +1,17 @@
 -- How the next item of a plan comes.
-use Rattle.std.proofs.Common.{ap, sym, subst, refl, ◌≡◌, ◌≤◌, ◌∙◌, ◌+◌, ◌∷◌, ◌++◌, Bool, true, false, not, List, [], None, Ok, Some, Option, drop, reverse, ℕ}
+use Rattle.std.proofs.Common.{ap, sym, subst, refl, ◌≡◌, ◌≤◌, ◌∙◌, ◌+◌, ◌∷◌, ◌++◌, Bool, true, false, not, List, [], None, Ok, Some, Option, drop, map, option_map, reverse, ℕ}
 use Rattle.std.specs.List.{list_all, list_any, slice_get}
 use Rattle.lq_base.specs.declared.dialect.Dialect.{Dialect}
+use Rattle.lq_base.specs.declared.run.Did.{Did}
+use Rattle.lq_base.specs.declared.run.Did.TheVariants as did
 use Rattle.lq_base.specs.declared.run.Why.{Why}
 use Rattle.lq_base.specs.declared.tracking.Tracked.{Tracked}
 use Rattle.lq_expr.specs.declared.options.Options.{Options}
-use Rattle.lq_hand.specs.Enters.{Expects, rest_at}
+use Rattle.lq_hand.proofs.Expected.{HoldsAtEnd, turn_expected}
+use Rattle.lq_hand.specs.Counts.{no_progress}
+use Rattle.lq_hand.specs.Enters.{rest_at}
 use Rattle.lq_hand.specs.Hand.{calls_left, hand_place, place_of}
+use Rattle.lq_hand.specs.Way.{Expects, refusal_at_end, refused_in, seen_along}
 use Rattle.lq_hand.specs.declared.hand.Hand.{Hand}
 use Rattle.lq_kinds.specs.AnyChange.{is_for}
 use Rattle.lq_kinds.specs.AnyChangeLaws.{does, restores, spelled}
@@ -16,31 +21,39 @@ use Rattle.lq_kinds.specs.declared.change_set.ChangeSet.{ChangeSet}
 use Rattle.lq_model.proofs.Lists.{and_left}
 use Rattle.lq_model.specs.Catalogue.{Catalogue}
 use Rattle.lq_plan.specs.declared.turns.Item.{Item}
-use Rattle.lq_sets.proofs.Kept.{IsBy, choice_by, expects, plan_kept, turn_kept}
+use Rattle.lq_sets.proofs.Kept.{IsBy, RowsAre, choice_by, plan_kept, rows_are, turn_kept}
+use Rattle.lq_sets.proofs.Leading.{Adds, finished_leads, leads_on, refused_leads, refused_tells}
 use Rattle.lq_sets.proofs.Planned.{Comes, comes}
 use Rattle.lq_sets.proofs.RowsBack.{all_at}
-use Rattle.lq_sets.specs.SetTurns.{ArePlanned, CameBy, CameTo, IsInHand, goes_past, last_after}
+use Rattle.lq_sets.specs.SetTurns.{ArePlanned, CameBy, CameTo, IsInHand, IsKeptBy, IsOf, YieldsAs, YieldsTo, goes_past, last_after, set_way, sets_left, to_settle}
+use Rattle.lq_sets.proofs.Told.{IsToldBy}
+use Rattle.lq_sets.specs.Telling.{Leads, Tells, happened_as, happens, warned_of}
 use Rattle.lq_sets.specs.View.{any_meaning, view, views}
 use Rattle.lq_sets.specs.declared.in_hand.InHand.{InHand}
+use Rattle.lq_sets.specs.declared.outcome.Halt.{Halt}
 use Rattle.lq_sets.specs.declared.outcome.Outcome.{Outcome}
 use Rattle.lq_sets.specs.declared.set_turns.SetTurns.{SetTurns}
 use Rattle.lq_sets.specs.declared.set_turns.Tried.{Tried}
 use Rattle.lq_sets.specs.declared.set_turns.Tried.TheVariants.{Halted, Lack, Skipped, Turn as Entered}
 use Rattle.lq_track.specs.Database.{Database}
 use Rattle.lq_turns.proofs.Entered.{enters}
+use Rattle.lq_turns.proofs.Updates.{run_is}
 use Rattle.lq_turns.specs.Again.{is_twin}
 use Rattle.lq_turns.specs.Contents.{Contents, contents_of}
-use Rattle.lq_turns.specs.Deed.{rows_after}
+use Rattle.lq_turns.specs.Deed.{filled, rows_after}
+use Rattle.lq_turns.specs.Effects.{not_fresh}
 use Rattle.lq_turns.specs.Held.{StandsFor}
 use Rattle.lq_turns.specs.Rest.{Inside, OfSets, Turns, at_turn, between, rest, turns_after}
 use Rattle.lq_turns.specs.Script.{closing, sets_calls, turn_by}
 use Rattle.lq_turns.specs.Set.{IsKept, Set}
-use Rattle.lq_turns.specs.Settle.{choice_of, greatest, is_halt, what}
-use Rattle.lq_turns.specs.Turn.{turn_calls}
+use Rattle.lq_turns.specs.Settle.{Settled, all_settled, choice_of, did_of, greatest, is_halt, run_ending, run_turn, settled_as, settled_by, unless_stopped, what}
+use Rattle.lq_turns.specs.Turn.{Ending, Finished, Refused, ending, turn_calls}
 use Rattle.lq_turns.specs.declared.call.Call.{Call}
 use Rattle.lq_turns.specs.declared.choice.Choice.{Choice}
 use Rattle.lq_turns.specs.declared.choice.Choice.TheVariants.{Fills, Halts, Marks, Passes, Runs, Skips}
 use Rattle.lq_turns.specs.declared.stamp.Stamp.{Stamp}
+use Rattle.lq_turns.specs.declared.stop.Refusal.{Refusal}
+use Rattle.lq_turns.specs.declared.stop.Stop.TheVariants.{Halted as Stopped_by}
 use Rattle.lq_turns.specs.declared.turn.Turn.{Turn}
 
 kept : IsKept any_meaning
@@ -98,6 +111,7 @@ module _ (d : Dialect) (stamp : Stamp) (seen : Catalogue) (options : Options) (s
 
     module _ (hand : Hand) (in_hand : IsInHand d stamp x last q hand) where
       made : (turn : Turn) × (turn_by d any_meaning stamp (view options x) database.rows q ≡ Some turn) × (calls_left hand ≡ turn_calls d stamp.who turn)
+          × ((c : Contents) → refused_in d (calls_left hand) no_progress c ≡ refusal_at_end (ending d turn c))
       made = in_hand.made options database.rows plan.last_is
 
       place : place_of hand (OfSets behind) ≡ Inside (turn_calls d stamp.who made.0) (not x.fail_on_error) (OfSets behind)
@@ -124,49 +138,201 @@ module _ (d : Dialect) (stamp : Stamp) (seen : Catalogue) (options : Options) (s
             small = subst (λ n. n ≤ 2147483647) place keeps.small;
           }
 
-      expected : Expects d (Left last) (Left (last_after q last)) (calls_left hand) (contents_of database, contents_of database)
-      expected = subst (λ calls. Expects d (Left last) (Left (last_after q last)) calls (contents_of database, contents_of database)) (sym made.2) (expects d stamp.who made.0 (contents_of database) (Left last) (Left (last_after q last)) finished left)
+  -- what its turn settles, and what comes after that, is told
+
+  abbrev set : Set AnyChange
+  set = view options x
+
+  abbrev more : Contents → Settled
+  more c = all_settled d any_meaning stamp.reading behind c
+
+  abbrev settles : Contents → Choice → Settled
+  settles c p = settled_by d any_meaning stamp.reading set c p
+
+  module _ (o now : Outcome) (tells : IsToldBy x.identity q o now) (database : Database) (stands : StandsFor d seen database) (plan : Planned database) (told : Settled)
+      (leads : Leads o (all_settled d any_meaning stamp.reading (views options (drop n sets)) (contents_of database)) told) where
+    abbrev found : Contents
+    found = contents_of database
+
+    leads_here : Leads o (unless_stopped (settles found q) more) told
+    leads_here = subst (λ (s : Settled). Leads o s told)
+        ((next database stands plan).settled d stamp found refl ∙ ap (λ (y : ChangeSet). all_settled d any_meaning stamp.reading (view options y ∷ behind) found) (same_set database stands plan)
+        ∙ ap (λ p. unless_stopped (settles found p) more) (ap (choice_of set found) (has database stands plan) ∙ sym (chosen database stands)))
+        leads
+
+    leads_at : (p : Choice) → q ≡ p → Leads o (unless_stopped (settles found p) more) told
+    leads_at p is = subst (λ p. Leads o (unless_stopped (settles found p) more) told) is leads_here
+
+    tells_at : (p : Choice) → q ≡ p → IsToldBy x.identity p o now
+    tells_at p is = subst (λ p. IsToldBy x.identity p o now) is tells
+
+    leads_passed : q ≡ Passes → Leads now (more found) told
+    leads_passed is = let by = tells_at Passes is in leads_on o now [] [] found 0 (more found) told (record { happened = by.happened; warned = by.warned; halted = by.halted; stopped_at = by.stopped_at }) (leads_at Passes is)
+
+    leads_skipped : q ≡ Skips → Leads now (more found) told
+    leads_skipped is = let by = tells_at Skips is in leads_on o now (happened_as x.identity did.Skipped ∷ []) [] found 0 (more found) told (record { happened = by.happened; warned = by.warned; halted = by.halted; stopped_at = by.stopped_at }) (leads_at Skips is)
+
+    tells_halted : (why : Why) → q ≡ Halts why → Tells now told None
+    tells_halted why is =
+        let by = tells_at (Halts why) is in
+        let stopped = leads_at (Halts why) is in
+        record {
+          happened = by.happened ∙ stopped.happened;
+          warned = by.warned ∙ stopped.warned;
+          stop = sym stopped.stop ∙ sym (ap (λ (h : Option Halt). option_map (λ (z : Halt). Stopped_by z.identity z.why) h) by.halted);
+        }
 
   -- what came of it
 
-  pub came_passed : q ≡ Passes → (database : Database) → StandsFor d seen database → Planned database → (here database ≡ rest_at d any_meaning stamp (between (OfSets behind)) (contents_of database)) × Left last database.rows
-  came_passed is database stands plan = (at_choice database stands plan Passes is, left database stands plan)
+  abbrev Told : Outcome → Outcome → Database → (Settled → Type 0) → Type 0
+  Told o now database holds = (told : Settled) → StandsFor d seen database → Planned database → Leads o (all_settled d any_meaning stamp.reading (views options (drop n sets)) (contents_of database)) told → holds told
 
-  pub came_skipped : q ≡ Skips → (database : Database) → StandsFor d seen database → Planned database → (here database ≡ rest_at d any_meaning stamp (between (OfSets behind)) (contents_of database)) × Left last database.rows
-  came_skipped is database stands plan = (at_choice database stands plan Skips is, left database stands plan)
+  module _ (o now : Outcome) (tells : IsToldBy x.identity q o now) (database : Database) where
+    abbrev Past : Type 0
+    Past = Told o now database (λ told. (here database ≡ rest_at d any_meaning stamp (between (OfSets behind)) (contents_of database)) × Left last database.rows × Leads now (more (contents_of database)) told)
 
-  pub came_halted : (why : Why) → q ≡ Halts why → (database : Database) → StandsFor d seen database → Planned database → here database ≡ closing ∷ []
-  came_halted why is database stands plan = at_choice database stands plan (Halts why) is
+    pub came_past : goes_past q ≡ true → Past
+    came_past past = (elim q as (λ p. q ≡ p → goes_past p ≡ true → Past) [
+      | Passes ↦ λ is yes. λ told stands plan leads. (at_choice database stands plan Passes is, left database stands plan, leads_passed o now tells database stands plan told leads is)
+      | Skips ↦ λ is yes. λ told stands plan leads. (at_choice database stands plan Skips is, left database stands plan, leads_skipped o now tells database stands plan told leads is)
+      | Fills ↦ λ is yes. absurd Prim.cc
+      | Marks what ↦ λ is yes. absurd Prim.cc
+      | Runs what why ↦ λ is yes. absurd Prim.cc
+      | Halts why ↦ λ is yes. absurd Prim.cc
+    ]) refl past
 
-  pub came_turned : (hand : Hand) → IsInHand d stamp x last q hand → (database : Database) → StandsFor d seen database → Planned database
-      → (here database ≡ rest_at d any_meaning stamp (place_of hand (OfSets behind)) (contents_of database)) × Expects d (Left last) (Left (last_after q last)) (calls_left hand) (contents_of database, contents_of database)
-  came_turned hand in_hand database stands plan = (at_hand database stands plan hand in_hand, expected database stands plan hand in_hand)
+    abbrev Halt_told : Type 0
+    Halt_told = Told o now database (λ told. (here database ≡ closing ∷ []) × Tells now told None)
 
-  pub came_past : goes_past q ≡ true → (database : Database) → StandsFor d seen database → Planned database → (here database ≡ rest_at d any_meaning stamp (between (OfSets behind)) (contents_of database)) × Left last database.rows
-  came_past past = (elim q as (λ p. q ≡ p → goes_past p ≡ true → (database : Database) → StandsFor d seen database → Planned database → (here database ≡ rest_at d any_meaning stamp (between (OfSets behind)) (contents_of database)) × Left last database.rows) [
-    | Passes ↦ λ is yes. came_passed is
-    | Skips ↦ λ is yes. came_skipped is
-    | Fills ↦ λ is yes. absurd Prim.cc
-    | Marks what ↦ λ is yes. absurd Prim.cc
-    | Runs what why ↦ λ is yes. absurd Prim.cc
-    | Halts why ↦ λ is yes. absurd Prim.cc
-  ]) refl past
+    pub came_halt : is_halt q ≡ true → Halt_told
+    came_halt halts = (elim q as (λ p. q ≡ p → is_halt p ≡ true → Halt_told) [
+      | Passes ↦ λ is yes. absurd Prim.cc
+      | Skips ↦ λ is yes. absurd Prim.cc
+      | Fills ↦ λ is yes. absurd Prim.cc
+      | Marks what ↦ λ is yes. absurd Prim.cc
+      | Runs what why ↦ λ is yes. absurd Prim.cc
+      | Halts why ↦ λ is yes. λ told stands plan leads. (at_choice database stands plan (Halts why) is, tells_halted o now tells database stands plan told leads why is)
+    ]) refl halts
 
-  pub came_halt : is_halt q ≡ true → (database : Database) → StandsFor d seen database → Planned database → here database ≡ closing ∷ []
-  came_halt halts = (elim q as (λ p. q ≡ p → is_halt p ≡ true → (database : Database) → StandsFor d seen database → Planned database → here database ≡ closing ∷ []) [
-    | Passes ↦ λ is yes. absurd Prim.cc
-    | Skips ↦ λ is yes. absurd Prim.cc
-    | Fills ↦ λ is yes. absurd Prim.cc
-    | Marks what ↦ λ is yes. absurd Prim.cc
-    | Runs what why ↦ λ is yes. absurd Prim.cc
-    | Halts why ↦ λ is yes. came_halted why is
-  ]) refl halts
+-- its turn is in hand
 
--- what came of the item
-pub came_to : (d : Dialect) (stamp : Stamp) (seen : Catalogue) (before : SetTurns) (item : Item) (x : ChangeSet) → list_all (is_read_for d) before.changelog.sets ≡ true → slice_get before.changelog.sets item.index ≡ Some x → (q : Choice)
-    → ((database : Database) → StandsFor d seen database → q ≡ choice_of (view before.options x) (contents_of database) (Some item.what)) → (turn : Option InHand) (outcome : Outcome) (tried : Tried) → CameBy d stamp x before.last q tried
-    → CameTo d stamp seen before (record before { next = item.index + 1; last_after = last_after q before.last; turn = turn; outcome = outcome }) item tried
-came_to d stamp seen before item x read at q chosen turn outcome (Entered hand) came = (came.is, came_turned d stamp seen before.options before.changelog.sets before.next item (reverse before.items) before.last x read at q chosen hand came)
-came_to d stamp seen before item x read at q chosen turn outcome Skipped came = came_past d stamp seen before.options before.changelog.sets before.next item (reverse before.items) before.last x read at q chosen came
-came_to d stamp seen before item x read at q chosen turn outcome Halted came = came_halt d stamp seen before.options before.changelog.sets before.next item (reverse before.items) before.last x read at q chosen came
-came_to d stamp seen before item x read at q chosen turn outcome Lack came = tt
+not_not : (b : Bool) → b ≡ not (not b)
+not_not true = refl
+not_not false = refl
+
+module _ (d : Dialect) (stamp : Stamp) (seen : Catalogue) (before : SetTurns) (item : Item) (x : ChangeSet) (read : list_all (is_read_for d) before.changelog.sets ≡ true) (at : slice_get before.changelog.sets item.index ≡ Some x) (q : Choice)
+    (chosen : (database : Database) → StandsFor d seen database → q ≡ choice_of (view before.options x) (contents_of database) (Some item.what)) (kept_turn : Option InHand) (now : Outcome) (tells : IsToldBy x.identity q before.outcome now) where
+  abbrev after : SetTurns
+  after = record before { next = item.index + 1; last_after = last_after q before.last; turn = kept_turn; outcome = now }
+
+  abbrev set_of : Set AnyChange
+  set_of = view before.options x
+
+  abbrev sets_behind : List (Set AnyChange)
+  sets_behind = sets_left after
+
+  module _ (hand : Hand) (in_hand : IsInHand d stamp x before.last q hand) (held : (t : InHand) × (kept_turn ≡ Some t) × IsOf x q t) (database : Database) (stands : StandsFor d seen database)
+      (plan : ArePlanned before.next (sets_left before) (item ∷ reverse before.items) before.last database.rows) (told : Settled) (leads : Leads before.outcome (to_settle before d stamp told (contents_of database)) told) where
+    abbrev c : Contents
+    c = contents_of database
+
+    abbrev LeftAt : ℕ → List Tracked → Type 0
+    LeftAt place rows = ArePlanned (item.index + 1) sets_behind (reverse before.items) place rows
+
+    abbrev turn_made : (turn : Turn) × (turn_by d any_meaning stamp set_of database.rows q ≡ Some turn) × (calls_left hand ≡ turn_calls d stamp.who turn)
+        × ((c : Contents) → refused_in d (calls_left hand) no_progress c ≡ refusal_at_end (ending d turn c))
+    turn_made = made d stamp seen before.options before.changelog.sets before.next item (reverse before.items) before.last x read at q chosen database stands plan hand in_hand
+
+    abbrev turn : Turn
+    turn = turn_made.0
+
+    stays : LeftAt before.last database.rows
+    stays = left d stamp seen before.options before.changelog.sets before.next item (reverse before.items) before.last x read at q chosen database stands plan
+
+    goes_to : (rows : List Tracked) → rows_after turn.row database.rows ≡ Ok rows → LeftAt (last_after q before.last) rows
+    goes_to = finished d stamp seen before.options before.changelog.sets before.next item (reverse before.items) before.last x read at q chosen database stands plan hand in_hand
+
+    leads_by : (p : Choice) → q ≡ p → Leads before.outcome (unless_stopped (settled_by d any_meaning stamp.reading set_of c p) (all_settled d any_meaning stamp.reading sets_behind)) told
+    leads_by = leads_at d stamp seen before.options before.changelog.sets before.next item (reverse before.items) before.last x read at q chosen before.outcome now tells database stands plan told leads
+
+    abbrev Held : Ending → Type 0
+    Held e = HoldsAtEnd (set_way after d stamp told) hand.goes_on (seen_along d turn.statements c.users) e
+
+    -- a turn that is refused
+    yields : (done : Did) (why : Option Why) (n : ℕ) (e : Contents) (refusal : Refusal) → happens q ≡ true → Adds (happened_as x.identity done ∷ []) (warned_of x.identity why) before.outcome now → e.rows ≡ c.rows
+        → Leads before.outcome (unless_stopped (settled_as set_of done why n (Refused e refusal)) (all_settled d any_meaning stamp.reading sets_behind)) told → YieldsTo after d stamp told hand.goes_on refusal e
+    yields done why n e refusal by adds same leads_so = record {
+      turn = held.0;
+      is = held.1;
+      stops = held.2.stops ∙ not_not x.fail_on_error ∙ ap not (sym in_hand.goes_on);
+      happens_by = ap happens held.2.choice_is ∙ by;
+      front = before.outcome.happened;
+      last = happened_as x.identity done;
+      told_last = adds.happened;
+      then_told = subst (λ on. YieldsAs after d stamp told on held.0.identity before.outcome.happened refusal e) (sym in_hand.goes_on)
+          (subst (λ of. YieldsAs after d stamp told (not x.fail_on_error) of before.outcome.happened refusal e) (sym held.2.identity) (by_stops x.fail_on_error refl));
+    } where
+      by_stops : (stops : Bool) → x.fail_on_error ≡ stops → YieldsAs after d stamp told (not stops) x.identity before.outcome.happened refusal e
+      by_stops true is = refused_tells set_of done why n before.outcome now (all_settled d any_meaning stamp.reading sets_behind) told adds e refusal is leads_so
+      by_stops false is = (subst (LeftAt before.last) (sym same) stays, refused_leads set_of done why n before.outcome now (all_settled d any_meaning stamp.reading sets_behind) told adds e refusal is leads_so)
+
+    by_ending : (done : Did) (why : Option Why) (n : ℕ) (e : Ending) → happens q ≡ true → Adds (happened_as x.identity done ∷ []) (warned_of x.identity why) before.outcome now → RowsAre turn c e
+        → Leads before.outcome (unless_stopped (settled_as set_of done why n e) (all_settled d any_meaning stamp.reading sets_behind)) told → Held e
+    by_ending done why n (Finished e) by adds are leads_so = record {
+      planned = goes_to e.rows are;
+      leads = finished_leads set_of done why n before.outcome now (all_settled d any_meaning stamp.reading sets_behind) told adds e leads_so;
+    }
+    by_ending done why n (Refused e refusal) by adds are leads_so = yields done why n e refusal by adds are leads_so
+
+    told_at : (p : Choice) → q ≡ p → IsToldBy x.identity p before.outcome now
+    told_at p is = subst (λ p. IsToldBy x.identity p before.outcome now) is tells
+
+    read_changes : list_all (is_for d) x.changes ≡ true
+    read_changes = its_changes d stamp seen before.options before.changelog.sets before.next item (reverse before.items) before.last x read at q chosen
+
+    no_turn : {A : Type 0} → (let o : Option Turn = None in o) ≡ Some turn → A
+    no_turn h = Prim.cc
+
+    same_turn : {t : Turn} → (let o : Option Turn = Some t in o) ≡ Some turn → turn ≡ t
+    same_turn h = Prim.cc
+
+    by_choice : (p : Choice) → q ≡ p → turn_by d any_meaning stamp set_of database.rows p ≡ Some turn → Held (ending d turn c)
+    by_choice Passes is none = no_turn none
+    by_choice Skips is none = no_turn none
+    by_choice (Halts why) is none = no_turn none
+    by_choice Fills is some =
+        let by = told_at Fills is in
+        let rows_are_so = rows_are d turn c in
+        let its : ending d turn c ≡ Finished (record c { rows = map (filled set_of.identity set_of.sum) c.rows }) = ap (λ t. ending d t c) (same_turn some) in
+        subst (λ e. Held e) (sym its) (record {
+          planned = goes_to (map (filled set_of.identity set_of.sum) c.rows) (subst (RowsAre turn c) its rows_are_so);
+          leads = leads_on before.outcome now [] [] (record c { rows = map (filled set_of.identity set_of.sum) c.rows }) 0 (to_settle after d stamp told (record c { rows = map (filled set_of.identity set_of.sum) c.rows })) told
+              (record { happened = by.happened; warned = by.warned; halted = by.halted; stopped_at = by.stopped_at }) (leads_by Fills is);
+        })
+    by_choice (Marks what) is some =
+        let by = told_at (Marks what) is in
+        by_ending did.Marked None 0 (ending d turn c) (ap happens is) (record { happened = by.happened; warned = by.warned; halted = by.halted; stopped_at = by.stopped_at }) (rows_are d turn c)
+        (subst (λ t. Leads before.outcome (unless_stopped (settled_as set_of did.Marked None 0 (ending d t c)) (all_settled d any_meaning stamp.reading sets_behind)) told) (sym (same_turn some)) (leads_by (Marks what) is))
+    by_choice (Runs what why) is some =
+        let by = told_at (Runs what why) is in
+        let n = not_fresh d any_meaning x.changes c.users in
+        let run = run_turn d any_meaning stamp.reading what set_of c.rows in
+        let ends : run_ending d any_meaning stamp.reading run set_of c ≡ ending d turn c
+        = run_is d any_meaning kept stamp set_of run c refl read_changes stands.sound ∙ ap (λ t. ending d t c) (sym (same_turn some)) in
+        by_ending (did_of what) why n (ending d turn c) (ap happens is) (record { happened = by.happened; warned = by.warned; halted = by.halted; stopped_at = by.stopped_at }) (rows_are d turn c)
+        (subst (λ e. Leads before.outcome (unless_stopped (settled_as set_of (did_of what) why n e) (all_settled d any_meaning stamp.reading sets_behind)) told) ends (leads_by (Runs what why) is))
+
+    came_turned : (rest_at d any_meaning stamp (between (OfSets (sets_left before))) c ≡ rest_at d any_meaning stamp (place_of hand (OfSets sets_behind)) c) × Expects d (set_way after d stamp told) hand.goes_on (calls_left hand) no_progress (c, c)
+    came_turned = (
+      at_hand d stamp seen before.options before.changelog.sets before.next item (reverse before.items) before.last x read at q chosen database stands plan hand in_hand,
+      turn_expected d stamp.who turn c (set_way after d stamp told) hand.goes_on (calls_left hand) turn_made.2 (turn_made.3 c) (by_choice q refl turn_made.1),
+    )
+
+  -- what came of the item
+  pub came_to : (tried : Tried) → CameBy d stamp x before.last q tried → IsKeptBy x q tried kept_turn → CameTo d stamp seen before after item tried
+  came_to (Entered hand) came held = (came.is, λ database told stands plan leads. came_turned hand came held database stands plan told leads)
+  came_to Skipped came held = λ database told stands plan leads.
+      let past = came_past d stamp seen before.options before.changelog.sets before.next item (reverse before.items) before.last x read at q chosen before.outcome now tells database came told stands plan leads in
+      (past.0, record { planned = past.1; leads = past.2 })
+  came_to Halted came held = λ database told stands plan leads. came_halt d stamp seen before.options before.changelog.sets before.next item (reverse before.items) before.last x read at q chosen before.outcome now tells database came told stands plan leads
+  came_to Lack came held = tt

@@ -9,7 +9,6 @@ use Rattle.lq_base.specs.declared.reason.Reason.{Reason}
 use Rattle.lq_base.specs.declared.reason.Reason.TheVariants.{TooManyRows, TooWide}
 use Rattle.lq_base.specs.declared.run.Why.{Why}
 use Rattle.lq_base.specs.declared.tracking.Tracked.{Tracked}
-use Rattle.lq_hand.specs.Enters.{Expects}
 use Rattle.lq_model.proofs.Lists.{or_left, or_right, true_false}
 use Rattle.lq_model.specs.Catalogue.{Catalogue}
 use Rattle.lq_plan.specs.Work.{item_at, work_from}
@@ -18,18 +17,15 @@ use Rattle.lq_sets.proofs.Placed.{filled_last, inserted_last, renewed_last}
 use Rattle.lq_sets.specs.SetTurns.{ArePlanned, last_after}
 use Rattle.lq_track.specs.Database.{same_identity}
 use Rattle.lq_track.specs.Log.{identity_of}
-use Rattle.lq_turns.proofs.Entered.{accepted_is, is_finished}
 use Rattle.lq_turns.proofs.FirstRuns.{tested_by}
 use Rattle.lq_turns.proofs.RowsFound.{filled_apart, inserted_apart, other_way, renewed_apart}
-use Rattle.lq_turns.proofs.TurnLeft.{turn_goes}
 use Rattle.lq_turns.specs.Again.{is_twin}
 use Rattle.lq_turns.specs.Contents.{Contents}
 use Rattle.lq_turns.specs.Deed.{has_place, others, renewed, rows_after, theirs}
-use Rattle.lq_turns.specs.Goes.{are_accepted, went}
 use Rattle.lq_turns.specs.Script.{turn_by}
 use Rattle.lq_turns.specs.Set.{Meaning, Set, row_at}
 use Rattle.lq_turns.specs.Settle.{choice_of, fill_turn, greatest, is_to_fill, mark_turn, recorded, run_turn, runs_again, what, what_by}
-use Rattle.lq_turns.specs.Turn.{Course, Ending, Finished, Refused, Stuck, Through, contents_in, course, ending, is_marked, kept, refused, row_ending, turn_calls}
+use Rattle.lq_turns.specs.Turn.{Course, Ending, Finished, Refused, Stuck, Through, course, ending, is_marked, kept, refused, row_ending}
 use Rattle.lq_turns.specs.declared.choice.Choice.{Choice}
 use Rattle.lq_turns.specs.declared.choice.Choice.TheVariants.{Fills, Halts, Marks, Passes, Runs, Skips}
 use Rattle.lq_turns.specs.declared.choice.What.{What}
@@ -164,7 +160,7 @@ work_kept x rows now last keeps (y ∷ xs) n apart =
 
 -- the rows after a turn
 
-abbrev RowsAre : Turn → Contents → Ending → Type 0
+abbrev pub RowsAre : Turn → Contents → Ending → Type 0
 RowsAre turn c (Finished e) = rows_after turn.row c.rows ≡ Ok e.rows
 RowsAre turn c (Refused e refusal) = e.rows ≡ c.rows
 
@@ -177,24 +173,8 @@ module _ (d : Dialect) (turn : Turn) (c : Contents) where
   course_are (Through users) = row_are users (rows_after turn.row c.rows) refl
   course_are (Stuck before s reason) = refl
 
-  rows_are : RowsAre turn c (ending d turn c)
+  pub rows_are : RowsAre turn c (ending d turn c)
   rows_are = course_are (course d turn.statements c.users)
-
--- what is expected of a turn's calls is told by its row
-pub expects : (d : Dialect) (who : List ℕ) (turn : Turn) (c : Contents) (knows awaits : List Tracked → Type 0) → ((now : List Tracked) → rows_after turn.row c.rows ≡ Ok now → awaits now) → knows c.rows → Expects d knows awaits (turn_calls d who turn) (c, c)
-expects d who turn c knows awaits finished stays =
-    let left : (went d (turn_calls d who turn) (c, c)).0.rows ≡ (contents_in (ending d turn c)).rows = ap (λ (x : Contents × Contents). x.0.rows) (turn_goes d who turn c) in
-    record {
-      finished = λ all. subst awaits (sym left) (finishes (ending d turn c) (rows_are d turn c) (sym (accepted_is d who turn c) ∙ all));
-      refused = λ some. subst knows (sym left) (takes_back (ending d turn c) (rows_are d turn c) (sym (accepted_is d who turn c) ∙ some));
-    } where
-      finishes : (e : Ending) → RowsAre turn c e → is_finished e ≡ true → awaits (contents_in e).rows
-      finishes (Finished e) are is = finished e.rows are
-      finishes (Refused e refusal) are is = absurd Prim.cc
-
-      takes_back : (e : Ending) → RowsAre turn c e → is_finished e ≡ false → knows (contents_in e).rows
-      takes_back (Finished e) are is = absurd Prim.cc
-      takes_back (Refused e refusal) are is = subst knows (sym are) stays
 
 -- the plan after a turn that finished
 pub plan_kept : {Key : Type 0} (x : Set Key) (rows now : List Tracked) (last : ℕ) → IsKept x rows now last → (n : ℕ) (xs : List (Set Key)) (items : List Item) → list_any (is_twin x) xs ≡ false

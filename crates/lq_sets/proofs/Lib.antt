@@ -5,6 +5,7 @@ mod Indexed
 mod Inverses
 mod Kept
 mod Laid
+mod Leading
 mod Mapped
 mod Placed
 mod Planned
@@ -14,6 +15,8 @@ mod RowsBack
 mod Seen
 mod Spelled
 mod Synced
+mod Told
 mod TurnMade
+mod Turned
 mod Undone
 mod Ways

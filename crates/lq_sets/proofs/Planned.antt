@@ -16,7 +16,7 @@ use Rattle.lq_turns.specs.Again.{are_twins, is_twin}
 use Rattle.lq_turns.specs.Contents.{Contents}
 use Rattle.lq_turns.specs.Script.{calls_of_turn, calls_unless, sets_calls, turn_by}
 use Rattle.lq_turns.specs.Set.{Meaning, Set}
-use Rattle.lq_turns.specs.Settle.{choice_of, settled_by, what}
+use Rattle.lq_turns.specs.Settle.{Settled, all_settled, and_then, choice_of, nothing_done, settled_by, unless_stopped, what}
 use Rattle.lq_turns.specs.declared.call.Call.{Call}
 use Rattle.lq_turns.specs.declared.choice.Choice.{Choice}
 use Rattle.lq_turns.specs.declared.choice.What.{What}
@@ -26,6 +26,13 @@ use Rattle.lq_turns.specs.declared.stamp.Stamp.{Stamp}
 module _ {Key : Type 0} (d : Dialect) (m : Meaning Key) (stamp : Stamp) (x : Set Key) (xs : List (Set Key)) (c : Contents) where
   abbrev calls_by : Choice → List Call
   calls_by q = calls_of_turn d m stamp (turn_by d m stamp x c.rows q) c ++ calls_unless (settled_by d m stamp.reading x c q).stop (sets_calls d m stamp xs (settled_by d m stamp.reading x c q).contents)
+
+  nothing_first : (s : Settled) → and_then (nothing_done c) s ≡ s
+  nothing_first s = let e : 0 + s.not_fresh ≡ s.not_fresh = omega arith in ap (λ (n : ℕ). record s { not_fresh = n }) e
+
+  -- and settles nothing
+  pub passes_settled : (rows : List Tracked) → c.rows ≡ rows → what x rows ≡ None → all_settled d m stamp.reading (x ∷ xs) c ≡ all_settled d m stamp.reading xs c
+  passes_settled rows same none = ap (λ w. unless_stopped (settled_by d m stamp.reading x c (choice_of x c w)) (all_settled d m stamp.reading xs)) (ap (what x) same ∙ none) ∙ nothing_first (all_settled d m stamp.reading xs c)
 
   pub passes : (rows : List Tracked) → c.rows ≡ rows → what x rows ≡ None → sets_calls d m stamp (x ∷ xs) c ≡ sets_calls d m stamp xs c
   passes rows same none = ap (λ w. calls_by (choice_of x c w)) (ap (what x) same ∙ none)
@@ -40,6 +47,7 @@ pub record IsNext (options : Options) (rows : List Tracked) (ys : List ChangeSet
   pub more : work_from (suc (n + k)) (views options (drop (suc k) ys)) rows ≡ items
   pub apart : are_twins (views options ys) ≡ false → are_twins (view options x ∷ views options (drop (suc k) ys)) ≡ false
   pub calls : (d : Dialect) (stamp : Stamp) (c : Contents) → c.rows ≡ rows → sets_calls d any_meaning stamp (views options ys) c ≡ sets_calls d any_meaning stamp (view options x ∷ views options (drop (suc k) ys)) c
+  pub settled : (d : Dialect) (stamp : Stamp) (c : Contents) → c.rows ≡ rows → all_settled d any_meaning stamp.reading (views options ys) c ≡ all_settled d any_meaning stamp.reading (view options x ∷ views options (drop (suc k) ys)) c
 
 module _ (options : Options) (rows : List Tracked) where
   later : (y : ChangeSet) (ys : List ChangeSet) (n : ℕ) (item : Item) (items : List Item) → what (view options y) rows ≡ None → IsNext options rows ys (suc n) item items → IsNext options rows (y ∷ ys) n item items
@@ -54,6 +62,7 @@ module _ (options : Options) (rows : List Tracked) where
         more = ap (λ i. work_from (suc i) (views options (drop (suc next.k) ys)) rows) (sym on) ∙ next.more;
         apart = λ apart. next.apart (or_right (list_any (is_twin (view options y)) (views options ys)) _ apart);
         calls = λ d stamp c same. passes d any_meaning stamp (view options y) (views options ys) c rows same none ∙ next.calls d stamp c same;
+        settled = λ d stamp c same. passes_settled d any_meaning stamp (view options y) (views options ys) c rows same none ∙ next.settled d stamp c same;
       }
 
   here : (y : ChangeSet) (ys : List ChangeSet) (n : ℕ) (item : Item) (items : List Item) (w : What) → what (view options y) rows ≡ Some w → (let one : Item = record { index = n; what = w } in one) ∷ work_from (suc n) (views options ys) rows ≡ item ∷ items
@@ -71,6 +80,7 @@ module _ (options : Options) (rows : List Tracked) where
         more = ap (λ i. work_from (suc i) (views options ys) rows) (sym none) ∙ rest;
         apart = λ apart. apart;
         calls = λ d stamp c same. refl;
+        settled = λ d stamp c same. refl;
       }
 
   no_item : {A : Type 0} {item : Item} {items : List Item} → (let none : List Item = [] in none) ≡ item ∷ items → A
@@ -93,6 +103,15 @@ module _ (options : Options) (rows : List Tracked) where
         | Some w ↦ λ at q. no_item (sym q)
       ]) refl is
 
+  -- and nothing is settled
+  pub none_settled : (d : Dialect) (stamp : Stamp) (c : Contents) → c.rows ≡ rows → (ys : List ChangeSet) (n : ℕ) → work_from n (views options ys) rows ≡ [] → all_settled d any_meaning stamp.reading (views options ys) c ≡ nothing_done c
+  none_settled d stamp c same [] n is = refl
+  none_settled d stamp c same (y ∷ ys) n is =
+      (elim (what (view options y) rows) as (λ w. what (view options y) rows ≡ w → item_at n w ++ work_from (suc n) (views options ys) rows ≡ [] → all_settled d any_meaning stamp.reading (views options (y ∷ ys)) c ≡ nothing_done c) [
+        | None ↦ λ at q. passes_settled d any_meaning stamp (view options y) (views options ys) c rows same at ∙ none_settled d stamp c same ys (suc n) q
+        | Some w ↦ λ at q. no_item (sym q)
+      ]) refl is
+
 pub get_after : {A : Type 0} (n k : ℕ) (xs : List A) → slice_get (drop n xs) k ≡ slice_get xs (n + k)
 get_after zero k xs = let on : k ≡ zero + k = omega arith in ap (slice_get xs) on
 get_after (suc n) k [] = refl
@@ -107,6 +126,8 @@ pub record Comes (options : Options) (sets : List ChangeSet) (n : ℕ) (item : I
   pub planned : ArePlanned (item.index + 1) (views options (drop (item.index + 1) sets)) items last rows
   pub calls : (d : Dialect) (stamp : Stamp) (c : Contents) → c.rows ≡ rows
       → sets_calls d any_meaning stamp (views options (drop n sets)) c ≡ sets_calls d any_meaning stamp (view options x ∷ views options (drop (item.index + 1) sets)) c
+  pub settled : (d : Dialect) (stamp : Stamp) (c : Contents) → c.rows ≡ rows
+      → all_settled d any_meaning stamp.reading (views options (drop n sets)) c ≡ all_settled d any_meaning stamp.reading (view options x ∷ views options (drop (item.index + 1) sets)) c
 
 pub comes : (options : Options) (sets : List ChangeSet) (n : ℕ) (item : Item) (items : List Item) (last : ℕ) (rows : List Tracked) → ArePlanned n (views options (drop n sets)) (item ∷ items) last rows → Comes options sets n item items last rows
 comes options sets n item items last rows plan =
@@ -127,4 +148,5 @@ comes options sets n item items last rows plan =
         small = plan.small;
       };
       calls = λ d stamp c same. next.calls d stamp c same ∙ ap (λ ys. sets_calls d any_meaning stamp (view options next.x ∷ views options ys) c) after;
+      settled = λ d stamp c same. next.settled d stamp c same ∙ ap (λ ys. all_settled d any_meaning stamp.reading (view options next.x ∷ views options ys) c) after;
     }

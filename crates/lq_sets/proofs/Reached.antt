@@ -1,18 +1,19 @@
 -- What the turns that were skipped left, up to the one that is entered.
-use Rattle.std.proofs.Common.{ap, sym, subst, refl, ◌≡◌, ◌∙◌, ◌∷◌, ◌++◌, ◌<◌, Bool, List, [], length, nat_lt, reverse, true, drop}
+use Rattle.std.proofs.Common.{ap, sym, subst, refl, ◌≡◌, ◌∙◌, ◌∷◌, ◌++◌, ◌<◌, Bool, List, [], length, nat_lt, reverse, true, drop, None}
 use Rattle.std.proofs.lemmas.Bool.{ltb-true}
 use Rattle.std.proofs.lemmas.List.{reverse-append}
 use Rattle.std.specs.List.{list_all}
 use Rattle.lq_base.specs.declared.dialect.Dialect.{Dialect}
-use Rattle.lq_hand.specs.Enters.{Enters, Expects, IsTurn, rest_at}
-use Rattle.lq_hand.specs.Hand.{calls_left, place_of}
+use Rattle.lq_hand.specs.Enters.{Enters, rest_at}
 use Rattle.lq_hand.specs.declared.hand.Hand.{Hand}
 use Rattle.lq_hand.specs.declared.source.Entered.TheVariants as entered
 use Rattle.lq_model.proofs.Lists.{all-append_left, all-append_right, and_left}
 use Rattle.lq_model.specs.Catalogue.{Catalogue}
 use Rattle.lq_plan.specs.declared.turns.Item.{Item}
-use Rattle.lq_sets.proofs.Planned.{none_left}
-use Rattle.lq_sets.specs.SetTurns.{ArePlanned, Awaits, CameTo, IsReadFor, Knows, sets_left}
+use Rattle.lq_sets.proofs.Leading.{leads_end}
+use Rattle.lq_sets.proofs.Planned.{none_left, none_settled}
+use Rattle.lq_sets.specs.SetTurns.{ArePlanned, CameTo, IsReadFor, Knows, set_way, sets_left}
+use Rattle.lq_sets.specs.Telling.{Leads, Tells}
 use Rattle.lq_sets.specs.View.{any_meaning}
 use Rattle.lq_sets.specs.declared.set_turns.SetTurns.{SetTurns}
 use Rattle.lq_sets.specs.declared.set_turns.Tried.TheVariants.{Halted, Skipped, Turn as Tried}
@@ -21,6 +22,7 @@ use Rattle.lq_turns.specs.Contents.{contents_of}
 use Rattle.lq_turns.specs.Held.{StandsFor}
 use Rattle.lq_turns.specs.Rest.{OfSets, between}
 use Rattle.lq_turns.specs.Script.{closing}
+use Rattle.lq_turns.specs.Settle.{Settled}
 use Rattle.lq_turns.specs.declared.call.Call.{Call}
 use Rattle.lq_turns.specs.declared.stamp.Stamp.{Stamp}
 
@@ -28,46 +30,54 @@ module _ (d : Dialect) (stamp : Stamp) (seen : Catalogue) where
   abbrev pub to_come : SetTurns → Database → List Call
   to_come s database = rest_at d any_meaning stamp (between (OfSets (sets_left s))) (contents_of database)
 
-  -- the same calls are to come as in the beginning, and the rows are known still
+  abbrev pub KnowsIt : SetTurns → Database → Settled → Type 0
+  KnowsIt s database told = Knows s d stamp told (contents_of database)
+
+  -- the same calls are to come as in the beginning, and the contents are known still
   pub record Reached (first now : SetTurns) : Type 0 where
-    pub goes : (database : Database) → StandsFor d seen database → Knows first database.rows → (to_come first database ≡ to_come now database) × Knows now database.rows
+    pub goes : (database : Database) → StandsFor d seen database → (told : Settled) → KnowsIt first database told → (to_come first database ≡ to_come now database) × KnowsIt now database told
 
   pub begins : (s : SetTurns) → Reached s s
-  begins s = record { goes = λ database stands knows. (refl, knows) }
+  begins s = record { goes = λ database stands told knows. (refl, knows) }
 
   module _ (first now : SetTurns) (reached : Reached first now) where
     -- the next item is popped
-    popped : (item : Item) (rest : List Item) → now.items ≡ rest ++ item ∷ [] → (database : Database) → Knows now database.rows → ArePlanned now.next (sets_left now) (item ∷ reverse rest) now.last database.rows
-    popped item rest is database knows = subst (λ items. ArePlanned now.next (sets_left now) items now.last database.rows) (ap reverse is ∙ reverse-append rest (item ∷ [])) knows
+    popped : (item : Item) (rest : List Item) → now.items ≡ rest ++ item ∷ [] → (database : Database) → ArePlanned now.next (sets_left now) (reverse now.items) now.last database.rows → ArePlanned now.next (sets_left now) (item ∷ reverse rest) now.last database.rows
+    popped item rest is database planned = subst (λ items. ArePlanned now.next (sets_left now) items now.last database.rows) (ap reverse is ∙ reverse-append rest (item ∷ [])) planned
 
     module _ (item : Item) (rest : List Item) (is : now.items ≡ rest ++ item ∷ []) (after : SetTurns) where
       pub goes_on : CameTo d stamp seen (record now { items = rest }) after item Skipped → Reached first after
       goes_on came = record {
-        goes = λ database stands knows.
-            let so_far = reached.goes database stands knows in
-            let next = came database stands (popped item rest is database so_far.1) in
+        goes = λ database stands told knows.
+            let so_far = reached.goes database stands told knows in
+            let next = came database told stands (popped item rest is database so_far.1.planned) so_far.1.leads in
             (so_far.0 ∙ next.0, next.1);
       }
 
-      pub enters_one : (hand : Hand) → CameTo d stamp seen (record now { items = rest }) after item (Tried hand) → Enters d any_meaning stamp (OfSets (sets_left first)) (Knows first) seen (entered.Turn hand) (OfSets (sets_left after)) (Knows after) (Awaits after)
+      pub enters_one : (hand : Hand) → CameTo d stamp seen (record now { items = rest }) after item (Tried hand) → Enters d any_meaning stamp (OfSets (sets_left first)) (set_way first d stamp) seen (entered.Turn hand) (OfSets (sets_left after)) (set_way after d stamp)
       enters_one hand came = (
         came.0,
-        λ database stands knows.
-            let so_far = reached.goes database stands knows in
-            let next = came.1 database stands (popped item rest is database so_far.1) in
+        λ database stands told knows.
+            let so_far = reached.goes database stands told knows in
+            let next = came.1 database told stands (popped item rest is database so_far.1.planned) so_far.1.leads in
             (so_far.0 ∙ next.0, next.1),
       )
 
-      pub halts : CameTo d stamp seen (record now { items = rest }) after item Halted → (database : Database) → StandsFor d seen database → Knows first database.rows → to_come first database ≡ closing ∷ []
-      halts came database stands knows =
-          let so_far = reached.goes database stands knows in
-          so_far.0 ∙ came database stands (popped item rest is database so_far.1)
+      pub halts : CameTo d stamp seen (record now { items = rest }) after item Halted → (database : Database) → StandsFor d seen database → (told : Settled) → KnowsIt first database told → (to_come first database ≡ closing ∷ []) × Tells after.outcome told None
+      halts came database stands told knows =
+          let so_far = reached.goes database stands told knows in
+          let next = came database told stands (popped item rest is database so_far.1.planned) so_far.1.leads in
+          (so_far.0 ∙ next.0, next.1)
 
     -- no item is left
-    pub ends : now.items ≡ [] → (database : Database) → StandsFor d seen database → Knows first database.rows → to_come first database ≡ closing ∷ []
-    ends none database stands knows =
-        let so_far = reached.goes database stands knows in
-        so_far.0 ∙ ap (λ (calls : List Call). calls ++ closing ∷ []) (none_left now.options database.rows d stamp (contents_of database) refl (drop now.next now.changelog.sets) now.next (so_far.1.work ∙ ap reverse none))
+    pub ends : now.items ≡ [] → (database : Database) → StandsFor d seen database → (told : Settled) → KnowsIt first database told → (to_come first database ≡ closing ∷ []) × Tells now.outcome told None
+    ends none database stands told knows =
+        let so_far = reached.goes database stands told knows in
+        let work = so_far.1.planned.work ∙ ap reverse none in
+        let c = contents_of database in (
+          so_far.0 ∙ ap (λ (calls : List Call). calls ++ closing ∷ []) (none_left now.options database.rows d stamp c refl (drop now.next now.changelog.sets) now.next work),
+          leads_end now.outcome c told (subst (λ s. Leads now.outcome s told) (none_settled now.options database.rows d stamp c refl (drop now.next now.changelog.sets) now.next work) so_far.1.leads),
+        )
 
 -- the item that is popped is a place of the changelog
 

@@ -7,5 +7,6 @@ pub mod Selection
 pub mod SetTurns
 pub mod SyncTurn
 pub mod Syncing
+pub mod Telling
 pub mod Turns
 pub mod View

@@ -1,11 +1,15 @@
 -- The turns of an update as they are planned on the rows, and how the next of them comes.
 use Rattle.std.specs.List.{list_all}
-use Rattle.std.specs.Prelude.{Bool, List, Some, [], drop, false, length, nat_lt, not, reverse, true, ℕ, ◌+◌, ◌∷◌, ◌≡◌, ◌≤◌}
+use Rattle.std.specs.Prelude.{Bool, List, None, Option, Some, [], drop, false, length, nat_lt, not, reverse, true, ℕ, ◌+◌, ◌++◌, ◌∷◌, ◌≡◌, ◌≤◌}
 use Rattle.lq_base.specs.declared.dialect.Dialect.{Dialect}
+use Rattle.lq_base.specs.declared.identity.Identity.{Identity}
+use Rattle.lq_base.specs.declared.run.Happened.{Happened}
 use Rattle.lq_base.specs.declared.tracking.Tracked.{Tracked}
 use Rattle.lq_expr.specs.declared.options.Options.{Options}
-use Rattle.lq_hand.specs.Enters.{Expects, IsTurn, rest_at}
+use Rattle.lq_hand.specs.Counts.{no_progress}
+use Rattle.lq_hand.specs.Enters.{IsTurn, rest_at}
 use Rattle.lq_hand.specs.Hand.{calls_left, place_of}
+use Rattle.lq_hand.specs.Way.{Expects, Way, refusal_at_end, refused_in}
 use Rattle.lq_hand.specs.declared.hand.Hand.{Hand}
 use Rattle.lq_kinds.specs.Dialects.{AreFor}
 use Rattle.lq_kinds.specs.declared.any_change.AnyChange.{AnyChange}
@@ -13,7 +17,9 @@ use Rattle.lq_kinds.specs.declared.change_set.ChangeSet.{ChangeSet}
 use Rattle.lq_model.specs.Catalogue.{Catalogue}
 use Rattle.lq_plan.specs.Work.{work_from}
 use Rattle.lq_plan.specs.declared.turns.Item.{Item}
+use Rattle.lq_sets.specs.Telling.{Leads, Tells, happened_instead, happens}
 use Rattle.lq_sets.specs.View.{any_meaning, view, views}
+use Rattle.lq_sets.specs.declared.in_hand.InHand.{InHand}
 use Rattle.lq_sets.specs.declared.set_turns.SetTurns.{SetTurns}
 use Rattle.lq_sets.specs.declared.set_turns.Tried.{Tried}
 use Rattle.lq_sets.specs.declared.set_turns.Tried.TheVariants.{Halted, Lack, Skipped, Turn as Entered}
@@ -24,11 +30,12 @@ use Rattle.lq_turns.specs.Held.{StandsFor}
 use Rattle.lq_turns.specs.Rest.{OfSets, between}
 use Rattle.lq_turns.specs.Script.{closing, turn_by}
 use Rattle.lq_turns.specs.Set.{Set}
-use Rattle.lq_turns.specs.Settle.{greatest, is_halt}
-use Rattle.lq_turns.specs.Turn.{turn_calls}
+use Rattle.lq_turns.specs.Settle.{Settled, all_settled, greatest, is_halt}
+use Rattle.lq_turns.specs.Turn.{ending, turn_calls}
 use Rattle.lq_turns.specs.declared.choice.Choice.{Choice}
 use Rattle.lq_turns.specs.declared.choice.Choice.TheVariants.{Fills, Halts, Marks, Passes, Runs, Skips}
 use Rattle.lq_turns.specs.declared.stamp.Stamp.{Stamp}
+use Rattle.lq_turns.specs.declared.stop.Refusal.{Refusal}
 use Rattle.lq_turns.specs.declared.turn.Turn.{Turn}
 
 -- the changesets whose turns are still to come
@@ -42,13 +49,42 @@ pub record ArePlanned (n : ℕ) (xs : List (Set AnyChange)) (items : List Item) 
   pub last_is : greatest rows ≡ last
   pub small : last ≤ 2147483647
 
--- so are those to come, between two turns
-abbrev pub Knows : SetTurns → List Tracked → Type 0
-Knows s rows = ArePlanned s.next (sets_left s) (reverse s.items) s.last rows
+module _ (s : SetTurns) (d : Dialect) (stamp : Stamp) (told : Settled) where
+  -- what the changesets to come settle on these contents
+  abbrev pub to_settle : Contents → Settled
+  to_settle c = all_settled d any_meaning stamp.reading (sets_left s) c
 
--- and once the turn in hand has finished
-abbrev pub Awaits : SetTurns → List Tracked → Type 0
-Awaits s rows = ArePlanned s.next (sets_left s) (reverse s.items) s.last_after rows
+  -- They are planned on these contents, of which the last row stands there. What was told, and what they settle, is to be told.
+  pub record KnowsAt (last : ℕ) (c : Contents) : Type 0 where
+    pub planned : ArePlanned s.next (sets_left s) (reverse s.items) last c.rows
+    pub leads : Leads s.outcome (to_settle c) told
+
+  -- where the turn in hand is refused, its changeset is told as skipped, or as the one that stopped the command
+  abbrev pub YieldsAs : Bool → Identity → List Happened → Refusal → Contents → Type 0
+  YieldsAs true of front refusal c = ArePlanned s.next (sets_left s) (reverse s.items) s.last c.rows × Leads (record (s.outcome) { happened = front ++ happened_instead of false }) (to_settle c) told
+  YieldsAs false of front refusal c = Tells (record (s.outcome) { happened = front; stopped_at = Some of }) told (Some refusal)
+
+  pub record YieldsTo (goes_on : Bool) (refusal : Refusal) (c : Contents) : Type 0 where
+    pub turn : InHand
+    pub is : s.turn ≡ Some turn
+    pub stops : turn.stops ≡ not goes_on
+    pub happens_by : happens turn.choice ≡ true
+    -- what was told of it
+    pub front : List Happened
+    pub last : Happened
+    pub told_last : s.outcome.happened ≡ front ++ last ∷ []
+    pub then_told : YieldsAs goes_on turn.identity front refusal c
+
+  abbrev pub Knows : Contents → Type 0
+  Knows c = KnowsAt s.last c
+
+  -- once the turn in hand has finished
+  abbrev pub Awaits : Contents → Type 0
+  Awaits c = KnowsAt s.last_after c
+
+-- What the turns of an update hold. It does not speak of what its statements see.
+abbrev pub set_way : SetTurns → Dialect → Stamp → Settled → Way
+set_way s d stamp told = record { knows = Knows s d stamp told; awaits = λ sees c. Awaits s d stamp told c; yields = YieldsTo s d stamp told; tells = Tells s.outcome told }
 
 -- its changelog was read for the dialect, its items are places of the changelog, and the last row has a place of 31 bits
 pub record IsReadFor (s : SetTurns) (d : Dialect) : Type 0 where
@@ -79,6 +115,7 @@ last_after (Halts why) last = last
 pub record IsInHand (d : Dialect) (stamp : Stamp) (x : ChangeSet) (last : ℕ) (choice : Choice) (hand : Hand) : Type 0 where
   pub made : (options : Options) (rows : List Tracked) → greatest rows ≡ last
       → (turn : Turn) × (turn_by d any_meaning stamp (view options x) rows choice ≡ Some turn) × (calls_left hand ≡ turn_calls d stamp.who turn)
+      × ((c : Contents) → refused_in d (calls_left hand) no_progress c ≡ refusal_at_end (ending d turn c))
   pub goes_on : hand.goes_on ≡ not x.fail_on_error
   pub is : IsTurn d hand
 
@@ -98,14 +135,28 @@ CameBy d stamp x last choice Skipped = goes_past choice ≡ true
 CameBy d stamp x last choice Halted = is_halt choice ≡ true
 CameBy d stamp x last choice Lack = Unit {0}
 
+-- the turn that is kept in hand is the changeset's
+pub record IsOf (x : ChangeSet) (choice : Choice) (turn : InHand) : Type 0 where
+  pub identity : turn.identity ≡ x.identity
+  pub choice_is : turn.choice ≡ choice
+  pub stops : turn.stops ≡ x.fail_on_error
+
+abbrev pub IsKeptBy : ChangeSet → Choice → Tried → Option InHand → Type 0
+IsKeptBy x choice (Entered hand) kept = (turn : InHand) × (kept ≡ Some turn) × IsOf x choice turn
+IsKeptBy x choice Skipped kept = Unit {0}
+IsKeptBy x choice Halted kept = Unit {0}
+IsKeptBy x choice Lack kept = Unit {0}
+
 module _ (d : Dialect) (stamp : Stamp) (seen : Catalogue) (before after : SetTurns) (item : Item) where
   -- for each database that is seen, where the item is the next
-  abbrev pub Where : (Contents → Type 0) → Type 0
-  Where holds = (database : Database) → StandsFor d seen database → ArePlanned before.next (sets_left before) (item ∷ reverse before.items) before.last database.rows → holds (contents_of database)
+  abbrev pub Where : (Contents → Settled → Type 0) → Type 0
+  Where holds = (database : Database) (told : Settled) → StandsFor d seen database → ArePlanned before.next (sets_left before) (item ∷ reverse before.items) before.last database.rows
+      → Leads before.outcome (to_settle before d stamp told (contents_of database)) told → holds (contents_of database) told
 
   -- The turn of its changeset is entered, or it has none and the next may come; the calls to come stay the same. Or it halts the command.
   abbrev pub CameTo : Tried → Type 0
-  CameTo (Entered hand) = IsTurn d hand × Where (λ c. (rest_at d any_meaning stamp (between (OfSets (sets_left before))) c ≡ rest_at d any_meaning stamp (place_of hand (OfSets (sets_left after))) c) × Expects d (Knows after) (Awaits after) (calls_left hand) (c, c))
-  CameTo Skipped = Where (λ c. (rest_at d any_meaning stamp (between (OfSets (sets_left before))) c ≡ rest_at d any_meaning stamp (between (OfSets (sets_left after))) c) × Knows after c.rows)
-  CameTo Halted = Where (λ c. rest_at d any_meaning stamp (between (OfSets (sets_left before))) c ≡ closing ∷ [])
+  CameTo (Entered hand) = IsTurn d hand × Where (λ c told. (rest_at d any_meaning stamp (between (OfSets (sets_left before))) c ≡ rest_at d any_meaning stamp (place_of hand (OfSets (sets_left after))) c)
+      × Expects d (set_way after d stamp told) hand.goes_on (calls_left hand) no_progress (c, c))
+  CameTo Skipped = Where (λ c told. (rest_at d any_meaning stamp (between (OfSets (sets_left before))) c ≡ rest_at d any_meaning stamp (between (OfSets (sets_left after))) c) × Knows after d stamp told c)
+  CameTo Halted = Where (λ c told. (rest_at d any_meaning stamp (between (OfSets (sets_left before))) c ≡ closing ∷ []) × Tells after.outcome told None)
   CameTo Lack = Unit {0}

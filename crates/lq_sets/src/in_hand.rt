@@ -1,6 +1,7 @@
 ghost use Rattle.std.specs.List.{list_all};
-ghost use Rattle.std.specs.Prelude.{◌≡◌, true};
+ghost use Rattle.std.specs.Prelude.{◌≡◌, IfOk, true};
 ghost use Rattle.lq_kinds.specs.AnyChange.{is_for};
+ghost use Rattle.lq_sets.specs.SetTurns.{IsOf};
 
 use crate::beginnings::beginnings;
 use lq_base::{Dialect, Duplicate, Identity, Items, NoMemory};
@@ -33,6 +34,7 @@ impl InHand {
         choice: Choice,
     ) -> Result<InHand, NoMemory>
         requires read { list_all (is_for dialect) set.now.changes ≡ true }
+        ensures { IfOk result (λ turn. IsOf set.now choice turn) }
     {
         let identity = set.identity.duplicate(alloc)?;
         let beginnings = beginnings_of(alloc, dialect, set, choice)?;
@@ -48,6 +50,7 @@ impl InHand {
     /// A statement of the changes comes next, and this is what it will see.
     pub fn looks<K: Look>(&mut self, dialect: Dialect, changes: &[AnyChange], look: &K)
         requires read { list_all (is_for dialect) changes.now ≡ true }
+        ensures { (self.new.identity ≡ self.old.identity) × (self.new.choice ≡ self.old.choice) × (self.new.stops ≡ self.old.stops) }
     {
         let Some(Some(place)) = self.beginnings.pop() else {
             return;

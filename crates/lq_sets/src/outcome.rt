@@ -1,3 +1,5 @@
+ghost use Rattle.std.specs.Prelude.{◌≡◌, [], None};
+
 use lq_base::{Happened, Identity, Items, Printed, Why};
 use std::alloc::Global;
 
@@ -27,7 +29,10 @@ pub struct Halt {
 
 impl Outcome {
     /// That of a command that has done nothing.
-    pub fn new(alloc: Global) -> Outcome {
+    pub fn new(alloc: Global) -> Outcome
+        ensures done { (result.happened ≡ []) × (result.warned ≡ []) × (result.not_fresh ≡ 0) }
+        ensures unstopped { (result.halted ≡ None) × (result.stopped_at ≡ None) }
+    {
         Outcome {
             happened: Items::new(alloc),
             not_fresh: 0,

@@ -1,13 +1,14 @@
 ghost use Rattle.std.specs.List.{list_all};
 ghost use Rattle.std.specs.Prelude.{◌≡◌, ◌++◌, ◌∷◌, [], IfOk, List, OnOk, Some, if◌then◌else◌, map, reverse, true};
-ghost use Rattle.lq_base.specs.declared.run.Happened.{Happened as Told};
+ghost use Rattle.lq_base.specs.declared.run.Happened.{Happened as Event};
 ghost use Rattle.lq_expr.specs.declared.options.Options.{Options};
 ghost use Rattle.lq_kinds.specs.Dialects.{AreFor};
 ghost use Rattle.lq_model.specs.Statement.{is_statement};
 ghost use Rattle.lq_model.specs.StatementText.{text_of};
-ghost use Rattle.lq_turns.specs.Rollback.{undo_turns};
+ghost use Rattle.lq_turns.specs.Contents.{Contents};
+ghost use Rattle.lq_turns.specs.Rollback.{all_rolled, undo_turns};
 ghost use Rattle.lq_sets.specs.Reversal.{AreWays};
-ghost use Rattle.lq_sets.specs.RowTurns.{goes_back, printed, rolled_back};
+ghost use Rattle.lq_sets.specs.RowTurns.{LeadsBack, goes_back, printed, rolled_back};
 ghost use Rattle.lq_sets.specs.View.{any_meaning, views};
 
 use crate::outcome::Outcome;
@@ -46,12 +47,14 @@ impl RowTurns {
         requires ways { AreWays changelog.now.sets rows.now ways.now }
         ensures turns { IfOk result (λ source. (options : Options) → undo_turns dialect any_meaning (views options changelog.now.sets) (reverse rows.now) ≡ Some (reverse source.turns)) }
         ensures reads { IfOk result (λ source. list_all (goes_back dialect) (reverse source.turns) ≡ true) }
+        ensures knows { IfOk result (λ source. (c : Contents) → LeadsBack source dialect (all_rolled dialect (reverse source.turns) c) c) }
     {
         let turns = undo_turns(alloc, dialect, changelog, rows, ways)?;
+        let outcome = Outcome::new(alloc);
         Ok(RowTurns {
             turns,
             prints,
-            outcome: Outcome::new(alloc),
+            outcome,
         })
     }
 }
@@ -60,9 +63,10 @@ impl Source for RowTurns {
     ghost use Rattle.std.specs.List.{list_all};
     ghost use Rattle.std.specs.Prelude.{◌≡◌, reverse, true};
     ghost use Rattle.lq_kinds.specs.declared.any_change.AnyChange.{AnyChange};
-    ghost use Rattle.lq_sets.specs.RowTurns.{goes_back};
+    ghost use Rattle.lq_sets.specs.RowTurns.{goes_back, row_way};
     ghost use Rattle.lq_sets.specs.View.{any_meaning};
     ghost use Rattle.lq_turns.specs.Rest.{OfRows};
+    ghost use Rattle.lq_turns.specs.Settle.{Settled};
 
     ghost Key = { AnyChange };
 
@@ -70,9 +74,9 @@ impl Source for RowTurns {
 
     ghost left = { λ source. OfRows (reverse source.turns) };
 
-    ghost knows = { λ source rows. Unit {0} };
+    ghost Told = { Settled };
 
-    ghost awaits = { λ source rows. Unit {0} };
+    ghost way = { row_way };
 
     ghost reads = { λ source dialect. list_all (goes_back dialect) (reverse source.turns) ≡ true };
 
@@ -87,9 +91,9 @@ impl Source for RowTurns {
         let Some(turn) = self.turns.pop() else {
             return Entered::NoTurn;
         };
-        if tell(alloc, sql, &turn, self.prints, &mut self.outcome).is_err() {
+        let Ok(()) = tell(alloc, sql, &turn, self.prints, &mut self.outcome) else {
             return Entered::Lack;
-        }
+        };
         match Hand::of_turn(alloc, dialect, &stamp.who, turn, false) {
             Ok(hand) => Entered::Turn(hand),
             Err(_) => Entered::Lack,
@@ -116,6 +120,7 @@ fn tell<P: SqlText>(
     requires spelled { list_all (is_statement P.dialect) turn.now.statements ≡ true }
     ensures happened { OnOk result (outcome.new.happened ≡ outcome.old.happened ++ rolled_back turn.now ∷ []) }
     ensures printed { OnOk result (outcome.new.printed ≡ outcome.old.printed ++ (if prints then printed P.dialect turn.now ∷ [] else [])) }
+    ensures others { OnOk result ((outcome.new.warned ≡ outcome.old.warned) × (outcome.new.halted ≡ outcome.old.halted) × (outcome.new.stopped_at ≡ outcome.old.stopped_at)) }
 {
     if prints {
         print(alloc, sql, turn, &mut outcome.printed)?;
@@ -168,7 +173,8 @@ fn texts_of<P: SqlText>(
 
 /// The turn that was told last stops the command, and is not done.
 fn take_back(outcome: &mut Outcome)
-    ensures { (before : List Told) (last : Told) → outcome.old.happened ≡ before ++ last ∷ [] → (outcome.new.happened ≡ before) × (outcome.new.stopped_at ≡ Some last.identity) }
+    ensures told { (before : List Event) (last : Event) → outcome.old.happened ≡ before ++ last ∷ [] → (outcome.new.happened ≡ before) × (outcome.new.stopped_at ≡ Some last.identity) }
+    ensures others { (outcome.new.warned ≡ outcome.old.warned) × (outcome.new.halted ≡ outcome.old.halted) }
 {
     outcome.printed.pop();
     if let Some(happened) = outcome.happened.pop() {

@@ -1,16 +1,19 @@
 ghost use Rattle.std.specs.List.{list_all};
-ghost use Rattle.std.specs.Prelude.{◌≡◌, ◌≤◌, ◌<◌, ◌+◌, [], IfOk, IfSome, OnOk, length, reverse, true};
+ghost use Rattle.std.specs.Prelude.{◌≡◌, ◌≤◌, ◌<◌, ◌+◌, [], IfOk, IfSome, None, OnOk, length, reverse, true};
 ghost use Rattle.lq_expr.specs.declared.options.Options.{Options as Given};
 ghost use Rattle.lq_kinds.specs.AnyChange.{is_for};
 ghost use Rattle.lq_kinds.specs.Dialects.{AreFor};
 ghost use Rattle.lq_plan.specs.Work.{work};
-ghost use Rattle.lq_sets.specs.SetTurns.{CameBy, CameTo, IsReadFor, Knows, has_turn, sets_left};
-ghost use Rattle.lq_sets.specs.View.{view, view_log};
+ghost use Rattle.lq_sets.specs.SetTurns.{CameBy, CameTo, IsKeptBy, IsReadFor, Knows, has_turn, sets_left};
+ghost use Rattle.lq_sets.specs.Telling.{told_by};
+ghost use Rattle.lq_sets.specs.View.{any_meaning, view, view_log};
 ghost use Rattle.lq_track.specs.Database.{Database};
-ghost use Rattle.lq_turns.specs.Contents.{contents_of};
+ghost use Rattle.lq_base.specs.declared.dialect.Dialect.{Dialect as Spoken};
+ghost use Rattle.lq_turns.specs.Contents.{Contents, contents_of};
 ghost use Rattle.lq_turns.specs.Faults.{faults};
 ghost use Rattle.lq_turns.specs.Held.{StandsFor};
-ghost use Rattle.lq_turns.specs.Settle.{choice_of, greatest};
+ghost use Rattle.lq_turns.specs.Settle.{all_settled, choice_of, greatest};
+ghost use Rattle.lq_turns.specs.declared.stamp.Stamp.{Stamp as Clocked};
 
 use crate::in_hand::InHand;
 use crate::outcome::Outcome;
@@ -72,10 +75,11 @@ impl SetTurns {
         requires faultless { faults (view_log options changelog).sets rows.now ≡ [] }
         ensures reads { IfOk result (λ source. IsReadFor source options.dialect) }
         ensures left { IfOk result (λ source. sets_left source ≡ (view_log options changelog).sets) }
-        ensures knows { IfOk result (λ source. greatest rows.now ≤ 2147483647 → Knows source rows.now) }
+        ensures knows { IfOk result (λ source. (d : Spoken) (stamp : Clocked) (c : Contents) → c.rows ≡ rows.now → greatest rows.now ≤ 2147483647 → Knows source d stamp (all_settled d any_meaning stamp.reading (view_log options changelog).sets c) c) }
     {
         let items = planned(alloc, &options, &changelog, rows)?;
         let last = greatest(rows).min(LAST_PLACE);
+        let outcome = Outcome::new(alloc);
         Ok(SetTurns {
             changelog,
             options,
@@ -85,7 +89,7 @@ impl SetTurns {
             last_after: last,
             prints,
             turn: None,
-            outcome: Outcome::new(alloc),
+            outcome,
         })
     }
 
@@ -162,7 +166,8 @@ fn choose<K: Look>(
     look: &K,
     outcome: &mut Outcome,
 ) -> Result<Choice, NoMemory>
-    ensures { IfOk result (λ made. (options : Given) (database : Database) → options.dialect ≡ dialect → StandsFor dialect (K.catalogue look.now) database → made ≡ choice_of (view options set.now) (contents_of database) (Some what)) }
+    ensures choice { IfOk result (λ made. (options : Given) (database : Database) → options.dialect ≡ dialect → StandsFor dialect (K.catalogue look.now) database → made ≡ choice_of (view options set.now) (contents_of database) (Some what)) }
+    ensures told { IfOk result (λ made. outcome.new ≡ told_by set.now.identity made outcome.old) }
 {
     let choice = seen_choice(alloc, what, set, dialect, look)?;
     tell(alloc, &set.identity, choice, outcome)?;
@@ -192,7 +197,8 @@ fn act<P: SqlText>(
     requires read { list_all (is_for making.now.dialect) set.now.changes ≡ true }
     requires moment { making.now.stamp.now.reading ≤ 253402300799999 }
     requires room { making.now.last ≤ 2147483647 }
-    ensures { CameBy making.now.dialect making.now.stamp.now set.now making.now.last choice result }
+    ensures came { CameBy making.now.dialect making.now.stamp.now set.now making.now.last choice result }
+    ensures kept { IsKeptBy set.now choice result turn.new }
 {
     match choice {
         Choice::Passes => Tried::Skipped,
@@ -219,7 +225,8 @@ fn try_turn<P: SqlText>(
     requires moment { making.now.stamp.now.reading ≤ 253402300799999 }
     requires room { making.now.last ≤ 2147483647 }
     requires turn { has_turn choice ≡ true }
-    ensures { CameBy making.now.dialect making.now.stamp.now set.now making.now.last choice result }
+    ensures came { CameBy making.now.dialect making.now.stamp.now set.now making.now.last choice result }
+    ensures kept { IsKeptBy set.now choice result turn.new }
 {
     let Ok(in_hand) = InHand::new(alloc, making.dialect, set, choice) else {
         return Tried::Lack;
@@ -231,11 +238,28 @@ fn try_turn<P: SqlText>(
     }
 }
 
+/// The texts that were kept last were those of a turn that is not done.
+fn forget_texts(prints: bool, choice: Choice, texts: &mut Items<Printed>) {
+    if prints && runs(choice) {
+        texts.pop();
+    }
+}
+
+/// How many changes of the turn that has finished were not fresh.
+fn count_in(turn: &mut Option<InHand>, not_fresh: &mut u64)
+    ensures { turn.new ≡ None }
+{
+    if let Some(turn) = turn.take() {
+        *not_fresh = not_fresh.saturating_add(turn.not_fresh);
+    }
+}
+
 impl Source for SetTurns {
     ghost use Rattle.lq_kinds.specs.declared.any_change.AnyChange.{AnyChange};
-    ghost use Rattle.lq_sets.specs.SetTurns.{Awaits, IsReadFor, Knows, sets_left};
+    ghost use Rattle.lq_sets.specs.SetTurns.{IsReadFor, set_way, sets_left};
     ghost use Rattle.lq_sets.specs.View.{any_meaning};
     ghost use Rattle.lq_turns.specs.Rest.{OfSets};
+    ghost use Rattle.lq_turns.specs.Settle.{Settled};
 
     ghost Key = { AnyChange };
 
@@ -243,9 +267,9 @@ impl Source for SetTurns {
 
     ghost left = { λ source. OfSets (sets_left source) };
 
-    ghost knows = { Knows };
+    ghost Told = { Settled };
 
-    ghost awaits = { Awaits };
+    ghost way = { set_way };
 
     ghost reads = { IsReadFor };
 
@@ -284,18 +308,17 @@ impl Source for SetTurns {
     }
 
     fn finished(&mut self) {
-        if let Some(turn) = self.turn.take() {
-            self.outcome.not_fresh = self.outcome.not_fresh.saturating_add(turn.not_fresh);
-        }
+        count_in(&mut self.turn, &mut self.outcome.not_fresh);
         self.last = self.last_after.min(LAST_PLACE);
     }
 
     fn refused(&mut self) {
-        if let Some(turn) = self.turn.take() {
-            if self.prints && runs(turn.choice) {
-                self.outcome.printed.pop();
+        match self.turn.take() {
+            Some(turn) => {
+                forget_texts(self.prints, turn.choice, &mut self.outcome.printed);
+                take_back(turn.identity, turn.stops, turn.choice, &mut self.outcome);
             }
-            take_back(turn.identity, turn.stops, turn.choice, &mut self.outcome);
+            None => {}
         }
     }
 }

@@ -1,7 +1,9 @@
 use Rattle.std.proofs.Common.{rules, subst, ◌≡◌}
 use Rattle.lq_model.specs.declared.caller.Room.TheVariants.{Ordinary}
+use Rattle.lq_run.proofs.Left.{opening_leaves}
 use Rattle.lq_run.proofs.Opens.{fails_first, takes_lock}
 use Rattle.lq_run.specs.Does.{AloneFor}
+use Rattle.std.specs.Prelude.{Err}
 use Rattle.lq_run.proofs.alone.take_lock.Goals as goal
 
 pub returns-in-Ok-clause-does : goal.returns-in-Ok-clause-does
@@ -10,5 +12,17 @@ returns-in-Ok-clause-does g c =
     takes_lock c.args.dialect c.args.stamp.now c.args.session (g.S.Store.state c.args.store.now) (g.S.Store.state c.do_alone.new.store) c.in-Ok.deeds c.do_alone.result c.requires.moment c.requires.closed c.in-Ok.ensures.opens
     (subst (λ deeds. AloneFor c.args.dialect c.args.session deeds Ordinary (g.S.Store.state c.args.store.now) c.do_alone.result (g.S.Store.state c.do_alone.new.store)) is c.do_alone.ensures.does)
 
+pub returns-in-Ok-clause-leaves : goal.returns-in-Ok-clause-leaves
+returns-in-Ok-clause-leaves g c =
+    let is : c.as_slice.result.now ≡ c.in-Ok.deeds = search rules in
+    opening_leaves c.args.dialect c.args.session (g.S.Store.state c.args.store.now) (g.S.Store.state c.do_alone.new.store) c.do_alone.result c.args.stamp.now
+    (takes_lock c.args.dialect c.args.stamp.now c.args.session (g.S.Store.state c.args.store.now) (g.S.Store.state c.do_alone.new.store) c.in-Ok.deeds c.do_alone.result c.requires.moment c.requires.closed c.in-Ok.ensures.opens
+    (subst (λ deeds. AloneFor c.args.dialect c.args.session deeds Ordinary (g.S.Store.state c.args.store.now) c.do_alone.result (g.S.Store.state c.do_alone.new.store)) is c.do_alone.ensures.does))
+
 pub returns-in-Err-clause-does : goal.returns-in-Err-clause-does
 returns-in-Err-clause-does g c = fails_first c.args.dialect c.args.stamp.now c.args.session (g.S.Store.state c.args.store.now) c.in-Err.fault c.in-Err.ensures.fails
+
+pub returns-in-Err-clause-leaves : goal.returns-in-Err-clause-leaves
+returns-in-Err-clause-leaves g c =
+    opening_leaves c.args.dialect c.args.session (g.S.Store.state c.args.store.now) (g.S.Store.state c.args.store.now) (Err c.in-Err.fault) c.args.stamp.now
+    (fails_first c.args.dialect c.args.stamp.now c.args.session (g.S.Store.state c.args.store.now) c.in-Err.fault c.in-Err.ensures.fails)

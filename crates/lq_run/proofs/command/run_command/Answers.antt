@@ -1,11 +1,13 @@
-use Rattle.lq_run.proofs.Whole.{ends_whole, leaves, not_taken, opens}
+use Rattle.lq_run.proofs.Stopped.{left_all}
+use Rattle.lq_run.proofs.Whole.{ends_whole, leaves, not_taken, opens, tells, tells_whole}
 use Rattle.lq_run.specs.Commands.{script}
 use Rattle.lq_run.specs.Ends.{EndsAs}
-use Rattle.lq_run.specs.Steps.{place, standing}
+use Rattle.lq_run.specs.Steps.{TellsAs, place, standing}
 use Rattle.lq_turns.specs.Session.{all_called}
 use Rattle.std.proofs.Common.{ap, subst, sym, true, ◌≡◌, ◌∙◌}
 use Rattle.std.specs.Prelude.{Err}
 use Rattle.lq_run.specs.Faults.{is_disk_end}
+use Rattle.lq_run.proofs.Known.{tells_fault}
 use Rattle.lq_run.proofs.Counting.{end_disk, is_the_disk, rose_later}
 use Rattle.lq_run.proofs.command.run_command.Goals as goal
 
@@ -16,30 +18,58 @@ pub run_on-requires-clause-runs : goal.run_on-requires-clause-runs
 run_on-requires-clause-runs g c =
     let k = c.requires.may_run in
     let r = c.args.runner.now in
-    opens r.dialect g.T.Source.meaning r.stamp c.args.session (standing g.T.Source.left g.T.Source.knows g.T.Source.awaits r) k.start (g.S.Store.state c.args.store.now) (g.S.Store.state c.take_lock.new.store) k.session k.is c.requires.new c.in-Ok.ensures.does
+    opens r.dialect g.T.Source.meaning r.stamp c.args.session (standing g.T.Source.left g.T.Source.way r) k.start (g.S.Store.state c.args.store.now) (g.S.Store.state c.take_lock.new.store) k.session k.told k.is c.requires.new c.in-Ok.ensures.does
 
 pub returns-in-Ok-clause-ends : goal.returns-in-Ok-clause-ends
 returns-in-Ok-clause-ends g c =
     let r = c.args.runner.now in
-    λ start s is. ends_whole r.dialect g.T.Source.meaning r.stamp c.args.session (standing g.T.Source.left g.T.Source.knows g.T.Source.awaits r) start (g.S.Store.state c.args.store.now) (g.S.Store.state c.take_lock.new.store) s is
+    λ start s told is. ends_whole r.dialect g.T.Source.meaning r.stamp c.args.session (standing g.T.Source.left g.T.Source.way r) start (g.S.Store.state c.args.store.now) (g.S.Store.state c.take_lock.new.store) s told is
     (g.S.Store.state c.run_on.new.store) c.run_on.result c.requires.new c.in-Ok.ensures.does c.run_on.ensures.ends
 
 pub returns-in-Ok-clause-leaves : goal.returns-in-Ok-clause-leaves
 returns-in-Ok-clause-leaves g c =
     let r = c.args.runner.now in
-    leaves r.dialect g.T.Source.meaning r.stamp c.args.session (standing g.T.Source.left g.T.Source.knows g.T.Source.awaits r) c.requires.new (g.S.Store.state c.args.store.now) (g.S.Store.state c.run_on.new.store) c.run_on.result
-    (λ start s is. ends_whole r.dialect g.T.Source.meaning r.stamp c.args.session (standing g.T.Source.left g.T.Source.knows g.T.Source.awaits r) start (g.S.Store.state c.args.store.now) (g.S.Store.state c.take_lock.new.store) s is
+    leaves r.dialect g.T.Source.meaning r.stamp c.args.session (standing g.T.Source.left g.T.Source.way r) c.requires.new (g.S.Store.state c.args.store.now) (g.S.Store.state c.run_on.new.store) c.run_on.result
+    (λ start s told is. ends_whole r.dialect g.T.Source.meaning r.stamp c.args.session (standing g.T.Source.left g.T.Source.way r) start (g.S.Store.state c.args.store.now) (g.S.Store.state c.take_lock.new.store) s told is
     (g.S.Store.state c.run_on.new.store) c.run_on.result c.requires.new c.in-Ok.ensures.does c.run_on.ensures.ends)
 
 pub returns-in-Err-clause-ends : goal.returns-in-Err-clause-ends
 returns-in-Err-clause-ends g c =
     let r = c.args.runner.now in
-    λ start s is. subst (λ e. EndsAs r.dialect g.T.Source.meaning r.stamp c.args.session start
-    (all_called r.dialect (script r.dialect g.T.Source.meaning r.stamp (place (standing g.T.Source.left g.T.Source.knows g.T.Source.awaits r)) s.committed) s) e (g.S.Store.state c.take_lock.new.store)) (sym c.end_of.ensures)
-    (not_taken r.dialect g.T.Source.meaning r.stamp c.args.session (standing g.T.Source.left g.T.Source.knows g.T.Source.awaits r) start (g.S.Store.state c.args.store.now) (g.S.Store.state c.take_lock.new.store) s is c.in-Err.fault c.in-Err.ensures.does)
+    λ start s told is. subst (λ e. EndsAs r.dialect g.T.Source.meaning r.stamp c.args.session start s
+    (all_called r.dialect (script r.dialect g.T.Source.meaning r.stamp (place (standing g.T.Source.left g.T.Source.way r)) s.committed) s) e (g.S.Store.state c.take_lock.new.store)) (sym c.end_of.ensures)
+    (not_taken r.dialect g.T.Source.meaning r.stamp c.args.session (standing g.T.Source.left g.T.Source.way r) start (g.S.Store.state c.args.store.now) (g.S.Store.state c.take_lock.new.store) s told is c.in-Err.fault c.in-Err.ensures.does)
 
 pub returns-in-Ok-clause-rose : goal.returns-in-Ok-clause-rose
 returns-in-Ok-clause-rose g c = λ is. rose_later (g.S.Store.faults c.args.store.now) (g.S.Store.faults c.take_lock.new.store) (g.S.Store.faults c.run_on.new.store) c.take_lock.ensures.faults.later (c.run_on.ensures.rose is)
 
 pub returns-in-Err-clause-rose : goal.returns-in-Err-clause-rose
 returns-in-Err-clause-rose g c = λ is. c.in-Err.ensures.faults.rose (ap Err (is_the_disk c.in-Err.fault (sym (end_disk c.in-Err.fault) ∙ subst (λ e. is_disk_end e ≡ true) c.end_of.ensures is)))
+
+pub returns-in-Ok-clause-tells : goal.returns-in-Ok-clause-tells
+returns-in-Ok-clause-tells g c =
+    let r = c.args.runner.now in
+    let now = standing g.T.Source.left g.T.Source.way r in
+    tells r.dialect g.T.Source.meaning r.stamp c.args.session now c.requires.new (g.S.Store.state c.args.store.now) (g.S.Store.state c.run_on.new.store) c.run_on.result (g.T.Source.way c.run_on.new.runner.source)
+    (λ start s told is. tells_whole r.dialect g.T.Source.meaning r.stamp c.args.session now start (g.S.Store.state c.args.store.now) (g.S.Store.state c.take_lock.new.store) s told is
+    (g.S.Store.state c.run_on.new.store) c.run_on.result (g.T.Source.way c.run_on.new.runner.source) c.requires.new c.in-Ok.ensures.does c.run_on.ensures.tells)
+
+pub returns-in-Err-clause-tells : goal.returns-in-Err-clause-tells
+returns-in-Err-clause-tells g c =
+    let r = c.args.runner.now in
+    λ database told has known fits. subst (TellsAs (g.T.Source.way r.source r.dialect r.stamp told)) (sym c.end_of.ensures) (tells_fault (g.T.Source.way r.source r.dialect r.stamp told) c.in-Err.fault)
+
+pub returns-in-Ok-clause-left : goal.returns-in-Ok-clause-left
+returns-in-Ok-clause-left g c =
+    let r = c.args.runner.now in
+    left_all r.dialect g.T.Source.meaning r.stamp c.args.session (standing g.T.Source.left g.T.Source.way r) (g.S.Store.state c.args.store.now) (g.S.Store.state c.run_on.new.store) c.run_on.result
+    (λ start s told is. ends_whole r.dialect g.T.Source.meaning r.stamp c.args.session (standing g.T.Source.left g.T.Source.way r) start (g.S.Store.state c.args.store.now) (g.S.Store.state c.take_lock.new.store) s told is
+    (g.S.Store.state c.run_on.new.store) c.run_on.result c.requires.new c.in-Ok.ensures.does c.run_on.ensures.ends)
+
+pub returns-in-Err-clause-left : goal.returns-in-Err-clause-left
+returns-in-Err-clause-left g c =
+    let r = c.args.runner.now in
+    left_all r.dialect g.T.Source.meaning r.stamp c.args.session (standing g.T.Source.left g.T.Source.way r) (g.S.Store.state c.args.store.now) (g.S.Store.state c.take_lock.new.store) c.end_of.result
+    (λ start s told is. subst (λ e. EndsAs r.dialect g.T.Source.meaning r.stamp c.args.session start s
+    (all_called r.dialect (script r.dialect g.T.Source.meaning r.stamp (place (standing g.T.Source.left g.T.Source.way r)) s.committed) s) e (g.S.Store.state c.take_lock.new.store)) (sym c.end_of.ensures)
+    (not_taken r.dialect g.T.Source.meaning r.stamp c.args.session (standing g.T.Source.left g.T.Source.way r) start (g.S.Store.state c.args.store.now) (g.S.Store.state c.take_lock.new.store) s told is c.in-Err.fault c.in-Err.ensures.does))

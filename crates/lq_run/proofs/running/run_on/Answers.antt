@@ -1,7 +1,8 @@
 use Rattle.std.proofs.Common.{inl, le_trans, refl, rules, subst, sym, ◌∙◌}
+use Rattle.std.specs.Prelude.{[]}
 use Rattle.lq_hand.specs.Hand.{IsReady}
 use Rattle.lq_run.proofs.Counting.{rose_later}
-use Rattle.lq_run.proofs.Ending.{ends, reaches, ready_at, stops}
+use Rattle.lq_run.proofs.Ending.{ends, reaches, ready_at, stops, tells}
 use Rattle.lq_run.specs.Ends.{at_end}
 use Rattle.lq_run.specs.Steps.{Steps, place, standing}
 use Rattle.lq_run.specs.declared.runner.Step.TheVariants as step
@@ -9,26 +10,26 @@ use Rattle.lq_store.specs.State.{is_open}
 use Rattle.lq_run.proofs.running.run_on.Goals as goal
 
 pub loop-init : goal.loop-init
-loop-init g c = record { valid = c.requires.valid; dialect = refl; stamp = refl; reads = c.requires.reads; begun = c.requires.begun; disk = c.requires.runs.is.disk; later = search rules; reaches = λ start s is. record { session = s; is = is; way = inl refl } }
+loop-init g c = record { valid = c.requires.valid; dialect = refl; stamp = refl; reads = c.requires.reads; begun = c.requires.begun; disk = c.requires.runs.is.disk; later = search rules; reaches = λ start s told is. record { session = s; came = record { calls = []; is = refl }; is = is; way = inl refl } }
 
 pub step-requires-clause-live : goal.step-requires-clause-live
-step-requires-clause-live g c = (c.loop.invariant.reaches c.requires.runs.start c.requires.runs.session c.requires.runs.is).is.there.at.stands.live
+step-requires-clause-live g c = (c.loop.invariant.reaches c.requires.runs.start c.requires.runs.session c.requires.runs.told c.requires.runs.is).is.there.at.stands.live
 
 pub step-requires-clause-ready : goal.step-requires-clause-ready
 step-requires-clause-ready g c =
     let k = c.loop.invariant in
-    let here = k.reaches c.requires.runs.start c.requires.runs.session c.requires.runs.is in
+    let here = k.reaches c.requires.runs.start c.requires.runs.session c.requires.runs.told c.requires.runs.is in
     let r = c.args.runner.now in
-    subst (λ d. IsReady d (is_open c.args.session (g.S.Store.state c.loop.store).begun) (place (standing g.T.Source.left g.T.Source.knows g.T.Source.awaits c.loop.runner))) (sym k.dialect)
-    (ready_at r.dialect g.T.Source.meaning r.stamp c.args.session (place (standing g.T.Source.left g.T.Source.knows g.T.Source.awaits c.loop.runner)) c.requires.runs.start (g.S.Store.state c.loop.store) here.session here.is.there.at)
+    subst (λ d. IsReady d (is_open c.args.session (g.S.Store.state c.loop.store).begun) (place (standing g.T.Source.left g.T.Source.way c.loop.runner))) (sym k.dialect)
+    (ready_at r.dialect g.T.Source.meaning r.stamp c.args.session (place (standing g.T.Source.left g.T.Source.way c.loop.runner)) c.requires.runs.start (g.S.Store.state c.loop.store) here.session here.is.there.at)
 
 pub loop-preserved : goal.loop-preserved
 loop-preserved g c =
     let k = c.loop.invariant in
     let r = c.args.runner.now in
     let same = c.in-Going.ensures.same in
-    let now = standing g.T.Source.left g.T.Source.knows g.T.Source.awaits c.loop.runner in
-    let next = standing g.T.Source.left g.T.Source.knows g.T.Source.awaits c.step.new.self in
+    let now = standing g.T.Source.left g.T.Source.way c.loop.runner in
+    let next = standing g.T.Source.left g.T.Source.way c.step.new.self in
     record {
       valid = c.in-Going.ensures.valid;
       dialect = same.0 ∙ k.dialect;
@@ -37,8 +38,8 @@ loop-preserved g c =
       begun = c.in-Going.ensures.going;
       disk = c.in-Going.ensures.disk;
       later = le_trans k.later c.in-Going.ensures.later;
-      reaches = λ start s is. reaches r.dialect g.T.Source.meaning r.stamp c.args.session now next start (at_end r.dialect g.T.Source.meaning r.stamp c.args.session (place (standing g.T.Source.left g.T.Source.knows g.T.Source.awaits r)) s)
-          (g.S.Store.state c.loop.store) (g.S.Store.state c.step.new.store) c.in-Going.ensures.going (k.reaches start s is)
+      reaches = λ start s told is. reaches r.dialect g.T.Source.meaning r.stamp c.args.session now next told start s (at_end r.dialect g.T.Source.meaning r.stamp c.args.session (place (standing g.T.Source.left g.T.Source.way r)) s)
+          (g.S.Store.state c.loop.store) (g.S.Store.state c.step.new.store) c.in-Going.ensures.going (k.reaches start s told is)
           (subst (λ d. Steps d g.T.Source.meaning r.stamp c.args.session now next (g.S.Store.state c.loop.store) step.Going (g.S.Store.state c.step.new.store)) k.dialect
           (subst (λ t. Steps c.loop.runner.dialect g.T.Source.meaning t c.args.session now next (g.S.Store.state c.loop.store) step.Going (g.S.Store.state c.step.new.store)) k.stamp c.in-Going.ensures.steps));
     }
@@ -47,10 +48,21 @@ pub returns-in-Ended-clause-ends : goal.returns-in-Ended-clause-ends
 returns-in-Ended-clause-ends g c =
     let k = c.loop.invariant in
     let r = c.args.runner.now in
-    let now = standing g.T.Source.left g.T.Source.knows g.T.Source.awaits c.loop.runner in
-    let next = standing g.T.Source.left g.T.Source.knows g.T.Source.awaits c.step.new.self in
-    λ start s is. ends r.dialect g.T.Source.meaning r.stamp c.args.session now start (at_end r.dialect g.T.Source.meaning r.stamp c.args.session (place (standing g.T.Source.left g.T.Source.knows g.T.Source.awaits r)) s)
-    (g.S.Store.state c.loop.store) (g.S.Store.state c.step.new.store) (k.reaches start s is) next c.in-Ended.end
+    let now = standing g.T.Source.left g.T.Source.way c.loop.runner in
+    let next = standing g.T.Source.left g.T.Source.way c.step.new.self in
+    λ start s told is. ends r.dialect g.T.Source.meaning r.stamp c.args.session now told start s (at_end r.dialect g.T.Source.meaning r.stamp c.args.session (place (standing g.T.Source.left g.T.Source.way r)) s)
+    (g.S.Store.state c.loop.store) (g.S.Store.state c.step.new.store) (k.reaches start s told is) next c.in-Ended.end
+    (subst (λ d. Steps d g.T.Source.meaning r.stamp c.args.session now next (g.S.Store.state c.loop.store) (step.Ended c.in-Ended.end) (g.S.Store.state c.step.new.store)) k.dialect
+    (subst (λ t. Steps c.loop.runner.dialect g.T.Source.meaning t c.args.session now next (g.S.Store.state c.loop.store) (step.Ended c.in-Ended.end) (g.S.Store.state c.step.new.store)) k.stamp c.in-Ended.ensures.steps))
+
+pub returns-in-Ended-clause-tells : goal.returns-in-Ended-clause-tells
+returns-in-Ended-clause-tells g c =
+    let k = c.loop.invariant in
+    let r = c.args.runner.now in
+    let now = standing g.T.Source.left g.T.Source.way c.loop.runner in
+    let next = standing g.T.Source.left g.T.Source.way c.step.new.self in
+    λ start s told is. tells r.dialect g.T.Source.meaning r.stamp c.args.session now told start s (at_end r.dialect g.T.Source.meaning r.stamp c.args.session (place (standing g.T.Source.left g.T.Source.way r)) s)
+    (g.S.Store.state c.loop.store) (g.S.Store.state c.step.new.store) (k.reaches start s told is) next c.in-Ended.end
     (subst (λ d. Steps d g.T.Source.meaning r.stamp c.args.session now next (g.S.Store.state c.loop.store) (step.Ended c.in-Ended.end) (g.S.Store.state c.step.new.store)) k.dialect
     (subst (λ t. Steps c.loop.runner.dialect g.T.Source.meaning t c.args.session now next (g.S.Store.state c.loop.store) (step.Ended c.in-Ended.end) (g.S.Store.state c.step.new.store)) k.stamp c.in-Ended.ensures.steps))
 
@@ -58,8 +70,11 @@ pub returns-clause-ends : goal.returns-clause-ends
 returns-clause-ends g c =
     let k = c.loop.invariant in
     let r = c.args.runner.now in
-    λ start s is. stops r.dialect g.T.Source.meaning r.stamp c.args.session (standing g.T.Source.left g.T.Source.knows g.T.Source.awaits c.loop.runner) start (at_end r.dialect g.T.Source.meaning r.stamp c.args.session (place (standing g.T.Source.left g.T.Source.knows g.T.Source.awaits r)) s)
-    (g.S.Store.state c.loop.store) (k.reaches start s is)
+    λ start s told is. stops r.dialect g.T.Source.meaning r.stamp c.args.session (standing g.T.Source.left g.T.Source.way c.loop.runner) told start s (at_end r.dialect g.T.Source.meaning r.stamp c.args.session (place (standing g.T.Source.left g.T.Source.way r)) s)
+    (g.S.Store.state c.loop.store) (k.reaches start s told is)
 
 pub returns-in-Ended-clause-rose : goal.returns-in-Ended-clause-rose
 returns-in-Ended-clause-rose g c = λ is. rose_later (g.S.Store.faults c.args.store.now) (g.S.Store.faults c.loop.store) (g.S.Store.faults c.step.new.store) c.loop.invariant.later (c.in-Ended.ensures.rose is)
+
+pub returns-clause-tells : goal.returns-clause-tells
+returns-clause-tells g c = λ start s told is. tt

@@ -18,7 +18,7 @@ invariant-loop g l =
       begun : is_over l.runner.hand.phase ≡ false;
       disk : disk_failed l.runner.fault ≡ false;
       later : g.S.Store.faults l.fn.store ≤ g.S.Store.faults l.store;
-      reaches : (start : State) (s : Session) → IsRunning r.dialect g.T.Source.meaning r.stamp l.session (standing g.T.Source.left g.T.Source.knows g.T.Source.awaits r) (g.S.Store.state l.fn.store) start s
-          → Reaches r.dialect g.T.Source.meaning r.stamp l.session (standing g.T.Source.left g.T.Source.knows g.T.Source.awaits l.runner) (g.S.Store.state l.store) start
-          (at_end r.dialect g.T.Source.meaning r.stamp l.session (place (standing g.T.Source.left g.T.Source.knows g.T.Source.awaits r)) s);
+      reaches : (start : State) (s : Session) (told : g.T.Source.Told) → IsRunning r.dialect g.T.Source.meaning r.stamp l.session (standing g.T.Source.left g.T.Source.way r) (g.S.Store.state l.fn.store) start s told
+          → Reaches r.dialect g.T.Source.meaning r.stamp l.session (standing g.T.Source.left g.T.Source.way l.runner) (g.S.Store.state l.store) start s
+          (at_end r.dialect g.T.Source.meaning r.stamp l.session (place (standing g.T.Source.left g.T.Source.way r)) s) told;
     }

@@ -14,3 +14,10 @@ of_turn-requires-clause-statements g c = (can_be_made c.args.making.now.dialect 
 
 pub of_turn-requires-clause-row : goal.of_turn-requires-clause-row
 of_turn-requires-clause-row g c = (can_be_made c.args.making.now.dialect c.args.making.now.stamp.now c.args.set.now c.args.making.now.last c.requires.read c.requires.moment c.args.choice c.in_ok-turn.turn c.in_ok-turn.ensures.made).1
+
+pub returns : goal.returns
+returns g c = record {
+  made = λ options rows last. (c.in_ok-turn.turn, c.in_ok-turn.ensures.made options rows last, c.in_ok-hand.ensures.calls, c.in_ok-hand.ensures.refused);
+  goes_on = c.in_ok-hand.ensures.goes_on;
+  is = c.in_ok-hand.ensures.turn;
+}

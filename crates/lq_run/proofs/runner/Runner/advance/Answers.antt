@@ -1,26 +1,26 @@
 use Rattle.std.proofs.Common.{ap, subst, sym, ◌∙◌}
 use Rattle.std.specs.Prelude.{IsTrue, Some, true, ◌≡◌}
 use Rattle.lq_run.proofs.Stepping.{steps_failed, steps_lacked, steps_on, steps_refused}
-use Rattle.lq_run.specs.Steps.{Steps, standing, stopped_by}
+use Rattle.lq_run.specs.Steps.{StepsShown, standing, stopped_by}
 use Rattle.lq_store.specs.State.{is_open}
 use Rattle.lq_run.proofs.runner.Runner.advance.Goals as goal
 
 pub returns-in-On-clause-steps : goal.returns-in-On-clause-steps
 returns-in-On-clause-steps g c =
-    steps_on c.args.self.now.dialect g.T.Source.meaning c.args.self.now.stamp c.args.session (standing g.T.Source.left g.T.Source.knows g.T.Source.awaits c.args.self.now) c.take.new.hand (g.T.Source.left c.taken.new.source) (g.T.Source.knows c.taken.new.source) (g.T.Source.awaits c.taken.new.source) c.args.call c.with_accepted-self.result
+    steps_on c.args.self.now.dialect g.T.Source.meaning c.args.self.now.stamp c.args.session (standing g.T.Source.left g.T.Source.way c.args.self.now) c.take.new.hand (g.T.Source.left c.taken.new.source) (g.T.Source.way c.taken.new.source) c.args.call c.with_accepted-self.result
     (g.S.Store.state c.args.store.now) (g.S.Store.state c.take.new.store)
-    c.requires.inside c.requires.left c.in-On.ensures.phase c.taken.ensures.left (c.taken.ensures.knows c.args.self.now.dialect) c.requires.call c.with_accepted-self.ensures (c.in-On.ensures.takes c.args.self.now.stamp)
+    c.requires.inside c.requires.left c.in-On.ensures.phase c.in-On.ensures.same c.taken.ensures.left (c.taken.ensures.knows c.args.self.now.dialect c.args.self.now.stamp) c.requires.call c.with_accepted-self.ensures (c.in-On.ensures.takes c.args.self.now.stamp)
 
 pub returns-in-Refused-clause-steps : goal.returns-in-Refused-clause-steps
 returns-in-Refused-clause-steps g c =
-    steps_refused c.args.self.now.dialect g.T.Source.meaning c.args.self.now.stamp c.args.session (standing g.T.Source.left g.T.Source.knows g.T.Source.awaits c.args.self.now) c.take.new.hand (g.T.Source.left c.refused.new.self) (g.T.Source.knows c.refused.new.self) (g.T.Source.awaits c.refused.new.self) c.args.call c.with_refused-self.result c.in-Refused.reason c.stopped_by-self.result
+    steps_refused c.args.self.now.dialect g.T.Source.meaning c.args.self.now.stamp c.args.session (standing g.T.Source.left g.T.Source.way c.args.self.now) c.take.new.hand (g.T.Source.left c.refused.new.self) (g.T.Source.way c.refused.new.self) c.args.call c.with_refused-self.result c.in-Refused.reason c.stopped_by-self.result
     (g.S.Store.state c.args.store.now) (g.S.Store.state c.take.new.store)
-    c.requires.inside c.requires.left c.in-Refused.ensures.phase c.in-Refused.ensures.same c.refused.ensures.left c.refused.ensures.knows c.requires.call c.with_refused-self.ensures
+    c.requires.inside c.requires.left c.in-Refused.ensures.phase c.in-Refused.ensures.same c.refused.ensures.left (c.refused.ensures.gives_up c.args.self.now.dialect c.args.self.now.stamp) c.requires.call c.with_refused-self.ensures
     (c.stopped_by-self.ensures ∙ ap (λ w. stopped_by (Some w) c.take.new.hand.goes_on c.args.self.now.refused) c.refusal.ensures) (c.in-Refused.ensures.takes c.args.self.now.stamp)
 
 pub returns-in-Failed-clause-steps : goal.returns-in-Failed-clause-steps
 returns-in-Failed-clause-steps g c =
-    steps_failed c.args.self.now.dialect g.T.Source.meaning c.args.self.now.stamp c.args.session (standing g.T.Source.left g.T.Source.knows g.T.Source.awaits c.args.self.now) (standing g.T.Source.left g.T.Source.knows g.T.Source.awaits c.fail.new.self) c.take.new.hand c.in-Failed.fault (g.S.Store.state c.args.store.now) (g.S.Store.state c.take.new.store) c.fail.result (c.in-Failed.ensures.takes c.args.self.now.stamp) c.fail.ensures.fails
+    steps_failed c.args.self.now.dialect g.T.Source.meaning c.args.self.now.stamp c.args.session (standing g.T.Source.left g.T.Source.way c.args.self.now) (standing g.T.Source.left g.T.Source.way c.fail.new.self) c.take.new.hand c.in-Failed.fault (g.S.Store.state c.args.store.now) (g.S.Store.state c.take.new.store) c.fail.result (c.in-Failed.ensures.takes c.args.self.now.stamp) c.fail.ensures.fails
 
 pub take_back-requires-clause-live : goal.take_back-requires-clause-live
 take_back-requires-clause-live g c = subst (λ z. IsTrue z.live) (sym c.in-Lack.ensures.lack.0) c.requires.live
@@ -30,5 +30,5 @@ take_back-requires-clause-open_here g c = subst (λ z. is_open c.args.session z.
 
 pub returns-in-Lack-clause-steps : goal.returns-in-Lack-clause-steps
 returns-in-Lack-clause-steps g c =
-    subst (λ w. Steps c.args.self.now.dialect g.T.Source.meaning c.args.self.now.stamp c.args.session (standing g.T.Source.left g.T.Source.knows g.T.Source.awaits c.args.self.now) (standing g.T.Source.left g.T.Source.knows g.T.Source.awaits c.take_back.new.self) (g.S.Store.state c.args.store.now) w (g.S.Store.state c.take_back.new.store)) (sym c.take_back.ensures.result)
-    (steps_lacked c.args.self.now.dialect g.T.Source.meaning c.args.self.now.stamp c.args.session (standing g.T.Source.left g.T.Source.knows g.T.Source.awaits c.args.self.now) (standing g.T.Source.left g.T.Source.knows g.T.Source.awaits c.take_back.new.self) c.take.new.hand (g.S.Store.state c.args.store.now) (g.S.Store.state c.take.new.store) (g.S.Store.state c.take_back.new.store) (c.in-Lack.ensures.takes c.args.self.now.stamp) c.take_back.ensures.aborts c.take_back.ensures.hand c.take_back.ensures.fault)
+    subst (λ w. StepsShown c.args.self.now.dialect g.T.Source.meaning c.args.self.now.stamp c.args.session (standing g.T.Source.left g.T.Source.way c.args.self.now) (standing g.T.Source.left g.T.Source.way c.take_back.new.self) (g.S.Store.state c.args.store.now) w (g.S.Store.state c.take_back.new.store)) (sym c.take_back.ensures.result)
+    (steps_lacked c.args.self.now.dialect g.T.Source.meaning c.args.self.now.stamp c.args.session (standing g.T.Source.left g.T.Source.way c.args.self.now) (standing g.T.Source.left g.T.Source.way c.take_back.new.self) c.take.new.hand (g.S.Store.state c.args.store.now) (g.S.Store.state c.take.new.store) (g.S.Store.state c.take_back.new.store) (c.in-Lack.ensures.takes c.args.self.now.stamp) c.take_back.ensures.aborts c.take_back.ensures.hand c.take_back.ensures.fault)

@@ -12,7 +12,7 @@ pub returns-in-Marked-clause-lost : goal.returns-in-Marked-clause-lost
 returns-in-Marked-clause-lost g c = λ there is database stands lost. absurd (lost (inr (told_at (IsMarked c.args.self.now.stamp) _ c.args.self.now.dialect _ database c.in-Marked.ensures is stands)))
 
 pub returns-in-Lost-clause-steps : goal.returns-in-Lost-clause-steps
-returns-in-Lost-clause-steps g c = lost_steps c.args.self.now.dialect g.T.Source.meaning c.args.self.now.stamp c.args.session (g.S.Store.state c.args.store.now) (standing g.T.Source.left g.T.Source.knows g.T.Source.awaits c.args.self.now) _ (g.S.Store.state c.args.store.now) c.locked.result (c.requires.inside, c.requires.none_left) c.in-Lost.ensures
+returns-in-Lost-clause-steps g c = lost_steps c.args.self.now.dialect g.T.Source.meaning c.args.self.now.stamp c.args.session (g.S.Store.state c.args.store.now) (standing g.T.Source.left g.T.Source.way c.args.self.now) _ (g.S.Store.state c.args.store.now) c.locked.result (c.requires.inside, c.requires.none_left) c.in-Lost.ensures
 
 pub returns-in-Lost-clause-lost : goal.returns-in-Lost-clause-lost
 returns-in-Lost-clause-lost g c = λ there is database stands lost. (refl, told_at (λ lock. TellsLock lock c.locked.result) _ c.args.self.now.dialect _ database c.locked.ensures.tells is stands)

@@ -1,17 +1,18 @@
+use Rattle.std.proofs.Common.{subst, sym}
 use Rattle.lq_run.proofs.Stepping.{steps_ended, steps_entered, steps_short}
 use Rattle.lq_run.specs.Steps.{standing}
 use Rattle.lq_run.proofs.runner.Runner.enter.Goals as goal
 
 pub returns-in-Turn-clause-steps : goal.returns-in-Turn-clause-steps
 returns-in-Turn-clause-steps g c =
-    steps_entered c.args.self.now.dialect g.T.Source.meaning c.args.self.now.stamp c.args.session (standing g.T.Source.left g.T.Source.knows g.T.Source.awaits c.args.self.now) (g.S.Store.state c.args.store.now) c.requires.inside c.requires.none_left c.requires.closed c.requires.enters c.in-Turn.hand (g.T.Source.left c.next.new.source) (g.T.Source.knows c.next.new.source) (g.T.Source.awaits c.next.new.source) c.none-self.result
-    (standing g.T.Source.left g.T.Source.knows g.T.Source.awaits c.inside.new.self) (g.S.Store.state c.inside.new.store) c.inside.result c.none-self.ensures c.in-Turn.ensures.enters c.inside.ensures.steps
+    steps_entered c.args.self.now.dialect g.T.Source.meaning c.args.self.now.stamp c.args.session (standing g.T.Source.left g.T.Source.way c.args.self.now) (g.S.Store.state c.args.store.now) c.requires.inside c.requires.none_left c.requires.closed c.requires.enters c.in-Turn.hand (g.T.Source.left c.next.new.source) (g.T.Source.way c.next.new.source) c.none-self.result
+    (standing g.T.Source.left g.T.Source.way c.inside.new.self) (g.S.Store.state c.inside.new.store) c.inside.result c.none-self.ensures c.in-Turn.ensures.enters c.inside.ensures.steps
 
 pub returns-in-NoTurn-clause-steps : goal.returns-in-NoTurn-clause-steps
 returns-in-NoTurn-clause-steps g c =
-    steps_ended c.args.self.now.dialect g.T.Source.meaning c.args.self.now.stamp c.args.session (standing g.T.Source.left g.T.Source.knows g.T.Source.awaits c.args.self.now) (g.S.Store.state c.args.store.now) c.requires.inside c.requires.none_left c.requires.closed (standing g.T.Source.left g.T.Source.knows g.T.Source.awaits c.end.new.self) (g.S.Store.state c.end.new.store) c.end.result c.requires.enters (g.T.Source.left c.next.new.source) (g.T.Source.knows c.next.new.source) (g.T.Source.awaits c.next.new.source)
-    c.in-NoTurn.ensures.enters c.end.ensures.ends
+    steps_ended c.args.self.now.dialect g.T.Source.meaning c.args.self.now.stamp c.args.session (standing g.T.Source.left g.T.Source.way c.args.self.now) (g.S.Store.state c.args.store.now) c.requires.inside c.requires.none_left c.requires.closed (standing g.T.Source.left g.T.Source.way c.end.new.self) (g.S.Store.state c.end.new.store) c.end.result c.requires.enters (g.T.Source.left c.next.new.source) (g.T.Source.way c.next.new.source c.args.self.now.dialect c.args.self.now.stamp)
+    c.in-NoTurn.ensures.enters (λ told r tells. subst (λ z. (g.T.Source.way z c.args.self.now.dialect c.args.self.now.stamp told).tells r) (sym c.end.ensures.source) tells) c.end.ensures.ends
 
 pub returns-in-Lack-clause-steps : goal.returns-in-Lack-clause-steps
 returns-in-Lack-clause-steps g c =
-    steps_short c.args.self.now.dialect g.T.Source.meaning c.args.self.now.stamp c.args.session (standing g.T.Source.left g.T.Source.knows g.T.Source.awaits c.args.self.now) (g.S.Store.state c.args.store.now) c.requires.inside c.requires.none_left c.requires.closed (standing g.T.Source.left g.T.Source.knows g.T.Source.awaits c.end-in-Lack.new.self) (g.S.Store.state c.end-in-Lack.new.store) c.end-in-Lack.result c.end-in-Lack.ensures.ends
+    steps_short c.args.self.now.dialect g.T.Source.meaning c.args.self.now.stamp c.args.session (standing g.T.Source.left g.T.Source.way c.args.self.now) (g.S.Store.state c.args.store.now) c.requires.inside c.requires.none_left c.requires.closed (standing g.T.Source.left g.T.Source.way c.end-in-Lack.new.self) (g.S.Store.state c.end-in-Lack.new.store) c.end-in-Lack.result c.end-in-Lack.ensures.ends

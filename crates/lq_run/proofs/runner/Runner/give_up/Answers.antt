@@ -3,7 +3,7 @@ use Rattle.lq_run.specs.Steps.{standing}
 use Rattle.lq_run.proofs.runner.Runner.give_up.Goals as goal
 
 pub returns-clause-steps : goal.returns-clause-steps
-returns-clause-steps g c = steps_back c.args.self.now.dialect g.T.Source.meaning c.args.self.now.stamp c.args.session (standing g.T.Source.left g.T.Source.knows g.T.Source.awaits c.args.self.now) c.no_turn.result (g.S.Store.state c.args.store.now) (g.S.Store.state c.abort.new.store) c.requires.gives_up c.no_turn.ensures c.abort.ensures.does
+returns-clause-steps g c = steps_back c.args.self.now.dialect g.T.Source.meaning c.args.self.now.stamp c.args.session (standing g.T.Source.left g.T.Source.way c.args.self.now) c.no_turn.result (g.S.Store.state c.args.store.now) (g.S.Store.state c.abort.new.store) c.requires.gives_up c.no_turn.ensures c.abort.ensures.does
 
 pub returns-clause-lost : goal.returns-clause-lost
 returns-clause-lost g c = λ there. absurd (not_between c.args.self.now.hand c.requires.gives_up there)

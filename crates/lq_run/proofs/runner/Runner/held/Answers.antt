@@ -1,4 +1,4 @@
-use Rattle.std.proofs.Common.{sym, ◌∙◌}
+use Rattle.std.proofs.Common.{subst, sym, ◌∙◌}
 use Rattle.lq_run.proofs.Stepping.{steps_stopped}
 use Rattle.lq_run.specs.Steps.{standing}
 use Rattle.lq_run.proofs.runner.Runner.held.Goals as goal
@@ -9,4 +9,5 @@ enter-requires-clause-enters g c = sym c.may_enter.ensures ∙ c.if-may_enter.tr
 pub returns-else-may_enter-clause-steps : goal.returns-else-may_enter-clause-steps
 returns-else-may_enter-clause-steps g c =
     let r = c.args.self.now in
-    steps_stopped r.dialect g.T.Source.meaning r.stamp c.args.session (standing g.T.Source.left g.T.Source.knows g.T.Source.awaits r) (g.S.Store.state c.args.store.now) c.requires.inside c.requires.none_left c.requires.closed (standing g.T.Source.left g.T.Source.knows g.T.Source.awaits c.end.new.self) (g.S.Store.state c.end.new.store) c.end.result (sym c.may_enter.ensures ∙ c.if-may_enter.false) c.end.ensures.ends
+    steps_stopped r.dialect g.T.Source.meaning r.stamp c.args.session (standing g.T.Source.left g.T.Source.way r) (g.S.Store.state c.args.store.now) c.requires.inside c.requires.none_left c.requires.closed (standing g.T.Source.left g.T.Source.way c.end.new.self) (g.S.Store.state c.end.new.store) c.end.result (sym c.may_enter.ensures ∙ c.if-may_enter.false)
+    (λ told o tells. subst (λ z. (g.T.Source.way z r.dialect r.stamp told).tells o) (sym c.end.ensures.source) tells) c.end.ensures.ends

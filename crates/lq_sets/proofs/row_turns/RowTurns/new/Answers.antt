@@ -1,10 +1,14 @@
 use Rattle.std.specs.Prelude.{reverse}
+use Rattle.lq_sets.proofs.Leading.{leads_begin}
 use Rattle.lq_sets.proofs.RowsBack.{of_dialect}
 use Rattle.lq_sets.proofs.Spelled.{turns_back_spelled}
 use Rattle.lq_sets.proofs.row_turns.RowTurns.new.Goals as goal
 
 pub returns-clause-turns : goal.returns-clause-turns
 returns-clause-turns c = c.in_ok-turns.ensures
+
+pub returns-clause-knows : goal.returns-clause-knows
+returns-clause-knows c = λ z. leads_begin c.new-outcome.result _ c.new-outcome.ensures.done.0 c.new-outcome.ensures.done.1 c.new-outcome.ensures.unstopped.0 c.new-outcome.ensures.unstopped.1
 
 pub returns-clause-reads : goal.returns-clause-reads
 returns-clause-reads c =

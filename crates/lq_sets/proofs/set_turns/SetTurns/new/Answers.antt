@@ -1,4 +1,8 @@
-use Rattle.std.proofs.Common.{arith, refl, ◌≤◌}
+use Rattle.std.proofs.Common.{arith, refl, reverse, subst, sym, ◌≤◌}
+use Rattle.lq_sets.specs.SetTurns.{ArePlanned}
+use Rattle.lq_sets.proofs.Leading.{leads_begin}
+use Rattle.lq_sets.specs.View.{any_meaning, views}
+use Rattle.lq_turns.specs.Settle.{all_settled}
 use Rattle.lq_sets.proofs.Begun.{begins_planned, places_within}
 use Rattle.lq_sets.proofs.set_turns.SetTurns.new.Goals as goal
 
@@ -8,4 +12,7 @@ returns-clause-reads c =
     record { dialect = refl; read = c.requires.read; within = places_within c.args.options c.args.changelog.sets c.args.rows.now c.in_ok-items.items c.in_ok-items.ensures; room = room }
 
 pub returns-clause-knows : goal.returns-clause-knows
-returns-clause-knows c = begins_planned c.args.options c.args.changelog.sets c.args.rows.now c.in_ok-items.items c.min-last.result c.in_ok-items.ensures c.requires.faultless (rw c.greatest.ensures at c.min-last.ensures)
+returns-clause-knows c = λ d stamp z rows small. record {
+  planned = subst (λ rs. ArePlanned 0 (views c.args.options c.args.changelog.sets) (reverse c.in_ok-items.items) c.min-last.result rs) (sym rows) (begins_planned c.args.options c.args.changelog.sets c.args.rows.now c.in_ok-items.items c.min-last.result c.in_ok-items.ensures c.requires.faultless (rw c.greatest.ensures at c.min-last.ensures) small);
+  leads = leads_begin c.new-outcome.result (all_settled d any_meaning stamp.reading (views c.args.options c.args.changelog.sets) z) c.new-outcome.ensures.done.0 c.new-outcome.ensures.done.1 c.new-outcome.ensures.unstopped.0 c.new-outcome.ensures.unstopped.1;
+}

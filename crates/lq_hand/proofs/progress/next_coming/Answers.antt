@@ -1,8 +1,8 @@
 use Rattle.std.proofs.Common.{ap, rules, sym, ◌∙◌}
 use Rattle.std.specs.Prelude.{[], ◌++◌, ◌∷◌, ◌≡◌}
-use Rattle.lq_run.proofs.Takes.{last_first}
-use Rattle.lq_run.specs.Counts.{first_coming}
-use Rattle.lq_run.proofs.progress.next_coming.Goals as goal
+use Rattle.lq_hand.proofs.InHand.{last_first}
+use Rattle.lq_hand.specs.Counts.{first_coming}
+use Rattle.lq_hand.proofs.progress.next_coming.Goals as goal
 
 pub returns-in-Some : goal.returns-in-Some
 returns-in-Some c =

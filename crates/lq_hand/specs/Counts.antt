@@ -7,9 +7,9 @@ use Rattle.lq_turns.specs.declared.call.Call.{Call}
 use Rattle.lq_turns.specs.declared.call.Call.TheVariants.{Abort, Alone, Begin, Commit, Execute}
 use Rattle.lq_turns.specs.declared.deed.Deed.TheVariants.{Locks, Rows, Users}
 use Rattle.lq_turns.specs.declared.stop.Refusal.{Refusal}
-use Rattle.lq_run.specs.declared.progress.Coming.{Coming}
-use Rattle.lq_run.specs.declared.progress.Coming.TheVariants as coming
-use Rattle.lq_run.specs.declared.progress.Progress.{Progress}
+use Rattle.lq_hand.specs.declared.progress.Coming.{Coming}
+use Rattle.lq_hand.specs.declared.progress.Coming.TheVariants as coming
+use Rattle.lq_hand.specs.declared.progress.Progress.{Progress}
 
 abbrev pub no_progress : Progress
 no_progress = record { statement = 0; kept = 0 }
