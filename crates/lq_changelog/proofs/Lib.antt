@@ -1,0 +1,3 @@
+pub mod KeysRead
+pub mod Names
+pub mod Short

@@ -8,6 +8,7 @@ use Rattle.lq_cond.specs.declared.cond.Reaction.{Reaction}
 use Rattle.lq_kinds.specs.AnyChange.{gives}
 use Rattle.lq_kinds.specs.ChangeSets.{set_of, sum_of}
 use Rattle.lq_kinds.specs.Changes.{here_at, is_read}
+use Rattle.lq_kinds.specs.Label.{is_label}
 use Rattle.lq_kinds.specs.declared.any_change.AnyChange.{AnyChange}
 use Rattle.lq_kinds.specs.declared.change_set.ChangeSet.{ChangeSet}
 use Rattle.lq_kinds.specs.declared.fault.SetFault.{SetFault}
@@ -117,9 +118,9 @@ set_by (Some Json) d path n = tree_set d path n
 set_by (Some Yaml) d path n = tree_set d path n
 set_by None d path n = tree_set d path n
 
--- a changeset of the file at a path
+-- a changeset of the file at a path, which is its own path where it has no other
 unfoldable pub set_in : Dialect → List ℕ → Node → Result (Option ChangeSet) What
-set_in d path n = set_by (format_of path) d path n
+set_in d path n = cond (is_label path) (set_by (format_of path) d path n) (Err BadPath)
 
 unfoldable pub reaction_in : Dialect → Node → Result Reaction What
 reaction_in d n = by_keys (within_list (codes "preConditions") (own_reaction d n))

@@ -1,3 +1,4 @@
 pub mod Changelog
 pub mod Contents
 pub mod Gathers
+pub mod ShortTexts

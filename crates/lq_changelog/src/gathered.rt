@@ -1,6 +1,8 @@
-ghost use Rattle.std.specs.Prelude.{◌≡◌, OnOk, true};
+ghost use Rattle.std.specs.List.{All};
+ghost use Rattle.std.specs.Prelude.{◌≡◌, IfSome, OnOk, true};
 ghost use Rattle.lq_base.specs.Options.{if_there};
 ghost use Rattle.lq_kinds.specs.Dialects.{AreFor, is_read_for};
+ghost use Rattle.lq_changelog.specs.ShortTexts.{HasShortTexts};
 
 use lq_base::{Items, NoMemory, OnFail};
 use lq_cond::{Cond, Reaction};
@@ -9,7 +11,8 @@ use lq_model::SqlText;
 use std::alloc::Global;
 use std::marker::{Model, PhantomData};
 
-/// What has been gathered of a changelog: changesets that were read for the dialect of `P`.
+/// What has been gathered of a changelog: changesets that were read for the dialect of `P`, whose texts
+/// are short.
 #[derive(Drop)]
 pub struct Gathered<P: SqlText> {
     /// The conditions of all files.
@@ -23,12 +26,13 @@ pub struct Gathered<P: SqlText> {
 
 impl<P: SqlText> Model for Gathered<P> {
     ghost use Rattle.std.specs.Coded.{codes};
-    ghost use Rattle.std.specs.List.{list_all};
+    ghost use Rattle.std.specs.List.{All, list_all};
     ghost use Rattle.std.specs.Prelude.{◌≡◌, true};
     ghost use Rattle.lq_cond.specs.contracts.cond.Cond as cond;
     ghost use Rattle.lq_kinds.specs.Dialects.{is_read_for};
     ghost use Rattle.lq_kinds.specs.contracts.change_set.ChangeSet as set;
     ghost use Rattle.lq_changelog.specs.Contents.{Contents};
+    ghost use Rattle.lq_changelog.specs.ShortTexts.{HasShortTexts};
 
     ghost Value = { Contents };
 
@@ -36,7 +40,7 @@ impl<P: SqlText> Model for Gathered<P> {
 
     ghost view = { λ g. record { conds = g.conds; on_fail = g.on_fail; on_error = g.on_error; sets = g.sets } };
 
-    ghost invariant = { λ g. list_all (is_read_for P.dialect) g.sets ≡ true };
+    ghost invariant = { λ g. (list_all (is_read_for P.dialect) g.sets ≡ true) × All HasShortTexts g.sets };
 }
 
 impl<P: SqlText> Gathered<P> {
@@ -57,7 +61,8 @@ impl<P: SqlText> Gathered<P> {
 
     /// Adds a changeset, if it is not to be ignored.
     pub fn add_set(&mut self, set: Option<ChangeSet>) -> Result<(), NoMemory>
-        requires { if_there (is_read_for P.dialect) set ≡ true }
+        requires right { if_there (is_read_for P.dialect) set ≡ true }
+        requires short { IfSome set HasShortTexts }
         ensures { OnOk result (self.new ≡ with_set set self.old) }
     {
         let Some(set) = set else {
@@ -87,6 +92,7 @@ impl<P: SqlText> Gathered<P> {
     pub fn into_changelog(self) -> Changelog
         ensures all { result ≡ changelog_of self }
         ensures right { AreFor P.dialect result }
+        ensures short { All HasShortTexts result.sets }
     {
         Changelog {
             cond: Cond::And(self.conds),

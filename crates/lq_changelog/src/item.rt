@@ -1,14 +1,18 @@
-ghost use Rattle.std.specs.Prelude.{◌≡◌, IfOk, true};
+ghost use Rattle.std.specs.Prelude.{◌≡◌, IfOk, IfSome, true};
 ghost use Rattle.lq_base.specs.Options.{if_there};
 ghost use Rattle.lq_kinds.specs.Dialects.{is_read_for};
+ghost use Rattle.lq_kinds.specs.Label.{is_label};
 ghost use Rattle.lq_sources.specs.Answers.{IsMade};
-ghost use Rattle.lq_changelog.specs.Gathers.{line_of, reaction_in, set_in, sql_set, tree_set, what_at};
+ghost use Rattle.lq_sources.specs.Paths.{format_of};
+ghost use Rattle.lq_changelog.specs.Gathers.{line_of, reaction_in, set_by, set_in, sql_set, tree_set, what_at};
+ghost use Rattle.lq_changelog.specs.ShortTexts.{HasShortTexts};
 
 use crate::sql_parts::parts_set;
+use crate::texts::read_set;
 use lq_base::{Dialect, KindFault, plain_number};
 use lq_cond::Reaction;
 use lq_contents::own_reaction;
-use lq_kinds::{ChangeSet, SetFault};
+use lq_kinds::{ChangeSet, SetFault, is_label};
 use lq_model::SqlText;
 use lq_sources::{Format, What, entry_of, format_of};
 use lq_tree::{Node, bad_key, placed, placed_list};
@@ -24,10 +28,12 @@ fn tree_set<P: SqlText>(
     sql: &P,
 ) -> Result<Option<ChangeSet>, What>
     requires same { P.dialect ≡ dialect }
+    requires label { is_label path.now ≡ true }
     ensures made { IsMade (tree_set dialect path.now node.now) result }
     ensures right { IfOk result (λ set. if_there (is_read_for dialect) set ≡ true) }
+    ensures short { IfOk result (λ set. IfSome set HasShortTexts) }
 {
-    match ChangeSet::read(alloc, node, dialect, path, sql) {
+    match read_set(alloc, path, node, dialect, sql) {
         Ok(set) => Ok(set),
         Err(SetFault::BadPath) => Err(What::BadPath),
         Err(SetFault::InKeys(fault)) => Err(What::Key(placed(alloc, "changeSet", fault))),
@@ -67,8 +73,10 @@ fn sql_set<P: SqlText>(
     sql: &P,
 ) -> Result<Option<ChangeSet>, What>
     requires same { P.dialect ≡ dialect }
+    requires label { is_label path.now ≡ true }
     ensures made { IsMade (sql_set dialect path.now node.now) result }
     ensures right { IfOk result (λ set. if_there (is_read_for dialect) set ≡ true) }
+    ensures short { IfOk result (λ set. IfSome set HasShortTexts) }
 {
     let Some(entry) = entry_of(node) else {
         return Err(What::Key(bad_key(alloc, "changeSet")));
@@ -82,7 +90,28 @@ fn sql_set<P: SqlText>(
     }
 }
 
-/// A changeset of the file at a path: `None` where it is to be ignored.
+/// A changeset, by what its file is written in.
+fn set_by<P: SqlText>(
+    alloc: Global,
+    path: &str,
+    node: &Node,
+    dialect: Dialect,
+    sql: &P,
+) -> Result<Option<ChangeSet>, What>
+    requires same { P.dialect ≡ dialect }
+    requires label { is_label path.now ≡ true }
+    ensures made { IsMade (set_by (format_of path.now) dialect path.now node.now) result }
+    ensures right { IfOk result (λ set. if_there (is_read_for dialect) set ≡ true) }
+    ensures short { IfOk result (λ set. IfSome set HasShortTexts) }
+{
+    match format_of(path) {
+        Some(Format::Sql) => sql_set(alloc, path, node, dialect, sql),
+        _ => tree_set(alloc, path, node, dialect, sql),
+    }
+}
+
+/// A changeset of the file at a path: `None` where it is to be ignored. The path can be that of a
+/// changeset, since it may name a file.
 #[tactic(auto, unfolding(crate::specs::Gathers::set_in))]
 pub fn set_in<P: SqlText>(
     alloc: Global,
@@ -94,10 +123,12 @@ pub fn set_in<P: SqlText>(
     requires same { P.dialect ≡ dialect }
     ensures made { IsMade (set_in dialect path.now node.now) result }
     ensures right { IfOk result (λ set. if_there (is_read_for dialect) set ≡ true) }
+    ensures short { IfOk result (λ set. IfSome set HasShortTexts) }
 {
-    match format_of(path) {
-        Some(Format::Sql) => sql_set(alloc, path, node, dialect, sql),
-        _ => tree_set(alloc, path, node, dialect, sql),
+    if is_label(path) {
+        set_by(alloc, path, node, dialect, sql)
+    } else {
+        Err(What::BadPath)
     }
 }
 

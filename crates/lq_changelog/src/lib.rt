@@ -6,5 +6,6 @@ mod gathering;
 mod item;
 mod loading;
 mod sql_parts;
+mod texts;
 
 pub use loading::load;

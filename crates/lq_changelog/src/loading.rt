@@ -1,9 +1,11 @@
+ghost use Rattle.std.specs.List.{All};
 ghost use Rattle.std.specs.Prelude.{◌≡◌, ◌≤◌, IfOk, IsErrOf};
 ghost use Rattle.lq_kinds.specs.Dialects.{AreFor};
 ghost use Rattle.lq_outside.specs.Count.{Rose};
 ghost use Rattle.lq_sources.specs.Answers.{Finds};
 ghost use Rattle.lq_sources.specs.declared.fault.LoadFault.TheVariants.{Read};
 ghost use Rattle.lq_changelog.specs.Changelog.{changelog};
+ghost use Rattle.lq_changelog.specs.ShortTexts.{HasShortTexts};
 
 use crate::gathered::Gathered;
 use crate::gathering::Reader;
@@ -18,7 +20,7 @@ use std::alloc::Global;
 /// properties of the command line (Liquibase's documentation, "Changelog", "include", "Property
 /// Substitution in Changelogs" and "Preconditions"). The first fault is told, depth first: a whole
 /// file's tree before its items, and each item's faults before the next item. What is loaded is for
-/// the dialect.
+/// the dialect, and its changesets' texts are short.
 #[tactic(auto, unfolding(crate::specs::Changelog::changelog))]
 pub fn load<F: Files, P: SqlText>(
     alloc: Global,
@@ -31,6 +33,7 @@ pub fn load<F: Files, P: SqlText>(
     requires same { P.dialect ≡ dialect }
     ensures loaded { Finds (F.told files.old) (λ source. changelog source root.now dialect given.now) result }
     ensures right { IfOk result (λ g. AreFor dialect g) }
+    ensures short { IfOk result (λ g. All HasShortTexts g.sets) }
     ensures told { F.told files.new ≡ F.told files.old }
     ensures later { F.faults files.old ≤ F.faults files.new }
     ensures failed { IsErrOf result Read → Rose (F.faults files.old) (F.faults files.new) }

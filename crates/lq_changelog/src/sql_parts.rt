@@ -1,12 +1,15 @@
-ghost use Rattle.std.specs.Prelude.{◌≡◌, ◌==◌, [], IfOk, length, option_copied, true};
+ghost use Rattle.std.specs.Prelude.{◌≡◌, ◌==◌, [], IfOk, IfSome, length, option_copied, true};
 ghost use Rattle.lq_base.specs.Options.{if_there};
 ghost use Rattle.lq_kinds.specs.AnyChange.{gives, is_for};
 ghost use Rattle.lq_kinds.specs.ChangeSets.{ReadsSet, sum_of};
 ghost use Rattle.lq_kinds.specs.Dialects.{is_read_for};
+ghost use Rattle.lq_kinds.specs.Label.{is_label};
 ghost use Rattle.lq_tree.specs.Look.{value_at};
 ghost use Rattle.std.specs.List.{list_all};
 ghost use Rattle.lq_changelog.specs.Gathers.{at_home, away, is_idle, is_there, parts_set, part_in, without_idle};
+ghost use Rattle.lq_changelog.specs.ShortTexts.{HasShortTexts};
 
+use crate::texts::read_set;
 use lq_base::{Dialect, Items, KindFault, NoMemory};
 use lq_kinds::{AnyChange, ChangeSet, SetFault, here_at, sum_of};
 use lq_model::{Change, SqlText};
@@ -22,11 +25,13 @@ fn part_in<P: SqlText>(
     sql: &P,
 ) -> Result<Option<ChangeSet>, SetFault>
     requires same { P.dialect ≡ dialect }
+    requires label { is_label path.now ≡ true }
     ensures read { ReadsSet (part_in dialect path.now (option_copied part.entry)) result }
     ensures right { IfOk result (λ set. if_there (is_read_for dialect) set ≡ true) }
+    ensures short { IfOk result (λ set. IfSome set HasShortTexts) }
 {
     match part {
-        Some(node) => ChangeSet::read(alloc, node, dialect, path, sql),
+        Some(node) => read_set(alloc, path, node, dialect, sql),
         None => Err(SetFault::InKeys(bad(alloc))),
     }
 }
@@ -54,7 +59,9 @@ fn is_idle(alloc: Global, changes: &[AnyChange], dialect: Dialect) -> Result<boo
 
 /// The changeset without its changes.
 fn emptied(alloc: Global, set: ChangeSet) -> Result<ChangeSet, NoMemory>
-    ensures { IfOk result (λ made. made ≡ record set { changes = []; sum = sum_of [] }) }
+    requires { HasShortTexts set }
+    ensures made { IfOk result (λ made. made ≡ record set { changes = []; sum = sum_of [] }) }
+    ensures short { IfOk result HasShortTexts }
 {
     let sum = sum_of(alloc, &[])?;
     let mut made = set;
@@ -69,9 +76,11 @@ fn without_idle(
     found: Option<ChangeSet>,
     dialect: Dialect,
 ) -> Result<Option<ChangeSet>, NoMemory>
-    requires { if_there (is_read_for dialect) found ≡ true }
+    requires right { if_there (is_read_for dialect) found ≡ true }
+    requires short { IfSome found HasShortTexts }
     ensures made { IfOk result (λ set. set ≡ without_idle dialect found) }
     ensures right { IfOk result (λ set. if_there (is_read_for dialect) set ≡ true) }
+    ensures short { IfOk result (λ set. IfSome set HasShortTexts) }
 {
     let Some(set) = found else {
         return Ok(None);
@@ -106,8 +115,10 @@ fn away<P: SqlText>(
     sql: &P,
 ) -> Result<Option<ChangeSet>, SetFault>
     requires same { P.dialect ≡ dialect }
+    requires label { is_label path.now ≡ true }
     ensures read { ReadsSet (away dialect path.now node.now) result }
     ensures right { IfOk result (λ set. if_there (is_read_for dialect) set ≡ true) }
+    ensures short { IfOk result (λ set. IfSome set HasShortTexts) }
 {
     part_in(alloc, path, node.value_at("elsewhere"), dialect, sql)
 }
@@ -121,8 +132,10 @@ fn at_home<P: SqlText>(
     sql: &P,
 ) -> Result<Option<ChangeSet>, SetFault>
     requires same { P.dialect ≡ dialect }
+    requires label { is_label path.now ≡ true }
     ensures read { ReadsSet (at_home dialect path.now node.now) result }
     ensures right { IfOk result (λ set. if_there (is_read_for dialect) set ≡ true) }
+    ensures short { IfOk result (λ set. IfSome set HasShortTexts) }
 {
     away(alloc, path, node, dialect, sql)?;
     let found = part_in(alloc, path, node.value_at("here"), dialect, sql)?;
@@ -141,8 +154,10 @@ pub fn parts_set<P: SqlText>(
     sql: &P,
 ) -> Result<Option<ChangeSet>, SetFault>
     requires same { P.dialect ≡ dialect }
+    requires label { is_label path.now ≡ true }
     ensures read { ReadsSet (parts_set dialect path.now node.now) result }
     ensures right { IfOk result (λ set. if_there (is_read_for dialect) set ≡ true) }
+    ensures short { IfOk result (λ set. IfSome set HasShortTexts) }
 {
     part_in(alloc, path, node.value_at("heading"), dialect, sql)?;
     if is_there(alloc, node.value_at("elsewhere"), dialect)? {
