@@ -3,3 +3,11 @@
 
 #[cfg(test)]
 mod lines;
+#[cfg(test)]
+mod options;
+#[cfg(test)]
+mod shown;
+#[cfg(test)]
+mod targets;
+#[cfg(test)]
+mod values;

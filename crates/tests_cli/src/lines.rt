@@ -1,6 +1,4 @@
-use lq_base::NoMemory;
-use lq_cli::{Line, WordsFault, read_words};
-use std::alloc::Global;
+use crate::shown::told;
 use std::test::Fail;
 
 const URL: &str = "--url=postgresql:db";
@@ -8,67 +6,6 @@ const URL: &str = "--url=postgresql:db";
 const MY: &str = "--url=mysql:a/b.db";
 
 const FILE: &str = "--changelog-file=a.json";
-
-fn words_of(alloc: Global, given: &[&str]) -> Result<Vec<String>, NoMemory> {
-    let mut words = Vec::new(alloc);
-    for word in given {
-        let word = String::from_str(alloc, word)?;
-        words.push(word)?;
-    }
-    Ok(words)
-}
-
-/// The job, the dialect, the database and the changelog.
-fn heading(alloc: Global, line: &Line) -> Result<String, NoMemory> {
-    let root = match &line.root {
-        Some(root) => root.as_str(),
-        None => "-",
-    };
-    let job = &line.job;
-    let dialect = line.options.dialect;
-    let path = line.path.as_str();
-    Ok(format!(in alloc; "{job:?} {dialect:?} {path} {root}")?)
-}
-
-fn push_contexts(text: &mut String, line: &Line) -> Result<(), NoMemory> {
-    for name in line.options.contexts.as_slice() {
-        text.push_str(" @")?;
-        text.push_str(name.as_str())?;
-    }
-    Ok(())
-}
-
-fn push_given(text: &mut String, line: &Line) -> Result<(), NoMemory> {
-    for (name, value) in line.given.as_slice() {
-        text.push_str(" ")?;
-        text.push_str(name.as_str())?;
-        text.push_str("=")?;
-        text.push_str(value.as_str())?;
-    }
-    Ok(())
-}
-
-/// The line in one text: contexts with `@`, then the label filter, then properties.
-fn shown(alloc: Global, line: &Line) -> Result<String, NoMemory> {
-    let mut text = heading(alloc, line)?;
-    push_contexts(&mut text, line)?;
-    if let Some(labels) = &line.options.labels {
-        let labels = format!(in alloc; " {labels:?}")?;
-        text.push_str(labels.as_str())?;
-    }
-    push_given(&mut text, line)?;
-    Ok(text)
-}
-
-/// What the words ask for, or `usage`.
-fn told(alloc: Global, given: &[&str]) -> Result<String, NoMemory> {
-    let words = words_of(alloc, given)?;
-    match read_words(alloc, words.as_slice()) {
-        Ok(line) => shown(alloc, &line),
-        Err(WordsFault::Usage) => Ok(String::from_str(alloc, "usage")?),
-        Err(WordsFault::OutOfMemory) => Err(NoMemory),
-    }
-}
 
 #[test]
 fn commands_are_read(rt: HostRuntime) -> Result<(), Fail> {
