@@ -1,12 +1,13 @@
 ghost use Rattle.std.specs.Prelude.{◌≡◌};
 
-use crate::given::{File, files_of, given_of};
+use crate::given::{File, Held, files_of, given_of, hold};
 use crate::shown::{shown, sums};
-use lq_base::{Dialect, Text};
+use lq_base::{Dialect, Items, Text};
 use lq_changelog::load;
 use lq_kinds::Changelog;
 use lq_model::SqlText;
 use lq_my::My;
+use lq_outside::{Files, SureFiles};
 use lq_pg::Pg;
 use lq_sources::LoadFault;
 use std::alloc::Global;
@@ -65,6 +66,20 @@ fn tell_all<P: SqlText>(
     }
 }
 
+fn told_through<F: Files, P: SqlText>(
+    rt: &impl Abort,
+    alloc: Global,
+    dialect: Dialect,
+    sql: &P,
+    root: &str,
+    files: &mut F,
+) -> Text
+    requires { P.dialect ≡ dialect }
+{
+    let loaded = load(alloc, files, root, dialect, sql, &[]);
+    shown(alloc, &loaded).expect(rt, "memory")
+}
+
 fn sums_of<P: SqlText>(
     rt: &impl Abort,
     alloc: Global,
@@ -96,6 +111,24 @@ pub fn tell_my(rt: &impl Abort, alloc: Global, cases: &[Case<'_>]) {
 /// What files are loaded as for PostgreSQL.
 pub fn told_of(rt: &impl Abort, alloc: Global, files: &[File<'_>]) -> Text {
     told(rt, alloc, Dialect::Postgresql, &Pg, &[], files)
+}
+
+/// What a root and the files beside it are loaded as for PostgreSQL.
+pub fn told_by<F: Files>(rt: &impl Abort, alloc: Global, root: &str, files: &mut F) -> Text {
+    told_through(rt, alloc, Dialect::Postgresql, &Pg, root, files)
+}
+
+/// What a root among these files is loaded as for PostgreSQL.
+pub fn told_held(rt: &impl Abort, alloc: Global, root: &str, held: Held) -> Text {
+    let mut files = SureFiles::new(alloc, held);
+    told_by(rt, alloc, root, &mut files)
+}
+
+/// What a file of these bytes is loaded as for PostgreSQL.
+pub fn told_bytes(rt: &impl Abort, alloc: Global, path: &str, bytes: &[u8]) -> Text {
+    let mut held = Items::new(alloc);
+    hold(alloc, path, bytes, &mut held).expect(rt, "memory");
+    told_held(rt, alloc, path, held)
 }
 
 /// The checksums of what files are loaded as for PostgreSQL.

@@ -5,24 +5,29 @@ use std::alloc::Global;
 /// A file's path and what it holds.
 pub type File<'a> = (&'a str, &'a str);
 
-fn push_file(
-    alloc: Global,
-    file: &File<'_>,
-    to: &mut Items<(Text, Items<u8>)>,
-) -> Result<(), NoMemory> {
-    let path = Text::new(alloc, file.0)?;
-    let bytes = Items::from_slice(alloc, file.1.as_bytes())?;
+/// Files by their paths.
+pub type Held = Items<(Text, Items<u8>)>;
+
+/// Adds a file of these bytes.
+pub fn hold(alloc: Global, path: &str, bytes: &[u8], to: &mut Held) -> Result<(), NoMemory> {
+    let path = Text::new(alloc, path)?;
+    let bytes = Items::from_slice(alloc, bytes)?;
     to.push((path, bytes))?;
     Ok(())
 }
 
-/// These files, in memory.
-pub fn files_of(alloc: Global, files: &[File<'_>]) -> Result<SureFiles, NoMemory> {
+/// These files.
+pub fn held_of(alloc: Global, files: &[File<'_>]) -> Result<Held, NoMemory> {
     let mut held = Items::new(alloc);
     for file in files {
-        push_file(alloc, file, &mut held)?;
+        hold(alloc, file.0, file.1.as_bytes(), &mut held)?;
     }
-    Ok(SureFiles::new(alloc, held))
+    Ok(held)
+}
+
+/// These files, in memory.
+pub fn files_of(alloc: Global, files: &[File<'_>]) -> Result<SureFiles, NoMemory> {
+    Ok(SureFiles::new(alloc, held_of(alloc, files)?))
 }
 
 fn push_pair(

@@ -1,0 +1,188 @@
+use crate::asked::told_bytes;
+use crate::made::push_times;
+use lq_base::Text;
+use std::alloc::{AllocError, Global};
+use std::process::Abort;
+
+/// Collections in one another, what stands in the innermost, and what the file is loaded as.
+#[derive(Clone, Copy)]
+struct Deep<'a> {
+    opening: &'a str,
+    count: usize,
+    inside: &'a str,
+    closing: &'a str,
+    wanted: &'a str,
+}
+
+// The changes of a changeset for another database may be any tree. Four levels are about them.
+const JSON: &str =
+    r#"{"databaseChangeLog":[{"changeSet":{"id":1,"author":"ann","dbms":"mysql","changes":"#;
+
+const YAML: &str = "databaseChangeLog:
+- changeSet:
+    id: 1
+    author: ann
+    dbms: mysql
+    changes:
+    ";
+
+fn nested(alloc: Global, front: &str, case: &Deep<'_>, back: &str) -> Result<String, AllocError> {
+    let mut text = String::from_str(alloc, front)?;
+    push_times(&mut text, case.opening, case.count)?;
+    text.push_str(case.inside)?;
+    push_times(&mut text, case.closing, case.count)?;
+    text.push_str(back)?;
+    Ok(text)
+}
+
+fn told_deep(
+    rt: &impl Abort,
+    alloc: Global,
+    path: &str,
+    front: &str,
+    case: &Deep<'_>,
+    back: &str,
+) -> Text {
+    let text = nested(alloc, front, case, back).expect(rt, "memory");
+    told_bytes(rt, alloc, path, text.as_bytes())
+}
+
+fn tell_deep(
+    rt: &impl Abort,
+    alloc: Global,
+    path: &str,
+    front: &str,
+    cases: &[Deep<'_>],
+    back: &str,
+) {
+    for case in cases {
+        let told = told_deep(rt, alloc, path, front, case, back);
+        assert_eq!(rt; told.as_str(), case.wanted);
+    }
+}
+
+#[test]
+fn json_has_127_levels(rt: HostRuntime) {
+    let cases = [
+        Deep {
+            opening: "[",
+            count: 123,
+            inside: "1",
+            closing: "]",
+            wanted: "\na.json::1::ann elsewhere",
+        },
+        Deep {
+            opening: "[",
+            count: 124,
+            inside: "",
+            closing: "]",
+            wanted: "liquibase: changelog fault: a.json: not JSON\n",
+        },
+        Deep {
+            opening: r#"{"a":"#,
+            count: 123,
+            inside: "null",
+            closing: "}",
+            wanted: "\na.json::1::ann elsewhere",
+        },
+        Deep {
+            opening: r#"{"a":"#,
+            count: 123,
+            inside: "{}",
+            closing: "}",
+            wanted: "liquibase: changelog fault: a.json: not JSON\n",
+        },
+        Deep {
+            opening: "[",
+            count: 200_000,
+            inside: "",
+            closing: "",
+            wanted: "liquibase: changelog fault: a.json: not JSON\n",
+        },
+    ];
+    tell_deep(&rt, rt.alloc(), "a.json", JSON, &cases, "}}]}")
+}
+
+// A line that is wrong for more than its depth is told as such.
+#[test]
+fn yaml_has_64_levels(rt: HostRuntime) {
+    let cases = [
+        Deep {
+            opening: "- ",
+            count: 60,
+            inside: "x",
+            closing: "",
+            wanted: "\na.yaml::1::ann elsewhere",
+        },
+        Deep {
+            opening: "- ",
+            count: 61,
+            inside: "x",
+            closing: "",
+            wanted: "liquibase: changelog fault: a.yaml: too deep\n",
+        },
+        Deep {
+            opening: "- ",
+            count: 59,
+            inside: "[]",
+            closing: "",
+            wanted: "\na.yaml::1::ann elsewhere",
+        },
+        Deep {
+            opening: "- ",
+            count: 60,
+            inside: "{}",
+            closing: "",
+            wanted: "liquibase: changelog fault: a.yaml: too deep\n",
+        },
+        Deep {
+            opening: "- ",
+            count: 59,
+            inside: "a: x",
+            closing: "",
+            wanted: "\na.yaml::1::ann elsewhere",
+        },
+        Deep {
+            opening: "- ",
+            count: 60,
+            inside: "a:",
+            closing: "",
+            wanted: "liquibase: changelog fault: a.yaml: too deep\n",
+        },
+        Deep {
+            opening: "- ",
+            count: 61,
+            inside: "x\n\t- y",
+            closing: "",
+            wanted: "liquibase: changelog fault: a.yaml: too deep\n",
+        },
+        Deep {
+            opening: "- ",
+            count: 61,
+            inside: "\"x",
+            closing: "",
+            wanted: "liquibase: changelog fault: a.yaml: line 7\n",
+        },
+        Deep {
+            opening: "- ",
+            count: 20_000,
+            inside: "x",
+            closing: "",
+            wanted: "liquibase: changelog fault: a.yaml: too deep\n",
+        },
+    ];
+    tell_deep(&rt, rt.alloc(), "a.yaml", YAML, &cases, "\n")
+}
+
+#[test]
+fn a_wrong_line_before_is_told(rt: HostRuntime) {
+    let cases = [Deep {
+        opening: "- ",
+        count: 65,
+        inside: "x",
+        closing: "",
+        wanted: "liquibase: changelog fault: a.yaml: line 2\n",
+    }];
+    tell_deep(&rt, rt.alloc(), "a.yaml", "a:\n\tb\n", &cases, "\n");
+    tell_deep(&rt, rt.alloc(), "a.yaml", "a: 1\n b: 2\n", &cases, "\n")
+}
