@@ -1,0 +1,54 @@
+-- What a command leaves of a database.
+use Rattle.std.specs.Prelude.{Bool, Err, List, Ok, Option, Result, false, is_some, true, ◌≡◌, ◌≤◌}
+use Rattle.lq_base.specs.declared.dialect.Dialect.{Dialect}
+use Rattle.lq_run.specs.Commands.{HasDatabase, Leaves}
+use Rattle.lq_run.specs.declared.runner.End.{End}
+use Rattle.lq_run.specs.declared.runner.End.TheVariants as end
+use Rattle.lq_store.specs.State.{State}
+use Rattle.lq_tell.specs.declared.done.Done.{Done}
+use Rattle.lq_tell.specs.declared.status.Status.{Status}
+use Rattle.lq_tell.specs.declared.status.Status.TheVariants as status
+use Rattle.lq_track.specs.Database.{Database, IsDatabase}
+use Rattle.lq_turns.specs.Settle.{greatest}
+use Rattle.lq_turns.specs.declared.call.Call.{Call}
+
+-- the database of a store on which commands run: its rows differ, and the last has a place of 31 bits
+pub record IsReady (d : Dialect) (x : State) : Type 0 where
+  pub database : Database
+  pub has : HasDatabase d x database
+  pub is : IsDatabase d database
+  pub small : greatest database.rows ≤ 2147483647
+
+-- for the database of a store
+abbrev pub OnIts : Dialect → State → (Database → Type 0) → Type 0
+OnIts d x holds = (database : Database) → HasDatabase d x database → holds database
+
+-- it came to its end: it did its work, or it halted, or a statement was refused
+abbrev pub is_finished : Status → Bool
+is_finished status.Done = true
+is_finished (status.Halted place why) = true
+is_finished (status.Refused identity statement kept reason) = true
+is_finished s = false
+
+-- a run made all its calls
+abbrev pub is_whole : End → Bool
+is_whole end.Done = true
+is_whole (end.Refused refusal) = true
+is_whole (end.Locked lock) = false
+is_whole end.Disk = false
+is_whole (end.Full used next) = false
+is_whole end.OutOfMemory = false
+
+-- it had the lock until its end
+abbrev pub KeptLock : End → Type 0
+KeptLock (end.Locked lock) = ⊥
+KeptLock e = Unit {0}
+
+-- where a command came to its end its calls' database is there, and their entries are in the journal
+abbrev pub Works : Dialect → List Call → Database → State → Result Done Status → State → Type 0
+Works d calls database x (Ok done) y = is_finished done.status ≡ true → Leaves d calls database x y
+Works d calls database x (Err s) y = Unit {0}
+
+-- one that is refused changes nothing
+abbrev pub IsKept : {S : Type 0} → Option Status → S → S → Type 0
+IsKept refused before after = is_some refused ≡ true → after ≡ before
