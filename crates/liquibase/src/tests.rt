@@ -2,7 +2,7 @@ use crate::file_disk::FileDisk;
 use crate::host_clock::HostClock;
 use crate::host_files::HostFiles;
 use crate::stream::Stream;
-use lq_top::{Status, run};
+use lq_top::run;
 use std::fs::{self, File};
 use std::test::Fail;
 
@@ -36,7 +36,7 @@ fn prints(rt: &HostRuntime, given: &[&str], text: &str) -> Result<bool, Fail> {
     );
     let printed = fs::read(rt, "run_test/out")?;
     let logged = fs::read(rt, "run_test/log")?;
-    Ok(ended.status == Status::Done && printed.as_slice() == text.as_bytes() && logged.is_empty())
+    Ok(ended.status.code() == 0 && printed.as_slice() == text.as_bytes() && logged.is_empty())
 }
 
 #[test]

@@ -1,5 +1,14 @@
+pub mod Among
+pub mod Cascaded
+pub mod Cut
 pub mod DeleteLemmas
-pub mod LostLemmas
+pub mod Descent
+pub mod Keyed
+pub mod Linked
+pub mod Notes
+pub mod Numbered
 pub mod OrphanLemmas
+pub mod PlaceLemmas
 pub mod Rounds
+pub mod Staying
 pub mod Thinned

@@ -1,13 +1,16 @@
 -- Rounds of a cascade.
-use Rattle.std.proofs.Common.{ap, arith, subst, sym, ◌∙◌}
+use Rattle.std.proofs.Common.{ap, arith, sym, unwrap_or, ◌∙◌}
 use Rattle.std.proofs.lemmas.List.Sums.{sum-map, sum_by-cons}
 use Rattle.std.specs.List.{filter, list_any}
-use Rattle.std.specs.Prelude.{Bool, List, [], cond, false, length, map, not, refl, suc, sum, true, zero, ℕ, ◌+◌, ◌<◌, ◌||◌, ◌∷◌, ◌≡◌, ◌≤◌}
+use Rattle.std.specs.Map.{lookup, set_value}
+use Rattle.std.specs.Option.{option_map}
+use Rattle.std.specs.Prelude.{Bool, List, None, Option, Some, [], cond, false, length, map, not, refl, suc, sum, true, zero, ℕ, ◌+◌, ◌<◌, ◌||◌, ◌∷◌, ◌≡◌, ◌≤◌}
+use Rattle.lq_base.specs.Name.{is_named}
 use Rattle.lq_base.specs.declared.name.Name.{Name}
-use Rattle.lq_model.specs.Catalogue.{Catalogue, Table}
+use Rattle.lq_model.specs.Catalogue.{Catalogue, Table, no_table, table_of, the_table}
 use Rattle.lq_model.specs.Delete.{cascaded, is_lost, row_count, without_lost, without_lost_in}
-use Rattle.lq_model.proofs.Lists.{any_less, filter_kept, or_left, or_right, whether}
-use Rattle.lq_deletes.specs.Lost.{EndsIn, IsRound, Reaches, has_lost, loses_row}
+use Rattle.lq_model.proofs.Lists.{any_less, filter_kept, or_left, or_right, same_name, whether}
+use Rattle.lq_deletes.specs.Stay.{Choice, has_lost, kept_at, kept_by, loses_row}
 
 abbrev pub rest_of : Catalogue → Name × Table → Name × Table
 rest_of c e = (e.0, without_lost_in c e.1)
@@ -55,7 +58,7 @@ module _ (c : Catalogue) where
       let y = sum_count e es in
       omega (arith, a, b, x, y))
 
-  pub rest_same : (e : Name × Table) → loses_row c e ≡ false → rest_of c e ≡ e
+  rest_same : (e : Name × Table) → loses_row c e ≡ false → rest_of c e ≡ e
   rest_same e none =
       let rows = filter_kept (λ r. not (is_lost c e.1 r)) e.1.rows (any_less _ (is_lost c e.1) e.1.rows (λ r. ap (λ b. not (not b))) none) in
       λ i. (e.0, record e.1 { rows = rows i })
@@ -78,20 +81,42 @@ pub rounds_same : (n : ℕ) (c : Catalogue) → has_lost c ≡ false → cascade
 rounds_same zero c none = refl
 rounds_same (suc n) c none = ap (cascaded n) (round_same c none) ∙ rounds_same n c none
 
--- where none is lost the rounds have ended
-pub ended : (c : Catalogue) → has_lost c ≡ false → EndsIn c c
-ended c none n le = rounds_same n c none
+-- as many rounds as there are rows end a cascade
+pub cascades_end : (c : Catalogue) (n : ℕ) → row_count c ≤ n → has_lost (cascaded n c) ≡ false
+cascades_end c zero le = whether (has_lost c) (λ some. let l = fewer c some in absurd (omega (arith, l, le))) (λ none. none)
+cascades_end c (suc n) le = whether (has_lost c)
+    (λ some. let l = fewer c some in cascades_end (without_lost c) n (omega (arith, l, le)))
+    (λ none. ap (λ e. has_lost (cascaded n e)) (round_same c none) ∙ ap has_lost (rounds_same n c none) ∙ none)
 
--- what a round leads to, the catalogue before it does
-pub one_round : (c e : Catalogue) → has_lost c ≡ true → EndsIn (without_lost c) e → EndsIn c e
-one_round c e some ends zero le = let l = fewer c some in absurd (omega (arith, l, le))
-one_round c e some ends (suc n) le = let l = fewer c some in ends n (omega (arith, l, le))
+-- fewer rows of one table are not more of all
+pub fewer_set : (test : Name → Bool) (es : List (Name × Table)) (x y : Table) → lookup test es ≡ Some x → length y.rows ≤ length x.rows → sum (map (λ e. length e.1.rows) (set_value test es y)) ≤ sum (map (λ e. length e.1.rows) es)
+fewer_set test [] x y there le = omega arith
+fewer_set test (e ∷ es) x y there le = at (test e.0) there (λ is. fewer_set test es x y is le) where
+  at : (b : Bool) → cond b (Some e.1) (lookup test es) ≡ Some x → (lookup test es ≡ Some x → sum (map (λ e. length e.1.rows) (set_value test es y)) ≤ sum (map (λ e. length e.1.rows) es)) → sum (map (λ e. length e.1.rows) (cond b ((e.0, y) ∷ es) (e ∷ set_value test es y))) ≤ sum (map (λ e. length e.1.rows) (e ∷ es))
+  at true is later =
+      let same : length e.1.rows ≡ length x.rows = ap (λ o. length (unwrap_or o x).rows) is in
+      let a = sum_count (e.0, y) es in
+      let b = sum_count e es in
+      omega (arith, same, le, a, b)
+  at false is later =
+      let more = later is in
+      let a = sum_count e (set_value test es y) in
+      let b = sum_count e es in
+      omega (arith, more, a, b)
 
--- a round more
-pub goes_round : (c now new : Catalogue) (some : Bool) → Reaches true c now → IsRound now some new → Reaches some c new
-goes_round c now new true reaches is = λ x ends. reaches x (one_round now x (sym is.0) (subst (λ e. EndsIn e x) is.1 ends))
-goes_round c now new false reaches is = subst (EndsIn c) (sym (is.1 ∙ round_same now (sym is.0))) (reaches now (ended now (sym is.0)))
+-- what is kept, table by table
 
-pub round_less : (now new : Catalogue) (some : Bool) → IsRound now some new → row_count new + cond some 1 0 < row_count now + 1
-round_less now new true is = let less = fewer now (sym is.0) in let same : row_count new ≡ row_count (without_lost now) = ap row_count is.1 in omega (arith, less, same)
-round_less now new false is = let same : row_count new ≡ row_count now = ap row_count (is.1 ∙ round_same now (sym is.0)) in omega (arith, same)
+abbrev pub kept_of : Choice → Name × Table → Name × Table
+kept_of p e = (e.0, kept_at p e.0 e.1)
+
+pub kept_lookup : (p : Choice) (q : Name) (es : List (Name × Table)) → lookup (is_named q) (map (kept_of p) es) ≡ option_map (kept_at p q) (lookup (is_named q) es)
+kept_lookup p q [] = refl
+kept_lookup p q (e ∷ es) = whether (is_named q e.0)
+    (λ is. rw (is) (ap (λ n. Some (kept_at p n e.1)) (sym (same_name q e.0 is))))
+    (λ other. rw (other) (kept_lookup p q es))
+
+pub kept_table : (p : Choice) (c : Catalogue) (q : Name) → the_table (kept_by p c) q ≡ kept_at p q (the_table c q)
+kept_table p c q = ap (λ o. unwrap_or o no_table) (kept_lookup p q c.tables) ∙ at (table_of c q) where
+  at : (o : Option Table) → unwrap_or (option_map (kept_at p q) o) no_table ≡ kept_at p q (unwrap_or o no_table)
+  at None = refl
+  at (Some it) = refl

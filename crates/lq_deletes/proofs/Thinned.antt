@@ -1,4 +1,4 @@
--- A round, table by table.
+-- Tables that keep the rows that stay, table by table.
 use Rattle.std.proofs.Common.{ap, subst, sym, ◌∙◌}
 use Rattle.std.specs.FinMap.Entries.{is_sorted}
 use Rattle.std.specs.List.{filter, list_any}
@@ -10,14 +10,12 @@ use Rattle.lq_base.specs.declared.name.Name.{Name}
 use Rattle.lq_chain.specs.Marks.{kept_rows}
 use Rattle.lq_chain.specs.History.{History, changed}
 use Rattle.lq_model.specs.Catalogue.{Catalogue, Table, no_table, the_table, with_table}
-use Rattle.lq_model.specs.Delete.{is_lost, without_lost, without_lost_in}
-use Rattle.lq_model.proofs.Lists.{named_itself, or_left, or_right, other_way, whether}
-use Rattle.lq_model.proofs.Maps.{below_gone, sorted-values}
+use Rattle.lq_model.proofs.Lists.{filter_kept, named_itself, or_left, or_right, other_way, whether}
+use Rattle.lq_model.proofs.Maps.{below_gone}
 use Rattle.lq_rows.specs.Stored.{with_all}
-use Rattle.lq_deletes.specs.Losses.{with_thinned}
-use Rattle.lq_deletes.specs.Lost.{AreMarked, losses, loses_row, staying, thinned}
-use Rattle.lq_deletes.proofs.LostLemmas.{marked}
-use Rattle.lq_deletes.proofs.Rounds.{rest_of, rest_same}
+use Rattle.lq_deletes.specs.Losses.{AreMarked, thinned, with_thinned}
+use Rattle.lq_deletes.specs.Stay.{Choice}
+use Rattle.lq_deletes.proofs.Rounds.{kept_of}
 
 -- rows kept by a test's marks are those that pass it
 pub kept_by_marks : {X : Type 0} (p : X → Bool) (xs : List X) → kept_rows (map p xs) xs ≡ filter p xs
@@ -59,56 +57,64 @@ module _ (e : Name × Table) where
   marked_first : (ms : List Bool) (xs : List (Name × List Bool)) (es : List (Name × Table)) → length ms ≡ length e.1.rows → AreMarked xs ((e.0, with_all (kept_rows ms) e.1) ∷ es) → AreMarked ((e.0, ms) ∷ xs) (e ∷ es)
   marked_first ms xs es each more = subst (λ (b : Bool). (is_some (cond b (Some e.1) (lookup (is_named e.0) es)) ≡ true) × (length ms ≡ length (unwrap_or (cond b (Some e.1) (lookup (is_named e.0) es)) no_table).rows) × AreMarked xs (cond b ((e.0, with_all (kept_rows ms) (unwrap_or (cond b (Some e.1) (lookup (is_named e.0) es)) no_table)) ∷ es) (e ∷ set_value (is_named e.0) es (with_all (kept_rows ms) (unwrap_or (cond b (Some e.1) (lookup (is_named e.0) es)) no_table))))) (sym (named_itself e.0)) (refl, each, more)
 
-module _ (c : Catalogue) where
+module _ (stay : Choice) where
+  -- a row of the table goes
+  abbrev pub drops_in : Name × Table → Bool
+  drops_in e = list_any (λ r. not (stay e.0 r)) e.1.rows
+
+  -- for each row of the table whether it stays
+  abbrev pub staying : Name × Table → Name × List Bool
+  staying e = (e.0, map (stay e.0) e.1.rows)
+
+  -- the same for the tables of which a row goes
+  abbrev pub chosen : List (Name × Table) → List (Name × List Bool)
+  chosen es = map staying (filter drops_in es)
+
   -- a table is of none of the tables after it
-  losses_apart : (n : Name) (es : List (Name × Table)) → lookup (is_named n) es ≡ None → is_apart n (losses c es) ≡ false
-  losses_apart n [] none = refl
-  losses_apart n (e ∷ es) none = whether (is_named n e.0)
+  chosen_apart : (n : Name) (es : List (Name × Table)) → lookup (is_named n) es ≡ None → is_apart n (chosen es) ≡ false
+  chosen_apart n [] none = refl
+  chosen_apart n (e ∷ es) none = whether (is_named n e.0)
       (λ is. absurd (clash (sym (ap (λ b. cond b (Some e.1) (lookup (is_named n) es)) is) ∙ none)))
-      (λ other. at (loses_row c e) (other_way n e.0 other) (losses_apart n es (sym (ap (λ b. cond b (Some e.1) (lookup (is_named n) es)) other) ∙ none))) where
+      (λ other. at (drops_in e) (other_way n e.0 other) (chosen_apart n es (sym (ap (λ b. cond b (Some e.1) (lookup (is_named n) es)) other) ∙ none))) where
         clash : (let o : Option Table = Some e.1 in o) ≡ None → ⊥
         clash h = Prim.cc h
 
-        at : (b : Bool) → is_named e.0 n ≡ false → is_apart n (losses c es) ≡ false → is_apart n (map (marked c) (cond b (e ∷ filter (loses_row c) es) (filter (loses_row c) es))) ≡ false
+        at : (b : Bool) → is_named e.0 n ≡ false → is_apart n (chosen es) ≡ false → is_apart n (map staying (cond b (e ∷ filter drops_in es) (filter drops_in es))) ≡ false
         at true apart more = rw (apart) more
         at false apart more = more
 
-  -- a table whose lost rows go
-  abbrev rest : Name × Table → Table
-  rest e = with_all (kept_rows (staying c e.1)) e.1
+  rest_is : (e : Name × Table) → (e.0, with_all (kept_rows (staying e).1) e.1) ≡ kept_of stay e
+  rest_is e = ap (λ rows. (e.0, record e.1 { rows = rows })) (kept_by_marks (stay e.0) e.1.rows)
 
-  rest_is : (e : Name × Table) → (e.0, rest e) ≡ rest_of c e
-  rest_is e = ap (λ rows. (e.0, record e.1 { rows = rows })) (kept_by_marks (λ r. not (is_lost c e.1 r)) e.1.rows)
+  rest_same : (e : Name × Table) → drops_in e ≡ false → kept_of stay e ≡ e
+  rest_same e none = ap (λ rows. (e.0, record e.1 { rows = rows })) (filter_kept (stay e.0) e.1.rows none)
 
-  apart_after : (e : Name × Table) (es : List (Name × Table)) → T (is_sorted name_cmp (e ∷ es)) → is_apart e.0 (losses c es) ≡ false
-  apart_after e es rise = losses_apart e.0 es (below_gone e.0 es (first _ _ rise))
+  apart_after : (e : Name × Table) (es : List (Name × Table)) → T (is_sorted name_cmp (e ∷ es)) → is_apart e.0 (chosen es) ≡ false
+  apart_after e es rise = chosen_apart e.0 es (below_gone e.0 es (first _ _ rise))
 
-  losses_some : (e : Name × Table) (es : List (Name × Table)) → loses_row c e ≡ true → losses c (e ∷ es) ≡ marked c e ∷ losses c es
-  losses_some e es some = ap (λ (b : Bool). map (marked c) (cond b (e ∷ filter (loses_row c) es) (filter (loses_row c) es))) some
+  pub chosen_some : (e : Name × Table) (es : List (Name × Table)) → drops_in e ≡ true → chosen (e ∷ es) ≡ staying e ∷ chosen es
+  chosen_some e es some = ap (λ (b : Bool). map staying (cond b (e ∷ filter drops_in es) (filter drops_in es))) some
 
-  losses_none : (e : Name × Table) (es : List (Name × Table)) → loses_row c e ≡ false → losses c (e ∷ es) ≡ losses c es
-  losses_none e es none = ap (λ (b : Bool). map (marked c) (cond b (e ∷ filter (loses_row c) es) (filter (loses_row c) es))) none
+  pub chosen_none : (e : Name × Table) (es : List (Name × Table)) → drops_in e ≡ false → chosen (e ∷ es) ≡ chosen es
+  chosen_none e es none = ap (λ (b : Bool). map staying (cond b (e ∷ filter drops_in es) (filter drops_in es))) none
 
-  pub round_is : (es : List (Name × Table)) → T (is_sorted name_cmp es) → thinned (losses c es) es ≡ map (rest_of c) es
-  round_is [] rise = refl
-  round_is (e ∷ es) rise =
-      let more = round_is es (second _ _ rise) in
+  pub thinned_is : (es : List (Name × Table)) → T (is_sorted name_cmp es) → thinned (chosen es) es ≡ map (kept_of stay) es
+  thinned_is [] rise = refl
+  thinned_is (e ∷ es) rise =
+      let more = thinned_is es (second _ _ rise) in
       let apart = apart_after e es rise in
-      whether (loses_row c e)
-      (λ some. ap (λ xs. thinned xs (e ∷ es)) (losses_some e es some) ∙ thinned_first e (staying c e.1) (losses c es) es ∙ thinned_past (e.0, rest e) (losses c es) es apart ∙ ap (λ x. x ∷ thinned (losses c es) es) (rest_is e) ∙ ap (λ xs. rest_of c e ∷ xs) more)
-      (λ none. ap (λ xs. thinned xs (e ∷ es)) (losses_none e es none) ∙ thinned_past e (losses c es) es apart ∙ ap (λ x. x ∷ thinned (losses c es) es) (sym (rest_same c e none)) ∙ ap (λ xs. rest_of c e ∷ xs) more)
+      whether (drops_in e)
+      (λ some. ap (λ xs. thinned xs (e ∷ es)) (chosen_some e es some) ∙ thinned_first e (staying e).1 (chosen es) es ∙ thinned_past (e.0, with_all (kept_rows (staying e).1) e.1) (chosen es) es apart ∙ ap (λ x. x ∷ thinned (chosen es) es) (rest_is e) ∙ ap (λ xs. kept_of stay e ∷ xs) more)
+      (λ none. ap (λ xs. thinned xs (e ∷ es)) (chosen_none e es none) ∙ thinned_past e (chosen es) es apart ∙ ap (λ x. x ∷ thinned (chosen es) es) (sym (rest_same e none)) ∙ ap (λ xs. kept_of stay e ∷ xs) more)
 
-  pub round_marked : (es : List (Name × Table)) → T (is_sorted name_cmp es) → AreMarked (losses c es) es
-  round_marked [] rise = tt
-  round_marked (e ∷ es) rise =
-      let more = round_marked es (second _ _ rise) in
+  pub are_marked : (es : List (Name × Table)) → T (is_sorted name_cmp es) → AreMarked (chosen es) es
+  are_marked [] rise = tt
+  are_marked (e ∷ es) rise =
+      let more = are_marked es (second _ _ rise) in
       let apart = apart_after e es rise in
-      whether (loses_row c e)
-      (λ some. subst (λ xs. AreMarked xs (e ∷ es)) (sym (losses_some e es some)) (marked_first e (staying c e.1) (losses c es) es (as_many (λ r. not (is_lost c e.1 r)) e.1.rows) (marked_past (e.0, rest e) (losses c es) es apart more)))
-      (λ none. subst (λ xs. AreMarked xs (e ∷ es)) (sym (losses_none e es none)) (marked_past e (losses c es) es apart more))
-
-pub sorted_round : (c : Catalogue) → T (is_sorted name_cmp c.tables) → T (is_sorted name_cmp (without_lost c).tables)
-sorted_round c rise = sorted-values (λ x. without_lost_in c x) c.tables rise
+      whether (drops_in e)
+      (λ some. subst (λ xs. AreMarked xs (e ∷ es)) (sym (chosen_some e es some)) (marked_first e (staying e).1 (chosen es) es (as_many (stay e.0) e.1.rows) (marked_past (e.0, with_all (kept_rows (staying e).1) e.1) (chosen es) es apart more)))
+      (λ none. subst (λ xs. AreMarked xs (e ∷ es)) (sym (chosen_none e es none)) (marked_past e (chosen es) es apart more))
 
 -- one table more is thinned
 

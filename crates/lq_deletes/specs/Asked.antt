@@ -1,6 +1,6 @@
 -- What DELETE is tested for on a sound catalogue.
 use Rattle.std.specs.List.{list_any}
-use Rattle.std.specs.Prelude.{Bool, Option, [], false, is_none, ◌||◌, ◌∷◌}
+use Rattle.std.specs.Prelude.{Bool, Option, [], false, is_none, ◌&&◌, ◌||◌, ◌∷◌}
 use Rattle.lq_arm.specs.declared.tests.Tests.{Tests}
 use Rattle.lq_base.specs.Name.{is_named}
 use Rattle.lq_base.specs.declared.name.Name.{Name}
@@ -28,3 +28,7 @@ stated_tests by t test c =
 -- a foreign key aims at the table
 abbrev pub is_aimed_at : Name → Catalogue → Bool
 is_aimed_at t c = list_any (λ e. list_any (λ f. is_named t f.table) e.1.foreign) c.tables
+
+-- a foreign key that cascades aims at the table
+abbrev pub cascades_at : Name → Catalogue → Bool
+cascades_at t c = list_any (λ e. list_any (λ f. f.cascade && is_named t f.table) e.1.foreign) c.tables

@@ -1,3 +1,8 @@
 pub mod Asked
+pub mod Gone
 pub mod Losses
-pub mod Lost
+pub mod Noting
+pub mod Places
+pub mod Rows
+pub mod Spread
+pub mod Stay

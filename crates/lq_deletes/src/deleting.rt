@@ -1,8 +1,7 @@
 ghost use Rattle.std.specs.Bool.{OnFalse};
-ghost use Rattle.std.specs.FinMap.Entries.{is_sorted};
 ghost use Rattle.std.specs.List.{list_any};
-ghost use Rattle.std.specs.Prelude.{◌≡◌, IfOk, OnErr, OnOk, T, false, is_some, length, map, not, true};
-ghost use Rattle.lq_base.specs.Name.{is_named, name_cmp};
+ghost use Rattle.std.specs.Prelude.{◌≡◌, ◌&&◌, IfOk, OnErr, OnOk, false, is_some, length, map, not, true};
+ghost use Rattle.lq_base.specs.Name.{is_named};
 ghost use Rattle.lq_chain.specs.History.{changed};
 ghost use Rattle.lq_model.specs.Catalogue.{table_of, the_table, with_table};
 ghost use Rattle.lq_model.specs.Delete as spec;
@@ -13,10 +12,11 @@ ghost use Rattle.lq_parts.specs.Steps.{tables_of};
 ghost use Rattle.lq_model.specs.ResultTests.{has_orphans};
 ghost use Rattle.lq_rows.specs.Answers.{Carries, Continues};
 ghost use Rattle.lq_deletes.specs.Asked.{stated_tests};
-ghost use Rattle.lq_deletes.specs.Lost.{EndsIn};
+ghost use Rattle.lq_deletes.specs.Stay.{IsLinked};
 
 use crate::cascade::cascade;
 use crate::orphan::has_orphans;
+use crate::taking::columns_of;
 use crate::tested::{compares_wrongly, lacks_tested};
 use lq_arm::Tests;
 use lq_base::{Dialect, Name, NoMemory, Reason};
@@ -26,16 +26,6 @@ use lq_parts::{Parts, RunFault};
 use lq_query::{is_reserved, is_taken};
 use lq_rows::{Held, Row};
 use std::alloc::Global;
-
-/// The columns of the table of the name; none where there is none.
-fn columns_of<'a>(parts: &'a Parts, table: &Name) -> &'a [Column]
-    ensures { result.now ≡ (the_table parts.now.now table.now).columns }
-{
-    match parts.table(table) {
-        Some(held) => held.columns(),
-        None => &[],
-    }
-}
 
 /// The number of rows of the table of the name.
 fn len_of(parts: &Parts, table: &Name) -> usize
@@ -126,20 +116,55 @@ fn is_aimed_at(entries: &[(Name, Held)], table: &Name) -> bool
     false
 }
 
-/// Takes out the rows that go with those that are gone, and answers whether a row has lost its parent
-/// and stays. Where no foreign key aims at the table nothing is looked at.
-#[tactic(auto, using(lq_rows::proofs::Continued::stays))]
-fn cascade_from(parts: &mut Parts, alloc: Global, is_aimed: bool) -> Result<bool, NoMemory>
-    requires sorted { T (is_sorted name_cmp parts.old.now.tables) }
-    requires plain { OnFalse is_aimed (has_orphans parts.old.now ≡ false) }
-    ensures ok { IfOk result (λ found. EndsIn parts.old.now parts.new.now × (found ≡ has_orphans parts.new.now)) }
+fn cascade_at(table: &Name, keys: &[ForeignKey]) -> bool
+    ensures { result ≡ list_any (λ f. f.cascade && is_named table.now f.table) keys.now }
+{
+    keys.iter().any(|key| key.cascade & (*table == key.table))
+}
+
+/// Whether a foreign key that cascades aims at the table.
+fn cascades_at(entries: &[(Name, Held)], table: &Name) -> bool
+    ensures { result ≡ list_any (λ e. list_any (λ f. f.cascade && is_named table.now f.table) e.1.foreign) (tables_of entries.now) }
+{
+    for entry in entries {
+        if cascade_at(table, entry.1.foreign_keys()) {
+            return true;
+        }
+    }
+    false
+}
+
+/// Takes the rows out that the test takes, and those that go with them. At a fault some may be gone.
+#[tactic(auto, using(lq_rows::proofs::Continued::stays, lq_rows::proofs::Continued::goes_on))]
+fn remove(
+    parts: &mut Parts,
+    alloc: Global,
+    table: &Name,
+    test: &Option<Test>,
+) -> Result<(), NoMemory>
+    requires linked { IsLinked parts.old.now }
+    requires there { is_some (table_of parts.old.now table.now) ≡ true }
+    ensures ok { OnOk result (parts.new.now ≡ spec.deleted table.now test.now parts.old.now) }
     ensures goes { Continues parts.old parts.new }
+{
+    if cascades_at(parts.tables(), table) {
+        cascade(parts, alloc, table, test)?;
+        return Ok(());
+    }
+    take(parts, alloc, table, test)?;
+    Ok(())
+}
+
+/// Whether a row has no parent. Where no foreign key aims at the table nothing is looked at.
+fn leaves_orphans(alloc: Global, parts: &Parts, is_aimed: bool) -> Result<bool, NoMemory>
+    requires { OnFalse is_aimed (has_orphans parts.now.now ≡ false) }
+    ensures { IfOk result (λ found. found ≡ has_orphans parts.now.now) }
 {
     if !is_aimed {
         return Ok(false);
     }
-    cascade(parts, alloc)?;
-    has_orphans(alloc, parts, parts.tables())
+    let found = has_orphans(alloc, parts, parts.tables())?;
+    Ok(found)
 }
 
 /// DELETE on a sound catalogue, on someone's behalf: it answers how many rows of the table are gone,
@@ -163,8 +188,8 @@ pub fn delete_from(
     }
     let before = len_of(parts, table);
     let is_aimed = is_aimed_at(parts.tables(), table);
-    take(parts, alloc, table, test)?;
-    if cascade_from(parts, alloc, is_aimed)? {
+    remove(parts, alloc, table, test)?;
+    if leaves_orphans(alloc, parts, is_aimed)? {
         return Err(RunFault::Refused(Reason::HasChildren));
     }
     Ok(before.saturating_sub(len_of(parts, table)) as u64)

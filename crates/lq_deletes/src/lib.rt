@@ -3,9 +3,12 @@
 
 mod cascade;
 mod deleting;
+mod edges;
 mod loss;
-mod lost;
 mod orphan;
+mod places;
+mod spread;
+mod taking;
 mod tested;
 
 pub use deleting::delete_from;

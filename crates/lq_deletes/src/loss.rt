@@ -1,15 +1,11 @@
-ghost use Rattle.std.specs.List.{list_all, list_any};
-ghost use Rattle.std.specs.Option.{option_map};
-ghost use Rattle.std.specs.Prelude.{◌≡◌, ◌++◌, ◌∷◌, [], IfOk, None, OnOk, Some, cond, map};
-ghost use Rattle.lq_model.specs.Names.{is_empty};
+ghost use Rattle.std.specs.List.{list_any};
+ghost use Rattle.std.specs.Prelude.{◌≡◌, ◌≤◌, ◌++◌, IfOk, OnOk, length, map, not};
 ghost use Rattle.lq_parts.specs.Steps.{tables_of};
 ghost use Rattle.lq_rows.specs.Answers.{Continues};
-ghost use Rattle.lq_deletes.specs.Losses.{marks_of, with_thinned};
-ghost use Rattle.lq_deletes.specs.Lost.{AreMarked, losses, loses_row, staying};
+ghost use Rattle.lq_deletes.specs.Losses.{AreMarked, losses, lost_in, marks_of, with_thinned};
+ghost use Rattle.lq_deletes.specs.Rows.{row_total};
 
-use crate::lost::staying;
 use lq_base::{Duplicate, Name, NoMemory};
-use lq_model::ForeignKey;
 use lq_parts::Parts;
 use lq_rows::Held;
 use std::alloc::{AllocError, Global};
@@ -21,67 +17,60 @@ pub struct Loss {
     pub marks: Vec<bool>,
 }
 
-fn cascades(keys: &[ForeignKey]) -> bool
-    ensures { result ≡ list_any (λ f. f.cascade) keys.now }
+fn has_mark(marks: &[bool]) -> bool
+    ensures { result ≡ list_any (λ mark. mark) marks.now }
 {
-    keys.iter().any(|key| key.cascade)
+    marks.iter().any(|mark| *mark)
 }
 
-fn all_stay(marks: &[bool]) -> bool
-    ensures { result ≡ list_all (λ mark. mark) marks.now }
+fn turned(alloc: Global, marks: &[bool]) -> Result<Vec<bool>, NoMemory>
+    ensures { IfOk result (λ others. others.items ≡ map not marks.now) }
 {
-    marks.iter().all(|mark| *mark)
+    let mut others = Vec::new(alloc);
+    for mark in marks {
+        others.push(!*mark)?;
+    }
+    Ok(others)
 }
 
-/// The rows of a table that stay, where one does not.
-#[tactic(auto, using(crate::proofs::LostLemmas::none_cascades, crate::proofs::LostLemmas::all_stay))]
-fn loss_in(alloc: Global, parts: &Parts, name: &Name, held: &Held) -> Result<Option<Loss>, NoMemory>
-    ensures { IfOk result (λ loss. option_map marks_of loss ≡ cond (loses_row parts.now.now (name.now, held.now.now)) (Some (name.now, staying parts.now.now held.now.now)) None) }
+/// Which rows of a table stay, by the marks of those that go.
+fn loss_of(alloc: Global, name: &Name, marks: &[bool]) -> Result<Loss, NoMemory>
+    ensures { IfOk result (λ loss. marks_of loss ≡ (name.now, map not marks.now)) }
 {
-    if !cascades(held.foreign_keys()) {
-        return Ok(None);
-    }
-    let marks = staying(alloc, parts, held)?;
-    if all_stay(&marks) {
-        return Ok(None);
-    }
-    Ok(Some(Loss {
+    let others = turned(alloc, marks)?;
+    Ok(Loss {
         table: name.duplicate(alloc)?,
-        marks,
-    }))
+        marks: others,
+    })
 }
 
-/// Adds the rows of a table that stay, where one does not.
-#[tactic(auto, using(crate::proofs::LostLemmas::none_added, crate::proofs::LostLemmas::one_added))]
-fn add_loss(
-    alloc: Global,
-    parts: &Parts,
-    all: &mut Vec<Loss>,
-    name: &Name,
-    held: &Held,
-) -> Result<(), NoMemory>
-    ensures { OnOk result (map marks_of all.new.items ≡ map marks_of all.old.items ++ cond (loses_row parts.now.now (name.now, held.now.now)) ((name.now, staying parts.now.now held.now.now) ∷ []) []) }
+/// Adds which rows of a table stay, where one does not.
+fn add_loss(alloc: Global, all: &mut Vec<Loss>, name: &Name, marks: &[bool]) -> Result<(), NoMemory>
+    ensures { OnOk result (map marks_of all.new.items ≡ map marks_of all.old.items ++ lost_in name.now marks.now) }
 {
-    match loss_in(alloc, parts, name, held)? {
-        None => Ok(()),
-        Some(loss) => {
-            all.push(loss)?;
-            Ok(())
-        }
+    if !has_mark(marks) {
+        return Ok(());
     }
+    let loss = loss_of(alloc, name, marks)?;
+    all.push(loss)?;
+    Ok(())
 }
 
-/// The rows that stay of the tables of which one does not.
+/// Which rows stay of the tables of which one does not, by the marks of all rows that go.
 pub fn losses_in(
     alloc: Global,
-    parts: &Parts,
     entries: &[(Name, Held)],
+    marks: &[bool],
 ) -> Result<Vec<Loss>, NoMemory>
-    ensures { IfOk result (λ all. map marks_of all.items ≡ losses parts.now.now (tables_of entries.now)) }
+    requires { row_total (tables_of entries.now) ≤ length marks.now }
+    ensures { IfOk result (λ all. map marks_of all.items ≡ losses marks.now (tables_of entries.now)) }
 {
     let mut all = Vec::new(alloc);
+    let mut rest = marks;
     for entry in entries {
-        add_loss(alloc, parts, &mut all, &entry.0, &entry.1)?;
+        let (own, after) = rest.split_at(entry.1.len());
+        add_loss(alloc, &mut all, &entry.0, own)?;
+        rest = after;
     }
     Ok(all)
 }
@@ -103,13 +92,4 @@ pub fn thin(parts: &mut Parts, alloc: Global, losses: &[Loss]) -> Result<(), NoM
         parts.keep(alloc, &loss.table, marks)?;
     }
     Ok(())
-}
-
-pub fn is_empty(losses: &[Loss]) -> bool
-    ensures { result ≡ is_empty losses.now }
-{
-    match losses {
-        [] => true,
-        _ => false,
-    }
 }

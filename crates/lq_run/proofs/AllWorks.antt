@@ -102,7 +102,7 @@ told : (a b : Reason) → Stopped a ≡ Stopped b → a ≡ b
 told a b same = Prim.cc
 
 module _ (start : State) (number : ℕ) (x : State) (s : Session) (is : Stands start number x s) (deeds : List Deed) (room : Room) where
-  works_alone : is_open number x.begun ≡ false → Works start.dialect s.entries (work_in None x.committed) s
+  pub works_alone : is_open number x.begun ≡ false → Works start.dialect s.entries (work_in None x.committed) s
   works_alone shut = by x.begun is.begun shut where
     by : (o : Option Transaction) → IsBegun start.dialect number s o → is_open number o ≡ false → Works start.dialect s.entries (work_in None x.committed) s
     by None begun h = record {

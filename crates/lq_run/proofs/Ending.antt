@@ -197,7 +197,7 @@ module _ {Key Told : Type 0} (d : Dialect) (m : Meaning Key) (stamp : Stamp) (nu
   left_after : (r : Standing Key Told) (x : Both) → is_over r.hand.phase ≡ false → rest d m stamp (place r) x ≢ []
   left_after r x = rest_left d m stamp number r.hand.phase (calls_left r.hand) r.hand.goes_on (turns_of r) x
 
-  before_last : (r : Standing Key Told) (s last : Session) → IsOnWay d m stamp number r s last → IsBefore s last
+  pub before_last : (r : Standing Key Told) (s last : Session) → IsOnWay d m stamp number r s last → IsBefore s last
   before_last r s last (inl same) = subst (IsBefore s) same (calls_grow d (rest d m stamp (place r) (both_of s)) s)
   before_last r s last (inr fell) = fell.3
 
@@ -291,7 +291,7 @@ module _ {Key Told : Type 0} (d : Dialect) (m : Meaning Key) (stamp : Stamp) (nu
     way : IsBefore s last
     way = before_last before s last is.way
 
-    on_way : (call : Call) (more : List Call) → calls ≡ call ∷ more → room_of call ≡ Ordinary → IsBefore (called d call s) last
+    pub on_way : (call : Call) (more : List Call) → calls ≡ call ∷ more → room_of call ≡ Ordinary → IsBefore (called d call s) last
     on_way call more next room = by is.way where
       by : IsOnWay d m stamp number before s last → IsBefore (called d call s) last
       by (inl same) = subst (IsBefore (called d call s)) (sym (ap (λ cs. all_called d cs s) next) ∙ same) (calls_grow d more (called d call s))
@@ -301,7 +301,7 @@ module _ {Key Told : Type 0} (d : Dialect) (m : Meaning Key) (stamp : Stamp) (nu
         by_last (inr aborts) = subst (λ c. IsBefore (called d c s) last) (sym (head_is (sym next ∙ aborts))) (record { more = way.more; entries = way.entries })
 
     -- without a fault so far
-    at_last : before.fault ≡ None → at_end d m stamp number (place before) s ≡ last
+    pub at_last : before.fault ≡ None → at_end d m stamp number (place before) s ≡ last
     at_last none = by is.way where
       by : IsOnWay d m stamp number before s last → at_end d m stamp number (place before) s ≡ last
       by (inl same) = same

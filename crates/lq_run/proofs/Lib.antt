@@ -19,4 +19,8 @@ mod Counting
 mod Left
 mod Whole
 mod Stopped
+mod Since
+mod CallCrashes
+mod Stopping
+mod RunCrashes
 pub mod Scripts

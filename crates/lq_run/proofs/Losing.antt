@@ -6,16 +6,20 @@ use Rattle.lq_base.specs.declared.dialect.Dialect.{Dialect}
 use Rattle.lq_base.specs.declared.tracking.Lock.{Lock}
 use Rattle.lq_base.specs.declared.tracking.Tracked.{Tracked}
 use Rattle.lq_model.specs.Catalogue.{Catalogue}
+use Rattle.lq_store.specs.Crashes.{Crashes}
 use Rattle.lq_store.specs.State.{State}
 use Rattle.lq_track.specs.Database.{Database, lock_of, rows_of}
 use Rattle.lq_model.specs.declared.fault.StoreFault.{StoreFault}
 use Rattle.lq_turns.specs.Held.{StandsFor}
 use Rattle.lq_turns.specs.Rest.{Place}
+use Rattle.lq_turns.specs.Script.{closing}
 use Rattle.lq_turns.specs.Session.{Session}
 use Rattle.lq_turns.specs.Set.{Meaning}
 use Rattle.lq_turns.specs.declared.stamp.Stamp.{Stamp}
 use Rattle.lq_turns.specs.declared.stop.Refusal.{Refusal}
-use Rattle.lq_run.specs.Holds.{Holds, HoldsAs}
+use Rattle.lq_run.proofs.Since.{leave_wider}
+use Rattle.lq_run.specs.Crashing.{CrashesClosing, CrashesFor, LeftInCall, LeftInClosing}
+use Rattle.lq_run.specs.Holds.{Holds, HoldsAs, IsBare}
 use Rattle.lq_run.specs.Moves.{IsAt}
 use Rattle.lq_run.specs.Steps.{Closes, ClosesFor, EndsFor, IsBetween, Standing, Steps, end_of, last_end, place}
 use Rattle.lq_run.specs.declared.holding.Holding.TheVariants as holding
@@ -70,3 +74,14 @@ module _ {Key : Type 0} (d : Dialect) (m : Meaning Key) (stamp : Stamp) (number 
         at_place (λ lock. HoldsAs stamp lock false) start s p (subst (λ b. IfSome (lock_of x.dialect x.committed) (λ lock. HoldsAs stamp lock b)) is told) at,
         subst (λ l. Closes d m stamp number p l start s x e y) same (closes p start s at left),
       )
+
+-- what a crash leaves where the lock is freed
+
+module _ (d : Dialect) (stamp : Stamp) (number : ℕ) (x : State) (a b : Crashes) where
+  pub healthy_crash : (why : Option StoreFault) → why ≡ None → CrashesFor d number closing x a b → CrashesClosing d stamp number why x a b
+  healthy_crash why none crash start s is stands fit = leave_wider x.entries (LeftInCall d closing s) (LeftInClosing d stamp why s) a b (λ there left it. (inl none, it)) (crash start s is stands fit)
+
+  pub bare_crash : (why : Option StoreFault) (marked : Bool) → marked ≡ false → IfSome (lock_of x.dialect x.committed) (λ lock. HoldsAs stamp lock marked) → CrashesFor d number closing x a b → CrashesClosing d stamp number why x a b
+  bare_crash why marked none told crash start s is stands fit =
+      let bare : IsBare stamp s.committed.lock = told_at (λ lock. HoldsAs stamp lock false) x.dialect d x.committed s.committed (subst (λ b. IfSome (lock_of x.dialect x.committed) (λ lock. HoldsAs stamp lock b)) none told) (stands.dialect ∙ is) (subst (λ e. StandsFor e x.committed s.committed) is stands.committed) in
+      leave_wider x.entries (LeftInCall d closing s) (LeftInClosing d stamp why s) a b (λ there left it. (inr bare, it)) (crash start s is stands fit)

@@ -9,12 +9,15 @@ use Rattle.lq_model.specs.Catalogue.{Catalogue, table_of}
 use Rattle.lq_model.specs.declared.caller.Room.TheVariants.{Ordinary}
 use Rattle.lq_model.specs.declared.fault.StoreFault.{StoreFault}
 use Rattle.lq_model.specs.declared.fault.StoreFault.TheVariants as fault
+use Rattle.lq_store.specs.Crashes.{Crashes}
 use Rattle.lq_store.specs.State.{State, is_open, seen}
 use Rattle.lq_track.specs.Database.{Database, has_rows, lock_of, rows_of, users_of}
 use Rattle.lq_track.specs.Lock.{lock_table}
 use Rattle.lq_track.specs.Log.{log_table}
 use Rattle.lq_turns.specs.Held.{StandsFor, all_fit}
 use Rattle.lq_turns.specs.Script.{if_missing, opening}
+use Rattle.lq_turns.specs.Session.{Session}
+use Rattle.lq_turns.specs.declared.call.Call.TheVariants.{Alone}
 use Rattle.lq_turns.specs.declared.deed.Deed.{Deed}
 use Rattle.lq_turns.specs.declared.deed.Deed.TheVariants.{Locks}
 use Rattle.lq_turns.specs.declared.deed.OnLock.{OnLock}
@@ -23,8 +26,11 @@ use Rattle.lq_turns.specs.declared.stamp.Stamp.{Stamp}
 use Rattle.lq_hand.specs.Writable.{IsWritable}
 use Rattle.lq_run.proofs.Doing.{no_other}
 use Rattle.lq_run.proofs.Stepping.{is_shut, seen_stands}
+use Rattle.lq_run.specs.Crashes.{CrashesLeave}
+use Rattle.lq_run.specs.Crashing.{CrashesFor, CrashesOpening, LeftInCall}
 use Rattle.lq_run.specs.Does.{AllWritable, AloneFor, DoesAlone}
 use Rattle.lq_run.specs.NoChanges.{no_changes}
+use Rattle.lq_run.specs.Stands.{Stands}
 use Rattle.lq_run.specs.Opens.{FailsFirst, OpensOn, TakesLock, opening_by}
 use Rattle.lq_run.specs.declared.alone.Tables.{Tables}
 
@@ -87,13 +93,25 @@ opening_fits d stamp x false true false bound = rw (bound) refl
 opening_fits d stamp x false false true bound = rw (bound) refl
 opening_fits d stamp x false false false bound = rw (bound) refl
 
+-- the deeds are those of each session's database, and fit it
+opening_there : (d : Dialect) (stamp : Stamp) (number : ℕ) (x : State) (deeds : List Deed) → stamp.reading ≤ 253402300799999 → is_open number x.begun ≡ false → OpensOn d stamp (seen number x) deeds
+    → (start : State) (s : Session) → start.dialect ≡ d → Stands start number x s → (deeds ≡ map Locks (opening stamp s.seen)) × (all_fit d deeds s.seen ≡ true)
+opening_there d stamp number x deeds moment shut opens start s is stands =
+    let seen_is : StandsFor d (seen number x) s.seen = subst (StandsFor d (seen number x)) (sym (is_shut d no_changes stamp number x shut start s stands).1) (seen_stands d no_changes stamp number x shut start s stands is) in
+    let same : deeds ≡ map Locks (opening stamp s.seen) = opens s.seen seen_is in
+    (same, subst (λ ds. all_fit d ds s.seen ≡ true) (sym same) (opening_fits d stamp s.seen s.seen.has_log s.seen.has_lock s.seen.has_lock_row (in_time stamp.reading moment)))
+
 pub takes_lock : (d : Dialect) (stamp : Stamp) (number : ℕ) (x y : State) (deeds : List Deed) (result : Result (Unit {0}) StoreFault) → stamp.reading ≤ 253402300799999 → is_open number x.begun ≡ false
     → OpensOn d stamp (seen number x) deeds → AloneFor d number deeds Ordinary x result y → TakesLock d stamp number x result y
 takes_lock d stamp number x y deeds result moment shut opens alone start s is stands =
-    let seen_is : StandsFor d (seen number x) s.seen = subst (StandsFor d (seen number x)) (sym (is_shut d no_changes stamp number x shut start s stands).1) (seen_stands d no_changes stamp number x shut start s stands is) in
-    let same : deeds ≡ map Locks (opening stamp s.seen) = opens s.seen seen_is in
-    let fit : all_fit d deeds s.seen ≡ true = subst (λ ds. all_fit d ds s.seen ≡ true) (sym same) (opening_fits d stamp s.seen s.seen.has_log s.seen.has_lock s.seen.has_lock_row (in_time stamp.reading moment)) in
-    subst (λ ds. DoesAlone start number x s ds Ordinary result y) same (alone start s is stands fit)
+    let it = opening_there d stamp number x deeds moment shut opens start s is stands in
+    subst (λ ds. DoesAlone start number x s ds Ordinary result y) it.0 (alone start s is stands it.1)
+
+pub opening_crash : (d : Dialect) (stamp : Stamp) (number : ℕ) (x : State) (deeds : List Deed) (a b : Crashes) → stamp.reading ≤ 253402300799999 → is_open number x.begun ≡ false
+    → OpensOn d stamp (seen number x) deeds → CrashesFor d number (Alone deeds Ordinary) x a b → CrashesOpening d stamp number x a b
+opening_crash d stamp number x deeds a b moment shut opens crash start s is stands =
+    let it = opening_there d stamp number x deeds moment shut opens start s is stands in
+    subst (λ ds. CrashesLeave x.entries (LeftInCall d (Alone ds Ordinary) s) a b) it.0 (crash start s is stands it.1)
 
 none_other : {n : ℕ} → (let o : Option ℕ = None in o) ≡ Some n → ⊥
 none_other h = Prim.cc

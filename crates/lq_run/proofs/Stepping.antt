@@ -1,13 +1,14 @@
 -- The kinds of step.
 use Rattle.std.proofs.Common.{ap, inl, inr, subst, sym, ◌∙◌}
 use Rattle.std.proofs.lemmas.List.{length-reverse}
-use Rattle.std.specs.Prelude.{Bool, Err, List, None, Ok, Option, Result, Some, [], false, length, refl, reverse, true, ℕ, ◌&&◌, ◌++◌, ◌∷◌, ◌≡◌, ◌≢◌}
+use Rattle.std.specs.Prelude.{Bool, Err, List, None, Ok, Option, Result, Some, [], false, length, refl, reverse, true, ℕ, ◌&&◌, ◌++◌, ◌∷◌, ◌≡◌, ◌≢◌, ◌⊎◌}
 use Rattle.lq_base.specs.declared.dialect.Dialect.{Dialect}
 use Rattle.lq_base.specs.declared.reason.Reason.{Reason}
 use Rattle.lq_model.specs.declared.caller.Room.{Room}
 use Rattle.lq_model.specs.declared.caller.Room.TheVariants.{Ordinary, Release}
 use Rattle.lq_model.specs.declared.fault.StoreFault.{StoreFault}
 use Rattle.lq_model.specs.declared.fault.StoreFault.TheVariants as fault
+use Rattle.lq_store.specs.Crashes.{Crashes}
 use Rattle.lq_store.specs.State.{State, Transaction, is_open, seen, seen_in}
 use Rattle.lq_track.specs.Database.{Database}
 use Rattle.lq_turns.specs.Contents.{contents_of, with_contents}
@@ -36,6 +37,11 @@ use Rattle.lq_hand.specs.declared.source.Entered.TheVariants as entered
 use Rattle.lq_run.proofs.Doing.{differ}
 use Rattle.lq_run.proofs.Known.{expects_on, known_back, known_left, known_on, known_refused, known_shown, shows_own, tells_fault, unstopped, yields_refused}
 use Rattle.lq_hand.specs.Counts.{coming_of, first_coming, no_progress, progress_after, refusal_at, refusal_by, with_accepted, with_refused}
+use Rattle.lq_run.proofs.Since.{leave_then, leave_wider, none_yet}
+use Rattle.lq_run.proofs.Takes.{still_next}
+use Rattle.lq_run.specs.Crashes.{CrashesLeave}
+use Rattle.lq_run.specs.Crashing.{CrashesClosing, CrashesNext, CrashesStep, CrashesTaken, LeftAlone, LeftInClosing, LeftInNext, LeftInStep, MayFree}
+use Rattle.lq_run.specs.Holds.{IsBare}
 use Rattle.lq_run.specs.Does.{AbortFor, AloneFor, DoesAlone, Faults}
 use Rattle.lq_run.specs.Moves.{Goes, IsAt, Meets, Refuses, Takes, refusal_of}
 use Rattle.lq_run.specs.Stands.{IsBegun, Stands}
@@ -196,6 +202,14 @@ module _ {Key : Type 0} (d : Dialect) (m : Meaning Key) (stamp : Stamp) (number 
   tells_ended way p (Some why) r start s x e y tells (inl is) = tells_closed way p (end_of why) start s x e y (tells_fault way why) is.1
   tells_ended way p (Some why) r start s x e y tells (inr is) = subst (TellsAs way) (sym is.2) (tells_fault way why)
 
+  -- there was no memory for the next call in hand, and its transaction is taken back
+  pub lack_crash : (hand : Hand) (turns : Turns Key) (x y : State) (a between_calls b : Crashes) → hand.phase ≡ phase.Inside → hand.calls ≢ [] → y ≡ x
+      → CrashesTaken d m stamp number hand x a between_calls → CrashesLeave y.entries LeftAlone between_calls b → CrashesNext d m stamp number (place_of hand turns) x a b
+  lack_crash hand turns x y a between_calls b inside left same crash leave start s is =
+      leave_then x.entries (LeftInNext d m stamp number (place_of hand turns) s) a between_calls b (crash turns start s is)
+      (leave_wider x.entries LeftAlone (LeftInNext d m stamp number (place_of hand turns) s) between_calls b (still_next d m stamp number hand turns x start s inside (some_left hand.calls left) is)
+      (subst (λ z. CrashesLeave z.entries LeftAlone between_calls b) same leave))
+
 module _ {Key Told : Type 0} (d : Dialect) (m : Meaning Key) (stamp : Stamp) (number : ℕ) where
   -- a call is accepted
   pub steps_on : (before : Standing Key Told) (new : Hand) (turns : Turns Key) (way : Dialect → Stamp → Told → Way) (coming : Coming) (p : Progress) (x y : State)
@@ -319,6 +333,14 @@ module _ {Key Told : Type 0} (d : Dialect) (m : Meaning Key) (stamp : Stamp) (nu
         refused = refl;
       }))
 
+  pub back_crash : (before : Standing Key Told) (x : State) (a b : Crashes) → before.hand.phase ≡ phase.GivingUp → CrashesLeave x.entries LeftAlone a b → CrashesStep d m stamp number before x a b
+  back_crash before x a b gives leave start s told is held =
+      let here : place before ≡ GivingUp (turns_of before) = ap (λ p. hand_place p (calls_left before.hand) before.hand.goes_on (turns_of before)) gives in
+      leave_wider x.entries LeftAlone (LeftInStep d m stamp number before s) a b (λ there left it. inl (record { call = Abort; others = _; next = ap (λ p. rest d m stamp p (both_of s)) here; by = refl; is = none_yet d Abort s there left it })) leave
+
+  pub next_crash : (before : Standing Key Told) (x : State) (a b : Crashes) → CrashesNext d m stamp number (place before) x a b → CrashesStep d m stamp number before x a b
+  next_crash before x a b crash start s told is held = leave_wider x.entries (LeftInNext d m stamp number (place before) s) (LeftInStep d m stamp number before s) a b (λ there left it. inl it) (crash start s is.at)
+
   -- what is to come is the same from another place
   pub from_same : (before here after : Standing Key Told) (told : Told) (x y start : State) (s : Session) (result : Step) → rest d m stamp (place before) (both_of s) ≡ rest d m stamp (place here) (both_of s)
       → here.fault ≡ before.fault → here.refused ≡ before.refused → progress_in here ≡ progress_in before → StepsAs d m stamp number here after told start s x result y → StepsAs d m stamp number before after told start s x result y
@@ -398,31 +420,77 @@ module _ {Key Told : Type 0} (d : Dialect) (m : Meaning Key) (stamp : Stamp) (nu
         subst (λ r. Known d (before.way d stamp told) r (Inside [] before.hand.goes_on (turns_of before)) before.progress (both_of s)) none.1 (contents_known start s told is none.0)
 
     -- a turn is entered
-    pub steps_entered : enters_turns before.fault before.refused ≡ true → (hand : Hand) (turns : Turns Key) (way : Dialect → Stamp → Told → Way) (p : Progress) (after : Standing Key Told) (y : State) (result : Step)
-        → p ≡ no_progress → Enters d m stamp before.turns (before.way d stamp) (seen number x) (entered.Turn hand) turns (way d stamp)
+
+    module _ (enters : enters_turns before.fault before.refused ≡ true) (hand : Hand) (turns : Turns Key) (way : Dialect → Stamp → Told → Way) (is_entered : Enters d m stamp before.turns (before.way d stamp) (seen number x) (entered.Turn hand) turns (way d stamp)) where
+      abbrev entered_place : Place Key
+      entered_place = place_of hand (if_goes_on (enters_turns before.fault before.refused) turns)
+
+      pub entered_same : (start : State) (s : Session) (told : Told) → IsThere d m stamp number before x start s told → rest d m stamp (place before) (both_of s) ≡ rest d m stamp entered_place (both_of s)
+      entered_same start s told is =
+          let at_seen = is_entered.1 s.committed (seen_stands d m stamp number x shut start s is.at.stands is.at.dialect) told (knows_them start s told is enters) in
+          let first : rest d m stamp (place before) (both_of s) ≡ rest_at d m stamp (between before.turns) (contents_of s.committed) = rest_between start s is.at.stands ∙ ap (λ t. rest_at d m stamp (between t) (contents_of s.committed)) (entering enters) in
+          let later : rest_at d m stamp (place_of hand turns) (contents_of s.committed) ≡ rest d m stamp entered_place (both_of s)
+          = ap (λ b. rest d m stamp (place_of hand turns) b) (sym (both_is start s is.at.stands)) ∙ ap (λ t. rest d m stamp (place_of hand t) (both_of s)) (sym (ap (λ b. if_goes_on b turns) enters)) in
+          first ∙ at_seen.0 ∙ later
+
+      pub entered_at : (start : State) (s : Session) (told : Told) → IsThere d m stamp number before x start s told → IsAt d m stamp number entered_place x start s
+      entered_at start s told is = record {
+        dialect = is.at.dialect;
+        stands = is.at.stands;
+        ready = subst (λ p. IsReady d s.is_open (hand_place p (calls_left hand) hand.goes_on (if_goes_on (enters_turns before.fault before.refused) turns))) (sym is_entered.0.inside) (subst (λ o. AreTurns d o (calls_left hand)) (sym (is_shut d m stamp number x shut start s is.at.stands).0) is_entered.0.turn);
+        fits = subst (λ calls. calls_fit d calls s ≡ true) (entered_same start s told is) is.at.fits;
+        row = is.at.row;
+      }
+
+      -- and its first call is made
+      pub entered_crash : (a b : Crashes) → CrashesNext d m stamp number entered_place x a b → CrashesStep d m stamp number before x a b
+      entered_crash a b crash start s told is held =
+          leave_wider x.entries (LeftInNext d m stamp number entered_place s) (LeftInStep d m stamp number before s) a b
+          (λ there left it. inl (record { call = it.call; others = it.others; next = entered_same start s told is ∙ it.next; by = it.by; is = it.is })) (crash start s (entered_at start s told is))
+
+    pub steps_entered : (enters : enters_turns before.fault before.refused ≡ true) (hand : Hand) (turns : Turns Key) (way : Dialect → Stamp → Told → Way) (p : Progress) (after : Standing Key Told) (y : State) (result : Step)
+        → p ≡ no_progress → (is_entered : Enters d m stamp before.turns (before.way d stamp) (seen number x) (entered.Turn hand) turns (way d stamp))
         → Steps d m stamp number (record { hand = hand; turns = turns; way = way; progress = p; fault = before.fault; refused = before.refused }) after x result y
         → Steps d m stamp number before after x result y
     steps_entered enters hand turns way p after y result begins is_entered steps start s told is held =
         let now : Standing Key Told = record { hand = hand; turns = turns; way = way; progress = p; fault = before.fault; refused = before.refused } in
         let at_seen = is_entered.1 s.committed (seen_stands d m stamp number x shut start s is.at.stands is.at.dialect) told (knows_them start s told is enters) in
-        let first : rest d m stamp (place before) (both_of s) ≡ rest_at d m stamp (between before.turns) (contents_of s.committed) = rest_between start s is.at.stands ∙ ap (λ t. rest_at d m stamp (between t) (contents_of s.committed)) (entering enters) in
-        let later : rest_at d m stamp (place_of hand turns) (contents_of s.committed) ≡ rest d m stamp (place now) (both_of s)
-        = ap (λ b. rest d m stamp (place_of hand turns) b) (sym (both_is start s is.at.stands)) ∙ ap (λ t. rest d m stamp (place_of hand t) (both_of s)) (sym (ap (λ b. if_goes_on b turns) enters)) in
-        let same = first ∙ at_seen.0 ∙ later in
         let left = some_left hand.calls is_entered.0.left in
-        from_same before now after told x y start s result same refl refl (ap (progress_at hand.phase hand.calls) begins ∙ progress_none hand.phase hand.calls ∙ sym none_begun) (steps start s told (record {
-          at = record {
-            dialect = is.at.dialect;
-            stands = is.at.stands;
-            ready = subst (λ p. IsReady d s.is_open (hand_place p (calls_left hand) hand.goes_on (turns_of now))) (sym is_entered.0.inside) (subst (λ o. AreTurns d o (calls_left hand)) (sym (is_shut d m stamp number x shut start s is.at.stands).0) is_entered.0.turn);
-            fits = subst (λ calls. calls_fit d calls s ≡ true) same is.at.fits;
-            row = is.at.row;
-          };
+        from_same before now after told x y start s result (entered_same enters hand turns way is_entered start s told is) refl refl (ap (progress_at hand.phase hand.calls) begins ∙ progress_none hand.phase hand.calls ∙ sym none_begun) (steps start s told (record {
+          at = entered_at enters hand turns way is_entered start s told is;
           known = λ healthy. subst (λ ph. Known d (way d stamp told) before.refused (hand_place ph (calls_left hand) hand.goes_on (turns_of now)) p (both_of s)) (sym is_entered.0.inside)
               (subst (λ r. Known d (way d stamp told) r (Inside (calls_left hand) hand.goes_on (turns_of now)) p (both_of s)) (sym (unstopped before.fault before.refused enters).1)
               (subst (λ q. KnownIn d (way d stamp told) hand.goes_on (calls_left hand) q (both_of s)) (sym begins)
               (subst (λ b. KnownIn d (way d stamp told) hand.goes_on (calls_left hand) no_progress b) (sym (both_is start s is.at.stands)) (known_left d (way d stamp told) hand.goes_on (calls_left hand) no_progress _ left at_seen.1))));
         }) (λ there. absurd (is_entered.0.left there.1)))
+
+    -- the lock is freed
+
+    frees : (why : Option StoreFault) (a b : Crashes) (start : State) (s : Session) → IsAt d m stamp number (place before) x start s → (why ≡ None → (before.fault ≡ None) × (rest d m stamp (place before) (both_of s) ≡ closing ∷ []))
+        → CrashesClosing d stamp number why x a b → CrashesLeave x.entries (LeftInStep d m stamp number before s) a b
+    frees why a b start s is last crash =
+        leave_wider x.entries (LeftInClosing d stamp why s) (LeftInStep d m stamp number before s) a b (λ there left it. inr (may it.0, it.1)) (crash start s is.dialect is.stands fit) where
+          fit : all_fit d (Locks Freed ∷ []) s.seen ≡ true
+          fit = ap (λ b. b && true) is.row.1
+
+          may : (why ≡ None) ⊎ IsBare stamp s.committed.lock → MayFree d m stamp number before s
+          may (inl none) = inl (last none)
+          may (inr bare) = inr (bare, (is_shut d m stamp number x shut start s is.stands).0)
+
+    pub ended_crash : enters_turns before.fault before.refused ≡ true → (turns : Turns Key) (way : Told → Way) (a b : Crashes) → Enters d m stamp before.turns (before.way d stamp) (seen number x) entered.NoTurn turns way
+        → CrashesClosing d stamp number before.fault x a b → CrashesStep d m stamp number before x a b
+    ended_crash enters turns way a b is_entered crash start s told is held =
+        let at_seen = is_entered s.committed (seen_stands d m stamp number x shut start s is.at.stands is.at.dialect) told (knows_them start s told is enters) in
+        frees before.fault a b start s is.at
+        (λ none. (none, rest_between start s is.at.stands ∙ ap (λ t. rest_at d m stamp (between t) (contents_of s.committed)) (entering enters) ∙ at_seen.0)) crash
+
+    pub stopped_crash : enters_turns before.fault before.refused ≡ false → (a b : Crashes) → CrashesClosing d stamp number before.fault x a b → CrashesStep d m stamp number before x a b
+    stopped_crash stopped a b crash start s told is held =
+        frees before.fault a b start s is.at
+        (λ none. (none, rest_between start s is.at.stands ∙ ap (λ b. rest_at d m stamp (between (if_goes_on b before.turns)) (contents_of s.committed)) stopped)) crash
+
+    pub short_crash : (a b : Crashes) → CrashesClosing d stamp number (Some fault.OutOfMemory) x a b → CrashesStep d m stamp number before x a b
+    short_crash a b crash start s told is held = frees (Some fault.OutOfMemory) a b start s is.at (λ none. absurd (some_none none)) crash
 
     ends_as : (f : Option StoreFault) (r : Option Refusal) (after : Standing Key Told) (told : Told) (y start : State) (s : Session) (result : Step) (p : Place Key) → IsAt d m stamp number p x start s → rest d m stamp p (both_of s) ≡ closing ∷ []
         → ((e : End) → Ends d m stamp number p f r start s x e y → EndsStep d m stamp number before start s x e y) → (f ≡ None → TellsAs (after.way d stamp told) (last_end None r))

@@ -33,7 +33,7 @@ use Rattle.lq_run.specs.declared.runner.End.{End}
 use Rattle.lq_run.specs.declared.runner.End.TheVariants as end
 
 -- the call that frees the lock writes one entry, where nothing was begun
-closing_entry : (d : Dialect) (s : Session) → s.begun ≡ [] → (called d closing s).entries ≡ s.entries ++ (Locks Freed ∷ []) ∷ []
+pub closing_entry : (d : Dialect) (s : Session) → s.begun ≡ [] → (called d closing s).entries ≡ s.entries ++ (Locks Freed ∷ []) ∷ []
 closing_entry Postgresql s none = ap (λ (deeds : List Deed). s.entries ++ if_any (deeds ++ Locks Freed ∷ [])) none
 closing_entry Mysql s none = ap (λ (deeds : List Deed). s.entries ++ if_any (deeds ++ Locks Freed ∷ [])) none
 
@@ -53,7 +53,7 @@ module _ {Key : Type 0} (d : Dialect) (m : Meaning Key) (stamp : Stamp) (number 
   left_before s came before = record { front = s.entries; rest = before.more; entries = before.entries; now = s.committed; led = (leads s came).committed; is = inl refl }
 
   -- and so what it has written when it freed a lock without a mark
-  left_closed : (s : Session) → CameFrom d (session_on database) s → IsBefore s last → IsBare stamp s.committed.lock → s.begun ≡ [] → IsLeft d calls database [] (called d closing s).entries
+  pub left_closed : (s : Session) → CameFrom d (session_on database) s → IsBefore s last → IsBare stamp s.committed.lock → s.begun ≡ [] → IsLeft d calls database [] (called d closing s).entries
   left_closed s came before bare none =
       record { front = s.entries; rest = before.more; entries = before.entries; now = s.committed; led = (leads s came).committed; is = inr (closing_entry d s none, ap has_mark bare ∙ unmarked) }
 

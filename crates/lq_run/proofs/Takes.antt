@@ -1,11 +1,13 @@
 -- The next call in hand.
 use Rattle.std.proofs.Common.{ap, subst, sym, ◌∙◌}
-use Rattle.std.specs.Prelude.{Bool, Err, List, Ok, Result, false, refl, reverse, true, ℕ, ◌++◌, ◌∷◌, ◌≡◌, []}
+use Rattle.std.specs.Prelude.{Bool, Err, List, Ok, Result, false, refl, reverse, true, ℕ, ◌++◌, ◌∷◌, ◌≡◌, ◌≢◌, []}
 use Rattle.lq_base.specs.declared.dialect.Dialect.{Dialect}
 use Rattle.lq_base.specs.declared.reason.Reason.{Reason}
 use Rattle.lq_model.proofs.Lists.{and_left, and_right}
 use Rattle.lq_model.specs.declared.caller.Room.TheVariants.{Ordinary}
 use Rattle.lq_model.specs.declared.fault.StoreFault.{StoreFault}
+use Rattle.lq_store.specs.Crashes.{Crashes}
+use Rattle.lq_store.specs.Journal.{Entry}
 use Rattle.lq_store.specs.State.{State}
 use Rattle.lq_track.specs.Database.{Database}
 use Rattle.lq_turns.specs.Contents.{Contents, contents_of, with_contents}
@@ -23,6 +25,8 @@ use Rattle.lq_turns.specs.declared.stamp.Stamp.{Stamp}
 use Rattle.lq_beside.specs.Replays.{call_fits, calls_fit}
 use Rattle.lq_hand.proofs.InHand.{last_first}
 use Rattle.lq_hand.specs.Hand.{AreTurns, IsNext, IsReady, calls_left, hand_place, opens, place_of}
+use Rattle.lq_run.proofs.Since.{leave_wider, none_yet}
+use Rattle.lq_run.specs.Crashing.{CrashesFor, CrashesTaken, LeftInCall, LeftInNext}
 use Rattle.lq_run.specs.Moves.{Accepts, Goes, IsAt, Makes, Refuses, Takes, refusal_of, room_of}
 use Rattle.lq_run.specs.Stands.{Stands}
 use Rattle.lq_hand.specs.declared.hand.Hand.{Hand}
@@ -109,6 +113,27 @@ module _ {Key : Type 0} (d : Dialect) (m : Meaning Key) (stamp : Stamp) (number 
     went = went;
   }
 
+  next_is : (c : Call) (calls : List Call) (on : Bool) (turns : Turns Key) (s : Session) → (more : List Call) × (rest d m stamp (Inside (c ∷ calls) on turns) (both_of s) ≡ c ∷ more)
+  next_is Begin calls on turns s = (_, refl)
+  next_is Commit calls on turns s = (_, refl)
+  next_is Abort calls on turns s = (_, refl)
+  next_is (Execute deed) calls on turns s = (_, refl)
+  next_is (Alone deeds room) calls on turns s = (_, refl)
+
+  -- with nothing written yet of the next call in hand
+  still_at : (calls : List Call) (on : Bool) (turns : Turns Key) (x start : State) (s : Session) → calls ≢ [] → IsAt d m stamp number (Inside calls on turns) x start s
+      → (there left : List Entry) → left ≡ there → LeftInNext d m stamp number (Inside calls on turns) s there left
+  still_at [] on turns x start s some is there left same = absurd (some refl)
+  still_at (call ∷ calls) on turns x start s some is there left same =
+      let next = next_is call calls on turns s in
+      record { call = call; others = next.0; next = next.1; by = ordinary call s.is_open is.ready.0; is = none_yet d call s there left same }
+
+  pub still_next : (hand : Hand) (turns : Turns Key) (x start : State) (s : Session) → hand.phase ≡ phase.Inside → calls_left hand ≢ [] → IsAt d m stamp number (place_of hand turns) x start s
+      → (there left : List Entry) → left ≡ there → LeftInNext d m stamp number (place_of hand turns) s there left
+  still_next hand turns x start s inside some is there left same =
+      let at : place_of hand turns ≡ Inside (calls_left hand) hand.goes_on turns = ap (λ p. hand_place p (calls_left hand) hand.goes_on turns) inside in
+      subst (λ p. LeftInNext d m stamp number p s there left) (sym at) (still_at (calls_left hand) hand.goes_on turns x start s some (subst (λ p. IsAt d m stamp number p x start s) at is) there left same)
+
   -- and so for a hand
 
   module _ (hand : Hand) (left : List Call) (call : Call) (x y : State) (inside : hand.phase ≡ phase.Inside) (last : hand.calls ≡ left ++ call ∷ []) where
@@ -120,13 +145,6 @@ module _ {Key : Type 0} (d : Dialect) (m : Meaning Key) (stamp : Stamp) (number 
 
     there : (turns : Turns Key) → place_of (record hand { calls = left }) turns ≡ Inside (reverse left) hand.goes_on turns
     there turns = ap (λ p. hand_place p (reverse left) hand.goes_on turns) inside
-
-    next_is : (c : Call) (calls : List Call) (on : Bool) (turns : Turns Key) (s : Session) → (more : List Call) × (rest d m stamp (Inside (c ∷ calls) on turns) (both_of s) ≡ c ∷ more)
-    next_is Begin calls on turns s = (_, refl)
-    next_is Commit calls on turns s = (_, refl)
-    next_is Abort calls on turns s = (_, refl)
-    next_is (Execute deed) calls on turns s = (_, refl)
-    next_is (Alone deeds room) calls on turns s = (_, refl)
 
     pub take_on : Makes d m stamp number call x moved.On y → Takes d m stamp number hand x moved.On (record hand { calls = left }) y
     unfolding goes_to
@@ -168,3 +186,12 @@ module _ {Key : Type 0} (d : Dialect) (m : Meaning Key) (stamp : Stamp) (number 
     take_lack makes turns start s is =
         let at = subst (λ p. IsAt d m stamp number p x start s) (here turns) is in
         makes start s at.dialect at.stands (head_fits call (reverse left) hand.goes_on turns s at.fits)
+
+    -- what a crash leaves
+    pub take_crash : (a b : Crashes) → CrashesFor d number call x a b → CrashesTaken d m stamp number hand x a b
+    take_crash a b crash turns start s is =
+        let at = subst (λ p. IsAt d m stamp number p x start s) (here turns) is in
+        let next = next_is call (reverse left) hand.goes_on turns s in
+        leave_wider x.entries (LeftInCall d call s) (LeftInNext d m stamp number (place_of hand turns) s) a b
+        (λ there left it. record { call = call; others = next.0; next = ap (λ p. rest d m stamp p (both_of s)) (here turns) ∙ next.1; by = ordinary call s.is_open at.ready.0; is = it })
+        (crash start s at.dialect at.stands (head_fits call (reverse left) hand.goes_on turns s at.fits))

@@ -9,3 +9,5 @@ pub mod Commands
 pub mod Faults
 pub mod Opens
 pub mod Left
+pub mod Crashes
+pub mod Crashing

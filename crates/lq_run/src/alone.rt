@@ -1,5 +1,7 @@
 ghost use Rattle.std.specs.Prelude.{◌≡◌, ◌++◌, ◌∷◌, ◌≤◌, [], IfErr, IfOk, IsTrue, OnOk, false, is_some, map, nat_lt, option_map, unwrap_or};
 ghost use Rattle.lq_model.specs.Catalogue.{table_of};
+ghost use Rattle.lq_run.specs.Crashes.{CrashesOpened, CrashesReleased, CrashesTagged};
+ghost use Rattle.lq_run.specs.Crashing.{CrashesFor, CrashesOpening};
 ghost use Rattle.lq_run.specs.Does.{AllWritable, AloneFor};
 ghost use Rattle.lq_run.specs.Left.{LeavesOpened, LeavesReleased, LeavesTagged};
 ghost use Rattle.lq_run.specs.Opens.{FailsFirst, OpensOn, TakesLock, opening_by};
@@ -8,9 +10,10 @@ ghost use Rattle.lq_store.specs.State.{is_open, seen};
 ghost use Rattle.lq_track.specs.Database.{has_rows};
 ghost use Rattle.lq_track.specs.Lock.{lock_table};
 ghost use Rattle.lq_track.specs.Log.{log_table};
-ghost use Rattle.lq_turns.specs.Script.{if_missing};
+ghost use Rattle.lq_turns.specs.Script.{closing, if_missing};
 ghost use Rattle.lq_model.specs.declared.caller.Room.TheVariants as room;
 ghost use Rattle.lq_model.specs.declared.fault.StoreFault.TheVariants as fault;
+ghost use Rattle.lq_turns.specs.declared.call.Call.TheVariants as call;
 ghost use Rattle.lq_turns.specs.declared.deed.Deed.TheVariants as deed;
 ghost use Rattle.lq_turns.specs.declared.deed.OnLock.TheVariants as on_lock;
 ghost use Rattle.lq_turns.specs.declared.deed.OnRows.TheVariants as on_rows;
@@ -48,6 +51,8 @@ pub fn take_lock<S: Store, P: SqlText>(
     ensures valid { S.valid store.new }
     ensures does { TakesLock dialect stamp.now session (S.state store.old) result (S.state store.new) }
     ensures leaves { LeavesOpened dialect stamp.now (S.state store.old) result (S.state store.new) }
+    ensures crash { CrashesOpening dialect stamp.now session (S.state store.old) (S.crashes store.old) (S.crashes store.new) }
+    ensures any_moment { CrashesOpened dialect stamp.now (S.state store.old) (S.crashes store.old) (S.crashes store.new) }
     ensures faults { CountsDisk result (S.faults store.old) (S.faults store.new) }
 {
     match first_deeds(alloc, session, store, dialect, stamp) {
@@ -81,6 +86,8 @@ pub fn tag_row<S: Store, P: SqlText>(
     ensures valid { S.valid store.new }
     ensures does { AloneFor dialect session (deed.Rows (on_rows.Tagged of tag) ∷ []) room.Ordinary (S.state store.old) result (S.state store.new) }
     ensures leaves { LeavesTagged dialect of tag (S.state store.old) result (S.state store.new) }
+    ensures crash { CrashesFor dialect session (call.Alone (deed.Rows (on_rows.Tagged of tag) ∷ []) room.Ordinary) (S.state store.old) (S.crashes store.old) (S.crashes store.new) }
+    ensures any_moment { CrashesTagged dialect of tag (S.state store.old) (S.crashes store.old) (S.crashes store.new) }
     ensures faults { CountsDisk result (S.faults store.old) (S.faults store.new) }
 {
     do_alone(
@@ -109,6 +116,8 @@ pub fn free_lock<S: Store, P: SqlText>(
     ensures valid { S.valid store.new }
     ensures does { AloneFor dialect session (deed.Locks on_lock.Freed ∷ []) room.Release (S.state store.old) result (S.state store.new) }
     ensures leaves { LeavesReleased dialect (S.state store.old) result (S.state store.new) }
+    ensures crash { CrashesFor dialect session closing (S.state store.old) (S.crashes store.old) (S.crashes store.new) }
+    ensures any_moment { CrashesReleased dialect (S.state store.old) (S.crashes store.old) (S.crashes store.new) }
     ensures faults { CountsDisk result (S.faults store.old) (S.faults store.new) }
 {
     do_alone(

@@ -1,10 +1,13 @@
 ghost use Rattle.std.specs.Prelude.{◌≡◌, ◌++◌, IfOk, IsTrue, OnOk, false, true};
 ghost use Rattle.lq_hand.specs.Writable.{IsWritable};
+ghost use Rattle.lq_run.specs.Crashes.{CrashesLeave};
+ghost use Rattle.lq_run.specs.Crashing.{CrashesFor, LeftAlone};
 ghost use Rattle.lq_run.specs.Does.{AbortFor, AllRead, AllWritable, AloneFor, BeginFor, CommitFor, DoesFor, IsRead, Reads};
 ghost use Rattle.lq_run.specs.Stands.{text_by, texts_of};
 ghost use Rattle.lq_store.specs.Calls.{CountsDisk};
 ghost use Rattle.lq_store.specs.State.{is_open};
 ghost use Rattle.lq_turns.specs.Deed.{made_of};
+ghost use Rattle.lq_turns.specs.declared.call.Call.TheVariants as call;
 
 use crate::deed::{caller, print};
 use lq_base::{Dialect, Items, NoMemory};
@@ -27,6 +30,7 @@ pub fn do_deed<S: Store>(
     requires reads { Reads dialect (made_of dialect deed.now).1 text.now }
     ensures valid { S.valid store.new }
     ensures does { DoesFor dialect session deed.now (S.state store.old) result (S.state store.new) }
+    ensures crash { CrashesFor dialect session (call.Execute deed.now) (S.state store.old) (S.crashes store.old) (S.crashes store.new) }
     ensures faults { CountsDisk result (S.faults store.old) (S.faults store.new) }
 {
     match store.execute(session, caller(deed), text) {
@@ -42,6 +46,7 @@ pub fn commit<S: Store>(session: u32, store: &mut S, dialect: Dialect) -> Result
     requires open_here { is_open session (S.state store.old).begun ≡ true }
     ensures valid { S.valid store.new }
     ensures does { CommitFor dialect session (S.state store.old) result (S.state store.new) }
+    ensures crash { CrashesFor dialect session call.Commit (S.state store.old) (S.crashes store.old) (S.crashes store.new) }
     ensures faults { CountsDisk result (S.faults store.old) (S.faults store.new) }
 {
     store.commit(session)
@@ -54,6 +59,7 @@ pub fn begin<S: Store>(session: u32, store: &mut S, dialect: Dialect) -> Result<
     requires closed { is_open session (S.state store.old).begun ≡ false }
     ensures valid { S.valid store.new }
     ensures does { BeginFor dialect session (S.state store.old) result (S.state store.new) }
+    ensures crash { CrashesLeave (S.state store.old).entries LeftAlone (S.crashes store.old) (S.crashes store.new) }
     ensures faults { CountsDisk result (S.faults store.old) (S.faults store.new) }
 {
     store.begin(session)
@@ -66,6 +72,7 @@ pub fn abort<S: Store>(session: u32, store: &mut S, dialect: Dialect)
     requires open_here { is_open session (S.state store.old).begun ≡ true }
     ensures valid { S.valid store.new }
     ensures does { AbortFor dialect session (S.state store.old) (S.state store.new) }
+    ensures crash { CrashesLeave (S.state store.old).entries LeftAlone (S.crashes store.old) (S.crashes store.new) }
     ensures faults { S.faults store.new ≡ S.faults store.old }
 {
     store.abort(session);
@@ -88,6 +95,7 @@ pub fn do_alone<S: Store, P: SqlText>(
     requires writable { AllWritable dialect deeds.now }
     ensures valid { S.valid store.new }
     ensures does { AloneFor dialect session deeds.now room (S.state store.old) result (S.state store.new) }
+    ensures crash { CrashesFor dialect session (call.Alone deeds.now room) (S.state store.old) (S.crashes store.old) (S.crashes store.new) }
     ensures faults { CountsDisk result (S.faults store.old) (S.faults store.new) }
 {
     let mut texts = Items::new(alloc);

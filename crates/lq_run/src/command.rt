@@ -1,5 +1,6 @@
 ghost use Rattle.std.specs.Prelude.{◌≡◌, ◌≤◌, true};
 ghost use Rattle.lq_run.specs.Commands.{IsNew, LeavesAll, RunsWhole, SomeMayRun, TellsAll};
+ghost use Rattle.lq_run.specs.Crashes.{CrashesAll};
 ghost use Rattle.lq_run.specs.Left.{LeftAll};
 ghost use Rattle.lq_outside.specs.Count.{Rose};
 ghost use Rattle.lq_run.specs.Faults.{is_disk_end};
@@ -18,7 +19,8 @@ use lq_store::Store;
 /// Where it is done, or a statement was refused, the store stands for what the whole script leaves. A
 /// fault of the store before the lock is taken leaves it as it was, but for what a fault of the disk
 /// has written; after that it stands for what a front of the script leaves. Where there was no fault
-/// the source has told what it was on its way to tell.
+/// the source has told what it was on its way to tell. A crash at any moment leaves the entries before,
+/// followed by those that a stop of the script may leave.
 pub fn run_command<T: Source + Drop, S: Store, P: SqlText>(
     runner: &mut Runner<T>,
     session: u32,
@@ -35,6 +37,7 @@ pub fn run_command<T: Source + Drop, S: Store, P: SqlText>(
     ensures ends { RunsWhole runner.old.dialect T.meaning runner.old.stamp session (standing T.left T.way runner.old) (S.state store.old) result (S.state store.new) }
     ensures leaves { LeavesAll runner.old.dialect T.meaning runner.old.stamp (standing T.left T.way runner.old) (S.state store.old) result (S.state store.new) }
     ensures left { LeftAll runner.old.dialect T.meaning runner.old.stamp (standing T.left T.way runner.old) (S.state store.old) result (S.state store.new) }
+    ensures any_moment { CrashesAll runner.old.dialect T.meaning runner.old.stamp (standing T.left T.way runner.old) (S.state store.old) (S.crashes store.old) (S.crashes store.new) }
     ensures tells { TellsAll runner.old.dialect T.meaning runner.old.stamp (standing T.left T.way runner.old) (S.state store.old) result (T.way runner.new.source) }
     ensures later { S.faults store.old ≤ S.faults store.new }
     ensures rose { is_disk_end result ≡ true → Rose (S.faults store.old) (S.faults store.new) }

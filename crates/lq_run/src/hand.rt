@@ -3,6 +3,7 @@ ghost use Rattle.lq_hand.specs.Hand.{AreTurns, IsNext, calls_left};
 ghost use Rattle.lq_hand.specs.declared.hand.Phase.TheVariants as phase;
 ghost use Rattle.lq_hand.specs.Writable.{IsWritable};
 ghost use Rattle.lq_outside.specs.Count.{Rose};
+ghost use Rattle.lq_run.specs.Crashing.{CrashesFor, CrashesTaken};
 ghost use Rattle.lq_run.specs.Faults.{is_disk_move};
 ghost use Rattle.lq_run.specs.Moves.{Makes, MovesTo, Takes, WasOpen, moved_of};
 ghost use Rattle.lq_store.specs.State.{is_open};
@@ -46,6 +47,7 @@ pub fn take<T: Source, S: Store, P: SqlText>(
     requires turns { AreTurns dialect (is_open session (S.state store.old).begun) (calls_left hand.old) }
     ensures valid { S.valid store.new }
     ensures takes { (stamp : Stamp) → Takes dialect T.meaning stamp session hand.old (S.state store.old) result hand.new (S.state store.new) }
+    ensures crash { (stamp : Stamp) → CrashesTaken dialect T.meaning stamp session hand.old (S.state store.old) (S.crashes store.old) (S.crashes store.new) }
     ensures same { hand.new.goes_on ≡ hand.old.goes_on }
     ensures phase { MovesTo result hand.new.phase }
     ensures lack { WasOpen session (S.state store.old) result (S.state store.new) }
@@ -81,6 +83,7 @@ fn make<T: Source, S: Store, P: SqlText>(
     requires turn { IsNext dialect (is_open session (S.state store.old).begun) call.now }
     ensures valid { S.valid store.new }
     ensures makes { (stamp : Stamp) → Makes dialect T.meaning stamp session call.now (S.state store.old) result (S.state store.new) }
+    ensures crash { CrashesFor dialect session call.now (S.state store.old) (S.crashes store.old) (S.crashes store.new) }
     ensures lack { WasOpen session (S.state store.old) result (S.state store.new) }
     ensures later { S.faults store.old ≤ S.faults store.new }
     ensures rose { is_disk_move result ≡ true → Rose (S.faults store.old) (S.faults store.new) }
@@ -108,6 +111,7 @@ fn execute<T: Source, S: Store, P: SqlText>(
     requires writable { IsWritable dialect deed.now }
     ensures valid { S.valid store.new }
     ensures makes { (stamp : Stamp) → Makes dialect T.meaning stamp session (call.Execute deed.now) (S.state store.old) result (S.state store.new) }
+    ensures crash { CrashesFor dialect session (call.Execute deed.now) (S.state store.old) (S.crashes store.old) (S.crashes store.new) }
     ensures lack { WasOpen session (S.state store.old) result (S.state store.new) }
     ensures later { S.faults store.old ≤ S.faults store.new }
     ensures rose { is_disk_move result ≡ true → Rose (S.faults store.old) (S.faults store.new) }

@@ -7,6 +7,8 @@ ghost use Rattle.lq_model.specs.declared.fault.StoreFault.TheVariants as fault;
 ghost use Rattle.lq_base.specs.declared.dialect.Dialect.{Dialect};
 ghost use Rattle.lq_outside.specs.Count.{Rose};
 ghost use Rattle.lq_hand.specs.Counts.{first_coming};
+ghost use Rattle.lq_run.specs.Crashes.{CrashesLeave};
+ghost use Rattle.lq_run.specs.Crashing.{CrashesClosing, CrashesFor, CrashesNext, CrashesStep, LeftAlone};
 ghost use Rattle.lq_run.specs.Does.{AbortFor};
 ghost use Rattle.lq_run.specs.Ends.{disk_failed};
 ghost use Rattle.lq_run.specs.Faults.{is_disk_step};
@@ -17,6 +19,7 @@ ghost use Rattle.lq_store.specs.State.{is_open, seen};
 ghost use Rattle.lq_track.specs.Database.{lock_of};
 ghost use Rattle.lq_hand.specs.declared.progress.Progress.{Progress as Counted};
 ghost use Rattle.lq_turns.specs.Goes.{Both};
+ghost use Rattle.lq_turns.specs.Script.{closing};
 ghost use Rattle.lq_turns.specs.declared.stamp.Stamp.{Stamp as Clocked};
 
 use crate::calls::{abort, do_alone};
@@ -101,6 +104,7 @@ impl<T: Source + Drop> Runner<T> {
         ensures same { (self.new.dialect ≡ self.old.dialect) × (self.new.stamp ≡ self.old.stamp) }
         ensures reads { T.reads self.new.source self.new.dialect }
         ensures steps { Steps self.old.dialect T.meaning self.old.stamp session (standing T.left T.way self.old) (standing T.left T.way self.new) (S.state store.old) result (S.state store.new) }
+        ensures crash { CrashesStep self.old.dialect T.meaning self.old.stamp session (standing T.left T.way self.old) (S.state store.old) (S.crashes store.old) (S.crashes store.new) }
         ensures lost { Loses self.old.dialect self.old.stamp self.old.hand (S.state store.old) result (S.state store.new) }
         ensures disk { disk_failed self.new.fault ≡ false }
         ensures later { S.faults store.old ≤ S.faults store.new }
@@ -128,6 +132,7 @@ impl<T: Source + Drop> Runner<T> {
         ensures same { (self.new.dialect ≡ self.old.dialect) × (self.new.stamp ≡ self.old.stamp) }
         ensures reads { T.reads self.new.source self.new.dialect }
         ensures steps { Steps self.old.dialect T.meaning self.old.stamp session (standing T.left T.way self.old) (standing T.left T.way self.new) (S.state store.old) result (S.state store.new) }
+        ensures crash { CrashesStep self.old.dialect T.meaning self.old.stamp session (standing T.left T.way self.old) (S.state store.old) (S.crashes store.old) (S.crashes store.new) }
         ensures lost { Loses self.old.dialect self.old.stamp self.old.hand (S.state store.old) result (S.state store.new) }
         ensures disk { disk_failed self.new.fault ≡ false }
         ensures later { S.faults store.old ≤ S.faults store.new }
@@ -155,6 +160,7 @@ impl<T: Source + Drop> Runner<T> {
         ensures same { (self.new.dialect ≡ self.old.dialect) × (self.new.stamp ≡ self.old.stamp) }
         ensures reads { T.reads self.new.source self.new.dialect }
         ensures steps { Steps self.old.dialect T.meaning self.old.stamp session (standing T.left T.way self.old) (standing T.left T.way self.new) (S.state store.old) result (S.state store.new) }
+        ensures crash { CrashesNext self.old.dialect T.meaning self.old.stamp session (place (standing T.left T.way self.old)) (S.state store.old) (S.crashes store.old) (S.crashes store.new) }
         ensures lost { Loses self.old.dialect self.old.stamp self.old.hand (S.state store.old) result (S.state store.new) }
         ensures disk { disk_failed self.new.fault ≡ false }
         ensures later { S.faults store.old ≤ S.faults store.new }
@@ -186,6 +192,7 @@ impl<T: Source + Drop> Runner<T> {
         ensures same { (self.new.dialect ≡ self.old.dialect) × (self.new.stamp ≡ self.old.stamp) }
         ensures reads { T.reads self.new.source self.new.dialect }
         ensures steps { StepsShown self.old.dialect T.meaning self.old.stamp session (standing T.left T.way self.old) (standing T.left T.way self.new) (S.state store.old) result (S.state store.new) }
+        ensures crash { CrashesNext self.old.dialect T.meaning self.old.stamp session (place (standing T.left T.way self.old)) (S.state store.old) (S.crashes store.old) (S.crashes store.new) }
         ensures disk { disk_failed self.new.fault ≡ false }
         ensures later { S.faults store.old ≤ S.faults store.new }
         ensures rose { is_disk_step result ≡ true → Rose (S.faults store.old) (S.faults store.new) }
@@ -254,6 +261,7 @@ impl<T: Source + Drop> Runner<T> {
         ensures fault { self.new.fault ≡ Some fault.OutOfMemory }
         ensures hand { self.new.hand ≡ no_turn }
         ensures aborts { AbortFor self.old.dialect session (S.state store.old) (S.state store.new) }
+        ensures crash { CrashesLeave (S.state store.old).entries LeftAlone (S.crashes store.old) (S.crashes store.new) }
         ensures disk { disk_failed self.new.fault ≡ false }
         ensures faults { S.faults store.new ≡ S.faults store.old }
         ensures going { GoesOn result self.new.hand.phase }
@@ -276,6 +284,7 @@ impl<T: Source + Drop> Runner<T> {
         ensures same { (self.new.dialect ≡ self.old.dialect) × (self.new.stamp ≡ self.old.stamp) }
         ensures reads { T.reads self.new.source self.new.dialect }
         ensures steps { Steps self.old.dialect T.meaning self.old.stamp session (standing T.left T.way self.old) (standing T.left T.way self.new) (S.state store.old) result (S.state store.new) }
+        ensures crash { CrashesStep self.old.dialect T.meaning self.old.stamp session (standing T.left T.way self.old) (S.state store.old) (S.crashes store.old) (S.crashes store.new) }
         ensures lost { Loses self.old.dialect self.old.stamp self.old.hand (S.state store.old) result (S.state store.new) }
         ensures disk { disk_failed self.new.fault ≡ false }
         ensures later { S.faults store.old ≤ S.faults store.new }
@@ -303,6 +312,7 @@ impl<T: Source + Drop> Runner<T> {
         ensures same { (self.new.dialect ≡ self.old.dialect) × (self.new.stamp ≡ self.old.stamp) }
         ensures reads { T.reads self.new.source self.new.dialect }
         ensures steps { Steps self.old.dialect T.meaning self.old.stamp session (standing T.left T.way self.old) (standing T.left T.way self.new) (S.state store.old) result (S.state store.new) }
+        ensures crash { CrashesStep self.old.dialect T.meaning self.old.stamp session (standing T.left T.way self.old) (S.state store.old) (S.crashes store.old) (S.crashes store.new) }
         ensures lost { Loses self.old.dialect self.old.stamp self.old.hand (S.state store.old) result (S.state store.new) }
         ensures disk { disk_failed self.new.fault ≡ false }
         ensures later { S.faults store.old ≤ S.faults store.new }
@@ -340,6 +350,7 @@ impl<T: Source + Drop> Runner<T> {
         ensures same { (self.new.dialect ≡ self.old.dialect) × (self.new.stamp ≡ self.old.stamp) }
         ensures reads { T.reads self.new.source self.new.dialect }
         ensures steps { Steps self.old.dialect T.meaning self.old.stamp session (standing T.left T.way self.old) (standing T.left T.way self.new) (S.state store.old) result (S.state store.new) }
+        ensures crash { CrashesStep self.old.dialect T.meaning self.old.stamp session (standing T.left T.way self.old) (S.state store.old) (S.crashes store.old) (S.crashes store.new) }
         ensures disk { disk_failed self.new.fault ≡ false }
         ensures later { S.faults store.old ≤ S.faults store.new }
         ensures rose { is_disk_step result ≡ true → Rose (S.faults store.old) (S.faults store.new) }
@@ -374,6 +385,7 @@ impl<T: Source + Drop> Runner<T> {
         ensures same { (self.new.dialect ≡ self.old.dialect) × (self.new.stamp ≡ self.old.stamp) }
         ensures reads { T.reads self.new.source self.new.dialect }
         ensures steps { Steps self.old.dialect T.meaning self.old.stamp session (standing T.left T.way self.old) (standing T.left T.way self.new) (S.state store.old) result (S.state store.new) }
+        ensures crash { CrashesStep self.old.dialect T.meaning self.old.stamp session (standing T.left T.way self.old) (S.state store.old) (S.crashes store.old) (S.crashes store.new) }
         ensures disk { disk_failed self.new.fault ≡ false }
         ensures later { S.faults store.old ≤ S.faults store.new }
         ensures rose { is_disk_step result ≡ true → Rose (S.faults store.old) (S.faults store.new) }
@@ -420,6 +432,7 @@ impl<T: Source + Drop> Runner<T> {
         ensures same { (self.new.dialect ≡ self.old.dialect) × (self.new.stamp ≡ self.old.stamp) }
         ensures reads { T.reads self.new.source self.new.dialect }
         ensures ends { EndsFor self.old.dialect T.meaning self.old.stamp session self.old.fault self.old.refused (S.state store.old) result (S.state store.new) }
+        ensures crash { CrashesClosing self.old.dialect self.old.stamp session self.old.fault (S.state store.old) (S.crashes store.old) (S.crashes store.new) }
         ensures source { self.new.source ≡ self.old.source }
         ensures disk { disk_failed self.new.fault ≡ false }
         ensures later { S.faults store.old ≤ S.faults store.new }
@@ -453,6 +466,7 @@ impl<T: Source + Drop> Runner<T> {
         ensures same { (self.new.dialect ≡ self.old.dialect) × (self.new.stamp ≡ self.old.stamp) }
         ensures reads { T.reads self.new.source self.new.dialect }
         ensures ends { EndsFor self.old.dialect T.meaning self.old.stamp session (Some fault) self.old.refused (S.state store.old) result (S.state store.new) }
+        ensures crash { CrashesClosing self.old.dialect self.old.stamp session (Some fault) (S.state store.old) (S.crashes store.old) (S.crashes store.new) }
         ensures source { self.new.source ≡ self.old.source }
         ensures disk { disk_failed self.new.fault ≡ false }
         ensures later { S.faults store.old ≤ S.faults store.new }
@@ -477,6 +491,7 @@ impl<T: Source + Drop> Runner<T> {
         ensures same { (self.new.dialect ≡ self.old.dialect) × (self.new.stamp ≡ self.old.stamp) }
         ensures reads { T.reads self.new.source self.new.dialect }
         ensures closes { ClosesFor self.old.dialect T.meaning self.old.stamp session (last_end self.old.fault self.old.refused) (S.state store.old) result (S.state store.new) }
+        ensures crash { CrashesFor self.old.dialect session closing (S.state store.old) (S.crashes store.old) (S.crashes store.new) }
         ensures source { self.new.source ≡ self.old.source }
         ensures disk { disk_failed self.new.fault ≡ false }
         ensures later { S.faults store.old ≤ S.faults store.new }

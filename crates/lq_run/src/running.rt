@@ -1,4 +1,5 @@
 ghost use Rattle.std.specs.Prelude.{◌≡◌, ◌≤◌, false, true};
+ghost use Rattle.lq_run.specs.Crashing.{CrashesOn};
 ghost use Rattle.lq_run.specs.Ends.{Runs, RunsOn, TellsOn};
 ghost use Rattle.lq_outside.specs.Count.{Rose};
 ghost use Rattle.lq_run.specs.Faults.{is_disk_end};
@@ -14,7 +15,8 @@ use lq_store::Store;
 /// Where it is done, or a statement was refused, the store stands for what the whole script leaves.
 /// After a fault of the store it stands for what a front of the script leaves; and the lock is free
 /// again where it had no mark. Where there was no fault the source has told what it was on its way to
-/// tell.
+/// tell. A crash at any moment leaves a front of what the script writes, or of what was written when the
+/// lock was freed after a fault.
 pub fn run_on<T: Source + Drop, S: Store, P: SqlText>(
     runner: &mut Runner<T>,
     session: u32,
@@ -29,6 +31,7 @@ pub fn run_on<T: Source + Drop, S: Store, P: SqlText>(
     requires runs { Runs runner.old.dialect T.meaning runner.old.stamp session (standing T.left T.way runner.old) (S.state store.old) }
     ensures valid { S.valid store.new }
     ensures ends { RunsOn runner.old.dialect T.meaning runner.old.stamp session (standing T.left T.way runner.old) (S.state store.old) result (S.state store.new) }
+    ensures crash { CrashesOn runner.old.dialect T.meaning runner.old.stamp session (standing T.left T.way runner.old) (S.state store.old) (S.crashes store.old) (S.crashes store.new) }
     ensures tells { TellsOn runner.old.dialect T.meaning runner.old.stamp session (standing T.left T.way runner.old) (S.state store.old) result (T.way runner.new.source) }
     ensures later { S.faults store.old ≤ S.faults store.new }
     ensures rose { is_disk_end result ≡ true → Rose (S.faults store.old) (S.faults store.new) }

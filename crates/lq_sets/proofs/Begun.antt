@@ -11,7 +11,7 @@ use Rattle.lq_model.proofs.Lists.{all-append, all-append_left, all-append_right,
 use Rattle.lq_plan.specs.Work.{item_at, work, work_from}
 use Rattle.lq_plan.specs.declared.turns.Item.{Item}
 use Rattle.lq_sets.specs.SetTurns.{ArePlanned}
-use Rattle.lq_sets.specs.View.{view, views}
+use Rattle.lq_seen.specs.View.{view, views}
 use Rattle.lq_turns.proofs.Known.{faultless_are_apart}
 use Rattle.lq_turns.specs.Faults.{faults}
 use Rattle.lq_turns.specs.Set.{Set}

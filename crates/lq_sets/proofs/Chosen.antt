@@ -13,7 +13,7 @@ use Rattle.lq_expr.specs.declared.options.Options.{Options}
 use Rattle.lq_kinds.specs.declared.change_set.ChangeSet.{ChangeSet}
 use Rattle.lq_model.specs.Catalogue.{Catalogue, table_of}
 use Rattle.lq_sets.specs.Seen.{is_fill, unasked}
-use Rattle.lq_sets.specs.View.{condition_of, view}
+use Rattle.lq_seen.specs.View.{condition_of, view}
 use Rattle.lq_track.specs.Database.{Database, has_rows, lock_of, rows_of, users_of}
 use Rattle.lq_track.specs.Lock.{lock_table}
 use Rattle.lq_track.specs.Log.{log_table}

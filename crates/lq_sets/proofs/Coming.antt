@@ -22,16 +22,16 @@ use Rattle.lq_model.proofs.Lists.{and_left}
 use Rattle.lq_model.specs.Catalogue.{Catalogue}
 use Rattle.lq_plan.specs.declared.turns.Item.{Item}
 use Rattle.lq_sets.proofs.Kept.{IsBy, RowsAre, choice_by, plan_kept, rows_are, turn_kept}
-use Rattle.lq_sets.proofs.Leading.{Adds, finished_leads, leads_on, refused_leads, refused_tells}
+use Rattle.lq_seen.proofs.Leading.{Adds, finished_leads, leads_on, refused_leads, refused_tells}
 use Rattle.lq_sets.proofs.Planned.{Comes, comes}
-use Rattle.lq_sets.proofs.RowsBack.{all_at}
+use Rattle.lq_seen.proofs.Read.{all_at}
 use Rattle.lq_sets.specs.SetTurns.{ArePlanned, CameBy, CameTo, IsInHand, IsKeptBy, IsOf, YieldsAs, YieldsTo, goes_past, last_after, set_way, sets_left, to_settle}
-use Rattle.lq_sets.proofs.Told.{IsToldBy}
-use Rattle.lq_sets.specs.Telling.{Leads, Tells, happened_as, happens, warned_of}
-use Rattle.lq_sets.specs.View.{any_meaning, view, views}
+use Rattle.lq_seen.proofs.Told.{IsToldBy}
+use Rattle.lq_seen.specs.Telling.{Leads, Tells, happened_as, happens, warned_of}
+use Rattle.lq_seen.specs.View.{any_meaning, view, views}
 use Rattle.lq_sets.specs.declared.in_hand.InHand.{InHand}
-use Rattle.lq_sets.specs.declared.outcome.Halt.{Halt}
-use Rattle.lq_sets.specs.declared.outcome.Outcome.{Outcome}
+use Rattle.lq_seen.specs.declared.outcome.Halt.{Halt}
+use Rattle.lq_seen.specs.declared.outcome.Outcome.{Outcome}
 use Rattle.lq_sets.specs.declared.set_turns.SetTurns.{SetTurns}
 use Rattle.lq_sets.specs.declared.set_turns.Tried.{Tried}
 use Rattle.lq_sets.specs.declared.set_turns.Tried.TheVariants.{Halted, Lack, Skipped, Turn as Entered}

@@ -11,7 +11,7 @@ use Rattle.lq_model.proofs.Lists.{or_left, or_right}
 use Rattle.lq_plan.specs.Work.{item_at, work_from}
 use Rattle.lq_plan.specs.declared.turns.Item.{Item}
 use Rattle.lq_sets.specs.SetTurns.{ArePlanned}
-use Rattle.lq_sets.specs.View.{any_meaning, view, views}
+use Rattle.lq_seen.specs.View.{any_meaning, view, views}
 use Rattle.lq_turns.specs.Again.{are_twins, is_twin}
 use Rattle.lq_turns.specs.Contents.{Contents}
 use Rattle.lq_turns.specs.Script.{calls_of_turn, calls_unless, sets_calls, turn_by}

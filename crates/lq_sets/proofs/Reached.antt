@@ -10,11 +10,11 @@ use Rattle.lq_hand.specs.declared.source.Entered.TheVariants as entered
 use Rattle.lq_model.proofs.Lists.{all-append_left, all-append_right, and_left}
 use Rattle.lq_model.specs.Catalogue.{Catalogue}
 use Rattle.lq_plan.specs.declared.turns.Item.{Item}
-use Rattle.lq_sets.proofs.Leading.{leads_end}
+use Rattle.lq_seen.proofs.Leading.{leads_end}
 use Rattle.lq_sets.proofs.Planned.{none_left, none_settled}
 use Rattle.lq_sets.specs.SetTurns.{ArePlanned, CameTo, IsReadFor, Knows, set_way, sets_left}
-use Rattle.lq_sets.specs.Telling.{Leads, Tells}
-use Rattle.lq_sets.specs.View.{any_meaning}
+use Rattle.lq_seen.specs.Telling.{Leads, Tells}
+use Rattle.lq_seen.specs.View.{any_meaning}
 use Rattle.lq_sets.specs.declared.set_turns.SetTurns.{SetTurns}
 use Rattle.lq_sets.specs.declared.set_turns.Tried.TheVariants.{Halted, Skipped, Turn as Tried}
 use Rattle.lq_track.specs.Database.{Database}

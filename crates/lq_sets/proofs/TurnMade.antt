@@ -14,8 +14,8 @@ use Rattle.lq_hand.specs.Writable.{IsWritable}
 use Rattle.lq_kinds.specs.AnyChange.{is_for}
 use Rattle.lq_kinds.specs.declared.change_set.ChangeSet.{ChangeSet}
 use Rattle.lq_model.specs.Statement.{is_statement}
-use Rattle.lq_sets.proofs.Spelled.{statements_spelled}
-use Rattle.lq_sets.specs.View.{any_meaning, view}
+use Rattle.lq_seen.proofs.Spelled.{statements_spelled}
+use Rattle.lq_seen.specs.View.{any_meaning, view}
 use Rattle.lq_turns.specs.Script.{turn_by}
 use Rattle.lq_turns.specs.Settle.{exec_of, fill_turn, greatest, mark_turn, record_in, row_for, run_turn}
 use Rattle.lq_turns.specs.declared.choice.Choice.{Choice}

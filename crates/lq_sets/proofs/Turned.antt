@@ -7,11 +7,11 @@ use Rattle.lq_base.specs.declared.run.Happened.{Happened}
 use Rattle.lq_base.specs.declared.run.Printed.{Printed}
 use Rattle.lq_hand.specs.Way.{GivesUp, Looks, Way}
 use Rattle.lq_model.specs.Catalogue.{Catalogue}
-use Rattle.lq_sets.proofs.Leading.{leads_same}
+use Rattle.lq_seen.proofs.Leading.{leads_same}
 use Rattle.lq_sets.specs.SetTurns.{ArePlanned, Knows, KnowsAt, YieldsAs, YieldsTo, set_way, sets_left, to_settle}
-use Rattle.lq_sets.specs.Telling.{IsTakenBack, Leads, Tells, happened_instead, happens, stopped_instead}
+use Rattle.lq_seen.specs.Telling.{IsTakenBack, Leads, Tells, happened_instead, happens, stopped_instead}
 use Rattle.lq_sets.specs.declared.in_hand.InHand.{InHand}
-use Rattle.lq_sets.specs.declared.outcome.Outcome.{Outcome}
+use Rattle.lq_seen.specs.declared.outcome.Outcome.{Outcome}
 use Rattle.lq_sets.specs.declared.set_turns.SetTurns.{SetTurns}
 use Rattle.lq_turns.specs.Contents.{Contents}
 use Rattle.lq_turns.specs.Settle.{Settled}

@@ -17,8 +17,8 @@ use Rattle.lq_kinds.specs.declared.change_set.ChangeSet.{ChangeSet}
 use Rattle.lq_model.specs.Catalogue.{Catalogue}
 use Rattle.lq_plan.specs.Work.{work_from}
 use Rattle.lq_plan.specs.declared.turns.Item.{Item}
-use Rattle.lq_sets.specs.Telling.{Leads, Tells, happened_instead, happens}
-use Rattle.lq_sets.specs.View.{any_meaning, view, views}
+use Rattle.lq_seen.specs.Telling.{Leads, Tells, happened_instead, happens}
+use Rattle.lq_seen.specs.View.{any_meaning, view, views}
 use Rattle.lq_sets.specs.declared.in_hand.InHand.{InHand}
 use Rattle.lq_sets.specs.declared.set_turns.SetTurns.{SetTurns}
 use Rattle.lq_sets.specs.declared.set_turns.Tried.{Tried}

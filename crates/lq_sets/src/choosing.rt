@@ -4,7 +4,7 @@ ghost use Rattle.lq_cond.specs.Told.{IsTold};
 ghost use Rattle.lq_cond.specs.declared.cond.Cond.{Cond};
 ghost use Rattle.lq_expr.specs.declared.options.Options.{Options};
 ghost use Rattle.lq_sets.specs.Seen.{IsSeen, is_fill};
-ghost use Rattle.lq_sets.specs.View.{condition_of, view, view_log};
+ghost use Rattle.lq_seen.specs.View.{condition_of, view, view_log};
 ghost use Rattle.lq_track.specs.Database.{Database};
 ghost use Rattle.lq_turns.specs.Contents.{contents_of};
 ghost use Rattle.lq_turns.specs.Settle.{choice_of, own_choice, reacted, tested};

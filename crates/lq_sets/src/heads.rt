@@ -1,13 +1,13 @@
 ghost use Rattle.std.specs.Prelude.{◌≡◌, IfOk, map};
 ghost use Rattle.lq_plan.specs.Head.{headed};
 ghost use Rattle.lq_plan.specs.Told.{bare};
-ghost use Rattle.lq_sets.specs.View.{view, views};
+ghost use Rattle.lq_seen.specs.View.{view, views};
 
-use crate::selection::is_selected;
 use lq_base::{Items, NoMemory};
 use lq_expr::Options;
 use lq_kinds::ChangeSet;
 use lq_plan::Head;
+use lq_seen::is_selected;
 use std::alloc::Global;
 
 fn head_of<'a>(options: &Options, set: &'a ChangeSet) -> Head<'a>

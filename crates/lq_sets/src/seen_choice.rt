@@ -2,7 +2,7 @@ ghost use Rattle.std.specs.Prelude.{◌≡◌, [], IfOk, Some, true};
 ghost use Rattle.lq_cond.specs.declared.cond.Cond.TheVariants.{And};
 ghost use Rattle.lq_expr.specs.declared.options.Options.{Options};
 ghost use Rattle.lq_sets.specs.Seen.{unasked};
-ghost use Rattle.lq_sets.specs.View.{view};
+ghost use Rattle.lq_seen.specs.View.{view};
 ghost use Rattle.lq_track.specs.Database.{Database};
 ghost use Rattle.lq_turns.specs.Contents.{contents_of};
 ghost use Rattle.lq_turns.specs.Held.{StandsFor};

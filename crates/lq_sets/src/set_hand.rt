@@ -6,17 +6,17 @@ ghost use Rattle.lq_hand.specs.Writable.{IsWritable};
 ghost use Rattle.lq_kinds.specs.AnyChange.{is_for};
 ghost use Rattle.lq_model.specs.Statement.{is_statement};
 ghost use Rattle.lq_sets.specs.SetTurns.{IsInHand, has_turn, last_after};
-ghost use Rattle.lq_sets.specs.View.{any_meaning, view};
+ghost use Rattle.lq_seen.specs.View.{any_meaning, view};
 ghost use Rattle.lq_turns.specs.Script.{turn_by};
 ghost use Rattle.lq_turns.specs.Settle.{greatest};
 ghost use Rattle.lq_turns.specs.declared.deed.Deed.TheVariants.{Rows};
 
 use crate::printing::printed;
-use crate::turn::{fill_turn, mark_turn, run_turn};
 use lq_base::{Dialect, Identity, Items, NoMemory, Printed};
 use lq_hand::Hand;
 use lq_kinds::ChangeSet;
 use lq_model::{SqlText, Statement};
+use lq_seen::{fill_turn, mark_turn, run_turn};
 use lq_turns::{Choice, Stamp, Turn};
 use std::alloc::Global;
 

@@ -5,8 +5,8 @@ ghost use Rattle.lq_kinds.specs.AnyChange.{is_for};
 ghost use Rattle.lq_kinds.specs.Dialects.{AreFor};
 ghost use Rattle.lq_plan.specs.Work.{work};
 ghost use Rattle.lq_sets.specs.SetTurns.{CameBy, CameTo, IsKeptBy, IsReadFor, Knows, has_turn, sets_left};
-ghost use Rattle.lq_sets.specs.Telling.{told_by};
-ghost use Rattle.lq_sets.specs.View.{any_meaning, view, view_log};
+ghost use Rattle.lq_seen.specs.Telling.{told_by};
+ghost use Rattle.lq_seen.specs.View.{any_meaning, view, view_log};
 ghost use Rattle.lq_track.specs.Database.{Database};
 ghost use Rattle.lq_base.specs.declared.dialect.Dialect.{Dialect as Spoken};
 ghost use Rattle.lq_turns.specs.Contents.{Contents, contents_of};
@@ -16,17 +16,16 @@ ghost use Rattle.lq_turns.specs.Settle.{all_settled, choice_of, greatest};
 ghost use Rattle.lq_turns.specs.declared.stamp.Stamp.{Stamp as Clocked};
 
 use crate::in_hand::InHand;
-use crate::outcome::Outcome;
 use crate::planning::work_of;
 use crate::seen_choice::seen_choice;
 use crate::set_hand::{Making, hand_for, last_after, runs};
-use crate::telling::{take_back, tell};
 use lq_base::{Dialect, Items, NoMemory, Printed, Tracked};
 use lq_expr::Options;
 use lq_hand::{Entered, Hand, Source};
 use lq_kinds::{ChangeSet, Changelog};
 use lq_model::{Look, SqlText};
 use lq_plan::{Item, greatest};
+use lq_seen::{Outcome, take_back, tell};
 use lq_turns::{Choice, Stamp, What};
 use std::alloc::Global;
 
@@ -257,7 +256,7 @@ fn count_in(turn: &mut Option<InHand>, not_fresh: &mut u64)
 impl Source for SetTurns {
     ghost use Rattle.lq_kinds.specs.declared.any_change.AnyChange.{AnyChange};
     ghost use Rattle.lq_sets.specs.SetTurns.{IsReadFor, set_way, sets_left};
-    ghost use Rattle.lq_sets.specs.View.{any_meaning};
+    ghost use Rattle.lq_seen.specs.View.{any_meaning};
     ghost use Rattle.lq_turns.specs.Rest.{OfSets};
     ghost use Rattle.lq_turns.specs.Settle.{Settled};
 

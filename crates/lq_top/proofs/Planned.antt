@@ -1,154 +1,165 @@
--- A command is planned by what is kept of the database that a journal holds.
-use Rattle.std.proofs.Common.{◌≡◌, ◌∙◌, ◌&&◌, ◌||◌, ◌++◌, ap, sym, refl, subst, Bool, true, false, not, is_some, List, [], ◌∷◌, map, ℕ, Option, Some, None, Result, Ok, Err, IfOk, IfErr, inl, inr}
-use Rattle.std.specs.List.{list_all, list_any}
-use Rattle.std.proofs.lemmas.List.Folds.{list_any-append}
-use Rattle.lq_base.specs.declared.dialect.Dialect.TheVariants.{Postgresql}
-use Rattle.lq_base.specs.declared.name.Name.{Name}
-use Rattle.lq_model.specs.Catalogue.{table_of}
-use Rattle.lq_model.specs.NameSpaces.{is_taken}
-use Rattle.lq_track.specs.Database.{Database}
-use Rattle.lq_create.specs.Distinct.{created_tables}
-use Rattle.lq_create.specs.Started.{tracking_of}
-use Rattle.lq_create.specs.declared.changelog.ChangeSet.{ChangeSet}
-use Rattle.lq_create.specs.declared.changelog.CreatedTable.{CreatedTable}
-use Rattle.lq_create.specs.declared.stamp.Stamp.{Stamp}
-use Rattle.lq_create.specs.Refused.{has_places}
-use Rattle.lq_top.specs.Fit.{are_known, can_turn, fits, shown, turns, written}
-use Rattle.lq_held.proofs.Journal.{held_is}
-use Rattle.lq_held.specs.Held.{HoldsDatabase, all_texts}
-use Rattle.lq_journal.specs.declared.entry.Entry.{Entry}
-use Rattle.lq_top.specs.Held.{HoldsIn, all}
-use Rattle.lq_held.specs.Shows.{Shows}
-use Rattle.lq_top.specs.HeldFit.{fits_held, has_all, has_some, has_table, takes}
-use Rattle.lq_top.specs.Journal.{IsJournal, journal, place_after}
-use Rattle.lq_top.specs.Left.{IsCut, IsDone, IsFull, IsUnfinished}
-use Rattle.lq_top.specs.Plan.{IsCarried, IsPlanned, IsUndone, IsUnplanned}
-use Rattle.lq_top.specs.Work.{IsNoTask}
-use Rattle.lq_top.specs.declared.fault.Fault.{Fault}
-use Rattle.lq_top.specs.declared.fault.Fault.TheVariants as fault
-use Rattle.lq_held.specs.declared.held.Held.{Held}
-use Rattle.lq_top.specs.declared.planning.Plan.{Plan}
-use Rattle.lq_top.specs.declared.words.Job.{Job}
-use Rattle.lq_top.specs.declared.words.Job.TheVariants.{RollbackCount, Update}
+-- The scripts of commands as turns of their sources.
+use Rattle.std.proofs.Common.{ap, refl, sym, ◌∙◌}
+use Rattle.std.specs.List.{All, list_all, list_any}
+use Rattle.std.specs.Prelude.{Bool, List, None, Option, Some, [], false, if◌then◌else◌, is_some, map, not, option_map, reverse, suc, true, ℕ, ◌&&◌, ◌++◌, ◌||◌, ◌∷◌, ◌≡◌, ◌≢◌, ◌≤◌}
+use Rattle.lq_base.specs.declared.command.Target.{Target}
+use Rattle.lq_base.specs.declared.dialect.Dialect.{Dialect}
+use Rattle.lq_base.specs.declared.tracking.Tracked.{Tracked}
+use Rattle.lq_beside.proofs.OtherFits.{rollback_fits, sync_fits}
+use Rattle.lq_beside.proofs.UpdateFits.{update_fits}
+use Rattle.lq_beside.specs.Fitting.{HasTexts, is_deleted, is_return}
+use Rattle.lq_beside.specs.Replays.{calls_fit}
+use Rattle.lq_kinds.specs.AnyChangeLaws.{does, restores, spelled}
+use Rattle.lq_kinds.specs.Dialects.{AreFor}
+use Rattle.lq_kinds.specs.declared.any_change.AnyChange.{AnyChange}
+use Rattle.lq_model.proofs.Lists.{and_left, and_right, and_true}
+use Rattle.lq_model.specs.Sound.{IsSound}
+use Rattle.lq_model.specs.Statement.{is_statement}
+use Rattle.lq_plan.specs.Work.{item_at, work_from}
+use Rattle.lq_plan.specs.declared.turns.Item.{Item}
+use Rattle.lq_top.proofs.ViewsRead.{views_are_read}
+use Rattle.lq_back.specs.RowTurns.{goes_back, is_deletion}
+use Rattle.lq_back.specs.SyncTurn.{sync_calls}
+use Rattle.lq_seen.specs.View.{any_meaning}
+use Rattle.lq_track.specs.Database.{Database, has_twin_rows}
+use Rattle.lq_turns.specs.Contents.{contents_of}
+use Rattle.lq_turns.specs.Rest.{OfRows, OfSets, turns_calls}
+use Rattle.lq_turns.specs.Rollback.{rollback_of, rows_kept, rows_undone, turns_made, undo_turns}
+use Rattle.lq_turns.specs.Script.{has_work, rows_to_sync, sync_of, with_lock}
+use Rattle.lq_turns.specs.Session.{session_on}
+use Rattle.lq_turns.specs.Set.{IsKept as Keeps, Meaning, Set}
+use Rattle.lq_turns.specs.Settle.{is_halt, own_choice, what}
+use Rattle.lq_turns.specs.Turn.{made}
+use Rattle.lq_turns.specs.declared.call.Call.{Call}
+use Rattle.lq_turns.specs.declared.call.Call.TheVariants.{Begin, Commit, Execute}
+use Rattle.lq_turns.specs.declared.choice.What.{What}
+use Rattle.lq_turns.specs.declared.deed.Deed.TheVariants.{Rows}
+use Rattle.lq_turns.specs.declared.deed.OnRows.{OnRows}
+use Rattle.lq_turns.specs.declared.deed.OnRows.TheVariants.{Deleted, Filled, Inserted, Renewed, Tagged}
+use Rattle.lq_turns.specs.declared.stamp.Stamp.{Stamp}
+use Rattle.lq_turns.specs.declared.turn.Turn.{Turn}
+use Rattle.lq_top.specs.Scripts.{log_in, rollback_script, rollback_to, sets_in, sync_script, taking_back, update_script}
+use Rattle.lq_top.specs.Turns.{turns_script}
+use Rattle.lq_top.specs.declared.given.Given.{Given}
 
-both : (a b c : Bool) → b ≡ c → (a && b) ≡ (a && c)
-both a b c same = ap (λ x. a && x) same
+pub kept : Keeps any_meaning
+kept = record { spelled = spelled; does = does; restores = restores }
 
-nested : (a b c : Bool) → (a && (b && c)) ≡ ((a && b) && c)
-nested true b c = refl
-nested false b c = refl
+not_none : (item : Item) (items : List Item) → item ∷ items ≡ [] → ⊥
+not_none item items h = Prim.cc
 
-pub all_both : (p : CreatedTable → Bool) (ts more : List CreatedTable) → list_all p (ts ++ more) ≡ (list_all p ts && list_all p more)
-all_both p [] more = refl
-all_both p (t ∷ ts) more = both (p t) _ _ (all_both p ts more) ∙ nested (p t) (list_all p ts) (list_all p more)
+true_is : true ≡ false → ⊥
+true_is h = Prim.cc
 
-pub some_more : (held : Held) (set : ChangeSet) (sets : List ChangeSet) → has_some held (set ∷ sets) ≡ (list_any (λ (t : CreatedTable). has_table held t.name) set.tables || has_some held sets)
-some_more held set sets = list_any-append (λ (t : CreatedTable). has_table held t.name) set.tables (created_tables sets)
+-- changesets without a turn
 
-pub all_more : (held : Held) (set : ChangeSet) (sets : List ChangeSet) → has_all held (set ∷ sets) ≡ (list_all (λ (t : CreatedTable). has_table held t.name) set.tables && has_all held sets)
-all_more held set sets = all_both (λ (t : CreatedTable). has_table held t.name) set.tables (created_tables sets)
+module _ (rows : List Tracked) where
+  abbrev has_turn : Set AnyChange → Bool
+  has_turn x = is_some (what x rows)
 
-any_same : (p q : CreatedTable → Bool) → ((t : CreatedTable) → p t ≡ q t) → (ts : List CreatedTable) → list_any p ts ≡ list_any q ts
-any_same p q same [] = refl
-any_same p q same (t ∷ ts) = rw (same t, any_same p q same ts) refl
+  no_turn : (n : ℕ) (w : Option What) (more : List Item) → item_at n w ++ more ≡ [] → (is_some w ≡ false) × (more ≡ [])
+  no_turn n None more is = (refl, is)
+  no_turn n (Some w) more is = absurd (not_none _ more is)
 
-all_same : (p q : CreatedTable → Bool) → ((t : CreatedTable) → p t ≡ q t) → (ts : List CreatedTable) → list_all p ts ≡ list_all q ts
-all_same p q same [] = refl
-all_same p q same (t ∷ ts) = rw (same t, all_same p q same ts) refl
+  pub no_work : (n : ℕ) (xs : List (Set AnyChange)) → work_from n xs rows ≡ [] → has_work xs rows ≡ false
+  no_work n [] is = refl
+  no_work n (x ∷ xs) is =
+      let none = no_turn n (what x rows) (work_from (suc n) xs rows) is in
+      ap (λ b. b || list_any has_turn xs) none.0 ∙ no_work (suc n) xs none.1
 
--- only tables have names
-taken_there : (texts : List (List ℕ)) (database : Database) → HoldsDatabase texts database → (n : Name) → is_some (table_of database.users n) ≡ is_taken Postgresql n database.users
-taken_there texts database holds n = sym ((held_is texts database holds).tables n)
+  some_turn : (n : ℕ) (w : Option What) (more : List Item) → (item_at n w ++ more ≡ [] → ⊥) → is_some w ≡ false → more ≡ [] → ⊥
+  some_turn n None more some none is = some is
+  some_turn n (Some w) more some none is = absurd (true_is none)
 
-module _ (texts : List (List ℕ)) (database : Database) (holds : HoldsDatabase texts database) (held : Held) (so : Shows database held) where
-  takes_same : (job : Job) (sets : List ChangeSet) → takes job sets held ≡ can_turn job sets database
-  takes_same Update sets =
-      ap (λ rows. has_places rows sets && not (has_some held sets)) so.rows
-      ∙ ap (λ b. has_places database.rows sets && not b) (any_same (λ t. has_table held t.name) _ (λ t. so.tables t.name ∙ taken_there texts database holds t.name) (created_tables sets))
-  takes_same (RollbackCount count) sets = all_same (λ t. has_table held t.name) _ (λ t. so.tables t.name) (created_tables sets)
+  pub some_work : (n : ℕ) (xs : List (Set AnyChange)) → (work_from n xs rows ≡ [] → ⊥) → has_work xs rows ≡ true
+  some_work n [] some = absurd (some refl)
+  some_work n (x ∷ xs) some = by (is_some (what x rows)) refl (λ none. some_work (suc n) xs (some_turn n (what x rows) (work_from (suc n) xs rows) some none)) where
+    by : (b : Bool) → is_some (what x rows) ≡ b → (is_some (what x rows) ≡ false → list_any has_turn xs ≡ true) → (is_some (what x rows) || list_any has_turn xs) ≡ true
+    by true is later = ap (λ b. b || list_any has_turn xs) is
+    by false is later = ap (λ b. b || list_any has_turn xs) is ∙ later is
 
-  pub fits_same : (job : Job) (path : List ℕ) (sets : List ChangeSet) → fits_held job path sets held ≡ fits job path sets database
-  fits_same job path sets =
-      ap (λ b. not b && (are_known path sets held.rows && takes job (turns job path sets held.rows) held)) so.locked
-      ∙ (ap (λ rows. not database.lock.locked && (are_known path sets rows && takes job (turns job path sets rows) held)) so.rows
-      ∙ ap (λ b. not database.lock.locked && (are_known path sets database.rows && b)) (takes_same job (turns job path sets database.rows)))
+-- an update
 
--- the texts of entries that were read
-pub all_read : (entries : List Entry) → all_texts entries ≡ all (map (λ (e : Entry). e.texts) entries)
-all_read [] = refl
-all_read (e ∷ entries) = ap (λ more. e.texts ++ more) (all_read entries)
+module _ (given : Given) (database : Database) where
+  abbrev d : Dialect
+  d = given.options.dialect
 
-pub held_read : (entries : List Entry) (held : Held) → (database : Database) × HoldsDatabase (all_texts entries) database × Shows database held
-    → (database : Database) × (HoldsDatabase (all (map (λ (e : Entry). e.texts) entries)) database × Shows database held)
-held_read entries held found = (found.0, (subst (λ ts. HoldsDatabase ts found.0) (all_read entries) found.1, found.2))
+  abbrev halts : Bool
+  halts = is_halt (own_choice (log_in given) (contents_of database))
 
-pub none_read : (entries : List Entry) → ((database : Database) → HoldsDatabase (all_texts entries) database → ⊥) → (database : Database) → HoldsDatabase (all (map (λ (e : Entry). e.texts) entries)) database → ⊥
-none_read entries none database holds = none database (subst (λ ts. HoldsDatabase ts database) (sym (all_read entries)) holds)
+  abbrev in_turns : List Call
+  in_turns = turns_script d any_meaning given.stamp (OfSets (sets_in given)) database
 
-module _ (job : Job) (stamp : Stamp) (path : List ℕ) (sets : List ChangeSet) (texts : List (List (List ℕ))) where
-  -- what is planned by what is kept
-  pub planned_of : (told : Option (List ℕ)) (start : ℕ) (held : Held) (plan : Plan) → (database : Database) × (HoldsDatabase (all texts) database × Shows database held)
-      → IsJournal texts told → start ≡ place_after texts → fits_held job path sets held ≡ true
-      → plan.entries ≡ written job stamp path sets held.tracking held.rows → plan.text ≡ shown job path sets held.rows → IsPlanned job stamp path sets told start plan
-  planned_of told start held plan found is place fit entries text = record {
-    task = record { texts = texts; database = found.0; journal_is = is; holds = found.1.0; fit = sym (fits_same (all texts) found.0 found.1.0 held found.1.1 job path sets) ∙ fit };
-    place = place;
-    entries = entries ∙ (ap (λ there. written job stamp path sets there held.rows) found.1.1.tracking ∙ ap (written job stamp path sets (tracking_of found.0)) found.1.1.rows);
-    text = text ∙ ap (shown job path sets) found.1.1.rows;
-  }
+  pub no_update : has_work (sets_in given) database.rows ≡ false → update_script given database ≡ []
+  no_update none = ap (λ b. if b && not halts then in_turns else []) none
 
-  same_texts : (one other : List (List (List ℕ))) → (let r : Result (List (List (List ℕ))) ℕ = Ok one in r) ≡ Ok other → one ≡ other
-  same_texts one other e = Prim.cc
+  pub update_is : has_work (sets_in given) database.rows ≡ true → halts ≡ false → update_script given database ≡ in_turns
+  update_is some goes = ap (λ b. if b && not halts then in_turns else []) some ∙ ap (λ b. if not b then in_turns else []) goes
 
-  other_texts : (found : Result (List (List (List ℕ))) ℕ) (other : List (List (List ℕ))) → found ≡ Ok texts → found ≡ Ok other → other ≡ texts
-  other_texts found other is so = same_texts other texts (sym so ∙ is)
+  pub update_may : IsSound d database.users → has_twin_rows database.rows ≡ false → given.stamp.reading ≤ 253402300799999 → AreFor d given.changelog → All HasTexts (sets_in given)
+      → has_work (sets_in given) database.rows ≡ true → halts ≡ false → calls_fit d in_turns (session_on database) ≡ true
+  update_may sound differ time read texts some goes =
+      ap (λ calls. calls_fit d calls (session_on database)) (sym (update_is some goes))
+      ∙ update_fits any_meaning kept d given.stamp (log_in given) database sound differ time (views_are_read d given.options given.changelog read) texts
 
-  -- no database is held
-  pub none_held : (told : Option (List ℕ)) → IsJournal texts told → ((database : Database) → HoldsDatabase (all texts) database → ⊥) → IsNoTask job path sets told
-  none_held None is none = inl tt
-  none_held (Some bytes) is none = inl (λ database held. none database (subst (λ ts. HoldsDatabase (all ts) database) (other_texts (journal bytes) held.texts is held.is) held.holds))
+-- a rollback
 
-  in_bytes : (told : Option (List ℕ)) (database : Database) → IsJournal texts told → HoldsDatabase (all texts) database → HoldsIn database told
-  in_bytes None database is holds = tt
-  in_bytes (Some bytes) database is holds = record { texts = texts; is = is; holds = holds }
+module _ (d : Dialect) (stamp : Stamp) (database : Database) where
+  pub rollback_is : (turns : List Turn) → turns ≢ [] → rollback_of d stamp turns database ≡ turns_script d any_meaning stamp (OfRows turns) database
+  rollback_is [] some = absurd (some refl)
+  rollback_is (turn ∷ turns) some = refl
 
-  -- the command does not fit by what is kept
-  pub unfit_of : (told : Option (List ℕ)) (held : Held) → (database : Database) × (HoldsDatabase (all texts) database × Shows database held)
-      → IsJournal texts told → fits_held job path sets held ≡ false → IsNoTask job path sets told
-  unfit_of told held found is unfit =
-      inr (record { database = found.0; holds = in_bytes told found.0 is found.1.0; unfit = sym (fits_same (all texts) found.0 found.1.0 held found.1.1 job path sets) ∙ unfit })
+deleted_too : (w : OnRows) → is_deletion w ≡ true → is_deleted w ≡ true
+deleted_too (Deleted of) is = refl
+deleted_too (Inserted row) is = is
+deleted_too (Renewed row) is = is
+deleted_too (Filled of sum) is = is
+deleted_too (Tagged of tag) is = is
 
-module _ (job : Job) (stamp : Stamp) (path : List ℕ) (sets : List ChangeSet) (before after : Option (List ℕ)) where
-  -- a plan was carried out
-  pub carried_of : (r : Result (List ℕ) Fault) (start : ℕ) (plan : Plan) → IsPlanned job stamp path sets before start plan
-      → IfOk r (λ text. IsDone start plan.entries before after) → IfOk r (λ text. text ≡ plan.text) → IfOk r (IsCarried job stamp path sets before after)
-  carried_of (Err f) start plan is done text = tt
-  carried_of (Ok t) start plan is done text = record {
-    task = is.task;
-    done = subst (λ es. IsDone (place_after is.task.texts) es before after) is.entries (subst (λ at. IsDone at plan.entries before after) is.place done);
-    output = text ∙ is.text;
-  }
+pub return_too : (d : Dialect) (turns : List Turn) → list_all (goes_back d) turns ≡ true → list_all (is_return d) turns ≡ true
+return_too d [] all = refl
+return_too d (turn ∷ turns) all =
+    let one = and_left (goes_back d turn) (list_all (goes_back d) turns) all in
+    and_true (is_return d turn) _
+    (and_true (list_all (is_statement d) turn.statements) _ (and_right (is_deletion turn.row) _ one) (deleted_too turn.row (and_left (is_deletion turn.row) _ one)))
+    (return_too d turns (and_right (goes_back d turn) _ all))
 
-  unfinished : (f : Fault) (start : ℕ) (plan : Plan) → IsPlanned job stamp path sets before start plan → IsUnfinished f start plan.entries before after → IsUndone job stamp path sets before f after
-  unfinished fault.Disk start plan is cut = inr (is.task, subst (λ es. IsCut es before after) is.entries cut)
-  unfinished (fault.Full used next) start plan is full =
-      (is.task, subst (λ es. IsFull (place_after is.task.texts) used next es before after) is.entries (subst (λ at. IsFull at used next plan.entries before after) is.place full))
-  unfinished fault.NoMemory start plan is same = same
-  unfinished fault.NotBuilt start plan is h = absurd h
-  unfinished fault.Usage start plan is h = absurd h
-  unfinished fault.Read start plan is h = absurd h
+pub rollback_may : (d : Dialect) (stamp : Stamp) (turns : List Turn) (database : Database) → stamp.reading ≤ 253402300799999 → list_all (goes_back d) turns ≡ true → turns ≢ []
+    → calls_fit d (turns_script d any_meaning stamp (OfRows turns) database) (session_on database) ≡ true
+rollback_may d stamp turns database time back some =
+    ap (λ calls. calls_fit d calls (session_on database)) (sym (rollback_is d stamp database turns some)) ∙ rollback_fits d stamp turns database time (return_too d turns back)
 
-  -- or not to its end
-  pub undone_of : (r : Result (List ℕ) Fault) (start : ℕ) (plan : Plan) → IsPlanned job stamp path sets before start plan
-      → IfErr r (λ f. IsUnfinished f start plan.entries before after) → IfErr r (λ f. IsUndone job stamp path sets before f after)
-  undone_of (Ok t) start plan is h = tt
-  undone_of (Err f) start plan is h = unfinished f start plan is h
+none_some : {b : List Tracked} → (let o : Option (List Tracked) = None in o) ≡ Some b → ⊥
+none_some h = Prim.cc
 
-  -- or there is none
-  pub unplanned : (f : Fault) → IsUnplanned job stamp path sets before f → after ≡ before → IsUndone job stamp path sets before f after
-  unplanned fault.NotBuilt h same = (h, same)
-  unplanned fault.NoMemory h same = same
-  unplanned fault.Disk h same = absurd h
-  unplanned (fault.Full used next) h same = absurd h
-  unplanned fault.Usage h same = absurd h
-  unplanned fault.Read h same = absurd h
+some_is : {a b : List Tracked} → (let o : Option (List Tracked) = Some a in o) ≡ Some b → a ≡ b
+some_is h = Prim.cc
+
+-- by the turns that take the rows back
+pub taken_back : (given : Given) (undone : List Tracked) (turns : List Turn) (database : Database) → undo_turns given.options.dialect any_meaning (sets_in given) undone ≡ Some turns
+    → taking_back given undone database ≡ rollback_of given.options.dialect given.stamp turns database
+taken_back given undone turns database is = ap (λ o. elim o [ Some ts ↦ rollback_of given.options.dialect given.stamp ts database | None ↦ [] ]) is
+
+-- to the rows that stay
+pub goes_to : (given : Given) (target : Target) (database : Database) (undone : List Tracked) → option_map (λ stay. rows_undone stay database.rows) (rows_kept target database.rows) ≡ Some undone
+    → rollback_script given target database ≡ taking_back given undone database
+goes_to given target database undone is = by (rows_kept target database.rows) is where
+  by : (o : Option ℕ) → option_map (λ stay. rows_undone stay database.rows) o ≡ Some undone → rollback_to given o database ≡ taking_back given undone database
+  by None is = absurd (none_some is)
+  by (Some stay) is = ap (λ rows. taking_back given rows database) (some_is is)
+
+-- a changelog-sync
+
+module _ (given : Given) (database : Database) where
+  pub sync_is : rows_to_sync given.stamp.reading (sets_in given) database.rows ≢ []
+      → sync_script given database ≡ with_lock given.stamp database (made given.options.dialect (sync_calls (rows_to_sync given.stamp.reading (sets_in given) database.rows)) (contents_of database))
+  sync_is some = by (rows_to_sync given.stamp.reading (sets_in given) database.rows) some where
+    by : (rows : List Tracked) → rows ≢ [] → sync_of given.options.dialect given.stamp rows database ≡ with_lock given.stamp database (made given.options.dialect (sync_calls rows) (contents_of database))
+    by [] some = absurd (some refl)
+    by (row ∷ rows) some = refl
+
+  pub no_sync : rows_to_sync given.stamp.reading (sets_in given) database.rows ≡ [] → sync_script given database ≡ []
+  no_sync none = ap (λ rows. sync_of given.options.dialect given.stamp rows database) none
+
+  pub sync_may : given.stamp.reading ≤ 253402300799999 → All HasTexts (sets_in given) → calls_fit given.options.dialect (sync_script given database) (session_on database) ≡ true
+  sync_may time texts = sync_fits AnyChange given.options.dialect given.stamp (log_in given) database time texts

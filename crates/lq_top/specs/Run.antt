@@ -1,88 +1,77 @@
--- How a command ends.
-use Rattle.std.specs.Prelude.{◌≡◌, ◌⊎◌, ℕ, List, Option, None}
-use Rattle.lq_create.specs.Script.{new_sets}
-use Rattle.lq_create.specs.Updated.{updated_from}
-use Rattle.lq_top.specs.Given.{stamp_of}
-use Rattle.lq_top.specs.Held.{HoldsIn}
-use Rattle.lq_top.specs.Journal.{place_after}
-use Rattle.lq_top.specs.Left.{IsCut, IsDone, IsFull}
-use Rattle.lq_top.specs.Words.{asked}
-use Rattle.lq_top.specs.Work.{IsNotBuilt, Work, entries_on}
-use Rattle.lq_top.specs.declared.fault.Fault.{Fault}
-use Rattle.lq_top.specs.declared.fault.Fault.TheVariants as fault
-use Rattle.lq_top.specs.declared.status.Status.{Status}
-use Rattle.lq_top.specs.declared.status.Status.TheVariants as status
-use Rattle.lq_top.specs.declared.words.Job.TheVariants.{Update}
+-- What a run of the program does.
+use Rattle.std.specs.Prelude.{Bool, Err, IfSome, List, None, Option, Some, false, option_map, true, ℕ, ◌++◌, ◌≡◌, ◌⊎◌}
+use Rattle.lq_base.specs.declared.dialect.Dialect.{Dialect}
+use Rattle.lq_cli.specs.declared.line.Job.{Job}
+use Rattle.lq_base.specs.declared.identity.Identity.{Identity}
+use Rattle.lq_base.specs.declared.run.Why.{Why}
+use Rattle.lq_db.specs.Load.{catalogue_of}
+use Rattle.lq_sources.specs.declared.fault.LoadFault.{LoadFault}
+use Rattle.lq_tell.specs.Lines.{status_lines, warning_lines}
+use Rattle.lq_tell.specs.declared.status.Status.{Status}
+use Rattle.lq_tell.specs.declared.status.Status.TheVariants as status
+use Rattle.lq_track.specs.Database.{Database, SameDatabase}
+use Rattle.lq_turns.specs.declared.call.Call.{Call}
+use Rattle.lq_turns.specs.declared.stamp.Stamp.{Stamp}
+use Rattle.lq_top.specs.Asks.{Asks, Files, asked_by, file_status}
+use Rattle.lq_top.specs.Bytes.{Becomes, Holds, OnFile, given_at, most_bytes}
+use Rattle.lq_top.specs.Jobs.{is_on_file, job_refusal, job_script}
+use Rattle.lq_top.specs.Works.{IsKept, is_finished}
+use Rattle.lq_top.specs.declared.given.Given.{Given}
 
-module _ (words : List (List ℕ)) (who : List ℕ) (files : Option (List ℕ → Option (List ℕ))) (reading : ℕ) (before : Option (List ℕ)) where
-  -- the entries that it writes, as their texts
-  abbrev pub entries_of : Work words files before → List (List (List ℕ))
-  entries_of w = entries_on (stamp_of who reading) w.task
+-- it came to its end, and then perhaps its text could not be written
+abbrev pub is_over : Status → Bool
+is_over status.WriteFault = true
+is_over s = is_finished s
 
-  -- the journal is the one before, followed by the entries of the work
-  abbrev pub WasDone : Work words files before → Option (List ℕ) → Type 0
-  WasDone w after = IsDone (place_after w.task.texts) (entries_of w) before after
+-- the fault of a file, of a disk, or want of memory
+abbrev pub IsOutside : Status → Type 0
+IsOutside s = (s ≡ status.ReadFault) ⊎ (s ≡ status.DiskFault) ⊎ (s ≡ status.OutOfMemory)
 
-  -- an update leaves the database with the new changesets' tables and rows
-  abbrev pub WasUpdated : Work words files before → Option (List ℕ) → Type 0
-  WasUpdated w after = w.asks.job ≡ Update → HoldsIn (updated_from (stamp_of who reading) w.asks.path (new_sets w.asks.path w.task.database.rows w.sets) w.task.database) after
+-- it ended in its run
+abbrev pub is_end : Status → Bool
+is_end status.WriteFault = true
+is_end (status.Full used next) = true
+is_end s = is_finished s
 
-  -- what a command did that was not done, by its fault
-  abbrev pub WasNotDone : Fault → Option (List ℕ) → Type 0
-  WasNotDone fault.Usage after = (asked words ≡ None) × (after ≡ before)
-  WasNotDone fault.Read after = after ≡ before
-  WasNotDone fault.NotBuilt after = IsNotBuilt words files before × (after ≡ before)
-  WasNotDone fault.Disk after = (after ≡ before) ⊎ ((w : Work words files before) × IsCut (entries_of w) before after)
-  WasNotDone (fault.Full used next) after = (w : Work words files before) × IsFull (place_after w.task.texts) used next (entries_of w) before after
-  WasNotDone fault.NoMemory after = after ≡ before
+-- so a run ends by what refuses it, unless a fault of the outside is met
+abbrev pub EndsBy : Option Status → Status → Type 0
+EndsBy None s = (is_end s ≡ true) ⊎ IsOutside s
+EndsBy (Some refused) s = (s ≡ refused) ⊎ IsOutside s
 
-  -- what stands on the disk where the command did not do its work, by its status
-  abbrev pub WasLeft : Status → Option (List ℕ) → Type 0
-  WasLeft status.DiskFault after = WasNotDone fault.Disk after
-  WasLeft (status.Full used next) after = WasNotDone (fault.Full used next) after
-  WasLeft status.OutOfMemory after = (after ≡ before) ⊎ ((used : ℕ) × ((next : ℕ) × WasNotDone (fault.Full used next) after))
-  WasLeft _ after = Unit {0}
+-- on a file that holds the database: the status has its cause; a refusal changes nothing; and where it came to its end its calls are done
+pub record RunsJob (job : Job) (given : Given) (database : Database) (before : Option (List ℕ)) (s : Status) (after : Option (List ℕ)) : Type 0 where
+  pub ends : EndsBy (job_refusal job given database) s
+  pub refused : IsKept (job_refusal job given database) before after
+  pub works : is_over s ≡ true → Becomes given.options.dialect (job_script job given database) database before after
 
--- the command ended before its first write
-abbrev pub IsRefusal : Status → Type 0
-IsRefusal status.Usage = Unit {0}
-IsRefusal status.ReadFault = Unit {0}
-IsRefusal status.NotBuilt = Unit {0}
-IsRefusal status.OutOfMemory = ⊥
-IsRefusal status.Done = ⊥
-IsRefusal status.DiskFault = ⊥
-IsRefusal (status.Full used next) = ⊥
-IsRefusal status.WriteFault = ⊥
+-- what the words, the files, who runs it and the clock's reading give to a command
+abbrev pub given_by : {words : List (List ℕ)} {files : Files} → Asks words files → Stamp → Given
+given_by asks stamp = given_at (asked_by asks.line.options asks.changelog) stamp
 
--- the command did its work, if not all of its text was printed
-abbrev pub IsWorked : Status → Type 0
-IsWorked status.Done = Unit {0}
-IsWorked status.WriteFault = Unit {0}
-IsWorked status.Usage = ⊥
-IsWorked status.ReadFault = ⊥
-IsWorked status.NotBuilt = ⊥
-IsWorked status.OutOfMemory = ⊥
-IsWorked status.DiskFault = ⊥
-IsWorked (status.Full used next) = ⊥
+-- on each file that holds a database
+abbrev pub Runs : {words : List (List ℕ)} {files : Files} → Asks words files → Stamp → Option (List ℕ) → Status → Option (List ℕ) → Type 0
+Runs asks stamp before s after = is_on_file asks.line.job ≡ true → OnFile asks.line.options.dialect before (λ database. RunsJob asks.line.job (given_by asks stamp) database before s after)
 
--- the command writes nothing to the output
-abbrev pub IsSilent : Status → Type 0
-IsSilent status.Done = ⊥
-IsSilent status.WriteFault = ⊥
-IsSilent status.Usage = Unit {0}
-IsSilent status.ReadFault = Unit {0}
-IsSilent status.NotBuilt = Unit {0}
-IsSilent status.OutOfMemory = Unit {0}
-IsSilent status.DiskFault = Unit {0}
-IsSilent (status.Full used next) = Unit {0}
+-- a file holds a database that is the same but for which of the tracking tables were made
+abbrev pub HoldsSame : Dialect → Option (List ℕ) → Database → Type 0
+HoldsSame d told database = (now : Database) × Holds d told now × SameDatabase now database
 
--- neither the words nor what they name was refused
-abbrev pub IsTaken : Status → Type 0
-IsTaken status.Usage = ⊥
-IsTaken status.NotBuilt = ⊥
-IsTaken status.Done = Unit {0}
-IsTaken status.WriteFault = Unit {0}
-IsTaken status.ReadFault = Unit {0}
-IsTaken status.OutOfMemory = Unit {0}
-IsTaken status.DiskFault = Unit {0}
-IsTaken (status.Full used next) = Unit {0}
+-- damage is told with its place
+abbrev pub IsDamage : Dialect → Option (List ℕ) → Status → Type 0
+IsDamage d told (status.Damaged at) = IfSome told (λ bytes. catalogue_of d most_bytes bytes ≡ Err at)
+IsDamage d told s = Unit {0}
+
+-- the words are no command line, or the files give no changelog
+abbrev pub IsUnread : Status → Type 0
+IsUnread status.Usage = Unit {0}
+IsUnread status.ReadFault = Unit {0}
+IsUnread (status.Changelog fault) = Unit {0}
+IsUnread s = ⊥
+
+-- so a command ends whose files give a fault in place of a changelog
+abbrev pub EndsUnread : LoadFault → Status → Type 0
+EndsUnread fault s = (s ≡ file_status fault) ⊎ (s ≡ status.ReadFault) ⊎ (s ≡ status.OutOfMemory)
+
+-- the log has the lines of the status behind those of warnings
+abbrev pub IsLogged : Option (List ℕ) → Status → Option (List ℕ) → Option (List ℕ) → Type 0
+IsLogged tag s before after = (own : Option Why) × (warned : List (Option Identity × Why)) × (after ≡ option_map (λ log. log ++ (warning_lines own warned ++ status_lines tag s)) before)

@@ -1,22 +1,26 @@
 //! The top call: one command, from its words to its status.
 #![tactic(auto)]
 
-mod carrying;
-mod changelog;
-mod changesets;
-mod fault;
-pub mod laws;
-mod log;
+mod checks;
+mod command;
+mod copying;
+mod given;
+mod listing;
+mod one_turn;
 mod opening;
-mod planning;
-mod printing;
-mod status;
+mod release;
+mod rollback;
+mod running;
+mod soak;
+mod stamp;
+mod stopping;
+mod sync;
+mod tag;
 mod top;
+mod update;
 mod who;
-mod words;
 mod work;
-mod writing;
 
-pub use status::Status;
+pub use lq_cli::database_path;
+pub use lq_tell::Status;
 pub use top::{Ended, run};
-pub use words::database_path;

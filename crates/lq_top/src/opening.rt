@@ -1,48 +1,123 @@
-ghost use Rattle.std.specs.Prelude.{◌≡◌, ◌≤◌, IfOk, IfErr, MatchResult, map};
-ghost use Rattle.lq_journal.specs.State.{disk_of, used_of};
-ghost use Rattle.lq_top.specs.Journal.{IsJournal, place_after};
-ghost use Rattle.lq_top.specs.Opened.{IsOpened, IsUnopened, fault_of_load};
+ghost use Rattle.std.specs.List.{All};
+ghost use Rattle.std.specs.Prelude.{◌≡◌, ◌≤◌, Err, IfSome, List, Option, Some, ℕ};
+ghost use Rattle.lq_base.specs.Character.{char_count};
+ghost use Rattle.lq_changelog.specs.ShortTexts.{HasShortTexts};
+ghost use Rattle.lq_cli.specs.declared.line.Job.TheVariants as job;
+ghost use Rattle.lq_db.specs.Db.{IsDb, disk_in, engine_in, state};
+ghost use Rattle.lq_journal.specs.State.{limit_of};
+ghost use Rattle.lq_kinds.specs.Dialects.{AreFor};
+ghost use Rattle.lq_outside.specs.Count.{Rose};
+ghost use Rattle.lq_tell.specs.declared.status.Status.TheVariants.{DiskFault};
+ghost use Rattle.lq_top.specs.Bytes.{OnFile, TellsDamage, given_at, load_status, most_bytes};
+ghost use Rattle.lq_top.specs.Clock.{ReadAtMostOnce, ReadOnce};
+ghost use Rattle.lq_top.specs.Jobs.{DoesJob};
+ghost use Rattle.lq_top.specs.Scripts.{tag_in};
+ghost use Rattle.lq_top.specs.Kinds.{IsOfDatabase};
+ghost use Rattle.lq_top.specs.Stamp.{stamp_of};
+ghost use Rattle.lq_top.specs.Works.{IsReady, OnIts};
 
-use crate::fault::Fault;
-use lq_base::{Dialect, Items};
-use lq_journal::{Entry, Journal, LoadFault};
-use lq_outside::{Disk, LoadRefused};
+use crate::command::run_command;
+use crate::given::{Asked, stamped};
+use lq_base::Command;
+use lq_db::Db;
+use lq_engine::Engine;
+use lq_journal::LoadFault;
+use lq_model::SqlText;
+use lq_outside::{Clock, Disk, LoadRefused};
+use lq_store::Executor;
+use lq_tell::{Done, Status};
 use std::alloc::Global;
 
-/// The greatest size of a database file, in bytes.
-const LIMIT: u64 = 268_435_456;
+/// The greatest size of a database file.
+pub const LIMIT: u64 = 268_435_456;
 
-fn fault_of_load(fault: LoadFault) -> Fault
-    ensures { result ≡ fault_of_load fault }
+/// A disk, and what the command that worked on it did.
+#[derive(Drop)]
+pub struct Worked<D: Disk> {
+    pub disk: D,
+    pub done: Result<Done, Status>,
+}
+
+/// The status of a fault of loading.
+pub fn load_status(fault: LoadFault) -> Status
+    ensures { result ≡ load_status fault }
 {
     match fault {
-        LoadFault::Disk => Fault::Disk,
-        LoadFault::Damaged { .. } => Fault::NotBuilt,
-        LoadFault::OutOfMemory => Fault::NoMemory,
+        LoadFault::Disk => Status::DiskFault,
+        LoadFault::Damaged { at } => Status::Damaged { at },
+        LoadFault::OutOfMemory => Status::OutOfMemory,
     }
 }
 
-/// Opens the journal of a database file, and gives its entries. A status for damage is not built yet.
-#[tactic(auto, using(crate::proofs::ReadTexts::read_texts, crate::proofs::ReadTexts::read_place, crate::proofs::ReadTexts::unopened))]
-pub fn open<D: Disk>(
+/// Loads the database of a disk, and does the command there.
+pub fn on_disk<D: Disk, C: Clock, P: SqlText + Drop + Copy>(
     alloc: Global,
     disk: D,
-) -> Result<(Journal<D>, Items<Entry>), LoadRefused<D, Fault>>
-    ensures opened { IfOk result (λ opened. IsOpened (D.told (disk_of opened.0)) opened.0) }
-    ensures journal { IfOk result (λ opened. IsJournal (map (λ entry. entry.texts) opened.1) (D.told disk)) }
-    ensures used { IfOk result (λ opened. used_of opened.0 ≡ place_after (map (λ entry. entry.texts) opened.1)) }
-    ensures told { MatchResult result (λ opened. D.told (disk_of opened.0) ≡ D.told disk) (λ refused. D.told refused.disk ≡ D.told disk) }
-    ensures later { MatchResult result (λ opened. D.faults disk ≤ D.faults (disk_of opened.0)) (λ refused. D.faults disk ≤ D.faults refused.disk) }
-    ensures fault { IfErr result (λ refused. IsUnopened refused.fault (D.told disk) (D.faults disk) (D.faults refused.disk)) }
+    sql: P,
+    command: &Command,
+    asked: Asked,
+    who: &str,
+    clock: &mut C,
+) -> Worked<D>
+    requires sql { P.dialect ≡ asked.options.dialect }
+    requires read { AreFor asked.options.dialect asked.changelog }
+    requires short { All HasShortTexts asked.changelog.sets }
+    requires tag { IfSome (tag_in command.now) (λ tag. char_count tag ≤ 255) }
+    ensures does { OnFile asked.options.dialect (D.told disk) (λ database. DoesJob (job.Run command.now) (given_at asked (stamp_of who.now (C.last clock.new))) database (D.told disk) result.done (D.told result.disk)) }
+    ensures damaged { TellsDamage asked.options.dialect (D.told disk) result.done }
+    ensures kind { IsOfDatabase result.done }
+    ensures later { D.faults disk ≤ D.faults result.disk }
+    ensures fault { result.done ≡ Err DiskFault → Rose (D.faults disk) (D.faults result.disk) }
+    ensures once { ReadAtMostOnce (C.to_come clock.old) (C.to_come clock.new) (C.last clock.new) }
 {
-    match Journal::load(alloc, disk, Dialect::Postgresql, LIMIT) {
-        Ok((journal, entries)) => Ok((journal, entries)),
+    match Db::<D, P, Engine>::load(alloc, disk, asked.options.dialect, sql, LIMIT) {
+        Ok(db) => on_database(alloc, db, sql, command, asked, who, clock),
         Err(refused) => {
             let LoadRefused { disk, fault } = refused;
-            Err(LoadRefused {
+            Worked {
                 disk,
-                fault: fault_of_load(fault),
-            })
+                done: Err(load_status(fault)),
+            }
         }
+    }
+}
+
+fn on_database<D: Disk, C: Clock, P: SqlText + Drop + Copy, E: Executor + Drop>(
+    alloc: Global,
+    db: Db<D, P, E>,
+    sql: P,
+    command: &Command,
+    asked: Asked,
+    who: &str,
+    clock: &mut C,
+) -> Worked<D>
+    requires valid { IsDb P.dialect (D.told (disk_in db)) (D.crashes (disk_in db)) (E.held (engine_in db)) db }
+    requires ready { IsReady asked.options.dialect (state (D.told (disk_in db)) (E.held (engine_in db)) db) }
+    requires limit { limit_of db.journal ≡ most_bytes }
+    requires sql { P.dialect ≡ asked.options.dialect }
+    requires read { AreFor asked.options.dialect asked.changelog }
+    requires short { All HasShortTexts asked.changelog.sets }
+    requires tag { IfSome (tag_in command.now) (λ tag. char_count tag ≤ 255) }
+    ensures does { (bytes : List ℕ) → D.told (disk_in db) ≡ Some bytes → OnIts asked.options.dialect (state (D.told (disk_in db)) (E.held (engine_in db)) db)
+        (λ database. DoesJob (job.Run command.now) (given_at asked (stamp_of who.now (C.last clock.new))) database (D.told (disk_in db)) result.done (D.told result.disk)) }
+    ensures whole { (told : Option (List ℕ)) → TellsDamage asked.options.dialect told result.done }
+    ensures kind { IsOfDatabase result.done }
+    ensures later { D.faults (disk_in db) ≤ D.faults result.disk }
+    ensures fault { result.done ≡ Err DiskFault → Rose (D.faults (disk_in db)) (D.faults result.disk) }
+    ensures once { ReadOnce (C.to_come clock.old) (C.to_come clock.new) (C.last clock.new) }
+{
+    let mut db = db;
+    match stamped(alloc, asked, who, clock) {
+        Ok(given) => {
+            let done = run_command(alloc, command, given, &mut db, &sql);
+            Worked {
+                disk: db.into_disk(),
+                done,
+            }
+        }
+        Err(status) => Worked {
+            disk: db.into_disk(),
+            done: Err(status),
+        },
     }
 }

@@ -1,175 +1,52 @@
-ghost use Rattle.std.specs.Prelude.{◌≡◌, ◌≤◌, ◌⊎◌, List, Option, ℕ, IfOk, IfErr, Err, None, map, string_bytes};
-ghost use Rattle.lq_journal.specs.State.{disk_of, used_of};
+ghost use Rattle.std.specs.List.{All};
+ghost use Rattle.std.specs.Prelude.{◌≡◌, ◌≤◌, ◌⊎◌, Err, IfErr, IfOk, IfSome, None, Ok, Some, false, map, option_map, string_bytes, true};
+ghost use Rattle.lq_base.specs.Character.{char_count};
+ghost use Rattle.lq_changelog.specs.ShortTexts.{HasShortTexts};
+ghost use Rattle.lq_cli.specs.Line.{line_of};
+ghost use Rattle.lq_cli.specs.declared.line.Line.{Line};
+ghost use Rattle.lq_kinds.specs.Dialects.{AreFor};
+ghost use Rattle.lq_kinds.specs.declared.change_set.Changelog.{Changelog as Log};
 ghost use Rattle.lq_outside.specs.Count.{Rose};
-ghost use Rattle.lq_top.specs.Clock.{ReadAtMostOnce, ReadOnce};
-ghost use Rattle.lq_top.specs.Given.{stamp_of};
-ghost use Rattle.lq_top.specs.Journal.{IsJournal, place_after};
-ghost use Rattle.lq_top.specs.Left.{IsDone, IsRun, IsUnfinished};
-ghost use Rattle.lq_top.specs.Opened.{IsOpened};
-ghost use Rattle.lq_top.specs.Plan.{IsCarried, IsPlanned, IsUndone, IsUnplanned};
-ghost use Rattle.lq_top.specs.Run.{WasDone, WasNotDone};
-ghost use Rattle.lq_top.specs.Words.{asked};
-ghost use Rattle.lq_top.specs.Work.{Work, output_on};
+ghost use Rattle.lq_sources.specs.Answers.{Finds, IsTold, Source};
+ghost use Rattle.lq_sources.specs.declared.fault.LoadFault.{LoadFault as Fault};
+ghost use Rattle.lq_sources.specs.declared.fault.LoadFault.TheVariants as load;
+ghost use Rattle.lq_tell.specs.declared.status.Status.TheVariants as status;
+ghost use Rattle.lq_top.specs.Asks.{Asks, HasFault, IsFaultOf, asked_by, asked_tag, back_tag, file_status, loaded, no_changelog};
+ghost use Rattle.lq_top.specs.Bytes.{OnFile, TellsDamage, given_at};
+ghost use Rattle.lq_top.specs.Clock.{ReadAtMostOnce};
+ghost use Rattle.lq_top.specs.Jobs.{DoesJob, DoesLine, is_on_file, job_tag};
+ghost use Rattle.lq_top.specs.Copies.{job_of};
+ghost use Rattle.lq_top.specs.Kinds.{IsNotLoaded, IsOfDatabase, IsOfFiles, IsOfLine, IsOfWords};
+ghost use Rattle.lq_top.specs.Stamp.{stamp_of};
 
-use crate::carrying::{Written, write};
-use crate::changesets::read_sets;
-use crate::fault::{Fault, fault_of_append};
-use crate::opening::open;
-use crate::planning::{Plan, planned};
-use crate::who::clean;
-use crate::words::{Job, Line, read_words};
-use lq_base::{NoMemory, Text};
-use lq_create::{ChangeSet, Stamp};
-use lq_held::load;
-use lq_journal::{Entry, Journal};
-use lq_outside::{Clock, Disk, Files, LoadRefused};
+use crate::copying::{Printing, on_copy};
+use crate::given::Asked;
+use crate::opening::{Worked, on_disk};
+use crate::soak::{Seed, soak};
+use lq_base::{Command, Dialect, Items, OnFail, Target, Text};
+use lq_changelog::load;
+use lq_cli::{Job, Line, WordsFault, read_words};
+use lq_cond::Cond;
+use lq_expr::Options;
+use lq_kinds::Changelog;
+use lq_model::SqlText;
+use lq_my::My;
+use lq_outside::{Clock, Disk, Files};
+use lq_pg::Pg;
+use lq_sources::LoadFault;
+use lq_tell::{Done, Status};
 use std::alloc::Global;
 
-/// A disk, and what the command that worked on it prints.
+/// A disk, and what the command that worked on it did.
 #[derive(Drop)]
-pub struct Worked<D: Disk> {
+pub struct Ending<D: Disk> {
     pub disk: D,
-    pub done: Result<Text, Fault>,
+    pub done: Result<Done, Status>,
+    /// The tag that a rollback goes back to.
+    pub tag: Option<Text>,
 }
 
-/// The last reading that counts: the end of the year 9999.
-const LAST: u64 = 253_402_300_799_999;
-
-fn stamp_of(alloc: Global, who: &str, reading: u64) -> Result<Stamp, NoMemory>
-    ensures { IfOk result (λ stamp. stamp ≡ stamp_of who.now reading) }
-{
-    Ok(Stamp {
-        who: clean(alloc, who)?,
-        reading: reading.min(LAST),
-    })
-}
-
-// What the command is going to write behind these entries.
-fn plan_behind(
-    alloc: Global,
-    entries: &[Entry],
-    job: Job,
-    stamp: &Stamp,
-    path: &Text,
-    sets: &[ChangeSet],
-) -> Result<Plan, Fault>
-    requires reading { stamp.now.reading ≤ 253402300799999 }
-    ensures planned { (told : Option (List ℕ)) (start : ℕ) → IsJournal (map (λ entry. entry.texts) entries.now) told → start ≡ place_after (map (λ entry. entry.texts) entries.now)
-        → IfOk result (IsPlanned job stamp.now path.now sets.now told start) }
-    ensures fault { (told : Option (List ℕ)) → IsJournal (map (λ entry. entry.texts) entries.now) told → IfErr result (λ fault. IsUnplanned job stamp.now path.now sets.now told fault) }
-{
-    let Some(held) = load(alloc, entries)? else {
-        return Err(Fault::NotBuilt);
-    };
-    match planned(alloc, job, stamp, path, sets, &held)? {
-        Some(plan) => Ok(plan),
-        None => Err(Fault::NotBuilt),
-    }
-}
-
-// Writes what is planned.
-fn carry<D: Disk>(journal: Journal<D>, plan: Plan) -> Worked<D>
-    requires opened { IsOpened (D.told (disk_of journal)) journal }
-    requires run { IsRun plan.entries }
-    ensures done { IfOk result.done (λ text. IsDone (used_of journal) plan.entries (D.told (disk_of journal)) (D.told result.disk)) }
-    ensures text { IfOk result.done (λ text. text ≡ plan.text) }
-    ensures unfinished { IfErr result.done (λ fault. IsUnfinished fault (used_of journal) plan.entries (D.told (disk_of journal)) (D.told result.disk)) }
-    ensures later { D.faults (disk_of journal) ≤ D.faults result.disk }
-    ensures disk { result.done ≡ Err Fault.Disk → Rose (D.faults (disk_of journal)) (D.faults result.disk) }
-{
-    let Plan { entries, text } = plan;
-    let Written { disk, done } = write(journal, entries.as_slice());
-    match done {
-        Ok(()) => Worked {
-            disk,
-            done: Ok(text),
-        },
-        Err(fault) => Worked {
-            disk,
-            done: Err(fault_of_append(fault)),
-        },
-    }
-}
-
-// Does the command on a journal that was opened, with these entries.
-fn on_journal<D: Disk>(
-    alloc: Global,
-    journal: Journal<D>,
-    entries: &[Entry],
-    job: Job,
-    stamp: &Stamp,
-    path: &Text,
-    sets: &[ChangeSet],
-) -> Worked<D>
-    requires opened { IsOpened (D.told (disk_of journal)) journal }
-    requires journal { IsJournal (map (λ entry. entry.texts) entries.now) (D.told (disk_of journal)) }
-    requires used { used_of journal ≡ place_after (map (λ entry. entry.texts) entries.now) }
-    requires reading { stamp.now.reading ≤ 253402300799999 }
-    ensures done { IfOk result.done (IsCarried job stamp.now path.now sets.now (D.told (disk_of journal)) (D.told result.disk)) }
-    ensures undone { IfErr result.done (λ fault. IsUndone job stamp.now path.now sets.now (D.told (disk_of journal)) fault (D.told result.disk)) }
-    ensures later { D.faults (disk_of journal) ≤ D.faults result.disk }
-    ensures disk { result.done ≡ Err Fault.Disk → Rose (D.faults (disk_of journal)) (D.faults result.disk) }
-{
-    match plan_behind(alloc, entries, job, stamp, path, sets) {
-        Ok(plan) => carry(journal, plan),
-        Err(fault) => Worked {
-            disk: journal.into_disk(),
-            done: Err(fault),
-        },
-    }
-}
-
-fn named(alloc: Global, who: &str, reading: u64, path: &str) -> Result<(Stamp, Text), NoMemory>
-    ensures { IfOk result (λ both. (both.0 ≡ stamp_of who.now reading) × (both.1 ≡ path.now)) }
-{
-    let stamp = stamp_of(alloc, who, reading)?;
-    let path = Text::new(alloc, path)?;
-    Ok((stamp, path))
-}
-
-// Opens the database file, and does there what the line asks for.
-fn on_disk<D: Disk, C: Clock>(
-    alloc: Global,
-    disk: D,
-    who: &str,
-    line: Line<'_>,
-    sets: &[ChangeSet],
-    clock: &mut C,
-) -> Worked<D>
-    ensures done { IfOk result.done (IsCarried line.entry.job (stamp_of who.now (C.last clock.new)) line.entry.path.now sets.now (D.told disk) (D.told result.disk)) }
-    ensures undone { IfErr result.done (λ fault. IsUndone line.entry.job (stamp_of who.now (C.last clock.new)) line.entry.path.now sets.now (D.told disk) fault (D.told result.disk)) }
-    ensures once { IfOk result.done (λ text. ReadOnce (C.to_come clock.old) (C.to_come clock.new) (C.last clock.new)) }
-    ensures at_most_once { ReadAtMostOnce (C.to_come clock.old) (C.to_come clock.new) (C.last clock.new) }
-    ensures later { D.faults disk ≤ D.faults result.disk }
-    ensures disk { result.done ≡ Err Fault.Disk → Rose (D.faults disk) (D.faults result.disk) }
-{
-    match open(alloc, disk) {
-        Ok((journal, entries)) => match named(alloc, who, clock.now(), line.path) {
-            Ok((stamp, path)) => on_journal(
-                alloc,
-                journal,
-                entries.as_slice(),
-                line.job,
-                &stamp,
-                &path,
-                sets,
-            ),
-            Err(_) => Worked {
-                disk: journal.into_disk(),
-                done: Err(Fault::NoMemory),
-            },
-        },
-        Err(refused) => {
-            let LoadRefused { disk, fault } = refused;
-            Worked {
-                disk,
-                done: Err(fault),
-            }
-        }
-    }
-}
-
-/// The work of a command: all but its output and its log.
+/// The work of a command: all but writing its texts.
 pub fn work<F: Files, D: Disk, C: Clock>(
     alloc: Global,
     words: &[String],
@@ -177,28 +54,277 @@ pub fn work<F: Files, D: Disk, C: Clock>(
     files: &mut F,
     disk: D,
     clock: &mut C,
-) -> Worked<D>
-    ensures usage { asked (map (λ word. string_bytes word) words.now) ≡ None → result.done ≡ Err Fault.Usage }
-    ensures done { IfOk result.done (λ text. (w : Work (map (λ word. string_bytes word) words.now) (F.told files.old) (D.told disk))
-        × (WasDone (map (λ word. string_bytes word) words.now) who.now (F.told files.old) (C.last clock.new) (D.told disk) w (D.told result.disk) × (text ≡ output_on w.task))) }
-    ensures undone { IfErr result.done (λ fault. WasNotDone (map (λ word. string_bytes word) words.now) who.now (F.told files.old) (C.last clock.new) (D.told disk) fault (D.told result.disk)) }
-    ensures untouched { (result.done ≡ Err Fault.Usage) ⊎ (result.done ≡ Err Fault.Read) → result.disk ≡ disk }
-    ensures once { IfOk result.done (λ text. ReadOnce (C.to_come clock.old) (C.to_come clock.new) (C.last clock.new)) }
-    ensures at_most_once { ReadAtMostOnce (C.to_come clock.old) (C.to_come clock.new) (C.last clock.new) }
-    ensures read { result.done ≡ Err Fault.Read → Rose (F.faults files.old) (F.faults files.new) }
-    ensures disk { result.done ≡ Err Fault.Disk → Rose (D.faults disk) (D.faults result.disk) }
+) -> Ending<D>
+    ensures usage { result.done ≡ Err status.Usage → line_of (map (λ word. string_bytes word) words.now) ≡ None }
+    ensures usage_only { line_of (map (λ word. string_bytes word) words.now) ≡ None → ((result.done ≡ Err status.Usage) ⊎ (result.done ≡ Err status.OutOfMemory)) × (result.disk ≡ disk) }
+    ensures read { result.done ≡ Err status.ReadFault → Rose (F.faults files.old) (F.faults files.new) }
+    ensures changelog { (fault : Fault) → result.done ≡ Err (status.Changelog fault) → IsFaultOf (map (λ word. string_bytes word) words.now) (F.told files.old) fault }
+    ensures not_loaded { (fault : Fault) → HasFault (map (λ word. string_bytes word) words.now) (F.told files.old) fault → IsNotLoaded fault result.done }
+    ensures kind { IsOfWords result.done }
+    ensures untouched { IsOfFiles result.done → result.disk ≡ disk }
+    ensures does { (asks : Asks (map (λ word. string_bytes word) words.now) (F.told files.old)) → DoesLine asks.line.job (given_at (asked_by asks.line.options asks.changelog) (stamp_of who.now (C.last clock.new))) (D.told disk) result.done (D.told result.disk) }
+    ensures damaged { (line : Line) → line_of (map (λ word. string_bytes word) words.now) ≡ Some line → TellsDamage line.options.dialect (D.told disk) result.done }
+    ensures off { (line : Line) → line_of (map (λ word. string_bytes word) words.now) ≡ Some line → is_on_file line.job ≡ false → result.disk ≡ disk }
+    ensures tag { (result.tag ≡ asked_tag (line_of (map (λ word. string_bytes word) words.now))) ⊎ (result.done ≡ Err status.OutOfMemory) }
+    ensures later { D.faults disk ≤ D.faults result.disk }
+    ensures fault { result.done ≡ Err status.DiskFault → Rose (D.faults disk) (D.faults result.disk) }
+    ensures once { ReadAtMostOnce (C.to_come clock.old) (C.to_come clock.new) (C.last clock.new) }
 {
-    let Some(line) = read_words(words) else {
-        return Worked {
-            disk,
-            done: Err(Fault::Usage),
-        };
-    };
-    match read_sets(alloc, line.path, files) {
-        Ok(sets) => on_disk(alloc, disk, who, line, sets.as_slice(), clock),
+    match read_words(alloc, words) {
+        Ok(line) => on_line(alloc, line, who, files, disk, clock),
+        Err(WordsFault::Usage) => refused(disk, Status::Usage),
+        Err(WordsFault::OutOfMemory) => refused(disk, Status::OutOfMemory),
+    }
+}
+
+fn refused<D: Disk>(disk: D, status: Status) -> Ending<D>
+    ensures disk { result.disk ≡ disk }
+    ensures done { result.done ≡ Err status }
+    ensures tag { result.tag ≡ None }
+{
+    Ending {
+        disk,
+        done: Err(status),
+        tag: None,
+    }
+}
+
+fn on_line<F: Files, D: Disk, C: Clock>(
+    alloc: Global,
+    line: Line,
+    who: &str,
+    files: &mut F,
+    disk: D,
+    clock: &mut C,
+) -> Ending<D>
+    requires tag { IfSome (job_tag line.job) (λ tag. char_count tag ≤ 255) }
+    ensures read { result.done ≡ Err status.ReadFault → Rose (F.faults files.old) (F.faults files.new) }
+    ensures changelog { (fault : Fault) → result.done ≡ Err (status.Changelog fault) → (source : Source) → IsTold (F.told files.old) source → loaded source line.options.dialect line.given line.root ≡ Err fault }
+    ensures not_loaded { (source : Source) → IsTold (F.told files.old) source → (fault : Fault) → loaded source line.options.dialect line.given line.root ≡ Err fault → IsNotLoaded fault result.done }
+    ensures kind { IsOfLine result.done }
+    ensures untouched { IsOfFiles result.done → result.disk ≡ disk }
+    ensures does { (source : Source) (g : Log) → IsTold (F.told files.old) source → loaded source line.options.dialect line.given line.root ≡ Ok g → DoesLine line.job (given_at (asked_by line.options g) (stamp_of who.now (C.last clock.new))) (D.told disk) result.done (D.told result.disk) }
+    ensures damaged { TellsDamage line.options.dialect (D.told disk) result.done }
+    ensures off { is_on_file line.job ≡ false → result.disk ≡ disk }
+    ensures tag { result.tag ≡ back_tag line.job }
+    ensures later { D.faults disk ≤ D.faults result.disk }
+    ensures fault { result.done ≡ Err status.DiskFault → Rose (D.faults disk) (D.faults result.disk) }
+    ensures once { ReadAtMostOnce (C.to_come clock.old) (C.to_come clock.new) (C.last clock.new) }
+{
+    let Line {
+        job,
+        path: _,
+        options,
+        root,
+        given,
+    } = line;
+    let Worked { disk, done } = in_dialect(
+        alloc,
+        &job,
+        options,
+        &root,
+        given.as_slice(),
+        who,
+        files,
+        disk,
+        clock,
+    );
+    Ending {
+        disk,
+        done,
+        tag: tag_of(job),
+    }
+}
+
+/// The tag that a rollback goes back to.
+fn tag_of(job: Job) -> Option<Text>
+    ensures { result ≡ back_tag job }
+{
+    match job {
+        Job::Run(Command::Rollback(Target::Tag(tag))) => Some(tag),
+        Job::RollbackSql(Target::Tag(tag)) => Some(tag),
+        _ => None,
+    }
+}
+
+fn in_dialect<F: Files, D: Disk, C: Clock>(
+    alloc: Global,
+    job: &Job,
+    options: Options,
+    root: &Option<Text>,
+    given: &[(Text, Text)],
+    who: &str,
+    files: &mut F,
+    disk: D,
+    clock: &mut C,
+) -> Worked<D>
+    requires tag { IfSome (job_tag job.now) (λ tag. char_count tag ≤ 255) }
+    ensures read { result.done ≡ Err status.ReadFault → Rose (F.faults files.old) (F.faults files.new) }
+    ensures changelog { (fault : Fault) → result.done ≡ Err (status.Changelog fault) → (source : Source) → IsTold (F.told files.old) source → loaded source options.dialect given.now root.now ≡ Err fault }
+    ensures not_loaded { (source : Source) → IsTold (F.told files.old) source → (fault : Fault) → loaded source options.dialect given.now root.now ≡ Err fault → IsNotLoaded fault result.done }
+    ensures kind { IsOfLine result.done }
+    ensures untouched { IsOfFiles result.done → result.disk ≡ disk }
+    ensures does { (source : Source) (g : Log) → IsTold (F.told files.old) source → loaded source options.dialect given.now root.now ≡ Ok g → DoesLine job.now (given_at (asked_by options g) (stamp_of who.now (C.last clock.new))) (D.told disk) result.done (D.told result.disk) }
+    ensures damaged { TellsDamage options.dialect (D.told disk) result.done }
+    ensures off { is_on_file job.now ≡ false → result.disk ≡ disk }
+    ensures later { D.faults disk ≤ D.faults result.disk }
+    ensures fault { result.done ≡ Err status.DiskFault → Rose (D.faults disk) (D.faults result.disk) }
+    ensures once { ReadAtMostOnce (C.to_come clock.old) (C.to_come clock.new) (C.last clock.new) }
+{
+    match options.dialect {
+        Dialect::Postgresql => with_sql(
+            alloc, Pg, job, options, root, given, who, files, disk, clock,
+        ),
+        Dialect::Mysql => with_sql(
+            alloc, My, job, options, root, given, who, files, disk, clock,
+        ),
+    }
+}
+
+fn with_sql<F: Files, D: Disk, C: Clock, P: SqlText + Drop + Copy>(
+    alloc: Global,
+    sql: P,
+    job: &Job,
+    options: Options,
+    root: &Option<Text>,
+    given: &[(Text, Text)],
+    who: &str,
+    files: &mut F,
+    disk: D,
+    clock: &mut C,
+) -> Worked<D>
+    requires sql { P.dialect ≡ options.dialect }
+    requires tag { IfSome (job_tag job.now) (λ tag. char_count tag ≤ 255) }
+    ensures read { result.done ≡ Err status.ReadFault → Rose (F.faults files.old) (F.faults files.new) }
+    ensures changelog { (fault : Fault) → result.done ≡ Err (status.Changelog fault) → (source : Source) → IsTold (F.told files.old) source → loaded source options.dialect given.now root.now ≡ Err fault }
+    ensures not_loaded { (source : Source) → IsTold (F.told files.old) source → (fault : Fault) → loaded source options.dialect given.now root.now ≡ Err fault → IsNotLoaded fault result.done }
+    ensures kind { IsOfLine result.done }
+    ensures untouched { IsOfFiles result.done → result.disk ≡ disk }
+    ensures does { (source : Source) (g : Log) → IsTold (F.told files.old) source → loaded source options.dialect given.now root.now ≡ Ok g → DoesLine job.now (given_at (asked_by options g) (stamp_of who.now (C.last clock.new))) (D.told disk) result.done (D.told result.disk) }
+    ensures damaged { TellsDamage options.dialect (D.told disk) result.done }
+    ensures off { is_on_file job.now ≡ false → result.disk ≡ disk }
+    ensures later { D.faults disk ≤ D.faults result.disk }
+    ensures fault { result.done ≡ Err status.DiskFault → Rose (D.faults disk) (D.faults result.disk) }
+    ensures once { ReadAtMostOnce (C.to_come clock.old) (C.to_come clock.new) (C.last clock.new) }
+{
+    match changelog_of(alloc, files, root, options.dialect, &sql, given) {
+        Ok(changelog) => {
+            let asked = Asked { changelog, options };
+            on_job(alloc, sql, job, asked, who, disk, clock)
+        }
         Err(fault) => Worked {
             disk,
-            done: Err(fault),
+            done: Err(file_status(fault)),
         },
     }
+}
+
+/// The changelog of a command; one that reads none has one without changesets.
+fn changelog_of<F: Files, P: SqlText>(
+    alloc: Global,
+    files: &mut F,
+    root: &Option<Text>,
+    dialect: Dialect,
+    sql: &P,
+    given: &[(Text, Text)],
+) -> Result<Changelog, LoadFault>
+    requires same { P.dialect ≡ dialect }
+    ensures loaded { Finds (F.told files.old) (λ source. loaded source dialect given.now root.now) result }
+    ensures read { IfOk result (λ g. AreFor dialect g) }
+    ensures short { IfOk result (λ g. All HasShortTexts g.sets) }
+    ensures failed { result ≡ Err load.Read → Rose (F.faults files.old) (F.faults files.new) }
+{
+    match root {
+        Some(root) => load(alloc, files, root.as_str(), dialect, sql, given),
+        None => Ok(no_changelog(alloc)),
+    }
+}
+
+fn no_changelog(alloc: Global) -> Changelog
+    ensures { result ≡ no_changelog }
+{
+    Changelog {
+        cond: Cond::And(Items::new(alloc)),
+        on_fail: OnFail::Halt,
+        on_error: OnFail::Halt,
+        sets: Items::new(alloc),
+    }
+}
+
+fn file_status(fault: LoadFault) -> Status
+    ensures { result ≡ file_status fault }
+{
+    match fault {
+        LoadFault::Read => Status::ReadFault,
+        LoadFault::OutOfMemory => Status::OutOfMemory,
+        fault => Status::Changelog(fault),
+    }
+}
+
+fn on_job<D: Disk, C: Clock, P: SqlText + Drop + Copy>(
+    alloc: Global,
+    sql: P,
+    job: &Job,
+    asked: Asked,
+    who: &str,
+    disk: D,
+    clock: &mut C,
+) -> Worked<D>
+    requires sql { P.dialect ≡ asked.options.dialect }
+    requires read { AreFor asked.options.dialect asked.changelog }
+    requires short { All HasShortTexts asked.changelog.sets }
+    requires tag { IfSome (job_tag job.now) (λ tag. char_count tag ≤ 255) }
+    ensures does { is_on_file job.now ≡ true → OnFile asked.options.dialect (D.told disk) (λ database. DoesJob job.now (given_at asked (stamp_of who.now (C.last clock.new))) database (D.told disk) result.done (D.told result.disk)) }
+    ensures kind { IsOfDatabase result.done }
+    ensures damaged { TellsDamage asked.options.dialect (D.told disk) result.done }
+    ensures off { is_on_file job.now ≡ false → result.disk ≡ disk }
+    ensures later { D.faults disk ≤ D.faults result.disk }
+    ensures fault { result.done ≡ Err status.DiskFault → Rose (D.faults disk) (D.faults result.disk) }
+    ensures once { ReadAtMostOnce (C.to_come clock.old) (C.to_come clock.new) (C.last clock.new) }
+{
+    match job {
+        Job::Run(command) => on_disk(alloc, disk, sql, command, asked, who, clock),
+        Job::UpdateSql => printed(alloc, disk, sql, Printing::Update, asked, who, clock),
+        Job::RollbackSql(target) => {
+            let printing = Printing::Rollback(target);
+            printed(alloc, disk, sql, printing, asked, who, clock)
+        }
+        Job::Soak { number, sets } => {
+            let seed = Seed {
+                number: *number,
+                sets: *sets,
+            };
+            let done = soak(alloc, sql, asked.options.dialect, seed, who, clock);
+            Worked { disk, done }
+        }
+        // No line has it: the command is not offered.
+        Job::Drill(_) => Worked {
+            disk,
+            done: Err(Status::OutOfMemory),
+        },
+    }
+}
+
+fn printed<D: Disk, C: Clock, P: SqlText + Drop + Copy>(
+    alloc: Global,
+    disk: D,
+    sql: P,
+    printing: Printing<'_>,
+    asked: Asked,
+    who: &str,
+    clock: &mut C,
+) -> Worked<D>
+    requires sql { P.dialect ≡ asked.options.dialect }
+    requires read { AreFor asked.options.dialect asked.changelog }
+    requires short { All HasShortTexts asked.changelog.sets }
+    ensures does { OnFile asked.options.dialect (D.told disk) (λ database. DoesJob (job_of printing.entry) (given_at asked (stamp_of who.now (C.last clock.new))) database (D.told disk) result.done (D.told result.disk)) }
+    ensures kind { IsOfDatabase result.done }
+    ensures damaged { TellsDamage asked.options.dialect (D.told disk) result.done }
+    ensures later { D.faults disk ≤ D.faults result.disk }
+    ensures fault { result.done ≡ Err status.DiskFault → Rose (D.faults disk) (D.faults result.disk) }
+    ensures once { ReadAtMostOnce (C.to_come clock.old) (C.to_come clock.new) (C.last clock.new) }
+{
+    let mut disk = disk;
+    let done = on_copy(alloc, &mut disk, sql, printing, asked, who, clock);
+    Worked { disk, done }
 }

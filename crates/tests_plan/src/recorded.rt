@@ -4,7 +4,7 @@ use crate::given::changelog;
 use lq_base::{Dialect, Exec, NoMemory, Text, Tracked, append_whole};
 use lq_kinds::ChangeSet;
 use lq_model::SqlText;
-use lq_sets::{recorded_row, row_of_turn};
+use lq_seen::{recorded_row, row_of_turn};
 use lq_turns::{OnRows, What};
 use std::alloc::Global;
 use std::process::Abort;

@@ -2,12 +2,14 @@ ghost use Rattle.std.specs.Prelude.{◌≡◌};
 
 use crate::given::{changelog, options};
 use crate::rows::rows;
+use lq_back::{ReverseFault, TakenBack, reversible};
 use lq_base::{Dialect, Identity, Items, NoMemory, Text, Tracked, append_whole};
 use lq_expr::Options;
 use lq_kinds::{ChangeSet, Changelog};
 use lq_model::SqlText;
 use lq_plan::Item;
-use lq_sets::{ReverseFault, TakenBack, faults_of, is_selected, pending_of, reversible, work_of};
+use lq_seen::is_selected;
+use lq_sets::{faults_of, pending_of, work_of};
 use lq_turns::{Fault, What};
 use std::alloc::Global;
 use std::process::Abort;

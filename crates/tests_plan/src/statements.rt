@@ -5,7 +5,7 @@ use crate::asked::say;
 use lq_base::{Dialect, Items, KindFault, NoMemory, Text};
 use lq_kinds::AnyChange;
 use lq_model::{SqlText, Statement};
-use lq_sets::statements_of;
+use lq_seen::statements_of;
 use lq_tree::read_json;
 use std::alloc::Global;
 use std::process::Abort;

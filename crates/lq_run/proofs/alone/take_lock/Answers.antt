@@ -1,9 +1,13 @@
 use Rattle.std.proofs.Common.{rules, subst, ◌≡◌}
 use Rattle.lq_model.specs.declared.caller.Room.TheVariants.{Ordinary}
 use Rattle.lq_run.proofs.Left.{opening_leaves}
-use Rattle.lq_run.proofs.Opens.{fails_first, takes_lock}
+use Rattle.lq_run.proofs.Opens.{fails_first, opening_crash, takes_lock}
 use Rattle.lq_run.specs.Does.{AloneFor}
 use Rattle.std.specs.Prelude.{Err}
+use Rattle.lq_run.proofs.Since.{leave_none}
+use Rattle.lq_run.proofs.Stopping.{opened}
+use Rattle.lq_run.specs.Crashing.{CrashesFor}
+use Rattle.lq_turns.specs.declared.call.Call.TheVariants.{Alone}
 use Rattle.lq_run.proofs.alone.take_lock.Goals as goal
 
 pub returns-in-Ok-clause-does : goal.returns-in-Ok-clause-does
@@ -26,3 +30,24 @@ pub returns-in-Err-clause-leaves : goal.returns-in-Err-clause-leaves
 returns-in-Err-clause-leaves g c =
     opening_leaves c.args.dialect c.args.session (g.S.Store.state c.args.store.now) (g.S.Store.state c.args.store.now) (Err c.in-Err.fault) c.args.stamp.now
     (fails_first c.args.dialect c.args.stamp.now c.args.session (g.S.Store.state c.args.store.now) c.in-Err.fault c.in-Err.ensures.fails)
+
+pub returns-in-Ok-clause-crash : goal.returns-in-Ok-clause-crash
+returns-in-Ok-clause-crash g c =
+    let is : c.as_slice.result.now ≡ c.in-Ok.deeds = search rules in
+    opening_crash c.args.dialect c.args.stamp.now c.args.session (g.S.Store.state c.args.store.now) c.in-Ok.deeds (g.S.Store.crashes c.args.store.now) (g.S.Store.crashes c.do_alone.new.store) c.requires.moment c.requires.closed c.in-Ok.ensures.opens
+    (subst (λ deeds. CrashesFor c.args.dialect c.args.session (Alone deeds Ordinary) (g.S.Store.state c.args.store.now) (g.S.Store.crashes c.args.store.now) (g.S.Store.crashes c.do_alone.new.store)) is c.do_alone.ensures.crash)
+
+pub returns-in-Ok-clause-any_moment : goal.returns-in-Ok-clause-any_moment
+returns-in-Ok-clause-any_moment g c =
+    let is : c.as_slice.result.now ≡ c.in-Ok.deeds = search rules in
+    opened c.args.dialect c.args.session (g.S.Store.state c.args.store.now) (g.S.Store.crashes c.args.store.now) (g.S.Store.crashes c.do_alone.new.store) c.args.stamp.now
+    (opening_crash c.args.dialect c.args.stamp.now c.args.session (g.S.Store.state c.args.store.now) c.in-Ok.deeds (g.S.Store.crashes c.args.store.now) (g.S.Store.crashes c.do_alone.new.store) c.requires.moment c.requires.closed c.in-Ok.ensures.opens
+    (subst (λ deeds. CrashesFor c.args.dialect c.args.session (Alone deeds Ordinary) (g.S.Store.state c.args.store.now) (g.S.Store.crashes c.args.store.now) (g.S.Store.crashes c.do_alone.new.store)) is c.do_alone.ensures.crash))
+
+pub returns-in-Err-clause-crash : goal.returns-in-Err-clause-crash
+returns-in-Err-clause-crash g c = λ start s is stands. leave_none (g.S.Store.state c.args.store.now).entries _ (g.S.Store.crashes c.args.store.now)
+
+pub returns-in-Err-clause-any_moment : goal.returns-in-Err-clause-any_moment
+returns-in-Err-clause-any_moment g c =
+    opened c.args.dialect c.args.session (g.S.Store.state c.args.store.now) (g.S.Store.crashes c.args.store.now) (g.S.Store.crashes c.args.store.now) c.args.stamp.now
+    (λ start s is stands. leave_none (g.S.Store.state c.args.store.now).entries _ (g.S.Store.crashes c.args.store.now))

@@ -1,5 +1,9 @@
 use Rattle.lq_run.proofs.ToldCalls.{abort_told}
+use Rattle.lq_run.proofs.Since.{leave_alone}
 use Rattle.lq_run.proofs.calls.abort.Goals as goal
 
 pub returns-clause-does : goal.returns-clause-does
 returns-clause-does g c = abort_told c.args.dialect c.args.session (g.S.Store.state c.args.store.now) (g.S.Store.state c.abort.new.self) c.abort.ensures.does
+
+pub returns-clause-crash : goal.returns-clause-crash
+returns-clause-crash g c = leave_alone (g.S.Store.state c.args.store.now).entries (g.S.Store.crashes c.args.store.now) (g.S.Store.crashes c.abort.new.self) c.abort.ensures.crash

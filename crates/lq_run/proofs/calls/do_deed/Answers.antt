@@ -1,5 +1,6 @@
 use Rattle.std.specs.Prelude.{Err, Ok}
 use Rattle.lq_run.proofs.ToldCalls.{deed_told, is_read}
+use Rattle.lq_run.proofs.CallCrashes.{deed_crash}
 use Rattle.lq_run.proofs.calls.do_deed.Goals as goal
 
 pub returns-in-Ok-clause-does : goal.returns-in-Ok-clause-does
@@ -11,3 +12,13 @@ pub returns-in-Err-clause-does : goal.returns-in-Err-clause-does
 returns-in-Err-clause-does g c =
     deed_told c.args.dialect c.args.session (g.S.Store.state c.args.store.now) (g.S.Store.state c.execute.new.self) c.args.deed.now _ _ (Err c.in-Err.fault) (is_read c.args.dialect c.args.deed.now _ c.requires.reads) (c.caller.ensures c.args.dialect)
     c.requires.reads.0 c.requires.open_here c.in-Err.ensures.does
+
+pub returns-in-Ok-clause-crash : goal.returns-in-Ok-clause-crash
+returns-in-Ok-clause-crash g c =
+    deed_crash c.args.dialect c.args.session (g.S.Store.state c.args.store.now) (g.S.Store.crashes c.args.store.now) (g.S.Store.crashes c.execute.new.self) c.args.deed.now _ _ (is_read c.args.dialect c.args.deed.now _ c.requires.reads) (c.caller.ensures c.args.dialect)
+    c.requires.reads.0 c.requires.open_here c.in-Ok.ensures.crash
+
+pub returns-in-Err-clause-crash : goal.returns-in-Err-clause-crash
+returns-in-Err-clause-crash g c =
+    deed_crash c.args.dialect c.args.session (g.S.Store.state c.args.store.now) (g.S.Store.crashes c.args.store.now) (g.S.Store.crashes c.execute.new.self) c.args.deed.now _ _ (is_read c.args.dialect c.args.deed.now _ c.requires.reads) (c.caller.ensures c.args.dialect)
+    c.requires.reads.0 c.requires.open_here c.in-Err.ensures.crash

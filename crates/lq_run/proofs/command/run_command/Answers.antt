@@ -9,6 +9,7 @@ use Rattle.std.specs.Prelude.{Err}
 use Rattle.lq_run.specs.Faults.{is_disk_end}
 use Rattle.lq_run.proofs.Known.{tells_fault}
 use Rattle.lq_run.proofs.Counting.{end_disk, is_the_disk, rose_later}
+use Rattle.lq_run.proofs.Stopping.{begun, not_begun}
 use Rattle.lq_run.proofs.command.run_command.Goals as goal
 
 pub take_lock-requires-clause-live : goal.take_lock-requires-clause-live
@@ -73,3 +74,14 @@ returns-in-Err-clause-left g c =
     (λ start s told is. subst (λ e. EndsAs r.dialect g.T.Source.meaning r.stamp c.args.session start s
     (all_called r.dialect (script r.dialect g.T.Source.meaning r.stamp (place (standing g.T.Source.left g.T.Source.way r)) s.committed) s) e (g.S.Store.state c.take_lock.new.store)) (sym c.end_of.ensures)
     (not_taken r.dialect g.T.Source.meaning r.stamp c.args.session (standing g.T.Source.left g.T.Source.way r) start (g.S.Store.state c.args.store.now) (g.S.Store.state c.take_lock.new.store) s told is c.in-Err.fault c.in-Err.ensures.does))
+
+pub returns-in-Ok-clause-any_moment : goal.returns-in-Ok-clause-any_moment
+returns-in-Ok-clause-any_moment g c =
+    let r = c.args.runner.now in
+    begun r.dialect g.T.Source.meaning r.stamp c.args.session (standing g.T.Source.left g.T.Source.way r) (g.S.Store.state c.args.store.now) (g.S.Store.crashes c.args.store.now) (g.S.Store.crashes c.take_lock.new.store) c.in-Ok.ensures.crash
+    c.requires.new (g.S.Store.state c.take_lock.new.store) (g.S.Store.crashes c.run_on.new.store) c.in-Ok.ensures.does c.run_on.ensures.crash
+
+pub returns-in-Err-clause-any_moment : goal.returns-in-Err-clause-any_moment
+returns-in-Err-clause-any_moment g c =
+    let r = c.args.runner.now in
+    not_begun r.dialect g.T.Source.meaning r.stamp c.args.session (standing g.T.Source.left g.T.Source.way r) (g.S.Store.state c.args.store.now) (g.S.Store.crashes c.args.store.now) (g.S.Store.crashes c.take_lock.new.store) c.in-Err.ensures.crash

@@ -2,6 +2,7 @@ use Rattle.std.proofs.Common.{refl, subst, sym}
 use Rattle.lq_run.proofs.Makes.{deed_makes, lack_makes, never_lacks}
 use Rattle.lq_run.specs.Moves.{Makes, WasOpen}
 use Rattle.lq_turns.specs.declared.call.Call.TheVariants.{Execute}
+use Rattle.lq_run.proofs.CallCrashes.{none_for}
 use Rattle.lq_run.proofs.hand.execute.Goals as goal
 
 pub returns-in-Ok-clause-makes : goal.returns-in-Ok-clause-makes
@@ -15,3 +16,6 @@ returns-in-Ok-clause-lack g c =
 
 pub returns-in-Err-clause-makes : goal.returns-in-Err-clause-makes
 returns-in-Err-clause-makes g c = λ stamp. lack_makes c.args.dialect g.T.Source.meaning stamp c.args.session (g.S.Store.state c.args.store.now) (g.S.Store.state c.args.store.now) c.args.deed.now c.requires.open_here refl
+
+pub returns-in-Err-clause-crash : goal.returns-in-Err-clause-crash
+returns-in-Err-clause-crash g c = none_for c.args.dialect c.args.session (g.S.Store.state c.args.store.now) (g.S.Store.crashes c.args.store.now) (Execute c.args.deed.now)

@@ -1,4 +1,4 @@
-use Rattle.lq_run.proofs.Takes.{take_fault, take_lack, take_on, take_refused}
+use Rattle.lq_run.proofs.Takes.{take_crash, take_fault, take_lack, take_on, take_refused}
 use Rattle.lq_run.proofs.hand.take.Goals as goal
 
 pub returns-in-On-clause-takes : goal.returns-in-On-clause-takes
@@ -16,3 +16,19 @@ returns-in-Failed-clause-takes g c = λ stamp.
 pub returns-clause-takes : goal.returns-clause-takes
 returns-clause-takes g c = λ stamp.
     take_lack _ _ stamp c.args.session c.args.hand.now _ c.in-Some.call _ _ c.requires.inside c.in-Some.ensures (c.in-Lack.ensures.makes stamp)
+
+pub returns-in-On-clause-crash : goal.returns-in-On-clause-crash
+returns-in-On-clause-crash g c = λ stamp.
+    take_crash _ _ stamp c.args.session c.args.hand.now _ c.in-Some.call (g.S.Store.state c.args.store.now) (g.S.Store.state c.args.store.now) c.requires.inside c.in-Some.ensures _ _ c.in-On.ensures.crash
+
+pub returns-in-Refused-clause-crash : goal.returns-in-Refused-clause-crash
+returns-in-Refused-clause-crash g c = λ stamp.
+    take_crash _ _ stamp c.args.session c.args.hand.now _ c.in-Some.call (g.S.Store.state c.args.store.now) (g.S.Store.state c.args.store.now) c.requires.inside c.in-Some.ensures _ _ c.in-Refused.ensures.crash
+
+pub returns-in-Failed-clause-crash : goal.returns-in-Failed-clause-crash
+returns-in-Failed-clause-crash g c = λ stamp.
+    take_crash _ _ stamp c.args.session c.args.hand.now _ c.in-Some.call (g.S.Store.state c.args.store.now) (g.S.Store.state c.args.store.now) c.requires.inside c.in-Some.ensures _ _ c.in-Failed.ensures.crash
+
+pub returns-clause-crash : goal.returns-clause-crash
+returns-clause-crash g c = λ stamp.
+    take_crash _ _ stamp c.args.session c.args.hand.now _ c.in-Some.call (g.S.Store.state c.args.store.now) (g.S.Store.state c.args.store.now) c.requires.inside c.in-Some.ensures _ _ c.in-Lack.ensures.crash

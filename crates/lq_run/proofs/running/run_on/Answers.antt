@@ -3,6 +3,9 @@ use Rattle.std.specs.Prelude.{[]}
 use Rattle.lq_hand.specs.Hand.{IsReady}
 use Rattle.lq_run.proofs.Counting.{rose_later}
 use Rattle.lq_run.proofs.Ending.{ends, reaches, ready_at, stops, tells}
+use Rattle.lq_run.proofs.RunCrashes.{step_crash}
+use Rattle.lq_run.proofs.Since.{leave_none, leave_then}
+use Rattle.lq_run.specs.Crashing.{CrashesStep, LeftInRun}
 use Rattle.lq_run.specs.Ends.{at_end}
 use Rattle.lq_run.specs.Steps.{Steps, place, standing}
 use Rattle.lq_run.specs.declared.runner.Step.TheVariants as step
@@ -10,7 +13,7 @@ use Rattle.lq_store.specs.State.{is_open}
 use Rattle.lq_run.proofs.running.run_on.Goals as goal
 
 pub loop-init : goal.loop-init
-loop-init g c = record { valid = c.requires.valid; dialect = refl; stamp = refl; reads = c.requires.reads; begun = c.requires.begun; disk = c.requires.runs.is.disk; later = search rules; reaches = λ start s told is. record { session = s; came = record { calls = []; is = refl }; is = is; way = inl refl } }
+loop-init g c = record { valid = c.requires.valid; dialect = refl; stamp = refl; reads = c.requires.reads; begun = c.requires.begun; disk = c.requires.runs.is.disk; later = search rules; reaches = λ start s told is. record { session = s; came = record { calls = []; is = refl }; is = is; way = inl refl }; crash = λ start s told is. leave_none start.entries _ (g.S.Store.crashes c.args.store.now) }
 
 pub step-requires-clause-live : goal.step-requires-clause-live
 step-requires-clause-live g c = (c.loop.invariant.reaches c.requires.runs.start c.requires.runs.session c.requires.runs.told c.requires.runs.is).is.there.at.stands.live
@@ -42,6 +45,10 @@ loop-preserved g c =
           (g.S.Store.state c.loop.store) (g.S.Store.state c.step.new.store) c.in-Going.ensures.going (k.reaches start s told is)
           (subst (λ d. Steps d g.T.Source.meaning r.stamp c.args.session now next (g.S.Store.state c.loop.store) step.Going (g.S.Store.state c.step.new.store)) k.dialect
           (subst (λ t. Steps c.loop.runner.dialect g.T.Source.meaning t c.args.session now next (g.S.Store.state c.loop.store) step.Going (g.S.Store.state c.step.new.store)) k.stamp c.in-Going.ensures.steps));
+      crash = λ start s told is. leave_then start.entries (LeftInRun r.dialect r.stamp s (at_end r.dialect g.T.Source.meaning r.stamp c.args.session (place (standing g.T.Source.left g.T.Source.way r)) s)) (g.S.Store.crashes c.args.store.now) (g.S.Store.crashes c.loop.store) (g.S.Store.crashes c.step.new.store) (k.crash start s told is)
+          (step_crash r.dialect g.T.Source.meaning r.stamp c.args.session now told start s (at_end r.dialect g.T.Source.meaning r.stamp c.args.session (place (standing g.T.Source.left g.T.Source.way r)) s) (g.S.Store.state c.loop.store) (k.reaches start s told is) (g.S.Store.crashes c.loop.store) (g.S.Store.crashes c.step.new.store)
+          (subst (λ d. CrashesStep d g.T.Source.meaning r.stamp c.args.session now (g.S.Store.state c.loop.store) (g.S.Store.crashes c.loop.store) (g.S.Store.crashes c.step.new.store)) k.dialect
+          (subst (λ t. CrashesStep c.loop.runner.dialect g.T.Source.meaning t c.args.session now (g.S.Store.state c.loop.store) (g.S.Store.crashes c.loop.store) (g.S.Store.crashes c.step.new.store)) k.stamp c.in-Going.ensures.crash)));
     }
 
 pub returns-in-Ended-clause-ends : goal.returns-in-Ended-clause-ends
@@ -78,3 +85,13 @@ returns-in-Ended-clause-rose g c = λ is. rose_later (g.S.Store.faults c.args.st
 
 pub returns-clause-tells : goal.returns-clause-tells
 returns-clause-tells g c = λ start s told is. tt
+
+pub returns-in-Ended-clause-crash : goal.returns-in-Ended-clause-crash
+returns-in-Ended-clause-crash g c =
+    let k = c.loop.invariant in
+    let r = c.args.runner.now in
+    let now = standing g.T.Source.left g.T.Source.way c.loop.runner in
+    λ start s told is. leave_then start.entries (LeftInRun r.dialect r.stamp s (at_end r.dialect g.T.Source.meaning r.stamp c.args.session (place (standing g.T.Source.left g.T.Source.way r)) s)) (g.S.Store.crashes c.args.store.now) (g.S.Store.crashes c.loop.store) (g.S.Store.crashes c.step.new.store) (k.crash start s told is)
+    (step_crash r.dialect g.T.Source.meaning r.stamp c.args.session now told start s (at_end r.dialect g.T.Source.meaning r.stamp c.args.session (place (standing g.T.Source.left g.T.Source.way r)) s) (g.S.Store.state c.loop.store) (k.reaches start s told is) (g.S.Store.crashes c.loop.store) (g.S.Store.crashes c.step.new.store)
+    (subst (λ d. CrashesStep d g.T.Source.meaning r.stamp c.args.session now (g.S.Store.state c.loop.store) (g.S.Store.crashes c.loop.store) (g.S.Store.crashes c.step.new.store)) k.dialect
+    (subst (λ t. CrashesStep c.loop.runner.dialect g.T.Source.meaning t c.args.session now (g.S.Store.state c.loop.store) (g.S.Store.crashes c.loop.store) (g.S.Store.crashes c.step.new.store)) k.stamp c.in-Ended.ensures.crash)))

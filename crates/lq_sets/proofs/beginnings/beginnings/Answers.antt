@@ -1,5 +1,5 @@
 use Rattle.std.proofs.Common.{rules, ◌≡◌, ◌++◌, ◌∷◌, []}
-use Rattle.lq_sets.proofs.Inverses.{front_read, last_read}
+use Rattle.lq_seen.proofs.Inverses.{front_read, last_read}
 use Rattle.lq_sets.proofs.beginnings.beginnings.Goals as goal
 
 pub statement_count-requires : goal.statement_count-requires

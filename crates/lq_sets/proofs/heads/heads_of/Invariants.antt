@@ -2,7 +2,7 @@ use Rattle.std.proofs.Common.{length, map, ◌≡◌, ◌++◌}
 use Rattle.lq_plan.specs.Head.{headed}
 use Rattle.lq_plan.specs.Told.{bare}
 use Rattle.lq_sets.proofs.heads.heads_of.Given as goal
-use Rattle.lq_sets.specs.View.{views}
+use Rattle.lq_seen.specs.View.{views}
 
 abbrev pub invariant-loop-rest : goal.invariant-loop-rest
 invariant-loop-rest l = map headed l.heads ++ map bare (views l.options l.rest) ≡ map bare (views l.options l.sets)

@@ -1,6 +1,6 @@
 use Rattle.std.proofs.Common.{Some, ap, sym, ◌∙◌}
 use Rattle.lq_sets.proofs.set_hand.turn_for.Goals as goal
-use Rattle.lq_sets.specs.View.{any_meaning, view}
+use Rattle.lq_seen.specs.View.{any_meaning, view}
 use Rattle.lq_turns.specs.Script.{turn_by}
 
 pub returns-in_ok-turn-in-Fills : goal.returns-in_ok-turn-in-Fills

@@ -1,67 +1,79 @@
-use Rattle.std.proofs.Common.{ap, Err, ◌≡◌, ◌∙◌, ◌++◌, map, string_bytes, subst, option_map, rules}
-use Rattle.lq_outside.specs.Sink.{IsPart}
-use Rattle.lq_top.proofs.Barred.{barred_words, barred_work}
-use Rattle.lq_top.proofs.Became.{was_updated}
-use Rattle.lq_top.proofs.GoneBack.{no_refusal, some_words, went_back}
-use Rattle.lq_held.proofs.Journal.{once}
-use Rattle.lq_top.proofs.Statuses.{barred_of, left_of, not_worked, taken_of, usage_only}
-use Rattle.lq_top.specs.Work.{output_on}
+use Rattle.std.proofs.Common.{refl}
+use Rattle.std.specs.Option.{option_copied}
+use Rattle.std.specs.Prelude.{map, string_bytes}
+use Rattle.lq_cli.specs.Line.{line_of}
+use Rattle.lq_tell.specs.declared.status.Status.TheVariants as status
+use Rattle.lq_top.proofs.Written.{IsWritten, cause, ends_unread, gone_back, has_run, has_synced, has_updated, is_logged, no_files_left, no_words, tag_so, tells_damage, written_fault}
 use Rattle.lq_top.proofs.top.run.Goals as goal
+use Rattle.lq_top.specs.Asks.{asked_tag}
+use Rattle.lq_top.specs.Stamp.{stamp_of}
 
-pub returns-in-Ok-clause-done : goal.returns-in-Ok-clause-done
-returns-in-Ok-clause-done g c = λ is.
-    let d = rw c.in-Ok.is at c.work-disk.ensures.done in
-    let e : c.as_str.result.now ≡ output_on d.0.task = c.as_str.ensures ∙ d.1.1 in
-    (d.0, (d.1.0, subst (λ t. g.O.Sink.told c.print-status.new.out ≡ option_map (λ b. b ++ t) (g.O.Sink.told c.args.out.now)) e (c.print-status.ensures.done is)))
+pub returns-clause-usage : goal.returns-clause-usage
+returns-clause-usage g c =
+    let by : IsWritten c.work-disk.result.done c.tell-status.result = record { kind = c.work-disk.ensures.kind; ended = c.tell-status.ensures.status; cut = c.tell-status.ensures.cut; had = c.tell-status.ensures.had } in
+    λ is. c.work-disk.ensures.usage (cause c.work-disk.result.done c.tell-status.result status.Usage by refl is)
 
-pub returns-in-Ok-clause-printed_part : goal.returns-in-Ok-clause-printed_part
-returns-in-Ok-clause-printed_part g c = λ is.
-    let d = rw c.in-Ok.is at c.work-disk.ensures.done in
-    let e : c.as_str.result.now ≡ output_on d.0.task = c.as_str.ensures ∙ d.1.1 in
-    (d.0, (d.1.0, subst (λ t. IsPart t (g.O.Sink.told c.args.out.now) (g.O.Sink.told c.print-status.new.out)) e (c.print-status.ensures.cut is)))
+pub returns-clause-usage_only : goal.returns-clause-usage_only
+returns-clause-usage_only g c =
+    let by : IsWritten c.work-disk.result.done c.tell-status.result = record { kind = c.work-disk.ensures.kind; ended = c.tell-status.ensures.status; cut = c.tell-status.ensures.cut; had = c.tell-status.ensures.had } in
+    λ none. no_words c.work-disk.result.done c.tell-status.result by (c.work-disk.ensures.usage_only none).0
 
-pub returns-in-Err-clause-usage_only : goal.returns-in-Err-clause-usage_only
-returns-in-Err-clause-usage_only g c = λ none.
-    usage_only c.work-disk.result.done c.in-Err.fault c.log_status-status.result c.in-Err.is (c.work-disk.ensures.usage none) (search rules)
+pub returns-clause-read : goal.returns-clause-read
+returns-clause-read g c =
+    let by : IsWritten c.work-disk.result.done c.tell-status.result = record { kind = c.work-disk.ensures.kind; ended = c.tell-status.ensures.status; cut = c.tell-status.ensures.cut; had = c.tell-status.ensures.had } in
+    λ is. c.work-disk.ensures.read (cause c.work-disk.result.done c.tell-status.result status.ReadFault by refl is)
 
-pub returns-in-Err-clause-left : goal.returns-in-Err-clause-left
-returns-in-Err-clause-left g c =
-    left_of (map (λ word. string_bytes word) c.args.words.now) c.args.who.now (g.F.Files.told c.args.files.now) (g.C.Clock.last c.work-disk.new.clock) (g.D.Disk.told c.args.disk) (g.D.Disk.told c.work-disk.result.disk)
-    c.in-Err.fault c.log_status-status.result (rw c.in-Err.is at c.work-disk.ensures.undone) (search rules) (search rules)
+pub returns-clause-changelog : goal.returns-clause-changelog
+returns-clause-changelog g c =
+    let by : IsWritten c.work-disk.result.done c.tell-status.result = record { kind = c.work-disk.ensures.kind; ended = c.tell-status.ensures.status; cut = c.tell-status.ensures.cut; had = c.tell-status.ensures.had } in
+    λ fault is. c.work-disk.ensures.changelog fault (cause c.work-disk.result.done c.tell-status.result (status.Changelog fault) by refl is)
 
-pub returns-in-Ok-clause-database : goal.returns-in-Ok-clause-database
-returns-in-Ok-clause-database g c = λ worked.
-    let d = rw c.in-Ok.is at c.work-disk.ensures.done in
-    (d.0, was_updated (map (λ word. string_bytes word) c.args.words.now) c.args.who.now (g.F.Files.told c.args.files.now) (g.C.Clock.last c.work-disk.new.clock) (g.D.Disk.told c.args.disk) (g.D.Disk.told c.work-disk.result.disk) d.0 d.1.0)
+pub returns-clause-changelog_only : goal.returns-clause-changelog_only
+returns-clause-changelog_only g c =
+    let by : IsWritten c.work-disk.result.done c.tell-status.result = record { kind = c.work-disk.ensures.kind; ended = c.tell-status.ensures.status; cut = c.tell-status.ensures.cut; had = c.tell-status.ensures.had } in
+    λ fault has. ends_unread fault c.work-disk.result.done c.tell-status.result by (c.work-disk.ensures.not_loaded fault has)
 
-pub returns-in-Ok-clause-rollback : goal.returns-in-Ok-clause-rollback
-returns-in-Ok-clause-rollback g c = λ back worked.
-    let d = rw c.in-Ok.is at c.work-disk.ensures.done in
-    went_back once (map (λ word. string_bytes word) c.args.words.now) (g.F.Files.told c.args.files.now) (g.D.Disk.told c.args.disk) back c.args.who.now (g.C.Clock.last c.work-disk.new.clock) (g.D.Disk.told c.work-disk.result.disk) d.0 d.1.0
+pub returns-clause-damaged : goal.returns-clause-damaged
+returns-clause-damaged g c =
+    let by : IsWritten c.work-disk.result.done c.tell-status.result = record { kind = c.work-disk.ensures.kind; ended = c.tell-status.ensures.status; cut = c.tell-status.ensures.cut; had = c.tell-status.ensures.had } in
+    λ line is. tells_damage line.options.dialect (g.D.Disk.told c.args.disk) c.work-disk.result.done c.tell-status.result by (c.work-disk.ensures.damaged line is)
 
-pub returns-in-Err-clause-database : goal.returns-in-Err-clause-database
-returns-in-Err-clause-database g c = λ worked. absurd (not_worked c.in-Err.fault c.log_status-status.result (search rules) worked)
+pub returns-clause-disk : goal.returns-clause-disk
+returns-clause-disk g c =
+    let by : IsWritten c.work-disk.result.done c.tell-status.result = record { kind = c.work-disk.ensures.kind; ended = c.tell-status.ensures.status; cut = c.tell-status.ensures.cut; had = c.tell-status.ensures.had } in
+    λ is. c.work-disk.ensures.fault (cause c.work-disk.result.done c.tell-status.result status.DiskFault by refl is)
 
-pub returns-in-Err-clause-rollback : goal.returns-in-Err-clause-rollback
-returns-in-Err-clause-rollback g c = λ back worked. absurd (not_worked c.in-Err.fault c.log_status-status.result (search rules) worked)
+pub returns-clause-write : goal.returns-clause-write
+returns-clause-write g c =
+    λ is. written_fault c.work-disk.result.done c.work-disk.ensures.kind (c.tell-status.ensures.write is)
 
-pub returns-in-Err-clause-success : goal.returns-in-Err-clause-success
-returns-in-Err-clause-success g c = λ back.
-    taken_of (map (λ word. string_bytes word) c.args.words.now) c.args.who.now (g.F.Files.told c.args.files.now) (g.C.Clock.last c.work-disk.new.clock) (g.D.Disk.told c.args.disk) (g.D.Disk.told c.work-disk.result.disk)
-    c.in-Err.fault c.log_status-status.result (rw c.in-Err.is at c.work-disk.ensures.undone) (search rules)
-    (some_words once (map (λ word. string_bytes word) c.args.words.now) (g.F.Files.told c.args.files.now) (g.D.Disk.told c.args.disk) back)
-    (no_refusal once (map (λ word. string_bytes word) c.args.words.now) (g.F.Files.told c.args.files.now) (g.D.Disk.told c.args.disk) back)
+pub returns-clause-runs : goal.returns-clause-runs
+returns-clause-runs g c =
+    let by : IsWritten c.work-disk.result.done c.tell-status.result = record { kind = c.work-disk.ensures.kind; ended = c.tell-status.ensures.status; cut = c.tell-status.ensures.cut; had = c.tell-status.ensures.had } in
+    λ asks. has_run (stamp_of c.args.who.now (g.C.Clock.last c.work-disk.new.clock)) (g.D.Disk.told c.args.disk) c.work-disk.result.done (g.D.Disk.told c.work-disk.result.disk) c.tell-status.result by asks (c.work-disk.ensures.does asks)
 
-pub returns-in-Ok-clause-not_built_only : goal.returns-in-Ok-clause-not_built_only
-returns-in-Ok-clause-not_built_only g c = λ barred read disk.
-    let d = rw c.in-Ok.is at c.work-disk.ensures.done in
-    absurd (barred_work once (map (λ word. string_bytes word) c.args.words.now) (g.F.Files.told c.args.files.now) (g.D.Disk.told c.args.disk) barred d.0)
+pub returns-clause-untouched : goal.returns-clause-untouched
+returns-clause-untouched g c =
+    let by : IsWritten c.work-disk.result.done c.tell-status.result = record { kind = c.work-disk.ensures.kind; ended = c.tell-status.ensures.status; cut = c.tell-status.ensures.cut; had = c.tell-status.ensures.had } in
+    λ unread. no_files_left c.work-disk.result.done c.tell-status.result by unread (λ usage. (c.work-disk.ensures.usage_only (c.work-disk.ensures.usage usage)).1) c.work-disk.ensures.untouched
 
-pub returns-in-Err-clause-not_built_only : goal.returns-in-Err-clause-not_built_only
-returns-in-Err-clause-not_built_only g c = λ barred read disk.
-    barred_of (map (λ word. string_bytes word) c.args.words.now) c.args.who.now (g.F.Files.told c.args.files.now) (g.C.Clock.last c.work-disk.new.clock) (g.D.Disk.told c.args.disk) (g.D.Disk.told c.work-disk.result.disk)
-    c.in-Err.fault c.log_status-status.result (rw c.in-Err.is at c.work-disk.ensures.undone) (search rules)
-    (barred_words once (map (λ word. string_bytes word) c.args.words.now) (g.F.Files.told c.args.files.now) (g.D.Disk.told c.args.disk) barred)
-    (barred_work once (map (λ word. string_bytes word) c.args.words.now) (g.F.Files.told c.args.files.now) (g.D.Disk.told c.args.disk) barred)
-    (λ is. read (c.work-disk.ensures.read (c.in-Err.is ∙ ap Err is)))
-    (λ is. disk (c.work-disk.ensures.disk (c.in-Err.is ∙ ap Err is)))
+pub returns-clause-rollback : goal.returns-clause-rollback
+returns-clause-rollback g c =
+    let by : IsWritten c.work-disk.result.done c.tell-status.result = record { kind = c.work-disk.ensures.kind; ended = c.tell-status.ensures.status; cut = c.tell-status.ensures.cut; had = c.tell-status.ensures.had } in
+    λ back. gone_back (stamp_of c.args.who.now (g.C.Clock.last c.work-disk.new.clock)) (g.D.Disk.told c.args.disk) c.work-disk.result.done (g.D.Disk.told c.work-disk.result.disk) c.tell-status.result by back (c.work-disk.ensures.does back.asks)
+
+pub returns-clause-update : goal.returns-clause-update
+returns-clause-update g c =
+    let by : IsWritten c.work-disk.result.done c.tell-status.result = record { kind = c.work-disk.ensures.kind; ended = c.tell-status.ensures.status; cut = c.tell-status.ensures.cut; had = c.tell-status.ensures.had } in
+    λ asks. has_updated (stamp_of c.args.who.now (g.C.Clock.last c.work-disk.new.clock)) (g.D.Disk.told c.args.disk) c.work-disk.result.done (g.D.Disk.told c.work-disk.result.disk) c.tell-status.result by asks (c.work-disk.ensures.does asks)
+
+pub returns-clause-sync : goal.returns-clause-sync
+returns-clause-sync g c =
+    let by : IsWritten c.work-disk.result.done c.tell-status.result = record { kind = c.work-disk.ensures.kind; ended = c.tell-status.ensures.status; cut = c.tell-status.ensures.cut; had = c.tell-status.ensures.had } in
+    λ asks. has_synced (stamp_of c.args.who.now (g.C.Clock.last c.work-disk.new.clock)) (g.D.Disk.told c.args.disk) c.work-disk.result.done (g.D.Disk.told c.work-disk.result.disk) c.tell-status.result by asks (c.work-disk.ensures.does asks)
+
+pub returns-clause-logged : goal.returns-clause-logged
+returns-clause-logged g c =
+    let by : IsWritten c.work-disk.result.done c.tell-status.result = record { kind = c.work-disk.ensures.kind; ended = c.tell-status.ensures.status; cut = c.tell-status.ensures.cut; had = c.tell-status.ensures.had } in
+    λ sound. is_logged (option_copied c.text_of.result) (asked_tag (line_of (map (λ word. string_bytes word) c.args.words.now))) c.work-disk.result.done c.tell-status.result (g.L.Sink.told c.args.log.now) (g.L.Sink.told c.tell-status.new.log) by
+    (tag_so (option_copied c.text_of.result) c.work-disk.result.tag _ c.text_of.ensures c.work-disk.ensures.tag) (c.tell-status.ensures.logged sound)

@@ -1,18 +1,110 @@
-use Rattle.std.proofs.Common.{map, string_bytes, sym}
-use Rattle.lq_top.proofs.Worked.{done_of, read_same, undone_of}
-use Rattle.lq_top.specs.Words.{Asked}
+use Rattle.std.proofs.Common.{ap, inl, inr, refl, subst, sym, ◌∙◌}
+use Rattle.std.specs.Prelude.{Err, List, Some, false, map, string_bytes, ℕ, ◌≡◌}
+use Rattle.lq_cli.specs.Line.{line_of}
+use Rattle.lq_cli.specs.declared.line.Line.{Line}
+use Rattle.lq_sources.specs.Answers.{IsTold, Source}
+use Rattle.lq_tell.specs.declared.status.Status.TheVariants as status
+use Rattle.lq_top.proofs.Loading.{is_failed, is_usage, line_does, line_fails, memory_no_changelog, no_line, no_usage, not_less, of_line_is, other, refused_kind, refused_whole, words_kind}
+use Rattle.lq_top.proofs.ShortTag.{short_tag}
 use Rattle.lq_top.proofs.work.work.Goals as goal
+use Rattle.lq_top.specs.Asks.{asked_tag, loaded}
+use Rattle.lq_top.specs.Bytes.{TellsDamage}
+use Rattle.lq_top.specs.Jobs.{is_on_file}
+use Rattle.lq_top.specs.Stamp.{stamp_of}
 
-pub returns-in-Ok-clause-done : goal.returns-in-Ok-clause-done
-returns-in-Ok-clause-done g c =
-    let asks : Asked = record { job = c.in-Some.line.job; file = c.in-Some.line.file.now; path = c.in-Some.line.path.now } in
-    done_of (map (λ word. string_bytes word) c.args.words.now) c.args.who.now (g.F.Files.told c.args.files.now) (g.C.Clock.last c.on_disk.new.clock) (g.D.Disk.told c.args.disk) (g.D.Disk.told c.on_disk.result.disk)
-    asks (sym c.in-Some.ensures) c.on_disk.result.done c.as_slice.result.now
-    (read_same (g.F.Files.told c.args.files.now) c.in-Some.line.path.now c.in-Ok.sets c.as_slice.result.now c.as_slice.ensures c.in-Ok.ensures.sets c.in-Ok.ensures.path c.in-Ok.ensures.read) c.on_disk.ensures.done
+pub on_line-requires : goal.on_line-requires
+on_line-requires g c = record { tag = short_tag (map (λ word. string_bytes word) c.args.words.now) c.in-Ok.line c.in-Ok.ensures.line }
 
-pub returns-in-Ok-clause-undone : goal.returns-in-Ok-clause-undone
-returns-in-Ok-clause-undone g c =
-    let asks : Asked = record { job = c.in-Some.line.job; file = c.in-Some.line.file.now; path = c.in-Some.line.path.now } in
-    undone_of (map (λ word. string_bytes word) c.args.words.now) c.args.who.now (g.F.Files.told c.args.files.now) (g.C.Clock.last c.on_disk.new.clock) (g.D.Disk.told c.args.disk) (g.D.Disk.told c.on_disk.result.disk)
-    asks (sym c.in-Some.ensures) c.on_disk.result.done c.as_slice.result.now
-    (read_same (g.F.Files.told c.args.files.now) c.in-Some.line.path.now c.in-Ok.sets c.as_slice.result.now c.as_slice.ensures c.in-Ok.ensures.sets c.in-Ok.ensures.path c.in-Ok.ensures.read) c.on_disk.ensures.undone
+pub returns-in-Ok-clause-usage : goal.returns-in-Ok-clause-usage
+returns-in-Ok-clause-usage g c = λ is. absurd (no_usage c.on_line.result.done c.on_line.ensures.kind is)
+
+pub returns-in-Ok-clause-usage_only : goal.returns-in-Ok-clause-usage_only
+returns-in-Ok-clause-usage_only g c = λ none. no_line (map (λ word. string_bytes word) c.args.words.now) c.in-Ok.line none c.in-Ok.ensures.line
+
+pub returns-in-Ok-clause-changelog : goal.returns-in-Ok-clause-changelog
+returns-in-Ok-clause-changelog g c = λ fault is line is_line.
+    of_line_is (map (λ word. string_bytes word) c.args.words.now) (g.F.Files.told c.args.files.now) c.in-Ok.line c.in-Ok.ensures.line (λ (l : Line). (source : Source) → IsTold (g.F.Files.told c.args.files.now) source → loaded source l.options.dialect l.given l.root ≡ Err fault) (c.on_line.ensures.changelog fault is) line is_line
+
+pub returns-in-Ok-clause-not_loaded : goal.returns-in-Ok-clause-not_loaded
+returns-in-Ok-clause-not_loaded g c = λ fault has. line_fails (map (λ word. string_bytes word) c.args.words.now) (g.F.Files.told c.args.files.now) c.in-Ok.line c.in-Ok.ensures.line c.on_line.result.done c.on_line.ensures.not_loaded fault has
+
+pub returns-in-Ok-clause-kind : goal.returns-in-Ok-clause-kind
+returns-in-Ok-clause-kind g c = words_kind c.on_line.result.done c.on_line.ensures.kind
+
+pub returns-in-Ok-clause-does : goal.returns-in-Ok-clause-does
+returns-in-Ok-clause-does g c = λ asks. line_does (map (λ word. string_bytes word) c.args.words.now) (g.F.Files.told c.args.files.now) c.in-Ok.line c.in-Ok.ensures.line (stamp_of c.args.who.now (g.C.Clock.last c.on_line.new.clock)) (g.D.Disk.told c.args.disk) c.on_line.result.done (g.D.Disk.told c.on_line.result.disk) c.on_line.ensures.does asks
+
+pub returns-in-Ok-clause-damaged : goal.returns-in-Ok-clause-damaged
+returns-in-Ok-clause-damaged g c = λ line is_line. of_line_is (map (λ word. string_bytes word) c.args.words.now) (g.F.Files.told c.args.files.now) c.in-Ok.line c.in-Ok.ensures.line (λ (l : Line). TellsDamage l.options.dialect (g.D.Disk.told c.args.disk) c.on_line.result.done) c.on_line.ensures.damaged line is_line
+
+pub returns-in-Ok-clause-off : goal.returns-in-Ok-clause-off
+returns-in-Ok-clause-off g c = λ line is_line. of_line_is (map (λ word. string_bytes word) c.args.words.now) (g.F.Files.told c.args.files.now) c.in-Ok.line c.in-Ok.ensures.line (λ (l : Line). is_on_file l.job ≡ false → c.on_line.result.disk ≡ c.args.disk) c.on_line.ensures.off line is_line
+
+pub returns-in-Ok-clause-tag : goal.returns-in-Ok-clause-tag
+returns-in-Ok-clause-tag g c = inl (c.on_line.ensures.tag ∙ sym (ap asked_tag c.in-Ok.ensures.line))
+
+pub returns-in-Err-Usage-clause-usage : goal.returns-in-Err-Usage-clause-usage
+returns-in-Err-Usage-clause-usage g c = λ is. c.in-Err-Usage.ensures.usage c.in-Err-Usage.field-0-is
+
+pub returns-in-Err-Usage-clause-usage_only : goal.returns-in-Err-Usage-clause-usage_only
+returns-in-Err-Usage-clause-usage_only g c = λ none. (inl c.refused.ensures.done, c.refused.ensures.disk)
+
+pub returns-in-Err-Usage-clause-read : goal.returns-in-Err-Usage-clause-read
+returns-in-Err-Usage-clause-read g c = λ is. other is_failed c.refused.ensures.done is refl refl
+
+pub returns-in-Err-Usage-clause-changelog : goal.returns-in-Err-Usage-clause-changelog
+returns-in-Err-Usage-clause-changelog g c = λ fault is line is_line. no_line (map (λ word. string_bytes word) c.args.words.now) line (c.in-Err-Usage.ensures.usage c.in-Err-Usage.field-0-is) is_line
+
+pub returns-in-Err-Usage-clause-not_loaded : goal.returns-in-Err-Usage-clause-not_loaded
+returns-in-Err-Usage-clause-not_loaded g c = λ fault has. no_line (map (λ word. string_bytes word) c.args.words.now) has.line (c.in-Err-Usage.ensures.usage c.in-Err-Usage.field-0-is) has.is_line
+
+pub returns-in-Err-Usage-clause-kind : goal.returns-in-Err-Usage-clause-kind
+returns-in-Err-Usage-clause-kind g c = refused_kind c.refused.result.done status.Usage c.refused.ensures.done refl
+
+pub returns-in-Err-Usage-clause-does : goal.returns-in-Err-Usage-clause-does
+returns-in-Err-Usage-clause-does g c = λ asks. no_line (map (λ word. string_bytes word) c.args.words.now) asks.line (c.in-Err-Usage.ensures.usage c.in-Err-Usage.field-0-is) asks.is_line
+
+pub returns-in-Err-Usage-clause-damaged : goal.returns-in-Err-Usage-clause-damaged
+returns-in-Err-Usage-clause-damaged g c = λ line is_line. refused_whole line.options.dialect (g.D.Disk.told c.args.disk) c.refused.result.done status.Usage c.refused.ensures.done tt
+
+pub returns-in-Err-Usage-clause-tag : goal.returns-in-Err-Usage-clause-tag
+returns-in-Err-Usage-clause-tag g c = inl (c.refused.ensures.tag ∙ sym (ap asked_tag (c.in-Err-Usage.ensures.usage c.in-Err-Usage.field-0-is)))
+
+pub returns-in-Err-Usage-clause-later : goal.returns-in-Err-Usage-clause-later
+returns-in-Err-Usage-clause-later g c = not_less (ap g.D.Disk.faults c.refused.ensures.disk)
+
+pub returns-in-Err-Usage-clause-fault : goal.returns-in-Err-Usage-clause-fault
+returns-in-Err-Usage-clause-fault g c = λ is. other is_failed c.refused.ensures.done is refl refl
+
+pub returns-in-Err-OutOfMemory-clause-usage : goal.returns-in-Err-OutOfMemory-clause-usage
+returns-in-Err-OutOfMemory-clause-usage g c = λ is. other is_usage c.refused-in-Err-OutOfMemory.ensures.done is refl refl
+
+pub returns-in-Err-OutOfMemory-clause-usage_only : goal.returns-in-Err-OutOfMemory-clause-usage_only
+returns-in-Err-OutOfMemory-clause-usage_only g c = λ none. (inr c.refused-in-Err-OutOfMemory.ensures.done, c.refused-in-Err-OutOfMemory.ensures.disk)
+
+pub returns-in-Err-OutOfMemory-clause-read : goal.returns-in-Err-OutOfMemory-clause-read
+returns-in-Err-OutOfMemory-clause-read g c = λ is. other is_failed c.refused-in-Err-OutOfMemory.ensures.done is refl refl
+
+pub returns-in-Err-OutOfMemory-clause-changelog : goal.returns-in-Err-OutOfMemory-clause-changelog
+returns-in-Err-OutOfMemory-clause-changelog g c = λ fault is. memory_no_changelog c.refused-in-Err-OutOfMemory.result.done fault c.refused-in-Err-OutOfMemory.ensures.done is
+
+pub returns-in-Err-OutOfMemory-clause-not_loaded : goal.returns-in-Err-OutOfMemory-clause-not_loaded
+returns-in-Err-OutOfMemory-clause-not_loaded g c = λ fault has. inr (inr c.refused-in-Err-OutOfMemory.ensures.done)
+
+pub returns-in-Err-OutOfMemory-clause-kind : goal.returns-in-Err-OutOfMemory-clause-kind
+returns-in-Err-OutOfMemory-clause-kind g c = refused_kind c.refused-in-Err-OutOfMemory.result.done status.OutOfMemory c.refused-in-Err-OutOfMemory.ensures.done refl
+
+pub returns-in-Err-OutOfMemory-clause-does : goal.returns-in-Err-OutOfMemory-clause-does
+returns-in-Err-OutOfMemory-clause-does g c = λ asks on database opens. inl (inr c.refused-in-Err-OutOfMemory.ensures.done, ap g.D.Disk.told c.refused-in-Err-OutOfMemory.ensures.disk)
+
+pub returns-in-Err-OutOfMemory-clause-damaged : goal.returns-in-Err-OutOfMemory-clause-damaged
+returns-in-Err-OutOfMemory-clause-damaged g c = λ line is_line. refused_whole line.options.dialect (g.D.Disk.told c.args.disk) c.refused-in-Err-OutOfMemory.result.done status.OutOfMemory c.refused-in-Err-OutOfMemory.ensures.done tt
+
+pub returns-in-Err-OutOfMemory-clause-tag : goal.returns-in-Err-OutOfMemory-clause-tag
+returns-in-Err-OutOfMemory-clause-tag g c = inr c.refused-in-Err-OutOfMemory.ensures.done
+
+pub returns-in-Err-OutOfMemory-clause-later : goal.returns-in-Err-OutOfMemory-clause-later
+returns-in-Err-OutOfMemory-clause-later g c = not_less (ap g.D.Disk.faults c.refused-in-Err-OutOfMemory.ensures.disk)
+
+pub returns-in-Err-OutOfMemory-clause-fault : goal.returns-in-Err-OutOfMemory-clause-fault
+returns-in-Err-OutOfMemory-clause-fault g c = λ is. other is_failed c.refused-in-Err-OutOfMemory.ensures.done is refl refl

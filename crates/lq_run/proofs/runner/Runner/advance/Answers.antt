@@ -1,7 +1,7 @@
 use Rattle.std.proofs.Common.{ap, subst, sym, ◌∙◌}
 use Rattle.std.specs.Prelude.{IsTrue, Some, true, ◌≡◌}
-use Rattle.lq_run.proofs.Stepping.{steps_failed, steps_lacked, steps_on, steps_refused}
-use Rattle.lq_run.specs.Steps.{StepsShown, standing, stopped_by}
+use Rattle.lq_run.proofs.Stepping.{lack_crash, steps_failed, steps_lacked, steps_on, steps_refused}
+use Rattle.lq_run.specs.Steps.{StepsShown, standing, stopped_by, turns_of}
 use Rattle.lq_store.specs.State.{is_open}
 use Rattle.lq_run.proofs.runner.Runner.advance.Goals as goal
 
@@ -32,3 +32,17 @@ pub returns-in-Lack-clause-steps : goal.returns-in-Lack-clause-steps
 returns-in-Lack-clause-steps g c =
     subst (λ w. StepsShown c.args.self.now.dialect g.T.Source.meaning c.args.self.now.stamp c.args.session (standing g.T.Source.left g.T.Source.way c.args.self.now) (standing g.T.Source.left g.T.Source.way c.take_back.new.self) (g.S.Store.state c.args.store.now) w (g.S.Store.state c.take_back.new.store)) (sym c.take_back.ensures.result)
     (steps_lacked c.args.self.now.dialect g.T.Source.meaning c.args.self.now.stamp c.args.session (standing g.T.Source.left g.T.Source.way c.args.self.now) (standing g.T.Source.left g.T.Source.way c.take_back.new.self) c.take.new.hand (g.S.Store.state c.args.store.now) (g.S.Store.state c.take.new.store) (g.S.Store.state c.take_back.new.store) (c.in-Lack.ensures.takes c.args.self.now.stamp) c.take_back.ensures.aborts c.take_back.ensures.hand c.take_back.ensures.fault)
+
+pub returns-in-On-clause-crash : goal.returns-in-On-clause-crash
+returns-in-On-clause-crash g c = c.in-On.ensures.crash c.args.self.now.stamp (turns_of (standing g.T.Source.left g.T.Source.way c.args.self.now))
+
+pub returns-in-Refused-clause-crash : goal.returns-in-Refused-clause-crash
+returns-in-Refused-clause-crash g c = c.in-Refused.ensures.crash c.args.self.now.stamp (turns_of (standing g.T.Source.left g.T.Source.way c.args.self.now))
+
+pub returns-in-Failed-clause-crash : goal.returns-in-Failed-clause-crash
+returns-in-Failed-clause-crash g c = c.in-Failed.ensures.crash c.args.self.now.stamp (turns_of (standing g.T.Source.left g.T.Source.way c.args.self.now))
+
+pub returns-in-Lack-clause-crash : goal.returns-in-Lack-clause-crash
+returns-in-Lack-clause-crash g c =
+    lack_crash c.args.self.now.dialect g.T.Source.meaning c.args.self.now.stamp c.args.session c.args.self.now.hand (turns_of (standing g.T.Source.left g.T.Source.way c.args.self.now)) (g.S.Store.state c.args.store.now) (g.S.Store.state c.take.new.store) (g.S.Store.crashes c.args.store.now) (g.S.Store.crashes c.take.new.store) (g.S.Store.crashes c.take_back.new.store)
+    c.requires.inside c.requires.left c.in-Lack.ensures.lack.0 (c.in-Lack.ensures.crash c.args.self.now.stamp) c.take_back.ensures.crash

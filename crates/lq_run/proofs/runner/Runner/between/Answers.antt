@@ -3,6 +3,7 @@ use Rattle.lq_run.proofs.Counting.{not_true}
 use Rattle.lq_run.proofs.Losing.{lost_steps, told_at}
 use Rattle.lq_run.specs.Holds.{IsBare, IsMarked}
 use Rattle.lq_run.specs.Steps.{TellsLock, standing}
+use Rattle.lq_run.proofs.Since.{leave_none}
 use Rattle.lq_run.proofs.runner.Runner.between.Goals as goal
 
 pub returns-in-Bare-clause-lost : goal.returns-in-Bare-clause-lost
@@ -19,3 +20,6 @@ returns-in-Lost-clause-lost g c = λ there is database stands lost. (refl, told_
 
 pub returns-in-Lost-clause-rose : goal.returns-in-Lost-clause-rose
 returns-in-Lost-clause-rose g c = λ is. absurd (not_true (sym c.locked.ensures.told ∙ is))
+
+pub returns-in-Lost-clause-crash : goal.returns-in-Lost-clause-crash
+returns-in-Lost-clause-crash g c = λ start s told is held. leave_none (g.S.Store.state c.args.store.now).entries _ (g.S.Store.crashes c.args.store.now)

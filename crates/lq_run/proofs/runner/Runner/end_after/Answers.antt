@@ -1,6 +1,8 @@
 use Rattle.std.proofs.Common.{ap}
-use Rattle.lq_run.proofs.Losing.{ends_bare, ends_marked}
+use Rattle.lq_run.proofs.Losing.{bare_crash, ends_bare, ends_marked}
 use Rattle.lq_run.specs.Steps.{last_end}
+use Rattle.lq_run.proofs.Since.{leave_none}
+use Rattle.std.specs.Prelude.{Some}
 use Rattle.lq_run.proofs.runner.Runner.end_after.Goals as goal
 
 pub returns-then-is_marked-clause-ends : goal.returns-then-is_marked-clause-ends
@@ -8,3 +10,9 @@ returns-then-is_marked-clause-ends g c = ends_marked c.args.self.now.dialect g.T
 
 pub returns-clause-ends : goal.returns-clause-ends
 returns-clause-ends g c = ends_bare c.args.self.now.dialect g.T.Source.meaning c.args.self.now.stamp c.args.session (g.S.Store.state c.args.store.now) c.args.fault c.args.self.now.refused _ c.args.is_marked (g.S.Store.state c.close.new.store) c.close.result c.if-is_marked.false c.requires.lock (ap (λ f. last_end f c.args.self.now.refused) c.requires.fault) c.close.ensures.closes
+
+pub returns-then-is_marked-clause-crash : goal.returns-then-is_marked-clause-crash
+returns-then-is_marked-clause-crash g c = λ start s is stands fit. leave_none (g.S.Store.state c.args.store.now).entries _ (g.S.Store.crashes c.args.store.now)
+
+pub returns-clause-crash : goal.returns-clause-crash
+returns-clause-crash g c = bare_crash c.args.self.now.dialect c.args.self.now.stamp c.args.session (g.S.Store.state c.args.store.now) (g.S.Store.crashes c.args.store.now) (g.S.Store.crashes c.close.new.store) (Some c.args.fault) c.args.is_marked c.if-is_marked.false c.requires.lock c.close.ensures.crash

@@ -1,5 +1,5 @@
 use Rattle.std.proofs.Common.{subst, sym}
-use Rattle.lq_run.proofs.Stepping.{steps_ended, steps_entered, steps_short}
+use Rattle.lq_run.proofs.Stepping.{ended_crash, entered_crash, short_crash, steps_ended, steps_entered, steps_short}
 use Rattle.lq_run.specs.Steps.{standing}
 use Rattle.lq_run.proofs.runner.Runner.enter.Goals as goal
 
@@ -16,3 +16,17 @@ returns-in-NoTurn-clause-steps g c =
 pub returns-in-Lack-clause-steps : goal.returns-in-Lack-clause-steps
 returns-in-Lack-clause-steps g c =
     steps_short c.args.self.now.dialect g.T.Source.meaning c.args.self.now.stamp c.args.session (standing g.T.Source.left g.T.Source.way c.args.self.now) (g.S.Store.state c.args.store.now) c.requires.inside c.requires.none_left c.requires.closed (standing g.T.Source.left g.T.Source.way c.end-in-Lack.new.self) (g.S.Store.state c.end-in-Lack.new.store) c.end-in-Lack.result c.end-in-Lack.ensures.ends
+
+pub returns-in-Turn-clause-crash : goal.returns-in-Turn-clause-crash
+returns-in-Turn-clause-crash g c =
+    entered_crash c.args.self.now.dialect g.T.Source.meaning c.args.self.now.stamp c.args.session (standing g.T.Source.left g.T.Source.way c.args.self.now) (g.S.Store.state c.args.store.now) c.requires.inside c.requires.none_left c.requires.closed c.requires.enters c.in-Turn.hand (g.T.Source.left c.next.new.source) (g.T.Source.way c.next.new.source) c.in-Turn.ensures.enters
+    (g.S.Store.crashes c.args.store.now) (g.S.Store.crashes c.inside.new.store) c.inside.ensures.crash
+
+pub returns-in-NoTurn-clause-crash : goal.returns-in-NoTurn-clause-crash
+returns-in-NoTurn-clause-crash g c =
+    ended_crash c.args.self.now.dialect g.T.Source.meaning c.args.self.now.stamp c.args.session (standing g.T.Source.left g.T.Source.way c.args.self.now) (g.S.Store.state c.args.store.now) c.requires.inside c.requires.none_left c.requires.closed c.requires.enters (g.T.Source.left c.next.new.source) (g.T.Source.way c.next.new.source c.args.self.now.dialect c.args.self.now.stamp)
+    (g.S.Store.crashes c.args.store.now) (g.S.Store.crashes c.end.new.store) c.in-NoTurn.ensures.enters c.end.ensures.crash
+
+pub returns-in-Lack-clause-crash : goal.returns-in-Lack-clause-crash
+returns-in-Lack-clause-crash g c =
+    short_crash c.args.self.now.dialect g.T.Source.meaning c.args.self.now.stamp c.args.session (standing g.T.Source.left g.T.Source.way c.args.self.now) (g.S.Store.state c.args.store.now) c.requires.inside c.requires.none_left c.requires.closed (g.S.Store.crashes c.args.store.now) (g.S.Store.crashes c.end-in-Lack.new.store) c.end-in-Lack.ensures.crash

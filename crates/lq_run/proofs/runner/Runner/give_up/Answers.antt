@@ -1,4 +1,4 @@
-use Rattle.lq_run.proofs.Stepping.{not_between, steps_back}
+use Rattle.lq_run.proofs.Stepping.{back_crash, not_between, steps_back}
 use Rattle.lq_run.specs.Steps.{standing}
 use Rattle.lq_run.proofs.runner.Runner.give_up.Goals as goal
 
@@ -7,3 +7,6 @@ returns-clause-steps g c = steps_back c.args.self.now.dialect g.T.Source.meaning
 
 pub returns-clause-lost : goal.returns-clause-lost
 returns-clause-lost g c = λ there. absurd (not_between c.args.self.now.hand c.requires.gives_up there)
+
+pub returns-clause-crash : goal.returns-clause-crash
+returns-clause-crash g c = back_crash c.args.self.now.dialect g.T.Source.meaning c.args.self.now.stamp c.args.session (standing g.T.Source.left g.T.Source.way c.args.self.now) (g.S.Store.state c.args.store.now) (g.S.Store.crashes c.args.store.now) (g.S.Store.crashes c.abort.new.store) c.requires.gives_up c.abort.ensures.crash

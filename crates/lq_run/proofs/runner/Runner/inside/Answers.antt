@@ -1,5 +1,9 @@
 use Rattle.lq_run.proofs.Stepping.{steps_shown}
-use Rattle.lq_run.specs.Steps.{standing}
+use Rattle.lq_run.specs.Steps.{enters_turns, standing}
+use Rattle.std.proofs.Common.{subst}
+use Rattle.lq_hand.specs.Hand.{place_of}
+use Rattle.lq_run.specs.Crashing.{CrashesNext}
+use Rattle.lq_turns.specs.Rest.{if_goes_on}
 use Rattle.lq_run.proofs.runner.Runner.inside.Goals as goal
 
 pub returns-clause-steps : goal.returns-clause-steps
@@ -10,3 +14,8 @@ returns-clause-steps g c =
 
 pub returns-clause-lost : goal.returns-clause-lost
 returns-clause-lost g c = λ there. absurd (c.requires.left there.1)
+
+pub returns-clause-crash : goal.returns-clause-crash
+returns-clause-crash g c =
+    let r = c.args.self.now in
+    subst (λ t. CrashesNext r.dialect g.T.Source.meaning r.stamp c.args.session (place_of r.hand (if_goes_on (enters_turns r.fault r.refused) t)) (g.S.Store.state c.args.store.now) (g.S.Store.crashes c.args.store.now) (g.S.Store.crashes c.advance.new.store)) c.show.ensures.left c.advance.ensures.crash

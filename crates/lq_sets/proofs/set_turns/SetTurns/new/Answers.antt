@@ -1,7 +1,7 @@
 use Rattle.std.proofs.Common.{arith, refl, reverse, subst, sym, ◌≤◌}
 use Rattle.lq_sets.specs.SetTurns.{ArePlanned}
-use Rattle.lq_sets.proofs.Leading.{leads_begin}
-use Rattle.lq_sets.specs.View.{any_meaning, views}
+use Rattle.lq_seen.proofs.Leading.{leads_begin}
+use Rattle.lq_seen.specs.View.{any_meaning, views}
 use Rattle.lq_turns.specs.Settle.{all_settled}
 use Rattle.lq_sets.proofs.Begun.{begins_planned, places_within}
 use Rattle.lq_sets.proofs.set_turns.SetTurns.new.Goals as goal

@@ -3,8 +3,8 @@ use Rattle.std.specs.List.{slice_get}
 use Rattle.lq_kinds.specs.Dialects.{is_block_for, is_read_for}
 use Rattle.lq_model.proofs.Lists.{and_left}
 use Rattle.lq_sets.proofs.Coming.{came_to}
-use Rattle.lq_sets.proofs.RowsBack.{all_at}
-use Rattle.lq_sets.proofs.Told.{told_printed}
+use Rattle.lq_seen.proofs.Read.{all_at}
+use Rattle.lq_seen.proofs.Told.{told_printed}
 use Rattle.lq_sets.proofs.set_turns.SetTurns.try_item.Goals as goal
 
 pub act-tried-requires-clause-read : goal.act-tried-requires-clause-read

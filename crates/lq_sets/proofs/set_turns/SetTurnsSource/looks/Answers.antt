@@ -3,7 +3,7 @@ use Rattle.std.specs.List.{list_all, slice_get}
 use Rattle.lq_kinds.specs.AnyChange.{is_for}
 use Rattle.lq_kinds.specs.Dialects.{is_block_for, is_read_for}
 use Rattle.lq_model.proofs.Lists.{and_left}
-use Rattle.lq_sets.proofs.RowsBack.{all_at}
+use Rattle.lq_seen.proofs.Read.{all_at}
 use Rattle.lq_sets.proofs.set_turns.SetTurnsSource.looks.Goals as goal
 
 pub looks-requires : goal.looks-requires

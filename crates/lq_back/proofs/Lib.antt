@@ -1,0 +1,9 @@
+mod Indexed
+mod Laid
+mod Mapped
+mod RowEntered
+mod RowsBack
+mod Spelled
+mod Synced
+mod Undone
+mod Ways

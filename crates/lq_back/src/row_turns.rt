@@ -1,0 +1,183 @@
+ghost use Rattle.std.specs.List.{list_all};
+ghost use Rattle.std.specs.Prelude.{◌≡◌, ◌++◌, ◌∷◌, [], IfOk, List, OnOk, Some, if◌then◌else◌, map, reverse, true};
+ghost use Rattle.lq_base.specs.declared.run.Happened.{Happened as Event};
+ghost use Rattle.lq_expr.specs.declared.options.Options.{Options};
+ghost use Rattle.lq_kinds.specs.Dialects.{AreFor};
+ghost use Rattle.lq_model.specs.Statement.{is_statement};
+ghost use Rattle.lq_model.specs.StatementText.{text_of};
+ghost use Rattle.lq_turns.specs.Contents.{Contents};
+ghost use Rattle.lq_turns.specs.Rollback.{all_rolled, undo_turns};
+ghost use Rattle.lq_back.specs.Reversal.{AreWays};
+ghost use Rattle.lq_back.specs.RowTurns.{LeadsBack, goes_back, printed, rolled_back};
+ghost use Rattle.lq_seen.specs.View.{any_meaning, views};
+
+use crate::reversal::TakenBack;
+use crate::row_back::undo_turns;
+use lq_base::{Dialect, Did, Duplicate, Happened, Items, NoMemory, Printed, Text, Tracked};
+use lq_hand::{Entered, Hand, Source};
+use lq_kinds::Changelog;
+use lq_model::{Look, SqlText, Statement};
+use lq_seen::Outcome;
+use lq_turns::{Stamp, Turn};
+use std::alloc::Global;
+
+/// The turns of a rollback, row after row from the last on (Liquibase's documentation, "rollback").
+/// Where memory ran out the outcome may tell one row more than was taken back.
+#[derive(Debug, Drop)]
+pub struct RowTurns {
+    /// The next one last.
+    turns: Items<Turn>,
+    /// Whether the statements' texts are wanted.
+    prints: bool,
+    pub outcome: Outcome,
+}
+
+impl RowTurns {
+    /// The turns that take these rows back, of which the last row goes first. The changelog was read
+    /// for the dialect, and `ways` is what `reversible` gives for the rows.
+    pub fn new(
+        alloc: Global,
+        dialect: Dialect,
+        changelog: &Changelog,
+        ways: &[TakenBack],
+        rows: &[Tracked],
+        prints: bool,
+    ) -> Result<RowTurns, NoMemory>
+        requires read { AreFor dialect changelog.now }
+        requires ways { AreWays changelog.now.sets rows.now ways.now }
+        ensures turns { IfOk result (λ source. (options : Options) → undo_turns dialect any_meaning (views options changelog.now.sets) (reverse rows.now) ≡ Some (reverse source.turns)) }
+        ensures reads { IfOk result (λ source. list_all (goes_back dialect) (reverse source.turns) ≡ true) }
+        ensures knows { IfOk result (λ source. (c : Contents) → LeadsBack source dialect (all_rolled dialect (reverse source.turns) c) c) }
+    {
+        let turns = undo_turns(alloc, dialect, changelog, rows, ways)?;
+        let outcome = Outcome::new(alloc);
+        Ok(RowTurns {
+            turns,
+            prints,
+            outcome,
+        })
+    }
+}
+
+impl Source for RowTurns {
+    ghost use Rattle.std.specs.List.{list_all};
+    ghost use Rattle.std.specs.Prelude.{◌≡◌, reverse, true};
+    ghost use Rattle.lq_kinds.specs.declared.any_change.AnyChange.{AnyChange};
+    ghost use Rattle.lq_back.specs.RowTurns.{goes_back, row_way};
+    ghost use Rattle.lq_seen.specs.View.{any_meaning};
+    ghost use Rattle.lq_turns.specs.Rest.{OfRows};
+    ghost use Rattle.lq_turns.specs.Settle.{Settled};
+
+    ghost Key = { AnyChange };
+
+    ghost meaning = { any_meaning };
+
+    ghost left = { λ source. OfRows (reverse source.turns) };
+
+    ghost Told = { Settled };
+
+    ghost way = { row_way };
+
+    ghost reads = { λ source dialect. list_all (goes_back dialect) (reverse source.turns) ≡ true };
+
+    fn enter<K: Look, P: SqlText>(
+        &mut self,
+        alloc: Global,
+        dialect: Dialect,
+        stamp: &Stamp,
+        _look: &K,
+        sql: &P,
+    ) -> Entered {
+        let Some(turn) = self.turns.pop() else {
+            return Entered::NoTurn;
+        };
+        let Ok(()) = tell(alloc, sql, &turn, self.prints, &mut self.outcome) else {
+            return Entered::Lack;
+        };
+        match Hand::of_turn(alloc, dialect, &stamp.who, turn, false) {
+            Ok(hand) => Entered::Turn(hand),
+            Err(_) => Entered::Lack,
+        }
+    }
+
+    fn looks<K: Look>(&mut self, _dialect: Dialect, _look: &K) {}
+
+    fn finished(&mut self) {}
+
+    fn refused(&mut self) {
+        take_back(&mut self.outcome);
+    }
+}
+
+/// Writes down what is done where the turn finishes.
+fn tell<P: SqlText>(
+    alloc: Global,
+    sql: &P,
+    turn: &Turn,
+    prints: bool,
+    outcome: &mut Outcome,
+) -> Result<(), NoMemory>
+    requires spelled { list_all (is_statement P.dialect) turn.now.statements ≡ true }
+    ensures happened { OnOk result (outcome.new.happened ≡ outcome.old.happened ++ rolled_back turn.now ∷ []) }
+    ensures printed { OnOk result (outcome.new.printed ≡ outcome.old.printed ++ (if prints then printed P.dialect turn.now ∷ [] else [])) }
+    ensures others { OnOk result ((outcome.new.warned ≡ outcome.old.warned) × (outcome.new.halted ≡ outcome.old.halted) × (outcome.new.stopped_at ≡ outcome.old.stopped_at)) }
+{
+    if prints {
+        print(alloc, sql, turn, &mut outcome.printed)?;
+    }
+    outcome.happened.push(rolled_back(alloc, turn)?)?;
+    Ok(())
+}
+
+fn rolled_back(alloc: Global, turn: &Turn) -> Result<Happened, NoMemory>
+    ensures { IfOk result (λ happened. happened ≡ rolled_back turn.now) }
+{
+    Ok(Happened {
+        what: Did::RolledBack,
+        identity: turn.identity.duplicate(alloc)?,
+    })
+}
+
+fn print<P: SqlText>(
+    alloc: Global,
+    sql: &P,
+    turn: &Turn,
+    to: &mut Items<Printed>,
+) -> Result<(), NoMemory>
+    requires spelled { list_all (is_statement P.dialect) turn.now.statements ≡ true }
+    ensures { OnOk result (to.new ≡ to.old ++ printed P.dialect turn.now ∷ []) }
+{
+    let texts = texts_of(alloc, sql, turn.statements.as_slice())?;
+    let identity = turn.identity.duplicate(alloc)?;
+    to.push(Printed { identity, texts })?;
+    Ok(())
+}
+
+/// The canonical text of each statement.
+fn texts_of<P: SqlText>(
+    alloc: Global,
+    sql: &P,
+    statements: &[Statement],
+) -> Result<Items<Text>, NoMemory>
+    requires spelled { list_all (is_statement P.dialect) statements.now ≡ true }
+    ensures { IfOk result (λ texts. texts ≡ map (text_of P.dialect) statements.now) }
+{
+    let mut texts = Items::new(alloc);
+    let mut rest = statements;
+    while let Some((statement, after)) = rest.split_first() {
+        texts.push(sql.print(alloc, statement)?)?;
+        rest = after;
+    }
+    Ok(texts)
+}
+
+/// The turn that was told last stops the command, and is not done.
+fn take_back(outcome: &mut Outcome)
+    ensures told { (before : List Event) (last : Event) → outcome.old.happened ≡ before ++ last ∷ [] → (outcome.new.happened ≡ before) × (outcome.new.stopped_at ≡ Some last.identity) }
+    ensures others { (outcome.new.warned ≡ outcome.old.warned) × (outcome.new.halted ≡ outcome.old.halted) }
+{
+    outcome.printed.pop();
+    if let Some(happened) = outcome.happened.pop() {
+        outcome.stopped_at = Some(happened.identity);
+    }
+}

@@ -1,5 +1,0 @@
-use Rattle.lq_create.proofs.TablesMade.{creates}
-use Rattle.lq_create.proofs.creates.creates_tables.Goals as goal
-
-pub returns : goal.returns
-returns c = creates

@@ -1,5 +1,0 @@
-use Rattle.lq_create.proofs.SinceLaws.{runs_on}
-use Rattle.lq_create.proofs.since.runs_on.Goals as goal
-
-pub returns : goal.returns
-returns c = runs_on

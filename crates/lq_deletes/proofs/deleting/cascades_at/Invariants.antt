@@ -1,0 +1,12 @@
+use Rattle.std.proofs.Common.{Bool, drop, ◌&&◌, ◌≡◌}
+use Rattle.std.specs.List.{list_any}
+use Rattle.lq_base.specs.Name.{is_named}
+use Rattle.lq_base.specs.declared.name.Name.{Name}
+use Rattle.lq_model.specs.Catalogue.{Table}
+use Rattle.lq_parts.specs.Steps.{tables_of}
+use Rattle.lq_deletes.proofs.deleting.cascades_at.Given as goal
+
+abbrev pub invariant-loop-entry : goal.invariant-loop-entry
+invariant-loop-entry l =
+    let p : Name × Table → Bool = λ e. list_any (λ f. f.cascade && is_named l.table f.table) e.1.foreign in
+    list_any p (tables_of (drop l.entry-index l.entries)) ≡ list_any p (tables_of l.entries)

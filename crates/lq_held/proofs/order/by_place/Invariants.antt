@@ -1,9 +1,0 @@
-use Rattle.std.proofs.Common.{length}
-use Rattle.lq_held.proofs.ByPlace.{Behind}
-use Rattle.lq_held.proofs.order.by_place.Given as goal
-
-abbrev pub invariant-loop-row : goal.invariant-loop-row
-invariant-loop-row l = Behind l.fn.rows l.rows l.placed.entries
-
-abbrev pub decreases-loop-row : goal.decreases-loop-row
-decreases-loop-row l = length l.rows

@@ -1,0 +1,57 @@
+-- What a crash of the machine at any moment of a command leaves, in words of databases.
+use Rattle.std.specs.Prelude.{IfSome, IsTrue, List, Option, Some, [], false, map, true, ℕ, ◌++◌, ◌∷◌, ◌≡◌, ◌≤◌, ◌⊎◌}
+use Rattle.lq_base.specs.declared.dialect.Dialect.{Dialect}
+use Rattle.lq_base.specs.declared.identity.Identity.{Identity}
+use Rattle.lq_base.specs.declared.tracking.Tracked.{Tracked}
+use Rattle.lq_model.specs.declared.caller.Room.TheVariants.{Ordinary}
+use Rattle.lq_store.specs.Crashes.{Crashes}
+use Rattle.lq_store.specs.Journal.{Entry}
+use Rattle.lq_store.specs.State.{State}
+use Rattle.lq_track.specs.Database.{Database}
+use Rattle.lq_track.specs.Log.{identity_of}
+use Rattle.lq_turns.specs.Script.{last_row, opening, release_calls, tag_calls}
+use Rattle.lq_turns.specs.Session.{session_on}
+use Rattle.lq_turns.specs.Set.{Meaning}
+use Rattle.lq_turns.specs.Stops.{IsLeft, Journal, is_mark}
+use Rattle.lq_turns.specs.declared.call.Call.{Call}
+use Rattle.lq_turns.specs.declared.call.Call.TheVariants.{Alone}
+use Rattle.lq_turns.specs.declared.deed.Deed.TheVariants.{Locks}
+use Rattle.lq_turns.specs.declared.stamp.Stamp.{Stamp}
+use Rattle.lq_beside.specs.Replays.{calls_fit}
+use Rattle.lq_run.specs.Commands.{HasDatabase, OnAll, script}
+use Rattle.lq_run.specs.Stands.{entries_of}
+use Rattle.lq_run.specs.Steps.{Standing, place}
+
+-- A crash at any moment of the run leaves entries of which this holds; for one that began earlier, or what a crash before the run might have left.
+pub record Since (Left : List Entry → Type 0) (before now : Crashes) : Type 0 where
+  pub honest : now.is_honest ≡ before.is_honest
+  pub later : before.moment ≤ now.moment
+  pub each : IsTrue before.is_honest → (t : ℕ) (left : Option (List Entry)) → t ≤ before.moment → now.left_since t left → before.left_since t left ⊎ ((entries : List Entry) × (left ≡ Some entries) × Left entries)
+
+-- the same where the entries that were there are told
+abbrev pub CrashesLeave : Option (List Entry) → (List Entry → List Entry → Type 0) → Crashes → Crashes → Type 0
+CrashesLeave entries Left before now = IfSome entries (λ there. Since (Left there) before now)
+
+-- the entries that were there, and what a stop of these calls may leave
+pub record LeftInCommand (d : Dialect) (calls : List Call) (database : Database) (there left : List Entry) : Type 0 where
+  pub written : Journal
+  pub stops : IsLeft d calls database [] written
+  pub is : left ≡ there ++ entries_of d written
+
+-- the call that takes a command's lock, on every database
+abbrev pub CrashesOpened : Dialect → Stamp → State → Crashes → Crashes → Type 0
+CrashesOpened d stamp x before now = (database : Database) → HasDatabase d x database → CrashesLeave x.entries (LeftInCommand d (Alone (map Locks (opening stamp database)) Ordinary ∷ []) database) before now
+
+-- a tag's, on every database whose last row has the identity, and into which the tag goes
+abbrev pub CrashesTagged : Dialect → Identity → List ℕ → State → Crashes → Crashes → Type 0
+CrashesTagged d of tag x before now = (database : Database) (row : Tracked) → HasDatabase d x database → last_row database.rows ≡ Some row → identity_of row ≡ of
+    → calls_fit d (tag_calls tag database) (session_on database) ≡ true → CrashesLeave x.entries (LeftInCommand d (tag_calls tag database) database) before now
+
+-- a release-locks', on every database whose lock is held
+abbrev pub CrashesReleased : Dialect → State → Crashes → Crashes → Type 0
+CrashesReleased d x before now = (database : Database) → HasDatabase d x database → database.lock.locked ≡ true
+    → calls_fit d (release_calls database) (session_on database) ≡ true → CrashesLeave x.entries (LeftInCommand d (release_calls database) database) before now
+
+-- a command's, on every database whose contents are known, and on which its calls fit, where its name has no mark of its own
+abbrev pub CrashesAll : {Key Told : Type 0} → Dialect → Meaning Key → Stamp → Standing Key Told → State → Crashes → Crashes → Type 0
+CrashesAll d m stamp r x before now = is_mark stamp.who ≡ false → OnAll d m stamp r x (λ database told. CrashesLeave x.entries (LeftInCommand d (script d m stamp (place r) database) database) before now)

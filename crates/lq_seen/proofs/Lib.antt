@@ -1,0 +1,5 @@
+pub mod Inverses
+pub mod Leading
+pub mod Read
+pub mod Spelled
+pub mod Told

@@ -1,0 +1,74 @@
+-- A changeset and a changelog of changes of any type, as the commands see them.
+use Rattle.std.specs.List.{join_by}
+use Rattle.std.specs.Option.{option_or}
+use Rattle.std.specs.Prelude.{List, None, Option, Some, [], codes, false, map, ℕ, ◌∷◌}
+use Rattle.lq_base.specs.Text.{is_text}
+use Rattle.lq_base.specs.declared.dialect.Dialect.{Dialect}
+use Rattle.lq_base.specs.declared.run.OnFail.{OnFail}
+use Rattle.lq_cond.specs.Told.{told as told_by}
+use Rattle.lq_cond.specs.declared.cond.Cond.{Cond}
+use Rattle.lq_expr.specs.declared.options.Options.{Options}
+use Rattle.lq_kinds.specs.AnyChange.{canonical_of, effect, gives, inverse, is_for, is_fresh}
+use Rattle.lq_kinds.specs.declared.any_change.AnyChange.{AnyChange}
+use Rattle.lq_kinds.specs.declared.any_change.AnyChange.TheVariants.{TagDatabase}
+use Rattle.lq_kinds.specs.declared.change_set.ChangeSet.{ChangeSet}
+use Rattle.lq_kinds.specs.declared.change_set.Changelog.{Changelog}
+use Rattle.lq_seen.specs.Selection.{is_selected}
+use Rattle.lq_turns.specs.Promised.{meaning}
+use Rattle.lq_turns.specs.Set.{Changelog as Log, Condition, Meaning, Set}
+
+-- what changes of any type do
+abbrev pub any_meaning : Meaning AnyChange
+any_meaning = meaning is_for gives effect is_fresh inverse
+
+-- the name of its type
+abbrev pub type_name : AnyChange → List ℕ
+type_name x = (canonical_of x).name
+
+-- the names of the types, joined with a comma and a blank
+abbrev pub described : List AnyChange → List ℕ
+described xs = join_by type_name (codes ", ") xs
+
+-- the tag that a change sets
+abbrev pub tag_by : AnyChange → Option (List ℕ)
+tag_by (TagDatabase x) = Some x.tag
+tag_by _ = None
+
+-- the tag that one of the changes sets
+abbrev pub tag_of : List AnyChange → Option (List ℕ)
+tag_of [] = None
+tag_of (x ∷ xs) = option_or (tag_by x) (tag_of xs)
+
+-- a condition, told of the users' objects and the rows
+abbrev pub condition_of : Dialect → Cond → OnFail → OnFail → Condition
+condition_of d asked on_fail on_error = record { told = λ c. told_by d asked c.users c.rows; on_fail = on_fail; on_error = on_error }
+
+-- A changeset for a command's options. Its sum has one form, so a stored sum is its own where the two are the same text, and none is of an old form.
+abbrev pub view : Options → ChangeSet → Set AnyChange
+view options x = record {
+  identity = x.identity;
+  here = x.here;
+  selected = is_selected options x;
+  changes = x.changes;
+  rollback = x.rollback;
+  condition = condition_of options.dialect x.cond x.on_fail x.on_error;
+  run_always = x.run_always;
+  run_on_change = x.run_on_change;
+  fail_on_error = x.fail_on_error;
+  in_transaction = x.in_transaction;
+  sum = x.sum;
+  is_own_sum = λ stored. is_text stored x.sum;
+  is_old_sum = λ stored. false;
+  valid_sums = x.valid_sums;
+  description = described x.changes;
+  comments = x.comment;
+  tag = tag_of x.changes;
+  contexts = x.context_text;
+  labels = x.labels_text;
+}
+
+abbrev pub views : Options → List ChangeSet → List (Set AnyChange)
+views options xs = map (view options) xs
+
+abbrev pub view_log : Options → Changelog → Log AnyChange
+view_log options g = record { condition = condition_of options.dialect g.cond g.on_fail g.on_error; sets = views options g.sets }

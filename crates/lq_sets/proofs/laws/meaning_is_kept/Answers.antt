@@ -1,5 +1,0 @@
-use Rattle.lq_kinds.specs.AnyChangeLaws.{does, restores, spelled}
-use Rattle.lq_sets.proofs.laws.meaning_is_kept.Goals as goal
-
-pub returns : goal.returns
-returns c = record { spelled = spelled; does = does; restores = restores }

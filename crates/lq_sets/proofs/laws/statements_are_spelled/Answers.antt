@@ -1,5 +1,0 @@
-use Rattle.lq_sets.proofs.Spelled.{statements_spelled}
-use Rattle.lq_sets.proofs.laws.statements_are_spelled.Goals as goal
-
-pub returns : goal.returns
-returns c = statements_spelled

@@ -1,5 +1,0 @@
-use Rattle.lq_sets.proofs.Spelled.{turns_back_spelled}
-use Rattle.lq_sets.proofs.laws.turns_back_are_spelled.Goals as goal
-
-pub returns : goal.returns
-returns c = turns_back_spelled

@@ -1,5 +1,0 @@
-use Rattle.lq_sets.proofs.Laid.{all_laid}
-use Rattle.lq_sets.proofs.sync_turn.calls_of.Goals as goal
-
-pub returns : goal.returns
-returns c = all_laid c.args.rows c.new-calls.result c.push_turn.new.calls c.new-calls.ensures c.in_ok-push_turn.ensures

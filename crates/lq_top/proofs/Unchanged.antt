@@ -1,0 +1,78 @@
+-- A file that holds a database holds it still where nothing is written.
+use Rattle.std.proofs.Common.{ap, refl, subst, sym, ◌∙◌}
+use Rattle.std.proofs.lemmas.List.{append-nil}
+use Rattle.std.specs.Option.{option_map}
+use Rattle.std.specs.Prelude.{Bool, Err, List, None, Ok, Option, Result, Some, [], cond, false, map, true, ℕ, ◌++◌, ◌≡◌}
+use Rattle.lq_base.specs.declared.dialect.Dialect.{Dialect}
+use Rattle.lq_db.proofs.Loads.{folded_runs}
+use Rattle.lq_db.specs.Load.{folded, if_clean, is_clean, read_entries}
+use Rattle.lq_db.specs.Log.{entries_in, texts_of}
+use Rattle.lq_journal.specs.Journal.{journal_of, used_by}
+use Rattle.lq_journal.specs.declared.entry.Entry.{Entry as Placed}
+use Rattle.lq_model.specs.Catalogue.{Catalogue, no_objects}
+use Rattle.lq_store.specs.Journal.{Entry}
+use Rattle.lq_track.specs.Database.{Database}
+use Rattle.lq_tell.specs.declared.done.Done.{Done}
+use Rattle.lq_tell.specs.declared.status.Status.{Status}
+use Rattle.lq_top.specs.Bytes.{Becomes, Holds, Opens, WorksOn, most_bytes}
+use Rattle.lq_top.specs.Copies.{job_of}
+use Rattle.lq_top.specs.Jobs.{DoesJob, job_refusal, job_script}
+use Rattle.lq_top.specs.Refusals.{Answers}
+use Rattle.lq_top.specs.declared.copying.Printing.{Printing}
+use Rattle.lq_top.specs.declared.copying.Printing.TheVariants as print
+use Rattle.lq_top.specs.declared.given.Given.{Given}
+
+ok_same : {a b : Catalogue} → (let r : Result Catalogue ℕ = Ok a in r) ≡ Ok b → a ≡ b
+ok_same h = Prim.cc
+
+err_ok : {n : ℕ} {b : Catalogue} → (let r : Result Catalogue ℕ = Err n in r) ≡ Ok b → ⊥
+err_ok h = Prim.cc
+
+module _ (d : Dialect) where
+  clean_is : (c : Catalogue) (at : ℕ) (e : Catalogue) (b : Bool) → (let r : Result Catalogue ℕ = cond b (Ok c) (Err at) in r) ≡ Ok e → c ≡ e
+  clean_is c at e true is = ok_same is
+  clean_is c at e false is = absurd (err_ok is)
+
+  was_clean : (at : ℕ) (r : Result Catalogue ℕ) (e : Catalogue) → if_clean d at r ≡ Ok e → r ≡ Ok e
+  was_clean at (Ok c) e is = ap Ok (clean_is c at e (is_clean d c) is)
+  was_clean at (Err place) e is = is
+
+  read_is : (r : Result (List Placed) ℕ) (e : Catalogue) → read_entries d r ≡ Ok e → (entries : List Placed) × (r ≡ Ok entries) × (folded d entries no_objects ≡ Ok e)
+  read_is (Err at) e is = absurd (err_ok is)
+  read_is (Ok entries) e is = (entries, refl, was_clean (used_by entries) (folded d entries no_objects) e is)
+
+  pub holds_it : (before : Option (List ℕ)) (database : Database) → Opens d before database → Holds d before database
+  holds_it before database opens =
+      let it = read_is (journal_of d most_bytes opens.bytes) opens.catalogue opens.read in
+      record {
+        entries = map (λ (e : Placed). e.texts) it.0;
+        told_are = ap (entries_in d most_bytes) opens.told_is ∙ ap texts_of it.1;
+        catalogue = opens.catalogue;
+        leads = folded_runs d it.0 no_objects opens.catalogue it.2;
+        stands = opens.stands;
+      }
+
+no_more : (o : Option (List Entry)) → o ≡ option_map (λ (entries : List Entry). entries ++ []) o
+no_more None = refl
+no_more (Some entries) = ap Some (sym (append-nil entries))
+
+-- no call leaves it as it was
+pub becomes_same : (d : Dialect) (database : Database) (before after : Option (List ℕ)) → Opens d before database → after ≡ before → Becomes d [] database before after
+becomes_same d database before after opens same =
+    subst (λ told. Becomes d [] database before told) (sym same) (record { holds = holds_it d before database opens; entries = no_more (entries_in d most_bytes before) })
+
+-- what is printed is written nowhere
+
+no_calls : (printing : Printing) (given : Given) (database : Database) → job_script (job_of printing) given database ≡ []
+no_calls print.Update given database = refl
+no_calls (print.Rollback target) given database = refl
+
+prints : (printing : Printing) (given : Given) (database : Database) (before : Option (List ℕ)) (done : Result Done Status) (after : Option (List ℕ)) → Opens given.options.dialect before database → after ≡ before
+    → WorksOn given.options.dialect (job_script (job_of printing) given database) database before done after
+prints printing given database before (Ok done) after opens same = λ finished.
+    subst (λ calls. Becomes given.options.dialect calls database before after) (sym (no_calls printing given database)) (becomes_same given.options.dialect database before after opens same)
+prints printing given database before (Err s) after opens same = tt
+
+pub printed_does : (printing : Printing) (given : Given) (database : Database) (before : Option (List ℕ)) (done : Result Done Status) (after : Option (List ℕ)) → Opens given.options.dialect before database
+    → Answers (job_refusal (job_of printing) given database) done → after ≡ before → DoesJob (job_of printing) given database before done after
+printed_does printing given database before done after opens answers same = record { answers = answers; refused = λ some. same; works = prints printing given database before done after opens same }

@@ -1,0 +1,506 @@
+-- What the status of a run says, from what its command did and how its texts were written.
+use Rattle.std.proofs.Common.{ap, inl, inr, refl, subst, sym, ◌∙◌}
+use Rattle.std.specs.Option.{option_map, option_or}
+use Rattle.std.specs.Prelude.{Bool, Err, IfSome, List, None, Ok, Option, Result, Some, [], false, if◌then◌else◌, is_some, not, true, ℕ, ◌&&◌, ◌++◌, ◌∷◌, ◌≡◌, ◌⊎◌}
+use Rattle.lq_base.specs.declared.command.Command.{Command}
+use Rattle.lq_base.specs.declared.command.Command.TheVariants as command
+use Rattle.lq_base.specs.declared.dialect.Dialect.{Dialect}
+use Rattle.lq_base.specs.declared.identity.Identity.{Identity}
+use Rattle.lq_base.specs.declared.run.Why.{Why}
+use Rattle.lq_base.specs.declared.tracking.Lock.{Lock}
+use Rattle.lq_base.specs.declared.tracking.Tracked.{Tracked}
+use Rattle.lq_cli.specs.declared.line.Job.{Job}
+use Rattle.lq_cli.specs.declared.line.Job.TheVariants.{Drill, RollbackSql, Run, Soak, UpdateSql}
+use Rattle.lq_kinds.specs.Dialects.{AreFor}
+use Rattle.lq_sources.specs.declared.fault.LoadFault.{LoadFault}
+use Rattle.lq_sources.specs.declared.fault.LoadFault.TheVariants as load
+use Rattle.lq_seen.specs.View.{any_meaning}
+use Rattle.lq_tell.specs.Lines.{status_lines, warning_lines}
+use Rattle.lq_tell.specs.Log.{log_text, stands_alone, warnings_of}
+use Rattle.lq_tell.specs.Texts.{EndsAs, has_output, out_of, status_done}
+use Rattle.lq_tell.specs.declared.done.Done.{Done}
+use Rattle.lq_tell.specs.declared.status.Status.{Status}
+use Rattle.lq_tell.specs.declared.status.Status.TheVariants as status
+use Rattle.lq_track.specs.Database.{Database}
+use Rattle.lq_track.specs.Lock.{free}
+use Rattle.lq_turns.specs.Contents.{contents_of}
+use Rattle.lq_turns.specs.Faults.{faults}
+use Rattle.lq_turns.specs.Rollback.{not_reversible, rows_kept, rows_undone}
+use Rattle.lq_turns.specs.Script.{has_work}
+use Rattle.lq_turns.specs.Settle.{is_halt, own_choice}
+use Rattle.lq_turns.specs.declared.call.Call.{Call}
+use Rattle.lq_turns.specs.declared.choice.Choice.{Choice}
+use Rattle.lq_turns.specs.declared.choice.Choice.TheVariants as choice
+use Rattle.lq_turns.specs.declared.fault.Fault.{Fault}
+use Rattle.lq_turns.specs.declared.stamp.Stamp.{Stamp}
+use Rattle.lq_base.specs.declared.command.Target.{Target}
+use Rattle.lq_top.proofs.Kept.{restores, syncs, updates}
+use Rattle.lq_top.proofs.Unchanged.{becomes_same}
+use Rattle.lq_top.specs.Asks.{Asks, Files, file_status}
+use Rattle.lq_top.specs.Bytes.{Becomes, OnFile, Opens, TellsDamage}
+use Rattle.lq_top.specs.Headline.{GoesBack, GoneBack, HasSynced, HasUpdated}
+use Rattle.lq_top.specs.Jobs.{DoesJob, DoesLine, is_on_file, job_refusal, job_script}
+use Rattle.lq_top.specs.Kinds.{IsNotLoaded, IsOfFiles, IsOfWords, is_unwritten}
+use Rattle.lq_top.specs.Refusals.{Answers, IsFault, ends, held, if_halts, if_not, if_some, invalid, irreversible, own_halt, unreachable_by, unready, untagged}
+use Rattle.lq_top.specs.Run.{EndsBy, EndsUnread, IsDamage, IsLogged, IsOutside, IsUnread, Runs, RunsJob, given_by, is_end, is_over}
+use Rattle.lq_top.specs.Scripts.{log_in, script, sets_in, update_script}
+use Rattle.lq_top.specs.Turns.{turns_script}
+use Rattle.lq_top.specs.Works.{is_finished}
+use Rattle.lq_top.specs.declared.given.Given.{Given}
+
+false_true : false ≡ true → ⊥
+false_true h = Prim.cc
+
+true_false : true ≡ false → ⊥
+true_false h = Prim.cc
+
+none_some : {s : Status} → (let o : Option Status = None in o) ≡ Some s → ⊥
+none_some h = Prim.cc
+
+some_same : {a b : Status} → (let o : Option Status = Some a in o) ≡ Some b → a ≡ b
+some_same h = Prim.cc
+
+either : {A B C : Type 0} → (A → C) → (B → C) → A ⊎ B → C
+either f g (inl a) = f a
+either f g (inr b) = g b
+
+abbrev failing : Status → Result Done Status
+failing s = Err s
+
+-- statuses
+
+over_finished : (s : Status) → is_unwritten s ≡ true → is_over s ≡ true → is_finished s ≡ true
+over_finished status.Done un over = over
+over_finished status.Usage un over = over
+over_finished status.ReadFault un over = over
+over_finished (status.Changelog fault) un over = over
+over_finished (status.Invalid faults) un over = over
+over_finished (status.Locked lock) un over = over
+over_finished (status.Halted place why) un over = over
+over_finished (status.Refused identity statement kept reason) un over = over
+over_finished status.NoTarget un over = over
+over_finished (status.NotReversible identity) un over = over
+over_finished status.DiskFault un over = over
+over_finished (status.Damaged at) un over = over
+over_finished (status.Full used next) un over = over
+over_finished status.WriteFault un over = absurd (false_true un)
+over_finished status.OutOfMemory un over = over
+over_finished (status.Busy session) un over = over
+
+output_finished : (s : Status) → has_output s ≡ true → is_finished s ≡ true
+output_finished status.Done has = has
+output_finished status.Usage has = has
+output_finished status.ReadFault has = has
+output_finished (status.Changelog fault) has = has
+output_finished (status.Invalid faults) has = has
+output_finished (status.Locked lock) has = has
+output_finished (status.Halted place why) has = has
+output_finished (status.Refused identity statement kept reason) has = has
+output_finished status.NoTarget has = has
+output_finished (status.NotReversible identity) has = has
+output_finished status.DiskFault has = has
+output_finished (status.Damaged at) has = has
+output_finished (status.Full used next) has = has
+output_finished status.WriteFault has = has
+output_finished status.OutOfMemory has = has
+output_finished (status.Busy session) has = has
+
+ends_so : (s : Status) → ends s ≡ true → is_end s ≡ true
+ends_so status.Done is = is
+ends_so status.Usage is = is
+ends_so status.ReadFault is = is
+ends_so (status.Changelog fault) is = is
+ends_so (status.Invalid faults) is = is
+ends_so (status.Locked lock) is = is
+ends_so (status.Halted place why) is = is
+ends_so (status.Refused identity statement kept reason) is = is
+ends_so status.NoTarget is = is
+ends_so (status.NotReversible identity) is = is
+ends_so status.DiskFault is = is
+ends_so (status.Damaged at) is = is
+ends_so (status.Full used next) is = is
+ends_so status.WriteFault is = refl
+ends_so status.OutOfMemory is = is
+ends_so (status.Busy session) is = is
+
+ends_unwritten : (s : Status) → ends s ≡ true → is_unwritten s ≡ true
+ends_unwritten status.Done is = refl
+ends_unwritten status.Usage is = refl
+ends_unwritten status.ReadFault is = refl
+ends_unwritten (status.Changelog fault) is = refl
+ends_unwritten (status.Invalid faults) is = refl
+ends_unwritten (status.Locked lock) is = refl
+ends_unwritten (status.Halted place why) is = refl
+ends_unwritten (status.Refused identity statement kept reason) is = refl
+ends_unwritten status.NoTarget is = refl
+ends_unwritten (status.NotReversible identity) is = refl
+ends_unwritten status.DiskFault is = refl
+ends_unwritten (status.Damaged at) is = refl
+ends_unwritten (status.Full used next) is = refl
+ends_unwritten status.WriteFault is = is
+ends_unwritten status.OutOfMemory is = refl
+ends_unwritten (status.Busy session) is = refl
+
+-- which is the command's own, and has one cause
+abbrev is_caused : Status → Bool
+is_caused status.Usage = true
+is_caused status.ReadFault = true
+is_caused (status.Changelog fault) = true
+is_caused status.DiskFault = true
+is_caused (status.Damaged at) = true
+is_caused s = false
+
+caused_not_ends : (s : Status) → is_caused s ≡ true → ends s ≡ true → ⊥
+caused_not_ends status.Done caused is = false_true caused
+caused_not_ends status.Usage caused is = false_true is
+caused_not_ends status.ReadFault caused is = false_true is
+caused_not_ends (status.Changelog fault) caused is = false_true is
+caused_not_ends (status.Invalid faults) caused is = false_true is
+caused_not_ends (status.Locked lock) caused is = false_true is
+caused_not_ends (status.Halted place why) caused is = false_true caused
+caused_not_ends (status.Refused identity statement kept reason) caused is = false_true caused
+caused_not_ends status.NoTarget caused is = false_true is
+caused_not_ends (status.NotReversible identity) caused is = false_true is
+caused_not_ends status.DiskFault caused is = false_true is
+caused_not_ends (status.Damaged at) caused is = false_true is
+caused_not_ends (status.Full used next) caused is = false_true caused
+caused_not_ends status.WriteFault caused is = false_true is
+caused_not_ends status.OutOfMemory caused is = false_true is
+caused_not_ends (status.Busy session) caused is = false_true is
+
+file_unwritten : (f : LoadFault) → is_unwritten (file_status f) ≡ true
+file_unwritten load.Read = refl
+file_unwritten (load.NoFile text) = refl
+file_unwritten (load.Xml text) = refl
+file_unwritten (load.Fault path what) = refl
+file_unwritten (load.TooDeep text) = refl
+file_unwritten load.TooMany = refl
+file_unwritten (load.TooLong text) = refl
+file_unwritten load.OutOfMemory = refl
+
+unwritten : (done : Result Done Status) → IsOfWords done → is_unwritten (status_done done) ≡ true
+unwritten (Ok done) kind = ends_unwritten done.status kind
+unwritten (Err s) kind = kind
+
+not_write : (s : Status) → is_unwritten s ≡ true → s ≡ status.WriteFault → ⊥
+not_write s is fault = false_true (sym (ap is_unwritten fault) ∙ is)
+
+-- how its texts were written
+pub record IsWritten (done : Result Done Status) (s : Status) : Type 0 where
+  pub kind : IsOfWords done
+  pub ended : EndsAs (status_done done) s
+  pub cut : s ≡ status.WriteFault → (status_done done ≡ status.WriteFault) ⊎ (has_output (status_done done) ≡ true)
+  pub had : s ≡ status.WriteFault → (status_done done ≡ status.WriteFault) ⊎ (is_some (out_of done) ≡ true)
+
+finished_by : (x : Status) → is_unwritten x ≡ true → (x ≡ status.WriteFault) ⊎ (has_output x ≡ true) → is_finished x ≡ true
+finished_by x un (inl is) = absurd (not_write x un is)
+finished_by x un (inr has) = output_finished x has
+
+over_by : (x s : Status) → is_unwritten x ≡ true → EndsAs x s → (s ≡ status.WriteFault → (x ≡ status.WriteFault) ⊎ (has_output x ≡ true)) → is_over s ≡ true → is_finished x ≡ true
+over_by x s un (inl is) cut over = over_finished x un (sym (ap is_over is) ∙ over)
+over_by x s un (inr (inl is)) cut over = absurd (false_true (sym (ap is_over is) ∙ over))
+over_by x s un (inr (inr is)) cut over = finished_by x un (cut is)
+
+was_over : (done : Result Done Status) (s : Status) → IsWritten done s → is_over s ≡ true → is_finished (status_done done) ≡ true
+was_over done s by over = over_by (status_done done) s (unwritten done by.kind) by.ended by.cut over
+
+-- a command that failed has no text, so that its output did not fail
+no_text : (x : Status) → is_unwritten x ≡ true → (x ≡ status.WriteFault) ⊎ (false ≡ true) → ⊥
+no_text x un (inl is) = not_write x un is
+no_text x un (inr had) = false_true had
+
+err_by : (x s : Status) → is_unwritten x ≡ true → EndsAs x s → (s ≡ status.WriteFault → (x ≡ status.WriteFault) ⊎ (false ≡ true)) → (s ≡ x) ⊎ (s ≡ status.OutOfMemory)
+err_by x s un (inl is) had = inl is
+err_by x s un (inr (inl is)) had = inr is
+err_by x s un (inr (inr is)) had = absurd (no_text x un (had is))
+
+err_ends : (x s : Status) → IsWritten (Err x) s → (s ≡ x) ⊎ (s ≡ status.OutOfMemory)
+err_ends x s by = err_by x s by.kind by.ended by.had
+
+pub failed_ends : (done : Result Done Status) (x s : Status) → IsWritten done s → done ≡ Err x → (s ≡ x) ⊎ (s ≡ status.OutOfMemory)
+failed_ends done x s by is = err_ends x s (subst (λ r. IsWritten r s) is by)
+
+-- a status that has one cause
+
+caused_by : (done : Result Done Status) (x : Status) → IsOfWords done → is_caused x ≡ true → status_done done ≡ x → done ≡ Err x
+caused_by (Ok done) x kind caused is = absurd (caused_not_ends x caused (sym (ap ends is) ∙ kind))
+caused_by (Err y) x kind caused is = ap failing is
+
+cause_by : (done : Result Done Status) (s x : Status) → IsOfWords done → is_caused x ≡ true → s ≡ x → EndsAs (status_done done) s → done ≡ Err x
+cause_by done s x kind caused is (inl same) = caused_by done x kind caused (sym same ∙ is)
+cause_by done s x kind caused is (inr (inl memory)) = absurd (false_true (ap is_caused (sym memory ∙ is) ∙ caused))
+cause_by done s x kind caused is (inr (inr write)) = absurd (false_true (ap is_caused (sym write ∙ is) ∙ caused))
+
+pub cause : (done : Result Done Status) (s x : Status) → IsWritten done s → is_caused x ≡ true → s ≡ x → done ≡ Err x
+cause done s x by caused is = cause_by done s x by.kind caused is by.ended
+
+pub written_fault : {A : Type 0} (done : Result Done Status) → IsOfWords done → (status_done done ≡ status.WriteFault) ⊎ A → A
+written_fault done kind (inl is) = absurd (not_write (status_done done) (unwritten done kind) is)
+written_fault done kind (inr a) = a
+
+pub tells_damage : (d : Dialect) (told : Option (List ℕ)) (done : Result Done Status) (s : Status) → IsWritten done s → TellsDamage d told done → IsDamage d told s
+tells_damage d told done status.Done by damaged = tt
+tells_damage d told done status.Usage by damaged = tt
+tells_damage d told done status.ReadFault by damaged = tt
+tells_damage d told done (status.Changelog fault) by damaged = tt
+tells_damage d told done (status.Invalid faults) by damaged = tt
+tells_damage d told done (status.Locked lock) by damaged = tt
+tells_damage d told done (status.Halted place why) by damaged = tt
+tells_damage d told done (status.Refused identity statement kept reason) by damaged = tt
+tells_damage d told done status.NoTarget by damaged = tt
+tells_damage d told done (status.NotReversible identity) by damaged = tt
+tells_damage d told done status.DiskFault by damaged = tt
+tells_damage d told done (status.Damaged at) by damaged = subst (TellsDamage d told) (cause done (status.Damaged at) (status.Damaged at) by refl refl) damaged
+tells_damage d told done (status.Full used next) by damaged = tt
+tells_damage d told done status.WriteFault by damaged = tt
+tells_damage d told done status.OutOfMemory by damaged = tt
+tells_damage d told done (status.Busy session) by damaged = tt
+
+-- a fault of the files
+pub no_files_left : {A : Type 0} (done : Result Done Status) (s : Status) → IsWritten done s → IsUnread s → (done ≡ Err status.Usage → A) → (IsOfFiles done → A) → A
+no_files_left done status.Done by unread usage files = absurd unread
+no_files_left done status.Usage by unread usage files = usage (cause done status.Usage status.Usage by refl refl)
+no_files_left done status.ReadFault by unread usage files = files (subst IsOfFiles (sym (cause done status.ReadFault status.ReadFault by refl refl)) tt)
+no_files_left done (status.Changelog fault) by unread usage files = files (subst IsOfFiles (sym (cause done (status.Changelog fault) (status.Changelog fault) by refl refl)) tt)
+no_files_left done (status.Invalid faults) by unread usage files = absurd unread
+no_files_left done (status.Locked lock) by unread usage files = absurd unread
+no_files_left done (status.Halted place why) by unread usage files = absurd unread
+no_files_left done (status.Refused identity statement kept reason) by unread usage files = absurd unread
+no_files_left done status.NoTarget by unread usage files = absurd unread
+no_files_left done (status.NotReversible identity) by unread usage files = absurd unread
+no_files_left done status.DiskFault by unread usage files = absurd unread
+no_files_left done (status.Damaged at) by unread usage files = absurd unread
+no_files_left done (status.Full used next) by unread usage files = absurd unread
+no_files_left done status.WriteFault by unread usage files = absurd unread
+no_files_left done status.OutOfMemory by unread usage files = absurd unread
+no_files_left done (status.Busy session) by unread usage files = absurd unread
+
+pub ends_unread : (fault : LoadFault) (done : Result Done Status) (s : Status) → IsWritten done s → IsNotLoaded fault done → EndsUnread fault s
+ends_unread fault done s by (inl is) = either (λ same. inl same) (λ memory. inr (inr memory)) (failed_ends done (file_status fault) s by is)
+ends_unread fault done s by (inr (inl is)) = either (λ same. inr (inl same)) (λ memory. inr (inr memory)) (failed_ends done status.ReadFault s by is)
+ends_unread fault done s by (inr (inr is)) = either (λ same. inr (inr same)) (λ memory. inr (inr memory)) (failed_ends done status.OutOfMemory s by is)
+
+pub no_words : (done : Result Done Status) (s : Status) → IsWritten done s → (done ≡ Err status.Usage) ⊎ (done ≡ Err status.OutOfMemory) → (s ≡ status.Usage) ⊎ (s ≡ status.OutOfMemory)
+no_words done s by (inl is) = failed_ends done status.Usage s by is
+no_words done s by (inr is) = either (λ same. inr same) (λ memory. inr memory) (failed_ends done status.OutOfMemory s by is)
+
+-- how a run ends
+
+outside_ends : (r : Option Status) (s : Status) → IsOutside s → EndsBy r s
+outside_ends None s out = inr out
+outside_ends (Some refused) s out = inr out
+
+fault_outside : (x s : Status) → s ≡ x → IsFault x → IsOutside s
+fault_outside x s is (inl disk) = inr (inl (is ∙ disk))
+fault_outside x s is (inr memory) = inr (inr (is ∙ memory))
+
+of_fault : (x s : Status) → IsFault x → (s ≡ x) ⊎ (s ≡ status.OutOfMemory) → IsOutside s
+of_fault x s fault (inl is) = fault_outside x s is fault
+of_fault x s fault (inr memory) = inr (inr memory)
+
+by_refused : (refused x s : Status) → (x ≡ refused) ⊎ IsFault x → (s ≡ x) ⊎ (s ≡ status.OutOfMemory) → (s ≡ refused) ⊎ IsOutside s
+by_refused refused x s (inl same) (inl is) = inl (is ∙ same)
+by_refused refused x s (inr fault) (inl is) = inr (fault_outside x s is fault)
+by_refused refused x s (inl same) (inr memory) = inr (inr (inr memory))
+by_refused refused x s (inr fault) (inr memory) = inr (inr (inr memory))
+
+ok_ends : (x s : Status) → ends x ≡ true → EndsAs x s → (is_end s ≡ true) ⊎ IsOutside s
+ok_ends x s is (inl same) = inl (ap is_end same ∙ ends_so x is)
+ok_ends x s is (inr (inl memory)) = inr (inr (inr memory))
+ok_ends x s is (inr (inr write)) = inl (ap is_end write)
+
+ends_by : (r : Option Status) (done : Result Done Status) (s : Status) → IsWritten done s → Answers r done → EndsBy r s
+ends_by None (Ok done) s by answers = ok_ends done.status s answers by.ended
+ends_by None (Err x) s by answers = inr (of_fault x s answers (err_ends x s by))
+ends_by (Some refused) (Ok done) s by answers = absurd answers
+ends_by (Some refused) (Err x) s by answers = by_refused refused x s answers (err_ends x s by)
+
+-- what it is refused for, but where the changelog's own condition halts, is no end
+
+abbrev Quiet : Option Status → Type 0
+Quiet o = IfSome o (λ s. is_finished s ≡ false)
+
+quiet_not : (s : Status) (o : Option Status) → Quiet o → o ≡ Some s → is_finished s ≡ true → ⊥
+quiet_not s o quiet is finished = true_false (sym finished ∙ subst Quiet is quiet)
+
+quiet_or : (a b : Option Status) → Quiet a → Quiet b → Quiet (option_or a b)
+quiet_or None b first second = second
+quiet_or (Some refused) b first second = first
+
+quiet_lock : (b : Bool) (lock : Lock) → Quiet (if b then Some (status.Locked lock) else None)
+quiet_lock true lock = refl
+quiet_lock false lock = tt
+
+quiet_held : (database : Database) → Quiet (held database)
+quiet_held database = quiet_lock database.lock.locked database.lock
+
+quiet_some : (xs : List Fault) → Quiet (if_some xs)
+quiet_some [] = tt
+quiet_some (x ∷ xs) = refl
+
+quiet_invalid : (given : Given) (rows : List Tracked) → Quiet (invalid given rows)
+quiet_invalid given rows = quiet_some (faults (sets_in given) rows)
+
+quiet_unready : (given : Given) (database : Database) → Quiet (unready given database)
+quiet_unready given database = quiet_or (held database) (invalid given database.rows) (quiet_held database) (quiet_invalid given database.rows)
+
+quiet_untagged : (rows : List Tracked) → Quiet (untagged rows)
+quiet_untagged [] = refl
+quiet_untagged (row ∷ rows) = tt
+
+quiet_if_not : (o : Option Identity) → Quiet (if_not o)
+quiet_if_not None = tt
+quiet_if_not (Some of) = refl
+
+quiet_way : (given : Given) (o : Option ℕ) (rows : List Tracked) → Quiet (unreachable_by given o rows)
+quiet_way given None rows = refl
+quiet_way given (Some stay) rows = quiet_if_not (not_reversible given.options.dialect any_meaning (sets_in given) (rows_undone stay rows))
+
+own_halts : (o : Option Status) (c : Choice) (s : Status) → Quiet o → option_or o (if_halts c) ≡ Some s → is_finished s ≡ true → is_halt c ≡ true
+own_halts (Some refused) c s quiet is finished = absurd (quiet_not s (Some refused) quiet is finished)
+own_halts None (choice.Halts why) s quiet is finished = refl
+own_halts None choice.Passes s quiet is finished = absurd (none_some is)
+own_halts None choice.Fills s quiet is finished = absurd (none_some is)
+own_halts None choice.Skips s quiet is finished = absurd (none_some is)
+own_halts None (choice.Marks what) s quiet is finished = absurd (none_some is)
+own_halts None (choice.Runs what why) s quiet is finished = absurd (none_some is)
+
+no_turns : (b h : Bool) (calls : List Call) → h ≡ true → (if b && not h then calls else []) ≡ []
+no_turns true true calls is = refl
+no_turns true false calls is = absurd (false_true is)
+no_turns false h calls is = refl
+
+no_script : (c : Command) (given : Given) (database : Database) (s : Status) → job_refusal (Run c) given database ≡ Some s → is_finished s ≡ true → job_script (Run c) given database ≡ []
+no_script command.Validate given database s is finished = refl
+no_script command.Status given database s is finished = refl
+no_script command.Update given database s is finished =
+    no_turns (has_work (sets_in given) database.rows) (is_halt (own_choice (log_in given) (contents_of database))) _
+    (own_halts (unready given database) (own_choice (log_in given) (contents_of database)) s (quiet_unready given database) is finished)
+no_script (command.Tag name) given database s is finished =
+    absurd (quiet_not s _ (quiet_or (held database) (untagged database.rows) (quiet_held database) (quiet_untagged database.rows)) is finished)
+no_script (command.Rollback target) given database s is finished =
+    absurd (quiet_not s _ (quiet_or (unready given database) (unreachable_by given (rows_kept target database.rows) database.rows) (quiet_unready given database) (quiet_way given (rows_kept target database.rows) database.rows)) is finished)
+no_script command.Sync given database s is finished = absurd (quiet_not s _ (quiet_unready given database) is finished)
+no_script command.Release given database s is finished = absurd (none_some is)
+
+no_job_script : (job : Job) (given : Given) (database : Database) (s : Status) → job_refusal job given database ≡ Some s → is_finished s ≡ true → job_script job given database ≡ []
+no_job_script (Run c) given database s is finished = no_script c given database s is finished
+no_job_script UpdateSql given database s is finished = refl
+no_job_script (RollbackSql target) given database s is finished = refl
+no_job_script (Drill path) given database s is finished = refl
+no_job_script (Soak number sets) given database s is finished = refl
+
+-- what it leaves
+
+fault_finished : (x : Status) → IsFault x → is_finished x ≡ true → ⊥
+fault_finished x (inl is) finished = false_true (sym (ap is_finished is) ∙ finished)
+fault_finished x (inr is) finished = false_true (sym (ap is_finished is) ∙ finished)
+
+refused_for : (r : Option Status) (x : Status) → Answers r (Err x) → is_finished x ≡ true → r ≡ Some x
+refused_for None x fault finished = absurd (fault_finished x fault finished)
+refused_for (Some refused) x (inl is) finished = ap Some (sym is)
+refused_for (Some refused) x (inr fault) finished = absurd (fault_finished x fault finished)
+
+becomes_by : (job : Job) (given : Given) (database : Database) (before : Option (List ℕ)) (done : Result Done Status) (after : Option (List ℕ)) → Opens given.options.dialect before database
+    → DoesJob job given database before done after → is_finished (status_done done) ≡ true → Becomes given.options.dialect (job_script job given database) database before after
+becomes_by job given database before (Ok done) after opens does finished = does.works finished
+becomes_by job given database before (Err x) after opens does finished =
+    let cause_is = refused_for (job_refusal job given database) x does.answers finished in
+    subst (λ calls. Becomes given.options.dialect calls database before after) (sym (no_job_script job given database x cause_is finished))
+    (becomes_same given.options.dialect database before after opens (does.refused (ap is_some cause_is)))
+
+abbrev Failed : Result Done Status → Type 0
+Failed done = (done ≡ Err status.ReadFault) ⊎ (done ≡ Err status.OutOfMemory)
+
+failed_unfinished : (done : Result Done Status) → Failed done → is_finished (status_done done) ≡ true → ⊥
+failed_unfinished done (inl is) finished = false_true (sym (ap (λ r. is_finished (status_done r)) is) ∙ finished)
+failed_unfinished done (inr is) finished = false_true (sym (ap (λ r. is_finished (status_done r)) is) ∙ finished)
+
+failed_outside : (done : Result Done Status) (s : Status) → IsWritten done s → Failed done → IsOutside s
+failed_outside done s by (inl is) = either (λ same. inl same) (λ memory. inr (inr memory)) (failed_ends done status.ReadFault s by is)
+failed_outside done s by (inr is) = either (λ same. inr (inr same)) (λ memory. inr (inr memory)) (failed_ends done status.OutOfMemory s by is)
+
+abbrev Does : Job → Given → Database → Option (List ℕ) → Result Done Status → Option (List ℕ) → Type 0
+Does job given database before done after = (Failed done × (after ≡ before)) ⊎ (AreFor given.options.dialect given.changelog × DoesJob job given database before done after)
+
+module _ (job : Job) (given : Given) (before : Option (List ℕ)) (done : Result Done Status) (after : Option (List ℕ)) (s : Status) (by : IsWritten done s) where
+  runs_by : (database : Database) → Opens given.options.dialect before database → Does job given database before done after → RunsJob job given database before s after
+  runs_by database opens (inl (failed, same)) = record {
+    ends = outside_ends (job_refusal job given database) s (failed_outside done s by failed);
+    refused = λ some. same;
+    works = λ over. absurd (failed_unfinished done failed (was_over done s by over));
+  }
+  runs_by database opens (inr (read, does)) = record {
+    ends = ends_by (job_refusal job given database) done s by does.answers;
+    refused = does.refused;
+    works = λ over. becomes_by job given database before done after opens does (was_over done s by over);
+  }
+
+  pub runs : DoesLine job given before done after → is_on_file job ≡ true → OnFile given.options.dialect before (λ database. RunsJob job given database before s after)
+  runs does on database opens = runs_by database opens (does on database opens)
+
+  over_does : (database : Database) → Opens given.options.dialect before database → Does job given database before done after → is_over s ≡ true
+      → AreFor given.options.dialect given.changelog × Becomes given.options.dialect (job_script job given database) database before after
+  over_does database opens (inl (failed, same)) over = absurd (failed_unfinished done failed (was_over done s by over))
+  over_does database opens (inr (read, does)) over = (read, becomes_by job given database before done after opens does (was_over done s by over))
+
+  over_command : (c : Command) → job ≡ Run c → DoesLine job given before done after → (database : Database) → Opens given.options.dialect before database → is_over s ≡ true
+      → AreFor given.options.dialect given.changelog × Becomes given.options.dialect (script c given database) database before after
+  over_command c is does database opens over =
+      subst (λ j. AreFor given.options.dialect given.changelog × Becomes given.options.dialect (job_script j given database) database before after) is
+      (over_does database opens (does (ap is_on_file is) database opens) over)
+
+-- the headline
+
+module _ {words : List (List ℕ)} {files : Files} (stamp : Stamp) (before : Option (List ℕ)) (done : Result Done Status) (after : Option (List ℕ)) (s : Status) (by : IsWritten done s) where
+  abbrev DoesAsks : Asks words files → Type 0
+  DoesAsks asks = DoesLine asks.line.job (given_by asks stamp) before done after
+
+  pub has_run : (asks : Asks words files) → DoesAsks asks → Runs asks stamp before s after
+  has_run asks does = runs asks.line.job (given_by asks stamp) before done after s by does
+
+  pub has_updated : (asks : Asks words files) → DoesAsks asks → HasUpdated asks stamp before s after
+  has_updated asks does is database opens stands over =
+      let made = over_command asks.line.job (given_by asks stamp) before done after s by command.Update is does database opens over in
+      updates (given_by asks stamp) database before after stands opens.stands.sound made.0 made.1
+
+  pub has_synced : (asks : Asks words files) → DoesAsks asks → HasSynced asks stamp before s after
+  has_synced asks does is database opens stands over =
+      let made = over_command asks.line.job (given_by asks stamp) before done after s by command.Sync is does database opens over in
+      syncs (given_by asks stamp) database before after stands made.1
+
+  pub gone_back : (back : GoesBack words files before) → DoesAsks back.asks → GoneBack back s after
+  gone_back back does over =
+      let made = over_command back.asks.line.job (given_by back.asks stamp) before done after s by (command.Rollback back.target) back.is_rollback does back.database back.opens over in
+      restores (given_by back.asks stamp) back.database before after back.free back.target back.before back.ran back.since back.reversible back.known back.stays made.1
+
+-- the log
+
+log_parts : (done : Result Done Status) (alone : Bool) → (own : Option Why) × (warned : List (Option Identity × Why)) × ((if alone then [] else warnings_of done) ≡ warning_lines own warned)
+log_parts done true = (None, [], refl)
+log_parts (Ok done) false = (done.own, done.warned, refl)
+log_parts (Err x) false = (None, [], refl)
+
+lines_by : (tag asked : Option (List ℕ)) (s : Status) → EndsAs status.OutOfMemory s → status_lines tag s ≡ status_lines asked s
+lines_by tag asked s (inl is) = ap (status_lines tag) is ∙ sym (ap (status_lines asked) is)
+lines_by tag asked s (inr (inl is)) = ap (status_lines tag) is ∙ sym (ap (status_lines asked) is)
+lines_by tag asked s (inr (inr is)) = ap (status_lines tag) is ∙ sym (ap (status_lines asked) is)
+
+lines_same : (tag asked : Option (List ℕ)) (done : Result Done Status) (s : Status) → EndsAs (status_done done) s → (tag ≡ asked) ⊎ (done ≡ Err status.OutOfMemory) → status_lines tag s ≡ status_lines asked s
+lines_same tag asked done s ended (inl is) = ap (λ t. status_lines t s) is
+lines_same tag asked done s ended (inr is) = lines_by tag asked s (subst (λ r. EndsAs (status_done r) s) is ended)
+
+pub is_logged : (tag asked : Option (List ℕ)) (done : Result Done Status) (s : Status) (before after : Option (List ℕ)) → IsWritten done s → (tag ≡ asked) ⊎ (done ≡ Err status.OutOfMemory)
+    → after ≡ option_map (λ (log : List ℕ). log ++ log_text tag done s) before → IsLogged asked s before after
+is_logged tag asked done s before after by tagged is =
+    let it = log_parts done (stands_alone s) in (
+      it.0,
+      it.1,
+      is ∙ ap (λ (lines : List ℕ). option_map (λ (log : List ℕ). log ++ lines) before)
+          (ap (λ (warned : List ℕ). warned ++ status_lines tag s) it.2 ∙ ap (λ (lines : List ℕ). warning_lines it.0 it.1 ++ lines) (lines_same tag asked done s by.ended tagged)),
+    )
+
+-- the tag as it was passed on
+pub tag_so : {X : Type 0} (t u a : Option (List ℕ)) → t ≡ u → (u ≡ a) ⊎ X → (t ≡ a) ⊎ X
+tag_so t u a same (inl is) = inl (same ∙ is)
+tag_so t u a same (inr x) = inr x

@@ -1,0 +1,18 @@
+use Rattle.std.proofs.Common.{rules, sym, ◌∙◌}
+use Rattle.lq_top.proofs.Commanded.{both_pass, first_refuses, second_refuses}
+use Rattle.lq_top.specs.Refusals.{invalid, no_way_back}
+use Rattle.lq_top.proofs.command.print_rollback.Goals as goal
+
+pub returns-in_err-rows : goal.returns-in_err-rows
+returns-in_err-rows g c = λ database has.
+    first_refuses _ (invalid c.args.given database.rows) (no_way_back c.args.given c.args.target.now database.rows) c.in_err-rows.field-0.0 _ (c.in_err-rows.ensures.passes database has) (search rules)
+
+pub returns-in_err-check_back : goal.returns-in_err-check_back
+returns-in_err-check_back g c = λ database has.
+    second_refuses (invalid c.args.given database.rows) (no_way_back c.args.given c.args.target.now) c.in_ok-rows.rows c.as_slice.result.now database.rows (c.in_ok-rows.ensures.passes database has)
+    (c.as_slice.ensures ∙ sym (c.in_ok-rows.ensures.rows database has)) _ c.in_err-check_back.field-0.0 _ c.in_err-check_back.ensures (search rules)
+
+pub free_and_rollback-requires-clause-passes : goal.free_and_rollback-requires-clause-passes
+free_and_rollback-requires-clause-passes g c = λ database has.
+    both_pass (invalid c.args.given database.rows) (no_way_back c.args.given c.args.target.now) c.in_ok-rows.rows c.as_slice.result.now database.rows (c.in_ok-rows.ensures.passes database has)
+    (c.as_slice.ensures ∙ sym (c.in_ok-rows.ensures.rows database has)) tt c.in_ok-check_back.ensures

@@ -1,0 +1,33 @@
+use Rattle.lq_base.specs.declared.command.Command.TheVariants as command
+use Rattle.lq_top.proofs.Commanded.{answers_as, kept_as, works_as}
+use Rattle.lq_top.proofs.command.run_command.Goals as goal
+
+pub returns-in-Update-clause-answers : goal.returns-in-Update-clause-answers
+returns-in-Update-clause-answers g c = λ database has. answers_as c.args.command.now command.Update c.in-Update.is c.args.given database c.update.result (c.update.ensures.answers database has)
+
+pub returns-in-Update-clause-refused : goal.returns-in-Update-clause-refused
+returns-in-Update-clause-refused g c = λ database has. kept_as c.args.command.now command.Update c.in-Update.is c.args.given database c.args.store.now c.update.new.store (c.update.ensures.refused database has)
+
+pub returns-in-Update-clause-works : goal.returns-in-Update-clause-works
+returns-in-Update-clause-works g c = λ database has.
+    works_as c.args.command.now command.Update c.in-Update.is c.args.given database (g.S.Store.state c.args.store.now) (g.S.Store.state c.update.new.store) c.update.result (c.update.ensures.works database has)
+
+pub returns-in-Rollback-clause-answers : goal.returns-in-Rollback-clause-answers
+returns-in-Rollback-clause-answers g c = λ database has. answers_as c.args.command.now (command.Rollback c.in-Rollback.target) c.in-Rollback.is c.args.given database c.rollback.result (c.rollback.ensures.answers database has)
+
+pub returns-in-Rollback-clause-refused : goal.returns-in-Rollback-clause-refused
+returns-in-Rollback-clause-refused g c = λ database has. kept_as c.args.command.now (command.Rollback c.in-Rollback.target) c.in-Rollback.is c.args.given database c.args.store.now c.rollback.new.store (c.rollback.ensures.refused database has)
+
+pub returns-in-Rollback-clause-works : goal.returns-in-Rollback-clause-works
+returns-in-Rollback-clause-works g c = λ database has.
+    works_as c.args.command.now (command.Rollback c.in-Rollback.target) c.in-Rollback.is c.args.given database (g.S.Store.state c.args.store.now) (g.S.Store.state c.rollback.new.store) c.rollback.result (c.rollback.ensures.works database has)
+
+pub returns-in-Sync-clause-answers : goal.returns-in-Sync-clause-answers
+returns-in-Sync-clause-answers g c = λ database has. answers_as c.args.command.now command.Sync c.in-Sync.is c.args.given database c.sync.result (c.sync.ensures.answers database has)
+
+pub returns-in-Sync-clause-refused : goal.returns-in-Sync-clause-refused
+returns-in-Sync-clause-refused g c = λ database has. kept_as c.args.command.now command.Sync c.in-Sync.is c.args.given database c.args.store.now c.sync.new.store (c.sync.ensures.refused database has)
+
+pub returns-in-Sync-clause-works : goal.returns-in-Sync-clause-works
+returns-in-Sync-clause-works g c = λ database has.
+    works_as c.args.command.now command.Sync c.in-Sync.is c.args.given database (g.S.Store.state c.args.store.now) (g.S.Store.state c.sync.new.store) c.sync.result (c.sync.ensures.works database has)

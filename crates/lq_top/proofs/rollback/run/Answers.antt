@@ -1,0 +1,61 @@
+use Rattle.std.specs.Prelude.{reverse}
+use Rattle.lq_seen.specs.View.{any_meaning}
+use Rattle.lq_turns.specs.Contents.{contents_of}
+use Rattle.lq_turns.specs.Rest.{OfRows}
+use Rattle.lq_turns.specs.Rollback.{all_rolled}
+use Rattle.lq_top.proofs.Endings.{kept_lock}
+use Rattle.lq_top.proofs.RolledBack.{back_may, back_works, rows_told}
+use Rattle.lq_top.proofs.Stopped.{rows_stopped}
+use Rattle.lq_top.proofs.Updated.{answers_end, ok_on_its}
+use Rattle.lq_top.specs.Tells.{IfFinished, TellsRollback}
+use Rattle.lq_top.specs.Turns.{turns_script}
+use Rattle.lq_top.proofs.rollback.run.Goals as goal
+
+pub run_turns-source-requires-clause-reads : goal.run_turns-source-requires-clause-reads
+run_turns-source-requires-clause-reads g c = c.requires.back
+
+pub run_turns-source-requires-clause-may_run : goal.run_turns-source-requires-clause-may_run
+run_turns-source-requires-clause-may_run g c = λ database has.
+    let d = c.args.given.options.dialect in
+    (all_rolled d (reverse c.args.source.turns) (contents_of database), back_may d c.args.given.stamp c.args.source c.requires.some c.requires.moment c.requires.back c.requires.knows database)
+
+pub ended-requires-clause-lock : goal.ended-requires-clause-lock
+ended-requires-clause-lock g c =
+    let d = c.args.given.options.dialect in
+    let on = c.requires.ready in
+    let ran = c.run_turns-source in
+    kept_lock d (turns_script d any_meaning c.args.given.stamp (OfRows (reverse c.args.source.turns)) on.database) on.database (g.S.Store.state c.args.store.now) (g.S.Store.state ran.new.store) ran.result.end
+    (ran.ensures.leaves on.database on.has)
+
+pub ended-requires-clause-stopped : goal.ended-requires-clause-stopped
+ended-requires-clause-stopped g c =
+    let d = c.args.given.options.dialect in
+    let stamp = c.args.given.stamp in
+    let on = c.requires.ready in
+    let ran = c.run_turns-source in
+    let told = all_rolled d (reverse c.args.source.turns) (contents_of on.database) in
+    let may = back_may d stamp c.args.source c.requires.some c.requires.moment c.requires.back c.requires.knows on.database in
+    rows_stopped ran.result.source.outcome d stamp told ran.result.end (rows_told ran.result.source d stamp told ran.result.end (ran.ensures.tells on.database on.has told may)) (ran.ensures.stops on.database on.has told may)
+
+pub returns-clause-tells : goal.returns-clause-tells
+returns-clause-tells g c =
+    let d = c.args.given.options.dialect in
+    let stamp = c.args.given.stamp in
+    let turns = reverse c.args.source.turns in
+    let ran = c.run_turns-source in
+    ok_on_its d (g.S.Store.state c.args.store.now) c.ended.result (λ done database. IfFinished done (TellsRollback c.args.prints (all_rolled d turns (contents_of database)) done))
+    (λ database has. c.ended.ensures.tells (all_rolled d turns (contents_of database))
+    (rows_told ran.result.source d stamp (all_rolled d turns (contents_of database)) ran.result.end
+    (ran.ensures.tells database has (all_rolled d turns (contents_of database)) (back_may d stamp c.args.source c.requires.some c.requires.moment c.requires.back c.requires.knows database))))
+
+pub returns-clause-answers : goal.returns-clause-answers
+returns-clause-answers g c = answers_end c.ended.result c.ended.ensures.fault c.ended.ensures.ends
+
+pub returns-clause-works : goal.returns-clause-works
+returns-clause-works g c = λ database has.
+    let ran = c.run_turns-source in
+    back_works c.args.given.options.dialect c.args.given.stamp c.args.source c.requires.some database (g.S.Store.state c.args.store.now) (g.S.Store.state ran.new.store) ran.result.end c.ended.result
+    c.ended.ensures.whole (ran.ensures.leaves database has)
+
+pub returns-clause-disk : goal.returns-clause-disk
+returns-clause-disk g c = λ disk. c.run_turns-source.ensures.rose (c.ended.ensures.disk disk)

@@ -1,0 +1,21 @@
+use Rattle.lq_top.proofs.RefusedKinds.{answers_ends, refusal_plain}
+use Rattle.lq_top.proofs.Soaked.{done_lives, end_passes, refusal_passes}
+use Rattle.lq_top.specs.Refusals.{refusal}
+use Rattle.lq_top.specs.Scripts.{script}
+use Rattle.lq_top.proofs.soak.done_on.Goals as goal
+
+pub returns-in-Ok-clause-live : goal.returns-in-Ok-clause-live
+returns-in-Ok-clause-live g c =
+    let on = c.requires.ready in
+    done_lives c.args.given.options.dialect (script c.args.command.now c.args.given on.database) on.database (g.S.Store.state c.args.store.now) (g.S.Store.state c.run_command.new.store) c.in-Ok.done c.unless_done.result
+    (c.in-Ok.ensures.works on.database on.has) c.unless_done.ensures.ok
+
+pub returns-in-Ok-clause-stops : goal.returns-in-Ok-clause-stops
+returns-in-Ok-clause-stops g c =
+    let on = c.requires.ready in
+    end_passes c.unless_done.result c.in-Ok.done.status (answers_ends (refusal c.args.command.now c.args.given on.database) c.in-Ok.done (c.in-Ok.ensures.answers on.database on.has)) c.unless_done.ensures.stops
+
+pub returns-in-Err-clause-stops : goal.returns-in-Err-clause-stops
+returns-in-Err-clause-stops g c =
+    let on = c.requires.ready in
+    refusal_passes (refusal c.args.command.now c.args.given on.database) c.in-Err.status c.copy_status.result (refusal_plain c.args.given c.args.command.now on.database) (c.in-Err.ensures.answers on.database on.has) c.copy_status.ensures

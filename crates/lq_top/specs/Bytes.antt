@@ -1,0 +1,71 @@
+-- The database that the bytes of a file hold.
+use Rattle.std.specs.Option.{option_map}
+use Rattle.std.specs.Prelude.{Err, IfSome, List, None, Ok, Option, Result, Some, true, ℕ, ◌++◌, ◌≡◌}
+use Rattle.lq_base.specs.declared.dialect.Dialect.{Dialect}
+use Rattle.lq_db.specs.Load.{catalogue_of}
+use Rattle.lq_db.specs.Log.{entries_in}
+use Rattle.lq_journal.specs.declared.fault.LoadFault.{LoadFault}
+use Rattle.lq_journal.specs.declared.fault.LoadFault.TheVariants as load
+use Rattle.lq_model.specs.Catalogue.{Catalogue}
+use Rattle.lq_run.specs.Stands.{entries_of}
+use Rattle.lq_store.specs.Journal.{Entry, database as catalogue_by}
+use Rattle.lq_tell.specs.declared.done.Done.{Done}
+use Rattle.lq_tell.specs.declared.status.Status.{Status}
+use Rattle.lq_tell.specs.declared.status.Status.TheVariants as status
+use Rattle.lq_track.specs.Database.{Database}
+use Rattle.lq_turns.specs.Held.{StandsFor}
+use Rattle.lq_turns.specs.Session.{all_called, left_by, session_on}
+use Rattle.lq_turns.specs.declared.call.Call.{Call}
+use Rattle.lq_turns.specs.declared.stamp.Stamp.{Stamp}
+use Rattle.lq_top.specs.Works.{is_finished}
+use Rattle.lq_top.specs.declared.given.Asked.{Asked}
+use Rattle.lq_top.specs.declared.given.Given.{Given}
+
+-- the most bytes of a journal
+abbrev pub most_bytes : ℕ
+most_bytes = 268435456
+
+-- what a file tells is no damage, and the catalogue that it leads to stands for the database
+pub record Opens (d : Dialect) (told : Option (List ℕ)) (database : Database) : Type 0 where
+  pub bytes : List ℕ
+  pub told_is : told ≡ Some bytes
+  pub catalogue : Catalogue
+  pub read : catalogue_of d most_bytes bytes ≡ Ok catalogue
+  pub stands : StandsFor d catalogue database
+
+-- for the database of a file
+abbrev pub OnFile : Dialect → Option (List ℕ) → (Database → Type 0) → Type 0
+OnFile d told holds = (database : Database) → Opens d told database → holds database
+
+-- the entries of a file, run from the first, lead to a catalogue that stands for the database
+pub record Holds (d : Dialect) (told : Option (List ℕ)) (database : Database) : Type 0 where
+  pub entries : List Entry
+  pub told_are : entries_in d most_bytes told ≡ Some entries
+  pub catalogue : Catalogue
+  pub leads : catalogue_by d entries ≡ Some catalogue
+  pub stands : StandsFor d catalogue database
+
+-- a file after calls: it holds their database, and has their entries behind those before
+pub record Becomes (d : Dialect) (calls : List Call) (database : Database) (before after : Option (List ℕ)) : Type 0 where
+  pub holds : Holds d after (left_by d calls database)
+  pub entries : entries_in d most_bytes after ≡ option_map (λ entries. entries ++ entries_of d (all_called d calls (session_on database)).entries) (entries_in d most_bytes before)
+
+-- so it is after a command that came to its end
+abbrev pub WorksOn : Dialect → List Call → Database → Option (List ℕ) → Result Done Status → Option (List ℕ) → Type 0
+WorksOn d calls database before (Ok done) after = is_finished done.status ≡ true → Becomes d calls database before after
+WorksOn d calls database before (Err s) after = Unit {0}
+
+-- damage is told with its place
+abbrev pub TellsDamage : Dialect → Option (List ℕ) → Result Done Status → Type 0
+TellsDamage d told (Err (status.Damaged at)) = IfSome told (λ bytes. catalogue_of d most_bytes bytes ≡ Err at)
+TellsDamage d told _ = Unit {0}
+
+-- the status of a fault of loading
+abbrev pub load_status : LoadFault → Status
+load_status load.Disk = status.DiskFault
+load_status (load.Damaged at) = status.Damaged at
+load_status load.OutOfMemory = status.OutOfMemory
+
+-- what a command works with once the clock is read
+abbrev pub given_at : Asked → Stamp → Given
+given_at asked stamp = record { changelog = asked.changelog; options = asked.options; stamp = stamp }

@@ -1,0 +1,58 @@
+-- The headline: what a rollback goes back to, and what an update and a changelog-sync leave.
+use Rattle.std.specs.Prelude.{List, Option, Some, [], length, true, ℕ, ◌≡◌}
+use Rattle.lq_base.specs.declared.command.Command.TheVariants as command
+use Rattle.lq_base.specs.declared.command.Target.{Target}
+use Rattle.lq_cli.specs.declared.line.Job.TheVariants.{Run as Runs}
+use Rattle.lq_kinds.specs.declared.any_change.AnyChange.{AnyChange}
+use Rattle.lq_seen.specs.View.{any_meaning, view_log}
+use Rattle.lq_tell.specs.declared.status.Status.{Status}
+use Rattle.lq_track.specs.Database.{Database}
+use Rattle.lq_track.specs.Lock.{free}
+use Rattle.lq_turns.specs.Contents.{Contents, contents_of}
+use Rattle.lq_turns.specs.Faults.{faults}
+use Rattle.lq_turns.specs.Laws.{AreKnown, at_rest}
+use Rattle.lq_turns.specs.Ran.{RanSince, Run, are_reversible}
+use Rattle.lq_turns.specs.Rollback.{rows_kept}
+use Rattle.lq_turns.specs.Set.{Changelog, Set}
+use Rattle.lq_turns.specs.Settle.{updated}
+use Rattle.lq_turns.specs.Synced.{synced}
+use Rattle.lq_turns.specs.declared.stamp.Stamp.{Stamp}
+use Rattle.lq_top.specs.Asks.{Asks, Files}
+use Rattle.lq_top.specs.Bytes.{OnFile, Opens}
+use Rattle.lq_top.specs.Run.{HoldsSame, is_over}
+
+-- the changelog as a command sees it
+abbrev pub log_of : {words : List (List ℕ)} {files : Files} → Asks words files → Changelog AnyChange
+log_of asks = view_log asks.line.options asks.changelog
+
+-- A rollback to a point since which every changeset ran for the first time, each generated rollback of a change that was fresh, on a database that nobody else changed.
+pub record GoesBack (words : List (List ℕ)) (files : Files) (told : Option (List ℕ)) : Type 0 where
+  pub asks : Asks words files
+  pub target : Target
+  pub is_rollback : asks.line.job ≡ Runs (command.Rollback target)
+  pub database : Database
+  pub opens : Opens asks.line.options.dialect told database
+  pub free : database.lock ≡ free
+  pub faultless : faults (log_of asks).sets database.rows ≡ []
+  -- the point: what stood there, and what ran since
+  pub before : Contents
+  pub ran : List (Run AnyChange)
+  pub since : RanSince asks.line.options.dialect any_meaning before ran (contents_of database)
+  pub reversible : are_reversible asks.line.options.dialect any_meaning ran before.users ≡ true
+  pub known : AreKnown asks.line.options.dialect any_meaning (log_of asks).sets ran
+  pub stays : rows_kept target database.rows ≡ Some (length before.rows)
+
+-- the database of that point, with a free lock
+abbrev pub GoneBack : {words : List (List ℕ)} {files : Files} {told : Option (List ℕ)} → GoesBack words files told → Status → Option (List ℕ) → Type 0
+GoneBack back s after = is_over s ≡ true → HoldsSame back.asks.line.options.dialect after (at_rest back.database back.before)
+
+module _ {words : List (List ℕ)} {files : Files} (asks : Asks words files) (stamp : Stamp) (before : Option (List ℕ)) (s : Status) (after : Option (List ℕ)) where
+  -- what an update that comes to its end leaves is what its changesets do one after another, with a free lock
+  abbrev pub HasUpdated : Type 0
+  HasUpdated = asks.line.job ≡ Runs command.Update → OnFile asks.line.options.dialect before (λ database. database.lock ≡ free → is_over s ≡ true
+      → HoldsSame asks.line.options.dialect after (at_rest database (updated asks.line.options.dialect any_meaning stamp.reading (log_of asks) (contents_of database)).contents))
+
+  -- and a changelog-sync: a row for each selected changeset without one
+  abbrev pub HasSynced : Type 0
+  HasSynced = asks.line.job ≡ Runs command.Sync → OnFile asks.line.options.dialect before (λ database. database.lock ≡ free → is_over s ≡ true
+      → HoldsSame asks.line.options.dialect after (at_rest database (synced stamp.reading (log_of asks).sets (contents_of database)).contents))

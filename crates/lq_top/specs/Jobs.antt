@@ -1,0 +1,51 @@
+-- What a job does on a database file.
+use Rattle.std.specs.Prelude.{Bool, Err, List, None, Ok, Option, Result, Some, [], false, true, ℕ, ◌≡◌, ◌⊎◌}
+use Rattle.lq_base.specs.declared.command.Command.TheVariants as command
+use Rattle.lq_cli.specs.declared.line.Job.{Job}
+use Rattle.lq_cli.specs.declared.line.Job.TheVariants.{Drill, RollbackSql, Run, Soak, UpdateSql}
+use Rattle.lq_kinds.specs.Dialects.{AreFor}
+use Rattle.lq_tell.specs.declared.done.Done.{Done}
+use Rattle.lq_tell.specs.declared.status.Status.{Status}
+use Rattle.lq_tell.specs.declared.status.Status.TheVariants as status
+use Rattle.lq_track.specs.Database.{Database}
+use Rattle.lq_turns.specs.declared.call.Call.{Call}
+use Rattle.lq_top.specs.Bytes.{OnFile, WorksOn}
+use Rattle.lq_top.specs.Refusals.{Answers, print_rollback, print_update, refusal}
+use Rattle.lq_top.specs.Scripts.{script, tag_in}
+use Rattle.lq_top.specs.Works.{IsKept}
+use Rattle.lq_top.specs.declared.given.Given.{Given}
+
+-- it works on the file: a soak has a database of its own
+abbrev pub is_on_file : Job → Bool
+is_on_file (Run c) = true
+is_on_file UpdateSql = true
+is_on_file (RollbackSql target) = true
+is_on_file (Drill path) = false
+is_on_file (Soak number sets) = false
+
+-- what is printed is written nowhere
+abbrev pub job_script : Job → Given → Database → List Call
+job_script (Run c) given database = script c given database
+job_script _ given database = []
+
+abbrev pub job_refusal : Job → Given → Database → Option Status
+job_refusal (Run c) given database = refusal c given database
+job_refusal UpdateSql given database = print_update given database
+job_refusal (RollbackSql target) given database = print_rollback given target database
+job_refusal _ given database = None
+
+-- the tag that a job sets
+abbrev pub job_tag : Job → Option (List ℕ)
+job_tag (Run c) = tag_in c
+job_tag _ = None
+
+-- on a file that holds the database: it is refused, and nothing is written; or where it comes to its end its calls are done
+pub record DoesJob (job : Job) (given : Given) (database : Database) (before : Option (List ℕ)) (done : Result Done Status) (after : Option (List ℕ)) : Type 0 where
+  pub answers : Answers (job_refusal job given database) done
+  pub refused : IsKept (job_refusal job given database) before after
+  pub works : WorksOn given.options.dialect (job_script job given database) database before done after
+
+-- A line whose files give a changelog: they fail all the same, or there is no memory for it, and nothing is written; or it was read for the dialect, and its job is done on the file.
+abbrev pub DoesLine : Job → Given → Option (List ℕ) → Result Done Status → Option (List ℕ) → Type 0
+DoesLine job given before done after = is_on_file job ≡ true → OnFile given.options.dialect before
+    (λ database. (((done ≡ Err status.ReadFault) ⊎ (done ≡ Err status.OutOfMemory)) × (after ≡ before)) ⊎ (AreFor given.options.dialect given.changelog × DoesJob job given database before done after))

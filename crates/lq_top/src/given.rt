@@ -1,0 +1,53 @@
+ghost use Rattle.std.specs.Prelude.{◌≡◌, ◌≤◌, IfErr, IfOk};
+ghost use Rattle.lq_tell.specs.declared.status.Status.TheVariants.{OutOfMemory};
+ghost use Rattle.lq_top.specs.Clock.{ReadOnce};
+ghost use Rattle.lq_top.specs.Stamp.{stamp_of};
+
+use crate::stamp::stamp_of;
+use lq_expr::Options;
+use lq_kinds::Changelog;
+use lq_outside::Clock;
+use lq_tell::Status;
+use lq_turns::Stamp;
+use std::alloc::Global;
+
+/// The one session of a command that runs alone.
+pub const SESSION: u32 = 1;
+
+/// What the words and the files give.
+#[derive(Drop)]
+pub struct Asked {
+    pub changelog: Changelog,
+    pub options: Options,
+}
+
+/// What a command works with beside the database.
+#[derive(Drop)]
+pub struct Given {
+    pub changelog: Changelog,
+    pub options: Options,
+    pub stamp: Stamp,
+}
+
+/// Reads the clock for a command whose database is loaded.
+pub fn stamped<C: Clock>(
+    alloc: Global,
+    asked: Asked,
+    who: &str,
+    clock: &mut C,
+) -> Result<Given, Status>
+    ensures given { IfOk result (λ given. (given.changelog ≡ asked.changelog) × (given.options ≡ asked.options)) }
+    ensures stamp { IfOk result (λ given. given.stamp ≡ stamp_of who.now (C.last clock.new)) }
+    ensures moment { IfOk result (λ given. given.stamp.reading ≤ 253402300799999) }
+    ensures no_memory { IfErr result (λ status. status ≡ OutOfMemory) }
+    ensures once { ReadOnce (C.to_come clock.old) (C.to_come clock.new) (C.last clock.new) }
+{
+    let reading = clock.now();
+    let stamp = stamp_of(alloc, who, reading)?;
+    let Asked { changelog, options } = asked;
+    Ok(Given {
+        changelog,
+        options,
+        stamp,
+    })
+}

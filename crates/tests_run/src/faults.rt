@@ -1,0 +1,57 @@
+use crate::running::{Failing, NONE, run_over};
+use crate::shop::{BACK_THREE, SHOP, UPDATE, UPDATE_MYSQL};
+use std::alloc::Global;
+use std::process::Abort;
+
+fn assert_faults(rt: &impl Abort, alloc: Global, words: &str, bytes: &[u8]) {
+    let good = run_over(rt, alloc, words, &[SHOP], bytes, NONE);
+    assert_eq!(rt; good.code, 0);
+    let failing = Failing { files: 1, ..NONE };
+    let ran = run_over(rt, alloc, words, &[SHOP], bytes, failing);
+    assert_eq!(rt; ran.code, 3);
+    assert!(rt; ran.bytes.as_slice() == bytes && ran.out.is_empty());
+    let failing = Failing { out: 1, ..NONE };
+    let ran = run_over(rt, alloc, words, &[SHOP], bytes, failing);
+    assert_eq!(rt; ran.code, 14);
+    assert!(rt; ran.bytes == good.bytes && ran.out.is_empty());
+    let failing = Failing { log: 1, ..NONE };
+    let ran = run_over(rt, alloc, words, &[SHOP], bytes, failing);
+    assert!(rt; ran.code == 0 && ran.bytes == good.bytes && ran.out == good.out);
+}
+
+#[test]
+fn failing_files_and_outputs(rt: HostRuntime) {
+    let first = run_over(&rt, rt.alloc(), UPDATE, &[SHOP], b"", NONE);
+    assert_faults(&rt, rt.alloc(), UPDATE, b"");
+    assert_faults(&rt, rt.alloc(), BACK_THREE, &first.bytes);
+}
+
+// How many calls of the disk a command makes: each that fails is a disk fault, and has no output.
+fn calls_of(rt: &impl Abort, alloc: Global, words: &str, bytes: &[u8]) -> u64 {
+    for disk in 1..200 {
+        let ran = run_over(rt, alloc, words, &[SHOP], bytes, Failing { disk, ..NONE });
+        if ran.code == 0 {
+            return disk - 1;
+        }
+        assert!(rt; ran.code == 11 && ran.out.is_empty());
+        assert!(rt; ran.log.as_slice() == b"liquibase: database fault\n".as_slice());
+    }
+    0
+}
+
+#[test]
+fn failing_disk_calls(rt: HostRuntime) {
+    // sync, size, read; header, sync; and for each of five entries two writes and two syncs.
+    assert_eq!(rt; calls_of(&rt, rt.alloc(), UPDATE, b""), 25);
+    let first = run_over(&rt, rt.alloc(), UPDATE, &[SHOP], b"", NONE);
+    // sync, size, read; and for each of five entries two writes and two syncs.
+    assert_eq!(rt; calls_of(&rt, rt.alloc(), BACK_THREE, &first.bytes), 23);
+}
+
+#[test]
+fn printing_reads_the_disk_alone(rt: HostRuntime) {
+    let words = "update-sql --url=postgresql:db --changelog-file=db/a.json";
+    assert_eq!(rt; calls_of(&rt, rt.alloc(), words, b""), 2);
+    let ran = run_over(&rt, rt.alloc(), UPDATE_MYSQL, &[SHOP], b"", NONE);
+    assert_eq!(rt; ran.code, 0);
+}

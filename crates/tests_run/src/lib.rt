@@ -1,0 +1,23 @@
+//! Tests of the commands, from their words to what they leave and tell.
+#![tactic(auto)]
+
+#[cfg(test)]
+mod changelogs;
+#[cfg(test)]
+mod commands;
+#[cfg(test)]
+mod conditions;
+#[cfg(test)]
+mod faults;
+#[cfg(test)]
+mod fresh;
+#[cfg(test)]
+mod refusals;
+#[cfg(test)]
+mod running;
+#[cfg(test)]
+mod shop;
+#[cfg(test)]
+mod soak;
+#[cfg(test)]
+mod stops;
