@@ -1,6 +1,5 @@
 mod Indexed
 mod Laid
-mod Mapped
 mod RowEntered
 mod RowsBack
 mod Spelled

@@ -1,5 +1,5 @@
 -- A row's turn is entered.
-use Rattle.std.proofs.Common.{ap, sym, subst, refl, None, Option, Some, option_map, ◌≡◌, ◌∙◌, ◌++◌, true, false, List, [], ◌∷◌, map, ℕ}
+use Rattle.std.proofs.Common.{ap, sym, subst, refl, None, Option, Some, if◌then◌else◌, option_map, ◌≡◌, ◌∙◌, ◌++◌, true, false, List, [], ◌∷◌}
 use Rattle.std.proofs.lemmas.List.{append-nil}
 use Rattle.std.specs.List.{list_all}
 use Rattle.std.specs.Prelude.{reverse}
@@ -7,7 +7,6 @@ use Rattle.lq_base.specs.declared.dialect.Dialect.{Dialect}
 use Rattle.lq_base.specs.declared.identity.Identity.{Identity}
 use Rattle.lq_base.specs.declared.run.Happened.{Happened}
 use Rattle.lq_base.specs.declared.run.Printed.{Printed}
-use Rattle.lq_base.specs.declared.tracking.Tracked.{Tracked}
 use Rattle.lq_hand.proofs.Expected.{HoldsAtEnd, turn_expected}
 use Rattle.lq_hand.specs.Counts.{no_progress}
 use Rattle.lq_hand.specs.Enters.{Enters, IsTurn}
@@ -21,12 +20,13 @@ use Rattle.lq_kinds.specs.declared.any_change.AnyChange.{AnyChange}
 use Rattle.lq_model.proofs.Lists.{and_left, and_right}
 use Rattle.lq_model.specs.Catalogue.{Catalogue}
 use Rattle.lq_model.specs.Statement.{is_statement}
-use Rattle.lq_model.specs.StatementText.{text_of}
 use Rattle.lq_model.specs.declared.statement.Statement.{Statement}
 use Rattle.lq_back.proofs.Ways.{last_first}
 use Rattle.lq_seen.proofs.Leading.{Adds, leads_end, leads_on}
+use Rattle.lq_seen.proofs.Shown.{all_shown, more_shown}
 use Rattle.lq_back.specs.RowTurns.{LeadsBack, goes_back, is_deletion, printed, rolled_back, row_way}
-use Rattle.lq_seen.specs.Telling.{Leads, Tells}
+use Rattle.lq_seen.specs.Printing.{Account, shown, with_texts}
+use Rattle.lq_seen.specs.Telling.{Leads, Reports, bounded}
 use Rattle.lq_seen.specs.declared.outcome.Outcome.{Outcome}
 use Rattle.lq_back.specs.declared.row_turns.RowTurns.{RowTurns}
 use Rattle.lq_seen.specs.View.{any_meaning}
@@ -34,8 +34,9 @@ use Rattle.lq_turns.proofs.Entered.{enters_row}
 use Rattle.lq_turns.specs.Contents.{Contents, contents_of}
 use Rattle.lq_turns.specs.Rest.{Inside, OfRows, Turns, between, rest}
 use Rattle.lq_turns.specs.Set.{IsKept}
+use Rattle.lq_turns.specs.Printed.{printed_as, printed_back}
 use Rattle.lq_turns.specs.Rollback.{all_rolled, rolled_as}
-use Rattle.lq_turns.specs.Settle.{Settled, unless_stopped}
+use Rattle.lq_turns.specs.Settle.{unless_stopped}
 use Rattle.lq_turns.specs.Turn.{Ending, Finished, Refused, ending, turn_calls}
 use Rattle.lq_turns.specs.declared.call.Call.{Call}
 use Rattle.lq_turns.specs.declared.deed.Deed.TheVariants.{Rows}
@@ -58,9 +59,14 @@ module _ (d : Dialect) (stamp : Stamp) (seen : Catalogue) where
 
   pub none_left : (before after : RowTurns) → before.turns ≡ [] → after.outcome ≡ before.outcome → Enters d any_meaning stamp (left_of before.turns) (row_way before d stamp) seen NoTurn (left_of after.turns) (row_way after d stamp)
   none_left before after none same database stands told knows =
-      let c = contents_of database in (
+      let c = contents_of database in
+      let all : Reports before.outcome told None = record {
+        tells = leads_end before.outcome c told.settled (subst (λ (turns : List Turn). Leads before.outcome (all_rolled d (reverse turns) c) told.settled) none knows.settles);
+        prints = all_shown before.prints d before.outcome.printed told.printed
+            (subst (λ (turns : List Turn). before.outcome.printed ++ shown before.prints d (printed_back d (reverse turns) c) ≡ told.printed) none knows.prints);
+      } in (
         ap (λ (turns : List Turn). rest d any_meaning stamp (between (left_of turns)) (c, c)) none,
-        subst (λ o. Tells o told None) (sym same) (leads_end before.outcome c told (subst (λ (turns : List Turn). Leads before.outcome (all_rolled d (reverse turns) c) told) none knows)),
+        subst (λ o. Reports o told None) (sym same) all,
       )
 
   module _ (before after : List Turn) (turn : Turn) (is : before ≡ after ++ turn ∷ []) (hand : Hand) (its : IsTurn d hand) (calls : calls_left hand ≡ turn_calls d stamp.who turn) (stops : hand.goes_on ≡ false) where
@@ -70,28 +76,48 @@ module _ (d : Dialect) (stamp : Stamp) (seen : Catalogue) where
         ∙ (ap (λ cs. rest d any_meaning stamp (Inside cs hand.goes_on (left_of after)) (c, c)) calls
         ∙ ap (λ b. rest d any_meaning stamp (Inside (turn_calls d stamp.who turn) b (left_of after)) (c, c)) stops)
 
-    module _ (source now : RowTurns) (was : source.turns ≡ before) (left_are : now.turns ≡ after) (adds : Adds (rolled_back turn ∷ []) [] source.outcome now.outcome)
+    module _ (source : RowTurns) (was : source.turns ≡ before) (outcome : Outcome) (adds : Adds (rolled_back turn ∷ []) [] 0 source.outcome outcome)
+        (keeps : outcome.printed ≡ source.outcome.printed ++ (if source.prints then printed d turn ∷ [] else []))
         (counted : (c : Contents) → refused_in d (calls_left hand) no_progress c ≡ refusal_at_end (ending d turn c)) where
-      abbrev Before : Settled → Contents → Ending → Type 0
-      Before told c e = Leads source.outcome (unless_stopped (rolled_as turn e) (all_rolled d (reverse after))) told
+      abbrev now : RowTurns
+      now = record source { turns = after; outcome = outcome }
 
-      holds_by : (told : Settled) (c : Contents) (e : Ending) → Before told c e → HoldsAtEnd (row_way now d stamp told) false (seen_along d turn.statements c.users) e
-      holds_by told c (Finished e) leads = subst (λ (turns : List Turn). Leads now.outcome (all_rolled d (reverse turns) e) told) (sym left_are) (leads_on source.outcome now.outcome (rolled_back turn ∷ []) [] e 0 (all_rolled d (reverse after) e) told adds leads)
-      holds_by told c (Refused e refusal) leads = record {
+      abbrev Before : Account → Ending → Type 0
+      Before told e = Leads source.outcome (unless_stopped (rolled_as turn e) (all_rolled d (reverse after))) told.settled
+
+      abbrev Prints : Account → Ending → Type 0
+      Prints told e = source.outcome.printed ++ shown source.prints d (printed_as turn e (printed_back d (reverse after))) ≡ told.printed
+
+      holds_by : (told : Account) (c : Contents) (e : Ending) → Before told e → Prints told e → HoldsAtEnd (row_way now d stamp told) false (seen_along d turn.statements c.users) e
+      holds_by told c (Finished e) leads prints = record {
+        settles = leads_on source.outcome outcome (rolled_back turn ∷ []) [] e 0 (all_rolled d (reverse after) e) told.settled adds leads;
+        prints = more_shown source.prints d source.outcome.printed outcome.printed told.printed ((turn.identity, turn.statements) ∷ []) (printed_back d (reverse after) e) keeps prints;
+      }
+      holds_by told c (Refused e refusal) leads prints = record {
         stops = refl;
         front = source.outcome.happened;
         last = rolled_back turn;
         told_last = adds.happened;
+        texts = source.outcome.printed;
+        its = printed d turn;
+        kept_last = keeps;
         then_told = record {
-          happened = sym (append-nil source.outcome.happened) ∙ leads.happened;
-          warned = adds.warned ∙ leads.warned;
-          stop = sym leads.stop;
+          tells = record {
+            happened = sym (append-nil source.outcome.happened) ∙ leads.happened;
+            warned = adds.warned ∙ leads.warned;
+            not_fresh = adds.not_fresh leads.so_far leads.counted ∙ ap bounded leads.not_fresh;
+            stop = sym leads.stop;
+          };
+          prints = all_shown source.prints d source.outcome.printed told.printed prints;
         };
       }
 
-      holds : (told : Settled) (c : Contents) → LeadsBack source d told c → HoldsAtEnd (row_way now d stamp told) hand.goes_on (seen_along d turn.statements c.users) (ending d turn c)
-      holds told c leads = subst (λ on. HoldsAtEnd (row_way now d stamp told) on (seen_along d turn.statements c.users) (ending d turn c)) (sym stops)
-          (holds_by told c (ending d turn c) (subst (λ (turns : List Turn). Leads source.outcome (all_rolled d turns c) told) (ap reverse was ∙ last_first before after turn is) leads))
+      holds : (told : Account) (c : Contents) → LeadsBack source d told c → HoldsAtEnd (row_way now d stamp told) hand.goes_on (seen_along d turn.statements c.users) (ending d turn c)
+      holds told c knows =
+          let turned : reverse source.turns ≡ turn ∷ reverse after = ap reverse was ∙ last_first before after turn is in
+          subst (λ on. HoldsAtEnd (row_way now d stamp told) on (seen_along d turn.statements c.users) (ending d turn c)) (sym stops)
+          (holds_by told c (ending d turn c) (subst (λ (turns : List Turn). Leads source.outcome (all_rolled d turns c) told.settled) turned knows.settles)
+          (subst (λ (turns : List Turn). source.outcome.printed ++ shown source.prints d (printed_back d turns c) ≡ told.printed) turned knows.prints))
 
       pub row_entered : Enters d any_meaning stamp (left_of before) (row_way source d stamp) seen (InHand hand) (left_of after) (row_way now d stamp)
       row_entered = (
@@ -104,19 +130,24 @@ module _ (d : Dialect) (stamp : Stamp) (seen : Catalogue) where
       )
 
 -- it hears of a refusal
-pub stops_at : (s : RowTurns) (now : Outcome) → ((front : List Happened) (last : Happened) → s.outcome.happened ≡ front ++ last ∷ [] → (now.happened ≡ front) × (now.stopped_at ≡ Some last.identity)) → now.warned ≡ s.outcome.warned
-    → (d : Dialect) (stamp : Stamp) (told : Settled) → GivesUp (row_way s d stamp told) (row_way (record s { outcome = now }) d stamp told)
-stops_at s now taken warned d stamp told = record {
-  goes_on = λ refusal c y. absurd (clash y.stops);
-  stops = λ refusal c y.
-      let is = taken y.front y.last y.told_last in record {
-        happened = is.0 ∙ y.then_told.happened;
-        warned = warned ∙ y.then_told.warned;
-        stop = y.then_told.stop ∙ sym (ap (λ (o : Option Identity). option_map (λ of. Stopped of refusal) o) is.1);
-      };
-} where
-  clash : true ≡ false → ⊥
-  clash h = Prim.cc
+module _ (s : RowTurns) (now : Outcome) (taken : (front : List Happened) (last : Happened) → s.outcome.happened ≡ front ++ last ∷ [] → (now.happened ≡ front) × (now.stopped_at ≡ Some last.identity))
+    (forgot : (texts : List Printed) (its : Printed) → s.outcome.printed ≡ texts ++ (if s.prints then its ∷ [] else []) → now.printed ≡ texts) (not_fresh : now.not_fresh ≡ s.outcome.not_fresh) (warned : now.warned ≡ s.outcome.warned) where
+  pub stops_at : (d : Dialect) (stamp : Stamp) (told : Account) → GivesUp (row_way s d stamp told) (row_way (record s { outcome = now }) d stamp told)
+  stops_at d stamp told = record {
+    goes_on = λ refusal c y. absurd (clash y.stops);
+    stops = λ refusal c y.
+        let is = taken y.front y.last y.told_last in record {
+          tells = record {
+            happened = is.0 ∙ y.then_told.tells.happened;
+            warned = warned ∙ y.then_told.tells.warned;
+            not_fresh = not_fresh ∙ y.then_told.tells.not_fresh;
+            stop = y.then_told.tells.stop ∙ sym (ap (λ (o : Option Identity). option_map (λ of. Stopped of refusal) o) is.1);
+          };
+          prints = forgot y.texts y.its y.kept_last ∙ y.then_told.prints;
+        };
+  } where
+    clash : true ≡ false → ⊥
+    clash h = Prim.cc
 
 -- what is left was read for the dialect
 
@@ -148,8 +179,5 @@ none_read d turns none = ap (λ (ts : List Turn). list_all (goes_back d) (revers
 
 -- what is told of it
 
-pub printed_is : (d : Dialect) (turn : Turn) (before now : List Printed) (identity : Identity) (texts : List (List ℕ)) (statements : List Statement) → now ≡ before ++ record { identity = identity; texts = texts } ∷ []
-    → identity ≡ turn.identity → statements ≡ turn.statements → texts ≡ map (text_of d) statements → now ≡ before ++ printed d turn ∷ []
-printed_is d turn before now identity texts statements pushed its same made =
-    let whole : texts ≡ map (text_of d) turn.statements = made ∙ ap (map (text_of d)) same in
-    pushed ∙ (rw (its, whole) refl)
+pub printed_is : (d : Dialect) (turn : Turn) (before new : List Printed) (statements : List Statement) → new ≡ before ++ with_texts d (turn.identity, statements) ∷ [] → statements ≡ turn.statements → new ≡ before ++ printed d turn ∷ []
+printed_is d turn before new statements pushed same = pushed ∙ ap (λ (ss : List Statement). before ++ with_texts d (turn.identity, ss) ∷ []) same

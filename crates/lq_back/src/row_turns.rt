@@ -1,23 +1,24 @@
 ghost use Rattle.std.specs.List.{list_all};
-ghost use Rattle.std.specs.Prelude.{◌≡◌, ◌++◌, ◌∷◌, [], IfOk, List, OnOk, Some, if◌then◌else◌, map, reverse, true};
+ghost use Rattle.std.specs.Prelude.{◌≡◌, ◌++◌, ◌∷◌, [], IfOk, List, OnOk, Some, if◌then◌else◌, reverse, true};
 ghost use Rattle.lq_base.specs.declared.run.Happened.{Happened as Event};
+ghost use Rattle.lq_base.specs.declared.run.Printed.{Printed as Shown};
 ghost use Rattle.lq_expr.specs.declared.options.Options.{Options};
 ghost use Rattle.lq_kinds.specs.Dialects.{AreFor};
 ghost use Rattle.lq_model.specs.Statement.{is_statement};
-ghost use Rattle.lq_model.specs.StatementText.{text_of};
 ghost use Rattle.lq_turns.specs.Contents.{Contents};
-ghost use Rattle.lq_turns.specs.Rollback.{all_rolled, undo_turns};
+ghost use Rattle.lq_turns.specs.Rollback.{undo_turns};
 ghost use Rattle.lq_back.specs.Reversal.{AreWays};
 ghost use Rattle.lq_back.specs.RowTurns.{LeadsBack, goes_back, printed, rolled_back};
+ghost use Rattle.lq_seen.specs.Printing.{of_turns};
 ghost use Rattle.lq_seen.specs.View.{any_meaning, views};
 
 use crate::reversal::TakenBack;
 use crate::row_back::undo_turns;
-use lq_base::{Dialect, Did, Duplicate, Happened, Items, NoMemory, Printed, Text, Tracked};
+use lq_base::{Dialect, Did, Duplicate, Happened, Items, NoMemory, Printed, Tracked};
 use lq_hand::{Entered, Hand, Source};
 use lq_kinds::Changelog;
-use lq_model::{Look, SqlText, Statement};
-use lq_seen::Outcome;
+use lq_model::{Look, SqlText};
+use lq_seen::{Outcome, print};
 use lq_turns::{Stamp, Turn};
 use std::alloc::Global;
 
@@ -47,7 +48,7 @@ impl RowTurns {
         requires ways { AreWays changelog.now.sets rows.now ways.now }
         ensures turns { IfOk result (λ source. (options : Options) → undo_turns dialect any_meaning (views options changelog.now.sets) (reverse rows.now) ≡ Some (reverse source.turns)) }
         ensures reads { IfOk result (λ source. list_all (goes_back dialect) (reverse source.turns) ≡ true) }
-        ensures knows { IfOk result (λ source. (c : Contents) → LeadsBack source dialect (all_rolled dialect (reverse source.turns) c) c) }
+        ensures knows { IfOk result (λ source. (c : Contents) → LeadsBack source dialect (of_turns prints dialect (reverse source.turns) c) c) }
     {
         let turns = undo_turns(alloc, dialect, changelog, rows, ways)?;
         let outcome = Outcome::new(alloc);
@@ -64,9 +65,9 @@ impl Source for RowTurns {
     ghost use Rattle.std.specs.Prelude.{◌≡◌, reverse, true};
     ghost use Rattle.lq_kinds.specs.declared.any_change.AnyChange.{AnyChange};
     ghost use Rattle.lq_back.specs.RowTurns.{goes_back, row_way};
+    ghost use Rattle.lq_seen.specs.Printing.{Account};
     ghost use Rattle.lq_seen.specs.View.{any_meaning};
     ghost use Rattle.lq_turns.specs.Rest.{OfRows};
-    ghost use Rattle.lq_turns.specs.Settle.{Settled};
 
     ghost Key = { AnyChange };
 
@@ -74,7 +75,7 @@ impl Source for RowTurns {
 
     ghost left = { λ source. OfRows (reverse source.turns) };
 
-    ghost Told = { Settled };
+    ghost Told = { Account };
 
     ghost way = { row_way };
 
@@ -105,7 +106,7 @@ impl Source for RowTurns {
     fn finished(&mut self) {}
 
     fn refused(&mut self) {
-        take_back(&mut self.outcome);
+        take_back(self.prints, &mut self.outcome);
     }
 }
 
@@ -120,10 +121,11 @@ fn tell<P: SqlText>(
     requires spelled { list_all (is_statement P.dialect) turn.now.statements ≡ true }
     ensures happened { OnOk result (outcome.new.happened ≡ outcome.old.happened ++ rolled_back turn.now ∷ []) }
     ensures printed { OnOk result (outcome.new.printed ≡ outcome.old.printed ++ (if prints then printed P.dialect turn.now ∷ [] else [])) }
+    ensures not_fresh { OnOk result (outcome.new.not_fresh ≡ outcome.old.not_fresh) }
     ensures others { OnOk result ((outcome.new.warned ≡ outcome.old.warned) × (outcome.new.halted ≡ outcome.old.halted) × (outcome.new.stopped_at ≡ outcome.old.stopped_at)) }
 {
     if prints {
-        print(alloc, sql, turn, &mut outcome.printed)?;
+        print_turn(alloc, sql, turn, &mut outcome.printed)?;
     }
     outcome.happened.push(rolled_back(alloc, turn)?)?;
     Ok(())
@@ -138,7 +140,7 @@ fn rolled_back(alloc: Global, turn: &Turn) -> Result<Happened, NoMemory>
     })
 }
 
-fn print<P: SqlText>(
+fn print_turn<P: SqlText>(
     alloc: Global,
     sql: &P,
     turn: &Turn,
@@ -147,37 +149,28 @@ fn print<P: SqlText>(
     requires spelled { list_all (is_statement P.dialect) turn.now.statements ≡ true }
     ensures { OnOk result (to.new ≡ to.old ++ printed P.dialect turn.now ∷ []) }
 {
-    let texts = texts_of(alloc, sql, turn.statements.as_slice())?;
-    let identity = turn.identity.duplicate(alloc)?;
-    to.push(Printed { identity, texts })?;
+    print(alloc, sql, &turn.identity, turn.statements.as_slice(), to)?;
     Ok(())
 }
 
-/// The canonical text of each statement.
-fn texts_of<P: SqlText>(
-    alloc: Global,
-    sql: &P,
-    statements: &[Statement],
-) -> Result<Items<Text>, NoMemory>
-    requires spelled { list_all (is_statement P.dialect) statements.now ≡ true }
-    ensures { IfOk result (λ texts. texts ≡ map (text_of P.dialect) statements.now) }
-{
-    let mut texts = Items::new(alloc);
-    let mut rest = statements;
-    while let Some((statement, after)) = rest.split_first() {
-        texts.push(sql.print(alloc, statement)?)?;
-        rest = after;
-    }
-    Ok(texts)
-}
-
 /// The turn that was told last stops the command, and is not done.
-fn take_back(outcome: &mut Outcome)
+fn take_back(prints: bool, outcome: &mut Outcome)
     ensures told { (before : List Event) (last : Event) → outcome.old.happened ≡ before ++ last ∷ [] → (outcome.new.happened ≡ before) × (outcome.new.stopped_at ≡ Some last.identity) }
+    ensures printed { (before : List Shown) (last : Shown) → outcome.old.printed ≡ before ++ (if prints then last ∷ [] else []) → outcome.new.printed ≡ before }
+    ensures not_fresh { outcome.new.not_fresh ≡ outcome.old.not_fresh }
     ensures others { (outcome.new.warned ≡ outcome.old.warned) × (outcome.new.halted ≡ outcome.old.halted) }
 {
-    outcome.printed.pop();
+    forget_texts(prints, &mut outcome.printed);
     if let Some(happened) = outcome.happened.pop() {
         outcome.stopped_at = Some(happened.identity);
+    }
+}
+
+/// The texts that were kept last were those of a turn that is not done.
+fn forget_texts(prints: bool, texts: &mut Items<Printed>)
+    ensures { (before : List Shown) (last : Shown) → texts.old ≡ before ++ (if prints then last ∷ [] else []) → texts.new ≡ before }
+{
+    if prints {
+        texts.pop();
     }
 }

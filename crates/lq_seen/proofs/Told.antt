@@ -1,6 +1,6 @@
 -- What is told of changesets.
 use Rattle.std.proofs.Common.{ap, arith, subst, sym, refl, ◌≡◌, ◌≤◌, ◌∙◌, ◌++◌, ◌∷◌, ◌+◌, ◌-◌, List, [], Option, Some, length, ℕ}
-use Rattle.std.proofs.lemmas.List.{append-nil, append_assoc, length-append}
+use Rattle.std.proofs.lemmas.List.{append-nil, length-append}
 use Rattle.std.specs.List.{slice_set}
 use Rattle.lq_base.specs.declared.identity.Identity.{Identity}
 use Rattle.lq_base.specs.declared.run.Did.TheVariants as did
@@ -47,20 +47,32 @@ halted_by of (Halts why) before = Some (record { identity = Some of; why = why }
 pub record IsToldBy (of : Identity) (q : Choice) (before after : Outcome) : Type 0 where
   pub happened : after.happened ≡ before.happened ++ happened_by of q
   pub warned : after.warned ≡ before.warned ++ warned_by of q
+  pub not_fresh : after.not_fresh ≡ before.not_fresh
   pub halted : after.halted ≡ halted_by of q before.halted
   pub stopped_at : after.stopped_at ≡ before.stopped_at
 
 told_is : (of : Identity) (q : Choice) (o : Outcome) (texts : List Printed) → IsToldBy of q o (record (told_by of q o) { printed = texts })
-told_is of Passes o texts = record { happened = none_told o.happened; warned = none_told o.warned; halted = refl; stopped_at = refl }
-told_is of Fills o texts = record { happened = none_told o.happened; warned = none_told o.warned; halted = refl; stopped_at = refl }
-told_is of Skips o texts = record { happened = refl; warned = none_told o.warned; halted = refl; stopped_at = refl }
-told_is of (Marks what) o texts = record { happened = refl; warned = none_told o.warned; halted = refl; stopped_at = refl }
-told_is of (Runs what why) o texts = record { happened = refl; warned = refl; halted = refl; stopped_at = refl }
-told_is of (Halts why) o texts = record { happened = none_told o.happened; warned = none_told o.warned; halted = refl; stopped_at = refl }
+told_is of Passes o texts = record { happened = none_told o.happened; warned = none_told o.warned; not_fresh = refl; halted = refl; stopped_at = refl }
+told_is of Fills o texts = record { happened = none_told o.happened; warned = none_told o.warned; not_fresh = refl; halted = refl; stopped_at = refl }
+told_is of Skips o texts = record { happened = refl; warned = none_told o.warned; not_fresh = refl; halted = refl; stopped_at = refl }
+told_is of (Marks what) o texts = record { happened = refl; warned = none_told o.warned; not_fresh = refl; halted = refl; stopped_at = refl }
+told_is of (Runs what why) o texts = record { happened = refl; warned = refl; not_fresh = refl; halted = refl; stopped_at = refl }
+told_is of (Halts why) o texts = record { happened = none_told o.happened; warned = none_told o.warned; not_fresh = refl; halted = refl; stopped_at = refl }
 
 -- whatever texts are kept
 pub told_printed : (of : Identity) (q : Choice) (o now : Outcome) (texts : List Printed) → now ≡ told_by of q o → IsToldBy of q o (record now { printed = texts })
 told_printed of q o now texts is = subst (λ (z : Outcome). IsToldBy of q o (record z { printed = texts })) (sym is) (told_is of q o texts)
+
+-- and none is kept by what is told
+pub texts_kept : (of : Identity) (q : Choice) (o now : Outcome) → now ≡ told_by of q o → now.printed ≡ o.printed
+texts_kept of q o now is = ap (λ (z : Outcome). z.printed) is ∙ same q where
+  same : (p : Choice) → (told_by of p o).printed ≡ o.printed
+  same Passes = refl
+  same Fills = refl
+  same Skips = refl
+  same (Marks what) = refl
+  same (Runs what why) = refl
+  same (Halts why) = refl
 
 -- the last is put in another's place
 

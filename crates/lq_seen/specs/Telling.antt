@@ -1,5 +1,5 @@
 -- What a source has told of a command, on its way to what its turns settle.
-use Rattle.std.specs.Prelude.{Bool, List, None, Option, Some, [], false, option_map, true, ◌++◌, ◌∷◌, ◌≡◌}
+use Rattle.std.specs.Prelude.{Bool, List, None, Option, Some, [], false, min, option_map, true, ℕ, ◌+◌, ◌++◌, ◌-◌, ◌^◌, ◌∷◌, ◌≡◌}
 use Rattle.lq_base.specs.declared.identity.Identity.{Identity}
 use Rattle.lq_base.specs.declared.run.Did.{Did}
 use Rattle.lq_base.specs.declared.run.Did.TheVariants as did
@@ -11,13 +11,22 @@ use Rattle.lq_turns.specs.declared.choice.Choice.TheVariants.{Fills, Halts, Mark
 use Rattle.lq_turns.specs.declared.stop.Refusal.{Refusal}
 use Rattle.lq_turns.specs.declared.stop.Stop.{Stop}
 use Rattle.lq_turns.specs.declared.stop.Stop.TheVariants.{Halted, Refused}
+use Rattle.lq_seen.specs.Printing.{Account}
 use Rattle.lq_seen.specs.declared.outcome.Halt.{Halt}
 use Rattle.lq_seen.specs.declared.outcome.Outcome.{Outcome}
+
+-- a count of 64 bits stays at the greatest
+abbrev pub bounded : ℕ → ℕ
+bounded n = min n (2 ^ 64 - 1)
 
 -- so much was told, and so much is still to come
 pub record Leads (o : Outcome) (more told : Settled) : Type 0 where
   pub happened : o.happened ++ more.happened ≡ told.happened
   pub warned : o.warned ++ more.warned ≡ told.warned
+  -- so many changes of changesets that ran were not fresh
+  pub so_far : ℕ
+  pub counted : o.not_fresh ≡ bounded so_far
+  pub not_fresh : so_far + more.not_fresh ≡ told.not_fresh
   pub stop : more.stop ≡ told.stop
   pub unhalted : o.halted ≡ None
   pub unstopped : o.stopped_at ≡ None
@@ -31,7 +40,13 @@ stop_told o (Some refusal) = option_map (λ identity. Refused identity refusal) 
 pub record Tells (o : Outcome) (told : Settled) (refused : Option Refusal) : Type 0 where
   pub happened : o.happened ≡ told.happened
   pub warned : o.warned ≡ told.warned
+  pub not_fresh : o.not_fresh ≡ bounded told.not_fresh
   pub stop : told.stop ≡ stop_told o refused
+
+-- all was told, and printed
+pub record Reports (o : Outcome) (told : Account) (refused : Option Refusal) : Type 0 where
+  pub tells : Tells o told.settled refused
+  pub prints : o.printed ≡ told.printed
 
 -- what is told of a changeset by its choice, where its turn finishes
 
@@ -78,5 +93,7 @@ stopped_instead of false before = before
 pub record IsTakenBack (of : Identity) (stops : Bool) (before after : Outcome) : Type 0 where
   pub happened : (front : List Happened) (last : Happened) → before.happened ≡ front ++ last ∷ [] → after.happened ≡ front ++ happened_instead of stops
   pub warned : after.warned ≡ before.warned
+  pub not_fresh : after.not_fresh ≡ before.not_fresh
+  pub printed : after.printed ≡ before.printed
   pub halted : after.halted ≡ before.halted
   pub stopped_at : after.stopped_at ≡ stopped_instead of stops before.stopped_at

@@ -32,6 +32,7 @@ impl Outcome {
     pub fn new(alloc: Global) -> Outcome
         ensures done { (result.happened ≡ []) × (result.warned ≡ []) × (result.not_fresh ≡ 0) }
         ensures unstopped { (result.halted ≡ None) × (result.stopped_at ≡ None) }
+        ensures unprinted { result.printed ≡ [] }
     {
         Outcome {
             happened: Items::new(alloc),

@@ -1,5 +1,5 @@
 -- The plan of the turns to come before the first of them.
-use Rattle.std.proofs.Common.{ap, arith, length, reverse, sym, refl, ◌≡◌, ◌≤◌, ◌∙◌, ◌+◌, ◌++◌, ◌||◌, ◌&&◌, Bool, cond, false, true, not, List, [], ◌∷◌, None, Option, Some, drop, min, nat_lt, suc, ℕ}
+use Rattle.std.proofs.Common.{ap, arith, length, reverse, sym, refl, ◌≡◌, ◌≤◌, ◌∙◌, ◌+◌, ◌++◌, ◌||◌, ◌&&◌, Bool, false, true, not, List, [], ◌∷◌, None, Option, Some, min, nat_lt, suc, ℕ}
 use Rattle.std.proofs.lemmas.Bool.{lt-ltb}
 use Rattle.std.proofs.lemmas.List.{length-map, reverse-append}
 use Rattle.std.specs.List.{list_all}

@@ -7,14 +7,13 @@ use Rattle.lq_base.specs.declared.dialect.Dialect.{Dialect}
 use Rattle.lq_base.specs.declared.identity.Identity.{Identity}
 use Rattle.lq_base.specs.declared.reason.Reason.{Reason}
 use Rattle.lq_base.specs.declared.reason.Reason.TheVariants.{TooManyRows, TooWide}
-use Rattle.lq_base.specs.declared.run.Why.{Why}
 use Rattle.lq_base.specs.declared.tracking.Tracked.{Tracked}
 use Rattle.lq_model.proofs.Lists.{or_left, or_right, true_false}
 use Rattle.lq_model.specs.Catalogue.{Catalogue}
 use Rattle.lq_plan.specs.Work.{item_at, work_from}
 use Rattle.lq_plan.specs.declared.turns.Item.{Item}
 use Rattle.lq_sets.proofs.Placed.{filled_last, inserted_last, renewed_last}
-use Rattle.lq_sets.specs.SetTurns.{ArePlanned, last_after}
+use Rattle.lq_sets.specs.SetTurns.{last_after}
 use Rattle.lq_track.specs.Database.{same_identity}
 use Rattle.lq_track.specs.Log.{identity_of}
 use Rattle.lq_turns.proofs.FirstRuns.{tested_by}
@@ -24,7 +23,7 @@ use Rattle.lq_turns.specs.Contents.{Contents}
 use Rattle.lq_turns.specs.Deed.{has_place, others, renewed, rows_after, theirs}
 use Rattle.lq_turns.specs.Script.{turn_by}
 use Rattle.lq_turns.specs.Set.{Meaning, Set, row_at}
-use Rattle.lq_turns.specs.Settle.{choice_of, fill_turn, greatest, is_to_fill, mark_turn, recorded, run_turn, runs_again, what, what_by}
+use Rattle.lq_turns.specs.Settle.{choice_of, fill_turn, greatest, mark_turn, recorded, run_turn, what, what_by}
 use Rattle.lq_turns.specs.Turn.{Course, Ending, Finished, Refused, Stuck, Through, course, ending, is_marked, kept, refused, row_ending}
 use Rattle.lq_turns.specs.declared.choice.Choice.{Choice}
 use Rattle.lq_turns.specs.declared.choice.Choice.TheVariants.{Fills, Halts, Marks, Passes, Runs, Skips}

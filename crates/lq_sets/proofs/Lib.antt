@@ -1,3 +1,4 @@
+mod Begins
 mod Begun
 mod Chosen
 mod Coming
@@ -6,5 +7,7 @@ mod Placed
 mod Planned
 mod Reached
 mod Seen
+mod Stale
+mod Texts
 mod TurnMade
 mod Turned

@@ -1,5 +1,5 @@
 -- The last place in run order after a deed on rows.
-use Rattle.std.proofs.Common.{ap, arith, sym, refl, ◌≡◌, ◌≤◌, ◌∙◌, ◌+◌, ◌∷◌, ◌++◌, Bool, cond, false, true, not, List, [], None, Option, Some, map, max, ℕ}
+use Rattle.std.proofs.Common.{ap, arith, refl, ◌≡◌, ◌≤◌, ◌∙◌, ◌+◌, ◌∷◌, ◌++◌, Bool, cond, false, true, not, List, [], None, Option, Some, map, max, ℕ}
 use Rattle.lq_base.specs.declared.identity.Identity.{Identity}
 use Rattle.lq_base.specs.declared.tracking.Tracked.{Tracked}
 use Rattle.lq_turns.specs.Deed.{filled, is_of, others, renewed, theirs}

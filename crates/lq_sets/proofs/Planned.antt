@@ -1,19 +1,21 @@
 -- What a plan tells of the changesets to come.
-use Rattle.std.proofs.Common.{ap, arith, sym, subst, refl, ◌≡◌, ◌∙◌, ◌+◌, ◌∷◌, ◌++◌, Bool, false, true, List, [], None, Option, Some, drop, map, suc, zero, ℕ}
+use Rattle.std.proofs.Common.{ap, arith, sym, refl, ◌≡◌, ◌∙◌, ◌+◌, ◌∷◌, ◌++◌, false, List, [], None, Option, Some, drop, suc, zero, ℕ}
 use Rattle.std.proofs.lemmas.List.{drop-drop}
 use Rattle.std.specs.List.{list_any, slice_get}
 use Rattle.lq_base.specs.declared.dialect.Dialect.{Dialect}
+use Rattle.lq_base.specs.declared.identity.Identity.{Identity}
 use Rattle.lq_base.specs.declared.tracking.Tracked.{Tracked}
 use Rattle.lq_expr.specs.declared.options.Options.{Options}
-use Rattle.lq_kinds.specs.declared.any_change.AnyChange.{AnyChange}
 use Rattle.lq_kinds.specs.declared.change_set.ChangeSet.{ChangeSet}
 use Rattle.lq_model.proofs.Lists.{or_left, or_right}
+use Rattle.lq_model.specs.declared.statement.Statement.{Statement}
 use Rattle.lq_plan.specs.Work.{item_at, work_from}
 use Rattle.lq_plan.specs.declared.turns.Item.{Item}
 use Rattle.lq_sets.specs.SetTurns.{ArePlanned}
 use Rattle.lq_seen.specs.View.{any_meaning, view, views}
 use Rattle.lq_turns.specs.Again.{are_twins, is_twin}
 use Rattle.lq_turns.specs.Contents.{Contents}
+use Rattle.lq_turns.specs.Printed.{printed, printed_of}
 use Rattle.lq_turns.specs.Script.{calls_of_turn, calls_unless, sets_calls, turn_by}
 use Rattle.lq_turns.specs.Set.{Meaning, Set}
 use Rattle.lq_turns.specs.Settle.{Settled, all_settled, and_then, choice_of, nothing_done, settled_by, unless_stopped, what}
@@ -21,6 +23,7 @@ use Rattle.lq_turns.specs.declared.call.Call.{Call}
 use Rattle.lq_turns.specs.declared.choice.Choice.{Choice}
 use Rattle.lq_turns.specs.declared.choice.What.{What}
 use Rattle.lq_turns.specs.declared.stamp.Stamp.{Stamp}
+use Rattle.lq_turns.specs.declared.stop.Stop.{Stop}
 
 -- a changeset without a turn makes no call
 module _ {Key : Type 0} (d : Dialect) (m : Meaning Key) (stamp : Stamp) (x : Set Key) (xs : List (Set Key)) (c : Contents) where
@@ -33,6 +36,17 @@ module _ {Key : Type 0} (d : Dialect) (m : Meaning Key) (stamp : Stamp) (x : Set
   -- and settles nothing
   pub passes_settled : (rows : List Tracked) → c.rows ≡ rows → what x rows ≡ None → all_settled d m stamp.reading (x ∷ xs) c ≡ all_settled d m stamp.reading xs c
   passes_settled rows same none = ap (λ w. unless_stopped (settled_by d m stamp.reading x c (choice_of x c w)) (all_settled d m stamp.reading xs)) (ap (what x) same ∙ none) ∙ nothing_first (all_settled d m stamp.reading xs c)
+
+  abbrev then_printed : Contents → Option Stop → List (Identity × List Statement)
+  then_printed e None = printed d m stamp.reading xs e
+  then_printed e (Some stop) = []
+
+  abbrev printed_by : Settled → List (Identity × List Statement)
+  printed_by s = printed_of d m stamp.reading x s ++ then_printed s.contents s.stop
+
+  -- and prints nothing
+  pub passes_printed : (rows : List Tracked) → c.rows ≡ rows → what x rows ≡ None → printed d m stamp.reading (x ∷ xs) c ≡ printed d m stamp.reading xs c
+  passes_printed rows same none = ap (λ w. printed_by (settled_by d m stamp.reading x c (choice_of x c w))) (ap (what x) same ∙ none)
 
   pub passes : (rows : List Tracked) → c.rows ≡ rows → what x rows ≡ None → sets_calls d m stamp (x ∷ xs) c ≡ sets_calls d m stamp xs c
   passes rows same none = ap (λ w. calls_by (choice_of x c w)) (ap (what x) same ∙ none)
@@ -48,6 +62,7 @@ pub record IsNext (options : Options) (rows : List Tracked) (ys : List ChangeSet
   pub apart : are_twins (views options ys) ≡ false → are_twins (view options x ∷ views options (drop (suc k) ys)) ≡ false
   pub calls : (d : Dialect) (stamp : Stamp) (c : Contents) → c.rows ≡ rows → sets_calls d any_meaning stamp (views options ys) c ≡ sets_calls d any_meaning stamp (view options x ∷ views options (drop (suc k) ys)) c
   pub settled : (d : Dialect) (stamp : Stamp) (c : Contents) → c.rows ≡ rows → all_settled d any_meaning stamp.reading (views options ys) c ≡ all_settled d any_meaning stamp.reading (view options x ∷ views options (drop (suc k) ys)) c
+  pub prints : (d : Dialect) (stamp : Stamp) (c : Contents) → c.rows ≡ rows → printed d any_meaning stamp.reading (views options ys) c ≡ printed d any_meaning stamp.reading (view options x ∷ views options (drop (suc k) ys)) c
 
 module _ (options : Options) (rows : List Tracked) where
   later : (y : ChangeSet) (ys : List ChangeSet) (n : ℕ) (item : Item) (items : List Item) → what (view options y) rows ≡ None → IsNext options rows ys (suc n) item items → IsNext options rows (y ∷ ys) n item items
@@ -63,6 +78,7 @@ module _ (options : Options) (rows : List Tracked) where
         apart = λ apart. next.apart (or_right (list_any (is_twin (view options y)) (views options ys)) _ apart);
         calls = λ d stamp c same. passes d any_meaning stamp (view options y) (views options ys) c rows same none ∙ next.calls d stamp c same;
         settled = λ d stamp c same. passes_settled d any_meaning stamp (view options y) (views options ys) c rows same none ∙ next.settled d stamp c same;
+        prints = λ d stamp c same. passes_printed d any_meaning stamp (view options y) (views options ys) c rows same none ∙ next.prints d stamp c same;
       }
 
   here : (y : ChangeSet) (ys : List ChangeSet) (n : ℕ) (item : Item) (items : List Item) (w : What) → what (view options y) rows ≡ Some w → (let one : Item = record { index = n; what = w } in one) ∷ work_from (suc n) (views options ys) rows ≡ item ∷ items
@@ -81,6 +97,7 @@ module _ (options : Options) (rows : List Tracked) where
         apart = λ apart. apart;
         calls = λ d stamp c same. refl;
         settled = λ d stamp c same. refl;
+        prints = λ d stamp c same. refl;
       }
 
   no_item : {A : Type 0} {item : Item} {items : List Item} → (let none : List Item = [] in none) ≡ item ∷ items → A
@@ -112,6 +129,15 @@ module _ (options : Options) (rows : List Tracked) where
         | Some w ↦ λ at q. no_item (sym q)
       ]) refl is
 
+  -- or printed
+  pub none_printed : (d : Dialect) (stamp : Stamp) (c : Contents) → c.rows ≡ rows → (ys : List ChangeSet) (n : ℕ) → work_from n (views options ys) rows ≡ [] → printed d any_meaning stamp.reading (views options ys) c ≡ []
+  none_printed d stamp c same [] n is = refl
+  none_printed d stamp c same (y ∷ ys) n is =
+      (elim (what (view options y) rows) as (λ w. what (view options y) rows ≡ w → item_at n w ++ work_from (suc n) (views options ys) rows ≡ [] → printed d any_meaning stamp.reading (views options (y ∷ ys)) c ≡ []) [
+        | None ↦ λ at q. passes_printed d any_meaning stamp (view options y) (views options ys) c rows same at ∙ none_printed d stamp c same ys (suc n) q
+        | Some w ↦ λ at q. no_item (sym q)
+      ]) refl is
+
 pub get_after : {A : Type 0} (n k : ℕ) (xs : List A) → slice_get (drop n xs) k ≡ slice_get xs (n + k)
 get_after zero k xs = let on : k ≡ zero + k = omega arith in ap (slice_get xs) on
 get_after (suc n) k [] = refl
@@ -128,6 +154,8 @@ pub record Comes (options : Options) (sets : List ChangeSet) (n : ℕ) (item : I
       → sets_calls d any_meaning stamp (views options (drop n sets)) c ≡ sets_calls d any_meaning stamp (view options x ∷ views options (drop (item.index + 1) sets)) c
   pub settled : (d : Dialect) (stamp : Stamp) (c : Contents) → c.rows ≡ rows
       → all_settled d any_meaning stamp.reading (views options (drop n sets)) c ≡ all_settled d any_meaning stamp.reading (view options x ∷ views options (drop (item.index + 1) sets)) c
+  pub prints : (d : Dialect) (stamp : Stamp) (c : Contents) → c.rows ≡ rows
+      → printed d any_meaning stamp.reading (views options (drop n sets)) c ≡ printed d any_meaning stamp.reading (view options x ∷ views options (drop (item.index + 1) sets)) c
 
 pub comes : (options : Options) (sets : List ChangeSet) (n : ℕ) (item : Item) (items : List Item) (last : ℕ) (rows : List Tracked) → ArePlanned n (views options (drop n sets)) (item ∷ items) last rows → Comes options sets n item items last rows
 comes options sets n item items last rows plan =
@@ -149,4 +177,5 @@ comes options sets n item items last rows plan =
       };
       calls = λ d stamp c same. next.calls d stamp c same ∙ ap (λ ys. sets_calls d any_meaning stamp (view options next.x ∷ views options ys) c) after;
       settled = λ d stamp c same. next.settled d stamp c same ∙ ap (λ ys. all_settled d any_meaning stamp.reading (view options next.x ∷ views options ys) c) after;
+      prints = λ d stamp c same. next.prints d stamp c same ∙ ap (λ ys. printed d any_meaning stamp.reading (view options next.x ∷ views options ys) c) after;
     }

@@ -4,16 +4,20 @@ use Rattle.std.proofs.lemmas.Bool.{ltb-true}
 use Rattle.std.proofs.lemmas.List.{reverse-append}
 use Rattle.std.specs.List.{list_all}
 use Rattle.lq_base.specs.declared.dialect.Dialect.{Dialect}
+use Rattle.lq_base.specs.declared.identity.Identity.{Identity}
 use Rattle.lq_hand.specs.Enters.{Enters, rest_at}
 use Rattle.lq_hand.specs.declared.hand.Hand.{Hand}
 use Rattle.lq_hand.specs.declared.source.Entered.TheVariants as entered
 use Rattle.lq_model.proofs.Lists.{all-append_left, all-append_right, and_left}
 use Rattle.lq_model.specs.Catalogue.{Catalogue}
+use Rattle.lq_model.specs.declared.statement.Statement.{Statement}
 use Rattle.lq_plan.specs.declared.turns.Item.{Item}
 use Rattle.lq_seen.proofs.Leading.{leads_end}
-use Rattle.lq_sets.proofs.Planned.{none_left, none_settled}
+use Rattle.lq_seen.proofs.Shown.{all_shown}
+use Rattle.lq_sets.proofs.Planned.{none_left, none_printed, none_settled}
 use Rattle.lq_sets.specs.SetTurns.{ArePlanned, CameTo, IsReadFor, Knows, set_way, sets_left}
-use Rattle.lq_seen.specs.Telling.{Leads, Tells}
+use Rattle.lq_seen.specs.Printing.{Account, shown}
+use Rattle.lq_seen.specs.Telling.{Leads, Reports}
 use Rattle.lq_seen.specs.View.{any_meaning}
 use Rattle.lq_sets.specs.declared.set_turns.SetTurns.{SetTurns}
 use Rattle.lq_sets.specs.declared.set_turns.Tried.TheVariants.{Halted, Skipped, Turn as Tried}
@@ -22,7 +26,6 @@ use Rattle.lq_turns.specs.Contents.{contents_of}
 use Rattle.lq_turns.specs.Held.{StandsFor}
 use Rattle.lq_turns.specs.Rest.{OfSets, between}
 use Rattle.lq_turns.specs.Script.{closing}
-use Rattle.lq_turns.specs.Settle.{Settled}
 use Rattle.lq_turns.specs.declared.call.Call.{Call}
 use Rattle.lq_turns.specs.declared.stamp.Stamp.{Stamp}
 
@@ -30,12 +33,12 @@ module _ (d : Dialect) (stamp : Stamp) (seen : Catalogue) where
   abbrev pub to_come : SetTurns → Database → List Call
   to_come s database = rest_at d any_meaning stamp (between (OfSets (sets_left s))) (contents_of database)
 
-  abbrev pub KnowsIt : SetTurns → Database → Settled → Type 0
+  abbrev pub KnowsIt : SetTurns → Database → Account → Type 0
   KnowsIt s database told = Knows s d stamp told (contents_of database)
 
   -- the same calls are to come as in the beginning, and the contents are known still
   pub record Reached (first now : SetTurns) : Type 0 where
-    pub goes : (database : Database) → StandsFor d seen database → (told : Settled) → KnowsIt first database told → (to_come first database ≡ to_come now database) × KnowsIt now database told
+    pub goes : (database : Database) → StandsFor d seen database → (told : Account) → KnowsIt first database told → (to_come first database ≡ to_come now database) × KnowsIt now database told
 
   pub begins : (s : SetTurns) → Reached s s
   begins s = record { goes = λ database stands told knows. (refl, knows) }
@@ -50,7 +53,7 @@ module _ (d : Dialect) (stamp : Stamp) (seen : Catalogue) where
       goes_on came = record {
         goes = λ database stands told knows.
             let so_far = reached.goes database stands told knows in
-            let next = came database told stands (popped item rest is database so_far.1.planned) so_far.1.leads in
+            let next = came database told stands (popped item rest is database so_far.1.planned) so_far.1.leads so_far.1.prints in
             (so_far.0 ∙ next.0, next.1);
       }
 
@@ -59,24 +62,28 @@ module _ (d : Dialect) (stamp : Stamp) (seen : Catalogue) where
         came.0,
         λ database stands told knows.
             let so_far = reached.goes database stands told knows in
-            let next = came.1 database told stands (popped item rest is database so_far.1.planned) so_far.1.leads in
+            let next = came.1 database told stands (popped item rest is database so_far.1.planned) so_far.1.leads so_far.1.prints in
             (so_far.0 ∙ next.0, next.1),
       )
 
-      pub halts : CameTo d stamp seen (record now { items = rest }) after item Halted → (database : Database) → StandsFor d seen database → (told : Settled) → KnowsIt first database told → (to_come first database ≡ closing ∷ []) × Tells after.outcome told None
+      pub halts : CameTo d stamp seen (record now { items = rest }) after item Halted → (database : Database) → StandsFor d seen database → (told : Account) → KnowsIt first database told → (to_come first database ≡ closing ∷ []) × Reports after.outcome told None
       halts came database stands told knows =
           let so_far = reached.goes database stands told knows in
-          let next = came database told stands (popped item rest is database so_far.1.planned) so_far.1.leads in
+          let next = came database told stands (popped item rest is database so_far.1.planned) so_far.1.leads so_far.1.prints in
           (so_far.0 ∙ next.0, next.1)
 
     -- no item is left
-    pub ends : now.items ≡ [] → (database : Database) → StandsFor d seen database → (told : Settled) → KnowsIt first database told → (to_come first database ≡ closing ∷ []) × Tells now.outcome told None
+    pub ends : now.items ≡ [] → (database : Database) → StandsFor d seen database → (told : Account) → KnowsIt first database told → (to_come first database ≡ closing ∷ []) × Reports now.outcome told None
     ends none database stands told knows =
         let so_far = reached.goes database stands told knows in
         let work = so_far.1.planned.work ∙ ap reverse none in
         let c = contents_of database in (
           so_far.0 ∙ ap (λ (calls : List Call). calls ++ closing ∷ []) (none_left now.options database.rows d stamp c refl (drop now.next now.changelog.sets) now.next work),
-          leads_end now.outcome c told (subst (λ s. Leads now.outcome s told) (none_settled now.options database.rows d stamp c refl (drop now.next now.changelog.sets) now.next work) so_far.1.leads),
+          record {
+            tells = leads_end now.outcome c told.settled (subst (λ s. Leads now.outcome s told.settled) (none_settled now.options database.rows d stamp c refl (drop now.next now.changelog.sets) now.next work) so_far.1.leads);
+            prints = all_shown now.prints d now.outcome.printed told.printed
+                (subst (λ (ran : List (Identity × List Statement)). now.outcome.printed ++ shown now.prints d ran ≡ told.printed) (none_printed now.options database.rows d stamp c refl (drop now.next now.changelog.sets) now.next work) so_far.1.prints);
+          },
         )
 
 -- the item that is popped is a place of the changelog

@@ -1,3 +1,4 @@
 -- The turns of a changelog.
+pub mod Counting
 pub mod Seen
 pub mod SetTurns

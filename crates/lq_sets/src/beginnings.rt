@@ -1,6 +1,7 @@
 ghost use Rattle.std.specs.List.{list_all};
-ghost use Rattle.std.specs.Prelude.{◌≡◌, true};
-ghost use Rattle.lq_kinds.specs.AnyChange.{is_for};
+ghost use Rattle.std.specs.Prelude.{◌≡◌, ◌++◌, IfOk, OnOk, length, reverse, true};
+ghost use Rattle.lq_kinds.specs.AnyChange.{gives, is_for};
+ghost use Rattle.lq_sets.specs.Counting.{after_first, begins_at, begins_from, begins_none, first_of};
 
 use lq_base::{Dialect, Items, NoMemory};
 use lq_kinds::AnyChange;
@@ -15,6 +16,7 @@ pub fn beginnings(
     changes: &[AnyChange],
 ) -> Result<Items<Option<usize>>, NoMemory>
     requires read { list_all (is_for dialect) changes.now ≡ true }
+    ensures { IfOk result (λ made. reverse made ≡ begins_from dialect 0 changes.now) }
 {
     let mut beginnings = Items::new(alloc);
     let mut rest = changes;
@@ -28,6 +30,7 @@ pub fn beginnings(
 
 fn statement_count(alloc: Global, dialect: Dialect, change: &AnyChange) -> Result<usize, NoMemory>
     requires read { is_for dialect change.now ≡ true }
+    ensures { IfOk result (λ count. count ≡ length (gives dialect change.now)) }
 {
     let mut statements = Items::new(alloc);
     change.statements(alloc, dialect, &mut statements)?;
@@ -39,10 +42,36 @@ fn push_change(
     beginnings: &mut Items<Option<usize>>,
     change: usize,
     count: usize,
-) -> Result<(), NoMemory> {
-    for number in (0..count).rev() {
-        let begins = if number == 0 { Some(change) } else { None };
-        beginnings.push(begins)?;
+) -> Result<(), NoMemory>
+    ensures { OnOk result (reverse beginnings.new ≡ begins_at change count ++ reverse beginnings.old) }
+{
+    if count == 0 {
+        return Ok(());
+    }
+    push_none(beginnings, count - 1)?;
+    beginnings.push(Some(change))?;
+    Ok(())
+}
+
+/// So many statements with which no change begins.
+fn push_none(beginnings: &mut Items<Option<usize>>, count: usize) -> Result<(), NoMemory>
+    ensures { OnOk result (reverse beginnings.new ≡ begins_none count ++ reverse beginnings.old) }
+{
+    let mut left = count;
+    while left > 0 {
+        beginnings.push(None)?;
+        left -= 1;
     }
     Ok(())
+}
+
+/// Takes what the next statement begins, if it begins a change.
+pub fn next_beginning(beginnings: &mut Items<Option<usize>>) -> Option<usize>
+    ensures first { result ≡ first_of (reverse beginnings.old) }
+    ensures rest { reverse beginnings.new ≡ after_first (reverse beginnings.old) }
+{
+    match beginnings.pop() {
+        Some(beginning) => beginning,
+        None => None,
+    }
 }

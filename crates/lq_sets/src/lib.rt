@@ -9,7 +9,6 @@ mod heads;
 mod in_hand;
 mod laws;
 mod planning;
-mod printing;
 mod seen_choice;
 mod set_hand;
 mod set_turns;

@@ -1,22 +1,24 @@
 ghost use Rattle.std.specs.List.{list_all};
-ghost use Rattle.std.specs.Prelude.{◌≡◌, ◌≤◌, IfOk, List, Some, not, true};
+ghost use Rattle.std.specs.Prelude.{◌≡◌, ◌≤◌, ◌++◌, ◌&&◌, ◌∷◌, [], IfOk, List, OnOk, Some, if◌then◌else◌, not, true};
 ghost use Rattle.lq_base.specs.declared.tracking.Tracked.{Tracked as Row};
 ghost use Rattle.lq_expr.specs.declared.options.Options.{Options};
 ghost use Rattle.lq_hand.specs.Writable.{IsWritable};
 ghost use Rattle.lq_kinds.specs.AnyChange.{is_for};
 ghost use Rattle.lq_model.specs.Statement.{is_statement};
-ghost use Rattle.lq_sets.specs.SetTurns.{IsInHand, has_turn, last_after};
+ghost use Rattle.lq_seen.specs.Printing.{with_texts};
+ghost use Rattle.lq_sets.specs.Counting.{runs};
+ghost use Rattle.lq_sets.specs.SetTurns.{IsInHand, has_turn, last_after, texts_by};
 ghost use Rattle.lq_seen.specs.View.{any_meaning, view};
 ghost use Rattle.lq_turns.specs.Script.{turn_by};
 ghost use Rattle.lq_turns.specs.Settle.{greatest};
 ghost use Rattle.lq_turns.specs.declared.deed.Deed.TheVariants.{Rows};
 
-use crate::printing::printed;
+use crate::in_hand::runs;
 use lq_base::{Dialect, Identity, Items, NoMemory, Printed};
 use lq_hand::Hand;
 use lq_kinds::ChangeSet;
 use lq_model::{SqlText, Statement};
-use lq_seen::{fill_turn, mark_turn, run_turn};
+use lq_seen::{fill_turn, mark_turn, print, run_turn};
 use lq_turns::{Choice, Stamp, Turn};
 use std::alloc::Global;
 
@@ -46,16 +48,16 @@ pub fn hand_for<P: SqlText>(
     requires moment { making.now.stamp.now.reading ≤ 253402300799999 }
     requires room { making.now.last ≤ 2147483647 }
     requires turn { has_turn choice ≡ true }
-    ensures { IfOk result (λ hand. IsInHand making.now.dialect making.now.stamp.now set.now making.now.last choice hand) }
+    ensures hand { IfOk result (λ hand. IsInHand making.now.dialect making.now.stamp.now set.now making.now.last choice hand) }
+    ensures texts { OnOk result (texts.new ≡ texts.old ++ texts_by making.now.prints making.now.dialect set.now choice) }
 {
     let turn = turn_for(alloc, making, set, choice)?;
-    let prints = making.prints && runs(choice);
     keep_texts(
         alloc,
         sql,
         &set.identity,
         turn.statements.as_slice(),
-        prints,
+        keeps(making.prints, choice),
         texts,
     )?;
     let goes_on = !set.fail_on_error;
@@ -72,19 +74,19 @@ fn keep_texts<P: SqlText>(
     texts: &mut Items<Printed>,
 ) -> Result<(), NoMemory>
     requires { list_all (is_statement P.dialect) statements.now ≡ true }
+    ensures { OnOk result (texts.new ≡ texts.old ++ (if prints then with_texts P.dialect (identity.now, statements.now) ∷ [] else [])) }
 {
     if prints {
-        texts.push(printed(alloc, sql, identity, statements)?)?;
+        print(alloc, sql, identity, statements, texts)?;
     }
     Ok(())
 }
 
-/// Whether its changes run.
-pub fn runs(choice: Choice) -> bool {
-    match choice {
-        Choice::Runs(_, _) => true,
-        _ => false,
-    }
+/// Whether the texts of a turn by this choice are kept, where they are wanted.
+pub fn keeps(prints: bool, choice: Choice) -> bool
+    ensures { result ≡ (prints && runs choice) }
+{
+    prints && runs(choice)
 }
 
 /// The turn of a changeset whose choice has one.

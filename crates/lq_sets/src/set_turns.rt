@@ -1,24 +1,27 @@
 ghost use Rattle.std.specs.List.{list_all};
-ghost use Rattle.std.specs.Prelude.{◌≡◌, ◌≤◌, ◌<◌, ◌+◌, [], IfOk, IfSome, None, OnOk, length, reverse, true};
+ghost use Rattle.std.specs.Prelude.{◌≡◌, ◌≤◌, ◌<◌, ◌+◌, ◌++◌, [], IfOk, List, None, length, reverse, true};
+ghost use Rattle.lq_base.specs.declared.run.Printed.{Printed as Shown};
 ghost use Rattle.lq_expr.specs.declared.options.Options.{Options as Given};
 ghost use Rattle.lq_kinds.specs.AnyChange.{is_for};
 ghost use Rattle.lq_kinds.specs.Dialects.{AreFor};
 ghost use Rattle.lq_plan.specs.Work.{work};
-ghost use Rattle.lq_sets.specs.SetTurns.{CameBy, CameTo, IsKeptBy, IsReadFor, Knows, has_turn, sets_left};
+ghost use Rattle.lq_sets.specs.Counting.{HasLooked, changes_before, counted_in};
+ghost use Rattle.lq_sets.specs.SetTurns.{CameBy, CameTo, IsKeptBy, IsReadFor, KeepsTexts, Knows, has_turn, if_kept, sets_left};
+ghost use Rattle.lq_seen.specs.Printing.{of_sets};
 ghost use Rattle.lq_seen.specs.Telling.{told_by};
-ghost use Rattle.lq_seen.specs.View.{any_meaning, view, view_log};
+ghost use Rattle.lq_seen.specs.View.{view, view_log};
 ghost use Rattle.lq_track.specs.Database.{Database};
 ghost use Rattle.lq_base.specs.declared.dialect.Dialect.{Dialect as Spoken};
 ghost use Rattle.lq_turns.specs.Contents.{Contents, contents_of};
 ghost use Rattle.lq_turns.specs.Faults.{faults};
 ghost use Rattle.lq_turns.specs.Held.{StandsFor};
-ghost use Rattle.lq_turns.specs.Settle.{all_settled, choice_of, greatest};
+ghost use Rattle.lq_turns.specs.Settle.{choice_of, greatest};
 ghost use Rattle.lq_turns.specs.declared.stamp.Stamp.{Stamp as Clocked};
 
-use crate::in_hand::InHand;
+use crate::in_hand::{InHand, counted};
 use crate::planning::work_of;
 use crate::seen_choice::seen_choice;
-use crate::set_hand::{Making, hand_for, last_after, runs};
+use crate::set_hand::{Making, hand_for, keeps, last_after};
 use lq_base::{Dialect, Items, NoMemory, Printed, Tracked};
 use lq_expr::Options;
 use lq_hand::{Entered, Hand, Source};
@@ -74,7 +77,7 @@ impl SetTurns {
         requires faultless { faults (view_log options changelog).sets rows.now ≡ [] }
         ensures reads { IfOk result (λ source. IsReadFor source options.dialect) }
         ensures left { IfOk result (λ source. sets_left source ≡ (view_log options changelog).sets) }
-        ensures knows { IfOk result (λ source. (d : Spoken) (stamp : Clocked) (c : Contents) → c.rows ≡ rows.now → greatest rows.now ≤ 2147483647 → Knows source d stamp (all_settled d any_meaning stamp.reading (view_log options changelog).sets c) c) }
+        ensures knows { IfOk result (λ source. (d : Spoken) (stamp : Clocked) (c : Contents) → c.rows ≡ rows.now → greatest rows.now ≤ 2147483647 → Knows source d stamp (of_sets prints d stamp.reading (view_log options changelog).sets c) c) }
     {
         let items = planned(alloc, &options, &changelog, rows)?;
         let last = greatest(rows).min(LAST_PLACE);
@@ -197,7 +200,8 @@ fn act<P: SqlText>(
     requires moment { making.now.stamp.now.reading ≤ 253402300799999 }
     requires room { making.now.last ≤ 2147483647 }
     ensures came { CameBy making.now.dialect making.now.stamp.now set.now making.now.last choice result }
-    ensures kept { IsKeptBy set.now choice result turn.new }
+    ensures kept { IsKeptBy making.now.dialect set.now choice result turn.new }
+    ensures texts { KeepsTexts making.now.prints making.now.dialect set.now choice result texts.old texts.new }
 {
     match choice {
         Choice::Passes => Tried::Skipped,
@@ -225,7 +229,8 @@ fn try_turn<P: SqlText>(
     requires room { making.now.last ≤ 2147483647 }
     requires turn { has_turn choice ≡ true }
     ensures came { CameBy making.now.dialect making.now.stamp.now set.now making.now.last choice result }
-    ensures kept { IsKeptBy set.now choice result turn.new }
+    ensures kept { IsKeptBy making.now.dialect set.now choice result turn.new }
+    ensures texts { KeepsTexts making.now.prints making.now.dialect set.now choice result texts.old texts.new }
 {
     let Ok(in_hand) = InHand::new(alloc, making.dialect, set, choice) else {
         return Tried::Lack;
@@ -238,27 +243,52 @@ fn try_turn<P: SqlText>(
 }
 
 /// The texts that were kept last were those of a turn that is not done.
-fn forget_texts(prints: bool, choice: Choice, texts: &mut Items<Printed>) {
-    if prints && runs(choice) {
+fn forget_texts(prints: bool, choice: Choice, texts: &mut Items<Printed>)
+    ensures { (before : List Shown) (its : Shown) → texts.old ≡ before ++ if_kept prints choice its → texts.new ≡ before }
+{
+    if keeps(prints, choice) {
         texts.pop();
     }
 }
 
 /// How many changes of the turn that has finished were not fresh.
 fn count_in(turn: &mut Option<InHand>, not_fresh: &mut u64)
-    ensures { turn.new ≡ None }
+    ensures none { turn.new ≡ None }
+    ensures counted { not_fresh.new ≡ counted_in turn.old not_fresh.old }
 {
-    if let Some(turn) = turn.take() {
-        *not_fresh = not_fresh.saturating_add(turn.not_fresh);
+    match turn.take() {
+        Some(turn) => {
+            let all = counted(*not_fresh, turn.not_fresh);
+            *not_fresh = all;
+        }
+        None => {}
+    }
+}
+
+/// A statement of the turn of the changeset before this place comes next.
+fn look_at<K: Look>(
+    changelog: &Changelog,
+    next: usize,
+    turn: &mut InHand,
+    dialect: Dialect,
+    look: &K,
+)
+    requires read { AreFor dialect changelog.now }
+    ensures same { (turn.new.identity ≡ turn.old.identity) × (turn.new.choice ≡ turn.old.choice) × (turn.new.stops ≡ turn.old.stops) }
+    ensures looked { HasLooked dialect (changes_before changelog.now.sets next) (K.catalogue look.now) turn.old turn.new }
+{
+    match changelog.sets.get(next.saturating_sub(1)) {
+        Some(set) => turn.looks(dialect, set, look),
+        None => {}
     }
 }
 
 impl Source for SetTurns {
     ghost use Rattle.lq_kinds.specs.declared.any_change.AnyChange.{AnyChange};
     ghost use Rattle.lq_sets.specs.SetTurns.{IsReadFor, set_way, sets_left};
+    ghost use Rattle.lq_seen.specs.Printing.{Account};
     ghost use Rattle.lq_seen.specs.View.{any_meaning};
     ghost use Rattle.lq_turns.specs.Rest.{OfSets};
-    ghost use Rattle.lq_turns.specs.Settle.{Settled};
 
     ghost Key = { AnyChange };
 
@@ -266,7 +296,7 @@ impl Source for SetTurns {
 
     ghost left = { λ source. OfSets (sets_left source) };
 
-    ghost Told = { Settled };
+    ghost Told = { Account };
 
     ghost way = { set_way };
 
@@ -295,14 +325,9 @@ impl Source for SetTurns {
     }
 
     fn looks<K: Look>(&mut self, dialect: Dialect, look: &K) {
-        let Some(place) = self.next.checked_sub(1) else {
-            return;
-        };
-        let Some(set) = self.changelog.sets.get(place) else {
-            return;
-        };
-        if let Some(turn) = &mut self.turn {
-            turn.looks(dialect, set.changes.as_slice(), look);
+        match &mut self.turn {
+            Some(turn) => look_at(&self.changelog, self.next, turn, dialect, look),
+            None => {}
         }
     }
 

@@ -1,25 +1,33 @@
 -- A lock that is freed leaves the database ready, and what is refused then is what is refused of a print.
 use Rattle.std.proofs.Common.{ap, arith, refl, subst, sym}
 use Rattle.std.specs.Option.{option_or}
-use Rattle.std.specs.Prelude.{Bool, Err, None, Ok, Result, Some, [], false, if◌then◌else◌, true, ℕ, ◌∷◌, ◌≡◌, ◌≤◌}
+use Rattle.std.specs.Prelude.{Bool, Err, List, None, Ok, Option, Result, Some, [], false, if◌then◌else◌, true, ℕ, ◌∷◌, ◌≡◌, ◌≤◌}
 use Rattle.lq_base.specs.declared.command.Command.TheVariants as command
 use Rattle.lq_base.specs.declared.command.Target.{Target}
 use Rattle.lq_base.specs.declared.dialect.Dialect.{Dialect}
+use Rattle.lq_cli.specs.declared.line.Job.TheVariants.{RollbackSql, UpdateSql}
 use Rattle.lq_model.specs.declared.fault.StoreFault.{StoreFault}
 use Rattle.lq_model.specs.declared.fault.StoreFault.TheVariants.{Disk}
 use Rattle.lq_run.specs.Commands.{HasDatabase, Leaves}
+use Rattle.lq_seen.specs.Printing.{Account}
 use Rattle.lq_store.specs.Calls.{CountsDisk}
 use Rattle.lq_store.specs.State.{State}
+use Rattle.lq_tell.specs.declared.done.Done.{Done}
+use Rattle.lq_tell.specs.declared.status.Status.{Status}
 use Rattle.lq_tell.specs.declared.status.Status.TheVariants as status
 use Rattle.lq_track.specs.Database.{Database, IsDatabase}
 use Rattle.lq_turns.proofs.AtOnce.{release_leaves}
 use Rattle.lq_turns.specs.Contents.{contents_of}
 use Rattle.lq_turns.specs.Laws.{at_rest}
+use Rattle.lq_turns.specs.Rollback.{rows_kept}
 use Rattle.lq_turns.specs.Script.{closing, release_calls}
 use Rattle.lq_turns.specs.Session.{left_by}
 use Rattle.lq_turns.specs.Settle.{greatest}
 use Rattle.lq_top.proofs.Endings.{leaves_nothing}
+use Rattle.lq_top.specs.Jobs.{TellsJob}
 use Rattle.lq_top.specs.Refusals.{invalid, no_way_back, own_halt, print_rollback, print_update, refusal}
+use Rattle.lq_top.specs.Scripts.{rolled_to}
+use Rattle.lq_top.specs.Tells.{IfFinished, TellsRollback}
 use Rattle.lq_top.specs.Works.{IsReady}
 use Rattle.lq_top.specs.declared.given.Given.{Given}
 
@@ -69,3 +77,18 @@ module _ (given : Given) (database : Database) where
   pub rollback_freed : (target : Target) → refusal (command.Rollback target) given (freed d database) ≡ print_rollback given target database
   rollback_freed target = is_freed d database (λ e. refusal (command.Rollback target) given e ≡ print_rollback given target database) refl
       (λ free. ap (λ b. option_or (option_or (if b then Some (status.Locked database.lock) else None) (invalid given database.rows)) (no_way_back given target database.rows)) free)
+
+  -- and what is told is the same
+  pub update_tells : (r : Result Done Status) → TellsJob UpdateSql given (freed d database) r → TellsJob UpdateSql given database r
+  update_tells r = is_freed d database (λ e. TellsJob UpdateSql given e r → TellsJob UpdateSql given database r) (λ tells. tells) (λ free tells. tells)
+
+  rest_rolled : (o : Option ℕ) → rolled_to true given o (at_rest database (contents_of database)) ≡ rolled_to true given o database
+  rest_rolled (Some stay) = refl
+  rest_rolled None = refl
+
+  rest_tells : (target : Target) (r : Result Done Status) → TellsJob (RollbackSql target) given (at_rest database (contents_of database)) r → TellsJob (RollbackSql target) given database r
+  rest_tells target (Ok done) tells = subst (λ (account : Account). IfFinished done (TellsRollback true account done)) (rest_rolled (rows_kept target database.rows)) tells
+  rest_tells target (Err s) tells = tt
+
+  pub rollback_tells : (target : Target) (r : Result Done Status) → TellsJob (RollbackSql target) given (freed d database) r → TellsJob (RollbackSql target) given database r
+  rollback_tells target r = is_freed d database (λ e. TellsJob (RollbackSql target) given e r → TellsJob (RollbackSql target) given database r) (rest_tells target r) (λ free tells. tells)

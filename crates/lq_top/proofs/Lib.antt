@@ -14,11 +14,13 @@ pub mod Planned
 pub mod Ready
 pub mod RefusedKinds
 pub mod RolledBack
+pub mod Said
 pub mod Seen
 pub mod ShortTag
 pub mod Soaked
 pub mod Starts
 pub mod Stopped
+pub mod Telling
 pub mod Unchanged
 pub mod Updated
 pub mod ViewsRead

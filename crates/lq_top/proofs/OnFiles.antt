@@ -29,7 +29,7 @@ use Rattle.lq_turns.specs.declared.stamp.Stamp.{Stamp}
 use Rattle.lq_top.proofs.Ready.{becomes}
 use Rattle.lq_top.proofs.RefusedKinds.{answers_disk, answers_memory}
 use Rattle.lq_top.specs.Bytes.{Becomes, OnFile, Opens, TellsDamage, WorksOn, given_at, load_status, most_bytes}
-use Rattle.lq_top.specs.Jobs.{DoesJob}
+use Rattle.lq_top.specs.Jobs.{DoesJob, TellsJob}
 use Rattle.lq_top.specs.Kinds.{IsOfDatabase}
 use Rattle.lq_top.specs.Refusals.{Answers, refusal}
 use Rattle.lq_top.specs.Scripts.{script}
@@ -65,11 +65,12 @@ module _ {D P E : Type 0} (d p : Dialect) (told : Option (List ℕ)) (crashes : 
 
   -- what a command does on the database it does on the file
   pub does_there : (c : Command) (given : Given) (r : Result Done Status) → given.options.dialect ≡ d → Answers (refusal c given database) r → (is_some (refusal c given database) ≡ true → now ≡ told)
-      → Works d (script c given database) database (state told h db) r (state now k left) → DoesJob (job.Run c) given database told r now
-  does_there c given r dialect answers kept works = record {
+      → Works d (script c given database) database (state told h db) r (state now k left) → TellsJob (job.Run c) given database r → DoesJob (job.Run c) given database told r now
+  does_there c given r dialect answers kept works tells = record {
     answers = answers;
     refused = kept;
     works = subst (λ e. WorksOn e (script c given database) database told r now) (sym dialect) (works_there (script c given database) r works);
+    tells = tells;
   }
 
 -- for what was given, read with the clock, and for a disk that tells what the one in the database does
@@ -84,19 +85,21 @@ module _ {D P E : Type 0} (p : Dialect) (told : Option (List ℕ)) (crashes : Cr
   pub does_job : (c : Command) (r : Result Done Status) → OnIts given.options.dialect x (λ database. Answers (refusal c given database) r)
       → OnIts given.options.dialect x (λ database. is_some (refusal c given database) ≡ true → there ≡ told)
       → OnIts given.options.dialect x (λ database. Works given.options.dialect (script c given database) database x r y)
+      → OnIts given.options.dialect x (λ database. TellsJob (job.Run c) given database r)
       → (bytes : List ℕ) → told ≡ Some bytes → OnIts asked.options.dialect x (λ database. DoesJob (job.Run c) (given_at asked stamp) database told r now)
-  does_job c r answers kept works bytes told_is database has =
+  does_job c r answers kept works tells bytes told_is database has =
       subst (λ now. DoesJob (job.Run c) (given_at asked stamp) database told r now) (sym same)
       (does_there asked.options.dialect p told crashes h db is limit bytes told_is there later k left valid database has c (given_at asked stamp) r refl
       (subst (λ (given : Given). OnIts given.options.dialect x (λ database. Answers (refusal c given database) r)) given_so answers database has)
       (subst (λ (given : Given). OnIts given.options.dialect x (λ database. is_some (refusal c given database) ≡ true → there ≡ told)) given_so kept database has)
-      (subst (λ (given : Given). OnIts given.options.dialect x (λ database. Works given.options.dialect (script c given database) database x r y)) given_so works database has))
+      (subst (λ (given : Given). OnIts given.options.dialect x (λ database. Works given.options.dialect (script c given database) database x r y)) given_so works database has)
+      (subst (λ (given : Given). OnIts given.options.dialect x (λ database. TellsJob (job.Run c) given database r)) given_so tells database has))
 
 -- one that met no memory has done nothing
 pub does_nothing : (c : Command) (given : Given) (database : Database) (told now : Option (List ℕ)) (s : Status) → s ≡ status.OutOfMemory → now ≡ told → DoesJob (job.Run c) given database told (Err s) now
 does_nothing c given database told now s memory same =
     subst (λ s. DoesJob (job.Run c) given database told (Err s) now) (sym memory)
-    (record { answers = answers_memory (refusal c given database); refused = λ some. same; works = tt })
+    (record { answers = answers_memory (refusal c given database); refused = λ some. same; works = tt; tells = tt })
 
 pub memory_kind : (s : Status) → s ≡ status.OutOfMemory → IsOfDatabase (Err s)
 memory_kind s memory = subst (λ s. IsOfDatabase (Err s)) (sym memory) refl
@@ -154,4 +157,4 @@ pub refused_does : (d : Dialect) (told now : Option (List ℕ)) (before later : 
     → OnFile d told (λ database. DoesJob (job.Run c) given database told (Err s) now)
 refused_does d told now before later fault s is_status c given is same database opens =
     subst (λ s. DoesJob (job.Run c) given database told (Err s) now) (sym is_status)
-    (record { answers = fault_answers d told before later fault (refusal c given database) database is opens; refused = λ some. same; works = tt })
+    (record { answers = fault_answers d told before later fault (refusal c given database) database is opens; refused = λ some. same; works = tt; tells = tt })

@@ -12,7 +12,7 @@ use Rattle.lq_turns.specs.declared.stamp.Stamp.{Stamp}
 use Rattle.lq_top.proofs.RefusedKinds.{IsPlain, answers_kind, answers_whole, print_rollback_plain, print_update_plain}
 use Rattle.lq_top.specs.Bytes.{TellsDamage, given_at}
 use Rattle.lq_top.specs.Copies.{job_of}
-use Rattle.lq_top.specs.Jobs.{job_refusal}
+use Rattle.lq_top.specs.Jobs.{TellsJob, job_refusal}
 use Rattle.lq_top.specs.Kinds.{IsOfDatabase}
 use Rattle.lq_top.specs.Refusals.{Answers}
 use Rattle.lq_top.specs.Works.{IsReady, OnIts}
@@ -36,6 +36,10 @@ module _ (d e : Dialect) (same : e ≡ d) (x : State) (ready : IsReady d x) (ref
 pub answers_so : (job : Job) (asked : Asked) (stamp : Stamp) (given : Given) → given ≡ given_at asked stamp → (x : State) (r : Result Done Status)
     → OnIts given.options.dialect x (λ database. Answers (job_refusal job given database) r) → OnIts asked.options.dialect x (λ database. Answers (job_refusal job (given_at asked stamp) database) r)
 answers_so job asked stamp given given_so x r answers = subst (λ (given : Given). OnIts given.options.dialect x (λ database. Answers (job_refusal job given database) r)) given_so answers
+
+pub tells_so : (job : Job) (asked : Asked) (stamp : Stamp) (given : Given) → given ≡ given_at asked stamp → (x : State) (r : Result Done Status)
+    → OnIts given.options.dialect x (λ database. TellsJob job given database r) → OnIts asked.options.dialect x (λ database. TellsJob job (given_at asked stamp) database r)
+tells_so job asked stamp given given_so x r tells = subst (λ (given : Given). OnIts given.options.dialect x (λ database. TellsJob job given database r)) given_so tells
 
 pub printing_plain : (printing : Printing) (given : Given) (database : Database) → IsPlain (job_refusal (job_of printing) given database)
 printing_plain print.Update given database = print_update_plain given database

@@ -10,13 +10,14 @@ use Rattle.lq_base.specs.declared.command.Target.{Target}
 use Rattle.lq_base.specs.declared.dialect.Dialect.{Dialect}
 use Rattle.lq_base.specs.declared.identity.Identity.{Identity}
 use Rattle.lq_base.specs.declared.run.Happened.{Happened}
+use Rattle.lq_base.specs.declared.run.Printed.{Printed}
 use Rattle.lq_base.specs.declared.tracking.Tracked.{Tracked}
-use Rattle.lq_report.specs.Output.{rollback_text}
 use Rattle.lq_run.specs.Commands.{HasDatabase, LeavesAs}
 use Rattle.lq_run.specs.Steps.{TellsAs}
 use Rattle.lq_run.specs.declared.runner.End.{End}
 use Rattle.lq_run.specs.declared.runner.End.TheVariants as end
 use Rattle.lq_back.specs.RowTurns.{LeadsBack, goes_back, row_way}
+use Rattle.lq_seen.specs.Printing.{Account, of_turns}
 use Rattle.lq_seen.specs.View.{any_meaning}
 use Rattle.lq_seen.specs.declared.outcome.Outcome.{Outcome}
 use Rattle.lq_back.specs.declared.reversal.TakenBack.{TakenBack}
@@ -28,8 +29,7 @@ use Rattle.lq_tell.specs.declared.status.Status.TheVariants as status
 use Rattle.lq_track.specs.Database.{Database}
 use Rattle.lq_turns.specs.Contents.{Contents, contents_of}
 use Rattle.lq_turns.specs.Rest.{OfRows}
-use Rattle.lq_turns.specs.Rollback.{all_rolled, not_reversible, rollback_of, rows_kept, rows_undone, undo_turn, undo_turns}
-use Rattle.lq_turns.specs.Settle.{Settled, nothing_done}
+use Rattle.lq_turns.specs.Rollback.{not_reversible, rollback_of, rows_kept, rows_undone, undo_turn, undo_turns}
 use Rattle.lq_turns.specs.declared.call.Call.{Call}
 use Rattle.lq_turns.specs.declared.stamp.Stamp.{Stamp}
 use Rattle.lq_turns.specs.declared.turn.Turn.{Turn}
@@ -37,11 +37,11 @@ use Rattle.lq_top.proofs.Checked.{answers_on, none_of}
 use Rattle.lq_top.proofs.Endings.{works_by, works_nothing}
 use Rattle.lq_top.proofs.Planned.{goes_to, rollback_is, rollback_may, taken_back}
 use Rattle.lq_top.proofs.RefusedKinds.{IsPlain, refusal_plain}
-use Rattle.lq_top.proofs.Updated.{told_happened, told_stop}
+use Rattle.lq_top.proofs.Updated.{all_told}
 use Rattle.lq_top.specs.Kinds.{is_of_soak}
 use Rattle.lq_top.specs.Refusals.{Answers, Passes, if_not, irreversible, no_way_back, refusal, unreachable_by, unready}
-use Rattle.lq_top.specs.Scripts.{rollback_script, rolled_back, rolled_to, sets_in, taking_back}
-use Rattle.lq_top.specs.Tells.{HasTold, IfFinished, TellsRollback, status_by, stop_by}
+use Rattle.lq_top.specs.Scripts.{nothing_told, rollback_script, rolled_back, rolled_to, sets_in, taking_back}
+use Rattle.lq_top.specs.Tells.{HasTold, IfFinished, TellsRollback, rollback_output, status_by, stop_by}
 use Rattle.lq_top.specs.Turns.{MayTurn, turns_script}
 use Rattle.lq_top.specs.Works.{IsKept, OnIts, Works, is_finished, is_whole}
 use Rattle.lq_top.specs.declared.given.Given.{Given}
@@ -134,9 +134,9 @@ module _ (given : Given) (target : Target) (database : Database) (read rows : Li
 -- the turns of a rollback
 
 module _ (d : Dialect) (stamp : Stamp) (source : RowTurns) (some : reverse source.turns ≢ []) where
-  pub back_may : stamp.reading ≤ 253402300799999 → list_all (goes_back d) (reverse source.turns) ≡ true → ((c : Contents) → LeadsBack source d (all_rolled d (reverse source.turns) c) c)
-      → (database : Database) → MayTurn d any_meaning stamp (OfRows (reverse source.turns)) (row_way source d stamp) database (all_rolled d (reverse source.turns) (contents_of database))
-  back_may moment back knows database = record { known = knows (contents_of database); fits = rollback_may d stamp (reverse source.turns) database moment back some }
+  pub back_may : (prints : Bool) → stamp.reading ≤ 253402300799999 → list_all (goes_back d) (reverse source.turns) ≡ true → ((c : Contents) → LeadsBack source d (of_turns prints d (reverse source.turns) c) c)
+      → (database : Database) → MayTurn d any_meaning stamp (OfRows (reverse source.turns)) (row_way source d stamp) database (of_turns prints d (reverse source.turns) (contents_of database))
+  back_may prints moment back knows database = record { known = knows (contents_of database); fits = rollback_may d stamp (reverse source.turns) database moment back some }
 
   pub back_works : (database : Database) (x y : State) (e : End) (r : Result Done Status) → IfOk r (λ (done : Done). is_finished done.status ≡ true → is_whole e ≡ true)
       → LeavesAs d (turns_script d any_meaning stamp (OfRows (reverse source.turns)) database) database x e y → Works d (rollback_of d stamp (reverse source.turns) database) database x r y
@@ -144,7 +144,7 @@ module _ (d : Dialect) (stamp : Stamp) (source : RowTurns) (some : reverse sourc
       subst (λ calls. Works d calls database x r y) (sym (rollback_is d stamp database (reverse source.turns) some))
       (works_by d (turns_script d any_meaning stamp (OfRows (reverse source.turns)) database) database x y e r whole leaves)
 
-pub rows_told : (s : RowTurns) (d : Dialect) (stamp : Stamp) (told : Settled) (e : End) → TellsAs (row_way s d stamp told) e → HasTold s.outcome told e
+pub rows_told : (s : RowTurns) (d : Dialect) (stamp : Stamp) (told : Account) (e : End) → TellsAs (row_way s d stamp told) e → HasTold s.outcome told e
 rows_told s d stamp told end.Done tells = tells
 rows_told s d stamp told (end.Refused refusal) tells = tells
 rows_told s d stamp told (end.Locked lock) tells = tt
@@ -152,14 +152,21 @@ rows_told s d stamp told end.Disk tells = tt
 rows_told s d stamp told (end.Full used next) tells = tt
 rows_told s d stamp told end.OutOfMemory tells = tt
 
+-- the output of a rollback that came to its end
+abbrev rollback_said : Bool → List Happened → List Printed → Option (List ℕ)
+rollback_said prints happened texts = Some (rollback_output prints happened texts)
+
 -- what is told at the end
-pub tells_rollback : (prints : Bool) (o : Outcome) (settled : Settled) (e : End) (done : Done) (happened : List Happened) → happened ≡ o.happened
+pub tells_rollback : (prints : Bool) (o : Outcome) (account : Account) (e : End) (done : Done) (happened : List Happened) (texts : List Printed) → happened ≡ o.happened → texts ≡ o.printed
     → (is_finished done.status ≡ true → is_whole e ≡ true) → (is_finished done.status ≡ true → done.status ≡ status_by (stop_by o.halted o.stopped_at e))
-    → (is_finished done.status ≡ true → prints ≡ false → done.out ≡ Some (rollback_text happened)) → HasTold o settled e → IfFinished done (TellsRollback prints settled done)
-tells_rollback prints o settled e done happened are whole is out told = λ finished. record {
-  status = is finished ∙ ap status_by (told_stop o settled e (whole finished) told);
-  out = λ quiet. out finished quiet ∙ ap (λ (all : List Happened). Some (rollback_text all)) (are ∙ told_happened o settled e (whole finished) told);
-}
+    → (is_finished done.status ≡ true → done.out ≡ Some (rollback_output prints happened texts)) → HasTold o account e → IfFinished done (TellsRollback prints account done)
+tells_rollback prints o account e done happened texts are printed_are whole is out told = λ finished.
+    let all = all_told o account e (whole finished) told in record {
+      status = is finished ∙ ap status_by all.stop;
+      out = out finished
+          ∙ (ap (λ (hs : List Happened). rollback_said prints hs texts) (are ∙ all.happened)
+          ∙ ap (λ (ps : List Printed). rollback_said prints account.settled.happened ps) (printed_are ∙ all.printed));
+    }
 
 -- rows that are taken back
 
@@ -206,29 +213,34 @@ module _ (given : Given) (database : Database) where
   abbrev d : Dialect
   d = given.options.dialect
 
-  abbrev rolled_by : Option (List Turn) → Settled
-  rolled_by o = elim o [ Some turns ↦ all_rolled d turns (contents_of database) | None ↦ nothing_done (contents_of database) ]
+  abbrev rolled_by : Bool → Option (List Turn) → Account
+  rolled_by prints o = elim o [ Some turns ↦ of_turns prints d turns (contents_of database) | None ↦ nothing_told (contents_of database) ]
 
-  rolled_is : (rows : List Tracked) (turns : List Turn) → undo_turns d any_meaning (sets_in given) rows ≡ Some turns → rolled_back given rows database ≡ all_rolled d turns (contents_of database)
-  rolled_is rows turns is = ap rolled_by is
+  rolled_is : (prints : Bool) (rows : List Tracked) (turns : List Turn) → undo_turns d any_meaning (sets_in given) rows ≡ Some turns → rolled_back prints given rows database ≡ of_turns prints d turns (contents_of database)
+  rolled_is prints rows turns is = ap (rolled_by prints) is
 
   pub taken_works : (x y : State) (r : Result Done Status) (rows : List Tracked) (turns : List Turn) → undo_turns d any_meaning (sets_in given) rows ≡ Some turns
       → Works d (rollback_of d given.stamp turns database) database x r y → Works d (taking_back given rows database) database x r y
   taken_works x y r rows turns is works = subst (λ calls. Works d calls database x r y) (sym (taken_back given rows turns database is)) works
 
-  taken_tells : (prints : Bool) (done : Done) (rows : List Tracked) (turns : List Turn) → undo_turns d any_meaning (sets_in given) rows ≡ Some turns → IfFinished done (TellsRollback prints (all_rolled d turns (contents_of database)) done)
-      → IfFinished done (TellsRollback prints (rolled_back given rows database) done)
-  taken_tells prints done rows turns is tells = λ finished. subst (λ (s : Settled). TellsRollback prints s done) (sym (rolled_is rows turns is)) (tells finished)
+  taken_tells : (prints : Bool) (done : Done) (rows : List Tracked) (turns : List Turn) → undo_turns d any_meaning (sets_in given) rows ≡ Some turns → IfFinished done (TellsRollback prints (of_turns prints d turns (contents_of database)) done)
+      → IfFinished done (TellsRollback prints (rolled_back prints given rows database) done)
+  taken_tells prints done rows turns is tells = λ finished. subst (λ (a : Account). TellsRollback prints a done) (sym (rolled_is prints rows turns is)) (tells finished)
 
   -- no rows
 
   pub idle_works : (x : State) (r : Result Done Status) (rows : List Tracked) → rows ≡ [] → HasDatabase d x database → Works d (taking_back given (reverse rows) database) database x r x
   idle_works x r rows none has = subst (λ (rs : List Tracked). Works d (taking_back given (reverse rs) database) database x r x) (sym none) (works_nothing d database x r has)
 
-  pub idle_tells : (prints : Bool) (r : Result Done Status) (rows : List Tracked) → rows ≡ [] → IfOk r (λ (done : Done). TellsRollback prints (nothing_done (contents_of database)) done)
-      → IfOk r (λ (done : Done). IfFinished done (TellsRollback prints (rolled_back given (reverse rows) database) done))
-  idle_tells prints (Ok done) rows none tells = λ finished. subst (λ (rs : List Tracked). TellsRollback prints (rolled_back given (reverse rs) database) done) (sym none) tells
-  idle_tells prints (Err s) rows none tells = tt
+  none_tell : (prints : Bool) (done : Done) → done.status ≡ status.Done → done.out ≡ Some (rollback_output prints [] []) → TellsRollback prints (of_turns prints d [] (contents_of database)) done
+  none_tell true done is out = record { status = is; out = out }
+  none_tell false done is out = record { status = is; out = out }
+
+  pub idle_tells : (prints : Bool) (r : Result Done Status) (rows : List Tracked) → rows ≡ [] → IfOk r (λ (done : Done). done.status ≡ status.Done) → IfOk r (λ (done : Done). done.out ≡ Some (rollback_output prints [] []))
+      → IfOk r (λ (done : Done). IfFinished done (TellsRollback prints (rolled_back prints given (reverse rows) database) done))
+  idle_tells prints (Ok done) rows none is out = λ finished.
+      subst (λ (rs : List Tracked). TellsRollback prints (rolled_back prints given (reverse rs) database) done) (sym none) (none_tell prints done is out)
+  idle_tells prints (Err s) rows none is out = tt
 
   -- to the target
 
@@ -236,32 +248,32 @@ module _ (given : Given) (database : Database) where
     there : option_map (λ (stay : ℕ). rows_undone stay database.rows) (rows_kept target database.rows) ≡ Some undone
     there = subst (λ (rs : List Tracked). option_map (λ (stay : ℕ). rows_undone stay rs) (rows_kept target rs) ≡ Some undone) (sym same) is
 
-    to_is : rolled_to given (rows_kept target database.rows) database ≡ rolled_back given undone database
-    to_is = by (rows_kept target database.rows) there where
-      by : (o : Option ℕ) → option_map (λ (stay : ℕ). rows_undone stay database.rows) o ≡ Some undone → rolled_to given o database ≡ rolled_back given undone database
+    to_is : (prints : Bool) → rolled_to prints given (rows_kept target database.rows) database ≡ rolled_back prints given undone database
+    to_is prints = by (rows_kept target database.rows) there where
+      by : (o : Option ℕ) → option_map (λ (stay : ℕ). rows_undone stay database.rows) o ≡ Some undone → rolled_to prints given o database ≡ rolled_back prints given undone database
       by None none = absurd (no_undone undone none)
-      by (Some stay) some = ap (λ (rs : List Tracked). rolled_back given rs database) (undone_are (rows_undone stay database.rows) undone some)
+      by (Some stay) some = ap (λ (rs : List Tracked). rolled_back prints given rs database) (undone_are (rows_undone stay database.rows) undone some)
 
     pub target_works : (x y : State) (r : Result Done Status) → Works d (taking_back given undone database) database x r y → Works d (rollback_script given target database) database x r y
     target_works x y r works = subst (λ calls. Works d calls database x r y) (sym (goes_to given target database undone there)) works
 
-    target_tells : (prints : Bool) (done : Done) → IfFinished done (TellsRollback prints (rolled_back given undone database) done)
-        → IfFinished done (TellsRollback prints (rolled_to given (rows_kept target database.rows) database) done)
-    target_tells prints done tells = λ finished. subst (λ (s : Settled). TellsRollback prints s done) (sym to_is) (tells finished)
+    target_tells : (prints : Bool) (done : Done) → IfFinished done (TellsRollback prints (rolled_back prints given undone database) done)
+        → IfFinished done (TellsRollback prints (rolled_to prints given (rows_kept target database.rows) database) done)
+    target_tells prints done tells = λ finished. subst (λ (a : Account). TellsRollback prints a done) (sym (to_is prints)) (tells finished)
 
 -- the same of what a run answers
 
 module _ (given : Given) (x : State) (prints : Bool) where
   pub taken_tells_ok : (r : Result Done Status) (rows : List Tracked) (turns : List Turn) → undo_turns given.options.dialect any_meaning (sets_in given) rows ≡ Some turns
-      → IfOk r (λ (done : Done). OnIts given.options.dialect x (λ (database : Database). IfFinished done (TellsRollback prints (all_rolled given.options.dialect turns (contents_of database)) done)))
-      → IfOk r (λ (done : Done). OnIts given.options.dialect x (λ (database : Database). IfFinished done (TellsRollback prints (rolled_back given rows database) done)))
+      → IfOk r (λ (done : Done). OnIts given.options.dialect x (λ (database : Database). IfFinished done (TellsRollback prints (of_turns prints given.options.dialect turns (contents_of database)) done)))
+      → IfOk r (λ (done : Done). OnIts given.options.dialect x (λ (database : Database). IfFinished done (TellsRollback prints (rolled_back prints given rows database) done)))
   taken_tells_ok (Ok done) rows turns is tells = λ database has. taken_tells given database prints done rows turns is (tells database has)
   taken_tells_ok (Err s) rows turns is tells = tt
 
   pub target_tells_ok : (r : Result Done Status) (target : Target) (rows undone : List Tracked) → OnIts given.options.dialect x (λ (database : Database). database.rows ≡ rows)
       → option_map (λ (stay : ℕ). rows_undone stay rows) (rows_kept target rows) ≡ Some undone
-      → IfOk r (λ (done : Done). OnIts given.options.dialect x (λ (database : Database). IfFinished done (TellsRollback prints (rolled_back given undone database) done)))
-      → IfOk r (λ (done : Done). OnIts given.options.dialect x (λ (database : Database). IfFinished done (TellsRollback prints (rolled_to given (rows_kept target database.rows) database) done)))
+      → IfOk r (λ (done : Done). OnIts given.options.dialect x (λ (database : Database). IfFinished done (TellsRollback prints (rolled_back prints given undone database) done)))
+      → IfOk r (λ (done : Done). OnIts given.options.dialect x (λ (database : Database). IfFinished done (TellsRollback prints (rolled_to prints given (rows_kept target database.rows) database) done)))
   target_tells_ok (Ok done) target rows undone same is tells = λ database has. target_tells given database target rows undone (same database has) is prints done (tells database has)
   target_tells_ok (Err s) target rows undone same is tells = tt
 

@@ -15,6 +15,7 @@ use Rattle.lq_run.specs.declared.runner.End.TheVariants as end
 use Rattle.lq_run.specs.declared.runner.Runner.{Runner}
 use Rattle.lq_back.specs.RowTurns.{StopsAt, row_way}
 use Rattle.lq_sets.specs.SetTurns.{YieldsTo, set_way}
+use Rattle.lq_seen.specs.Printing.{Account}
 use Rattle.lq_seen.specs.Telling.{Tells}
 use Rattle.lq_seen.specs.declared.outcome.Outcome.{Outcome}
 use Rattle.lq_back.specs.declared.row_turns.RowTurns.{RowTurns}
@@ -105,17 +106,17 @@ some_of (Some of) refusal stop is = refl
 stop_named : (o : Outcome) (told : Settled) (refusal : Refusal) (stop : Stop) → Tells o told (Some refusal) → told.stop ≡ Some stop → is_some o.stopped_at ≡ true
 stop_named o told refusal stop tells is = some_of o.stopped_at refusal stop (sym tells.stop ∙ is)
 
-set_stop : (s : SetTurns) (d : Dialect) (stamp : Stamp) (told : Settled) (refusal : Refusal) (c : Contents) (yields : YieldsTo s d stamp told false refusal c) → told.stop ≡ Some (Refused yields.turn.identity refusal)
-set_stop s d stamp told refusal c yields = yields.then_told.stop
+set_stop : (s : SetTurns) (d : Dialect) (stamp : Stamp) (told : Account) (refusal : Refusal) (c : Contents) (yields : YieldsTo s d stamp told false refusal c) → told.settled.stop ≡ Some (Refused yields.turn.identity refusal)
+set_stop s d stamp told refusal c yields = yields.then_told.0.stop
 
-row_stop : (s : RowTurns) (told : Settled) (refusal : Refusal) (stops : StopsAt s told false refusal) → told.stop ≡ Some (Refused stops.last.identity refusal)
-row_stop s told refusal stops = stops.then_told.stop
+row_stop : (s : RowTurns) (told : Account) (refusal : Refusal) (stops : StopsAt s told false refusal) → told.settled.stop ≡ Some (Refused stops.last.identity refusal)
+row_stop s told refusal stops = stops.then_told.tells.stop
 
-module _ (o : Outcome) (d : Dialect) (stamp : Stamp) (told : Settled) where
+module _ (o : Outcome) (d : Dialect) (stamp : Stamp) (told : Account) where
   pub sets_stopped : (e : End) → HasTold o told e → YieldedAt set_way d stamp told e → NamesStop e o.stopped_at
   sets_stopped end.Done tells yielded = tt
   sets_stopped (end.Refused refusal) tells yielded =
-      stop_named o told refusal (Refused yielded.yields.turn.identity refusal) tells (set_stop yielded.before d stamp told refusal yielded.contents yielded.yields)
+      stop_named o told.settled refusal (Refused yielded.yields.turn.identity refusal) tells.tells (set_stop yielded.before d stamp told refusal yielded.contents yielded.yields)
   sets_stopped (end.Locked lock) tells yielded = tt
   sets_stopped end.Disk tells yielded = tt
   sets_stopped (end.Full used next) tells yielded = tt
@@ -124,7 +125,7 @@ module _ (o : Outcome) (d : Dialect) (stamp : Stamp) (told : Settled) where
   pub rows_stopped : (e : End) → HasTold o told e → YieldedAt row_way d stamp told e → NamesStop e o.stopped_at
   rows_stopped end.Done tells yielded = tt
   rows_stopped (end.Refused refusal) tells yielded =
-      stop_named o told refusal (Refused yielded.yields.last.identity refusal) tells (row_stop yielded.before told refusal yielded.yields)
+      stop_named o told.settled refusal (Refused yielded.yields.last.identity refusal) tells.tells (row_stop yielded.before told refusal yielded.yields)
   rows_stopped (end.Locked lock) tells yielded = tt
   rows_stopped end.Disk tells yielded = tt
   rows_stopped (end.Full used next) tells yielded = tt

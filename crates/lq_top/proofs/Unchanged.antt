@@ -16,7 +16,7 @@ use Rattle.lq_tell.specs.declared.done.Done.{Done}
 use Rattle.lq_tell.specs.declared.status.Status.{Status}
 use Rattle.lq_top.specs.Bytes.{Becomes, Holds, Opens, WorksOn, most_bytes}
 use Rattle.lq_top.specs.Copies.{job_of}
-use Rattle.lq_top.specs.Jobs.{DoesJob, job_refusal, job_script}
+use Rattle.lq_top.specs.Jobs.{DoesJob, TellsJob, job_refusal, job_script}
 use Rattle.lq_top.specs.Refusals.{Answers}
 use Rattle.lq_top.specs.declared.copying.Printing.{Printing}
 use Rattle.lq_top.specs.declared.copying.Printing.TheVariants as print
@@ -74,5 +74,6 @@ prints printing given database before (Ok done) after opens same = λ finished.
 prints printing given database before (Err s) after opens same = tt
 
 pub printed_does : (printing : Printing) (given : Given) (database : Database) (before : Option (List ℕ)) (done : Result Done Status) (after : Option (List ℕ)) → Opens given.options.dialect before database
-    → Answers (job_refusal (job_of printing) given database) done → after ≡ before → DoesJob (job_of printing) given database before done after
-printed_does printing given database before done after opens answers same = record { answers = answers; refused = λ some. same; works = prints printing given database before done after opens same }
+    → Answers (job_refusal (job_of printing) given database) done → TellsJob (job_of printing) given database done → after ≡ before → DoesJob (job_of printing) given database before done after
+printed_does printing given database before done after opens answers tells same =
+    record { answers = answers; refused = λ some. same; works = prints printing given database before done after opens same; tells = tells }

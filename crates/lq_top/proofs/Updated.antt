@@ -1,24 +1,30 @@
 -- An update, from its checks to what it tells.
-use Rattle.std.proofs.Common.{ap, inl, inr, refl, subst, sym, ◌∙◌}
+use Rattle.std.proofs.Common.{ap, arith, inl, inr, refl, subst, sym, ◌∙◌}
 use Rattle.std.specs.List.{All}
 use Rattle.std.specs.Option.{option_or}
-use Rattle.std.specs.Prelude.{Bool, Err, IfErr, IfOk, List, None, Ok, Option, Result, Some, [], false, is_some, true, ℕ, ◌∷◌, ◌≡◌, ◌≤◌, ◌||◌}
+use Rattle.std.specs.Prelude.{Bool, Err, IfErr, IfOk, List, None, Ok, Option, Result, Some, [], false, if◌then◌else◌, is_some, min, true, ℕ, ◌++◌, ◌-◌, ◌^◌, ◌∷◌, ◌≡◌, ◌≤◌, ◌||◌}
 use Rattle.lq_base.specs.declared.command.Command.TheVariants as command
 use Rattle.lq_base.specs.declared.dialect.Dialect.{Dialect}
+use Rattle.lq_base.specs.declared.identity.Identity.{Identity}
+use Rattle.lq_base.specs.declared.run.Happened.{Happened}
+use Rattle.lq_base.specs.declared.run.Printed.{Printed}
 use Rattle.lq_base.specs.declared.run.Why.{Why}
 use Rattle.lq_base.specs.declared.tracking.Tracked.{Tracked}
 use Rattle.lq_beside.specs.Replays.{calls_fit}
 use Rattle.lq_changelog.specs.ShortTexts.{HasShortTexts}
 use Rattle.lq_kinds.specs.Dialects.{AreFor}
 use Rattle.lq_kinds.specs.declared.any_change.AnyChange.{AnyChange}
+use Rattle.lq_model.specs.declared.statement.Statement.{Statement}
 use Rattle.lq_plan.specs.Work.{work_from}
 use Rattle.lq_plan.specs.declared.turns.Item.{Item}
-use Rattle.lq_report.specs.Output.{update_text}
 use Rattle.lq_run.specs.Commands.{HasDatabase, LeavesAs}
 use Rattle.lq_run.specs.Steps.{TellsAs}
 use Rattle.lq_run.specs.declared.runner.End.{End}
 use Rattle.lq_run.specs.declared.runner.End.TheVariants as end
 use Rattle.lq_sets.specs.SetTurns.{Knows, set_way, sets_left}
+use Rattle.lq_seen.proofs.Shown.{none_shown}
+use Rattle.lq_seen.specs.Printing.{Account, of_sets, shown}
+use Rattle.lq_seen.specs.Telling.{bounded}
 use Rattle.lq_seen.specs.View.{any_meaning}
 use Rattle.lq_seen.specs.declared.outcome.Outcome.{Outcome}
 use Rattle.lq_sets.specs.declared.set_turns.SetTurns.{SetTurns}
@@ -29,6 +35,7 @@ use Rattle.lq_tell.specs.declared.status.Status.TheVariants as status
 use Rattle.lq_tell.specs.Texts.{has_output}
 use Rattle.lq_track.specs.Database.{Database, has_twin_rows}
 use Rattle.lq_turns.specs.Contents.{Contents, contents_of}
+use Rattle.lq_turns.specs.Printed.{printed as statements_run, printed_of}
 use Rattle.lq_turns.specs.Rest.{OfSets}
 use Rattle.lq_turns.specs.Script.{has_work}
 use Rattle.lq_turns.specs.Session.{session_on}
@@ -38,12 +45,13 @@ use Rattle.lq_turns.specs.declared.choice.Choice.{Choice}
 use Rattle.lq_turns.specs.declared.choice.Choice.TheVariants as choice
 use Rattle.lq_turns.specs.declared.choice.What.{What}
 use Rattle.lq_turns.specs.declared.stamp.Stamp.{Stamp}
+use Rattle.lq_turns.specs.declared.stop.Stop.{Stop}
 use Rattle.lq_top.proofs.Endings.{works_by, works_nothing}
 use Rattle.lq_top.proofs.LoadedTexts.{view_has}
 use Rattle.lq_top.proofs.Planned.{no_update, no_work, update_is, update_may}
 use Rattle.lq_top.specs.Refusals.{Answers, IsFault, Passes, ends, if_halts, own_halt, refusal, unready}
-use Rattle.lq_top.specs.Scripts.{log_in, sets_in, settled_in, update_script}
-use Rattle.lq_top.specs.Tells.{HasTold, IfFinished, TellsUpdate, status_by, stop_by}
+use Rattle.lq_top.specs.Scripts.{log_in, nothing_told, sets_in, settled_in, update_script}
+use Rattle.lq_top.specs.Tells.{HasTold, IfFinished, TellsUpdate, status_by, stop_by, update_output}
 use Rattle.lq_top.specs.Turns.{MayTurn, turns_script}
 use Rattle.lq_top.specs.Works.{IsReady, OnIts, Works, is_finished, is_whole}
 use Rattle.lq_top.specs.declared.given.Given.{Given}
@@ -131,7 +139,7 @@ module _ (given : Given) (database : Database) (r : Result Done Status) (s : Sta
     pub own_answers : Answers (refusal command.Update given database) r
     own_answers = err_answers r s is (option_or first second) (subst (λ (o : Option Status). Answers (option_or o second) (Err s)) (sym ready) (refused_alone (Option Why) second s passes))
 
--- changesets without a turn settle nothing
+-- changesets without a turn settle nothing, and nothing is printed of them
 
 module _ (d : Dialect) (m : Meaning AnyChange) (reading : ℕ) where
   pub none_settled : (xs : List (Set AnyChange)) (c : Contents) → has_work xs c.rows ≡ false → all_settled d m reading xs c ≡ nothing_done c
@@ -143,6 +151,36 @@ module _ (d : Dialect) (m : Meaning AnyChange) (reading : ℕ) where
         ∙ ap (and_then (nothing_done c)) (more (sym (ap (λ (o : Option What). is_some o || has_work xs c.rows) is) ∙ none))
     by (Some w) is more = absurd (true_not (sym (ap (λ (o : Option What). is_some o || has_work xs c.rows) is) ∙ none))
 
+  abbrev then_printed : List (Set AnyChange) → Contents → Option Stop → List (Identity × List Statement)
+  then_printed xs c None = statements_run d m reading xs c
+  then_printed xs c (Some stop) = []
+
+  -- what is printed of a changeset by what it settles, and of those behind it
+  abbrev printed_by : Set AnyChange → List (Set AnyChange) → Settled → List (Identity × List Statement)
+  printed_by x xs s = printed_of d m reading x s ++ then_printed xs s.contents s.stop
+
+  pub none_printed : (xs : List (Set AnyChange)) (c : Contents) → has_work xs c.rows ≡ false → statements_run d m reading xs c ≡ []
+  none_printed [] c none = refl
+  none_printed (x ∷ xs) c none = by (what x c.rows) refl (none_printed xs c) where
+    by : (o : Option What) → what x c.rows ≡ o → (has_work xs c.rows ≡ false → statements_run d m reading xs c ≡ []) → statements_run d m reading (x ∷ xs) c ≡ []
+    by None is more =
+        ap (λ (o : Option What). printed_by x xs (settled_by d m reading x c (choice_of x c o))) is
+        ∙ more (sym (ap (λ (o : Option What). is_some o || has_work xs c.rows) is) ∙ none)
+    by (Some w) is more = absurd (true_not (sym (ap (λ (o : Option What). is_some o || has_work xs c.rows) is) ∙ none))
+
+abbrev account_of : Settled → List Printed → Account
+account_of s texts = record { settled = s; printed = texts }
+
+account_is : (s t : Settled) (ps qs : List Printed) → s ≡ t → ps ≡ qs → account_of s ps ≡ account_of t qs
+account_is s t ps qs same texts = ap (λ (u : Settled). account_of u ps) same ∙ ap (λ (us : List Printed). account_of t us) texts
+
+none_within : (most : ℕ) → 0 ≡ min 0 most
+none_within most = omega arith
+
+-- the output of an update that came to its end
+abbrev update_said : Bool → List Happened → ℕ → List Printed → Option (List ℕ)
+update_said prints happened not_fresh texts = Some (update_output prints happened not_fresh texts)
+
 module _ (given : Given) (rows : List Tracked) (database : Database) (same : database.rows ≡ rows) (items : List Item) (is : items ≡ work_from 0 (sets_in given) rows) (none : items ≡ []) where
   no_turn : has_work (sets_in given) database.rows ≡ false
   no_turn = ap (has_work (sets_in given)) same ∙ no_work rows 0 (sets_in given) (sym is ∙ none)
@@ -150,13 +188,26 @@ module _ (given : Given) (rows : List Tracked) (database : Database) (same : dat
   pub idle_works : (x : State) (r : Result Done Status) → HasDatabase given.options.dialect x database → Works given.options.dialect (update_script given database) database x r x
   idle_works x r has = subst (λ calls. Works given.options.dialect calls database x r x) (sym (no_update given database no_turn)) (works_nothing given.options.dialect database x r has)
 
-  idle_settled : settled_in given database ≡ nothing_done (contents_of database)
-  idle_settled = none_settled given.options.dialect any_meaning given.stamp.reading (sets_in given) (contents_of database) no_turn
+  abbrev idle : Settled
+  idle = all_settled given.options.dialect any_meaning given.stamp.reading (sets_in given) (contents_of database)
 
-  pub idle_tells : (prints : Bool) (r : Result Done Status) → IfOk r (λ (done : Done). TellsUpdate prints (nothing_done (contents_of database)) done)
-      → IfOk r (λ (done : Done). IfFinished done (TellsUpdate prints (settled_in given database) done))
-  idle_tells prints (Ok done) tells = λ finished. subst (λ s. TellsUpdate prints s done) (sym idle_settled) tells
-  idle_tells prints (Err s) tells = tt
+  abbrev none_ran : List (Identity × List Statement)
+  none_ran = statements_run given.options.dialect any_meaning given.stamp.reading (sets_in given) (contents_of database)
+
+  no_texts : (prints : Bool) → shown prints given.options.dialect none_ran ≡ []
+  no_texts prints =
+      ap (λ (ran : List (Identity × List Statement)). shown prints given.options.dialect ran) (none_printed given.options.dialect any_meaning given.stamp.reading (sets_in given) (contents_of database) no_turn)
+      ∙ none_shown prints given.options.dialect
+
+  idle_account : (prints : Bool) → settled_in prints given database ≡ nothing_told (contents_of database)
+  idle_account prints = account_is idle (nothing_done (contents_of database)) (shown prints given.options.dialect none_ran) []
+      (none_settled given.options.dialect any_meaning given.stamp.reading (sets_in given) (contents_of database) no_turn) (no_texts prints)
+
+  pub idle_tells : (prints : Bool) (r : Result Done Status) → IfOk r (λ (done : Done). done.status ≡ status.Done) → IfOk r (λ (done : Done). done.out ≡ Some (update_output prints [] 0 []))
+      → IfOk r (λ (done : Done). IfFinished done (TellsUpdate prints (settled_in prints given database) done))
+  idle_tells prints (Ok done) ended said = λ finished. subst (λ (a : Account). TellsUpdate prints a done) (sym (idle_account prints))
+      (record { status = ended; out = said ∙ ap (λ (n : ℕ). update_said prints [] n []) (none_within (2 ^ 64 - 1)) })
+  idle_tells prints (Err s) ended said = tt
 
 -- the turns of an update
 
@@ -164,11 +215,11 @@ module _ (given : Given) (x : State) (rows : List Tracked) (source : SetTurns) (
   abbrev d : Dialect
   d = given.options.dialect
 
-  pub turns_may : IsReady d x → OnIts d x (λ (database : Database). database.rows ≡ rows) → given.stamp.reading ≤ 253402300799999 → AreFor d given.changelog → All HasShortTexts given.changelog.sets
+  pub turns_may : (prints : Bool) → IsReady d x → OnIts d x (λ (database : Database). database.rows ≡ rows) → given.stamp.reading ≤ 253402300799999 → AreFor d given.changelog → All HasShortTexts given.changelog.sets
       → has_work (sets_in given) rows ≡ true → OnIts d x (λ (database : Database). is_halt (own_choice (log_in given) (contents_of database)) ≡ false)
-      → ((e : Dialect) (stamp : Stamp) (c : Contents) → c.rows ≡ rows → greatest rows ≤ 2147483647 → Knows source e stamp (all_settled e any_meaning stamp.reading (sets_in given) c) c)
-      → (database : Database) → HasDatabase d x database → MayTurn d any_meaning given.stamp (OfSets (sets_left source)) (set_way source d given.stamp) database (settled_in given database)
-  turns_may ready are moment read short some goes knows database has =
+      → ((e : Dialect) (stamp : Stamp) (c : Contents) → c.rows ≡ rows → greatest rows ≤ 2147483647 → Knows source e stamp (of_sets prints e stamp.reading (sets_in given) c) c)
+      → (database : Database) → HasDatabase d x database → MayTurn d any_meaning given.stamp (OfSets (sets_left source)) (set_way source d given.stamp) database (settled_in prints given database)
+  turns_may prints ready are moment read short some goes knows database has =
       let same = are database has in
       let first = are ready.database ready.has in
       let differ : has_twin_rows database.rows ≡ false = ap has_twin_rows (same ∙ sym first) ∙ ready.is.differ in
@@ -187,7 +238,7 @@ module _ (given : Given) (x : State) (rows : List Tracked) (source : SetTurns) (
       (works_by d (turns_script d any_meaning given.stamp (OfSets (sets_in given)) database) database x y e r whole
       (subst (λ (xs : List (Set AnyChange)). LeavesAs d (turns_script d any_meaning given.stamp (OfSets xs) database) database x e y) left leaves))
 
-pub sets_told : (s : SetTurns) (d : Dialect) (stamp : Stamp) (told : Settled) (e : End) → TellsAs (set_way s d stamp told) e → HasTold s.outcome told e
+pub sets_told : (s : SetTurns) (d : Dialect) (stamp : Stamp) (told : Account) (e : End) → TellsAs (set_way s d stamp told) e → HasTold s.outcome told e
 sets_told s d stamp told end.Done tells = tells
 sets_told s d stamp told (end.Refused refusal) tells = tells
 sets_told s d stamp told (end.Locked lock) tells = tt
@@ -196,29 +247,31 @@ sets_told s d stamp told (end.Full used next) tells = tt
 sets_told s d stamp told end.OutOfMemory tells = tt
 
 -- what is told at the end
+pub record AllTold (o : Outcome) (account : Account) (e : End) : Type 0 where
+  pub happened : o.happened ≡ account.settled.happened
+  pub not_fresh : o.not_fresh ≡ bounded account.settled.not_fresh
+  pub stop : stop_by o.halted o.stopped_at e ≡ account.settled.stop
+  pub printed : o.printed ≡ account.printed
 
-pub told_stop : (o : Outcome) (settled : Settled) (e : End) → is_whole e ≡ true → HasTold o settled e → stop_by o.halted o.stopped_at e ≡ settled.stop
-told_stop o settled end.Done whole told = sym told.stop
-told_stop o settled (end.Refused refusal) whole told = sym told.stop
-told_stop o settled (end.Locked lock) whole told = absurd (not_true whole)
-told_stop o settled end.Disk whole told = absurd (not_true whole)
-told_stop o settled (end.Full used next) whole told = absurd (not_true whole)
-told_stop o settled end.OutOfMemory whole told = absurd (not_true whole)
+pub all_told : (o : Outcome) (account : Account) (e : End) → is_whole e ≡ true → HasTold o account e → AllTold o account e
+all_told o account end.Done whole told = record { happened = told.tells.happened; not_fresh = told.tells.not_fresh; stop = sym told.tells.stop; printed = told.prints }
+all_told o account (end.Refused refusal) whole told = record { happened = told.tells.happened; not_fresh = told.tells.not_fresh; stop = sym told.tells.stop; printed = told.prints }
+all_told o account (end.Locked lock) whole told = absurd (not_true whole)
+all_told o account end.Disk whole told = absurd (not_true whole)
+all_told o account (end.Full used next) whole told = absurd (not_true whole)
+all_told o account end.OutOfMemory whole told = absurd (not_true whole)
 
-pub told_happened : (o : Outcome) (settled : Settled) (e : End) → is_whole e ≡ true → HasTold o settled e → o.happened ≡ settled.happened
-told_happened o settled end.Done whole told = told.happened
-told_happened o settled (end.Refused refusal) whole told = told.happened
-told_happened o settled (end.Locked lock) whole told = absurd (not_true whole)
-told_happened o settled end.Disk whole told = absurd (not_true whole)
-told_happened o settled (end.Full used next) whole told = absurd (not_true whole)
-told_happened o settled end.OutOfMemory whole told = absurd (not_true whole)
-
-pub tells_update : (prints : Bool) (o : Outcome) (settled : Settled) (e : End) (done : Done) (text : List ℕ) → is_whole e ≡ true → done.status ≡ status_by (stop_by o.halted o.stopped_at e)
-    → done.out ≡ Some text → (prints ≡ false → text ≡ update_text o.happened o.not_fresh) → HasTold o settled e → TellsUpdate prints settled done
-tells_update prints o settled e done text whole is out said told = record {
-  status = is ∙ ap status_by (told_stop o settled e whole told);
-  out = λ quiet. (o.not_fresh, out ∙ ap Some (said quiet ∙ ap (λ all. update_text all o.not_fresh) (told_happened o settled e whole told)));
-}
+pub tells_update : (prints : Bool) (o : Outcome) (account : Account) (e : End) (done : Done) (happened : List Happened) (texts : List Printed) → happened ≡ o.happened → texts ≡ o.printed
+    → (is_finished done.status ≡ true → is_whole e ≡ true) → (is_finished done.status ≡ true → done.status ≡ status_by (stop_by o.halted o.stopped_at e))
+    → (is_finished done.status ≡ true → done.out ≡ Some (update_output prints happened o.not_fresh texts)) → HasTold o account e → IfFinished done (TellsUpdate prints account done)
+tells_update prints o account e done happened texts are printed_are whole is out told = λ finished.
+    let all = all_told o account e (whole finished) told in record {
+      status = is finished ∙ ap status_by all.stop;
+      out = out finished
+          ∙ (ap (λ (hs : List Happened). update_said prints hs o.not_fresh texts) (are ∙ all.happened)
+          ∙ (ap (λ (n : ℕ). update_said prints account.settled.happened n texts) all.not_fresh
+          ∙ ap (λ (ps : List Printed). update_said prints account.settled.happened (bounded account.settled.not_fresh) ps) (printed_are ∙ all.printed)));
+    }
 
 -- without an output it did not come to its end
 pub no_output : (s : Status) → has_output s ≡ false → is_finished s ≡ true → ⊥
@@ -249,18 +302,21 @@ not_halt choice.Skips own passes = refl
 not_halt (choice.Marks w) own passes = refl
 not_halt (choice.Runs w why) own passes = refl
 
-module _ (prints : Bool) (c : Contents) (s : Settled) (before after : Done) (status_is : after.status ≡ before.status) (out_is : after.out ≡ before.out) where
-  carried : TellsUpdate prints s before → TellsUpdate prints s after
-  carried tells = record { status = status_is ∙ tells.status; out = λ quiet. let t = tells.out quiet in (t.0, out_is ∙ t.1) }
+abbrev account_by : Choice → Contents → Account → Account
+account_by by c a = record { settled = by_own by c a.settled; printed = if is_halt by then [] else a.printed }
 
-  own_tells : (by : Choice) → is_halt by ≡ false → TellsUpdate prints s before → TellsUpdate prints (by_own by c s) after
+module _ (prints : Bool) (c : Contents) (a : Account) (before after : Done) (status_is : after.status ≡ before.status) (out_is : after.out ≡ before.out) where
+  carried : TellsUpdate prints a before → TellsUpdate prints a after
+  carried tells = record { status = status_is ∙ tells.status; out = out_is ∙ tells.out }
+
+  own_tells : (by : Choice) → is_halt by ≡ false → TellsUpdate prints a before → TellsUpdate prints (account_by by c a) after
   own_tells (choice.Halts why) goes tells = absurd (true_not goes)
   own_tells (choice.Runs w (Some why)) goes tells = let t = carried tells in record { status = t.status; out = t.out }
-  own_tells (choice.Runs w None) goes tells = carried tells
-  own_tells choice.Passes goes tells = carried tells
-  own_tells choice.Fills goes tells = carried tells
-  own_tells choice.Skips goes tells = carried tells
-  own_tells (choice.Marks w) goes tells = carried tells
+  own_tells (choice.Runs w None) goes tells = let t = carried tells in record { status = t.status; out = t.out }
+  own_tells choice.Passes goes tells = let t = carried tells in record { status = t.status; out = t.out }
+  own_tells choice.Fills goes tells = let t = carried tells in record { status = t.status; out = t.out }
+  own_tells choice.Skips goes tells = let t = carried tells in record { status = t.status; out = t.out }
+  own_tells (choice.Marks w) goes tells = let t = carried tells in record { status = t.status; out = t.out }
 
-  pub updated_tells : (by : Choice) → is_halt by ≡ false → IfFinished before (TellsUpdate prints s before) → IfFinished after (TellsUpdate prints (by_own by c s) after)
+  pub updated_tells : (by : Choice) → is_halt by ≡ false → IfFinished before (TellsUpdate prints a before) → IfFinished after (TellsUpdate prints (account_by by c a) after)
   updated_tells by goes tells = λ finished. own_tells by goes (tells (ap is_finished (sym status_is) ∙ finished))

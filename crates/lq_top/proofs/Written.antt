@@ -48,16 +48,16 @@ use Rattle.lq_top.specs.Turns.{turns_script}
 use Rattle.lq_top.specs.Works.{is_finished}
 use Rattle.lq_top.specs.declared.given.Given.{Given}
 
-false_true : false ≡ true → ⊥
+pub false_true : false ≡ true → ⊥
 false_true h = Prim.cc
 
 true_false : true ≡ false → ⊥
 true_false h = Prim.cc
 
-none_some : {s : Status} → (let o : Option Status = None in o) ≡ Some s → ⊥
+pub none_some : {s : Status} → (let o : Option Status = None in o) ≡ Some s → ⊥
 none_some h = Prim.cc
 
-some_same : {a b : Status} → (let o : Option Status = Some a in o) ≡ Some b → a ≡ b
+pub some_same : {a b : Status} → (let o : Option Status = Some a in o) ≡ Some b → a ≡ b
 some_same h = Prim.cc
 
 either : {A B C : Type 0} → (A → C) → (B → C) → A ⊎ B → C
@@ -317,13 +317,13 @@ ends_by (Some refused) (Err x) s by answers = by_refused refused x s answers (er
 
 -- what it is refused for, but where the changelog's own condition halts, is no end
 
-abbrev Quiet : Option Status → Type 0
+abbrev pub Quiet : Option Status → Type 0
 Quiet o = IfSome o (λ s. is_finished s ≡ false)
 
-quiet_not : (s : Status) (o : Option Status) → Quiet o → o ≡ Some s → is_finished s ≡ true → ⊥
+pub quiet_not : (s : Status) (o : Option Status) → Quiet o → o ≡ Some s → is_finished s ≡ true → ⊥
 quiet_not s o quiet is finished = true_false (sym finished ∙ subst Quiet is quiet)
 
-quiet_or : (a b : Option Status) → Quiet a → Quiet b → Quiet (option_or a b)
+pub quiet_or : (a b : Option Status) → Quiet a → Quiet b → Quiet (option_or a b)
 quiet_or None b first second = second
 quiet_or (Some refused) b first second = first
 
@@ -338,10 +338,10 @@ quiet_some : (xs : List Fault) → Quiet (if_some xs)
 quiet_some [] = tt
 quiet_some (x ∷ xs) = refl
 
-quiet_invalid : (given : Given) (rows : List Tracked) → Quiet (invalid given rows)
+pub quiet_invalid : (given : Given) (rows : List Tracked) → Quiet (invalid given rows)
 quiet_invalid given rows = quiet_some (faults (sets_in given) rows)
 
-quiet_unready : (given : Given) (database : Database) → Quiet (unready given database)
+pub quiet_unready : (given : Given) (database : Database) → Quiet (unready given database)
 quiet_unready given database = quiet_or (held database) (invalid given database.rows) (quiet_held database) (quiet_invalid given database.rows)
 
 quiet_untagged : (rows : List Tracked) → Quiet (untagged rows)
@@ -352,7 +352,7 @@ quiet_if_not : (o : Option Identity) → Quiet (if_not o)
 quiet_if_not None = tt
 quiet_if_not (Some of) = refl
 
-quiet_way : (given : Given) (o : Option ℕ) (rows : List Tracked) → Quiet (unreachable_by given o rows)
+pub quiet_way : (given : Given) (o : Option ℕ) (rows : List Tracked) → Quiet (unreachable_by given o rows)
 quiet_way given None rows = refl
 quiet_way given (Some stay) rows = quiet_if_not (not_reversible given.options.dialect any_meaning (sets_in given) (rows_undone stay rows))
 
@@ -396,7 +396,7 @@ fault_finished : (x : Status) → IsFault x → is_finished x ≡ true → ⊥
 fault_finished x (inl is) finished = false_true (sym (ap is_finished is) ∙ finished)
 fault_finished x (inr is) finished = false_true (sym (ap is_finished is) ∙ finished)
 
-refused_for : (r : Option Status) (x : Status) → Answers r (Err x) → is_finished x ≡ true → r ≡ Some x
+pub refused_for : (r : Option Status) (x : Status) → Answers r (Err x) → is_finished x ≡ true → r ≡ Some x
 refused_for None x fault finished = absurd (fault_finished x fault finished)
 refused_for (Some refused) x (inl is) finished = ap Some (sym is)
 refused_for (Some refused) x (inr fault) finished = absurd (fault_finished x fault finished)
@@ -409,10 +409,10 @@ becomes_by job given database before (Err x) after opens does finished =
     subst (λ calls. Becomes given.options.dialect calls database before after) (sym (no_job_script job given database x cause_is finished))
     (becomes_same given.options.dialect database before after opens (does.refused (ap is_some cause_is)))
 
-abbrev Failed : Result Done Status → Type 0
+abbrev pub Failed : Result Done Status → Type 0
 Failed done = (done ≡ Err status.ReadFault) ⊎ (done ≡ Err status.OutOfMemory)
 
-failed_unfinished : (done : Result Done Status) → Failed done → is_finished (status_done done) ≡ true → ⊥
+pub failed_unfinished : (done : Result Done Status) → Failed done → is_finished (status_done done) ≡ true → ⊥
 failed_unfinished done (inl is) finished = false_true (sym (ap (λ r. is_finished (status_done r)) is) ∙ finished)
 failed_unfinished done (inr is) finished = false_true (sym (ap (λ r. is_finished (status_done r)) is) ∙ finished)
 
@@ -420,7 +420,7 @@ failed_outside : (done : Result Done Status) (s : Status) → IsWritten done s �
 failed_outside done s by (inl is) = either (λ same. inl same) (λ memory. inr (inr memory)) (failed_ends done status.ReadFault s by is)
 failed_outside done s by (inr is) = either (λ same. inr (inr same)) (λ memory. inr (inr memory)) (failed_ends done status.OutOfMemory s by is)
 
-abbrev Does : Job → Given → Database → Option (List ℕ) → Result Done Status → Option (List ℕ) → Type 0
+abbrev pub Does : Job → Given → Database → Option (List ℕ) → Result Done Status → Option (List ℕ) → Type 0
 Does job given database before done after = (Failed done × (after ≡ before)) ⊎ (AreFor given.options.dialect given.changelog × DoesJob job given database before done after)
 
 module _ (job : Job) (given : Given) (before : Option (List ℕ)) (done : Result Done Status) (after : Option (List ℕ)) (s : Status) (by : IsWritten done s) where

@@ -1,11 +1,12 @@
 -- The headline: what a rollback goes back to, and what an update and a changelog-sync leave.
-use Rattle.std.specs.Prelude.{List, Option, Some, [], length, true, ℕ, ◌≡◌}
+use Rattle.std.specs.Prelude.{Bool, List, Option, Some, [], false, length, true, ℕ, ◌≡◌, ◌⊎◌}
 use Rattle.lq_base.specs.declared.command.Command.TheVariants as command
 use Rattle.lq_base.specs.declared.command.Target.{Target}
 use Rattle.lq_cli.specs.declared.line.Job.TheVariants.{Run as Runs}
 use Rattle.lq_kinds.specs.declared.any_change.AnyChange.{AnyChange}
 use Rattle.lq_seen.specs.View.{any_meaning, view_log}
 use Rattle.lq_tell.specs.declared.status.Status.{Status}
+use Rattle.lq_tell.specs.declared.status.Status.TheVariants as status
 use Rattle.lq_track.specs.Database.{Database}
 use Rattle.lq_track.specs.Lock.{free}
 use Rattle.lq_turns.specs.Contents.{Contents, contents_of}
@@ -19,7 +20,7 @@ use Rattle.lq_turns.specs.Synced.{synced}
 use Rattle.lq_turns.specs.declared.stamp.Stamp.{Stamp}
 use Rattle.lq_top.specs.Asks.{Asks, Files}
 use Rattle.lq_top.specs.Bytes.{OnFile, Opens}
-use Rattle.lq_top.specs.Run.{HoldsSame, is_over}
+use Rattle.lq_top.specs.Run.{HoldsSame, IsOutside, is_over}
 
 -- the changelog as a command sees it
 abbrev pub log_of : {words : List (List ℕ)} {files : Files} → Asks words files → Changelog AnyChange
@@ -45,6 +46,17 @@ pub record GoesBack (words : List (List ℕ)) (files : Files) (told : Option (Li
 -- the database of that point, with a free lock
 abbrev pub GoneBack : {words : List (List ℕ)} {files : Files} {told : Option (List ℕ)} → GoesBack words files told → Status → Option (List ℕ) → Type 0
 GoneBack back s after = is_over s ≡ true → HoldsSame back.asks.line.options.dialect after (at_rest back.database back.before)
+
+-- it is done, perhaps without its text, or the journal is full
+abbrev pub is_taken : Status → Bool
+is_taken status.Done = true
+is_taken status.WriteFault = true
+is_taken (status.Full used next) = true
+is_taken s = false
+
+-- so it ends, unless a fault of the outside is met: nothing refuses it, and no statement is refused
+abbrev pub IsTaken : Status → Type 0
+IsTaken s = (is_taken s ≡ true) ⊎ IsOutside s
 
 module _ {words : List (List ℕ)} {files : Files} (asks : Asks words files) (stamp : Stamp) (before : Option (List ℕ)) (s : Status) (after : Option (List ℕ)) where
   -- what an update that comes to its end leaves is what its changesets do one after another, with a free lock

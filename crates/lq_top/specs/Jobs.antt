@@ -1,17 +1,22 @@
 -- What a job does on a database file.
-use Rattle.std.specs.Prelude.{Bool, Err, List, None, Ok, Option, Result, Some, [], false, true, ℕ, ◌≡◌, ◌⊎◌}
+use Rattle.std.specs.Prelude.{Bool, Err, IfOk, List, None, Option, Result, [], false, true, ℕ, ◌≡◌, ◌⊎◌}
 use Rattle.lq_base.specs.declared.command.Command.TheVariants as command
+use Rattle.lq_base.specs.declared.command.Target.{Target}
 use Rattle.lq_cli.specs.declared.line.Job.{Job}
 use Rattle.lq_cli.specs.declared.line.Job.TheVariants.{Drill, RollbackSql, Run, Soak, UpdateSql}
 use Rattle.lq_kinds.specs.Dialects.{AreFor}
+use Rattle.lq_seen.specs.Printing.{Account}
 use Rattle.lq_tell.specs.declared.done.Done.{Done}
 use Rattle.lq_tell.specs.declared.status.Status.{Status}
 use Rattle.lq_tell.specs.declared.status.Status.TheVariants as status
 use Rattle.lq_track.specs.Database.{Database}
+use Rattle.lq_turns.specs.Rollback.{rows_kept}
 use Rattle.lq_turns.specs.declared.call.Call.{Call}
 use Rattle.lq_top.specs.Bytes.{OnFile, WorksOn}
+use Rattle.lq_top.specs.Inserts.{TellsSync, synced_in}
 use Rattle.lq_top.specs.Refusals.{Answers, print_rollback, print_update, refusal}
-use Rattle.lq_top.specs.Scripts.{script, tag_in}
+use Rattle.lq_top.specs.Scripts.{rolled_to, script, tag_in, updated_in}
+use Rattle.lq_top.specs.Tells.{IfFinished, TellsRollback, TellsUpdate}
 use Rattle.lq_top.specs.Works.{IsKept}
 use Rattle.lq_top.specs.declared.given.Given.{Given}
 
@@ -39,11 +44,28 @@ abbrev pub job_tag : Job → Option (List ℕ)
 job_tag (Run c) = tag_in c
 job_tag _ = None
 
--- on a file that holds the database: it is refused, and nothing is written; or where it comes to its end its calls are done
+-- what a rollback to a target does, and what is printed of it
+abbrev pub back_in : Bool → Given → Target → Database → Account
+back_in prints given target database = rolled_to prints given (rows_kept target database.rows) database
+
+-- what it tells that came to its end: an update and a rollback of their turns, a changelog-sync of its rows
+abbrev pub TellsEnd : Job → Given → Database → Done → Type 0
+TellsEnd (Run command.Update) given database done = TellsUpdate false (updated_in false given database) done
+TellsEnd (Run (command.Rollback target)) given database done = TellsRollback false (back_in false given target database) done
+TellsEnd (Run command.Sync) given database done = TellsSync (synced_in given database) done
+TellsEnd UpdateSql given database done = TellsUpdate true (updated_in true given database) done
+TellsEnd (RollbackSql target) given database done = TellsRollback true (back_in true given target database) done
+TellsEnd _ given database done = Unit {0}
+
+abbrev pub TellsJob : Job → Given → Database → Result Done Status → Type 0
+TellsJob job given database done = IfOk done (λ ended. IfFinished ended (TellsEnd job given database ended))
+
+-- on a file that holds the database: it is refused, and nothing is written; or where it comes to its end its calls are done, and it tells of them
 pub record DoesJob (job : Job) (given : Given) (database : Database) (before : Option (List ℕ)) (done : Result Done Status) (after : Option (List ℕ)) : Type 0 where
   pub answers : Answers (job_refusal job given database) done
   pub refused : IsKept (job_refusal job given database) before after
   pub works : WorksOn given.options.dialect (job_script job given database) database before done after
+  pub tells : TellsJob job given database done
 
 -- A line whose files give a changelog: they fail all the same, or there is no memory for it, and nothing is written; or it was read for the dialect, and its job is done on the file.
 abbrev pub DoesLine : Job → Given → Option (List ℕ) → Result Done Status → Option (List ℕ) → Type 0

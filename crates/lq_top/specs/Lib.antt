@@ -9,6 +9,7 @@ pub mod Jobs
 pub mod Kinds
 pub mod Refusals
 pub mod Run
+pub mod Says
 pub mod Scripts
 pub mod Stamp
 pub mod Stopping

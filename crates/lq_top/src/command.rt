@@ -2,10 +2,12 @@ ghost use Rattle.std.specs.List.{All};
 ghost use Rattle.std.specs.Prelude.{◌≡◌, ◌≤◌, Err, IfSome, None, true};
 ghost use Rattle.lq_base.specs.Character.{char_count};
 ghost use Rattle.lq_changelog.specs.ShortTexts.{HasShortTexts};
+ghost use Rattle.lq_cli.specs.declared.line.Job.TheVariants as job;
 ghost use Rattle.lq_kinds.specs.Dialects.{AreFor};
 ghost use Rattle.lq_outside.specs.Count.{Rose};
 ghost use Rattle.lq_tell.specs.declared.status.Status.TheVariants.{DiskFault};
 ghost use Rattle.lq_top.specs.AtOnce.{is_at_once};
+ghost use Rattle.lq_top.specs.Jobs.{TellsJob};
 ghost use Rattle.lq_top.specs.Refusals.{Answers, Passes, no_way_back, print_rollback, print_update, refusal};
 ghost use Rattle.lq_top.specs.Scripts.{script, tag_in};
 ghost use Rattle.lq_top.specs.Works.{IsKept, IsReady, OnIts, Works};
@@ -44,6 +46,7 @@ pub fn run_command<S: Store, P: SqlText>(
     ensures answers { OnIts given.options.dialect (S.state store.old) (λ database. Answers (refusal command.now given database) result) }
     ensures refused { OnIts given.options.dialect (S.state store.old) (λ database. IsKept (refusal command.now given database) store.old store.new) }
     ensures works { OnIts given.options.dialect (S.state store.old) (λ database. Works given.options.dialect (script command.now given database) database (S.state store.old) result (S.state store.new)) }
+    ensures tells { OnIts given.options.dialect (S.state store.old) (λ database. TellsJob (job.Run command.now) given database result) }
     ensures later { S.faults store.old ≤ S.faults store.new }
     ensures disk { result ≡ Err DiskFault → Rose (S.faults store.old) (S.faults store.new) }
 {
@@ -72,6 +75,7 @@ fn run_at_once<S: Store, P: SqlText>(
     ensures answers { OnIts given.now.options.dialect (S.state store.old) (λ database. Answers (refusal command.now given.now database) result) }
     ensures refused { OnIts given.now.options.dialect (S.state store.old) (λ database. IsKept (refusal command.now given.now database) store.old store.new) }
     ensures works { OnIts given.now.options.dialect (S.state store.old) (λ database. Works given.now.options.dialect (script command.now given.now database) database (S.state store.old) result (S.state store.new)) }
+    ensures tells { OnIts given.now.options.dialect (S.state store.old) (λ database. TellsJob (job.Run command.now) given.now database result) }
     ensures later { S.faults store.old ≤ S.faults store.new }
     ensures disk { result ≡ Err DiskFault → Rose (S.faults store.old) (S.faults store.new) }
 {
@@ -98,7 +102,8 @@ pub fn print_update<S: Store, P: SqlText>(
     requires read { AreFor given.options.dialect given.changelog }
     requires short { All HasShortTexts given.changelog.sets }
     requires moment { given.stamp.reading ≤ 253402300799999 }
-    ensures { OnIts given.options.dialect (S.state store.old) (λ database. Answers (print_update given database) result) }
+    ensures answers { OnIts given.options.dialect (S.state store.old) (λ database. Answers (print_update given database) result) }
+    ensures tells { OnIts given.options.dialect (S.state store.old) (λ database. TellsJob job.UpdateSql given database result) }
 {
     let rows = valid_rows(alloc, &given, store)?;
     check_own(alloc, &given, store, rows.as_slice())?;
@@ -119,7 +124,8 @@ fn free_and_update<S: Store, P: SqlText>(
     requires short { All HasShortTexts given.changelog.sets }
     requires moment { given.stamp.reading ≤ 253402300799999 }
     requires passes { OnIts given.options.dialect (S.state store.old) (λ database. print_update given database ≡ None) }
-    ensures { OnIts given.options.dialect (S.state store.old) (λ database. Answers (print_update given database) result) }
+    ensures answers { OnIts given.options.dialect (S.state store.old) (λ database. Answers (print_update given database) result) }
+    ensures tells { OnIts given.options.dialect (S.state store.old) (λ database. TellsJob job.UpdateSql given database result) }
 {
     match free(alloc, &given, store, sql) {
         Ok(()) => update(alloc, given, store, sql, true),
@@ -140,7 +146,8 @@ pub fn print_rollback<S: Store, P: SqlText>(
     requires sql { P.dialect ≡ given.options.dialect }
     requires read { AreFor given.options.dialect given.changelog }
     requires moment { given.stamp.reading ≤ 253402300799999 }
-    ensures { OnIts given.options.dialect (S.state store.old) (λ database. Answers (print_rollback given target.now database) result) }
+    ensures answers { OnIts given.options.dialect (S.state store.old) (λ database. Answers (print_rollback given target.now database) result) }
+    ensures tells { OnIts given.options.dialect (S.state store.old) (λ database. TellsJob (job.RollbackSql target.now) given database result) }
 {
     let rows = valid_rows(alloc, &given, store)?;
     check_back(alloc, &given, target, rows.as_slice())?;
@@ -170,7 +177,8 @@ fn free_and_rollback<S: Store, P: SqlText>(
     requires read { AreFor given.options.dialect given.changelog }
     requires moment { given.stamp.reading ≤ 253402300799999 }
     requires passes { OnIts given.options.dialect (S.state store.old) (λ database. print_rollback given target.now database ≡ None) }
-    ensures { OnIts given.options.dialect (S.state store.old) (λ database. Answers (print_rollback given target.now database) result) }
+    ensures answers { OnIts given.options.dialect (S.state store.old) (λ database. Answers (print_rollback given target.now database) result) }
+    ensures tells { OnIts given.options.dialect (S.state store.old) (λ database. TellsJob (job.RollbackSql target.now) given database result) }
 {
     match free(alloc, &given, store, sql) {
         Ok(()) => rollback(alloc, given, target, store, sql, true),

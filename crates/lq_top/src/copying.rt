@@ -5,16 +5,19 @@ ghost use Rattle.lq_kinds.specs.Dialects.{AreFor};
 ghost use Rattle.lq_outside.specs.Count.{Rose};
 ghost use Rattle.lq_tell.specs.declared.status.Status.TheVariants as status;
 ghost use Rattle.lq_base.specs.declared.dialect.Dialect.{Dialect};
+ghost use Rattle.lq_cli.specs.declared.line.Job.{Job};
 ghost use Rattle.lq_db.specs.Db.{IsDb, disk_in, engine_in, state};
 ghost use Rattle.lq_tell.specs.declared.status.Status.{Status};
+ghost use Rattle.lq_track.specs.Database.{Database};
 ghost use Rattle.lq_top.specs.Bytes.{OnFile, TellsDamage, given_at};
 ghost use Rattle.lq_top.specs.Copies.{IsNoCopy, copy_status, job_of};
 ghost use Rattle.lq_top.specs.Works.{IsReady, OnIts};
 ghost use Rattle.lq_top.specs.Clock.{ReadAtMostOnce, ReadOnce};
-ghost use Rattle.lq_top.specs.Jobs.{job_refusal};
+ghost use Rattle.lq_top.specs.Jobs.{TellsJob, job_refusal};
 ghost use Rattle.lq_top.specs.Refusals.{Answers};
 ghost use Rattle.lq_top.specs.Kinds.{IsOfDatabase};
 ghost use Rattle.lq_top.specs.Stamp.{stamp_of};
+ghost use Rattle.lq_top.specs.declared.given.Given.{Given};
 
 use crate::command::{print_rollback, print_update};
 use crate::given::{Asked, Given, stamped};
@@ -52,6 +55,7 @@ pub fn on_copy<D: Disk, C: Clock, P: SqlText + Drop + Copy>(
     requires read { AreFor asked.options.dialect asked.changelog }
     requires short { All HasShortTexts asked.changelog.sets }
     ensures answers { OnFile asked.options.dialect (D.told disk.old) (λ database. Answers (job_refusal (job_of printing.entry) (given_at asked (stamp_of who.now (C.last clock.new))) database) result) }
+    ensures tells { OnFile asked.options.dialect (D.told disk.old) (λ database. TellsJob (job_of printing.entry) (given_at asked (stamp_of who.now (C.last clock.new))) database result) }
     ensures told { D.told disk.new ≡ D.told disk.old }
     ensures damaged { TellsDamage asked.options.dialect (D.told disk.old) result }
     ensures kind { IsOfDatabase result }
@@ -79,6 +83,7 @@ fn on_bytes<D: Disk + Drop, C: Clock, P: SqlText + Drop + Copy>(
     requires read { AreFor asked.options.dialect asked.changelog }
     requires short { All HasShortTexts asked.changelog.sets }
     ensures answers { OnFile asked.options.dialect (D.told copy) (λ database. Answers (job_refusal (job_of printing.entry) (given_at asked (stamp_of who.now (C.last clock.new))) database) result) }
+    ensures tells { OnFile asked.options.dialect (D.told copy) (λ database. TellsJob (job_of printing.entry) (given_at asked (stamp_of who.now (C.last clock.new))) database result) }
     ensures damaged { TellsDamage asked.options.dialect (D.told copy) result }
     ensures kind { IsOfDatabase result }
     ensures sure { result ≡ Err status.DiskFault → ⊥ }
@@ -105,6 +110,7 @@ fn on_loaded<D: Disk + Drop, C: Clock, P: SqlText + Drop + Copy, E: Executor + D
     requires read { AreFor asked.options.dialect asked.changelog }
     requires short { All HasShortTexts asked.changelog.sets }
     ensures answers { OnIts asked.options.dialect (state (D.told (disk_in db)) (E.held (engine_in db)) db) (λ database. Answers (job_refusal (job_of printing.entry) (given_at asked (stamp_of who.now (C.last clock.new))) database) result) }
+    ensures tells { OnIts asked.options.dialect (state (D.told (disk_in db)) (E.held (engine_in db)) db) (λ database. TellsJob (job_of printing.entry) (given_at asked (stamp_of who.now (C.last clock.new))) database result) }
     ensures whole { (told : Option (List ℕ)) → TellsDamage asked.options.dialect told result }
     ensures kind { IsOfDatabase result }
     ensures sure { result ≡ Err status.DiskFault → ⊥ }
@@ -130,7 +136,8 @@ fn print_on<S: Store, P: SqlText>(
     requires read { AreFor given.options.dialect given.changelog }
     requires short { All HasShortTexts given.changelog.sets }
     requires moment { given.stamp.reading ≤ 253402300799999 }
-    ensures { OnIts given.options.dialect (S.state store.old) (λ database. Answers (job_refusal (job_of printing.entry) given database) result) }
+    ensures answers { OnIts given.options.dialect (S.state store.old) (λ database. Answers (job_refusal (job_of printing.entry) given database) result) }
+    ensures tells { OnIts given.options.dialect (S.state store.old) (λ database. TellsJob (job_of printing.entry) given database result) }
 {
     match printing {
         Printing::Update => print_update(alloc, given, store, sql),
@@ -140,6 +147,7 @@ fn print_on<S: Store, P: SqlText>(
 
 fn in_memory(done: Result<Done, Status>) -> Result<Done, Status>
     ensures refused { (refused : Option Status) → Answers refused done → Answers refused result }
+    ensures tells { (job : Job) (given : Given) (database : Database) → TellsJob job given database done → TellsJob job given database result }
     ensures sure { result ≡ Err status.DiskFault → ⊥ }
     ensures kind { IsOfDatabase done → IsOfDatabase result }
     ensures whole { (dialect : Dialect) (told : Option (List ℕ)) → TellsDamage dialect told done → TellsDamage dialect told result }

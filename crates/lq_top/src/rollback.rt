@@ -1,5 +1,5 @@
 ghost use Rattle.std.specs.List.{list_all};
-ghost use Rattle.std.specs.Prelude.{◌≡◌, ◌≤◌, [], Err, IfErr, IfOk, None, ◌≢◌, false, reverse, true};
+ghost use Rattle.std.specs.Prelude.{◌≡◌, ◌≤◌, [], Err, IfErr, IfOk, None, Some, ◌≢◌, reverse, true};
 ghost use Rattle.lq_kinds.specs.Dialects.{AreFor};
 ghost use Rattle.lq_outside.specs.Count.{Rose};
 ghost use Rattle.lq_tell.specs.declared.status.Status.TheVariants as status;
@@ -8,15 +8,14 @@ ghost use Rattle.lq_back.specs.Reversal.{AreWays};
 ghost use Rattle.lq_back.specs.RowTurns.{LeadsBack, goes_back};
 ghost use Rattle.lq_top.specs.Refusals.{Answers, IsFault, ends, no_way_back, refusal};
 ghost use Rattle.lq_top.specs.Scripts.{rollback_script, taking_back};
-ghost use Rattle.lq_report.specs.Output.{rollback_text};
+ghost use Rattle.lq_seen.specs.Printing.{Account, of_turns};
 ghost use Rattle.lq_top.specs.Scripts.{rolled_back, rolled_to};
 ghost use Rattle.lq_top.specs.Stopping.{NamesStop};
-ghost use Rattle.lq_top.specs.Tells.{HasTold, IfFinished, TellsRollback};
+ghost use Rattle.lq_top.specs.Tells.{HasTold, IfFinished, TellsRollback, rollback_output};
 ghost use Rattle.lq_top.specs.Works.{IsKept, IsReady, KeptLock, OnIts, Works, is_finished, is_whole};
 ghost use Rattle.lq_base.specs.declared.command.Command.TheVariants as command;
-ghost use Rattle.lq_turns.specs.Rollback.{all_rolled, rollback_of, rows_kept};
+ghost use Rattle.lq_turns.specs.Rollback.{rollback_of, rows_kept};
 ghost use Rattle.lq_turns.specs.Contents.{Contents, contents_of};
-ghost use Rattle.lq_turns.specs.Settle.{Settled, nothing_done};
 
 use crate::checks::{check_target, check_ways, checked_rows};
 use crate::given::Given;
@@ -47,7 +46,7 @@ pub fn rollback<S: Store, P: SqlText>(
     requires read { AreFor given.options.dialect given.changelog }
     requires moment { given.stamp.reading ≤ 253402300799999 }
     ensures valid { S.valid store.new }
-    ensures tells { IfOk result (λ done. OnIts given.options.dialect (S.state store.old) (λ database. IfFinished done (TellsRollback prints (rolled_to given (rows_kept target.now database.rows) database) done))) }
+    ensures tells { IfOk result (λ done. OnIts given.options.dialect (S.state store.old) (λ database. IfFinished done (TellsRollback prints (rolled_to prints given (rows_kept target.now database.rows) database) done))) }
     ensures answers { OnIts given.options.dialect (S.state store.old) (λ database. Answers (refusal (command.Rollback target.now) given database) result) }
     ensures refused { OnIts given.options.dialect (S.state store.old) (λ database. IsKept (refusal (command.Rollback target.now) given database) store.old store.new) }
     ensures works { OnIts given.options.dialect (S.state store.old) (λ database. Works given.options.dialect (rollback_script given target.now database) database (S.state store.old) result (S.state store.new)) }
@@ -75,7 +74,7 @@ fn rollback_rows<S: Store, P: SqlText>(
     requires moment { given.stamp.reading ≤ 253402300799999 }
     requires rows { OnIts given.options.dialect (S.state store.old) (λ database. database.rows ≡ rows.now) }
     ensures valid { S.valid store.new }
-    ensures tells { IfOk result (λ done. OnIts given.options.dialect (S.state store.old) (λ database. IfFinished done (TellsRollback prints (rolled_to given (rows_kept target.now database.rows) database) done))) }
+    ensures tells { IfOk result (λ done. OnIts given.options.dialect (S.state store.old) (λ database. IfFinished done (TellsRollback prints (rolled_to prints given (rows_kept target.now database.rows) database) done))) }
     ensures answers { Answers (no_way_back given target.now rows.now) result }
     ensures refused { IsKept (no_way_back given target.now rows.now) store.old store.new }
     ensures works { OnIts given.options.dialect (S.state store.old) (λ database. Works given.options.dialect (rollback_script given target.now database) database (S.state store.old) result (S.state store.new)) }
@@ -104,7 +103,7 @@ fn take_back<S: Store, P: SqlText>(
     requires moment { given.stamp.reading ≤ 253402300799999 }
     requires ways { AreWays given.changelog.sets undone.now ways.now }
     ensures valid { S.valid store.new }
-    ensures tells { IfOk result (λ done. OnIts given.options.dialect (S.state store.old) (λ database. IfFinished done (TellsRollback prints (rolled_back given (reverse undone.now) database) done))) }
+    ensures tells { IfOk result (λ done. OnIts given.options.dialect (S.state store.old) (λ database. IfFinished done (TellsRollback prints (rolled_back prints given (reverse undone.now) database) done))) }
     ensures answers { Answers None result }
     ensures works { OnIts given.options.dialect (S.state store.old) (λ database. Works given.options.dialect (taking_back given (reverse undone.now) database) database (S.state store.old) result (S.state store.new)) }
     ensures later { S.faults store.old ≤ S.faults store.new }
@@ -126,7 +125,7 @@ fn take_back<S: Store, P: SqlText>(
 
 // There is nothing to take back.
 fn no_turns(alloc: Global, prints: bool) -> Result<Done, Status>
-    ensures tells { (c : Contents) → IfOk result (λ done. TellsRollback prints (nothing_done c) done) }
+    ensures out { IfOk result (λ done. done.out ≡ Some (rollback_output prints [] [])) }
     ensures done { IfOk result (λ done. done.status ≡ status.Done) }
     ensures fault { IfErr result (λ s. s ≡ status.OutOfMemory) }
 {
@@ -146,11 +145,11 @@ fn run<S: Store, P: SqlText>(
     requires ready { IsReady given.options.dialect (S.state store.old) }
     requires sql { P.dialect ≡ given.options.dialect }
     requires back { list_all (goes_back given.options.dialect) (reverse source.turns) ≡ true }
-    requires knows { (c : Contents) → LeadsBack source given.options.dialect (all_rolled given.options.dialect (reverse source.turns) c) c }
+    requires knows { (c : Contents) → LeadsBack source given.options.dialect (of_turns prints given.options.dialect (reverse source.turns) c) c }
     requires some { reverse source.turns ≢ [] }
     requires moment { given.stamp.reading ≤ 253402300799999 }
     ensures valid { S.valid store.new }
-    ensures tells { IfOk result (λ done. OnIts given.options.dialect (S.state store.old) (λ database. IfFinished done (TellsRollback prints (all_rolled given.options.dialect (reverse source.turns) (contents_of database)) done))) }
+    ensures tells { IfOk result (λ done. OnIts given.options.dialect (S.state store.old) (λ database. IfFinished done (TellsRollback prints (of_turns prints given.options.dialect (reverse source.turns) (contents_of database)) done))) }
     ensures answers { Answers None result }
     ensures works { OnIts given.options.dialect (S.state store.old) (λ database. Works given.options.dialect (rollback_of given.options.dialect given.stamp (reverse source.turns) database) database (S.state store.old) result (S.state store.new)) }
     ensures later { S.faults store.old ≤ S.faults store.new }
@@ -165,7 +164,7 @@ fn run<S: Store, P: SqlText>(
 fn ended(alloc: Global, outcome: Outcome, end: End, prints: bool) -> Result<Done, Status>
     requires lock { KeptLock end }
     requires stopped { NamesStop end outcome.stopped_at }
-    ensures tells { (settled : Settled) → HasTold outcome settled end → IfOk result (λ done. IfFinished done (TellsRollback prints settled done)) }
+    ensures tells { (account : Account) → HasTold outcome account end → IfOk result (λ done. IfFinished done (TellsRollback prints account done)) }
     ensures fault { IfErr result IsFault }
     ensures ends { IfOk result (λ done. ends done.status ≡ true) }
     ensures whole { IfOk result (λ done. is_finished done.status ≡ true → is_whole end ≡ true) }
@@ -180,13 +179,9 @@ fn ended(alloc: Global, outcome: Outcome, end: End, prints: bool) -> Result<Done
         ..
     } = outcome;
     let status = run_status(end, halted, stopped_at)?;
-    let out = text_of(
-        alloc,
-        &status,
-        prints,
-        happened.as_slice(),
-        printed.as_slice(),
-    )?;
+    let lines = happened.as_slice();
+    let texts = printed.as_slice();
+    let out = text_of(alloc, &status, prints, lines, texts)?;
     Ok(Done {
         status,
         out,
@@ -203,7 +198,7 @@ fn text_of(
     happened: &[Happened],
     printed: &[Printed],
 ) -> Result<Option<Text>, NoMemory>
-    ensures { IfOk result (λ text. is_finished by.now ≡ true → prints ≡ false → text ≡ Some (rollback_text happened.now)) }
+    ensures { IfOk result (λ text. is_finished by.now ≡ true → text ≡ Some (rollback_output prints happened.now printed.now)) }
 {
     if by.has_output() {
         let text = output(alloc, prints, happened, printed)?;
@@ -219,7 +214,7 @@ fn output(
     happened: &[Happened],
     printed: &[Printed],
 ) -> Result<Text, NoMemory>
-    ensures { IfOk result (λ text. prints ≡ false → text ≡ rollback_text happened.now) }
+    ensures { IfOk result (λ text. text ≡ rollback_output prints happened.now printed.now) }
 {
     if prints {
         sql_text(alloc, true, printed)

@@ -11,9 +11,10 @@ ghost use Rattle.lq_tell.specs.Texts.{IsSilent};
 ghost use Rattle.lq_tell.specs.declared.status.Status.TheVariants as status;
 ghost use Rattle.lq_top.specs.Asks.{Asks, HasFault, IsFaultOf, asked_tag};
 ghost use Rattle.lq_top.specs.Clock.{ReadAtMostOnce};
-ghost use Rattle.lq_top.specs.Headline.{GoesBack, GoneBack, HasSynced, HasUpdated};
+ghost use Rattle.lq_top.specs.Headline.{GoesBack, GoneBack, HasSynced, HasUpdated, IsTaken};
 ghost use Rattle.lq_top.specs.Jobs.{is_on_file};
 ghost use Rattle.lq_top.specs.Run.{IsDamage, IsLogged, Runs, IsUnread, EndsUnread};
+ghost use Rattle.lq_top.specs.Says.{Said};
 ghost use Rattle.lq_top.specs.Stamp.{stamp_of};
 
 use crate::work::{Ending, work};
@@ -60,7 +61,11 @@ pub fn run<F: Files, D: Disk, C: Clock, O: Sink, L: Sink>(
     ensures untouched { IsUnread result.status → result.disk ≡ disk }
     ensures soak { (line : Line) → line_of (map (λ word. string_bytes word) words.now) ≡ Some line → is_on_file line.job ≡ false → result.disk ≡ disk }
 
+    // What an update, a rollback and a changelog-sync say that come to their end: by their turns and rows.
+    ensures says { (asks : Asks (map (λ word. string_bytes word) words.now) (F.told files.old)) → Said asks (stamp_of who.now (C.last clock.new)) (D.told disk) result.status (O.told out.old) (O.told out.new) }
+
     // The headline.
+    ensures success { GoesBack (map (λ word. string_bytes word) words.now) (F.told files.old) (D.told disk) → IsTaken result.status }
     ensures rollback { (back : GoesBack (map (λ word. string_bytes word) words.now) (F.told files.old) (D.told disk)) → GoneBack back result.status (D.told result.disk) }
     ensures update { (asks : Asks (map (λ word. string_bytes word) words.now) (F.told files.old)) → HasUpdated asks (stamp_of who.now (C.last clock.new)) (D.told disk) result.status (D.told result.disk) }
     ensures sync { (asks : Asks (map (λ word. string_bytes word) words.now) (F.told files.old)) → HasSynced asks (stamp_of who.now (C.last clock.new)) (D.told disk) result.status (D.told result.disk) }

@@ -1,5 +1,5 @@
 ghost use Rattle.std.specs.List.{All};
-ghost use Rattle.std.specs.Prelude.{◌≡◌, ◌≤◌, [], Err, IfErr, IfOk, None, false, true};
+ghost use Rattle.std.specs.Prelude.{◌≡◌, ◌≤◌, [], Err, IfErr, IfOk, None, Some, false, true};
 ghost use Rattle.lq_changelog.specs.ShortTexts.{HasShortTexts};
 ghost use Rattle.lq_kinds.specs.Dialects.{AreFor};
 ghost use Rattle.lq_outside.specs.Count.{Rose};
@@ -7,16 +7,16 @@ ghost use Rattle.lq_tell.specs.declared.status.Status.TheVariants as status;
 ghost use Rattle.lq_run.specs.Faults.{is_disk_end};
 ghost use Rattle.lq_top.specs.Refusals.{Answers, IsFault, ends, refusal};
 ghost use Rattle.lq_top.specs.Scripts.{log_in, sets_in, update_script};
-ghost use Rattle.lq_report.specs.Output.{update_text};
+ghost use Rattle.lq_seen.specs.Printing.{Account};
 ghost use Rattle.lq_top.specs.Scripts.{settled_in, updated_in};
 ghost use Rattle.lq_top.specs.Stopping.{NamesStop};
-ghost use Rattle.lq_top.specs.Tells.{HasTold, IfFinished, TellsUpdate};
+ghost use Rattle.lq_top.specs.Tells.{HasTold, IfFinished, TellsUpdate, update_output};
 ghost use Rattle.lq_top.specs.Works.{IsKept, IsReady, KeptLock, OnIts, Works, is_finished, is_whole};
 ghost use Rattle.lq_base.specs.declared.command.Command.TheVariants as command;
-ghost use Rattle.lq_turns.specs.Contents.{Contents, contents_of};
+ghost use Rattle.lq_turns.specs.Contents.{contents_of};
 ghost use Rattle.lq_turns.specs.Faults.{faults};
 ghost use Rattle.lq_turns.specs.Script.{has_work};
-ghost use Rattle.lq_turns.specs.Settle.{Settled, is_halt, nothing_done, own_choice};
+ghost use Rattle.lq_turns.specs.Settle.{is_halt, own_choice};
 
 use crate::checks::{check_own, checked_rows};
 use crate::given::Given;
@@ -47,7 +47,7 @@ pub fn update<S: Store, P: SqlText>(
     requires short { All HasShortTexts given.changelog.sets }
     requires moment { given.stamp.reading ≤ 253402300799999 }
     ensures valid { S.valid store.new }
-    ensures tells { IfOk result (λ done. OnIts given.options.dialect (S.state store.old) (λ database. IfFinished done (TellsUpdate prints (updated_in given database) done))) }
+    ensures tells { IfOk result (λ done. OnIts given.options.dialect (S.state store.old) (λ database. IfFinished done (TellsUpdate prints (updated_in prints given database) done))) }
     ensures answers { OnIts given.options.dialect (S.state store.old) (λ database. Answers (refusal command.Update given database) result) }
     ensures refused { OnIts given.options.dialect (S.state store.old) (λ database. IsKept (refusal command.Update given database) store.old store.new) }
     ensures works { OnIts given.options.dialect (S.state store.old) (λ database. Works given.options.dialect (update_script given database) database (S.state store.old) result (S.state store.new)) }
@@ -79,7 +79,7 @@ fn update_on<S: Store, P: SqlText>(
     requires faultless { faults (sets_in given) rows.now ≡ [] }
     requires goes { OnIts given.options.dialect (S.state store.old) (λ database. is_halt (own_choice (log_in given) (contents_of database)) ≡ false) }
     ensures valid { S.valid store.new }
-    ensures tells { IfOk result (λ done. OnIts given.options.dialect (S.state store.old) (λ database. IfFinished done (TellsUpdate prints (settled_in given database) done))) }
+    ensures tells { IfOk result (λ done. OnIts given.options.dialect (S.state store.old) (λ database. IfFinished done (TellsUpdate prints (settled_in prints given database) done))) }
     ensures answers { Answers None result }
     ensures works { OnIts given.options.dialect (S.state store.old) (λ database. Works given.options.dialect (update_script given database) database (S.state store.old) result (S.state store.new)) }
     ensures later { S.faults store.old ≤ S.faults store.new }
@@ -94,7 +94,7 @@ fn update_on<S: Store, P: SqlText>(
 
 // There is nothing to run.
 fn no_turns(alloc: Global, prints: bool) -> Result<Done, Status>
-    ensures tells { (c : Contents) → IfOk result (λ done. TellsUpdate prints (nothing_done c) done) }
+    ensures out { IfOk result (λ done. done.out ≡ Some (update_output prints [] 0 [])) }
     ensures done { IfOk result (λ done. done.status ≡ status.Done) }
     ensures fault { IfErr result (λ s. s ≡ status.OutOfMemory) }
 {
@@ -121,7 +121,7 @@ fn run<S: Store, P: SqlText>(
     requires goes { OnIts given.options.dialect (S.state store.old) (λ database. is_halt (own_choice (log_in given) (contents_of database)) ≡ false) }
     requires work { has_work (sets_in given) rows.now ≡ true }
     ensures valid { S.valid store.new }
-    ensures tells { IfOk result (λ done. OnIts given.options.dialect (S.state store.old) (λ database. IfFinished done (TellsUpdate prints (settled_in given database) done))) }
+    ensures tells { IfOk result (λ done. OnIts given.options.dialect (S.state store.old) (λ database. IfFinished done (TellsUpdate prints (settled_in prints given database) done))) }
     ensures answers { Answers None result }
     ensures works { OnIts given.options.dialect (S.state store.old) (λ database. Works given.options.dialect (update_script given database) database (S.state store.old) result (S.state store.new)) }
     ensures later { S.faults store.old ≤ S.faults store.new }
@@ -142,7 +142,7 @@ fn run<S: Store, P: SqlText>(
 fn ended(alloc: Global, outcome: Outcome, end: End, prints: bool) -> Result<Done, Status>
     requires lock { KeptLock end }
     requires stopped { NamesStop end outcome.stopped_at }
-    ensures tells { (settled : Settled) → HasTold outcome settled end → IfOk result (λ done. IfFinished done (TellsUpdate prints settled done)) }
+    ensures tells { (account : Account) → HasTold outcome account end → IfOk result (λ done. IfFinished done (TellsUpdate prints account done)) }
     ensures fault { IfErr result IsFault }
     ensures ends { IfOk result (λ done. ends done.status ≡ true) }
     ensures whole { IfOk result (λ done. is_finished done.status ≡ true → is_whole end ≡ true) }
@@ -157,24 +157,34 @@ fn ended(alloc: Global, outcome: Outcome, end: End, prints: bool) -> Result<Done
         stopped_at,
     } = outcome;
     let status = run_status(end, halted, stopped_at)?;
-    let out = if status.has_output() {
-        let text = output(
-            alloc,
-            prints,
-            happened.as_slice(),
-            not_fresh,
-            printed.as_slice(),
-        )?;
-        Some(text)
-    } else {
-        None
-    };
+    let lines = happened.as_slice();
+    let texts = printed.as_slice();
+    let out = text_of(alloc, &status, prints, lines, not_fresh, texts)?;
     Ok(Done {
         status,
         out,
         own: None,
         warned,
     })
+}
+
+// What is printed of a run that came to this status.
+fn text_of(
+    alloc: Global,
+    by: &Status,
+    prints: bool,
+    happened: &[Happened],
+    not_fresh: u64,
+    printed: &[Printed],
+) -> Result<Option<Text>, NoMemory>
+    ensures { IfOk result (λ text. is_finished by.now ≡ true → text ≡ Some (update_output prints happened.now not_fresh printed.now)) }
+{
+    if by.has_output() {
+        let text = output(alloc, prints, happened, not_fresh, printed)?;
+        Ok(Some(text))
+    } else {
+        Ok(None)
+    }
 }
 
 fn output(
@@ -184,7 +194,7 @@ fn output(
     not_fresh: u64,
     printed: &[Printed],
 ) -> Result<Text, NoMemory>
-    ensures { IfOk result (λ text. prints ≡ false → text ≡ update_text happened.now not_fresh) }
+    ensures { IfOk result (λ text. text ≡ update_output prints happened.now not_fresh printed.now) }
 {
     if prints {
         sql_text(alloc, false, printed)

@@ -1,5 +1,5 @@
 use Rattle.std.proofs.Common.{rules, ◌≡◌, ◌∷◌}
-use Rattle.lq_back.proofs.Mapped.{all_mapped, more_mapped}
+use Rattle.lq_seen.proofs.Mapped.{all_mapped, more_mapped}
 use Rattle.lq_back.proofs.sync_turn.marked.Goals as goal
 use Rattle.lq_back.specs.SyncTurn.{mark_of}
 

@@ -4,6 +4,7 @@ use Rattle.lq_base.specs.Character.{char_count}
 use Rattle.lq_base.specs.declared.command.Command.{Command}
 use Rattle.lq_base.specs.declared.command.Command.TheVariants as command
 use Rattle.lq_top.proofs.Commanded.{answers_as, kept_as, works_as}
+use Rattle.lq_top.proofs.Telling.{tells_as, untold}
 use Rattle.lq_top.specs.Scripts.{tag_in}
 use Rattle.lq_top.proofs.command.run_at_once.Goals as goal
 
@@ -49,3 +50,17 @@ returns-in-Release-clause-refused g c = λ database has. kept_as c.args.command.
 pub returns-in-Release-clause-works : goal.returns-in-Release-clause-works
 returns-in-Release-clause-works g c = λ database has.
     works_as c.args.command.now command.Release c.in-Release.is c.args.given.now database (g.S.Store.state c.args.store.now) (g.S.Store.state c.release.new.store) c.release.result (c.release.ensures.works database has)
+
+-- they tell of no turns
+
+pub returns-in-Validate-clause-tells : goal.returns-in-Validate-clause-tells
+returns-in-Validate-clause-tells g c = λ database has. tells_as c.args.command.now command.Validate c.in-Validate.is c.args.given.now database c.validate.result (untold c.validate.result)
+
+pub returns-in-Status-clause-tells : goal.returns-in-Status-clause-tells
+returns-in-Status-clause-tells g c = λ database has. tells_as c.args.command.now command.Status c.in-Status.is c.args.given.now database c.status.result (untold c.status.result)
+
+pub returns-in-Tag-clause-tells : goal.returns-in-Tag-clause-tells
+returns-in-Tag-clause-tells g c = λ database has. tells_as c.args.command.now (command.Tag c.in-Tag.name) c.in-Tag.is c.args.given.now database c.tag.result (untold c.tag.result)
+
+pub returns-in-Release-clause-tells : goal.returns-in-Release-clause-tells
+returns-in-Release-clause-tells g c = λ database has. tells_as c.args.command.now command.Release c.in-Release.is c.args.given.now database c.release.result (untold c.release.result)

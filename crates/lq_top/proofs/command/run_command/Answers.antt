@@ -1,5 +1,11 @@
 use Rattle.lq_base.specs.declared.command.Command.TheVariants as command
+use Rattle.std.specs.Prelude.{false}
 use Rattle.lq_top.proofs.Commanded.{answers_as, kept_as, works_as}
+use Rattle.lq_top.proofs.Telling.{on_its_tells, tells_as}
+use Rattle.lq_top.specs.Inserts.{TellsSync, synced_in}
+use Rattle.lq_top.specs.Jobs.{back_in}
+use Rattle.lq_top.specs.Scripts.{updated_in}
+use Rattle.lq_top.specs.Tells.{IfFinished, TellsRollback, TellsUpdate}
 use Rattle.lq_top.proofs.command.run_command.Goals as goal
 
 pub returns-in-Update-clause-answers : goal.returns-in-Update-clause-answers
@@ -31,3 +37,24 @@ returns-in-Sync-clause-refused g c = λ database has. kept_as c.args.command.now
 pub returns-in-Sync-clause-works : goal.returns-in-Sync-clause-works
 returns-in-Sync-clause-works g c = λ database has.
     works_as c.args.command.now command.Sync c.in-Sync.is c.args.given database (g.S.Store.state c.args.store.now) (g.S.Store.state c.sync.new.store) c.sync.result (c.sync.ensures.works database has)
+
+-- what they tell
+
+pub returns-in-Update-clause-tells : goal.returns-in-Update-clause-tells
+returns-in-Update-clause-tells g c = λ database has.
+    let given = c.args.given in
+    tells_as c.args.command.now command.Update c.in-Update.is given database c.update.result
+    (on_its_tells given.options.dialect (g.S.Store.state c.args.store.now) c.update.result (λ done e. IfFinished done (TellsUpdate false (updated_in false given e) done)) c.update.ensures.tells database has)
+
+pub returns-in-Rollback-clause-tells : goal.returns-in-Rollback-clause-tells
+returns-in-Rollback-clause-tells g c = λ database has.
+    let given = c.args.given in
+    let target = c.in-Rollback.target in
+    tells_as c.args.command.now (command.Rollback target) c.in-Rollback.is given database c.rollback.result
+    (on_its_tells given.options.dialect (g.S.Store.state c.args.store.now) c.rollback.result (λ done e. IfFinished done (TellsRollback false (back_in false given target e) done)) c.rollback.ensures.tells database has)
+
+pub returns-in-Sync-clause-tells : goal.returns-in-Sync-clause-tells
+returns-in-Sync-clause-tells g c = λ database has.
+    let given = c.args.given in
+    tells_as c.args.command.now command.Sync c.in-Sync.is given database c.sync.result
+    (on_its_tells given.options.dialect (g.S.Store.state c.args.store.now) c.sync.result (λ done e. IfFinished done (TellsSync (synced_in given e) done)) c.sync.ensures.tells database has)

@@ -20,6 +20,11 @@ returns-in-Ok-clause-answers g c = λ database opens.
     let loaded = c.in-Ok.ensures in
     c.on_loaded.ensures.answers database (opened c.args.asked.options.dialect _ _ _ _ c.in-Ok.db loaded.valid loaded.new (g.D.Disk.told c.args.copy) database loaded.told loaded.catalogue opens)
 
+pub returns-in-Ok-clause-tells : goal.returns-in-Ok-clause-tells
+returns-in-Ok-clause-tells g c = λ database opens.
+    let loaded = c.in-Ok.ensures in
+    c.on_loaded.ensures.tells database (opened c.args.asked.options.dialect _ _ _ _ c.in-Ok.db loaded.valid loaded.new (g.D.Disk.told c.args.copy) database loaded.told loaded.catalogue opens)
+
 pub returns-in-Ok-clause-damaged : goal.returns-in-Ok-clause-damaged
 returns-in-Ok-clause-damaged g c = c.on_loaded.ensures.whole (g.D.Disk.told c.args.copy)
 
@@ -32,6 +37,9 @@ returns-in-Err-clause-answers g c = λ database opens.
     let refused = job_refusal (job_of c.args.printing) (given_at c.args.asked (stamp_of c.args.who.now (g.C.Clock.last c.args.clock.now))) database in
     subst (λ s. Answers refused (Err s)) (sym (c.copy_status.ensures ∙ ap copy_status c.load_status.ensures))
     (copy_fault_answers refused (load_status fault) (fault_answers c.args.asked.options.dialect (g.D.Disk.told c.args.copy) (g.D.Disk.faults c.args.copy) (g.D.Disk.faults c.in-Err.refused.disk) fault refused database c.in-Err.ensures.fault opens))
+
+pub returns-in-Err-clause-tells : goal.returns-in-Err-clause-tells
+returns-in-Err-clause-tells g c = λ database opens. tt
 
 pub returns-in-Err-clause-damaged : goal.returns-in-Err-clause-damaged
 returns-in-Err-clause-damaged g c =

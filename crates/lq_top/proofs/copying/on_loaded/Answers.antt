@@ -1,7 +1,7 @@
 use Rattle.lq_db.specs.Db.{disk_in, engine_in, state}
 use Rattle.lq_top.proofs.Copied.{memory_answers}
 use Rattle.lq_top.proofs.OnFiles.{memory_kind, memory_no_disk, memory_tells}
-use Rattle.lq_top.proofs.OnReady.{answers_so, printing_plain, ready_kind, ready_tells}
+use Rattle.lq_top.proofs.OnReady.{answers_so, printing_plain, ready_kind, ready_tells, tells_so}
 use Rattle.lq_top.proofs.WithClock.{given_dialect, given_is, given_read, given_ready, given_short, given_sql}
 use Rattle.lq_top.proofs.copying.on_loaded.Goals as goal
 use Rattle.lq_top.specs.Bytes.{given_at}
@@ -12,6 +12,9 @@ use Rattle.lq_top.specs.Stamp.{stamp_of}
 pub returns-clause-answers : goal.returns-clause-answers
 returns-clause-answers g c = λ database has.
     memory_answers (job_refusal (job_of c.args.printing) (given_at c.args.asked (stamp_of c.args.who.now (g.C.Clock.last c.stamped.new.clock))) database) c.in-Err.status c.in-Err.ensures.no_memory
+
+pub returns-clause-tells : goal.returns-clause-tells
+returns-clause-tells g c = λ database has. tt
 
 pub returns-clause-whole : goal.returns-clause-whole
 returns-clause-whole g c = λ told. memory_tells c.args.asked.options.dialect told c.in-Err.status c.in-Err.ensures.no_memory
@@ -47,7 +50,17 @@ returns-in-Ok-clause-answers g c = λ database has.
     let stamp = stamp_of c.args.who.now (g.C.Clock.last c.stamped.new.clock) in
     c.in_memory.ensures.refused (job_refusal (job_of c.args.printing) (given_at c.args.asked stamp) database)
     (answers_so (job_of c.args.printing) c.args.asked stamp given (given_is given c.args.asked stamp made.given.0 made.given.1 made.stamp) (state (g.D.Disk.told (disk_in db)) (g.E.Executor.held (engine_in db)) db)
-    c.print_on.result c.print_on.ensures database has)
+    c.print_on.result c.print_on.ensures.answers database has)
+
+pub returns-in-Ok-clause-tells : goal.returns-in-Ok-clause-tells
+returns-in-Ok-clause-tells g c = λ database has.
+    let db = c.args.db in
+    let made = c.in-Ok.ensures in
+    let given = c.in-Ok.given in
+    let stamp = stamp_of c.args.who.now (g.C.Clock.last c.stamped.new.clock) in
+    c.in_memory.ensures.tells (job_of c.args.printing) (given_at c.args.asked stamp) database
+    (tells_so (job_of c.args.printing) c.args.asked stamp given (given_is given c.args.asked stamp made.given.0 made.given.1 made.stamp) (state (g.D.Disk.told (disk_in db)) (g.E.Executor.held (engine_in db)) db)
+    c.print_on.result c.print_on.ensures.tells database has)
 
 pub returns-in-Ok-clause-whole : goal.returns-in-Ok-clause-whole
 returns-in-Ok-clause-whole g c = λ told.
@@ -55,7 +68,7 @@ returns-in-Ok-clause-whole g c = λ told.
     let given = c.in-Ok.given in
     c.in_memory.ensures.whole c.args.asked.options.dialect told
     (ready_tells c.args.asked.options.dialect given.options.dialect (given_dialect given c.args.asked c.in-Ok.ensures.given.0 c.in-Ok.ensures.given.1) (state (g.D.Disk.told (disk_in db)) (g.E.Executor.held (engine_in db)) db) c.requires.ready
-    (job_refusal (job_of c.args.printing) given) (printing_plain c.args.printing given) c.print_on.result c.print_on.ensures told)
+    (job_refusal (job_of c.args.printing) given) (printing_plain c.args.printing given) c.print_on.result c.print_on.ensures.answers told)
 
 pub returns-in-Ok-clause-kind : goal.returns-in-Ok-clause-kind
 returns-in-Ok-clause-kind g c =
@@ -63,4 +76,4 @@ returns-in-Ok-clause-kind g c =
     let given = c.in-Ok.given in
     c.in_memory.ensures.kind
     (ready_kind c.args.asked.options.dialect given.options.dialect (given_dialect given c.args.asked c.in-Ok.ensures.given.0 c.in-Ok.ensures.given.1) (state (g.D.Disk.told (disk_in db)) (g.E.Executor.held (engine_in db)) db) c.requires.ready
-    (job_refusal (job_of c.args.printing) given) (printing_plain c.args.printing given) c.print_on.result c.print_on.ensures)
+    (job_refusal (job_of c.args.printing) given) (printing_plain c.args.printing given) c.print_on.result c.print_on.ensures.answers)

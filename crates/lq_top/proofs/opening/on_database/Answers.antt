@@ -36,7 +36,7 @@ returns-in-Ok-clause-does g c =
     does_job g.P.SqlText.dialect (g.D.Disk.told (disk_in db)) (g.D.Disk.crashes (disk_in db)) (g.E.Executor.held (engine_in db)) db c.requires.valid c.requires.limit
     (g.D.Disk.told c.into_disk.result) (g.D.Disk.told (disk_in ran.new.store)) (ap g.D.Disk.told c.into_disk.ensures) (g.D.Disk.crashes (disk_in ran.new.store)) (g.E.Executor.held (engine_in ran.new.store)) ran.new.store ran.ensures.valid
     c.args.asked stamp c.in-Ok.given (given_is c.in-Ok.given c.args.asked stamp made.given.0 made.given.1 made.stamp)
-    c.args.command.now ran.result ran.ensures.answers (λ database has refused. ap (λ left. g.D.Disk.told (disk_in left)) (ran.ensures.refused database has refused)) ran.ensures.works
+    c.args.command.now ran.result ran.ensures.answers (λ database has refused. ap (λ left. g.D.Disk.told (disk_in left)) (ran.ensures.refused database has refused)) ran.ensures.works ran.ensures.tells
 
 pub returns-in-Ok-clause-whole : goal.returns-in-Ok-clause-whole
 returns-in-Ok-clause-whole g c = λ told.

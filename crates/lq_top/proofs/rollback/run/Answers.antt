@@ -1,8 +1,8 @@
 use Rattle.std.specs.Prelude.{reverse}
+use Rattle.lq_seen.specs.Printing.{of_turns}
 use Rattle.lq_seen.specs.View.{any_meaning}
 use Rattle.lq_turns.specs.Contents.{contents_of}
 use Rattle.lq_turns.specs.Rest.{OfRows}
-use Rattle.lq_turns.specs.Rollback.{all_rolled}
 use Rattle.lq_top.proofs.Endings.{kept_lock}
 use Rattle.lq_top.proofs.RolledBack.{back_may, back_works, rows_told}
 use Rattle.lq_top.proofs.Stopped.{rows_stopped}
@@ -17,7 +17,7 @@ run_turns-source-requires-clause-reads g c = c.requires.back
 pub run_turns-source-requires-clause-may_run : goal.run_turns-source-requires-clause-may_run
 run_turns-source-requires-clause-may_run g c = λ database has.
     let d = c.args.given.options.dialect in
-    (all_rolled d (reverse c.args.source.turns) (contents_of database), back_may d c.args.given.stamp c.args.source c.requires.some c.requires.moment c.requires.back c.requires.knows database)
+    (of_turns c.args.prints d (reverse c.args.source.turns) (contents_of database), back_may d c.args.given.stamp c.args.source c.requires.some c.args.prints c.requires.moment c.requires.back c.requires.knows database)
 
 pub ended-requires-clause-lock : goal.ended-requires-clause-lock
 ended-requires-clause-lock g c =
@@ -33,8 +33,8 @@ ended-requires-clause-stopped g c =
     let stamp = c.args.given.stamp in
     let on = c.requires.ready in
     let ran = c.run_turns-source in
-    let told = all_rolled d (reverse c.args.source.turns) (contents_of on.database) in
-    let may = back_may d stamp c.args.source c.requires.some c.requires.moment c.requires.back c.requires.knows on.database in
+    let told = of_turns c.args.prints d (reverse c.args.source.turns) (contents_of on.database) in
+    let may = back_may d stamp c.args.source c.requires.some c.args.prints c.requires.moment c.requires.back c.requires.knows on.database in
     rows_stopped ran.result.source.outcome d stamp told ran.result.end (rows_told ran.result.source d stamp told ran.result.end (ran.ensures.tells on.database on.has told may)) (ran.ensures.stops on.database on.has told may)
 
 pub returns-clause-tells : goal.returns-clause-tells
@@ -43,10 +43,10 @@ returns-clause-tells g c =
     let stamp = c.args.given.stamp in
     let turns = reverse c.args.source.turns in
     let ran = c.run_turns-source in
-    ok_on_its d (g.S.Store.state c.args.store.now) c.ended.result (λ done database. IfFinished done (TellsRollback c.args.prints (all_rolled d turns (contents_of database)) done))
-    (λ database has. c.ended.ensures.tells (all_rolled d turns (contents_of database))
-    (rows_told ran.result.source d stamp (all_rolled d turns (contents_of database)) ran.result.end
-    (ran.ensures.tells database has (all_rolled d turns (contents_of database)) (back_may d stamp c.args.source c.requires.some c.requires.moment c.requires.back c.requires.knows database))))
+    ok_on_its d (g.S.Store.state c.args.store.now) c.ended.result (λ done database. IfFinished done (TellsRollback c.args.prints (of_turns c.args.prints d turns (contents_of database)) done))
+    (λ database has. c.ended.ensures.tells (of_turns c.args.prints d turns (contents_of database))
+    (rows_told ran.result.source d stamp (of_turns c.args.prints d turns (contents_of database)) ran.result.end
+    (ran.ensures.tells database has (of_turns c.args.prints d turns (contents_of database)) (back_may d stamp c.args.source c.requires.some c.args.prints c.requires.moment c.requires.back c.requires.knows database))))
 
 pub returns-clause-answers : goal.returns-clause-answers
 returns-clause-answers g c = answers_end c.ended.result c.ended.ensures.fault c.ended.ensures.ends

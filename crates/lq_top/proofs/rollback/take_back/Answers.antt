@@ -1,7 +1,6 @@
 use Rattle.std.proofs.Common.{inr, refl, rules}
 use Rattle.std.specs.Prelude.{Err, None, reverse, ◌≡◌}
 use Rattle.lq_tell.specs.declared.status.Status.TheVariants as status
-use Rattle.lq_turns.specs.Contents.{contents_of}
 use Rattle.lq_top.proofs.RolledBack.{err_answers, err_works, has_turns, idle_tells, idle_works, memory_no_disk, no_rows, still_some, taken_tells_ok, taken_works}
 use Rattle.lq_top.proofs.Updated.{answers_done, no_disk, ok_on_its}
 use Rattle.lq_top.specs.Scripts.{rolled_back, taking_back}
@@ -14,8 +13,8 @@ pub returns-then-is_empty-clause-tells : goal.returns-then-is_empty-clause-tells
 returns-then-is_empty-clause-tells g c =
     let given = c.args.given in
     let none = no_rows c.args.undone.now c.is_empty.result c.is_empty.ensures c.if-is_empty.true in
-    ok_on_its given.options.dialect (g.S.Store.state c.args.store.now) c.no_turns.result (λ done database. IfFinished done (TellsRollback c.args.prints (rolled_back given (reverse c.args.undone.now) database) done))
-    (λ database has. idle_tells given database c.args.prints c.no_turns.result c.args.undone.now none (c.no_turns.ensures.tells (contents_of database)))
+    ok_on_its given.options.dialect (g.S.Store.state c.args.store.now) c.no_turns.result (λ done database. IfFinished done (TellsRollback c.args.prints (rolled_back c.args.prints given (reverse c.args.undone.now) database) done))
+    (λ database has. idle_tells given database c.args.prints c.no_turns.result c.args.undone.now none c.no_turns.ensures.done c.no_turns.ensures.out)
 
 pub returns-then-is_empty-clause-answers : goal.returns-then-is_empty-clause-answers
 returns-then-is_empty-clause-answers g c = answers_done c.no_turns.result c.no_turns.ensures.fault c.no_turns.ensures.done

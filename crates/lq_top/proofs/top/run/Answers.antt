@@ -3,6 +3,7 @@ use Rattle.std.specs.Option.{option_copied}
 use Rattle.std.specs.Prelude.{map, string_bytes}
 use Rattle.lq_cli.specs.Line.{line_of}
 use Rattle.lq_tell.specs.declared.status.Status.TheVariants as status
+use Rattle.lq_top.proofs.Said.{has_said, succeeds}
 use Rattle.lq_top.proofs.Written.{IsWritten, cause, ends_unread, gone_back, has_run, has_synced, has_updated, is_logged, no_files_left, no_words, tag_so, tells_damage, written_fault}
 use Rattle.lq_top.proofs.top.run.Goals as goal
 use Rattle.lq_top.specs.Asks.{asked_tag}
@@ -77,3 +78,19 @@ returns-clause-logged g c =
     let by : IsWritten c.work-disk.result.done c.tell-status.result = record { kind = c.work-disk.ensures.kind; ended = c.tell-status.ensures.status; cut = c.tell-status.ensures.cut; had = c.tell-status.ensures.had } in
     λ sound. is_logged (option_copied c.text_of.result) (asked_tag (line_of (map (λ word. string_bytes word) c.args.words.now))) c.work-disk.result.done c.tell-status.result (g.L.Sink.told c.args.log.now) (g.L.Sink.told c.tell-status.new.log) by
     (tag_so (option_copied c.text_of.result) c.work-disk.result.tag _ c.text_of.ensures c.work-disk.ensures.tag) (c.tell-status.ensures.logged sound)
+
+pub returns-clause-says : goal.returns-clause-says
+returns-clause-says g c =
+    let by : IsWritten c.work-disk.result.done c.tell-status.result = record { kind = c.work-disk.ensures.kind; ended = c.tell-status.ensures.status; cut = c.tell-status.ensures.cut; had = c.tell-status.ensures.had } in
+    λ asks. has_said asks (stamp_of c.args.who.now (g.C.Clock.last c.work-disk.new.clock)) (g.D.Disk.told c.args.disk) (g.D.Disk.told c.work-disk.result.disk) c.work-disk.result.done c.tell-status.result
+    (g.O.Sink.told c.args.out.now) (g.O.Sink.told c.tell-status.new.out) by (c.work-disk.ensures.does asks) c.tell-status.ensures.whole
+
+pub returns-clause-success : goal.returns-clause-success
+returns-clause-success g c =
+    let by : IsWritten c.work-disk.result.done c.tell-status.result = record { kind = c.work-disk.ensures.kind; ended = c.tell-status.ensures.status; cut = c.tell-status.ensures.cut; had = c.tell-status.ensures.had } in
+    let stamp = stamp_of c.args.who.now (g.C.Clock.last c.work-disk.new.clock) in
+    let file = g.D.Disk.told c.args.disk in
+    let left = g.D.Disk.told c.work-disk.result.disk in
+    λ back. succeeds back stamp c.tell-status.result left (g.O.Sink.told c.args.out.now) (g.O.Sink.told c.tell-status.new.out)
+    (has_run stamp file c.work-disk.result.done left c.tell-status.result by back.asks (c.work-disk.ensures.does back.asks))
+    (has_said back.asks stamp file left c.work-disk.result.done c.tell-status.result (g.O.Sink.told c.args.out.now) (g.O.Sink.told c.tell-status.new.out) by (c.work-disk.ensures.does back.asks) c.tell-status.ensures.whole)

@@ -7,7 +7,7 @@ use Rattle.lq_top.proofs.update.run.Goals as goal
 pub run_turns-source-requires-clause-may_run : goal.run_turns-source-requires-clause-may_run
 run_turns-source-requires-clause-may_run g c = λ database has.
     let made = c.in_ok-source.ensures in
-    (settled_in c.args.given database, turns_may c.args.given (g.S.Store.state c.args.store.now) c.args.rows.now c.in_ok-source.source made.left c.requires.ready c.requires.rows c.requires.moment c.requires.read c.requires.short c.requires.work c.requires.goes made.knows database has)
+    (settled_in c.args.prints c.args.given database, turns_may c.args.given (g.S.Store.state c.args.store.now) c.args.rows.now c.in_ok-source.source made.left c.args.prints c.requires.ready c.requires.rows c.requires.moment c.requires.read c.requires.short c.requires.work c.requires.goes made.knows database has)
 
 pub ended-requires-clause-stopped : goal.ended-requires-clause-stopped
 ended-requires-clause-stopped g c =
@@ -15,8 +15,8 @@ ended-requires-clause-stopped g c =
     let at = c.requires.ready in
     let made = c.in_ok-source.ensures in
     let ran = c.run_turns-source in
-    let told = settled_in given at.database in
-    let may = turns_may given (g.S.Store.state c.args.store.now) c.args.rows.now c.in_ok-source.source made.left c.requires.ready c.requires.rows c.requires.moment c.requires.read c.requires.short c.requires.work c.requires.goes made.knows at.database at.has in
+    let told = settled_in c.args.prints given at.database in
+    let may = turns_may given (g.S.Store.state c.args.store.now) c.args.rows.now c.in_ok-source.source made.left c.args.prints c.requires.ready c.requires.rows c.requires.moment c.requires.read c.requires.short c.requires.work c.requires.goes made.knows at.database at.has in
     sets_stopped ran.result.source.outcome given.options.dialect given.stamp told ran.result.end
     (sets_told ran.result.source given.options.dialect given.stamp told ran.result.end (ran.ensures.tells at.database at.has told may)) (ran.ensures.stops at.database at.has told may)
 
@@ -26,11 +26,11 @@ returns-clause-tells g c =
     let x = g.S.Store.state c.args.store.now in
     let made = c.in_ok-source.ensures in
     let ran = c.run_turns-source in
-    ok_on_its given.options.dialect x c.ended.result (λ done database. IfFinished done (TellsUpdate c.args.prints (settled_in given database) done))
-    (λ database has. c.ended.ensures.tells (settled_in given database)
-    (sets_told ran.result.source given.options.dialect given.stamp (settled_in given database) ran.result.end
-    (ran.ensures.tells database has (settled_in given database)
-    (turns_may given x c.args.rows.now c.in_ok-source.source made.left c.requires.ready c.requires.rows c.requires.moment c.requires.read c.requires.short c.requires.work c.requires.goes made.knows database has))))
+    ok_on_its given.options.dialect x c.ended.result (λ done database. IfFinished done (TellsUpdate c.args.prints (settled_in c.args.prints given database) done))
+    (λ database has. c.ended.ensures.tells (settled_in c.args.prints given database)
+    (sets_told ran.result.source given.options.dialect given.stamp (settled_in c.args.prints given database) ran.result.end
+    (ran.ensures.tells database has (settled_in c.args.prints given database)
+    (turns_may given x c.args.rows.now c.in_ok-source.source made.left c.args.prints c.requires.ready c.requires.rows c.requires.moment c.requires.read c.requires.short c.requires.work c.requires.goes made.knows database has))))
 
 pub returns-clause-works : goal.returns-clause-works
 returns-clause-works g c = λ database has.

@@ -23,5 +23,5 @@ update_on-requires-clause-goes g c = λ database has. not_halt (own_choice (log_
 pub returns-clause-tells : goal.returns-clause-tells
 returns-clause-tells g c = λ database has.
     let by = own_choice (log_in c.args.given) (contents_of database) in
-    updated_tells c.args.prints (contents_of database) (settled_in c.args.given database) c.in_ok-done.done c.with_own.result c.with_own.ensures.status c.with_own.ensures.out by
+    updated_tells c.args.prints (contents_of database) (settled_in c.args.prints c.args.given database) c.in_ok-done.done c.with_own.result c.with_own.ensures.status c.with_own.ensures.out by
     (not_halt by c.in_ok-own.own (c.in_ok-own.ensures database has)) (c.in_ok-done.ensures.tells database has)

@@ -3,15 +3,14 @@ use Rattle.lq_top.proofs.Planned.{some_work}
 use Rattle.lq_top.proofs.Updated.{idle_tells, idle_works, not_both, ok_on_its}
 use Rattle.lq_top.specs.Scripts.{sets_in, settled_in}
 use Rattle.lq_top.specs.Tells.{IfFinished, TellsUpdate}
-use Rattle.lq_turns.specs.Contents.{contents_of}
 use Rattle.lq_top.proofs.update.update_on.Goals as goal
 
 pub returns-then-is_empty-clause-tells : goal.returns-then-is_empty-clause-tells
 returns-then-is_empty-clause-tells g c =
     let given = c.args.given in
-    ok_on_its given.options.dialect (g.S.Store.state c.args.store.now) c.no_turns.result (λ done database. IfFinished done (TellsUpdate c.args.prints (settled_in given database) done))
+    ok_on_its given.options.dialect (g.S.Store.state c.args.store.now) c.no_turns.result (λ done database. IfFinished done (TellsUpdate c.args.prints (settled_in c.args.prints given database) done))
     (λ database has. idle_tells given c.args.rows.now database (c.requires.rows database has) c.in_ok-work.work c.in_ok-work.ensures (c.is_empty.ensures.0 c.if-is_empty.true)
-    c.args.prints c.no_turns.result (c.no_turns.ensures.tells (contents_of database)))
+    c.args.prints c.no_turns.result c.no_turns.ensures.done c.no_turns.ensures.out)
 
 pub returns-then-is_empty-clause-works : goal.returns-then-is_empty-clause-works
 returns-then-is_empty-clause-works g c = λ database has.

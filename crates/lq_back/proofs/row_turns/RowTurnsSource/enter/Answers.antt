@@ -1,8 +1,11 @@
-use Rattle.std.proofs.Common.{refl, rules, subst, sym, true, ◌≡◌, []}
+use Rattle.std.proofs.Common.{ap, if◌then◌else◌, refl, rules, subst, sym, true, ◌∙◌, ◌≡◌, ◌++◌, ◌∷◌, []}
 use Rattle.std.specs.List.{list_all}
+use Rattle.lq_base.specs.declared.dialect.Dialect.{Dialect}
 use Rattle.lq_model.specs.Statement.{is_statement}
+use Rattle.lq_seen.proofs.Leading.{not_grown}
 use Rattle.lq_back.proofs.RowEntered.{none_left, row_entered, row_written, statements_read, turn_read}
 use Rattle.lq_back.proofs.row_turns.RowTurnsSource.enter.Goals as goal
+use Rattle.lq_back.specs.RowTurns.{printed}
 
 pub tell-requires : goal.tell-requires
 tell-requires g c = record {
@@ -18,10 +21,16 @@ of_turn-requires-clause-row g c = row_written c.args.dialect c.in-Some.turn (tur
 
 pub returns-in-Ok-of_turn-clause-enters : goal.returns-in-Ok-of_turn-clause-enters
 returns-in-Ok-of_turn-clause-enters g c =
-    row_entered c.args.dialect c.args.stamp.now (g.K.Look.catalogue c.args._look.now) c.args.self.now.turns c.pop.new.self c.in-Some.turn c.in-Some.ensures
+    let source = c.args.self.now in
+    let kept : c.tell.new.outcome.printed ≡ source.outcome.printed ++ (if source.prints then printed g.P.SqlText.dialect c.in-Some.turn ∷ [] else []) = search rules in
+    let keeps : c.tell.new.outcome.printed ≡ source.outcome.printed ++ (if source.prints then printed c.args.dialect c.in-Some.turn ∷ [] else [])
+    = kept ∙ ap (λ (d : Dialect). source.outcome.printed ++ (if source.prints then printed d c.in-Some.turn ∷ [] else [])) c.requires.sql in
+    let same : c.tell.new.outcome.not_fresh ≡ source.outcome.not_fresh = search rules in
+    row_entered c.args.dialect c.args.stamp.now (g.K.Look.catalogue c.args._look.now) source.turns c.pop.new.self c.in-Some.turn c.in-Some.ensures
     c.in-Ok-of_turn.hand c.in-Ok-of_turn.ensures.turn c.in-Ok-of_turn.ensures.calls c.in-Ok-of_turn.ensures.goes_on
-    c.args.self.now (record (c.args.self.now) { turns = c.pop.new.self; outcome = c.tell.new.outcome }) refl refl
-    (record { happened = (search rules); warned = (search rules); halted = (search rules); stopped_at = (search rules) }) c.in-Ok-of_turn.ensures.refused
+    source refl c.tell.new.outcome
+    (record { happened = (search rules); warned = (search rules); not_fresh = not_grown source.outcome.not_fresh c.tell.new.outcome.not_fresh same; halted = (search rules); stopped_at = (search rules) })
+    keeps c.in-Ok-of_turn.ensures.refused
 
 pub returns-in_default-clause-enters : goal.returns-in_default-clause-enters
 returns-in_default-clause-enters g c =

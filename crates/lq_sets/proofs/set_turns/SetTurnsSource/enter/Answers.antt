@@ -1,4 +1,4 @@
-use Rattle.std.proofs.Common.{ap, length, nat_lt, refl, rules, ◌≡◌, ◌++◌, ◌∷◌, []}
+use Rattle.std.proofs.Common.{ap, length, nat_lt, rules, ◌≡◌, ◌++◌, ◌∷◌, []}
 use Rattle.std.specs.List.{list_all}
 use Rattle.lq_plan.specs.declared.turns.Item.{Item}
 use Rattle.lq_sets.proofs.Reached.{begins, ends, enters_one, goes_on, halts, popped_place, reads_rest}

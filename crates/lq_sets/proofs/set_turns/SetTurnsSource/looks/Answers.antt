@@ -1,13 +1,12 @@
-use Rattle.std.proofs.Common.{ap, rules, Some, ◌≡◌, ◌∙◌}
-use Rattle.std.specs.List.{list_all, slice_get}
-use Rattle.lq_kinds.specs.AnyChange.{is_for}
-use Rattle.lq_kinds.specs.Dialects.{is_block_for, is_read_for}
-use Rattle.lq_model.proofs.Lists.{and_left}
-use Rattle.lq_seen.proofs.Read.{all_at}
+use Rattle.lq_sets.proofs.Turned.{looks_on, looks_past}
 use Rattle.lq_sets.proofs.set_turns.SetTurnsSource.looks.Goals as goal
 
-pub looks-requires : goal.looks-requires
-looks-requires g c =
-    let at : slice_get c.args.self.now.changelog.sets c.in-Some.place ≡ Some c.in-Some-get.set.now = search rules in
-    let read = and_left _ (is_block_for c.args.dialect c.in-Some-get.set.now.rollback) (all_at (is_read_for c.args.dialect) c.args.self.now.changelog.sets c.in-Some.place c.in-Some-get.set.now c.requires.reads.read at) in
-    record { read = ap (list_all (is_for c.args.dialect)) c.as_slice.ensures ∙ read }
+pub look_at-requires : goal.look_at-requires
+look_at-requires g c = record { read = c.requires.reads.read }
+
+pub returns-in-Some-clause-looks : goal.returns-in-Some-clause-looks
+returns-in-Some-clause-looks g c = λ stamp told.
+    looks_on c.args.self.now c.args.dialect stamp told (g.K.Look.catalogue c.args.look.now) c.in-Some.turn c.look_at.new.turn c.in-Some.is c.look_at.ensures.same c.look_at.ensures.looked
+
+pub returns-in-None-clause-looks : goal.returns-in-None-clause-looks
+returns-in-None-clause-looks g c = λ stamp told. looks_past c.args.self.now c.args.dialect stamp told (g.K.Look.catalogue c.args.look.now) c.in-None.is

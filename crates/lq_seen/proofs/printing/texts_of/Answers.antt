@@ -3,8 +3,8 @@ use Rattle.std.specs.List.{list_all}
 use Rattle.lq_model.proofs.Lists.{and_left, and_right}
 use Rattle.lq_model.specs.Statement.{is_statement}
 use Rattle.lq_model.specs.StatementText.{text_of}
-use Rattle.lq_back.proofs.Mapped.{all_mapped, more_mapped}
-use Rattle.lq_back.proofs.row_turns.texts_of.Goals as goal
+use Rattle.lq_seen.proofs.Mapped.{all_mapped, more_mapped}
+use Rattle.lq_seen.proofs.printing.texts_of.Goals as goal
 
 pub print-requires : goal.print-requires
 print-requires g c =

@@ -1,0 +1,305 @@
+-- What a run says of its turns and rows, and that what can be taken back is.
+use Rattle.std.proofs.Common.{ap, inl, inr, refl, subst, sym, ◌∙◌}
+use Rattle.std.proofs.Math.Seq.{drop-append_seam}
+use Rattle.std.specs.List.{find}
+use Rattle.std.specs.Option.{option_map, option_or}
+use Rattle.std.specs.Prelude.{Bool, Err, List, None, Ok, Option, Result, Some, [], cond, drop, false, if◌then◌else◌, is_none, length, option_and_then, reverse, true, ℕ, ◌++◌, ◌∷◌, ◌≡◌}
+use Rattle.lq_base.specs.declared.command.Command.TheVariants as command
+use Rattle.lq_base.specs.declared.command.Target.{Target}
+use Rattle.lq_base.specs.declared.dialect.Dialect.{Dialect}
+use Rattle.lq_base.specs.declared.tracking.Lock.{Lock}
+use Rattle.lq_base.specs.declared.tracking.Tracked.{Tracked}
+use Rattle.lq_cli.specs.declared.line.Job.{Job}
+use Rattle.lq_cli.specs.declared.line.Job.TheVariants.{Drill, RollbackSql, Run, Soak, UpdateSql}
+use Rattle.lq_kinds.specs.declared.any_change.AnyChange.{AnyChange}
+use Rattle.lq_report.specs.Output.{sync_text}
+use Rattle.lq_seen.specs.Printing.{Account, of_turns}
+use Rattle.lq_seen.specs.View.{any_meaning}
+use Rattle.lq_tell.specs.Texts.{EndsAs, has_output, out_text, status_done, text_or_none}
+use Rattle.lq_tell.specs.declared.done.Done.{Done}
+use Rattle.lq_tell.specs.declared.status.Status.{Status}
+use Rattle.lq_tell.specs.declared.status.Status.TheVariants as status
+use Rattle.lq_track.specs.Database.{Database, has_twin_rows}
+use Rattle.lq_track.specs.Lock.{free}
+use Rattle.lq_track.specs.Log.{identity_of}
+use Rattle.lq_turns.proofs.Made.{with_users}
+use Rattle.lq_turns.proofs.Undone.{Undone, all_back}
+use Rattle.lq_turns.specs.Contents.{Contents, contents_of}
+use Rattle.lq_turns.specs.Faults.{faults}
+use Rattle.lq_turns.specs.Laws.{AreKnown}
+use Rattle.lq_turns.specs.Ran.{RanSince, Run as RunOf, are_reversible}
+use Rattle.lq_turns.specs.Rollback.{all_rolled, not_reversible, rolled_as, rows_kept, rows_undone, undo_turn, undo_turns}
+use Rattle.lq_turns.specs.Set.{Set}
+use Rattle.lq_turns.specs.Settle.{Settled, all_settled, by_own, own_choice, unless_stopped}
+use Rattle.lq_turns.specs.Turn.{Ending}
+use Rattle.lq_turns.specs.declared.choice.Choice.{Choice}
+use Rattle.lq_turns.specs.declared.choice.Choice.TheVariants as choice
+use Rattle.lq_turns.specs.declared.stamp.Stamp.{Stamp}
+use Rattle.lq_turns.specs.declared.turn.Turn.{Turn}
+use Rattle.lq_top.proofs.Planned.{kept}
+use Rattle.lq_top.proofs.Written.{Does, IsWritten, Quiet, failed_unfinished, false_true, none_some, quiet_invalid, quiet_not, quiet_or, quiet_unready, quiet_way, refused_for, some_same}
+use Rattle.lq_top.specs.Asks.{Asks, Files}
+use Rattle.lq_top.specs.Bytes.{OnFile}
+use Rattle.lq_top.specs.Headline.{GoesBack, IsTaken, is_taken}
+use Rattle.lq_top.specs.Inserts.{TellsSync, synced_in}
+use Rattle.lq_top.specs.Jobs.{DoesJob, DoesLine, TellsJob, back_in, is_on_file, job_refusal}
+use Rattle.lq_top.specs.Refusals.{Answers, if_halts, if_not, if_some, invalid, no_way_back, own_halt, refusal, unreachable_by, unready}
+use Rattle.lq_top.specs.Run.{EndsBy, Runs, given_by, is_end}
+use Rattle.lq_top.specs.Says.{Said, Says, SaysJob, SaysRollback, SaysUpdate, unless_refused}
+use Rattle.lq_top.specs.Scripts.{log_in, nothing_told, rolled_to, sets_in, updated_in}
+use Rattle.lq_top.specs.Tells.{TellsRollback, TellsUpdate, status_by, update_told}
+use Rattle.lq_top.specs.Works.{is_finished}
+use Rattle.lq_top.specs.declared.given.Given.{Given}
+
+some_none : {s : Status} → (let o : Option Status = Some s in o) ≡ None → ⊥
+some_none h = Prim.cc
+
+-- statuses
+
+finished_output : (s : Status) → is_finished s ≡ true → has_output s ≡ true
+finished_output status.Done is = is
+finished_output status.Usage is = is
+finished_output status.ReadFault is = is
+finished_output (status.Changelog fault) is = is
+finished_output (status.Invalid faults) is = is
+finished_output (status.Locked lock) is = is
+finished_output (status.Halted place why) is = is
+finished_output (status.Refused identity statement kept reason) is = is
+finished_output status.NoTarget is = is
+finished_output (status.NotReversible identity) is = is
+finished_output status.DiskFault is = is
+finished_output (status.Damaged at) is = is
+finished_output (status.Full used next) is = is
+finished_output status.WriteFault is = is
+finished_output status.OutOfMemory is = is
+finished_output (status.Busy session) is = is
+
+-- where it came to its end and its text was written it ended so
+ended_so : (x s : Status) → EndsAs x s → is_finished s ≡ true → s ≡ x
+ended_so x s (inl is) finished = is
+ended_so x s (inr (inl is)) finished = absurd (false_true (sym (ap is_finished is) ∙ finished))
+ended_so x s (inr (inr is)) finished = absurd (false_true (sym (ap is_finished is) ∙ finished))
+
+ok_refusal : (o : Option Status) (done : Done) → Answers o (Ok done) → o ≡ None
+ok_refusal None done answers = refl
+ok_refusal (Some refused) done answers = absurd answers
+
+or_none : (a b : Option Status) → option_or a b ≡ None → b ≡ None
+or_none None b is = is
+or_none (Some x) b is = absurd (some_none is)
+
+-- what is refused in such a way is refused by the changelog's own precondition
+
+halted_is : (o h : Option Status) (x : Status) → Quiet o → option_or o h ≡ Some x → is_finished x ≡ true → h ≡ Some x
+halted_is None h x quiet is finished = is
+halted_is (Some refused) h x quiet is finished = absurd (quiet_not x (Some refused) quiet is finished)
+
+halted_status : (by : Choice) (x : Status) → if_halts by ≡ Some x → (c : Contents) (t : Settled) → x ≡ status_by (by_own by c t).stop
+halted_status (choice.Halts why) x is c t = sym (some_same is)
+halted_status choice.Passes x is c t = absurd (none_some is)
+halted_status choice.Fills x is c t = absurd (none_some is)
+halted_status choice.Skips x is c t = absurd (none_some is)
+halted_status (choice.Marks what) x is c t = absurd (none_some is)
+halted_status (choice.Runs what why) x is c t = absurd (none_some is)
+
+own_status : (prints : Bool) (given : Given) (database : Database) (x : Status) → own_halt given database ≡ Some x → x ≡ status_by (updated_in prints given database).settled.stop
+own_status prints given database x is =
+    let c = contents_of database in
+    halted_status (own_choice (log_in given) c) x is c (all_settled given.options.dialect any_meaning given.stamp.reading (sets_in given) c)
+
+-- an update, a rollback and a changelog-sync
+
+module _ (given : Given) (database : Database) (s : Status) (before after : Option (List ℕ)) where
+  -- what is written of one that did its work
+  abbrev Wrote : Done → Type 0
+  Wrote done = after ≡ option_map (λ (out : List ℕ). out ++ text_or_none done.out) before
+
+  abbrev behind : List ℕ → Option (List ℕ)
+  behind text = option_map (λ (out : List ℕ). out ++ text) before
+
+  update_said : (prints : Bool) (done : Done) → own_halt given database ≡ None → s ≡ done.status → TellsUpdate prints (updated_in prints given database) done → Wrote done → SaysUpdate prints given database s before after
+  update_said prints done goes is tells whole = record {
+    status = is ∙ tells.status;
+    output = whole ∙ ap behind (ap text_or_none tells.out ∙ sym (ap (λ (o : Option Status). unless_refused o (update_told prints (updated_in prints given database))) goes));
+  }
+
+  update_halted : (prints : Bool) (x : Status) → own_halt given database ≡ Some x → s ≡ x → after ≡ option_map (λ (out : List ℕ). out ++ []) before → SaysUpdate prints given database s before after
+  update_halted prints x halts is whole = record {
+    status = is ∙ own_status prints given database x halts;
+    output = whole ∙ sym (ap (λ (o : Option Status). behind (unless_refused o (update_told prints (updated_in prints given database)))) halts);
+  }
+
+  rollback_said : (prints : Bool) (target : Target) (done : Done) → s ≡ done.status → TellsRollback prints (back_in prints given target database) done → Wrote done → SaysRollback prints given target database s before after
+  rollback_said prints target done is tells whole = record { status = is ∙ tells.status; output = whole ∙ ap behind (ap text_or_none tells.out) }
+
+  sync_said : (done : Done) → s ≡ done.status → TellsSync (synced_in given database) done → Wrote done → Says (synced_in given database).stop (sync_text (synced_in given database).happened) s before after
+  sync_said done is tells whole = record { status = is ∙ tells.status; output = whole ∙ ap behind (ap text_or_none tells.out) }
+
+-- each job
+
+says_ok : (job : Job) (given : Given) (database : Database) (s : Status) (before after : Option (List ℕ)) (done : Done) → job_refusal job given database ≡ None → TellsJob job given database (Ok done) → s ≡ done.status
+    → is_finished done.status ≡ true → after ≡ option_map (λ (out : List ℕ). out ++ text_or_none done.out) before → SaysJob job given database s before after
+says_ok (Run command.Validate) given database s before after done none tells is finished whole = tt
+says_ok (Run command.Status) given database s before after done none tells is finished whole = tt
+says_ok (Run command.Update) given database s before after done none tells is finished whole =
+    update_said given database s before after false done (or_none (unready given database) (own_halt given database) none) is (tells finished) whole
+says_ok (Run (command.Tag name)) given database s before after done none tells is finished whole = tt
+says_ok (Run (command.Rollback target)) given database s before after done none tells is finished whole = rollback_said given database s before after false target done is (tells finished) whole
+says_ok (Run command.Sync) given database s before after done none tells is finished whole = sync_said given database s before after done is (tells finished) whole
+says_ok (Run command.Release) given database s before after done none tells is finished whole = tt
+says_ok UpdateSql given database s before after done none tells is finished whole =
+    update_said given database s before after true done (or_none (invalid given database.rows) (own_halt given database) none) is (tells finished) whole
+says_ok (RollbackSql target) given database s before after done none tells is finished whole = rollback_said given database s before after true target done is (tells finished) whole
+says_ok (Drill path) given database s before after done none tells is finished whole = tt
+says_ok (Soak number sets) given database s before after done none tells is finished whole = tt
+
+says_err : (job : Job) (given : Given) (database : Database) (s : Status) (before after : Option (List ℕ)) (x : Status) → job_refusal job given database ≡ Some x → is_finished x ≡ true → s ≡ x
+    → after ≡ option_map (λ (out : List ℕ). out ++ []) before → SaysJob job given database s before after
+says_err (Run command.Validate) given database s before after x refused finished is whole = tt
+says_err (Run command.Status) given database s before after x refused finished is whole = tt
+says_err (Run command.Update) given database s before after x refused finished is whole =
+    update_halted given database s before after false x (halted_is (unready given database) (own_halt given database) x (quiet_unready given database) refused finished) is whole
+says_err (Run (command.Tag name)) given database s before after x refused finished is whole = tt
+says_err (Run (command.Rollback target)) given database s before after x refused finished is whole =
+    absurd (quiet_not x _ (quiet_or (unready given database) (unreachable_by given (rows_kept target database.rows) database.rows) (quiet_unready given database) (quiet_way given (rows_kept target database.rows) database.rows)) refused finished)
+says_err (Run command.Sync) given database s before after x refused finished is whole = absurd (quiet_not x _ (quiet_unready given database) refused finished)
+says_err (Run command.Release) given database s before after x refused finished is whole = tt
+says_err UpdateSql given database s before after x refused finished is whole =
+    update_halted given database s before after true x (halted_is (invalid given database.rows) (own_halt given database) x (quiet_invalid given database.rows) refused finished) is whole
+says_err (RollbackSql target) given database s before after x refused finished is whole =
+    absurd (quiet_not x _ (quiet_or (invalid given database.rows) (unreachable_by given (rows_kept target database.rows) database.rows) (quiet_invalid given database.rows) (quiet_way given (rows_kept target database.rows) database.rows)) refused finished)
+says_err (Drill path) given database s before after x refused finished is whole = tt
+says_err (Soak number sets) given database s before after x refused finished is whole = tt
+
+says_by : (job : Job) (given : Given) (database : Database) (file left : Option (List ℕ)) (done : Result Done Status) (s : Status) (before after : Option (List ℕ)) → EndsAs (status_done done) s → DoesJob job given database file done left
+    → is_finished s ≡ true → after ≡ option_map (λ (out : List ℕ). out ++ out_text done) before → SaysJob job given database s before after
+says_by job given database file left (Ok done) s before after ended does finished whole =
+    let is = ended_so done.status s ended finished in
+    says_ok job given database s before after done (ok_refusal (job_refusal job given database) done does.answers) does.tells is (sym (ap is_finished is) ∙ finished) whole
+says_by job given database file left (Err x) s before after ended does finished whole =
+    let is = ended_so x s ended finished in
+    let over = sym (ap is_finished is) ∙ finished in
+    says_err job given database s before after x (refused_for (job_refusal job given database) x does.answers over) over is whole
+
+says_does : (job : Job) (given : Given) (database : Database) (file left : Option (List ℕ)) (done : Result Done Status) (s : Status) (before after : Option (List ℕ)) → EndsAs (status_done done) s → Does job given database file done left
+    → is_finished s ≡ true → after ≡ option_map (λ (out : List ℕ). out ++ out_text done) before → SaysJob job given database s before after
+says_does job given database file left done s before after ended (inl (failed, same)) finished whole = absurd (failed_unfinished done failed (sym (ap is_finished (ended_so (status_done done) s ended finished)) ∙ finished))
+says_does job given database file left done s before after ended (inr (read, does)) finished whole = says_by job given database file left done s before after ended does finished whole
+
+says_line : (job : Job) (given : Given) (file left : Option (List ℕ)) (done : Result Done Status) (s : Status) (before after : Option (List ℕ)) → EndsAs (status_done done) s → DoesLine job given file done left
+    → (has_output s ≡ true → after ≡ option_map (λ (out : List ℕ). out ++ out_text done) before) → OnFile given.options.dialect file (λ database. is_finished s ≡ true → SaysJob job given database s before after)
+says_line (Run c) given file left done s before after ended does whole = λ database opens finished.
+    says_does (Run c) given database file left done s before after ended (does refl database opens) finished (whole (finished_output s finished))
+says_line UpdateSql given file left done s before after ended does whole = λ database opens finished.
+    says_does UpdateSql given database file left done s before after ended (does refl database opens) finished (whole (finished_output s finished))
+says_line (RollbackSql target) given file left done s before after ended does whole = λ database opens finished.
+    says_does (RollbackSql target) given database file left done s before after ended (does refl database opens) finished (whole (finished_output s finished))
+says_line (Drill path) given file left done s before after ended does whole = λ database opens finished. tt
+says_line (Soak number sets) given file left done s before after ended does whole = λ database opens finished. tt
+
+pub has_said : {words : List (List ℕ)} {files : Files} (asks : Asks words files) (stamp : Stamp) (file left : Option (List ℕ)) (done : Result Done Status) (s : Status) (before after : Option (List ℕ)) → IsWritten done s
+    → DoesLine asks.line.job (given_by asks stamp) file done left → (has_output s ≡ true → after ≡ option_map (λ (out : List ℕ). out ++ out_text done) before) → Said asks stamp file s before after
+has_said asks stamp file left done s before after by does whole = says_line asks.line.job (given_by asks stamp) file left done s before after by.ended does whole
+
+-- turns that all finish do not stop
+
+unstopped : (d : Dialect) (turns : List Turn) (c e : Contents) → Undone d turns c e → (all_rolled d turns c).stop ≡ None
+unstopped d [] c e undone = refl
+unstopped d (turn ∷ turns) c e undone = ap (λ (q : Ending). (unless_stopped (rolled_as turn q) (all_rolled d turns)).stop) undone.1 ∙ unstopped d turns undone.0 e undone.2
+
+-- no row is without a way back where all have their turns
+
+none_turns : {ts : List Turn} → (let o : Option (List Turn) = None in o) ≡ Some ts → ⊥
+none_turns h = Prim.cc
+
+module _ (d : Dialect) (xs : List (Set AnyChange)) where
+  abbrev is_lost : Tracked → Bool
+  is_lost row = is_none (undo_turn d any_meaning xs row)
+
+  none_by : (row : Tracked) (rows : List Tracked) (turns : List Turn) (o : Option Turn) (q : Option (List Turn)) → undo_turn d any_meaning xs row ≡ o
+      → option_and_then (λ (turn : Turn). option_map (λ (ts : List Turn). turn ∷ ts) q) o ≡ Some turns → ((ts : List Turn) → q ≡ Some ts → find is_lost rows ≡ None) → find is_lost (row ∷ rows) ≡ None
+  none_by row rows turns None q is all rest = absurd (none_turns all)
+  none_by row rows turns (Some turn) None is all rest = absurd (none_turns all)
+  none_by row rows turns (Some turn) (Some ts) is all rest = ap (λ (o : Option Turn). cond (is_none o) (Some row) (find is_lost rows)) is ∙ rest ts refl
+
+  none_lost : (rows : List Tracked) (turns : List Turn) → undo_turns d any_meaning xs rows ≡ Some turns → find is_lost rows ≡ None
+  none_lost [] turns all = refl
+  none_lost (row ∷ rows) turns all = none_by row rows turns (undo_turn d any_meaning xs row) (undo_turns d any_meaning xs rows) refl all (λ ts is. none_lost rows ts is)
+
+  reversible : (rows : List Tracked) (turns : List Turn) → undo_turns d any_meaning xs rows ≡ Some turns → not_reversible d any_meaning xs rows ≡ None
+  reversible rows turns all = ap (option_map identity_of) (none_lost rows turns all)
+
+-- the turns that take back what ran
+back_turns : (d : Dialect) (xs : List (Set AnyChange)) (point : Contents) (ran : List (RunOf AnyChange)) (database : Database) → RanSince d any_meaning point ran (contents_of database) → are_reversible d any_meaning ran point.users ≡ true
+    → AreKnown d any_meaning xs ran → (turns : List Turn) × (undo_turns d any_meaning xs (rows_undone (length point.rows) database.rows) ≡ Some turns) × Undone d turns (contents_of database) point
+back_turns d xs point ran database since can known =
+    let back = all_back any_meaning kept d xs ran since.added point.rows point.users database.users since.are_theirs known since.sound can since.users (sym (ap has_twin_rows since.rows) ∙ since.differ) in
+    let undone = ap reverse (ap (drop (length point.rows)) since.rows ∙ drop-append_seam point.rows since.added) in (
+      back.0,
+      ap (undo_turns d any_meaning xs) undone ∙ back.1,
+      subst (λ r. Undone d back.0 (with_users database.users r) point) (sym since.rows) back.2,
+    )
+
+module _ (given : Given) (target : Target) (database : Database) (n : ℕ) (turns : List Turn) (stays : rows_kept target database.rows ≡ Some n)
+    (all : undo_turns given.options.dialect any_meaning (sets_in given) (rows_undone n database.rows) ≡ Some turns) where
+  abbrev taken_by : Option (List Turn) → Account
+  taken_by o = elim o [ Some ts ↦ of_turns false given.options.dialect ts (contents_of database) | None ↦ nothing_told (contents_of database) ]
+
+  -- nothing stops them
+  stops_not : (point : Contents) → Undone given.options.dialect turns (contents_of database) point → (back_in false given target database).settled.stop ≡ None
+  stops_not point undone =
+      ap (λ (o : Option ℕ). (rolled_to false given o database).settled.stop) stays
+      ∙ (ap (λ (o : Option (List Turn)). (taken_by o).settled.stop) all
+      ∙ unstopped given.options.dialect turns (contents_of database) point undone)
+
+  -- nothing refuses them
+  refuses_not : database.lock ≡ free → faults (sets_in given) database.rows ≡ [] → refusal (command.Rollback target) given database ≡ None
+  refuses_not unlocked sound =
+      ap (λ (o : Option Status). option_or o (no_way_back given target database.rows))
+      (ap (λ (o : Option Status). option_or o (invalid given database.rows)) (ap (λ (lock : Lock). if lock.locked then Some (status.Locked lock) else None) unlocked) ∙ ap if_some sound)
+      ∙ (ap (λ (o : Option ℕ). unreachable_by given o database.rows) stays
+      ∙ ap if_not (reversible given.options.dialect (sets_in given) (rows_undone n database.rows) turns all))
+
+not_done : (s : Status) → is_taken s ≡ false → s ≡ status.Done → ⊥
+not_done s fails is = false_true (sym fails ∙ ap is_taken is)
+
+taken_end : (s : Status) → is_end s ≡ true → (is_finished s ≡ true → s ≡ status.Done) → is_taken s ≡ true
+taken_end status.Done end done = refl
+taken_end status.Usage end done = end
+taken_end status.ReadFault end done = end
+taken_end (status.Changelog fault) end done = end
+taken_end (status.Invalid faults) end done = end
+taken_end (status.Locked lock) end done = end
+taken_end (status.Halted place why) end done = absurd (not_done (status.Halted place why) refl (done refl))
+taken_end (status.Refused identity statement kept reason) end done = absurd (not_done (status.Refused identity statement kept reason) refl (done refl))
+taken_end status.NoTarget end done = end
+taken_end (status.NotReversible identity) end done = end
+taken_end status.DiskFault end done = end
+taken_end (status.Damaged at) end done = end
+taken_end (status.Full used next) end done = refl
+taken_end status.WriteFault end done = refl
+taken_end status.OutOfMemory end done = end
+taken_end (status.Busy session) end done = end
+
+is_taken_by : (s : Status) → EndsBy None s → (is_finished s ≡ true → s ≡ status.Done) → IsTaken s
+is_taken_by s (inl end) done = inl (taken_end s end done)
+is_taken_by s (inr out) done = inr out
+
+back_status : (given : Given) (target : Target) (database : Database) (s : Status) (before after : Option (List ℕ)) → SaysJob (Run (command.Rollback target)) given database s before after
+    → s ≡ status_by (back_in false given target database).settled.stop
+back_status given target database s before after says = says.status
+
+pub succeeds : {words : List (List ℕ)} {files : Files} {file : Option (List ℕ)} (back : GoesBack words files file) (stamp : Stamp) (s : Status) (left before after : Option (List ℕ)) → Runs back.asks stamp file s left
+    → Said back.asks stamp file s before after → IsTaken s
+succeeds back stamp s left before after runs said =
+    let given = given_by back.asks stamp in
+    let d = given.options.dialect in
+    let n = length back.before.rows in
+    let made = back_turns d (sets_in given) back.before back.ran back.database back.since back.reversible back.known in
+    let ran = runs (ap is_on_file back.is_rollback) back.database back.opens in
+    is_taken_by s
+    (subst (λ (o : Option Status). EndsBy o s) (refuses_not given back.target back.database n made.0 back.stays made.1 back.free back.faultless)
+    (subst (λ (job : Job). EndsBy (job_refusal job given back.database) s) back.is_rollback ran.ends))
+    (λ finished.
+    back_status given back.target back.database s before after (subst (λ (job : Job). SaysJob job given back.database s before after) back.is_rollback (said back.database back.opens finished))
+    ∙ ap status_by (stops_not given back.target back.database n made.0 back.stays made.1 back.before made.2))

@@ -1,0 +1,52 @@
+-- What a run of the program says of an update, of a rollback and of a changelog-sync.
+use Rattle.std.specs.Prelude.{Bool, List, None, Option, Some, [], false, option_map, true, ℕ, ◌++◌, ◌≡◌}
+use Rattle.lq_base.specs.declared.command.Command.TheVariants as command
+use Rattle.lq_base.specs.declared.command.Target.{Target}
+use Rattle.lq_cli.specs.declared.line.Job.{Job}
+use Rattle.lq_cli.specs.declared.line.Job.TheVariants.{RollbackSql, Run, UpdateSql}
+use Rattle.lq_report.specs.Output.{sync_text}
+use Rattle.lq_tell.specs.declared.status.Status.{Status}
+use Rattle.lq_track.specs.Database.{Database}
+use Rattle.lq_turns.specs.declared.stamp.Stamp.{Stamp}
+use Rattle.lq_turns.specs.declared.stop.Stop.{Stop}
+use Rattle.lq_top.specs.Asks.{Asks, Files}
+use Rattle.lq_top.specs.Bytes.{OnFile}
+use Rattle.lq_top.specs.Inserts.{synced_in}
+use Rattle.lq_top.specs.Jobs.{back_in}
+use Rattle.lq_top.specs.Refusals.{own_halt}
+use Rattle.lq_top.specs.Run.{given_by}
+use Rattle.lq_top.specs.Scripts.{updated_in}
+use Rattle.lq_top.specs.Tells.{rollback_told, status_by, update_told}
+use Rattle.lq_top.specs.Works.{is_finished}
+use Rattle.lq_top.specs.declared.given.Given.{Given}
+
+-- the status is by what stopped its turns, and this text was written behind what stood in the output
+pub record Says (stop : Option Stop) (text : List ℕ) (s : Status) (before after : Option (List ℕ)) : Type 0 where
+  pub status : s ≡ status_by stop
+  pub output : after ≡ option_map (λ out. out ++ text) before
+
+-- what is refused before its turns writes nothing
+abbrev pub unless_refused : Option Status → List ℕ → List ℕ
+unless_refused None text = text
+unless_refused (Some refused) text = []
+
+-- the text of an update is missing where the changelog's own precondition halts it
+abbrev pub SaysUpdate : Bool → Given → Database → Status → Option (List ℕ) → Option (List ℕ) → Type 0
+SaysUpdate prints given database s before after =
+    Says (updated_in prints given database).settled.stop (unless_refused (own_halt given database) (update_told prints (updated_in prints given database))) s before after
+
+abbrev pub SaysRollback : Bool → Given → Target → Database → Status → Option (List ℕ) → Option (List ℕ) → Type 0
+SaysRollback prints given target database s before after = Says (back_in prints given target database).settled.stop (rollback_told prints (back_in prints given target database)) s before after
+
+-- of each changeset what was done, or the statements that ran, where those are to be printed
+abbrev pub SaysJob : Job → Given → Database → Status → Option (List ℕ) → Option (List ℕ) → Type 0
+SaysJob (Run command.Update) given database s before after = SaysUpdate false given database s before after
+SaysJob (Run (command.Rollback target)) given database s before after = SaysRollback false given target database s before after
+SaysJob (Run command.Sync) given database s before after = Says (synced_in given database).stop (sync_text (synced_in given database).happened) s before after
+SaysJob UpdateSql given database s before after = SaysUpdate true given database s before after
+SaysJob (RollbackSql target) given database s before after = SaysRollback true given target database s before after
+SaysJob _ given database s before after = Unit {0}
+
+-- on each file that holds a database, where the command came to its end and its text was written
+abbrev pub Said : {words : List (List ℕ)} {files : Files} → Asks words files → Stamp → Option (List ℕ) → Status → Option (List ℕ) → Option (List ℕ) → Type 0
+Said asks stamp told s before after = OnFile asks.line.options.dialect told (λ database. is_finished s ≡ true → SaysJob asks.line.job (given_by asks stamp) database s before after)
