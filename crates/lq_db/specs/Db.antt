@@ -84,9 +84,10 @@ pub record IsDb {D P E : Type 0} (d : Dialect) (told : Option (List ℕ)) (disk 
   pub journal_is : dialect_of db.journal ≡ db.dialect
   pub is_held : IsHeld db.dialect h (entries_in (dialect_of db.journal) (limit_of db.journal) told) db.lock db.begun
 
--- it is as its calls leave it
-abbrev pub IsValid : {D P E : Type 0} → Dialect → Option (List ℕ) → DiskCrashes → Held → Db D P E → Type 0
-IsValid d told disk h db = db.live ≡ true → IsDb d told disk h db
+-- It is as its calls leave it: its journal is always one of its dialect.
+pub record IsValid {D P E : Type 0} (d : Dialect) (told : Option (List ℕ)) (disk : DiskCrashes) (h : Held) (db : Db D P E) : Type 0 where
+  pub journal_is : dialect_of db.journal ≡ db.dialect
+  pub lives : db.live ≡ true → IsDb d told disk h db
 
 -- what no run changes
 pub record Stays (x y : Held) : Type 0 where

@@ -258,5 +258,5 @@ impl<D: Disk, P: SqlText + Drop, E: Executor + Drop> Store for Db<D, P, E> {
         }
     }
 
-    ghost sound = { λ db valid live. is_store db (valid live) };
+    ghost sound = { λ db valid live. is_store db (valid.lives live) };
 }

@@ -19,7 +19,9 @@ mod Counting
 mod Left
 mod Whole
 mod Stopped
-mod Since
+mod Replayed
+pub mod Behind
+pub mod Since
 mod CallCrashes
 mod Stopping
 mod RunCrashes

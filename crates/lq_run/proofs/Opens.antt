@@ -93,13 +93,17 @@ opening_fits d stamp x false true false bound = rw (bound) refl
 opening_fits d stamp x false false true bound = rw (bound) refl
 opening_fits d stamp x false false false bound = rw (bound) refl
 
+-- on each database
+pub all_opening_fits : (d : Dialect) (stamp : Stamp) (database : Database) → stamp.reading ≤ 253402300799999 → all_fit d (map Locks (opening stamp database)) database ≡ true
+all_opening_fits d stamp database moment = opening_fits d stamp database database.has_log database.has_lock database.has_lock_row (in_time stamp.reading moment)
+
 -- the deeds are those of each session's database, and fit it
 opening_there : (d : Dialect) (stamp : Stamp) (number : ℕ) (x : State) (deeds : List Deed) → stamp.reading ≤ 253402300799999 → is_open number x.begun ≡ false → OpensOn d stamp (seen number x) deeds
     → (start : State) (s : Session) → start.dialect ≡ d → Stands start number x s → (deeds ≡ map Locks (opening stamp s.seen)) × (all_fit d deeds s.seen ≡ true)
 opening_there d stamp number x deeds moment shut opens start s is stands =
     let seen_is : StandsFor d (seen number x) s.seen = subst (StandsFor d (seen number x)) (sym (is_shut d no_changes stamp number x shut start s stands).1) (seen_stands d no_changes stamp number x shut start s stands is) in
     let same : deeds ≡ map Locks (opening stamp s.seen) = opens s.seen seen_is in
-    (same, subst (λ ds. all_fit d ds s.seen ≡ true) (sym same) (opening_fits d stamp s.seen s.seen.has_log s.seen.has_lock s.seen.has_lock_row (in_time stamp.reading moment)))
+    (same, subst (λ ds. all_fit d ds s.seen ≡ true) (sym same) (all_opening_fits d stamp s.seen moment))
 
 pub takes_lock : (d : Dialect) (stamp : Stamp) (number : ℕ) (x y : State) (deeds : List Deed) (result : Result (Unit {0}) StoreFault) → stamp.reading ≤ 253402300799999 → is_open number x.begun ≡ false
     → OpensOn d stamp (seen number x) deeds → AloneFor d number deeds Ordinary x result y → TakesLock d stamp number x result y

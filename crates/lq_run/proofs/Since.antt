@@ -88,7 +88,7 @@ tail_is h = Prim.cc
 nil_cons : {A : Type 0} {x : A} {xs : List A} → (let l : List A = [] in l) ≡ x ∷ xs → ⊥
 nil_cons h = Prim.cc
 
-front_of_map : {A B : Type 0} (f : A → B) (xs : List A) (front rest : List B) → map f xs ≡ front ++ rest → (ys : List A) × (zs : List A) × (xs ≡ ys ++ zs) × (map f ys ≡ front)
+pub front_of_map : {A B : Type 0} (f : A → B) (xs : List A) (front rest : List B) → map f xs ≡ front ++ rest → (ys : List A) × (zs : List A) × (xs ≡ ys ++ zs) × (map f ys ≡ front)
 front_of_map f xs [] rest is = ([], xs, refl, refl)
 front_of_map f [] (b ∷ front) rest is = absurd (nil_cons is)
 front_of_map f (x ∷ xs) (b ∷ front) rest is =

@@ -42,7 +42,7 @@ pub stated_lock_row : (d : Dialect) → is_statement d lock_row_made ≡ true
 unfolding lock_table lock_column lock_order lock_value
 stated_lock_row d = refl
 
-stated_taken : (d : Dialect) (at : ℤ) (by : List ℕ) → is_statement d (lock_taken at by) ≡ true
+pub stated_taken : (d : Dialect) (at : ℤ) (by : List ℕ) → is_statement d (lock_taken at by) ≡ true
 unfolding lock_table lock_column lock_value
 stated_taken d at by = refl
 

@@ -53,7 +53,7 @@ module _ {Key : Type 0} (d : Dialect) (m : Meaning Key) (stamp : Stamp) (number 
   left_before s came before = record { front = s.entries; rest = before.more; entries = before.entries; now = s.committed; led = (leads s came).committed; is = inl refl }
 
   -- and so what it has written when it freed a lock without a mark
-  pub left_closed : (s : Session) → CameFrom d (session_on database) s → IsBefore s last → IsBare stamp s.committed.lock → s.begun ≡ [] → IsLeft d calls database [] (called d closing s).entries
+  left_closed : (s : Session) → CameFrom d (session_on database) s → IsBefore s last → IsBare stamp s.committed.lock → s.begun ≡ [] → IsLeft d calls database [] (called d closing s).entries
   left_closed s came before bare none =
       record { front = s.entries; rest = before.more; entries = before.entries; now = s.committed; led = (leads s came).committed; is = inr (closing_entry d s none, ap has_mark bare ∙ unmarked) }
 
@@ -92,7 +92,7 @@ module _ {Key : Type 0} (d : Dialect) (m : Meaning Key) (stamp : Stamp) (number 
     there : is.x.entries ≡ option_map (λ entries. entries ++ here) x.entries
     there = subst (λ e. is.x.entries ≡ option_map (λ entries. entries ++ entries_of e is.s.entries) x.entries) has.dialect is.stands.entries
 
-    fails : Fails (entries_of d next.entries) x y
+    pub fails : Fails (entries_of d next.entries) x y
     fails =
         let of = is.breaks in
         let f = of.fails in

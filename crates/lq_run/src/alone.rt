@@ -1,6 +1,6 @@
 ghost use Rattle.std.specs.Prelude.{◌≡◌, ◌++◌, ◌∷◌, ◌≤◌, [], IfErr, IfOk, IsTrue, OnOk, false, is_some, map, nat_lt, option_map, unwrap_or};
 ghost use Rattle.lq_model.specs.Catalogue.{table_of};
-ghost use Rattle.lq_run.specs.Crashes.{CrashesOpened, CrashesReleased, CrashesTagged};
+ghost use Rattle.lq_run.specs.Crashes.{BehindOpened, BehindReleased, BehindTagged, CrashesOpened, CrashesReleased, CrashesTagged};
 ghost use Rattle.lq_run.specs.Crashing.{CrashesFor, CrashesOpening};
 ghost use Rattle.lq_run.specs.Does.{AllWritable, AloneFor};
 ghost use Rattle.lq_run.specs.Left.{LeavesOpened, LeavesReleased, LeavesTagged};
@@ -21,6 +21,7 @@ ghost use Rattle.lq_turns.specs.declared.deed.OnRows.TheVariants as on_rows;
 use crate::calls::do_alone;
 use lq_base::{Dialect, Identity, Items, Name, NameFault, NoMemory, Text};
 use lq_model::{Look, Room, SqlText, StoreFault};
+use lq_statement::laws::statements_read_back;
 use lq_store::Store;
 use lq_turns::{Deed, OnLock, OnRows, Stamp};
 use std::alloc::Global;
@@ -51,10 +52,12 @@ pub fn take_lock<S: Store, P: SqlText>(
     ensures valid { S.valid store.new }
     ensures does { TakesLock dialect stamp.now session (S.state store.old) result (S.state store.new) }
     ensures leaves { LeavesOpened dialect stamp.now (S.state store.old) result (S.state store.new) }
+    ensures behind { BehindOpened dialect stamp.now (S.state store.old) (S.state store.new) }
     ensures crash { CrashesOpening dialect stamp.now session (S.state store.old) (S.crashes store.old) (S.crashes store.new) }
     ensures any_moment { CrashesOpened dialect stamp.now (S.state store.old) (S.crashes store.old) (S.crashes store.new) }
     ensures faults { CountsDisk result (S.faults store.old) (S.faults store.new) }
 {
+    statements_read_back();
     match first_deeds(alloc, session, store, dialect, stamp) {
         Ok(deeds) => do_alone(
             alloc,
@@ -86,10 +89,12 @@ pub fn tag_row<S: Store, P: SqlText>(
     ensures valid { S.valid store.new }
     ensures does { AloneFor dialect session (deed.Rows (on_rows.Tagged of tag) ∷ []) room.Ordinary (S.state store.old) result (S.state store.new) }
     ensures leaves { LeavesTagged dialect of tag (S.state store.old) result (S.state store.new) }
+    ensures behind { BehindTagged dialect of tag (S.state store.old) (S.state store.new) }
     ensures crash { CrashesFor dialect session (call.Alone (deed.Rows (on_rows.Tagged of tag) ∷ []) room.Ordinary) (S.state store.old) (S.crashes store.old) (S.crashes store.new) }
     ensures any_moment { CrashesTagged dialect of tag (S.state store.old) (S.crashes store.old) (S.crashes store.new) }
     ensures faults { CountsDisk result (S.faults store.old) (S.faults store.new) }
 {
+    statements_read_back();
     do_alone(
         alloc,
         session,
@@ -116,10 +121,12 @@ pub fn free_lock<S: Store, P: SqlText>(
     ensures valid { S.valid store.new }
     ensures does { AloneFor dialect session (deed.Locks on_lock.Freed ∷ []) room.Release (S.state store.old) result (S.state store.new) }
     ensures leaves { LeavesReleased dialect (S.state store.old) result (S.state store.new) }
+    ensures behind { BehindReleased dialect (S.state store.old) (S.state store.new) }
     ensures crash { CrashesFor dialect session closing (S.state store.old) (S.crashes store.old) (S.crashes store.new) }
     ensures any_moment { CrashesReleased dialect (S.state store.old) (S.crashes store.old) (S.crashes store.new) }
     ensures faults { CountsDisk result (S.faults store.old) (S.faults store.new) }
 {
+    statements_read_back();
     do_alone(
         alloc,
         session,

@@ -1,6 +1,6 @@
 ghost use Rattle.std.specs.Prelude.{◌≡◌, ◌≤◌, true};
 ghost use Rattle.lq_run.specs.Commands.{IsNew, LeavesAll, RunsWhole, SomeMayRun, TellsAll};
-ghost use Rattle.lq_run.specs.Crashes.{CrashesAll};
+ghost use Rattle.lq_run.specs.Crashes.{BehindAll, CrashesAll};
 ghost use Rattle.lq_run.specs.Left.{LeftAll};
 ghost use Rattle.lq_outside.specs.Count.{Rose};
 ghost use Rattle.lq_run.specs.Faults.{is_disk_end};
@@ -11,6 +11,7 @@ use crate::runner::{End, Runner, end_of};
 use crate::running::run_on;
 use lq_hand::Source;
 use lq_model::SqlText;
+use lq_statement::laws::statements_read_back;
 use lq_store::Store;
 
 /// Takes the lock, makes all calls that a command has still to make, and frees the lock. The command
@@ -37,11 +38,13 @@ pub fn run_command<T: Source + Drop, S: Store, P: SqlText>(
     ensures ends { RunsWhole runner.old.dialect T.meaning runner.old.stamp session (standing T.left T.way runner.old) (S.state store.old) result (S.state store.new) }
     ensures leaves { LeavesAll runner.old.dialect T.meaning runner.old.stamp (standing T.left T.way runner.old) (S.state store.old) result (S.state store.new) }
     ensures left { LeftAll runner.old.dialect T.meaning runner.old.stamp (standing T.left T.way runner.old) (S.state store.old) result (S.state store.new) }
+    ensures behind { BehindAll runner.old.dialect T.meaning runner.old.stamp (standing T.left T.way runner.old) (S.state store.old) (S.state store.new) }
     ensures any_moment { CrashesAll runner.old.dialect T.meaning runner.old.stamp (standing T.left T.way runner.old) (S.state store.old) (S.crashes store.old) (S.crashes store.new) }
     ensures tells { TellsAll runner.old.dialect T.meaning runner.old.stamp (standing T.left T.way runner.old) (S.state store.old) result (T.way runner.new.source) }
     ensures later { S.faults store.old ≤ S.faults store.new }
     ensures rose { is_disk_end result ≡ true → Rose (S.faults store.old) (S.faults store.new) }
 {
+    statements_read_back();
     match take_lock(
         runner.alloc,
         session,

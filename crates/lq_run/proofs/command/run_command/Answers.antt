@@ -1,3 +1,4 @@
+use Rattle.lq_run.proofs.Behind.{behind_all}
 use Rattle.lq_run.proofs.Stopped.{left_all}
 use Rattle.lq_run.proofs.Whole.{ends_whole, leaves, not_taken, opens, tells, tells_whole}
 use Rattle.lq_run.specs.Commands.{script}
@@ -78,10 +79,25 @@ returns-in-Err-clause-left g c =
 pub returns-in-Ok-clause-any_moment : goal.returns-in-Ok-clause-any_moment
 returns-in-Ok-clause-any_moment g c =
     let r = c.args.runner.now in
-    begun r.dialect g.T.Source.meaning r.stamp c.args.session (standing g.T.Source.left g.T.Source.way r) (g.S.Store.state c.args.store.now) (g.S.Store.crashes c.args.store.now) (g.S.Store.crashes c.take_lock.new.store) c.in-Ok.ensures.crash
+    begun c.statements_read_back.ensures r.dialect g.T.Source.meaning r.stamp c.args.session (standing g.T.Source.left g.T.Source.way r) (g.S.Store.state c.args.store.now) (g.S.Store.crashes c.args.store.now) (g.S.Store.crashes c.take_lock.new.store) c.in-Ok.ensures.crash
     c.requires.new (g.S.Store.state c.take_lock.new.store) (g.S.Store.crashes c.run_on.new.store) c.in-Ok.ensures.does c.run_on.ensures.crash
 
 pub returns-in-Err-clause-any_moment : goal.returns-in-Err-clause-any_moment
 returns-in-Err-clause-any_moment g c =
     let r = c.args.runner.now in
-    not_begun r.dialect g.T.Source.meaning r.stamp c.args.session (standing g.T.Source.left g.T.Source.way r) (g.S.Store.state c.args.store.now) (g.S.Store.crashes c.args.store.now) (g.S.Store.crashes c.take_lock.new.store) c.in-Err.ensures.crash
+    not_begun c.statements_read_back.ensures r.dialect g.T.Source.meaning r.stamp c.args.session (standing g.T.Source.left g.T.Source.way r) (g.S.Store.state c.args.store.now) (g.S.Store.crashes c.args.store.now) (g.S.Store.crashes c.take_lock.new.store) c.in-Err.ensures.crash
+
+pub returns-in-Ok-clause-behind : goal.returns-in-Ok-clause-behind
+returns-in-Ok-clause-behind g c =
+    let r = c.args.runner.now in
+    behind_all c.statements_read_back.ensures r.dialect g.T.Source.meaning r.stamp c.args.session (standing g.T.Source.left g.T.Source.way r) (g.S.Store.state c.args.store.now) (g.S.Store.state c.run_on.new.store) c.run_on.result
+    (λ start s told is. ends_whole r.dialect g.T.Source.meaning r.stamp c.args.session (standing g.T.Source.left g.T.Source.way r) start (g.S.Store.state c.args.store.now) (g.S.Store.state c.take_lock.new.store) s told is
+    (g.S.Store.state c.run_on.new.store) c.run_on.result c.requires.new c.in-Ok.ensures.does c.run_on.ensures.ends)
+
+pub returns-in-Err-clause-behind : goal.returns-in-Err-clause-behind
+returns-in-Err-clause-behind g c =
+    let r = c.args.runner.now in
+    behind_all c.statements_read_back.ensures r.dialect g.T.Source.meaning r.stamp c.args.session (standing g.T.Source.left g.T.Source.way r) (g.S.Store.state c.args.store.now) (g.S.Store.state c.take_lock.new.store) c.end_of.result
+    (λ start s told is. subst (λ e. EndsAs r.dialect g.T.Source.meaning r.stamp c.args.session start s
+    (all_called r.dialect (script r.dialect g.T.Source.meaning r.stamp (place (standing g.T.Source.left g.T.Source.way r)) s.committed) s) e (g.S.Store.state c.take_lock.new.store)) (sym c.end_of.ensures)
+    (not_taken r.dialect g.T.Source.meaning r.stamp c.args.session (standing g.T.Source.left g.T.Source.way r) start (g.S.Store.state c.args.store.now) (g.S.Store.state c.take_lock.new.store) s told is c.in-Err.fault c.in-Err.ensures.does))

@@ -6,25 +6,38 @@ use Rattle.lq_db.proofs.AloneLeft.{done_held}
 use Rattle.lq_db.proofs.db.DbStore.alone.Goals as goal
 
 pub returns-in-Ran-clause-valid : goal.returns-in-Ran-clause-valid
-returns-in-Ran-clause-valid g c = λ live.
-    let is = c.requires.valid c.requires.live in
+returns-in-Ran-clause-valid g c =
+    let is = c.requires.valid.lives c.requires.live in
     let log = c.in-Ok-append_all.ensures.does.1 in
     let meant = c.in-Ok.ensures in
+    let journal = ap (λ l. l.dialect) log ∙ is.journal_is in
     record {
-      whole = c.in-Ok-append_all.ensures.whole;
-      sql_is = is.sql_is;
-      journal_is = ap (λ l. l.dialect) log ∙ is.journal_is;
-      is_held = rw c.forget.ensures (done_held _ (ended_by c.in-Ok.prepared.ended 0) (outcome_all c.args.self.now.dialect c.args.texts.now (work_in None (kept (g.E.Executor.held c.args.self.now.engine)))) (g.E.Executor.held c.args.self.now.engine) (g.E.Executor.held c.prepare.new.engine) c.in-Ok.prepared.entries _ _ _ c.in-Ok.prepared.lock _ c.in_default.is meant.0 meant.2 (rw c.as_slice.ensures at (ap (λ l. l.entries) log)) is.is_held);
+      journal_is = journal;
+      lives = λ live. record {
+        whole = c.in-Ok-append_all.ensures.whole;
+        sql_is = is.sql_is;
+        journal_is = journal;
+        is_held = rw c.forget.ensures (done_held _ (ended_by c.in-Ok.prepared.ended 0) (outcome_all c.args.self.now.dialect c.args.texts.now (work_in None (kept (g.E.Executor.held c.args.self.now.engine)))) (g.E.Executor.held c.args.self.now.engine) (g.E.Executor.held c.prepare.new.engine) c.in-Ok.prepared.entries _ _ _ c.in-Ok.prepared.lock _ c.in_default.is meant.0 meant.2 (rw c.as_slice.ensures at (ap (λ l. l.entries) log)) is.is_held);
+      };
     }
 
 pub returns-in-Ok-append_all-clause-valid : goal.returns-in-Ok-append_all-clause-valid
-returns-in-Ok-append_all-clause-valid g c = λ live.
-    let is = c.requires.valid c.requires.live in
+returns-in-Ok-append_all-clause-valid g c =
+    let is = c.requires.valid.lives c.requires.live in
     let log = c.in-Ok-append_all.ensures.does.1 in
     let meant = c.in-Ok.ensures in
+    let journal = ap (λ l. l.dialect) log ∙ is.journal_is in
     record {
-      whole = c.in-Ok-append_all.ensures.whole;
-      sql_is = is.sql_is;
-      journal_is = ap (λ l. l.dialect) log ∙ is.journal_is;
-      is_held = rw c.forget.ensures (done_held _ (ended_by c.in-Ok.prepared.ended 0) (outcome_all c.args.self.now.dialect c.args.texts.now (work_in None (kept (g.E.Executor.held c.args.self.now.engine)))) (g.E.Executor.held c.args.self.now.engine) (g.E.Executor.held c.prepare.new.engine) c.in-Ok.prepared.entries _ _ _ c.in-Ok.prepared.lock _ c.in_default.is meant.0 meant.2 (rw c.as_slice.ensures at (ap (λ l. l.entries) log)) is.is_held);
+      journal_is = journal;
+      lives = λ live. record {
+        whole = c.in-Ok-append_all.ensures.whole;
+        sql_is = is.sql_is;
+        journal_is = journal;
+        is_held = rw c.forget.ensures (done_held _ (ended_by c.in-Ok.prepared.ended 0) (outcome_all c.args.self.now.dialect c.args.texts.now (work_in None (kept (g.E.Executor.held c.args.self.now.engine)))) (g.E.Executor.held c.args.self.now.engine) (g.E.Executor.held c.prepare.new.engine) c.in-Ok.prepared.entries _ _ _ c.in-Ok.prepared.lock _ c.in_default.is meant.0 meant.2 (rw c.as_slice.ensures at (ap (λ l. l.entries) log)) is.is_held);
+      };
     }
+
+pub returns-in-Err-Disk-clause-valid : goal.returns-in-Err-Disk-clause-valid
+returns-in-Err-Disk-clause-valid g c =
+    let cut = rw c.in-Err-Disk.field-0-is at c.in-Err-Disk.ensures.does in
+    record { journal_is = cut.dialect_is ∙ c.requires.valid.journal_is; lives = λ live. cc }

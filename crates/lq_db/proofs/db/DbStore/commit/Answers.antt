@@ -7,42 +7,51 @@ use Rattle.lq_db.proofs.db.DbStore.commit.Goals as goal
 pub returns-in-Ok-clause-does : goal.returns-in-Ok-clause-does
 returns-in-Ok-clause-does g c =
     let begun = sym c.take.ensures.value ∙ c.in-Some.is in
-    let begun_is = open_is _ (g.E.Executor.held c.args.self.now.engine) _ _ _ begun (c.requires.valid c.requires.live).is_held.begun_is in
+    let begun_is = open_is _ (g.E.Executor.held c.args.self.now.engine) _ _ _ begun (c.requires.valid.lives c.requires.live).is_held.begun_is in
     let does = c.in-Ok.ensures.does in
     committed_ok _ (g.E.Executor.held c.args.self.now.engine) (g.E.Executor.held c.forget.new.self) _ _ _ (log_of (g.D.Disk.told (disk_of c.args.self.now.journal)) c.args.self.now.journal) (log_of (g.D.Disk.told (disk_of c.append_open.new.to)) c.append_open.new.to) _ begun c.take.ensures.after begun_is.some c.forget.ensures does.0 does.1
 
 pub returns-in-Ok-clause-valid : goal.returns-in-Ok-clause-valid
-returns-in-Ok-clause-valid g c = λ live.
-    let is = c.requires.valid c.requires.live in
+returns-in-Ok-clause-valid g c =
+    let is = c.requires.valid.lives c.requires.live in
     let begun = sym c.take.ensures.value ∙ c.in-Some.is in
     let log = c.in-Ok.ensures.does.1 in
+    let journal = ap (λ l. l.dialect) log ∙ is.journal_is in
     record {
-      whole = c.in-Ok.ensures.whole;
-      sql_is = is.sql_is;
-      journal_is = ap (λ l. l.dialect) log ∙ is.journal_is;
-      is_held = held_ok _ (g.E.Executor.held c.args.self.now.engine) (g.E.Executor.held c.forget.new.self) _ _ _ _ _ _ _ begun c.take.ensures.after c.forget.ensures (ap (λ l. l.entries) log) c.keep.ensures is.is_held;
+      journal_is = journal;
+      lives = λ live. record {
+        whole = c.in-Ok.ensures.whole;
+        sql_is = is.sql_is;
+        journal_is = journal;
+        is_held = held_ok _ (g.E.Executor.held c.args.self.now.engine) (g.E.Executor.held c.forget.new.self) _ _ _ _ _ _ _ begun c.take.ensures.after c.forget.ensures (ap (λ l. l.entries) log) c.keep.ensures is.is_held;
+      };
     }
 
 pub returns-in-Ok-clause-crash : goal.returns-in-Ok-clause-crash
 returns-in-Ok-clause-crash g c =
     let begun = sym c.take.ensures.value ∙ c.in-Some.is in
-    let begun_is = open_is _ (g.E.Executor.held c.args.self.now.engine) _ _ _ begun (c.requires.valid c.requires.live).is_held.begun_is in
+    let begun_is = open_is _ (g.E.Executor.held c.args.self.now.engine) _ _ _ begun (c.requires.valid.lives c.requires.live).is_held.begun_is in
     rw (written_is (g.E.Executor.held c.args.self.now.engine) _ _ _ begun begun_is.some) c.in-Ok.ensures.crash
 
 pub returns-in-Err-Disk-clause-does : goal.returns-in-Err-Disk-clause-does
 returns-in-Err-Disk-clause-does g c =
     let begun = sym c.take.ensures.value ∙ c.in-Some.is in
-    let begun_is = open_is _ (g.E.Executor.held c.args.self.now.engine) _ _ _ begun (c.requires.valid c.requires.live).is_held.begun_is in
+    let begun_is = open_is _ (g.E.Executor.held c.args.self.now.engine) _ _ _ begun (c.requires.valid.lives c.requires.live).is_held.begun_is in
     failed _ _ _ _ _ _ _ (log_of (g.D.Disk.told (disk_of c.args.self.now.journal)) c.args.self.now.journal) (log_of (g.D.Disk.told (disk_of c.append_open.new.to)) c.append_open.new.to) _ (written_is (g.E.Executor.held c.args.self.now.engine) _ _ _ begun begun_is.some) (rw c.in-Err-Disk.field-0-is at c.in-Err-Disk.ensures.does)
 
 pub returns-in-Err-Disk-clause-crash : goal.returns-in-Err-Disk-clause-crash
 returns-in-Err-Disk-clause-crash g c =
     let begun = sym c.take.ensures.value ∙ c.in-Some.is in
-    let begun_is = open_is _ (g.E.Executor.held c.args.self.now.engine) _ _ _ begun (c.requires.valid c.requires.live).is_held.begun_is in
+    let begun_is = open_is _ (g.E.Executor.held c.args.self.now.engine) _ _ _ begun (c.requires.valid.lives c.requires.live).is_held.begun_is in
     rw (written_is (g.E.Executor.held c.args.self.now.engine) _ _ _ begun begun_is.some) c.in-Err-Disk.ensures.crash
 
 pub returns-in-Err-Full-clause-crash : goal.returns-in-Err-Full-clause-crash
 returns-in-Err-Full-clause-crash g c =
     let begun = sym c.take.ensures.value ∙ c.in-Some.is in
-    let begun_is = open_is _ (g.E.Executor.held c.args.self.now.engine) _ _ _ begun (c.requires.valid c.requires.live).is_held.begun_is in
+    let begun_is = open_is _ (g.E.Executor.held c.args.self.now.engine) _ _ _ begun (c.requires.valid.lives c.requires.live).is_held.begun_is in
     rw (written_is (g.E.Executor.held c.args.self.now.engine) _ _ _ begun begun_is.some) c.in-Err-Full.ensures.crash
+
+pub returns-in-Err-Disk-clause-valid : goal.returns-in-Err-Disk-clause-valid
+returns-in-Err-Disk-clause-valid g c =
+    let cut = rw c.in-Err-Disk.field-0-is at c.in-Err-Disk.ensures.does in
+    record { journal_is = cut.dialect_is ∙ c.requires.valid.journal_is; lives = λ live. cc }
