@@ -1,6 +1,6 @@
 -- What commands write to their output. Each line ends with a line feed.
 use Rattle.std.specs.Fmt.{decimal}
-use Rattle.std.specs.Prelude.{ℕ, List, [], ◌++◌, Bool, length, count_by, Option, Some, None, codes, if◌then◌else◌}
+use Rattle.std.specs.Prelude.{ℕ, ◌+◌, List, [], ◌∷◌, ◌++◌, Bool, length, count_by, Option, Some, None, codes, if◌then◌else◌}
 use Rattle.std.specs.List.{flat_map}
 use Rattle.std.specs.Option.{option_map_or}
 use Rattle.lq_base.specs.declared.identity.Identity.{Identity}
@@ -10,9 +10,10 @@ use Rattle.lq_base.specs.declared.run.Happened.{Happened}
 use Rattle.lq_base.specs.declared.run.Printed.{Printed}
 use Rattle.lq_base.specs.declared.tracking.Lock.{Lock}
 use Rattle.lq_base.specs.Tracking.{identity_text}
+use Rattle.lq_report.specs.declared.drill.Drilled.{Drilled}
 use Rattle.lq_report.specs.declared.soak.Soaked.{Soaked}
 use Rattle.lq_report.specs.Mark.{lock_mark, mark_text}
-use Rattle.lq_report.specs.Words.{did_text, is_did, held_text}
+use Rattle.lq_report.specs.Words.{command_word, did_text, is_did, held_text}
 use denote.Ref.{Bor}
 
 -- `ran IDENTITY`, and the like for what else was done
@@ -78,3 +79,18 @@ unfoldable pub soak_text : Soaked → List ℕ
 soak_text of =
     codes "soak: " ++ decimal of.sets ++ codes " changesets, " ++ decimal of.entries ++ codes " entries, " ++ decimal of.bytes ++ codes " bytes, md5 " ++ of.sum ++ codes "\n"
     ++ codes "soak: " ++ decimal of.later ++ codes " entries, " ++ decimal of.rows ++ codes " rows, " ++ decimal of.tables ++ codes " tables\n"
+
+-- drill: for each command line, counted from 1, the status that its command ended with, or that it did not end
+abbrev pub ending_text : Option ℕ → List ℕ
+ending_text (Some status) = codes ": status " ++ decimal status ++ codes "\n"
+ending_text None = codes ": unfinished\n"
+
+unfoldable pub drilled_line : ℕ → Drilled → List ℕ
+drilled_line number drilled = decimal number ++ codes " " ++ command_word drilled.command ++ ending_text drilled.status
+
+abbrev pub drilled_from : ℕ → List Drilled → List ℕ
+drilled_from number [] = []
+drilled_from number (drilled ∷ more) = drilled_line number drilled ++ drilled_from (number + 1) more
+
+unfoldable pub drill_text : List Drilled → List ℕ
+drill_text all = drilled_from 1 all

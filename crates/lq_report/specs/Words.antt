@@ -1,6 +1,10 @@
 -- The words that the texts of commands are made of.
 use Rattle.std.specs.Prelude.{ℕ, ℤ, List, ◌++◌, Bool, true, false, Option, Some, None, codes}
 use Rattle.std.specs.List.{before_first}
+use Rattle.lq_base.specs.declared.command.Command.{Command}
+use Rattle.lq_base.specs.declared.command.Command.TheVariants as command
+use Rattle.lq_base.specs.declared.command.Target.{Target}
+use Rattle.lq_base.specs.declared.command.Target.TheVariants as target
 use Rattle.lq_base.specs.declared.identity.Identity.{Identity}
 use Rattle.lq_base.specs.declared.run.Did.{Did}
 use Rattle.lq_base.specs.declared.run.Did.TheVariants.{Ran, RanAgain, Marked, Skipped, RolledBack}
@@ -28,6 +32,21 @@ is_did Marked Marked = true
 is_did Skipped Skipped = true
 is_did RolledBack RolledBack = true
 is_did _ _ = false
+
+-- the word by which a command is asked for
+abbrev pub rollback_word : Target → List ℕ
+rollback_word (target.Tag tag) = codes "rollback"
+rollback_word (target.Count count) = codes "rollback-count"
+rollback_word (target.Date date) = codes "rollback-to-date"
+
+abbrev pub command_word : Command → List ℕ
+command_word command.Validate = codes "validate"
+command_word command.Status = codes "status"
+command_word command.Update = codes "update"
+command_word (command.Tag tag) = codes "tag"
+command_word (command.Rollback back) = rollback_word back
+command_word command.Sync = codes "changelog-sync"
+command_word command.Release = codes "release-locks"
 
 -- where a precondition stands: at a changeset, or at the head of the changelog
 abbrev pub place_text : Option (Bor Identity) → List ℕ

@@ -2,6 +2,7 @@
 #![tactic(auto)]
 
 mod changelog_log;
+mod drill;
 mod fixed;
 mod happened;
 pub mod laws;
@@ -17,6 +18,7 @@ mod validation_log;
 pub use changelog_log::{
     append_dialect_fault, append_file_fault, append_key_fault, append_line_fault, append_no_file,
 };
+pub use drill::{Drilled, drill_text};
 pub use fixed::{FixedLine, validated_text};
 pub use happened::{rollback_text, sync_text, update_text};
 pub use lock::{append_locked, release_text};

@@ -4,6 +4,8 @@
 #[cfg(test)]
 mod changelog_lines;
 #[cfg(test)]
+mod drills;
+#[cfg(test)]
 mod made;
 #[cfg(test)]
 mod outputs;
