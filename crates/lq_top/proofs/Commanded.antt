@@ -9,13 +9,16 @@ use Rattle.lq_base.specs.declared.dialect.Dialect.{Dialect}
 use Rattle.lq_base.specs.declared.identity.Identity.{Identity}
 use Rattle.lq_base.specs.declared.tracking.Tracked.{Tracked}
 use Rattle.lq_beside.proofs.OtherFits.{tag_fits}
+use Rattle.lq_beside.specs.Replays.{calls_fit}
 use Rattle.lq_model.specs.declared.fault.StoreFault.{StoreFault}
 use Rattle.lq_model.specs.declared.fault.StoreFault.TheVariants.{Disk}
 use Rattle.lq_outside.specs.Count.{Rose}
 use Rattle.lq_report.specs.Output.{status_text}
-use Rattle.lq_run.specs.Commands.{HasDatabase}
+use Rattle.lq_run.specs.Commands.{HasDatabase, Leaves}
+use Rattle.lq_run.specs.Crashes.{BehindTagged, CrashesTagged, LeftBehind}
 use Rattle.lq_run.specs.Left.{LeavesOnce, LeavesTagged}
 use Rattle.lq_store.specs.Calls.{CountsDisk}
+use Rattle.lq_store.specs.Crashes.{Crashes}
 use Rattle.lq_store.specs.State.{State}
 use Rattle.lq_tell.specs.declared.done.Done.{Done}
 use Rattle.lq_tell.specs.declared.status.Status.{Status}
@@ -25,11 +28,13 @@ use Rattle.lq_track.specs.Log.{identity_of}
 use Rattle.lq_turns.specs.Pending.{pending}
 use Rattle.lq_turns.specs.Rollback.{rows_kept, rows_undone}
 use Rattle.lq_turns.specs.Script.{last_row, tag_calls}
+use Rattle.lq_turns.specs.Session.{session_on}
 use Rattle.lq_turns.specs.declared.call.Call.{Call}
 use Rattle.lq_turns.specs.declared.fault.Fault.{Fault}
+use Rattle.lq_top.specs.Jobs.{TellsText}
 use Rattle.lq_top.specs.Refusals.{Answers, IsFault, Passes, ends, if_some, irreversible, no_way_back, refusal, unreachable_by}
 use Rattle.lq_top.specs.Scripts.{script, sets_in}
-use Rattle.lq_top.specs.Works.{IsKept, OnIts, Works, is_finished}
+use Rattle.lq_top.specs.Works.{CrashesIn, IsKept, OnIts, Works, is_finished}
 use Rattle.lq_top.specs.declared.given.Given.{Given}
 
 not_true : false ≡ true → ⊥
@@ -145,9 +150,14 @@ invalid_no_disk A (fault ∷ found) s r (inr lack) disk is = memory_disk (sym la
 
 -- a fault
 
-pub unfinished_works : (d : Dialect) (calls : List Call) (database : Database) (x y : State) (r : Result Done Status) → IfOk r (λ (done : Done). is_finished done.status ≡ false) → Works d calls database x r y
-unfinished_works d calls database x y (Ok done) unfinished = λ finished. absurd (not_true (sym unfinished ∙ finished))
-unfinished_works d calls database x y (Err s) unfinished = tt
+module _ (d : Dialect) (calls : List Call) (database : Database) (x y : State) where
+  pub unfinished_works : (r : Result Done Status) → IfOk r (λ (done : Done). is_finished done.status ≡ false) → LeftBehind d calls database x y → Works d calls database x r y
+  unfinished_works (Ok done) unfinished behind = (λ finished. absurd (not_true (sym unfinished ∙ finished)), λ ended. behind)
+  unfinished_works (Err s) unfinished behind = behind
+
+  -- one that is done
+  pub done_works : (done : Done) → done.status ≡ status.Done → Leaves d calls database x y → Works d calls database x (Ok done) y
+  done_works done is leaves = (λ finished. leaves, λ unfinished. absurd (true_not (sym (ap is_finished is) ∙ unfinished)))
 
 pub fault_rose : (fault : StoreFault) (before now : ℕ) → CountsDisk {T = Unit {0}} (Err fault) before now → fault ≡ Disk → Rose before now
 fault_rose fault before now counts is = counts.rose (ap (λ (f : StoreFault). (let r : Result (Unit {0}) StoreFault = Err f in r)) is)
@@ -164,22 +174,39 @@ module _ (k l : Command) (is : k ≡ l) (given : Given) (database : Database) wh
   pub works_as : (x y : State) (r : Result Done Status) → Works given.options.dialect (script l given database) database x r y → Works given.options.dialect (script k given database) database x r y
   works_as x y r works = subst (λ (c : Command). Works given.options.dialect (script c given database) database x r y) (sym is) works
 
+  pub crashes_as : (x : State) (before now : Crashes) → CrashesIn given.options.dialect (script l given database) database x before now → CrashesIn given.options.dialect (script k given database) database x before now
+  crashes_as x before now crashes = subst (λ (c : Command). CrashesIn given.options.dialect (script c given database) database x before now) (sym is) crashes
+
 -- what is pending on the rows of the database
-pub pending_told : (given : Given) (x : State) (rows : List Tracked) (r : Result Done Status) → OnIts given.options.dialect x (λ (database : Database). database.rows ≡ rows) → IfOk r (λ (done : Done). done.out ≡ Some (status_text (pending (sets_in given) rows)))
-    → IfOk r (λ (done : Done). OnIts given.options.dialect x (λ (database : Database). done.out ≡ Some (status_text (pending (sets_in given) database.rows))))
-pending_told given x rows (Ok done) same tells = λ database has. tells ∙ ap (λ (rs : List Tracked). Some (status_text (pending (sets_in given) rs))) (sym (same database has))
-pending_told given x rows (Err s) same tells = tt
+pub pending_told : (given : Given) (x : State) (rows : List Tracked) (r : Result Done Status) → OnIts given.options.dialect x (λ (database : Database). database.rows ≡ rows) → IfOk r (λ (done : Done). done.status ≡ status.Done)
+    → IfOk r (λ (done : Done). done.out ≡ Some (status_text (pending (sets_in given) rows))) → IfOk r (λ (done : Done). OnIts given.options.dialect x (λ (database : Database). TellsText (status_text (pending (sets_in given) database.rows)) done))
+pending_told given x rows (Ok done) same is tells = λ database has. record { status = is; out = tells ∙ ap (λ (rs : List Tracked). Some (status_text (pending (sets_in given) rs))) (sym (same database has)) }
+pending_told given x rows (Err s) same is tells = tt
 
--- a tag on the last row
-pub tag_leaves : (d : Dialect) (of : Identity) (name tag : List ℕ) (x y : State) (r : Result (Unit {0}) StoreFault) → name ≡ tag → char_count tag ≤ 255 → LeavesTagged d of name x r y
-    → (database : Database) → HasDatabase d x database → option_map identity_of (last_row database.rows) ≡ Some of → LeavesOnce d (tag_calls tag database) database x r y
-tag_leaves d of name tag x y r same short leaves database has last = by (last_row database.rows) refl last where
-  there : LeavesTagged d of tag x r y
-  there = subst (λ (text : List ℕ). LeavesTagged d of text x r y) same leaves
+-- a tag on the last row, whose calls fit
+module _ (d : Dialect) (of : Identity) (name tag : List ℕ) (x : State) (same : name ≡ tag) (short : char_count tag ≤ 255) where
+  tag_holds : (holds : List Call → Database → Type 0)
+      → ((database : Database) (row : Tracked) → HasDatabase d x database → last_row database.rows ≡ Some row → identity_of row ≡ of → calls_fit d (tag_calls name database) (session_on database) ≡ true → holds (tag_calls name database) database)
+      → (database : Database) → HasDatabase d x database → option_map identity_of (last_row database.rows) ≡ Some of → holds (tag_calls tag database) database
+  tag_holds holds tagged database has last = by (last_row database.rows) refl last where
+    fits : calls_fit d (tag_calls name database) (session_on database) ≡ true
+    fits = subst (λ (text : List ℕ). calls_fit d (tag_calls text database) (session_on database) ≡ true) (sym same) (tag_fits d tag x.committed database has.committed short)
 
-  by : (o : Option Tracked) → last_row database.rows ≡ o → option_map identity_of o ≡ Some of → LeavesOnce d (tag_calls tag database) database x r y
-  by None is none = absurd (none_some none)
-  by (Some row) is some = there database row has is (some_same some) (tag_fits d tag x.committed database has.committed short)
+    by : (o : Option Tracked) → last_row database.rows ≡ o → option_map identity_of o ≡ Some of → holds (tag_calls tag database) database
+    by None is none = absurd (none_some none)
+    by (Some row) is some = subst (λ (text : List ℕ). holds (tag_calls text database) database) same (tagged database row has is (some_same some) fits)
+
+  pub tag_leaves : (y : State) (r : Result (Unit {0}) StoreFault) → LeavesTagged d of name x r y
+      → (database : Database) → HasDatabase d x database → option_map identity_of (last_row database.rows) ≡ Some of → LeavesOnce d (tag_calls tag database) database x r y
+  tag_leaves y r leaves = tag_holds (λ (calls : List Call) (database : Database). LeavesOnce d calls database x r y) leaves
+
+  pub tag_behind : (y : State) → BehindTagged d of name x y
+      → (database : Database) → HasDatabase d x database → option_map identity_of (last_row database.rows) ≡ Some of → LeftBehind d (tag_calls tag database) database x y
+  tag_behind y behind = tag_holds (λ (calls : List Call) (database : Database). LeftBehind d calls database x y) behind
+
+  pub tag_crashes : (before now : Crashes) → CrashesTagged d of name x before now
+      → (database : Database) → HasDatabase d x database → option_map identity_of (last_row database.rows) ≡ Some of → CrashesIn d (tag_calls tag database) database x before now
+  tag_crashes before now crashes = tag_holds (λ (calls : List Call) (database : Database). CrashesIn d calls database x before now) crashes
 
 -- whether rows can be taken back
 

@@ -10,7 +10,7 @@ use Rattle.lq_hand.specs.Way.{Way, refused_by, refused_in}
 use Rattle.lq_hand.specs.declared.hand.Phase.TheVariants as phase
 use Rattle.lq_hand.specs.declared.progress.Progress.{Progress}
 use Rattle.lq_run.proofs.Scripts.{script_inside}
-use Rattle.lq_run.specs.Commands.{HasDatabase, KnowsContents, LeavesAll, LeavesAs, SomeMayRun, TellsAll, both_on, script}
+use Rattle.lq_run.specs.Commands.{HasDatabase, KnowsContents, SomeMayRun, TellsAll, both_on, script}
 use Rattle.lq_run.specs.NoChanges.{no_changes}
 use Rattle.lq_run.specs.Steps.{KnownIn, Standing, TellsAs, enters_turns, place}
 use Rattle.lq_run.specs.declared.runner.End.{End}
@@ -28,7 +28,7 @@ use Rattle.lq_turns.specs.declared.call.Call.{Call}
 use Rattle.lq_turns.specs.declared.call.Call.TheVariants.{Abort, Alone, Begin, Commit, Execute}
 use Rattle.lq_turns.specs.declared.stamp.Stamp.{Stamp}
 use Rattle.lq_turns.specs.declared.stop.Refusal.{Refusal}
-use Rattle.lq_top.proofs.Starts.{may_run}
+use Rattle.lq_top.proofs.Starts.{AllOn, may_run}
 use Rattle.lq_top.specs.Stopping.{one_way}
 
 not_true : false ≡ true → ⊥
@@ -83,10 +83,9 @@ module _ (d : Dialect) (stamp : Stamp) (r : Standing (Unit {0}) (Option Refusal)
   pub turn_may_run : (number : ℕ) (x : State) (database : Database) → HasDatabase d x database → calls_fit d (hand_script database) (session_on database) ≡ true → SomeMayRun d no_changes stamp number r x
   turn_may_run number x database has fits = may_run d no_changes stamp number r x database has (refusal_on database) (known_hand database) (fits_there database fits)
 
-  pub turn_leaves : (x y : State) (e : End) (database : Database) → HasDatabase d x database → calls_fit d (hand_script database) (session_on database) ≡ true → LeavesAll d no_changes stamp r x e y
-      → LeavesAs d (hand_script database) database x e y
-  turn_leaves x y e database has fits leaves =
-      subst (λ calls. LeavesAs d calls database x e y) (in_hand database) (leaves database (refusal_on database) has (known_hand database) (fits_there database fits))
+  pub hand_holds : (P : Dialect → List Call → Database → Type 0) (x : State) (database : Database) → HasDatabase d x database → calls_fit d (hand_script database) (session_on database) ≡ true → AllOn P d no_changes stamp r x
+      → P d (hand_script database) database
+  hand_holds P x database has fits all = subst (λ calls. P d calls database) (in_hand database) (all database (refusal_on database) has (known_hand database) (fits_there database fits))
 
   pub turn_tells : (x : State) (e : End) (database : Database) → HasDatabase d x database → calls_fit d (hand_script database) (session_on database) ≡ true → TellsAll d no_changes stamp r x e (λ f st told. one_way told)
       → TellsAs (one_way (refusal_on database)) e

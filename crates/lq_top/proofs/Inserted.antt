@@ -15,7 +15,7 @@ use Rattle.lq_hand.specs.Way.{refused_by, refused_in}
 use Rattle.lq_model.proofs.Lists.{and_right}
 use Rattle.lq_report.specs.Output.{sync_text}
 use Rattle.lq_run.proofs.Scripts.{sync_holds}
-use Rattle.lq_run.specs.Commands.{HasDatabase, LeavesAs}
+use Rattle.lq_run.specs.Commands.{HasDatabase}
 use Rattle.lq_run.specs.Ends.{AllHoldOn}
 use Rattle.lq_run.specs.Steps.{TellsAs}
 use Rattle.lq_run.specs.declared.runner.End.{End}
@@ -43,7 +43,7 @@ use Rattle.lq_turns.specs.declared.stop.Stop.TheVariants.{Halted, Refused}
 use Rattle.lq_top.proofs.Endings.{works_nothing}
 use Rattle.lq_top.proofs.LoadedTexts.{view_has}
 use Rattle.lq_top.proofs.Planned.{no_sync, sync_is, sync_may}
-use Rattle.lq_top.specs.Inserts.{EndsWithRows, TellsSync, first_out, goes_in, refusal_in, sync_out, synced_in}
+use Rattle.lq_top.specs.Inserts.{EndsWithRows, TellsSync, goes_in, refusal_in, sync_out, synced_in}
 use Rattle.lq_top.specs.Scripts.{sets_in, sync_script}
 use Rattle.lq_top.specs.Stopping.{NamesStop, one_way, refused_at}
 use Rattle.lq_top.specs.Tells.{IfFinished, status_by, stop_by}
@@ -89,8 +89,13 @@ no_halt : (rows before : List Tracked) → is_halted (insert_stop rows before) �
 no_halt [] before = refl
 no_halt (row ∷ rows) before = elim (rows_after (Inserted row) before) as (λ r. is_halted (stop_then row (insert_stop rows) r) ≡ false) [ Ok now ↦ no_halt rows now | Err reason ↦ refl ]
 
--- it stops at the first row that does not go in
-pub first_is : (rows before : List Tracked) → option_map identity_of (first_out (length before) rows) ≡ refused_at (insert_stop rows before)
+-- the first of these rows, behind so many, that does not go in
+abbrev pub first_out : ℕ → List Tracked → Option Tracked
+first_out count [] = None
+first_out count (row ∷ rows) = if goes_in count row then first_out (count + 1) rows else Some row
+
+-- it stops there
+first_is : (rows before : List Tracked) → option_map identity_of (first_out (length before) rows) ≡ refused_at (insert_stop rows before)
 first_is [] before = refl
 first_is (row ∷ rows) before = by (has_place row) (nat_lt (length before) 100000) (ap (λ (n : ℕ). option_map identity_of (first_out n rows)) (sym (length_push before row)) ∙ first_is rows (before ++ row ∷ [])) where
   by : (a b : Bool) → option_map identity_of (first_out (length before + 1) rows) ≡ refused_at (insert_stop rows (before ++ row ∷ []))
@@ -203,8 +208,9 @@ module _ (given : Given) (before rows : List Tracked) (are : rows ≡ rows_to_sy
       pub turn_fits : given.stamp.reading ≤ 253402300799999 → All HasShortTexts given.changelog.sets → calls_fit d turn_script (session_on database) ≡ true
       turn_fits time short = ap (λ cs. calls_fit d cs (session_on database)) (sym script_is) ∙ sync_may given database time (view_has given.options given.changelog short)
 
-      pub turn_leaves : (x y : State) (e : End) → LeavesAs d turn_script database x e y → LeavesAs d (sync_script given database) database x e y
-      turn_leaves x y e leaves = subst (λ cs. LeavesAs d cs database x e y) (sym script_is) leaves
+      -- what holds of its calls holds of those of the command
+      pub turn_so : (P : List Call → Type 0) → P turn_script → P (sync_script given database)
+      turn_so P holds = subst P (sym script_is) holds
 
 -- one row after another
 
@@ -214,16 +220,16 @@ less a b h = search (rules, tests)
 pub few_before : (count : ℕ) (row : Tracked) → goes_in count row ≡ true → count < 100000
 few_before count row is = less count 100000 (and_right (has_place row) (nat_lt count 100000) is)
 
-module _ (before count : ℕ) (rows rest after : List Tracked) (row : Tracked) (b : Bool) (first : rest ≡ row ∷ after) (so : b ≡ goes_in count row) (left : first_out count rest ≡ first_out before rows) where
+module _ (count : ℕ) (before rows rest after : List Tracked) (row : Tracked) (b : Bool) (first : rest ≡ row ∷ after) (so : b ≡ goes_in count row) (left : first_out count rest ≡ first_out (length before) rows) where
   here : (t : Bool) → b ≡ t → first_out count rest ≡ (if t then first_out (count + 1) after else Some row)
   here t is = ap (first_out count) first ∙ ap (λ (q : Bool). if q then first_out (count + 1) after else Some row) (sym so ∙ is)
 
-  pub out_found : b ≡ false → (let o : Option Tracked = Some row in o) ≡ first_out before rows
-  out_found is = sym (here false is) ∙ left
+  pub out_found : b ≡ false → (let o : Option Identity = Some (identity_of row) in o) ≡ refused_at (insert_stop rows before)
+  out_found is = ap (option_map identity_of) (sym (here false is) ∙ left) ∙ first_is rows before
 
-  pub out_later : b ≡ true → first_out (count + 1) after ≡ first_out before rows
+  pub out_later : b ≡ true → first_out (count + 1) after ≡ first_out (length before) rows
   out_later is = sym (here true is) ∙ left
 
-pub none_out : (before count : ℕ) (rows rest : List Tracked) → length rest ≡ 0 → first_out count rest ≡ first_out before rows → (let o : Option Tracked = None in o) ≡ first_out before rows
-none_out before count rows [] none left = left
-none_out before count rows (row ∷ rest) none left = Prim.cc
+pub none_out : (count : ℕ) (before rows rest : List Tracked) → length rest ≡ 0 → first_out count rest ≡ first_out (length before) rows → (let o : Option Identity = None in o) ≡ refused_at (insert_stop rows before)
+none_out count before rows [] none left = ap (option_map identity_of) left ∙ first_is rows before
+none_out count before rows (row ∷ rest) none left = Prim.cc

@@ -23,7 +23,7 @@ use Rattle.lq_top.specs.Jobs.{DoesJob, DoesLine, is_on_file}
 use Rattle.lq_top.specs.Kinds.{IsNotLoaded, IsOfDatabase, IsOfFiles, IsOfLine, IsOfWords, Refuses, is_of_database, is_of_line, is_of_soak, is_unwritten}
 use Rattle.lq_top.specs.declared.given.Given.{Given}
 
-ok_same : {a b : Changelog} → (let r : Loaded Changelog = Ok a in r) ≡ Ok b → a ≡ b
+pub ok_same : {a b : Changelog} → (let r : Loaded Changelog = Ok a in r) ≡ Ok b → a ≡ b
 ok_same h = Prim.cc
 
 err_same : {a b : LoadFault} → (let r : Loaded Changelog = Err a in r) ≡ Err b → a ≡ b
@@ -44,7 +44,7 @@ true_false h = Prim.cc
 none_line : {line : Line} → (let o : Option Line = None in o) ≡ Some line → ⊥
 none_line h = Prim.cc
 
-some_line : {a b : Line} → (let o : Option Line = Some a in o) ≡ Some b → a ≡ b
+pub some_line : {a b : Line} → (let o : Option Line = Some a in o) ≡ Some b → a ≡ b
 some_line h = Prim.cc
 
 abbrev pub failing : Status → Result Done Status

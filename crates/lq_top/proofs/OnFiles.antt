@@ -1,12 +1,12 @@
 -- What a command does on a database that was loaded from a file.
-use Rattle.std.proofs.Common.{ap, arith, refl, subst, sym, ◌∙◌}
-use Rattle.std.specs.Prelude.{Err, IfSome, List, Ok, Option, Result, Some, is_some, map, true, ℕ, ◌≡◌, ◌≤◌}
+use Rattle.std.proofs.Common.{ap, arith, inl, inr, refl, subst, sym, ◌∙◌}
+use Rattle.std.specs.Prelude.{Bool, Err, IfSome, List, None, Ok, Option, Result, Some, false, is_some, map, true, ℕ, ◌≡◌, ◌≤◌}
 use Rattle.lq_base.specs.declared.command.Command.{Command}
 use Rattle.lq_base.specs.declared.dialect.Dialect.{Dialect}
 use Rattle.lq_cli.specs.declared.line.Job.TheVariants as job
 use Rattle.lq_db.specs.Db.{IsDb, IsValid, state}
 use Rattle.lq_db.specs.Load.{IsDbFault, catalogue_of}
-use Rattle.lq_db.specs.Log.{entries_in, texts_of}
+use Rattle.lq_db.specs.Log.{crashes_in, entries_in, texts_of}
 use Rattle.lq_db.specs.declared.db.Db.{Db}
 use Rattle.lq_journal.specs.Journal.{journal_of}
 use Rattle.lq_journal.specs.State.{dialect_of, limit_of}
@@ -15,35 +15,51 @@ use Rattle.lq_journal.specs.declared.fault.LoadFault.{LoadFault}
 use Rattle.lq_journal.specs.declared.fault.LoadFault.TheVariants as load
 use Rattle.lq_model.specs.Catalogue.{Catalogue}
 use Rattle.lq_outside.specs.Count.{Rose}
-use Rattle.lq_outside.specs.Crash.{Crashes}
+use Rattle.lq_outside.specs.Crash.{Crashes, Settled}
 use Rattle.lq_run.specs.Commands.{HasDatabase, Leaves}
-use Rattle.lq_store.specs.Executor.{Held}
-use Rattle.lq_store.specs.Journal.{Entry}
+use Rattle.lq_run.specs.Crashes.{LeftBehind, LeftInCommand, Since}
+use Rattle.lq_store.specs.Executor.{Held, kept}
+use Rattle.lq_store.specs.Journal.{Entry, database as catalogue_by}
 use Rattle.lq_store.specs.State.{State}
+use Rattle.lq_tell.specs.Texts.{status_done}
 use Rattle.lq_tell.specs.declared.done.Done.{Done}
 use Rattle.lq_tell.specs.declared.status.Status.{Status}
 use Rattle.lq_tell.specs.declared.status.Status.TheVariants as status
 use Rattle.lq_track.specs.Database.{Database}
 use Rattle.lq_turns.specs.declared.call.Call.{Call}
-use Rattle.lq_turns.specs.declared.stamp.Stamp.{Stamp}
+use Rattle.lq_top.proofs.LeftOnFile.{is_left_on, since_on}
 use Rattle.lq_top.proofs.Ready.{becomes}
 use Rattle.lq_top.proofs.RefusedKinds.{answers_disk, answers_memory}
-use Rattle.lq_top.specs.Bytes.{Becomes, OnFile, Opens, TellsDamage, WorksOn, given_at, load_status, most_bytes}
+use Rattle.lq_top.proofs.Unchanged.{left_same}
+use Rattle.lq_top.specs.Bytes.{Becomes, IsLeftOn, OnFile, Opens, TellsDamage, WorksOn, load_status, most_bytes}
 use Rattle.lq_top.specs.Jobs.{DoesJob, TellsJob}
 use Rattle.lq_top.specs.Kinds.{IsOfDatabase}
-use Rattle.lq_top.specs.Refusals.{Answers, refusal}
+use Rattle.lq_top.specs.Refusals.{Answers, IsFault, refusal}
 use Rattle.lq_top.specs.Scripts.{script}
-use Rattle.lq_top.specs.Works.{OnIts, Works}
-use Rattle.lq_top.specs.declared.given.Asked.{Asked}
+use Rattle.lq_top.specs.Worked.{CrashesSince}
+use Rattle.lq_top.specs.Works.{CrashesIn, Works, is_finished}
 use Rattle.lq_top.specs.declared.given.Given.{Given}
+
+not_finished : false ≡ true → ⊥
+not_finished h = Prim.cc
 
 some_there : (read : Result (List Placed) ℕ) → is_some (texts_of read) ≡ true → (there : List Entry) × (texts_of read ≡ Some there)
 some_there (Ok entries) some = (map (λ (entry : Placed). entry.texts) entries, refl)
 some_there (Err place) some = absurd Prim.cc
 
+pub by_end : {A : Type 0} (b : Bool) → (b ≡ true → A) → (b ≡ false → A) → A
+by_end true whole part = whole refl
+by_end false whole part = part refl
+
 module _ {D P E : Type 0} (d p : Dialect) (told : Option (List ℕ)) (crashes : Crashes) (h : Held) (db : Db D P E) (is : IsDb p told crashes h db) (limit : limit_of db.journal ≡ most_bytes)
     (bytes : List ℕ) (told_is : told ≡ Some bytes) (now : Option (List ℕ)) (later : Crashes) (k : Held) (left : Db D P E) (valid : IsValid p now later k left)
     (database : Database) (has : HasDatabase d (state told h db) database) where
+  abbrev x : State
+  x = state told h db
+
+  abbrev y : State
+  y = state now k left
+
   dialect_is : dialect_of db.journal ≡ d
   dialect_is = is.journal_is ∙ has.dialect
 
@@ -53,19 +69,45 @@ module _ {D P E : Type 0} (d p : Dialect) (told : Option (List ℕ)) (crashes : 
   undamaged : is_some (texts_of (journal_of (dialect_of db.journal) (limit_of db.journal) bytes)) ≡ true
   undamaged = subst (λ o. IfSome o (λ bytes. is_some (texts_of (journal_of (dialect_of db.journal) (limit_of db.journal) bytes)) ≡ true)) told_is is.whole.undamaged
 
-  becomes_there : (calls : List Call) → Leaves d calls database (state told h db) (state now k left) → Becomes d calls database told now
-  becomes_there calls leaves =
+  entries_told : (there : List Entry) × (entries_in (dialect_of db.journal) (limit_of db.journal) told ≡ Some there)
+  entries_told =
       let there = some_there (journal_of (dialect_of db.journal) (limit_of db.journal) bytes) undamaged in
-      becomes d p now later k left (valid leaves.database_is.live) leaves.database_is.dialect (leaves.limit ∙ limit) calls database (state told h db) leaves told there.0 entries_were
-      (sym entries_were ∙ ap (entries_in (dialect_of db.journal) (limit_of db.journal)) told_is ∙ there.1)
+      (there.0, ap (entries_in (dialect_of db.journal) (limit_of db.journal)) told_is ∙ there.1)
 
-  works_there : (calls : List Call) (r : Result Done Status) → Works d calls database (state told h db) r (state now k left) → WorksOn d calls database told r now
-  works_there calls (Ok done) works = λ finished. becomes_there calls (works finished)
-  works_there calls (Err s) works = tt
+  leads : (there : List Entry) → entries_in (dialect_of db.journal) (limit_of db.journal) told ≡ Some there → catalogue_by d there ≡ Some (kept h)
+  leads there are = subst (λ e. catalogue_by e there ≡ Some (kept h)) has.dialect (subst (λ o. IfSome o (λ entries. catalogue_by db.dialect entries ≡ Some (kept h))) are is.is_held.is_journal)
+
+  -- calls keep the journal's dialect and limit
+  abbrev SameJournal : Type 0
+  SameJournal = (dialect_of left.journal ≡ d) × (limit_of left.journal ≡ most_bytes)
+
+  journal_stays : y.dialect ≡ d → y.limit ≡ x.limit → SameJournal
+  journal_stays dialect same = (valid.journal_is ∙ dialect, same ∙ limit)
+
+  journal_after : (calls : List Call) (r : Result Done Status) → Works d calls database x r y → SameJournal
+  journal_after calls (Ok done) works = by_end (is_finished done.status) (λ finished. journal_stays (works.0 finished).database_is.dialect (works.0 finished).limit) (λ unfinished. journal_stays ((works.1 unfinished).dialect ∙ has.dialect) (works.1 unfinished).limit)
+  journal_after calls (Err s) behind = journal_stays (behind.dialect ∙ has.dialect) behind.limit
+
+  becomes_there : (calls : List Call) → Leaves d calls database x y → Becomes d calls database told now
+  becomes_there calls leaves =
+      let there = entries_told in
+      becomes d p now later k left (valid.lives leaves.database_is.live) leaves.database_is.dialect (leaves.limit ∙ limit) calls database x leaves told there.0 entries_were (sym entries_were ∙ there.1)
+
+  left_there : (calls : List Call) → LeftBehind d calls database x y → IsLeftOn d calls database told now
+  left_there calls behind =
+      let there = entries_told in
+      let same = journal_stays (behind.dialect ∙ has.dialect) behind.limit in
+      let it = subst (λ o. IfSome o (λ there. (more : List Entry) × (y.entries ≡ Some more) × LeftInCommand d calls database there more)) there.1 behind.entries in
+      is_left_on d calls database told there.0 (sym entries_were ∙ there.1) (kept h) (leads there.0 there.1) has.committed now it.0
+      (sym (ap (λ e. entries_in e (limit_of left.journal) now) same.0 ∙ ap (λ n. entries_in d n now) same.1) ∙ it.1) it.2
+
+  works_there : (calls : List Call) (r : Result Done Status) → Works d calls database x r y → WorksOn d calls database told r now
+  works_there calls (Ok done) works = (λ finished. becomes_there calls (works.0 finished), λ unfinished. left_there calls (works.1 unfinished))
+  works_there calls (Err s) behind = left_there calls behind
 
   -- what a command does on the database it does on the file
   pub does_there : (c : Command) (given : Given) (r : Result Done Status) → given.options.dialect ≡ d → Answers (refusal c given database) r → (is_some (refusal c given database) ≡ true → now ≡ told)
-      → Works d (script c given database) database (state told h db) r (state now k left) → TellsJob (job.Run c) given database r → DoesJob (job.Run c) given database told r now
+      → Works d (script c given database) database x r y → TellsJob (job.Run c) given database r → DoesJob (job.Run c) given database told r now
   does_there c given r dialect answers kept works tells = record {
     answers = answers;
     refused = kept;
@@ -73,33 +115,38 @@ module _ {D P E : Type 0} (d p : Dialect) (told : Option (List ℕ)) (crashes : 
     tells = tells;
   }
 
--- for what was given, read with the clock, and for a disk that tells what the one in the database does
-module _ {D P E : Type 0} (p : Dialect) (told : Option (List ℕ)) (crashes : Crashes) (h : Held) (db : Db D P E) (is : IsDb p told crashes h db) (limit : limit_of db.journal ≡ most_bytes)
-    (now there : Option (List ℕ)) (same : now ≡ there) (later : Crashes) (k : Held) (left : Db D P E) (valid : IsValid p there later k left) (asked : Asked) (stamp : Stamp) (given : Given) (given_so : given ≡ given_at asked stamp) where
-  abbrev x : State
-  x = state told h db
+  -- and what a crash may leave of the journal it may leave of the file
+  pub moments_there : (calls : List Call) (r : Result Done Status) → Works d calls database x r y → CrashesIn d calls database x (crashes_in (dialect_of db.journal) (limit_of db.journal) crashes) (crashes_in (dialect_of left.journal) (limit_of left.journal) later)
+      → CrashesSince d calls database told crashes later
+  moments_there calls r works moments =
+      let there = entries_told in
+      let same = journal_after calls r works in
+      since_on d calls database told there.0 (sym entries_were ∙ there.1) (kept h) (leads there.0 there.1) has.committed crashes later
+      (subst (λ n. Since (LeftInCommand d calls database there.0) (crashes_in d most_bytes crashes) (crashes_in d n later)) same.1
+      (subst (λ e. Since (LeftInCommand d calls database there.0) (crashes_in d most_bytes crashes) (crashes_in e (limit_of left.journal) later)) same.0
+      (subst (λ n. Since (LeftInCommand d calls database there.0) (crashes_in d n crashes) (crashes_in (dialect_of left.journal) (limit_of left.journal) later)) limit
+      (subst (λ e. Since (LeftInCommand d calls database there.0) (crashes_in e (limit_of db.journal) crashes) (crashes_in (dialect_of left.journal) (limit_of left.journal) later)) dialect_is
+      (subst (λ o. IfSome o (λ there. Since (LeftInCommand d calls database there) (crashes_in (dialect_of db.journal) (limit_of db.journal) crashes) (crashes_in (dialect_of left.journal) (limit_of left.journal) later))) there.1 moments)))))
 
-  abbrev y : State
-  y = state there k left
+-- a command that comes to its end settles what it left; a refusal left what was there
+module _ {D P E : Type 0} (d p : Dialect) (calls : List Call) (database : Database) (x : State) (told : Option (List ℕ)) (crashes : Crashes) (h : Held) (db : Db D P E) (valid : IsValid p told crashes h db) where
+  fault_unfinished : (s : Status) → IsFault s → is_finished s ≡ true → ⊥
+  fault_unfinished s (inl is) finished = not_finished (sym (ap is_finished is) ∙ finished)
+  fault_unfinished s (inr is) finished = not_finished (sym (ap is_finished is) ∙ finished)
 
-  pub does_job : (c : Command) (r : Result Done Status) → OnIts given.options.dialect x (λ database. Answers (refusal c given database) r)
-      → OnIts given.options.dialect x (λ database. is_some (refusal c given database) ≡ true → there ≡ told)
-      → OnIts given.options.dialect x (λ database. Works given.options.dialect (script c given database) database x r y)
-      → OnIts given.options.dialect x (λ database. TellsJob (job.Run c) given database r)
-      → (bytes : List ℕ) → told ≡ Some bytes → OnIts asked.options.dialect x (λ database. DoesJob (job.Run c) (given_at asked stamp) database told r now)
-  does_job c r answers kept works tells bytes told_is database has =
-      subst (λ now. DoesJob (job.Run c) (given_at asked stamp) database told r now) (sym same)
-      (does_there asked.options.dialect p told crashes h db is limit bytes told_is there later k left valid database has c (given_at asked stamp) r refl
-      (subst (λ (given : Given). OnIts given.options.dialect x (λ database. Answers (refusal c given database) r)) given_so answers database has)
-      (subst (λ (given : Given). OnIts given.options.dialect x (λ database. is_some (refusal c given database) ≡ true → there ≡ told)) given_so kept database has)
-      (subst (λ (given : Given). OnIts given.options.dialect x (λ database. Works given.options.dialect (script c given database) database x r y)) given_so works database has)
-      (subst (λ (given : Given). OnIts given.options.dialect x (λ database. TellsJob (job.Run c) given database r)) given_so tells database has))
+  is_refused : (o : Option Status) (s : Status) → Answers o (Err s) → is_finished s ≡ true → is_some o ≡ true
+  is_refused None s fault finished = absurd (fault_unfinished s fault finished)
+  is_refused (Some refused) s answers finished = refl
+
+  pub settled_after : (o : Option Status) (r : Result Done Status) → Answers o r → (is_some o ≡ true → Settled told crashes) → Works d calls database x r (state told h db) → is_finished (status_done r) ≡ true → Settled told crashes
+  settled_after o (Ok done) answers kept works finished = (valid.lives (works.0 finished).database_is.live).whole.settled
+  settled_after o (Err s) answers kept works finished = kept (is_refused o s answers finished)
 
 -- one that met no memory has done nothing
-pub does_nothing : (c : Command) (given : Given) (database : Database) (told now : Option (List ℕ)) (s : Status) → s ≡ status.OutOfMemory → now ≡ told → DoesJob (job.Run c) given database told (Err s) now
-does_nothing c given database told now s memory same =
+pub does_nothing : (c : Command) (given : Given) (database : Database) (told now : Option (List ℕ)) (s : Status) → s ≡ status.OutOfMemory → Opens given.options.dialect told database → now ≡ told → DoesJob (job.Run c) given database told (Err s) now
+does_nothing c given database told now s memory opens same =
     subst (λ s. DoesJob (job.Run c) given database told (Err s) now) (sym memory)
-    (record { answers = answers_memory (refusal c given database); refused = λ some. same; works = tt; tells = tt })
+    (record { answers = answers_memory (refusal c given database); refused = λ some. same; works = left_same given.options.dialect (script c given database) database told now opens same; tells = tt })
 
 pub memory_kind : (s : Status) → s ≡ status.OutOfMemory → IsOfDatabase (Err s)
 memory_kind s memory = subst (λ s. IsOfDatabase (Err s)) (sym memory) refl
@@ -109,6 +156,14 @@ memory_tells d told s memory = subst (λ s. TellsDamage d told (Err s)) (sym mem
 
 pub err_is : (s t : Status) → (let r : Result Done Status = Err s in r) ≡ Err t → s ≡ t
 err_is s t same = Prim.cc
+
+pub load_unfinished : (fault : LoadFault) → is_finished (load_status fault) ≡ true → ⊥
+load_unfinished load.Disk finished = not_finished finished
+load_unfinished (load.Damaged place) finished = not_finished finished
+load_unfinished load.OutOfMemory finished = not_finished finished
+
+pub memory_unfinished : (s : Status) → s ≡ status.OutOfMemory → is_finished s ≡ true → ⊥
+memory_unfinished s memory finished = not_finished (sym (ap is_finished memory) ∙ finished)
 
 memory_is_no_disk : status.OutOfMemory ≡ status.DiskFault → ⊥
 memory_is_no_disk same = Prim.cc
@@ -153,8 +208,13 @@ fault_kind (load.Damaged place) = refl
 fault_kind load.OutOfMemory = refl
 
 -- a file that could not be loaded is as it was
-pub refused_does : (d : Dialect) (told now : Option (List ℕ)) (before later : ℕ) (fault : LoadFault) (s : Status) → s ≡ load_status fault → (c : Command) (given : Given) → IsDbFault d most_bytes told before later fault → now ≡ told
-    → OnFile d told (λ database. DoesJob (job.Run c) given database told (Err s) now)
-refused_does d told now before later fault s is_status c given is same database opens =
+pub refused_does : (told now : Option (List ℕ)) (before later : ℕ) (fault : LoadFault) (s : Status) → s ≡ load_status fault → (c : Command) (given : Given) → IsDbFault given.options.dialect most_bytes told before later fault → now ≡ told
+    → OnFile given.options.dialect told (λ database. DoesJob (job.Run c) given database told (Err s) now)
+refused_does told now before later fault s is_status c given is same database opens =
     subst (λ s. DoesJob (job.Run c) given database told (Err s) now) (sym is_status)
-    (record { answers = fault_answers d told before later fault (refusal c given database) database is opens; refused = λ some. same; works = tt; tells = tt })
+    (record {
+      answers = fault_answers given.options.dialect told before later fault (refusal c given database) database is opens;
+      refused = λ some. same;
+      works = left_same given.options.dialect (script c given database) database told now opens same;
+      tells = tt;
+    })

@@ -48,6 +48,10 @@ module _ {D P E : Type 0} (d p : Dialect) (told : Option (List ℕ)) (crashes : 
   opened before database same read opens =
       has_database database (subst (λ c. StandsFor d c database) (ok_is (sym opens.read ∙ subst (λ o. IfSome o (λ bytes. catalogue_of d most_bytes bytes ≡ Ok (kept h))) opens.told_is read)) opens.stands)
 
+  -- what was read is what the disk of the database tells
+  pub still_read : (before : Option (List ℕ)) → told ≡ before → IfSome before (λ bytes. catalogue_of d most_bytes bytes ≡ Ok (kept h)) → IfSome told (λ bytes. catalogue_of d most_bytes bytes ≡ Ok (kept h))
+  still_read before same read = subst (λ o. IfSome o (λ bytes. catalogue_of d most_bytes bytes ≡ Ok (kept h))) (sym same) read
+
 -- after calls
 module _ {D P E : Type 0} (d p : Dialect) (told : Option (List ℕ)) (crashes : Crashes) (h : Held) (db : Db D P E) (is : IsDb p told crashes h db) (at : db.dialect ≡ d) (limit : limit_of db.journal ≡ most_bytes)
     (calls : List Call) (database : Database) (x : State) (leaves : Leaves d calls database x (state told h db)) where

@@ -13,6 +13,7 @@ use Rattle.lq_base.specs.declared.run.Happened.{Happened}
 use Rattle.lq_base.specs.declared.run.Printed.{Printed}
 use Rattle.lq_base.specs.declared.tracking.Tracked.{Tracked}
 use Rattle.lq_run.specs.Commands.{HasDatabase, LeavesAs}
+use Rattle.lq_run.specs.Crashes.{LeftBehind}
 use Rattle.lq_run.specs.Steps.{TellsAs}
 use Rattle.lq_run.specs.declared.runner.End.{End}
 use Rattle.lq_run.specs.declared.runner.End.TheVariants as end
@@ -22,6 +23,7 @@ use Rattle.lq_seen.specs.View.{any_meaning}
 use Rattle.lq_seen.specs.declared.outcome.Outcome.{Outcome}
 use Rattle.lq_back.specs.declared.reversal.TakenBack.{TakenBack}
 use Rattle.lq_back.specs.declared.row_turns.RowTurns.{RowTurns}
+use Rattle.lq_store.specs.Crashes.{Crashes}
 use Rattle.lq_store.specs.State.{State}
 use Rattle.lq_tell.specs.declared.done.Done.{Done}
 use Rattle.lq_tell.specs.declared.status.Status.{Status}
@@ -43,7 +45,7 @@ use Rattle.lq_top.specs.Refusals.{Answers, Passes, if_not, irreversible, no_way_
 use Rattle.lq_top.specs.Scripts.{nothing_told, rollback_script, rolled_back, rolled_to, sets_in, taking_back}
 use Rattle.lq_top.specs.Tells.{HasTold, IfFinished, TellsRollback, rollback_output, status_by, stop_by}
 use Rattle.lq_top.specs.Turns.{MayTurn, turns_script}
-use Rattle.lq_top.specs.Works.{IsKept, OnIts, Works, is_finished, is_whole}
+use Rattle.lq_top.specs.Works.{CrashesIn, IsKept, OnIts, Works, is_finished, is_whole}
 use Rattle.lq_top.specs.declared.given.Given.{Given}
 
 not_true : false ≡ true → ⊥
@@ -68,9 +70,6 @@ err_ok r s holds is = subst (λ (q : Result Done Status). IfOk q holds) (sym is)
 
 pub err_err : (r : Result Done Status) (s : Status) (holds : Status → Type 0) → r ≡ Err s → holds s → IfErr r holds
 err_err r s holds is it = subst (λ (q : Result Done Status). IfErr q holds) (sym is) it
-
-pub err_works : (d : Dialect) (calls : List Call) (database : Database) (x y : State) (r : Result Done Status) (s : Status) → r ≡ Err s → Works d calls database x r y
-err_works d calls database x y r s is = subst (λ (q : Result Done Status). Works d calls database x q y) (sym is) tt
 
 pub err_answers : (a : Option Status) (r : Result Done Status) (s : Status) → r ≡ Err s → Answers a (Err s) → Answers a r
 err_answers a r s is answers = subst (λ (q : Result Done Status). Answers a q) (sym is) answers
@@ -139,10 +138,15 @@ module _ (d : Dialect) (stamp : Stamp) (source : RowTurns) (some : reverse sourc
   back_may prints moment back knows database = record { known = knows (contents_of database); fits = rollback_may d stamp (reverse source.turns) database moment back some }
 
   pub back_works : (database : Database) (x y : State) (e : End) (r : Result Done Status) → IfOk r (λ (done : Done). is_finished done.status ≡ true → is_whole e ≡ true)
-      → LeavesAs d (turns_script d any_meaning stamp (OfRows (reverse source.turns)) database) database x e y → Works d (rollback_of d stamp (reverse source.turns) database) database x r y
-  back_works database x y e r whole leaves =
+      → LeavesAs d (turns_script d any_meaning stamp (OfRows (reverse source.turns)) database) database x e y → LeftBehind d (turns_script d any_meaning stamp (OfRows (reverse source.turns)) database) database x y
+      → Works d (rollback_of d stamp (reverse source.turns) database) database x r y
+  back_works database x y e r whole leaves left =
       subst (λ calls. Works d calls database x r y) (sym (rollback_is d stamp database (reverse source.turns) some))
-      (works_by d (turns_script d any_meaning stamp (OfRows (reverse source.turns)) database) database x y e r whole leaves)
+      (works_by d (turns_script d any_meaning stamp (OfRows (reverse source.turns)) database) database x y e r whole leaves left)
+
+  pub back_crashes : (database : Database) (x : State) (before now : Crashes) → CrashesIn d (turns_script d any_meaning stamp (OfRows (reverse source.turns)) database) database x before now
+      → CrashesIn d (rollback_of d stamp (reverse source.turns) database) database x before now
+  back_crashes database x before now crash = subst (λ calls. CrashesIn d calls database x before now) (sym (rollback_is d stamp database (reverse source.turns) some)) crash
 
 pub rows_told : (s : RowTurns) (d : Dialect) (stamp : Stamp) (told : Account) (e : End) → TellsAs (row_way s d stamp told) e → HasTold s.outcome told e
 rows_told s d stamp told end.Done tells = tells
@@ -219,9 +223,9 @@ module _ (given : Given) (database : Database) where
   rolled_is : (prints : Bool) (rows : List Tracked) (turns : List Turn) → undo_turns d any_meaning (sets_in given) rows ≡ Some turns → rolled_back prints given rows database ≡ of_turns prints d turns (contents_of database)
   rolled_is prints rows turns is = ap (rolled_by prints) is
 
-  pub taken_works : (x y : State) (r : Result Done Status) (rows : List Tracked) (turns : List Turn) → undo_turns d any_meaning (sets_in given) rows ≡ Some turns
-      → Works d (rollback_of d given.stamp turns database) database x r y → Works d (taking_back given rows database) database x r y
-  taken_works x y r rows turns is works = subst (λ calls. Works d calls database x r y) (sym (taken_back given rows turns database is)) works
+  -- what holds of the calls of its turns holds of those that take the rows back
+  pub taken_so : (P : List Call → Type 0) (rows : List Tracked) (turns : List Turn) → undo_turns d any_meaning (sets_in given) rows ≡ Some turns → P (rollback_of d given.stamp turns database) → P (taking_back given rows database)
+  taken_so P rows turns is holds = subst P (sym (taken_back given rows turns database is)) holds
 
   taken_tells : (prints : Bool) (done : Done) (rows : List Tracked) (turns : List Turn) → undo_turns d any_meaning (sets_in given) rows ≡ Some turns → IfFinished done (TellsRollback prints (of_turns prints d turns (contents_of database)) done)
       → IfFinished done (TellsRollback prints (rolled_back prints given rows database) done)
@@ -254,8 +258,8 @@ module _ (given : Given) (database : Database) where
       by None none = absurd (no_undone undone none)
       by (Some stay) some = ap (λ (rs : List Tracked). rolled_back prints given rs database) (undone_are (rows_undone stay database.rows) undone some)
 
-    pub target_works : (x y : State) (r : Result Done Status) → Works d (taking_back given undone database) database x r y → Works d (rollback_script given target database) database x r y
-    target_works x y r works = subst (λ calls. Works d calls database x r y) (sym (goes_to given target database undone there)) works
+    pub target_so : (P : List Call → Type 0) → P (taking_back given undone database) → P (rollback_script given target database)
+    target_so P holds = subst P (sym (goes_to given target database undone there)) holds
 
     target_tells : (prints : Bool) (done : Done) → IfFinished done (TellsRollback prints (rolled_back prints given undone database) done)
         → IfFinished done (TellsRollback prints (rolled_to prints given (rows_kept target database.rows) database) done)

@@ -1,4 +1,4 @@
--- What a run says of its turns and rows, and that what can be taken back is.
+-- What a run says, and that what can be taken back is.
 use Rattle.std.proofs.Common.{ap, inl, inr, refl, subst, sym, ◌∙◌}
 use Rattle.std.proofs.Math.Seq.{drop-append_seam}
 use Rattle.std.specs.List.{find}
@@ -12,7 +12,7 @@ use Rattle.lq_base.specs.declared.tracking.Tracked.{Tracked}
 use Rattle.lq_cli.specs.declared.line.Job.{Job}
 use Rattle.lq_cli.specs.declared.line.Job.TheVariants.{Drill, RollbackSql, Run, Soak, UpdateSql}
 use Rattle.lq_kinds.specs.declared.any_change.AnyChange.{AnyChange}
-use Rattle.lq_report.specs.Output.{sync_text}
+use Rattle.lq_report.specs.Output.{sync_text, tagged_text, validated_text}
 use Rattle.lq_seen.specs.Printing.{Account, of_turns}
 use Rattle.lq_seen.specs.View.{any_meaning}
 use Rattle.lq_tell.specs.Texts.{EndsAs, has_output, out_text, status_done, text_or_none}
@@ -37,13 +37,13 @@ use Rattle.lq_turns.specs.declared.choice.Choice.TheVariants as choice
 use Rattle.lq_turns.specs.declared.stamp.Stamp.{Stamp}
 use Rattle.lq_turns.specs.declared.turn.Turn.{Turn}
 use Rattle.lq_top.proofs.Planned.{kept}
-use Rattle.lq_top.proofs.Written.{Does, IsWritten, Quiet, failed_unfinished, false_true, none_some, quiet_invalid, quiet_not, quiet_or, quiet_unready, quiet_way, refused_for, some_same}
+use Rattle.lq_top.proofs.Written.{Does, IsWritten, Quiet, failed_unfinished, false_true, none_some, quiet_held, quiet_invalid, quiet_not, quiet_or, quiet_unready, quiet_untagged, quiet_way, refused_for, some_same}
 use Rattle.lq_top.specs.Asks.{Asks, Files}
 use Rattle.lq_top.specs.Bytes.{OnFile}
 use Rattle.lq_top.specs.Headline.{GoesBack, IsTaken, is_taken}
 use Rattle.lq_top.specs.Inserts.{TellsSync, synced_in}
-use Rattle.lq_top.specs.Jobs.{DoesJob, DoesLine, TellsJob, back_in, is_on_file, job_refusal}
-use Rattle.lq_top.specs.Refusals.{Answers, if_halts, if_not, if_some, invalid, no_way_back, own_halt, refusal, unreachable_by, unready}
+use Rattle.lq_top.specs.Jobs.{DoesJob, DoesLine, TellsJob, TellsText, at_once_text, back_in, is_on_file, job_refusal, released_text}
+use Rattle.lq_top.specs.Refusals.{Answers, held, if_halts, if_not, if_some, invalid, no_way_back, own_halt, refusal, unreachable_by, unready, untagged}
 use Rattle.lq_top.specs.Run.{EndsBy, Runs, given_by, is_end}
 use Rattle.lq_top.specs.Says.{Said, Says, SaysJob, SaysRollback, SaysUpdate, unless_refused}
 use Rattle.lq_top.specs.Scripts.{log_in, nothing_told, rolled_to, sets_in, updated_in}
@@ -135,18 +135,22 @@ module _ (given : Given) (database : Database) (s : Status) (before after : Opti
   sync_said : (done : Done) → s ≡ done.status → TellsSync (synced_in given database) done → Wrote done → Says (synced_in given database).stop (sync_text (synced_in given database).happened) s before after
   sync_said done is tells whole = record { status = is ∙ tells.status; output = whole ∙ ap behind (ap text_or_none tells.out) }
 
+  -- a command that makes one call at most
+  text_said : (text : List ℕ) (done : Done) → s ≡ done.status → TellsText text done → Wrote done → Says None text s before after
+  text_said text done is tells whole = record { status = is ∙ tells.status; output = whole ∙ ap behind (ap text_or_none tells.out) }
+
 -- each job
 
 says_ok : (job : Job) (given : Given) (database : Database) (s : Status) (before after : Option (List ℕ)) (done : Done) → job_refusal job given database ≡ None → TellsJob job given database (Ok done) → s ≡ done.status
     → is_finished done.status ≡ true → after ≡ option_map (λ (out : List ℕ). out ++ text_or_none done.out) before → SaysJob job given database s before after
-says_ok (Run command.Validate) given database s before after done none tells is finished whole = tt
-says_ok (Run command.Status) given database s before after done none tells is finished whole = tt
+says_ok (Run command.Validate) given database s before after done none tells is finished whole = text_said given database s before after validated_text done is (tells finished) whole
+says_ok (Run command.Status) given database s before after done none tells is finished whole = text_said given database s before after (at_once_text command.Status given database) done is (tells finished) whole
 says_ok (Run command.Update) given database s before after done none tells is finished whole =
     update_said given database s before after false done (or_none (unready given database) (own_halt given database) none) is (tells finished) whole
-says_ok (Run (command.Tag name)) given database s before after done none tells is finished whole = tt
+says_ok (Run (command.Tag name)) given database s before after done none tells is finished whole = text_said given database s before after (tagged_text name) done is (tells finished) whole
 says_ok (Run (command.Rollback target)) given database s before after done none tells is finished whole = rollback_said given database s before after false target done is (tells finished) whole
 says_ok (Run command.Sync) given database s before after done none tells is finished whole = sync_said given database s before after done is (tells finished) whole
-says_ok (Run command.Release) given database s before after done none tells is finished whole = tt
+says_ok (Run command.Release) given database s before after done none tells is finished whole = text_said given database s before after (released_text database.lock) done is (tells finished) whole
 says_ok UpdateSql given database s before after done none tells is finished whole =
     update_said given database s before after true done (or_none (invalid given database.rows) (own_halt given database) none) is (tells finished) whole
 says_ok (RollbackSql target) given database s before after done none tells is finished whole = rollback_said given database s before after true target done is (tells finished) whole
@@ -155,15 +159,16 @@ says_ok (Soak number sets) given database s before after done none tells is fini
 
 says_err : (job : Job) (given : Given) (database : Database) (s : Status) (before after : Option (List ℕ)) (x : Status) → job_refusal job given database ≡ Some x → is_finished x ≡ true → s ≡ x
     → after ≡ option_map (λ (out : List ℕ). out ++ []) before → SaysJob job given database s before after
-says_err (Run command.Validate) given database s before after x refused finished is whole = tt
-says_err (Run command.Status) given database s before after x refused finished is whole = tt
+says_err (Run command.Validate) given database s before after x refused finished is whole = absurd (quiet_not x _ (quiet_invalid given database.rows) refused finished)
+says_err (Run command.Status) given database s before after x refused finished is whole = absurd (quiet_not x _ (quiet_invalid given database.rows) refused finished)
 says_err (Run command.Update) given database s before after x refused finished is whole =
     update_halted given database s before after false x (halted_is (unready given database) (own_halt given database) x (quiet_unready given database) refused finished) is whole
-says_err (Run (command.Tag name)) given database s before after x refused finished is whole = tt
+says_err (Run (command.Tag name)) given database s before after x refused finished is whole =
+    absurd (quiet_not x _ (quiet_or (held database) (untagged database.rows) (quiet_held database) (quiet_untagged database.rows)) refused finished)
 says_err (Run (command.Rollback target)) given database s before after x refused finished is whole =
     absurd (quiet_not x _ (quiet_or (unready given database) (unreachable_by given (rows_kept target database.rows) database.rows) (quiet_unready given database) (quiet_way given (rows_kept target database.rows) database.rows)) refused finished)
 says_err (Run command.Sync) given database s before after x refused finished is whole = absurd (quiet_not x _ (quiet_unready given database) refused finished)
-says_err (Run command.Release) given database s before after x refused finished is whole = tt
+says_err (Run command.Release) given database s before after x refused finished is whole = absurd (none_some refused)
 says_err UpdateSql given database s before after x refused finished is whole =
     update_halted given database s before after true x (halted_is (invalid given database.rows) (own_halt given database) x (quiet_invalid given database.rows) refused finished) is whole
 says_err (RollbackSql target) given database s before after x refused finished is whole =

@@ -52,5 +52,5 @@ end_passes (Err e) s ended is = subst (λ s. is_of_soak s ≡ true) (sym is) (en
 
 -- a store on which a command was done is live
 pub done_lives : (d : Dialect) (calls : List Call) (database : Database) (x y : State) (done : Done) (r : Result (Unit {0}) Status) → Works d calls database x (Ok done) y → OnOk r (done.status ≡ status.Done) → OnOk r (y.live ≡ true)
-done_lives d calls database x y done (Ok u) works is = (works (subst (λ s. is_finished s ≡ true) (sym is) refl)).database_is.live
+done_lives d calls database x y done (Ok u) works is = (works.0 (subst (λ s. is_finished s ≡ true) (sym is) refl)).database_is.live
 done_lives d calls database x y done (Err s) works is = tt

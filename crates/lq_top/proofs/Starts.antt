@@ -2,14 +2,14 @@
 use Rattle.std.proofs.Common.{ap, refl, rules, subst, sym, ◌∙◌}
 use Rattle.std.proofs.lemmas.List.{append-nil}
 use Rattle.std.specs.Option.{option_map}
-use Rattle.std.specs.Prelude.{List, None, Option, Some, [], true, ℕ, ◌++◌, ◌≡◌}
+use Rattle.std.specs.Prelude.{List, None, Option, Some, [], false, true, ℕ, ◌++◌, ◌≡◌}
 use Rattle.lq_base.specs.declared.dialect.Dialect.{Dialect}
 use Rattle.lq_beside.specs.Replays.{calls_fit}
 use Rattle.lq_hand.specs.Way.{Way}
 use Rattle.lq_hand.specs.Hand.{calls_left, place_of}
 use Rattle.lq_hand.specs.declared.hand.Hand.{Hand}
 use Rattle.lq_model.specs.declared.fault.StoreFault.{StoreFault}
-use Rattle.lq_run.specs.Commands.{HasDatabase, KnowsContents, LeavesAll, LeavesAs, SomeMayRun, TellsAll, both_on, script}
+use Rattle.lq_run.specs.Commands.{HasDatabase, KnowsContents, OnAll, SomeMayRun, TellsAll, both_on, script}
 use Rattle.lq_run.specs.Stands.{IsBegun, Stands}
 use Rattle.lq_run.specs.Steps.{KnownIn, Standing, TellsAs, enters_turns, no_turn, place, standing, turns_of}
 use Rattle.lq_run.specs.declared.runner.End.{End}
@@ -22,6 +22,8 @@ use Rattle.lq_turns.specs.Held.{StandsFor}
 use Rattle.lq_turns.specs.Rest.{Turns, between, if_goes_on}
 use Rattle.lq_turns.specs.Session.{session_on}
 use Rattle.lq_turns.specs.Set.{Meaning}
+use Rattle.lq_turns.specs.Stops.{is_mark}
+use Rattle.lq_turns.specs.declared.call.Call.{Call}
 use Rattle.lq_turns.specs.declared.stamp.Stamp.{Stamp}
 use Rattle.lq_turns.specs.declared.stop.Refusal.{Refusal}
 use Rattle.lq_top.specs.Turns.{MayTurn, turns_script}
@@ -45,6 +47,10 @@ module _ {Key Told : Type 0} (d : Dialect) (m : Meaning Key) (stamp : Stamp) (nu
   pub may_run : (told : Told) → KnowsContents d m stamp r database told → calls_fit d (script d m stamp (place r) database) (session_on database) ≡ true → SomeMayRun d m stamp number r x
   may_run told known fits = record { start = x; session = session_on database; told = told; is = record { dialect = has.dialect; stands = stands_there; shut = refl; known = known; fits = fits } }
 
+-- of its calls, on every database on which a command may run
+abbrev pub AllOn : {Key Told : Type 0} → (Dialect → List Call → Database → Type 0) → Dialect → Meaning Key → Stamp → Standing Key Told → State → Type 0
+AllOn P d m stamp r x = OnAll d m stamp r x (λ database told. P d (script d m stamp (place r) database) database)
+
 -- with no turn in hand
 module _ {Key Told : Type 0} (d : Dialect) (m : Meaning Key) (stamp : Stamp) (r : Standing Key Told) (hand : r.hand ≡ no_turn) (fault : r.fault ≡ None) (refused : r.refused ≡ None) where
   turns_are : turns_of r ≡ r.turns
@@ -65,10 +71,9 @@ module _ {Key Told : Type 0} (d : Dialect) (m : Meaning Key) (stamp : Stamp) (r 
   turns_may_run : (number : ℕ) (x : State) (database : Database) (told : Told) → HasDatabase d x database → MayTurn d m stamp r.turns (r.way d stamp) database told → SomeMayRun d m stamp number r x
   turns_may_run number x database told has may = may_run d m stamp number r x database has told (known_there database told may.known) (fitting database told may)
 
-  turns_leave : (x y : State) (e : End) (database : Database) (told : Told) → HasDatabase d x database → MayTurn d m stamp r.turns (r.way d stamp) database told → LeavesAll d m stamp r x e y
-      → LeavesAs d (turns_script d m stamp r.turns database) database x e y
-  turns_leave x y e database told has may leaves =
-      subst (λ calls. LeavesAs d calls database x e y) (script_is database) (leaves database told has (known_there database told may.known) (fitting database told may))
+  turns_hold : (P : Dialect → List Call → Database → Type 0) (x : State) (database : Database) (told : Told) → HasDatabase d x database → MayTurn d m stamp r.turns (r.way d stamp) database told → AllOn P d m stamp r x
+      → P d (turns_script d m stamp r.turns database) database
+  turns_hold P x database told has may all = subst (λ calls. P d calls database) (script_is database) (all database told has (known_there database told may.known) (fitting database told may))
 
   turns_tell : (x : State) (e : End) (way : Dialect → Stamp → Told → Way) (database : Database) (told : Told) → HasDatabase d x database → MayTurn d m stamp r.turns (r.way d stamp) database told → TellsAll d m stamp r x e way
       → TellsAs (way d stamp told) e
@@ -88,10 +93,10 @@ module _ {Key Told T : Type 0} (m : Meaning Key) (left : T → Turns Key) (way :
   new_may_run number =
       subst (λ e. SomeMayRun e m runner.stamp number r x) (sym dialect_is) (subst (λ st. SomeMayRun d m st number r x) (sym stamp_is) (turns_may_run d m stamp r hand fault refused number x database told has may_there))
 
-  pub new_leaves : (y : State) (e : End) → LeavesAll runner.dialect m runner.stamp r x e y → LeavesAs d (turns_script d m stamp (left source) database) database x e y
-  new_leaves y e leaves =
-      subst (λ s. LeavesAs d (turns_script d m stamp (left s) database) database x e y) source_is
-      (turns_leave d m stamp r hand fault refused x y e database told has may_there (subst (λ st. LeavesAll d m st r x e y) stamp_is (subst (λ f. LeavesAll f m runner.stamp r x e y) dialect_is leaves)))
+  pub new_holds : (P : Dialect → List Call → Database → Type 0) → AllOn P runner.dialect m runner.stamp r x → P d (turns_script d m stamp (left source) database) database
+  new_holds P all =
+      subst (λ s. P d (turns_script d m stamp (left s) database) database) source_is
+      (turns_hold d m stamp r hand fault refused P x database told has may_there (subst (λ st. AllOn P d m st r x) stamp_is (subst (λ f. AllOn P f m runner.stamp r x) dialect_is all)))
 
   pub new_tells : (e : End) (after : Dialect → Stamp → Told → Way) → TellsAll runner.dialect m runner.stamp r x e after → TellsAs (after d stamp told) e
   new_tells e after tells =
@@ -102,5 +107,8 @@ module _ {Key Told : Type 0} (m : Meaning Key) (r : Standing Key Told) (e d : Di
   pub may_so : (number : ℕ) (x : State) → SomeMayRun d m stamp number r x → SomeMayRun e m stamped number r x
   may_so number x may = subst (λ f. SomeMayRun f m stamped number r x) (sym dialect_is) (subst (λ st. SomeMayRun d m st number r x) (sym stamp_is) may)
 
-  pub leaves_so : (x y : State) (end : End) → LeavesAll e m stamped r x end y → LeavesAll d m stamp r x end y
-  leaves_so x y end leaves = subst (λ st. LeavesAll d m st r x end y) stamp_is (subst (λ f. LeavesAll f m stamped r x end y) dialect_is leaves)
+  pub holds_so : (P : Dialect → List Call → Database → Type 0) (x : State) → AllOn P e m stamped r x → AllOn P d m stamp r x
+  holds_so P x all = subst (λ st. AllOn P d m st r x) stamp_is (subst (λ f. AllOn P f m stamped r x) dialect_is all)
+
+pub name_so : (stamped stamp : Stamp) → stamped ≡ stamp → is_mark stamp.who ≡ false → is_mark stamped.who ≡ false
+name_so stamped stamp same name = subst (λ (st : Stamp). is_mark st.who ≡ false) (sym same) name

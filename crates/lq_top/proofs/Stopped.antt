@@ -1,6 +1,6 @@
 -- A run that a refusal ends is one at which its source has stopped, and then it is known at which changeset.
 use Rattle.std.proofs.Common.{refl, sym, ◌∙◌}
-use Rattle.std.specs.Prelude.{None, Option, Some, false, is_some, option_map, true, ℕ, ◌≡◌}
+use Rattle.std.specs.Prelude.{List, None, Option, Some, false, is_some, option_map, true, ℕ, ◌≡◌}
 use Rattle.lq_base.specs.declared.dialect.Dialect.{Dialect}
 use Rattle.lq_base.specs.declared.identity.Identity.{Identity}
 use Rattle.lq_hand.specs.Enters.{Enters}
@@ -9,6 +9,7 @@ use Rattle.lq_hand.specs.declared.source.Entered.{Entered}
 use Rattle.lq_hand.specs.declared.source.Entered.TheVariants as entered
 use Rattle.lq_model.specs.Catalogue.{Catalogue}
 use Rattle.lq_run.specs.Commands.{HasDatabase, LeavesAll, LeavesAs, SomeMayRun, TellsAll}
+use Rattle.lq_run.specs.Crashes.{BehindAll, CrashesAll, LeftBehind}
 use Rattle.lq_run.specs.Steps.{TellsAs, no_turn, standing}
 use Rattle.lq_run.specs.declared.runner.End.{End}
 use Rattle.lq_run.specs.declared.runner.End.TheVariants as end
@@ -20,20 +21,24 @@ use Rattle.lq_seen.specs.Telling.{Tells}
 use Rattle.lq_seen.specs.declared.outcome.Outcome.{Outcome}
 use Rattle.lq_back.specs.declared.row_turns.RowTurns.{RowTurns}
 use Rattle.lq_sets.specs.declared.set_turns.SetTurns.{SetTurns}
+use Rattle.lq_store.specs.Crashes.{Crashes}
 use Rattle.lq_store.specs.State.{State}
 use Rattle.lq_track.specs.Database.{Database}
 use Rattle.lq_turns.specs.Contents.{Contents}
 use Rattle.lq_turns.specs.Rest.{Turns}
 use Rattle.lq_turns.specs.Set.{Meaning}
 use Rattle.lq_turns.specs.Settle.{Settled}
+use Rattle.lq_turns.specs.Stops.{is_mark}
+use Rattle.lq_turns.specs.declared.call.Call.{Call}
 use Rattle.lq_turns.specs.declared.stamp.Stamp.{Stamp}
 use Rattle.lq_turns.specs.declared.stop.Refusal.{Refusal}
 use Rattle.lq_turns.specs.declared.stop.Stop.{Stop}
 use Rattle.lq_turns.specs.declared.stop.Stop.TheVariants.{Refused}
-use Rattle.lq_top.proofs.Starts.{new_leaves, new_may_run, new_tells}
+use Rattle.lq_top.proofs.Starts.{AllOn, name_so, new_holds, new_may_run, new_tells}
 use Rattle.lq_top.specs.Stopping.{NamesStop, YieldedAt, stopping_way}
 use Rattle.lq_top.specs.Tells.{HasTold}
 use Rattle.lq_top.specs.Turns.{MayTurn, turns_script}
+use Rattle.lq_top.specs.Works.{CrashesIn}
 use Rattle.lq_top.specs.declared.stopping.Stopping.{Stopping}
 
 -- the next turn is entered as the source enters it
@@ -82,8 +87,18 @@ module _ {Key Told T : Type 0} (m : Meaning Key) (left : T → Turns Key) (way :
   pub stopping_may_run : (number : ℕ) → SomeMayRun runner.dialect m runner.stamp number (standing (left_in left) (way_in way) runner) x
   stopping_may_run number = new_may_run m (left_in left) (way_in way) runner d stamp (stopping source) dialect_is stamp_is source_is hand fault refused x database told has may_stop number
 
+  stopping_holds : (P : Dialect → List Call → Database → Type 0) → AllOn P runner.dialect m runner.stamp (standing (left_in left) (way_in way) runner) x → P d (turns_script d m stamp (left source) database) database
+  stopping_holds P all = new_holds m (left_in left) (way_in way) runner d stamp (stopping source) dialect_is stamp_is source_is hand fault refused x database told has may_stop P all
+
   pub stopping_leaves : (y : State) (e : End) → LeavesAll runner.dialect m runner.stamp (standing (left_in left) (way_in way) runner) x e y → LeavesAs d (turns_script d m stamp (left source) database) database x e y
-  stopping_leaves y e leaves = new_leaves m (left_in left) (way_in way) runner d stamp (stopping source) dialect_is stamp_is source_is hand fault refused x database told has may_stop y e leaves
+  stopping_leaves y e leaves = stopping_holds (λ f calls on. LeavesAs f calls on x e y) leaves
+
+  pub stopping_left : is_mark stamp.who ≡ false → (y : State) → BehindAll runner.dialect m runner.stamp (standing (left_in left) (way_in way) runner) x y → LeftBehind d (turns_script d m stamp (left source) database) database x y
+  stopping_left name y behind = stopping_holds (λ f calls on. LeftBehind f calls on x y) (behind (name_so runner.stamp stamp stamp_is name))
+
+  pub stopping_crashes : is_mark stamp.who ≡ false → (before now : Crashes) → CrashesAll runner.dialect m runner.stamp (standing (left_in left) (way_in way) runner) x before now
+      → CrashesIn d (turns_script d m stamp (left source) database) database x before now
+  stopping_crashes name before now crash = stopping_holds (λ f calls on. CrashesIn f calls on x before now) (crash (name_so runner.stamp stamp stamp_is name))
 
   tells_stopping : (e : End) (after : T) → TellsAll runner.dialect m runner.stamp (standing (left_in left) (way_in way) runner) x e (stopping_way way after) → TellsAs (stopping_way way after d stamp told) e
   tells_stopping e after tells = new_tells m (left_in left) (way_in way) runner d stamp (stopping source) dialect_is stamp_is source_is hand fault refused x database told has may_stop e (stopping_way way after) tells

@@ -1,6 +1,6 @@
 -- What a command tells of its run, from its database up to its file.
 use Rattle.std.proofs.Common.{subst, sym, ◌∙◌}
-use Rattle.std.specs.Prelude.{Bool, Err, IfOk, Ok, Result, false, true, ◌≡◌}
+use Rattle.std.specs.Prelude.{Bool, Err, IfOk, List, Ok, Result, Some, false, true, ℕ, ◌≡◌}
 use Rattle.lq_base.specs.declared.command.Command.{Command}
 use Rattle.lq_base.specs.declared.dialect.Dialect.{Dialect}
 use Rattle.lq_cli.specs.declared.line.Job.{Job}
@@ -8,8 +8,9 @@ use Rattle.lq_cli.specs.declared.line.Job.TheVariants.{Run}
 use Rattle.lq_store.specs.State.{State}
 use Rattle.lq_tell.specs.declared.done.Done.{Done}
 use Rattle.lq_tell.specs.declared.status.Status.{Status}
+use Rattle.lq_tell.specs.declared.status.Status.TheVariants as status
 use Rattle.lq_track.specs.Database.{Database}
-use Rattle.lq_top.specs.Jobs.{TellsJob}
+use Rattle.lq_top.specs.Jobs.{TellsJob, TellsText}
 use Rattle.lq_top.specs.Tells.{IfFinished}
 use Rattle.lq_top.specs.Works.{OnIts, is_finished}
 use Rattle.lq_top.specs.declared.given.Given.{Given}
@@ -27,12 +28,28 @@ module _ (job : Job) (given : Given) (database : Database) where
   unfinished_tells (Ok done) unfinished = λ finished. absurd (not_true (sym unfinished ∙ finished))
   unfinished_tells (Err s) unfinished = tt
 
--- one without turns or rows
-pub untold : (r : Result Done Status) → IfOk r (λ (done : Done). IfFinished done (Unit {0}))
-untold (Ok done) = λ finished. tt
-untold (Err s) = tt
+-- what is told by whatever is done is told by what came to its end
+pub finished_tells : (r : Result Done Status) (holds : Done → Type 0) → IfOk r holds → IfOk r (λ (done : Done). IfFinished done (holds done))
+finished_tells (Ok done) holds tells = λ finished. tells
+finished_tells (Err s) holds tells = tt
+
+-- and nothing by what did not
+pub unended_tells : (r : Result Done Status) (holds : Done → Type 0) → IfOk r (λ (done : Done). is_finished done.status ≡ false) → IfOk r (λ (done : Done). IfFinished done (holds done))
+unended_tells (Ok done) holds unfinished = λ finished. absurd (not_true (sym unfinished ∙ finished))
+unended_tells (Err s) holds unfinished = tt
+
+-- a text, where it is done
+pub text_tells : (text : List ℕ) (r : Result Done Status) → IfOk r (λ (done : Done). done.status ≡ status.Done) → IfOk r (λ (done : Done). done.out ≡ Some text) → IfOk r (λ (done : Done). TellsText text done)
+text_tells text (Ok done) status out = record { status = status; out = out }
+text_tells text (Err s) status out = tt
 
 -- for each database of a store
+
+pub unended_on_its : (d : Dialect) (x : State) (r : Result Done Status) (holds : Done → Database → Type 0) → IfOk r (λ (done : Done). is_finished done.status ≡ false)
+    → IfOk r (λ (done : Done). OnIts d x (λ (database : Database). IfFinished done (holds done database)))
+unended_on_its d x (Ok done) holds unfinished = λ database has finished. absurd (not_true (sym unfinished ∙ finished))
+unended_on_its d x (Err s) holds unfinished = tt
+
 pub on_its_tells : (d : Dialect) (x : State) (r : Result Done Status) (holds : Done → Database → Type 0) → IfOk r (λ (done : Done). OnIts d x (λ (database : Database). holds done database))
     → OnIts d x (λ (database : Database). IfOk r (λ (done : Done). holds done database))
 on_its_tells d x (Ok done) holds tells = tells

@@ -1,5 +1,5 @@
 -- A file that holds a database holds it still where nothing is written.
-use Rattle.std.proofs.Common.{ap, refl, subst, sym, ◌∙◌}
+use Rattle.std.proofs.Common.{ap, inl, refl, subst, sym, ◌∙◌}
 use Rattle.std.proofs.lemmas.List.{append-nil}
 use Rattle.std.specs.Option.{option_map}
 use Rattle.std.specs.Prelude.{Bool, Err, List, None, Ok, Option, Result, Some, [], cond, false, map, true, ℕ, ◌++◌, ◌≡◌}
@@ -14,9 +14,12 @@ use Rattle.lq_store.specs.Journal.{Entry}
 use Rattle.lq_track.specs.Database.{Database}
 use Rattle.lq_tell.specs.declared.done.Done.{Done}
 use Rattle.lq_tell.specs.declared.status.Status.{Status}
-use Rattle.lq_top.specs.Bytes.{Becomes, Holds, Opens, WorksOn, most_bytes}
+use Rattle.lq_turns.proofs.Journal.{journal_leads}
+use Rattle.lq_turns.specs.Session.{all_called, left_by, session_on}
+use Rattle.lq_turns.specs.declared.call.Call.{Call}
+use Rattle.lq_top.specs.Bytes.{Becomes, Holds, IsLeftOn, Opens, WorksOn, most_bytes}
 use Rattle.lq_top.specs.Copies.{job_of}
-use Rattle.lq_top.specs.Jobs.{DoesJob, TellsJob, job_refusal, job_script}
+use Rattle.lq_top.specs.Jobs.{DoesJob, TellsJob, is_command, is_on_file, job_refusal, job_script}
 use Rattle.lq_top.specs.Refusals.{Answers}
 use Rattle.lq_top.specs.declared.copying.Printing.{Printing}
 use Rattle.lq_top.specs.declared.copying.Printing.TheVariants as print
@@ -27,6 +30,12 @@ ok_same h = Prim.cc
 
 err_ok : {n : ℕ} {b : Catalogue} → (let r : Result Catalogue ℕ = Err n in r) ≡ Ok b → ⊥
 err_ok h = Prim.cc
+
+true_false : true ≡ false → ⊥
+true_false h = Prim.cc
+
+false_true : false ≡ true → ⊥
+false_true h = Prim.cc
 
 module _ (d : Dialect) where
   clean_is : (c : Catalogue) (at : ℕ) (e : Catalogue) (b : Bool) → (let r : Result Catalogue ℕ = cond b (Ok c) (Err at) in r) ≡ Ok e → c ≡ e
@@ -61,6 +70,31 @@ pub becomes_same : (d : Dialect) (database : Database) (before after : Option (L
 becomes_same d database before after opens same =
     subst (λ told. Becomes d [] database before told) (sym same) (record { holds = holds_it d before database opens; entries = no_more (entries_in d most_bytes before) })
 
+-- and it is what a stop before the first call leaves
+pub left_same : (d : Dialect) (calls : List Call) (database : Database) (before after : Option (List ℕ)) → Opens d before database → after ≡ before → IsLeftOn d calls database before after
+left_same d calls database before after opens same =
+    subst (λ told. IsLeftOn d calls database before told) (sym same) (record {
+      written = [];
+      stops = record { front = []; rest = (all_called d calls (session_on database)).entries; entries = refl; now = database; led = refl; is = inl refl };
+      entries = no_more (entries_in d most_bytes before);
+      now = database;
+      led = refl;
+      holds = holds_it d before database opens;
+    })
+
+-- what whole calls leave a stop of them may leave
+pub becomes_left : (d : Dialect) (calls : List Call) (database : Database) (before after : Option (List ℕ)) → Becomes d calls database before after → IsLeftOn d calls database before after
+becomes_left d calls database before after becomes =
+    let all = (all_called d calls (session_on database)).entries in
+    record {
+      written = all;
+      stops = record { front = all; rest = []; entries = sym (append-nil all); now = left_by d calls database; led = journal_leads d calls database; is = inl refl };
+      entries = becomes.entries;
+      now = left_by d calls database;
+      led = journal_leads d calls database;
+      holds = becomes.holds;
+    }
+
 -- what is printed is written nowhere
 
 no_calls : (printing : Printing) (given : Given) (database : Database) → job_script (job_of printing) given database ≡ []
@@ -69,11 +103,22 @@ no_calls (print.Rollback target) given database = refl
 
 prints : (printing : Printing) (given : Given) (database : Database) (before : Option (List ℕ)) (done : Result Done Status) (after : Option (List ℕ)) → Opens given.options.dialect before database → after ≡ before
     → WorksOn given.options.dialect (job_script (job_of printing) given database) database before done after
-prints printing given database before (Ok done) after opens same = λ finished.
-    subst (λ calls. Becomes given.options.dialect calls database before after) (sym (no_calls printing given database)) (becomes_same given.options.dialect database before after opens same)
-prints printing given database before (Err s) after opens same = tt
+prints printing given database before (Ok done) after opens same = (
+  λ finished. subst (λ calls. Becomes given.options.dialect calls database before after) (sym (no_calls printing given database)) (becomes_same given.options.dialect database before after opens same),
+  λ unfinished. left_same given.options.dialect (job_script (job_of printing) given database) database before after opens same,
+)
+prints printing given database before (Err s) after opens same = left_same given.options.dialect (job_script (job_of printing) given database) database before after opens same
 
 pub printed_does : (printing : Printing) (given : Given) (database : Database) (before : Option (List ℕ)) (done : Result Done Status) (after : Option (List ℕ)) → Opens given.options.dialect before database
     → Answers (job_refusal (job_of printing) given database) done → TellsJob (job_of printing) given database done → after ≡ before → DoesJob (job_of printing) given database before done after
 printed_does printing given database before done after opens answers tells same =
     record { answers = answers; refused = λ some. same; works = prints printing given database before done after opens same; tells = tells }
+
+-- which is on the file, and no command
+pub prints_on_file : {A : Type 0} (printing : Printing) → is_on_file (job_of printing) ≡ false → A
+prints_on_file print.Update off = absurd (true_false off)
+prints_on_file (print.Rollback target) off = absurd (true_false off)
+
+pub prints_no_command : {A : Type 0} (printing : Printing) → is_command (job_of printing) ≡ true → A
+prints_no_command print.Update is = absurd (false_true is)
+prints_no_command (print.Rollback target) is = absurd (false_true is)

@@ -18,6 +18,7 @@ use Rattle.lq_model.specs.declared.statement.Statement.{Statement}
 use Rattle.lq_plan.specs.Work.{work_from}
 use Rattle.lq_plan.specs.declared.turns.Item.{Item}
 use Rattle.lq_run.specs.Commands.{HasDatabase, LeavesAs}
+use Rattle.lq_run.specs.Crashes.{LeftBehind}
 use Rattle.lq_run.specs.Steps.{TellsAs}
 use Rattle.lq_run.specs.declared.runner.End.{End}
 use Rattle.lq_run.specs.declared.runner.End.TheVariants as end
@@ -28,6 +29,7 @@ use Rattle.lq_seen.specs.Telling.{bounded}
 use Rattle.lq_seen.specs.View.{any_meaning}
 use Rattle.lq_seen.specs.declared.outcome.Outcome.{Outcome}
 use Rattle.lq_sets.specs.declared.set_turns.SetTurns.{SetTurns}
+use Rattle.lq_store.specs.Crashes.{Crashes}
 use Rattle.lq_store.specs.State.{State}
 use Rattle.lq_tell.specs.declared.done.Done.{Done}
 use Rattle.lq_tell.specs.declared.status.Status.{Status}
@@ -53,7 +55,7 @@ use Rattle.lq_top.specs.Refusals.{Answers, IsFault, Passes, ends, if_halts, own_
 use Rattle.lq_top.specs.Scripts.{log_in, nothing_told, sets_in, settled_in, update_script}
 use Rattle.lq_top.specs.Tells.{HasTold, IfFinished, TellsUpdate, status_by, stop_by, update_output}
 use Rattle.lq_top.specs.Turns.{MayTurn, turns_script}
-use Rattle.lq_top.specs.Works.{IsReady, OnIts, Works, is_finished, is_whole}
+use Rattle.lq_top.specs.Works.{CrashesIn, IsReady, OnIts, Works, is_finished, is_whole}
 use Rattle.lq_top.specs.declared.given.Given.{Given}
 
 not_true : false ≡ true → ⊥
@@ -230,13 +232,18 @@ module _ (given : Given) (x : State) (rows : List Tracked) (source : SetTurns) (
             (update_may given database has.committed.sound differ moment read (view_has given.options given.changelog short) (ap (has_work (sets_in given)) same ∙ some) (goes database has));
       }
 
-  pub turns_work : (database : Database) (y : State) (e : End) (r : Result Done Status) → database.rows ≡ rows → has_work (sets_in given) rows ≡ true → is_halt (own_choice (log_in given) (contents_of database)) ≡ false
-      → IfOk r (λ (done : Done). is_finished done.status ≡ true → is_whole e ≡ true) → LeavesAs d (turns_script d any_meaning given.stamp (OfSets (sets_left source)) database) database x e y
-      → Works d (update_script given database) database x r y
-  turns_work database y e r same some goes whole leaves =
-      subst (λ calls. Works d calls database x r y) (sym (update_is given database (ap (has_work (sets_in given)) same ∙ some) goes))
-      (works_by d (turns_script d any_meaning given.stamp (OfSets (sets_in given)) database) database x y e r whole
-      (subst (λ (xs : List (Set AnyChange)). LeavesAs d (turns_script d any_meaning given.stamp (OfSets xs) database) database x e y) left leaves))
+  module _ (database : Database) (same : database.rows ≡ rows) (some : has_work (sets_in given) rows ≡ true) (goes : is_halt (own_choice (log_in given) (contents_of database)) ≡ false) where
+    script_is : turns_script d any_meaning given.stamp (OfSets (sets_left source)) database ≡ update_script given database
+    script_is = ap (λ (xs : List (Set AnyChange)). turns_script d any_meaning given.stamp (OfSets xs) database) left ∙ sym (update_is given database (ap (has_work (sets_in given)) same ∙ some) goes)
+
+    pub turns_work : (y : State) (e : End) (r : Result Done Status) → IfOk r (λ (done : Done). is_finished done.status ≡ true → is_whole e ≡ true)
+        → LeavesAs d (turns_script d any_meaning given.stamp (OfSets (sets_left source)) database) database x e y → LeftBehind d (turns_script d any_meaning given.stamp (OfSets (sets_left source)) database) database x y
+        → Works d (update_script given database) database x r y
+    turns_work y e r whole leaves stops =
+        works_by d (update_script given database) database x y e r whole (subst (λ calls. LeavesAs d calls database x e y) script_is leaves) (subst (λ calls. LeftBehind d calls database x y) script_is stops)
+
+    pub turns_crash : (before now : Crashes) → CrashesIn d (turns_script d any_meaning given.stamp (OfSets (sets_left source)) database) database x before now → CrashesIn d (update_script given database) database x before now
+    turns_crash before now crash = subst (λ calls. CrashesIn d calls database x before now) script_is crash
 
 pub sets_told : (s : SetTurns) (d : Dialect) (stamp : Stamp) (told : Account) (e : End) → TellsAs (set_way s d stamp told) e → HasTold s.outcome told e
 sets_told s d stamp told end.Done tells = tells

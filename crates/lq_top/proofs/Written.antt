@@ -35,9 +35,10 @@ use Rattle.lq_turns.specs.declared.fault.Fault.{Fault}
 use Rattle.lq_turns.specs.declared.stamp.Stamp.{Stamp}
 use Rattle.lq_base.specs.declared.command.Target.{Target}
 use Rattle.lq_top.proofs.Kept.{restores, syncs, updates}
-use Rattle.lq_top.proofs.Unchanged.{becomes_same}
+use Rattle.lq_top.proofs.OnFiles.{by_end}
+use Rattle.lq_top.proofs.Unchanged.{becomes_left, becomes_same, left_same}
 use Rattle.lq_top.specs.Asks.{Asks, Files, file_status}
-use Rattle.lq_top.specs.Bytes.{Becomes, OnFile, Opens, TellsDamage}
+use Rattle.lq_top.specs.Bytes.{Becomes, IsLeftOn, OnFile, Opens, TellsDamage}
 use Rattle.lq_top.specs.Headline.{GoesBack, GoneBack, HasSynced, HasUpdated}
 use Rattle.lq_top.specs.Jobs.{DoesJob, DoesLine, is_on_file, job_refusal, job_script}
 use Rattle.lq_top.specs.Kinds.{IsNotLoaded, IsOfFiles, IsOfWords, is_unwritten}
@@ -201,7 +202,7 @@ over_by x s un (inl is) cut over = over_finished x un (sym (ap is_over is) ∙ o
 over_by x s un (inr (inl is)) cut over = absurd (false_true (sym (ap is_over is) ∙ over))
 over_by x s un (inr (inr is)) cut over = finished_by x un (cut is)
 
-was_over : (done : Result Done Status) (s : Status) → IsWritten done s → is_over s ≡ true → is_finished (status_done done) ≡ true
+pub was_over : (done : Result Done Status) (s : Status) → IsWritten done s → is_over s ≡ true → is_finished (status_done done) ≡ true
 was_over done s by over = over_by (status_done done) s (unwritten done by.kind) by.ended by.cut over
 
 -- a command that failed has no text, so that its output did not fail
@@ -331,7 +332,7 @@ quiet_lock : (b : Bool) (lock : Lock) → Quiet (if b then Some (status.Locked l
 quiet_lock true lock = refl
 quiet_lock false lock = tt
 
-quiet_held : (database : Database) → Quiet (held database)
+pub quiet_held : (database : Database) → Quiet (held database)
 quiet_held database = quiet_lock database.lock.locked database.lock
 
 quiet_some : (xs : List Fault) → Quiet (if_some xs)
@@ -344,7 +345,7 @@ quiet_invalid given rows = quiet_some (faults (sets_in given) rows)
 pub quiet_unready : (given : Given) (database : Database) → Quiet (unready given database)
 quiet_unready given database = quiet_or (held database) (invalid given database.rows) (quiet_held database) (quiet_invalid given database.rows)
 
-quiet_untagged : (rows : List Tracked) → Quiet (untagged rows)
+pub quiet_untagged : (rows : List Tracked) → Quiet (untagged rows)
 quiet_untagged [] = refl
 quiet_untagged (row ∷ rows) = tt
 
@@ -403,11 +404,18 @@ refused_for (Some refused) x (inr fault) finished = absurd (fault_finished x fau
 
 becomes_by : (job : Job) (given : Given) (database : Database) (before : Option (List ℕ)) (done : Result Done Status) (after : Option (List ℕ)) → Opens given.options.dialect before database
     → DoesJob job given database before done after → is_finished (status_done done) ≡ true → Becomes given.options.dialect (job_script job given database) database before after
-becomes_by job given database before (Ok done) after opens does finished = does.works finished
+becomes_by job given database before (Ok done) after opens does finished = does.works.0 finished
 becomes_by job given database before (Err x) after opens does finished =
     let cause_is = refused_for (job_refusal job given database) x does.answers finished in
     subst (λ calls. Becomes given.options.dialect calls database before after) (sym (no_job_script job given database x cause_is finished))
     (becomes_same given.options.dialect database before after opens (does.refused (ap is_some cause_is)))
+
+-- which is what a stop may leave, however it ended
+left_by : (job : Job) (given : Given) (database : Database) (before : Option (List ℕ)) (done : Result Done Status) (after : Option (List ℕ)) → DoesJob job given database before done after
+    → IsLeftOn given.options.dialect (job_script job given database) database before after
+left_by job given database before (Ok done) after does =
+    by_end (is_finished done.status) (λ finished. becomes_left given.options.dialect (job_script job given database) database before after (does.works.0 finished)) does.works.1
+left_by job given database before (Err x) after does = does.works
 
 abbrev pub Failed : Result Done Status → Type 0
 Failed done = (done ≡ Err status.ReadFault) ⊎ (done ≡ Err status.OutOfMemory)
@@ -429,11 +437,13 @@ module _ (job : Job) (given : Given) (before : Option (List ℕ)) (done : Result
     ends = outside_ends (job_refusal job given database) s (failed_outside done s by failed);
     refused = λ some. same;
     works = λ over. absurd (failed_unfinished done failed (was_over done s by over));
+    left = λ stopped. left_same given.options.dialect (job_script job given database) database before after opens same;
   }
   runs_by database opens (inr (read, does)) = record {
     ends = ends_by (job_refusal job given database) done s by does.answers;
     refused = does.refused;
     works = λ over. becomes_by job given database before done after opens does (was_over done s by over);
+    left = λ stopped. left_by job given database before done after does;
   }
 
   pub runs : DoesLine job given before done after → is_on_file job ≡ true → OnFile given.options.dialect before (λ database. RunsJob job given database before s after)

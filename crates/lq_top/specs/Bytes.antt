@@ -1,20 +1,23 @@
 -- The database that the bytes of a file hold.
 use Rattle.std.specs.Option.{option_map}
-use Rattle.std.specs.Prelude.{Err, IfSome, List, None, Ok, Option, Result, Some, true, ℕ, ◌++◌, ◌≡◌}
+use Rattle.std.specs.Prelude.{Err, IfSome, IsTrue, List, None, Ok, Option, Result, Some, [], false, true, ℕ, ◌++◌, ◌≡◌, ◌⊎◌}
 use Rattle.lq_base.specs.declared.dialect.Dialect.{Dialect}
 use Rattle.lq_db.specs.Load.{catalogue_of}
 use Rattle.lq_db.specs.Log.{entries_in}
 use Rattle.lq_journal.specs.declared.fault.LoadFault.{LoadFault}
 use Rattle.lq_journal.specs.declared.fault.LoadFault.TheVariants as load
 use Rattle.lq_model.specs.Catalogue.{Catalogue}
+use Rattle.lq_outside.specs.Crash.{Crashes as DiskCrashes}
 use Rattle.lq_run.specs.Stands.{entries_of}
 use Rattle.lq_store.specs.Journal.{Entry, database as catalogue_by}
 use Rattle.lq_tell.specs.declared.done.Done.{Done}
 use Rattle.lq_tell.specs.declared.status.Status.{Status}
 use Rattle.lq_tell.specs.declared.status.Status.TheVariants as status
 use Rattle.lq_track.specs.Database.{Database}
+use Rattle.lq_turns.specs.Deed.{all_done}
 use Rattle.lq_turns.specs.Held.{StandsFor}
 use Rattle.lq_turns.specs.Session.{all_called, left_by, session_on}
+use Rattle.lq_turns.specs.Stops.{IsLeft, Journal, joined}
 use Rattle.lq_turns.specs.declared.call.Call.{Call}
 use Rattle.lq_turns.specs.declared.stamp.Stamp.{Stamp}
 use Rattle.lq_top.specs.Works.{is_finished}
@@ -50,10 +53,27 @@ pub record Becomes (d : Dialect) (calls : List Call) (database : Database) (befo
   pub holds : Holds d after (left_by d calls database)
   pub entries : entries_in d most_bytes after ≡ option_map (λ entries. entries ++ entries_of d (all_called d calls (session_on database)).entries) (entries_in d most_bytes before)
 
--- so it is after a command that came to its end
+-- a file that holds what a stop of these calls may leave: entries behind those before, and the database that they lead to
+pub record IsLeftOn (d : Dialect) (calls : List Call) (database : Database) (before after : Option (List ℕ)) : Type 0 where
+  pub written : Journal
+  pub stops : IsLeft d calls database [] written
+  pub entries : entries_in d most_bytes after ≡ option_map (λ entries. entries ++ entries_of d written) (entries_in d most_bytes before)
+  pub now : Database
+  pub led : all_done d (joined written) database ≡ Ok now
+  pub holds : Holds d after now
+
+-- so it is after a command that came to its end, or ended otherwise
 abbrev pub WorksOn : Dialect → List Call → Database → Option (List ℕ) → Result Done Status → Option (List ℕ) → Type 0
-WorksOn d calls database before (Ok done) after = is_finished done.status ≡ true → Becomes d calls database before after
-WorksOn d calls database before (Err s) after = Unit {0}
+WorksOn d calls database before (Ok done) after = (is_finished done.status ≡ true → Becomes d calls database before after) × (is_finished done.status ≡ false → IsLeftOn d calls database before after)
+WorksOn d calls database before (Err s) after = IsLeftOn d calls database before after
+
+-- these bytes have the entries of some that a crash might leave
+abbrev pub WasLeft : Dialect → (List ℕ → Type 0) → List ℕ → Type 0
+WasLeft d leaves bytes = (those : List ℕ) × leaves those × (entries_in d most_bytes (Some bytes) ≡ entries_in d most_bytes (Some those))
+
+-- at each moment of it a crash of the machine leaves the entries that one before it might have left, or what a stop of these calls may leave
+abbrev pub CrashesOn : Dialect → List Call → Database → Option (List ℕ) → DiskCrashes → DiskCrashes → Type 0
+CrashesOn d calls database told before now = IsTrue before.is_honest → (bytes : List ℕ) → now.left_since before.moment bytes → WasLeft d before.leaves bytes ⊎ IsLeftOn d calls database told (Some bytes)
 
 -- damage is told with its place
 abbrev pub TellsDamage : Dialect → Option (List ℕ) → Result Done Status → Type 0

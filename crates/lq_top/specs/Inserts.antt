@@ -1,5 +1,5 @@
 -- A changelog-sync: which of its rows do not go in, how it ends, and what it tells.
-use Rattle.std.specs.Prelude.{Bool, List, None, Option, Some, [], if◌then◌else◌, nat_lt, ℕ, ◌&&◌, ◌+◌, ◌∷◌, ◌≡◌}
+use Rattle.std.specs.Prelude.{Bool, List, None, Option, Some, [], nat_lt, ℕ, ◌&&◌, ◌≡◌}
 use Rattle.lq_base.specs.declared.run.Happened.{Happened}
 use Rattle.lq_base.specs.declared.tracking.Tracked.{Tracked}
 use Rattle.lq_report.specs.Output.{sync_text}
@@ -24,11 +24,6 @@ use Rattle.lq_top.specs.declared.given.Given.{Given}
 -- the row has a place in run order, and there is room for it behind so many
 abbrev pub goes_in : ℕ → Tracked → Bool
 goes_in count row = has_place row && nat_lt count 100000
-
--- the first of these rows, behind so many, that does not go in
-abbrev pub first_out : ℕ → List Tracked → Option Tracked
-first_out count [] = None
-first_out count (row ∷ rows) = if goes_in count row then first_out (count + 1) rows else Some row
 
 abbrev pub refusal_in : Option Stop → Option Refusal
 refusal_in None = None

@@ -8,6 +8,7 @@ pub mod Inserts
 pub mod Jobs
 pub mod Kinds
 pub mod Refusals
+pub mod Resumed
 pub mod Run
 pub mod Says
 pub mod Scripts
@@ -16,4 +17,5 @@ pub mod Stopping
 pub mod Tells
 pub mod Turns
 pub mod Who
+pub mod Worked
 pub mod Works

@@ -5,6 +5,7 @@ use Rattle.lq_cli.specs.declared.line.Job.{Job}
 use Rattle.lq_base.specs.declared.identity.Identity.{Identity}
 use Rattle.lq_base.specs.declared.run.Why.{Why}
 use Rattle.lq_db.specs.Load.{catalogue_of}
+use Rattle.lq_outside.specs.Crash.{Crashes as DiskCrashes, Settled}
 use Rattle.lq_sources.specs.declared.fault.LoadFault.{LoadFault}
 use Rattle.lq_tell.specs.Lines.{status_lines, warning_lines}
 use Rattle.lq_tell.specs.declared.status.Status.{Status}
@@ -13,8 +14,8 @@ use Rattle.lq_track.specs.Database.{Database, SameDatabase}
 use Rattle.lq_turns.specs.declared.call.Call.{Call}
 use Rattle.lq_turns.specs.declared.stamp.Stamp.{Stamp}
 use Rattle.lq_top.specs.Asks.{Asks, Files, asked_by, file_status}
-use Rattle.lq_top.specs.Bytes.{Becomes, Holds, OnFile, given_at, most_bytes}
-use Rattle.lq_top.specs.Jobs.{is_on_file, job_refusal, job_script}
+use Rattle.lq_top.specs.Bytes.{Becomes, CrashesOn, Holds, IsLeftOn, OnFile, given_at, most_bytes}
+use Rattle.lq_top.specs.Jobs.{is_command, is_on_file, job_refusal, job_script}
 use Rattle.lq_top.specs.Works.{IsKept, is_finished}
 use Rattle.lq_top.specs.declared.given.Given.{Given}
 
@@ -38,11 +39,12 @@ abbrev pub EndsBy : Option Status → Status → Type 0
 EndsBy None s = (is_end s ≡ true) ⊎ IsOutside s
 EndsBy (Some refused) s = (s ≡ refused) ⊎ IsOutside s
 
--- on a file that holds the database: the status has its cause; a refusal changes nothing; and where it came to its end its calls are done
+-- on a file that holds the database: the status has its cause; a refusal changes nothing; where it came to its end its calls are done, and otherwise it leaves what a stop of them may leave
 pub record RunsJob (job : Job) (given : Given) (database : Database) (before : Option (List ℕ)) (s : Status) (after : Option (List ℕ)) : Type 0 where
   pub ends : EndsBy (job_refusal job given database) s
   pub refused : IsKept (job_refusal job given database) before after
   pub works : is_over s ≡ true → Becomes given.options.dialect (job_script job given database) database before after
+  pub left : is_over s ≡ false → IsLeftOn given.options.dialect (job_script job given database) database before after
 
 -- what the words, the files, who runs it and the clock's reading give to a command
 abbrev pub given_by : {words : List (List ℕ)} {files : Files} → Asks words files → Stamp → Given
@@ -51,6 +53,14 @@ given_by asks stamp = given_at (asked_by asks.line.options asks.changelog) stamp
 -- on each file that holds a database
 abbrev pub Runs : {words : List (List ℕ)} {files : Files} → Asks words files → Stamp → Option (List ℕ) → Status → Option (List ℕ) → Type 0
 Runs asks stamp before s after = is_on_file asks.line.job ≡ true → OnFile asks.line.options.dialect before (λ database. RunsJob asks.line.job (given_by asks stamp) database before s after)
+
+-- and a crash of the machine, at each moment of it
+abbrev pub Crashes : {words : List (List ℕ)} {files : Files} → Asks words files → Stamp → Option (List ℕ) → DiskCrashes → DiskCrashes → Type 0
+Crashes asks stamp told before now = is_on_file asks.line.job ≡ true → OnFile asks.line.options.dialect told (λ database. CrashesOn asks.line.options.dialect (job_script asks.line.job (given_by asks stamp) database) database told before now)
+
+-- after a command that came to its end a crash leaves what is there
+abbrev pub IsSafe : {words : List (List ℕ)} {files : Files} → Asks words files → Status → Option (List ℕ) → DiskCrashes → Type 0
+IsSafe asks s after now = is_command asks.line.job ≡ true → is_over s ≡ true → Settled after now
 
 -- a file holds a database that is the same but for which of the tracking tables were made
 abbrev pub HoldsSame : Dialect → Option (List ℕ) → Database → Type 0

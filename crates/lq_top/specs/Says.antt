@@ -1,4 +1,4 @@
--- What a run of the program says of an update, of a rollback and of a changelog-sync.
+-- What a run of the program says.
 use Rattle.std.specs.Prelude.{Bool, List, None, Option, Some, [], false, option_map, true, ℕ, ◌++◌, ◌≡◌}
 use Rattle.lq_base.specs.declared.command.Command.TheVariants as command
 use Rattle.lq_base.specs.declared.command.Target.{Target}
@@ -12,7 +12,7 @@ use Rattle.lq_turns.specs.declared.stop.Stop.{Stop}
 use Rattle.lq_top.specs.Asks.{Asks, Files}
 use Rattle.lq_top.specs.Bytes.{OnFile}
 use Rattle.lq_top.specs.Inserts.{synced_in}
-use Rattle.lq_top.specs.Jobs.{back_in}
+use Rattle.lq_top.specs.Jobs.{at_once_text, back_in}
 use Rattle.lq_top.specs.Refusals.{own_halt}
 use Rattle.lq_top.specs.Run.{given_by}
 use Rattle.lq_top.specs.Scripts.{updated_in}
@@ -43,6 +43,7 @@ abbrev pub SaysJob : Job → Given → Database → Status → Option (List ℕ)
 SaysJob (Run command.Update) given database s before after = SaysUpdate false given database s before after
 SaysJob (Run (command.Rollback target)) given database s before after = SaysRollback false given target database s before after
 SaysJob (Run command.Sync) given database s before after = Says (synced_in given database).stop (sync_text (synced_in given database).happened) s before after
+SaysJob (Run c) given database s before after = Says None (at_once_text c given database) s before after
 SaysJob UpdateSql given database s before after = SaysUpdate true given database s before after
 SaysJob (RollbackSql target) given database s before after = SaysRollback true given target database s before after
 SaysJob _ given database s before after = Unit {0}

@@ -2,8 +2,10 @@
 use Rattle.std.specs.Prelude.{Bool, Err, List, Ok, Option, Result, false, is_some, true, ◌≡◌, ◌≤◌}
 use Rattle.lq_base.specs.declared.dialect.Dialect.{Dialect}
 use Rattle.lq_run.specs.Commands.{HasDatabase, Leaves}
+use Rattle.lq_run.specs.Crashes.{CrashesLeave, LeftBehind, LeftInCommand}
 use Rattle.lq_run.specs.declared.runner.End.{End}
 use Rattle.lq_run.specs.declared.runner.End.TheVariants as end
+use Rattle.lq_store.specs.Crashes.{Crashes}
 use Rattle.lq_store.specs.State.{State}
 use Rattle.lq_tell.specs.declared.done.Done.{Done}
 use Rattle.lq_tell.specs.declared.status.Status.{Status}
@@ -44,10 +46,14 @@ abbrev pub KeptLock : End → Type 0
 KeptLock (end.Locked lock) = ⊥
 KeptLock e = Unit {0}
 
--- where a command came to its end its calls' database is there, and their entries are in the journal
+-- where a command came to its end its calls' database is there, and their entries are in the journal; however else it ended, what a stop of them may leave
 abbrev pub Works : Dialect → List Call → Database → State → Result Done Status → State → Type 0
-Works d calls database x (Ok done) y = is_finished done.status ≡ true → Leaves d calls database x y
-Works d calls database x (Err s) y = Unit {0}
+Works d calls database x (Ok done) y = (is_finished done.status ≡ true → Leaves d calls database x y) × (is_finished done.status ≡ false → LeftBehind d calls database x y)
+Works d calls database x (Err s) y = LeftBehind d calls database x y
+
+-- at each moment of it a crash of the machine leaves what a stop of these calls may leave
+abbrev pub CrashesIn : Dialect → List Call → Database → State → Crashes → Crashes → Type 0
+CrashesIn d calls database x before now = CrashesLeave x.entries (LeftInCommand d calls database) before now
 
 -- one that is refused changes nothing
 abbrev pub IsKept : {S : Type 0} → Option Status → S → S → Type 0

@@ -1,5 +1,5 @@
 ghost use Rattle.std.specs.List.{All};
-ghost use Rattle.std.specs.Prelude.{◌≡◌, ◌≤◌, Err, IfSome, None, true};
+ghost use Rattle.std.specs.Prelude.{◌≡◌, ◌≤◌, Err, IfSome, None, false, true};
 ghost use Rattle.lq_base.specs.Character.{char_count};
 ghost use Rattle.lq_changelog.specs.ShortTexts.{HasShortTexts};
 ghost use Rattle.lq_cli.specs.declared.line.Job.TheVariants as job;
@@ -10,7 +10,8 @@ ghost use Rattle.lq_top.specs.AtOnce.{is_at_once};
 ghost use Rattle.lq_top.specs.Jobs.{TellsJob};
 ghost use Rattle.lq_top.specs.Refusals.{Answers, Passes, no_way_back, print_rollback, print_update, refusal};
 ghost use Rattle.lq_top.specs.Scripts.{script, tag_in};
-ghost use Rattle.lq_top.specs.Works.{IsKept, IsReady, OnIts, Works};
+ghost use Rattle.lq_turns.specs.Stops.{is_mark};
+ghost use Rattle.lq_top.specs.Works.{CrashesIn, IsKept, IsReady, OnIts, Works};
 
 use crate::checks::{check_own, check_target, check_ways, valid_rows};
 use crate::given::Given;
@@ -42,10 +43,12 @@ pub fn run_command<S: Store, P: SqlText>(
     requires short { All HasShortTexts given.changelog.sets }
     requires tag { IfSome (tag_in command.now) (λ tag. char_count tag ≤ 255) }
     requires moment { given.stamp.reading ≤ 253402300799999 }
+    requires name { is_mark given.stamp.who ≡ false }
     ensures valid { S.valid store.new }
     ensures answers { OnIts given.options.dialect (S.state store.old) (λ database. Answers (refusal command.now given database) result) }
     ensures refused { OnIts given.options.dialect (S.state store.old) (λ database. IsKept (refusal command.now given database) store.old store.new) }
     ensures works { OnIts given.options.dialect (S.state store.old) (λ database. Works given.options.dialect (script command.now given database) database (S.state store.old) result (S.state store.new)) }
+    ensures any_moment { OnIts given.options.dialect (S.state store.old) (λ database. CrashesIn given.options.dialect (script command.now given database) database (S.state store.old) (S.crashes store.old) (S.crashes store.new)) }
     ensures tells { OnIts given.options.dialect (S.state store.old) (λ database. TellsJob (job.Run command.now) given database result) }
     ensures later { S.faults store.old ≤ S.faults store.new }
     ensures disk { result ≡ Err DiskFault → Rose (S.faults store.old) (S.faults store.new) }
@@ -75,6 +78,7 @@ fn run_at_once<S: Store, P: SqlText>(
     ensures answers { OnIts given.now.options.dialect (S.state store.old) (λ database. Answers (refusal command.now given.now database) result) }
     ensures refused { OnIts given.now.options.dialect (S.state store.old) (λ database. IsKept (refusal command.now given.now database) store.old store.new) }
     ensures works { OnIts given.now.options.dialect (S.state store.old) (λ database. Works given.now.options.dialect (script command.now given.now database) database (S.state store.old) result (S.state store.new)) }
+    ensures any_moment { OnIts given.now.options.dialect (S.state store.old) (λ database. CrashesIn given.now.options.dialect (script command.now given.now database) database (S.state store.old) (S.crashes store.old) (S.crashes store.new)) }
     ensures tells { OnIts given.now.options.dialect (S.state store.old) (λ database. TellsJob (job.Run command.now) given.now database result) }
     ensures later { S.faults store.old ≤ S.faults store.new }
     ensures disk { result ≡ Err DiskFault → Rose (S.faults store.old) (S.faults store.new) }
@@ -102,6 +106,7 @@ pub fn print_update<S: Store, P: SqlText>(
     requires read { AreFor given.options.dialect given.changelog }
     requires short { All HasShortTexts given.changelog.sets }
     requires moment { given.stamp.reading ≤ 253402300799999 }
+    requires name { is_mark given.stamp.who ≡ false }
     ensures answers { OnIts given.options.dialect (S.state store.old) (λ database. Answers (print_update given database) result) }
     ensures tells { OnIts given.options.dialect (S.state store.old) (λ database. TellsJob job.UpdateSql given database result) }
 {
@@ -123,6 +128,7 @@ fn free_and_update<S: Store, P: SqlText>(
     requires read { AreFor given.options.dialect given.changelog }
     requires short { All HasShortTexts given.changelog.sets }
     requires moment { given.stamp.reading ≤ 253402300799999 }
+    requires name { is_mark given.stamp.who ≡ false }
     requires passes { OnIts given.options.dialect (S.state store.old) (λ database. print_update given database ≡ None) }
     ensures answers { OnIts given.options.dialect (S.state store.old) (λ database. Answers (print_update given database) result) }
     ensures tells { OnIts given.options.dialect (S.state store.old) (λ database. TellsJob job.UpdateSql given database result) }
@@ -146,6 +152,7 @@ pub fn print_rollback<S: Store, P: SqlText>(
     requires sql { P.dialect ≡ given.options.dialect }
     requires read { AreFor given.options.dialect given.changelog }
     requires moment { given.stamp.reading ≤ 253402300799999 }
+    requires name { is_mark given.stamp.who ≡ false }
     ensures answers { OnIts given.options.dialect (S.state store.old) (λ database. Answers (print_rollback given target.now database) result) }
     ensures tells { OnIts given.options.dialect (S.state store.old) (λ database. TellsJob (job.RollbackSql target.now) given database result) }
 {
@@ -176,6 +183,7 @@ fn free_and_rollback<S: Store, P: SqlText>(
     requires sql { P.dialect ≡ given.options.dialect }
     requires read { AreFor given.options.dialect given.changelog }
     requires moment { given.stamp.reading ≤ 253402300799999 }
+    requires name { is_mark given.stamp.who ≡ false }
     requires passes { OnIts given.options.dialect (S.state store.old) (λ database. print_rollback given target.now database ≡ None) }
     ensures answers { OnIts given.options.dialect (S.state store.old) (λ database. Answers (print_rollback given target.now database) result) }
     ensures tells { OnIts given.options.dialect (S.state store.old) (λ database. TellsJob (job.RollbackSql target.now) given database result) }

@@ -1,8 +1,9 @@
 ghost use Rattle.std.specs.List.{All};
-ghost use Rattle.std.specs.Prelude.{◌≡◌, ◌≤◌, Err, IfErr, IfOk, IfSome, List, Option, Some, length, ℕ};
+ghost use Rattle.std.specs.Prelude.{◌≡◌, ◌≤◌, Err, IfErr, IfOk, IfSome, List, Option, Some, false, length, ℕ};
 ghost use Rattle.lq_changelog.specs.ShortTexts.{HasShortTexts};
 ghost use Rattle.lq_kinds.specs.Dialects.{AreFor};
 ghost use Rattle.lq_outside.specs.Count.{Rose};
+ghost use Rattle.lq_outside.specs.Crash.{LeavesOnly};
 ghost use Rattle.lq_tell.specs.declared.status.Status.TheVariants as status;
 ghost use Rattle.lq_base.specs.declared.dialect.Dialect.{Dialect};
 ghost use Rattle.lq_cli.specs.declared.line.Job.{Job};
@@ -18,6 +19,7 @@ ghost use Rattle.lq_top.specs.Refusals.{Answers};
 ghost use Rattle.lq_top.specs.Kinds.{IsOfDatabase};
 ghost use Rattle.lq_top.specs.Stamp.{stamp_of};
 ghost use Rattle.lq_top.specs.declared.given.Given.{Given};
+ghost use Rattle.lq_turns.specs.Stops.{is_mark};
 
 use crate::command::{print_rollback, print_update};
 use crate::given::{Asked, Given, stamped};
@@ -57,6 +59,7 @@ pub fn on_copy<D: Disk, C: Clock, P: SqlText + Drop + Copy>(
     ensures answers { OnFile asked.options.dialect (D.told disk.old) (λ database. Answers (job_refusal (job_of printing.entry) (given_at asked (stamp_of who.now (C.last clock.new))) database) result) }
     ensures tells { OnFile asked.options.dialect (D.told disk.old) (λ database. TellsJob (job_of printing.entry) (given_at asked (stamp_of who.now (C.last clock.new))) database result) }
     ensures told { D.told disk.new ≡ D.told disk.old }
+    ensures any_moment { LeavesOnly (D.crashes disk.old) (D.crashes disk.new) (D.crashes disk.old).leaves }
     ensures damaged { TellsDamage asked.options.dialect (D.told disk.old) result }
     ensures kind { IsOfDatabase result }
     ensures later { D.faults disk.old ≤ D.faults disk.new }
@@ -136,6 +139,7 @@ fn print_on<S: Store, P: SqlText>(
     requires read { AreFor given.options.dialect given.changelog }
     requires short { All HasShortTexts given.changelog.sets }
     requires moment { given.stamp.reading ≤ 253402300799999 }
+    requires name { is_mark given.stamp.who ≡ false }
     ensures answers { OnIts given.options.dialect (S.state store.old) (λ database. Answers (job_refusal (job_of printing.entry) given database) result) }
     ensures tells { OnIts given.options.dialect (S.state store.old) (λ database. TellsJob (job_of printing.entry) given database result) }
 {
@@ -174,6 +178,7 @@ fn copy_of<D: Disk>(alloc: Global, disk: &mut D) -> Result<SureDisk, Status>
     ensures copied { IfOk result (λ copy. IfSome (D.told disk.old) (λ bytes. ⟦<SureDisk as Disk>⟧.told copy ≡ Some bytes)) }
     ensures refused { IfErr result (IsNoCopy (D.told disk.old)) }
     ensures told { D.told disk.new ≡ D.told disk.old }
+    ensures any_moment { LeavesOnly (D.crashes disk.old) (D.crashes disk.new) (D.crashes disk.old).leaves }
     ensures later { D.faults disk.old ≤ D.faults disk.new }
     ensures failed { result ≡ Err status.DiskFault → Rose (D.faults disk.old) (D.faults disk.new) }
 {
@@ -188,6 +193,7 @@ fn copy_sized<D: Disk>(alloc: Global, disk: &mut D, size: u64) -> Result<SureDis
     ensures copied { IfOk result (λ copy. IfSome (D.told disk.old) (λ bytes. ⟦<SureDisk as Disk>⟧.told copy ≡ Some bytes)) }
     ensures refused { IfErr result (IsNoCopy (D.told disk.old)) }
     ensures told { D.told disk.new ≡ D.told disk.old }
+    ensures any_moment { LeavesOnly (D.crashes disk.old) (D.crashes disk.new) (D.crashes disk.old).leaves }
     ensures later { D.faults disk.old ≤ D.faults disk.new }
     ensures failed { result ≡ Err status.DiskFault → Rose (D.faults disk.old) (D.faults disk.new) }
 {
@@ -204,6 +210,7 @@ fn read_whole<D: Disk>(alloc: Global, disk: &mut D, size: u64) -> Result<Vec<u8>
     ensures bytes { IfOk result (λ bytes. IfSome (D.told disk.old) (λ told. told ≡ bytes.items)) }
     ensures refused { IfErr result (IsNoCopy (D.told disk.old)) }
     ensures told { D.told disk.new ≡ D.told disk.old }
+    ensures any_moment { LeavesOnly (D.crashes disk.old) (D.crashes disk.new) (D.crashes disk.old).leaves }
     ensures later { D.faults disk.old ≤ D.faults disk.new }
     ensures failed { result ≡ Err status.DiskFault → Rose (D.faults disk.old) (D.faults disk.new) }
 {

@@ -1,7 +1,8 @@
-ghost use Rattle.std.specs.Prelude.{◌≡◌, ◌≤◌, IfErr, IfOk};
+ghost use Rattle.std.specs.Prelude.{◌≡◌, ◌≤◌, IfErr, IfOk, false};
 ghost use Rattle.lq_tell.specs.declared.status.Status.TheVariants.{OutOfMemory};
 ghost use Rattle.lq_top.specs.Clock.{ReadOnce};
 ghost use Rattle.lq_top.specs.Stamp.{stamp_of};
+ghost use Rattle.lq_turns.specs.Stops.{is_mark};
 
 use crate::stamp::stamp_of;
 use lq_expr::Options;
@@ -39,6 +40,7 @@ pub fn stamped<C: Clock>(
     ensures given { IfOk result (λ given. (given.changelog ≡ asked.changelog) × (given.options ≡ asked.options)) }
     ensures stamp { IfOk result (λ given. given.stamp ≡ stamp_of who.now (C.last clock.new)) }
     ensures moment { IfOk result (λ given. given.stamp.reading ≤ 253402300799999) }
+    ensures name { IfOk result (λ given. is_mark given.stamp.who ≡ false) }
     ensures no_memory { IfErr result (λ status. status ≡ OutOfMemory) }
     ensures once { ReadOnce (C.to_come clock.old) (C.to_come clock.new) (C.last clock.new) }
 {

@@ -1,6 +1,7 @@
 ghost use Rattle.std.specs.Prelude.{◌≡◌, [], Err, IfErr, IfOk, Some};
 ghost use Rattle.lq_report.specs.Output.{status_text, validated_text};
 ghost use Rattle.lq_tell.specs.declared.status.Status.TheVariants.{DiskFault, Done as Whole, OutOfMemory};
+ghost use Rattle.lq_top.specs.Jobs.{TellsText};
 ghost use Rattle.lq_top.specs.Refusals.{Answers, invalid};
 ghost use Rattle.lq_top.specs.Scripts.{sets_in};
 ghost use Rattle.lq_top.specs.Works.{IsReady, OnIts, Works};
@@ -22,6 +23,7 @@ pub fn validate<S: Store>(alloc: Global, given: &Given, store: &S) -> Result<Don
     ensures answers { OnIts given.now.options.dialect (S.state store.now) (λ database. Answers (invalid given.now database.rows) result) }
     ensures works { OnIts given.now.options.dialect (S.state store.now) (λ database. Works given.now.options.dialect [] database (S.state store.now) result (S.state store.now)) }
     ensures sure { result ≡ Err DiskFault → ⊥ }
+    ensures tells { IfOk result (λ done. TellsText validated_text done) }
 {
     valid_rows(alloc, given, store)?;
     validated(alloc)
@@ -43,7 +45,7 @@ pub fn status<S: Store>(alloc: Global, given: &Given, store: &S) -> Result<Done,
     ensures answers { OnIts given.now.options.dialect (S.state store.now) (λ database. Answers (invalid given.now database.rows) result) }
     ensures works { OnIts given.now.options.dialect (S.state store.now) (λ database. Works given.now.options.dialect [] database (S.state store.now) result (S.state store.now)) }
     ensures sure { result ≡ Err DiskFault → ⊥ }
-    ensures pending { IfOk result (λ done. OnIts given.now.options.dialect (S.state store.now) (λ database. done.out ≡ Some (status_text (pending (sets_in given.now) database.rows)))) }
+    ensures tells { IfOk result (λ done. OnIts given.now.options.dialect (S.state store.now) (λ database. TellsText (status_text (pending (sets_in given.now) database.rows)) done)) }
 {
     let rows = valid_rows(alloc, given, store)?;
     listed(alloc, given, rows.as_slice())

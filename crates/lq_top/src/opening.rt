@@ -1,20 +1,18 @@
 ghost use Rattle.std.specs.List.{All};
-ghost use Rattle.std.specs.Prelude.{◌≡◌, ◌≤◌, Err, IfSome, List, Option, Some, ℕ};
+ghost use Rattle.std.specs.Prelude.{◌≡◌, ◌≤◌, IfSome, Ok};
 ghost use Rattle.lq_base.specs.Character.{char_count};
 ghost use Rattle.lq_changelog.specs.ShortTexts.{HasShortTexts};
 ghost use Rattle.lq_cli.specs.declared.line.Job.TheVariants as job;
-ghost use Rattle.lq_db.specs.Db.{IsDb, disk_in, engine_in, state};
-ghost use Rattle.lq_journal.specs.State.{limit_of};
+ghost use Rattle.lq_db.specs.Db.{IsDb, IsNew, disk_in, engine_in, state};
+ghost use Rattle.lq_db.specs.Load.{catalogue_of};
 ghost use Rattle.lq_kinds.specs.Dialects.{AreFor};
-ghost use Rattle.lq_outside.specs.Count.{Rose};
-ghost use Rattle.lq_tell.specs.declared.status.Status.TheVariants.{DiskFault};
-ghost use Rattle.lq_top.specs.Bytes.{OnFile, TellsDamage, given_at, load_status, most_bytes};
+ghost use Rattle.lq_store.specs.Executor.{kept};
+ghost use Rattle.lq_top.specs.Bytes.{given_at, load_status, most_bytes};
 ghost use Rattle.lq_top.specs.Clock.{ReadAtMostOnce, ReadOnce};
-ghost use Rattle.lq_top.specs.Jobs.{DoesJob};
 ghost use Rattle.lq_top.specs.Scripts.{tag_in};
-ghost use Rattle.lq_top.specs.Kinds.{IsOfDatabase};
 ghost use Rattle.lq_top.specs.Stamp.{stamp_of};
-ghost use Rattle.lq_top.specs.Works.{IsReady, OnIts};
+ghost use Rattle.lq_top.specs.Worked.{WorkedOn};
+ghost use Rattle.lq_top.specs.Works.{IsReady};
 
 use crate::command::run_command;
 use crate::given::{Asked, stamped};
@@ -63,11 +61,7 @@ pub fn on_disk<D: Disk, C: Clock, P: SqlText + Drop + Copy>(
     requires read { AreFor asked.options.dialect asked.changelog }
     requires short { All HasShortTexts asked.changelog.sets }
     requires tag { IfSome (tag_in command.now) (λ tag. char_count tag ≤ 255) }
-    ensures does { OnFile asked.options.dialect (D.told disk) (λ database. DoesJob (job.Run command.now) (given_at asked (stamp_of who.now (C.last clock.new))) database (D.told disk) result.done (D.told result.disk)) }
-    ensures damaged { TellsDamage asked.options.dialect (D.told disk) result.done }
-    ensures kind { IsOfDatabase result.done }
-    ensures later { D.faults disk ≤ D.faults result.disk }
-    ensures fault { result.done ≡ Err DiskFault → Rose (D.faults disk) (D.faults result.disk) }
+    ensures worked { WorkedOn D.told D.faults D.crashes (job.Run command.now) (given_at asked (stamp_of who.now (C.last clock.new))) disk result.done result.disk }
     ensures once { ReadAtMostOnce (C.to_come clock.old) (C.to_come clock.new) (C.last clock.new) }
 {
     match Db::<D, P, Engine>::load(alloc, disk, asked.options.dialect, sql, LIMIT) {
@@ -93,17 +87,13 @@ fn on_database<D: Disk, C: Clock, P: SqlText + Drop + Copy, E: Executor + Drop>(
 ) -> Worked<D>
     requires valid { IsDb P.dialect (D.told (disk_in db)) (D.crashes (disk_in db)) (E.held (engine_in db)) db }
     requires ready { IsReady asked.options.dialect (state (D.told (disk_in db)) (E.held (engine_in db)) db) }
-    requires limit { limit_of db.journal ≡ most_bytes }
+    requires new { IsNew asked.options.dialect most_bytes db }
+    requires catalogue { IfSome (D.told (disk_in db)) (λ bytes. catalogue_of asked.options.dialect most_bytes bytes ≡ Ok (kept (E.held (engine_in db)))) }
     requires sql { P.dialect ≡ asked.options.dialect }
     requires read { AreFor asked.options.dialect asked.changelog }
     requires short { All HasShortTexts asked.changelog.sets }
     requires tag { IfSome (tag_in command.now) (λ tag. char_count tag ≤ 255) }
-    ensures does { (bytes : List ℕ) → D.told (disk_in db) ≡ Some bytes → OnIts asked.options.dialect (state (D.told (disk_in db)) (E.held (engine_in db)) db)
-        (λ database. DoesJob (job.Run command.now) (given_at asked (stamp_of who.now (C.last clock.new))) database (D.told (disk_in db)) result.done (D.told result.disk)) }
-    ensures whole { (told : Option (List ℕ)) → TellsDamage asked.options.dialect told result.done }
-    ensures kind { IsOfDatabase result.done }
-    ensures later { D.faults (disk_in db) ≤ D.faults result.disk }
-    ensures fault { result.done ≡ Err DiskFault → Rose (D.faults (disk_in db)) (D.faults result.disk) }
+    ensures worked { WorkedOn D.told D.faults D.crashes (job.Run command.now) (given_at asked (stamp_of who.now (C.last clock.new))) (disk_in db) result.done result.disk }
     ensures once { ReadOnce (C.to_come clock.old) (C.to_come clock.new) (C.last clock.new) }
 {
     let mut db = db;

@@ -1,11 +1,14 @@
-ghost use Rattle.std.specs.Prelude.{◌≡◌, ◌≤◌, Err, OnOk};
+ghost use Rattle.std.specs.Prelude.{◌≡◌, ◌≤◌, Err, IfOk, OnOk};
 ghost use Rattle.lq_base.specs.declared.command.Command.TheVariants as command;
 ghost use Rattle.lq_outside.specs.Count.{Rose};
 ghost use Rattle.lq_run.specs.Commands.{Leaves};
+ghost use Rattle.lq_run.specs.Crashes.{LeftBehind};
 ghost use Rattle.lq_store.specs.Calls.{CountsDisk};
 ghost use Rattle.lq_tell.specs.declared.status.Status.TheVariants.{DiskFault};
+ghost use Rattle.lq_top.specs.Jobs.{TellsText, released_text};
 ghost use Rattle.lq_top.specs.Refusals.{Answers, refusal};
-ghost use Rattle.lq_top.specs.Works.{IsKept, IsReady, OnIts, Works};
+ghost use Rattle.lq_top.specs.Tells.{IfFinished};
+ghost use Rattle.lq_top.specs.Works.{CrashesIn, IsKept, IsReady, OnIts, Works};
 ghost use Rattle.lq_turns.specs.Script.{release_calls};
 
 use crate::given::{Given, SESSION};
@@ -29,9 +32,11 @@ pub fn release<S: Store, P: SqlText>(
     requires ready { IsReady given.now.options.dialect (S.state store.old) }
     requires sql { P.dialect ≡ given.now.options.dialect }
     ensures valid { S.valid store.new }
+    ensures tells { IfOk result (λ done. OnIts given.now.options.dialect (S.state store.old) (λ database. IfFinished done (TellsText (released_text database.lock) done))) }
     ensures answers { OnIts given.now.options.dialect (S.state store.old) (λ database. Answers (refusal command.Release given.now database) result) }
     ensures refused { OnIts given.now.options.dialect (S.state store.old) (λ database. IsKept (refusal command.Release given.now database) store.old store.new) }
     ensures works { OnIts given.now.options.dialect (S.state store.old) (λ database. Works given.now.options.dialect (release_calls database) database (S.state store.old) result (S.state store.new)) }
+    ensures any_moment { OnIts given.now.options.dialect (S.state store.old) (λ database. CrashesIn given.now.options.dialect (release_calls database) database (S.state store.old) (S.crashes store.old) (S.crashes store.new)) }
     ensures later { S.faults store.old ≤ S.faults store.new }
     ensures disk { result ≡ Err DiskFault → Rose (S.faults store.old) (S.faults store.new) }
 {
@@ -54,6 +59,8 @@ pub fn free<S: Store, P: SqlText>(
     requires sql { P.dialect ≡ given.now.options.dialect }
     ensures valid { S.valid store.new }
     ensures leaves { OnOk result (OnIts given.now.options.dialect (S.state store.old) (λ database. Leaves given.now.options.dialect (release_calls database) database (S.state store.old) (S.state store.new))) }
+    ensures behind { OnIts given.now.options.dialect (S.state store.old) (λ database. LeftBehind given.now.options.dialect (release_calls database) database (S.state store.old) (S.state store.new)) }
+    ensures any_moment { OnIts given.now.options.dialect (S.state store.old) (λ database. CrashesIn given.now.options.dialect (release_calls database) database (S.state store.old) (S.crashes store.old) (S.crashes store.new)) }
     ensures faults { CountsDisk result (S.faults store.old) (S.faults store.new) }
 {
     let dialect = given.options.dialect;
@@ -73,7 +80,9 @@ fn is_held<S: Store>(dialect: Dialect, store: &S) -> bool
     store.lock().locked
 }
 
-fn text_of(alloc: Global, lock: &Lock) -> Result<Text, NoMemory> {
+fn text_of(alloc: Global, lock: &Lock) -> Result<Text, NoMemory>
+    ensures { IfOk result (λ text. text ≡ released_text lock.now) }
+{
     if !lock.locked {
         return release_text(alloc, None);
     }

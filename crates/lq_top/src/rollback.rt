@@ -1,5 +1,5 @@
 ghost use Rattle.std.specs.List.{list_all};
-ghost use Rattle.std.specs.Prelude.{◌≡◌, ◌≤◌, [], Err, IfErr, IfOk, None, Some, ◌≢◌, reverse, true};
+ghost use Rattle.std.specs.Prelude.{◌≡◌, ◌≤◌, [], Err, IfErr, IfOk, None, Some, ◌≢◌, false, reverse, true};
 ghost use Rattle.lq_kinds.specs.Dialects.{AreFor};
 ghost use Rattle.lq_outside.specs.Count.{Rose};
 ghost use Rattle.lq_tell.specs.declared.status.Status.TheVariants as status;
@@ -12,10 +12,11 @@ ghost use Rattle.lq_seen.specs.Printing.{Account, of_turns};
 ghost use Rattle.lq_top.specs.Scripts.{rolled_back, rolled_to};
 ghost use Rattle.lq_top.specs.Stopping.{NamesStop};
 ghost use Rattle.lq_top.specs.Tells.{HasTold, IfFinished, TellsRollback, rollback_output};
-ghost use Rattle.lq_top.specs.Works.{IsKept, IsReady, KeptLock, OnIts, Works, is_finished, is_whole};
+ghost use Rattle.lq_top.specs.Works.{CrashesIn, IsKept, IsReady, KeptLock, OnIts, Works, is_finished, is_whole};
 ghost use Rattle.lq_base.specs.declared.command.Command.TheVariants as command;
 ghost use Rattle.lq_turns.specs.Rollback.{rollback_of, rows_kept};
 ghost use Rattle.lq_turns.specs.Contents.{Contents, contents_of};
+ghost use Rattle.lq_turns.specs.Stops.{is_mark};
 
 use crate::checks::{check_target, check_ways, checked_rows};
 use crate::given::Given;
@@ -45,11 +46,13 @@ pub fn rollback<S: Store, P: SqlText>(
     requires sql { P.dialect ≡ given.options.dialect }
     requires read { AreFor given.options.dialect given.changelog }
     requires moment { given.stamp.reading ≤ 253402300799999 }
+    requires name { is_mark given.stamp.who ≡ false }
     ensures valid { S.valid store.new }
     ensures tells { IfOk result (λ done. OnIts given.options.dialect (S.state store.old) (λ database. IfFinished done (TellsRollback prints (rolled_to prints given (rows_kept target.now database.rows) database) done))) }
     ensures answers { OnIts given.options.dialect (S.state store.old) (λ database. Answers (refusal (command.Rollback target.now) given database) result) }
     ensures refused { OnIts given.options.dialect (S.state store.old) (λ database. IsKept (refusal (command.Rollback target.now) given database) store.old store.new) }
     ensures works { OnIts given.options.dialect (S.state store.old) (λ database. Works given.options.dialect (rollback_script given target.now database) database (S.state store.old) result (S.state store.new)) }
+    ensures any_moment { OnIts given.options.dialect (S.state store.old) (λ database. CrashesIn given.options.dialect (rollback_script given target.now database) database (S.state store.old) (S.crashes store.old) (S.crashes store.new)) }
     ensures later { S.faults store.old ≤ S.faults store.new }
     ensures disk { result ≡ Err status.DiskFault → Rose (S.faults store.old) (S.faults store.new) }
 {
@@ -72,12 +75,14 @@ fn rollback_rows<S: Store, P: SqlText>(
     requires sql { P.dialect ≡ given.options.dialect }
     requires read { AreFor given.options.dialect given.changelog }
     requires moment { given.stamp.reading ≤ 253402300799999 }
+    requires name { is_mark given.stamp.who ≡ false }
     requires rows { OnIts given.options.dialect (S.state store.old) (λ database. database.rows ≡ rows.now) }
     ensures valid { S.valid store.new }
     ensures tells { IfOk result (λ done. OnIts given.options.dialect (S.state store.old) (λ database. IfFinished done (TellsRollback prints (rolled_to prints given (rows_kept target.now database.rows) database) done))) }
     ensures answers { Answers (no_way_back given target.now rows.now) result }
     ensures refused { IsKept (no_way_back given target.now rows.now) store.old store.new }
     ensures works { OnIts given.options.dialect (S.state store.old) (λ database. Works given.options.dialect (rollback_script given target.now database) database (S.state store.old) result (S.state store.new)) }
+    ensures any_moment { OnIts given.options.dialect (S.state store.old) (λ database. CrashesIn given.options.dialect (rollback_script given target.now database) database (S.state store.old) (S.crashes store.old) (S.crashes store.new)) }
     ensures later { S.faults store.old ≤ S.faults store.new }
     ensures disk { result ≡ Err status.DiskFault → Rose (S.faults store.old) (S.faults store.new) }
 {
@@ -101,11 +106,13 @@ fn take_back<S: Store, P: SqlText>(
     requires sql { P.dialect ≡ given.options.dialect }
     requires read { AreFor given.options.dialect given.changelog }
     requires moment { given.stamp.reading ≤ 253402300799999 }
+    requires name { is_mark given.stamp.who ≡ false }
     requires ways { AreWays given.changelog.sets undone.now ways.now }
     ensures valid { S.valid store.new }
     ensures tells { IfOk result (λ done. OnIts given.options.dialect (S.state store.old) (λ database. IfFinished done (TellsRollback prints (rolled_back prints given (reverse undone.now) database) done))) }
     ensures answers { Answers None result }
     ensures works { OnIts given.options.dialect (S.state store.old) (λ database. Works given.options.dialect (taking_back given (reverse undone.now) database) database (S.state store.old) result (S.state store.new)) }
+    ensures any_moment { OnIts given.options.dialect (S.state store.old) (λ database. CrashesIn given.options.dialect (taking_back given (reverse undone.now) database) database (S.state store.old) (S.crashes store.old) (S.crashes store.new)) }
     ensures later { S.faults store.old ≤ S.faults store.new }
     ensures disk { result ≡ Err status.DiskFault → Rose (S.faults store.old) (S.faults store.new) }
 {
@@ -148,10 +155,12 @@ fn run<S: Store, P: SqlText>(
     requires knows { (c : Contents) → LeadsBack source given.options.dialect (of_turns prints given.options.dialect (reverse source.turns) c) c }
     requires some { reverse source.turns ≢ [] }
     requires moment { given.stamp.reading ≤ 253402300799999 }
+    requires name { is_mark given.stamp.who ≡ false }
     ensures valid { S.valid store.new }
     ensures tells { IfOk result (λ done. OnIts given.options.dialect (S.state store.old) (λ database. IfFinished done (TellsRollback prints (of_turns prints given.options.dialect (reverse source.turns) (contents_of database)) done))) }
     ensures answers { Answers None result }
     ensures works { OnIts given.options.dialect (S.state store.old) (λ database. Works given.options.dialect (rollback_of given.options.dialect given.stamp (reverse source.turns) database) database (S.state store.old) result (S.state store.new)) }
+    ensures any_moment { OnIts given.options.dialect (S.state store.old) (λ database. CrashesIn given.options.dialect (rollback_of given.options.dialect given.stamp (reverse source.turns) database) database (S.state store.old) (S.crashes store.old) (S.crashes store.new)) }
     ensures later { S.faults store.old ≤ S.faults store.new }
     ensures disk { result ≡ Err status.DiskFault → Rose (S.faults store.old) (S.faults store.new) }
 {

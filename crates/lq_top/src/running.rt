@@ -6,6 +6,7 @@ ghost use Rattle.lq_hand.specs.Way.{refused_in};
 ghost use Rattle.lq_hand.specs.declared.hand.Phase.TheVariants as phase;
 ghost use Rattle.lq_outside.specs.Count.{Rose};
 ghost use Rattle.lq_run.specs.Commands.{LeavesAs};
+ghost use Rattle.lq_run.specs.Crashes.{LeftBehind};
 ghost use Rattle.lq_run.specs.Ends.{AllHoldOn};
 ghost use Rattle.lq_run.specs.Faults.{is_disk_end};
 ghost use Rattle.lq_run.specs.declared.runner.End.TheVariants.{Done as Whole, Refused as Stopped};
@@ -16,9 +17,10 @@ ghost use Rattle.lq_top.specs.Refusals.{IsFault, ends, fault_status};
 ghost use Rattle.lq_top.specs.Stopping.{NamesStop, YieldedAt, one_way};
 ghost use Rattle.lq_top.specs.Tells.{status_by, stop_by};
 ghost use Rattle.lq_top.specs.Turns.{MayTurn, turns_script};
-ghost use Rattle.lq_top.specs.Works.{IsReady, KeptLock, OnIts, is_finished, is_whole};
+ghost use Rattle.lq_top.specs.Works.{CrashesIn, IsReady, KeptLock, OnIts, is_finished, is_whole};
 ghost use Rattle.lq_turns.specs.Contents.{contents_of};
 ghost use Rattle.lq_turns.specs.Script.{with_lock};
+ghost use Rattle.lq_turns.specs.Stops.{is_mark};
 ghost use Rattle.lq_turns.specs.Session.{session_on};
 ghost use Rattle.lq_turns.specs.Turn.{made};
 
@@ -88,9 +90,12 @@ pub fn run_turns<T: Source + Drop, S: Store, P: SqlText>(
     requires reads { T.reads source dialect }
     requires sql { P.dialect ≡ dialect }
     requires moment { stamp.reading ≤ 253402300799999 }
+    requires name { is_mark stamp.who ≡ false }
     requires may_run { OnIts dialect (S.state store.old) (λ database. (told : T.Told) × MayTurn dialect T.meaning stamp (T.left source) (T.way source dialect stamp) database told) }
     ensures valid { S.valid store.new }
     ensures leaves { OnIts dialect (S.state store.old) (λ database. LeavesAs dialect (turns_script dialect T.meaning stamp (T.left source) database) database (S.state store.old) result.end (S.state store.new)) }
+    ensures left { OnIts dialect (S.state store.old) (λ database. LeftBehind dialect (turns_script dialect T.meaning stamp (T.left source) database) database (S.state store.old) (S.state store.new)) }
+    ensures any_moment { OnIts dialect (S.state store.old) (λ database. CrashesIn dialect (turns_script dialect T.meaning stamp (T.left source) database) database (S.state store.old) (S.crashes store.old) (S.crashes store.new)) }
     ensures tells { OnIts dialect (S.state store.old) (λ database. (told : T.Told) → MayTurn dialect T.meaning stamp (T.left source) (T.way source dialect stamp) database told → TellsAs (T.way result.source dialect stamp told) result.end) }
     ensures stops { OnIts dialect (S.state store.old) (λ database. (told : T.Told) → MayTurn dialect T.meaning stamp (T.left source) (T.way source dialect stamp) database told → YieldedAt T.way dialect stamp told result.end) }
     ensures later { S.faults store.old ≤ S.faults store.new }
@@ -117,6 +122,7 @@ pub fn run_hand<S: Store, P: SqlText>(
     requires ready { IsReady dialect (S.state store.old) }
     requires sql { P.dialect ≡ dialect }
     requires moment { stamp.reading ≤ 253402300799999 }
+    requires name { is_mark stamp.who ≡ false }
     requires inside { hand.phase ≡ phase.Inside }
     requires turn { AreTurns dialect false (calls_left hand) }
     requires stops { hand.goes_on ≡ false }
@@ -124,6 +130,8 @@ pub fn run_hand<S: Store, P: SqlText>(
     requires fits { OnIts dialect (S.state store.old) (λ database. calls_fit dialect (with_lock stamp database (made dialect (calls_left hand) (contents_of database))) (session_on database) ≡ true) }
     ensures valid { S.valid store.new }
     ensures leaves { OnIts dialect (S.state store.old) (λ database. LeavesAs dialect (with_lock stamp database (made dialect (calls_left hand) (contents_of database))) database (S.state store.old) result (S.state store.new)) }
+    ensures left { OnIts dialect (S.state store.old) (λ database. LeftBehind dialect (with_lock stamp database (made dialect (calls_left hand) (contents_of database))) database (S.state store.old) (S.state store.new)) }
+    ensures any_moment { OnIts dialect (S.state store.old) (λ database. CrashesIn dialect (with_lock stamp database (made dialect (calls_left hand) (contents_of database))) database (S.state store.old) (S.crashes store.old) (S.crashes store.new)) }
     ensures tells { OnIts dialect (S.state store.old) (λ database. TellsAs (one_way (refused_in dialect (calls_left hand) no_progress (contents_of database))) result) }
     ensures later { S.faults store.old ≤ S.faults store.new }
     ensures rose { is_disk_end result ≡ true → Rose (S.faults store.old) (S.faults store.new) }

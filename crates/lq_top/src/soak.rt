@@ -1,5 +1,5 @@
 ghost use Rattle.std.specs.List.{All};
-ghost use Rattle.std.specs.Prelude.{◌≡◌, ◌≤◌, IfErr, IfOk, IfSome, IsTrue, OnOk, true};
+ghost use Rattle.std.specs.Prelude.{◌≡◌, ◌≤◌, IfErr, IfOk, IfSome, IsTrue, OnOk, false, true};
 ghost use Rattle.lq_base.specs.Character.{char_count};
 ghost use Rattle.lq_changelog.specs.ShortTexts.{HasShortTexts};
 ghost use Rattle.lq_db.specs.Db.{IsDb, disk_in, engine_in, state};
@@ -8,6 +8,7 @@ ghost use Rattle.lq_top.specs.Clock.{ReadOnce};
 ghost use Rattle.lq_top.specs.Kinds.{Refuses, is_of_soak};
 ghost use Rattle.lq_top.specs.Scripts.{tag_in};
 ghost use Rattle.lq_top.specs.Works.{IsReady};
+ghost use Rattle.lq_turns.specs.Stops.{is_mark};
 
 use crate::command::run_command;
 use crate::copying::copy_status;
@@ -172,6 +173,7 @@ fn on_loaded<D: Disk + Drop, P: SqlText + Drop + Copy, E: Executor + Drop>(
     requires short { All HasShortTexts given.changelog.sets }
     requires tag { IfSome (tag_in command.now) (λ tag. char_count tag ≤ 255) }
     requires moment { given.stamp.reading ≤ 253402300799999 }
+    requires name { is_mark given.stamp.who ≡ false }
     ensures { IfErr result (λ s. is_of_soak s ≡ true) }
 {
     let mut db = db;
@@ -199,6 +201,7 @@ fn done_on<S: Store, P: SqlText>(
     requires short { All HasShortTexts given.changelog.sets }
     requires tag { IfSome (tag_in command.now) (λ tag. char_count tag ≤ 255) }
     requires moment { given.stamp.reading ≤ 253402300799999 }
+    requires name { is_mark given.stamp.who ≡ false }
     ensures valid { S.valid store.new }
     ensures live { OnOk result (IsTrue (S.state store.new).live) }
     ensures stops { IfErr result (λ s. is_of_soak s ≡ true) }
@@ -226,6 +229,7 @@ fn given_by<P: SqlText>(alloc: Global, sql: &P, soaker: Soaker<'_>) -> Result<Gi
     ensures read { IfOk result (λ given. AreFor given.options.dialect given.changelog) }
     ensures short { IfOk result (λ given. All HasShortTexts given.changelog.sets) }
     ensures moment { IfOk result (λ given. given.stamp.reading ≤ 253402300799999) }
+    ensures name { IfOk result (λ given. is_mark given.stamp.who ≡ false) }
 {
     let stamp = stamp_of(alloc, soaker.who, soaker.reading)?;
     let changelog = made_changelog(alloc, sql, soaker.dialect, soaker.seed)?;

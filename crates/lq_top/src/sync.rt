@@ -1,22 +1,25 @@
 ghost use Rattle.std.specs.List.{All};
 ghost use Rattle.std.specs.Option.{option_copied};
-ghost use Rattle.std.specs.Prelude.{◌≡◌, ◌≤◌, ◌≢◌, [], Err, IfErr, IfOk, None, Some, true};
+ghost use Rattle.std.specs.Prelude.{◌≡◌, ◌≤◌, ◌≢◌, [], Err, IfErr, IfOk, None, Some, false, option_map, true};
 ghost use Rattle.lq_base.specs.declared.command.Command.TheVariants as command;
 ghost use Rattle.lq_changelog.specs.ShortTexts.{HasShortTexts};
 ghost use Rattle.lq_kinds.specs.Dialects.{AreFor};
 ghost use Rattle.lq_outside.specs.Count.{Rose};
 ghost use Rattle.lq_report.specs.Output.{sync_text};
 ghost use Rattle.lq_run.specs.Commands.{LeavesAs};
+ghost use Rattle.lq_run.specs.Crashes.{LeftBehind};
 ghost use Rattle.lq_run.specs.Faults.{is_disk_end};
 ghost use Rattle.lq_back.specs.SyncTurn.{AreDated};
 ghost use Rattle.lq_tell.specs.declared.status.Status.TheVariants as status;
-ghost use Rattle.lq_top.specs.Inserts.{EndsWithRows, TellsSync, first_out, goes_in, sync_out, synced_in};
+ghost use Rattle.lq_top.specs.Inserts.{EndsWithRows, TellsSync, goes_in, sync_out, synced_in};
 ghost use Rattle.lq_top.specs.Refusals.{Answers, IsFault, ends, refusal};
 ghost use Rattle.lq_top.specs.Scripts.{sets_in, sync_script};
 ghost use Rattle.lq_top.specs.Stopping.{NamesStop, refused_at};
 ghost use Rattle.lq_top.specs.Tells.{IfFinished, status_by, stop_by};
-ghost use Rattle.lq_top.specs.Works.{IsKept, IsReady, KeptLock, OnIts, Works, is_finished, is_whole};
+ghost use Rattle.lq_top.specs.Works.{CrashesIn, IsKept, IsReady, KeptLock, OnIts, Works, is_finished, is_whole};
+ghost use Rattle.lq_track.specs.Log.{identity_of};
 ghost use Rattle.lq_turns.specs.Script.{rows_to_sync};
+ghost use Rattle.lq_turns.specs.Stops.{is_mark};
 ghost use Rattle.lq_turns.specs.Synced.{insert_stop};
 
 use crate::checks::{checked_rows, identity_of};
@@ -51,11 +54,13 @@ pub fn sync<S: Store, P: SqlText>(
     requires read { AreFor given.options.dialect given.changelog }
     requires short { All HasShortTexts given.changelog.sets }
     requires moment { given.stamp.reading ≤ 253402300799999 }
+    requires name { is_mark given.stamp.who ≡ false }
     ensures valid { S.valid store.new }
     ensures tells { IfOk result (λ done. OnIts given.options.dialect (S.state store.old) (λ database. IfFinished done (TellsSync (synced_in given database) done))) }
     ensures answers { OnIts given.options.dialect (S.state store.old) (λ database. Answers (refusal command.Sync given database) result) }
     ensures refused { OnIts given.options.dialect (S.state store.old) (λ database. IsKept (refusal command.Sync given database) store.old store.new) }
     ensures works { OnIts given.options.dialect (S.state store.old) (λ database. Works given.options.dialect (sync_script given database) database (S.state store.old) result (S.state store.new)) }
+    ensures any_moment { OnIts given.options.dialect (S.state store.old) (λ database. CrashesIn given.options.dialect (sync_script given database) database (S.state store.old) (S.crashes store.old) (S.crashes store.new)) }
     ensures later { S.faults store.old ≤ S.faults store.new }
     ensures disk { result ≡ Err status.DiskFault → Rose (S.faults store.old) (S.faults store.new) }
 {
@@ -88,6 +93,7 @@ fn insert<S: Store, P: SqlText>(
     requires sql { P.dialect ≡ given.options.dialect }
     requires short { All HasShortTexts given.changelog.sets }
     requires moment { given.stamp.reading ≤ 253402300799999 }
+    requires name { is_mark given.stamp.who ≡ false }
     requires before { OnIts given.options.dialect (S.state store.old) (λ database. database.rows ≡ before.now) }
     requires rows { made ≡ rows_to_sync given.stamp.reading (sets_in given) before.now }
     requires dated { AreDated made }
@@ -95,6 +101,7 @@ fn insert<S: Store, P: SqlText>(
     ensures tells { IfOk result (λ done. OnIts given.options.dialect (S.state store.old) (λ database. IfFinished done (TellsSync (synced_in given database) done))) }
     ensures answers { Answers None result }
     ensures works { OnIts given.options.dialect (S.state store.old) (λ database. Works given.options.dialect (sync_script given database) database (S.state store.old) result (S.state store.new)) }
+    ensures any_moment { OnIts given.options.dialect (S.state store.old) (λ database. CrashesIn given.options.dialect (sync_script given database) database (S.state store.old) (S.crashes store.old) (S.crashes store.new)) }
     ensures later { S.faults store.old ≤ S.faults store.new }
     ensures disk { result ≡ Err status.DiskFault → Rose (S.faults store.old) (S.faults store.new) }
 {
@@ -127,6 +134,7 @@ fn insert_some<S: Store, P: SqlText>(
     requires sql { P.dialect ≡ given.options.dialect }
     requires short { All HasShortTexts given.changelog.sets }
     requires moment { given.stamp.reading ≤ 253402300799999 }
+    requires name { is_mark given.stamp.who ≡ false }
     requires before { OnIts given.options.dialect (S.state store.old) (λ database. database.rows ≡ before.now) }
     requires rows { made ≡ rows_to_sync given.stamp.reading (sets_in given) before.now }
     requires dated { AreDated made }
@@ -135,6 +143,7 @@ fn insert_some<S: Store, P: SqlText>(
     ensures tells { IfOk result (λ done. OnIts given.options.dialect (S.state store.old) (λ database. IfFinished done (TellsSync (synced_in given database) done))) }
     ensures answers { Answers None result }
     ensures works { OnIts given.options.dialect (S.state store.old) (λ database. Works given.options.dialect (sync_script given database) database (S.state store.old) result (S.state store.new)) }
+    ensures any_moment { OnIts given.options.dialect (S.state store.old) (λ database. CrashesIn given.options.dialect (sync_script given database) database (S.state store.old) (S.crashes store.old) (S.crashes store.new)) }
     ensures later { S.faults store.old ≤ S.faults store.new }
     ensures disk { result ≡ Err status.DiskFault → Rose (S.faults store.old) (S.faults store.new) }
 {
@@ -159,12 +168,15 @@ fn run<S: Store, P: SqlText>(
     requires sql { P.dialect ≡ given.options.dialect }
     requires short { All HasShortTexts given.changelog.sets }
     requires moment { given.stamp.reading ≤ 253402300799999 }
+    requires name { is_mark given.stamp.who ≡ false }
     requires before { OnIts given.options.dialect (S.state store.old) (λ database. database.rows ≡ before.now) }
     requires rows { made ≡ rows_to_sync given.stamp.reading (sets_in given) before.now }
     requires dated { AreDated made }
     requires some { made ≢ [] }
     ensures valid { S.valid store.new }
     ensures leaves { IfOk result (λ e. OnIts given.options.dialect (S.state store.old) (λ database. LeavesAs given.options.dialect (sync_script given database) database (S.state store.old) e (S.state store.new))) }
+    ensures left { OnIts given.options.dialect (S.state store.old) (λ database. LeftBehind given.options.dialect (sync_script given database) database (S.state store.old) (S.state store.new)) }
+    ensures any_moment { OnIts given.options.dialect (S.state store.old) (λ database. CrashesIn given.options.dialect (sync_script given database) database (S.state store.old) (S.crashes store.old) (S.crashes store.new)) }
     ensures tells { IfOk result (EndsWithRows made before.now) }
     ensures later { S.faults store.old ≤ S.faults store.new }
     ensures rose { IfOk result (λ e. is_disk_end e ≡ true → Rose (S.faults store.old) (S.faults store.new)) }
@@ -218,7 +230,7 @@ fn refused_row(
 ) -> Result<Option<Identity>, NoMemory>
     ensures { IfOk result (λ of. of ≡ refused_at (insert_stop rows.now before.now)) }
 {
-    match first_out(before.len(), rows) {
+    match first_out(before, rows) {
         Some(row) => {
             let of = identity_of(alloc, row)?;
             Ok(Some(of))
@@ -227,11 +239,11 @@ fn refused_row(
     }
 }
 
-// The first of these rows, behind so many, that does not go in.
-fn first_out<'a>(before: usize, rows: &'a [Tracked]) -> Option<&'a Tracked>
-    ensures { option_copied result ≡ first_out before rows.now }
+// The first of these rows that does not go in behind those before.
+fn first_out<'a>(before: &[Tracked], rows: &'a [Tracked]) -> Option<&'a Tracked>
+    ensures { option_map identity_of (option_copied result) ≡ refused_at (insert_stop rows.now before.now) }
 {
-    let mut count = before;
+    let mut count = before.len();
     let mut rest = rows;
     while let Some((row, after)) = rest.split_first() {
         if !goes_in(count, row) {

@@ -1,10 +1,13 @@
-ghost use Rattle.std.specs.Prelude.{◌≡◌, ◌≤◌, Err, None, Some, option_map};
+ghost use Rattle.std.specs.Prelude.{◌≡◌, ◌≤◌, Err, IfOk, None, Some, option_map};
 ghost use Rattle.lq_base.specs.Character.{char_count};
 ghost use Rattle.lq_base.specs.declared.command.Command.TheVariants as command;
 ghost use Rattle.lq_outside.specs.Count.{Rose};
+ghost use Rattle.lq_report.specs.Output.{tagged_text};
 ghost use Rattle.lq_tell.specs.declared.status.Status.TheVariants.{DiskFault};
+ghost use Rattle.lq_top.specs.Jobs.{TellsText};
 ghost use Rattle.lq_top.specs.Refusals.{Answers, refusal, untagged};
-ghost use Rattle.lq_top.specs.Works.{IsKept, IsReady, OnIts, Works};
+ghost use Rattle.lq_top.specs.Tells.{IfFinished};
+ghost use Rattle.lq_top.specs.Works.{CrashesIn, IsKept, IsReady, OnIts, Works};
 ghost use Rattle.lq_track.specs.Log.{identity_of};
 ghost use Rattle.lq_turns.specs.Script.{last_row, tag_calls};
 
@@ -32,9 +35,11 @@ pub fn tag<S: Store, P: SqlText>(
     requires sql { P.dialect ≡ given.now.options.dialect }
     requires short { char_count tag.now ≤ 255 }
     ensures valid { S.valid store.new }
+    ensures tells { IfOk result (λ done. IfFinished done (TellsText (tagged_text tag.now) done)) }
     ensures answers { OnIts given.now.options.dialect (S.state store.old) (λ database. Answers (refusal (command.Tag tag.now) given.now database) result) }
     ensures refused { OnIts given.now.options.dialect (S.state store.old) (λ database. IsKept (refusal (command.Tag tag.now) given.now database) store.old store.new) }
     ensures works { OnIts given.now.options.dialect (S.state store.old) (λ database. Works given.now.options.dialect (tag_calls tag.now database) database (S.state store.old) result (S.state store.new)) }
+    ensures any_moment { OnIts given.now.options.dialect (S.state store.old) (λ database. CrashesIn given.now.options.dialect (tag_calls tag.now database) database (S.state store.old) (S.crashes store.old) (S.crashes store.new)) }
     ensures later { S.faults store.old ≤ S.faults store.new }
     ensures disk { result ≡ Err DiskFault → Rose (S.faults store.old) (S.faults store.new) }
 {
@@ -59,9 +64,11 @@ fn tag_rows<S: Store, P: SqlText>(
     requires short { char_count tag.now ≤ 255 }
     requires rows { OnIts dialect (S.state store.old) (λ database. database.rows ≡ rows.now) }
     ensures valid { S.valid store.new }
+    ensures tells { IfOk result (λ done. IfFinished done (TellsText (tagged_text tag.now) done)) }
     ensures answers { Answers (untagged rows.now) result }
     ensures refused { IsKept (untagged rows.now) store.old store.new }
     ensures works { OnIts dialect (S.state store.old) (λ database. Works dialect (tag_calls tag.now database) database (S.state store.old) result (S.state store.new)) }
+    ensures any_moment { OnIts dialect (S.state store.old) (λ database. CrashesIn dialect (tag_calls tag.now database) database (S.state store.old) (S.crashes store.old) (S.crashes store.new)) }
     ensures later { S.faults store.old ≤ S.faults store.new }
     ensures disk { result ≡ Err DiskFault → Rose (S.faults store.old) (S.faults store.new) }
 {
@@ -84,8 +91,10 @@ fn tag_last<S: Store, P: SqlText>(
     requires short { char_count tag.now ≤ 255 }
     requires last { OnIts dialect (S.state store.old) (λ database. option_map identity_of (last_row database.rows) ≡ Some of) }
     ensures valid { S.valid store.new }
+    ensures tells { IfOk result (λ done. IfFinished done (TellsText (tagged_text tag.now) done)) }
     ensures answers { Answers None result }
     ensures works { OnIts dialect (S.state store.old) (λ database. Works dialect (tag_calls tag.now database) database (S.state store.old) result (S.state store.new)) }
+    ensures any_moment { OnIts dialect (S.state store.old) (λ database. CrashesIn dialect (tag_calls tag.now database) database (S.state store.old) (S.crashes store.old) (S.crashes store.new)) }
     ensures later { S.faults store.old ≤ S.faults store.new }
     ensures disk { result ≡ Err DiskFault → Rose (S.faults store.old) (S.faults store.new) }
 {

@@ -1,9 +1,10 @@
-ghost use Rattle.std.specs.Prelude.{◌≡◌, ◌⊎◌, None, Some, false, map, string_bytes};
+ghost use Rattle.std.specs.Prelude.{◌≡◌, ◌⊎◌, List, None, Some, false, map, string_bytes, ℕ};
 ghost use Rattle.std.specs.Option.{option_copied};
 ghost use Rattle.lq_base.specs.declared.identity.Identity.{Identity};
 ghost use Rattle.lq_base.specs.declared.run.Why.{Why};
 ghost use Rattle.lq_cli.specs.Line.{line_of};
 ghost use Rattle.lq_cli.specs.declared.line.Line.{Line};
+ghost use Rattle.lq_kinds.specs.Dialects.{AreFor};
 ghost use Rattle.lq_outside.specs.Count.{Rose};
 ghost use Rattle.lq_sources.specs.declared.fault.LoadFault.{LoadFault};
 ghost use Rattle.lq_tell.specs.Lines.{status_lines};
@@ -13,7 +14,8 @@ ghost use Rattle.lq_top.specs.Asks.{Asks, HasFault, IsFaultOf, asked_tag};
 ghost use Rattle.lq_top.specs.Clock.{ReadAtMostOnce};
 ghost use Rattle.lq_top.specs.Headline.{GoesBack, GoneBack, HasSynced, HasUpdated, IsTaken};
 ghost use Rattle.lq_top.specs.Jobs.{is_on_file};
-ghost use Rattle.lq_top.specs.Run.{IsDamage, IsLogged, Runs, IsUnread, EndsUnread};
+ghost use Rattle.lq_top.specs.Resumed.{LeavesMarked, RollbackResumes, UpdateResumes};
+ghost use Rattle.lq_top.specs.Run.{Crashes, EndsUnread, IsDamage, IsLogged, IsSafe, IsUnread, Runs};
 ghost use Rattle.lq_top.specs.Says.{Said};
 ghost use Rattle.lq_top.specs.Stamp.{stamp_of};
 
@@ -59,6 +61,9 @@ pub fn run<F: Files, D: Disk, C: Clock, O: Sink, L: Sink>(
     // What a command is refused for, in the order of its checks, and what its calls leave; a refusal writes nothing.
     ensures runs { (asks : Asks (map (λ word. string_bytes word) words.now) (F.told files.old)) → Runs asks (stamp_of who.now (C.last clock.new)) (D.told disk) result.status (D.told result.disk) }
     ensures untouched { IsUnread result.status → result.disk ≡ disk }
+    // A crash of the machine at any moment, and after the end.
+    ensures any_moment { (asks : Asks (map (λ word. string_bytes word) words.now) (F.told files.old)) → Crashes asks (stamp_of who.now (C.last clock.new)) (D.told disk) (D.crashes disk) (D.crashes result.disk) }
+    ensures safe { (asks : Asks (map (λ word. string_bytes word) words.now) (F.told files.old)) → IsSafe asks result.status (D.told result.disk) (D.crashes result.disk) }
     ensures soak { (line : Line) → line_of (map (λ word. string_bytes word) words.now) ≡ Some line → is_on_file line.job ≡ false → result.disk ≡ disk }
 
     // What an update, a rollback and a changelog-sync say that come to their end: by their turns and rows.
@@ -69,6 +74,14 @@ pub fn run<F: Files, D: Disk, C: Clock, O: Sink, L: Sink>(
     ensures rollback { (back : GoesBack (map (λ word. string_bytes word) words.now) (F.told files.old) (D.told disk)) → GoneBack back result.status (D.told result.disk) }
     ensures update { (asks : Asks (map (λ word. string_bytes word) words.now) (F.told files.old)) → HasUpdated asks (stamp_of who.now (C.last clock.new)) (D.told disk) result.status (D.told result.disk) }
     ensures sync { (asks : Asks (map (λ word. string_bytes word) words.now) (F.told files.old)) → HasSynced asks (stamp_of who.now (C.last clock.new)) (D.told disk) result.status (D.told result.disk) }
+
+    // A steady update, and a rollback by tag or date, that were stopped any number of times, in postgresql.
+    ensures resumed_update { (asks : Asks (map (λ word. string_bytes word) words.now) (F.told files.old)) → UpdateResumes asks (stamp_of who.now (C.last clock.new)) (D.told disk) result.status (D.told result.disk) }
+    ensures resumed_rollback { (asks : Asks (map (λ word. string_bytes word) words.now) (F.told files.old)) → RollbackResumes asks (stamp_of who.now (C.last clock.new)) (D.told disk) result.status (D.told result.disk) }
+
+    // What a stop leaves that holds the lock: in the end, and on any bytes that a crash of the machine left.
+    ensures marked { (asks : Asks (map (λ word. string_bytes word) words.now) (F.told files.old)) → LeavesMarked asks (stamp_of who.now (C.last clock.new)) (D.told disk) (D.told result.disk) }
+    ensures marked_at_crash { (asks : Asks (map (λ word. string_bytes word) words.now) (F.told files.old)) → AreFor asks.line.options.dialect asks.changelog → (bytes : List ℕ) → LeavesMarked asks (stamp_of who.now (C.last clock.new)) (D.told disk) (Some bytes) }
 
     // The clock is read at most once.
     ensures once { ReadAtMostOnce (C.to_come clock.old) (C.to_come clock.new) (C.last clock.new) }

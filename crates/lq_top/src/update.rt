@@ -11,12 +11,13 @@ ghost use Rattle.lq_seen.specs.Printing.{Account};
 ghost use Rattle.lq_top.specs.Scripts.{settled_in, updated_in};
 ghost use Rattle.lq_top.specs.Stopping.{NamesStop};
 ghost use Rattle.lq_top.specs.Tells.{HasTold, IfFinished, TellsUpdate, update_output};
-ghost use Rattle.lq_top.specs.Works.{IsKept, IsReady, KeptLock, OnIts, Works, is_finished, is_whole};
+ghost use Rattle.lq_top.specs.Works.{CrashesIn, IsKept, IsReady, KeptLock, OnIts, Works, is_finished, is_whole};
 ghost use Rattle.lq_base.specs.declared.command.Command.TheVariants as command;
 ghost use Rattle.lq_turns.specs.Contents.{contents_of};
 ghost use Rattle.lq_turns.specs.Faults.{faults};
 ghost use Rattle.lq_turns.specs.Script.{has_work};
 ghost use Rattle.lq_turns.specs.Settle.{is_halt, own_choice};
+ghost use Rattle.lq_turns.specs.Stops.{is_mark};
 
 use crate::checks::{check_own, checked_rows};
 use crate::given::Given;
@@ -46,11 +47,13 @@ pub fn update<S: Store, P: SqlText>(
     requires read { AreFor given.options.dialect given.changelog }
     requires short { All HasShortTexts given.changelog.sets }
     requires moment { given.stamp.reading ≤ 253402300799999 }
+    requires name { is_mark given.stamp.who ≡ false }
     ensures valid { S.valid store.new }
     ensures tells { IfOk result (λ done. OnIts given.options.dialect (S.state store.old) (λ database. IfFinished done (TellsUpdate prints (updated_in prints given database) done))) }
     ensures answers { OnIts given.options.dialect (S.state store.old) (λ database. Answers (refusal command.Update given database) result) }
     ensures refused { OnIts given.options.dialect (S.state store.old) (λ database. IsKept (refusal command.Update given database) store.old store.new) }
     ensures works { OnIts given.options.dialect (S.state store.old) (λ database. Works given.options.dialect (update_script given database) database (S.state store.old) result (S.state store.new)) }
+    ensures any_moment { OnIts given.options.dialect (S.state store.old) (λ database. CrashesIn given.options.dialect (update_script given database) database (S.state store.old) (S.crashes store.old) (S.crashes store.new)) }
     ensures later { S.faults store.old ≤ S.faults store.new }
     ensures disk { result ≡ Err status.DiskFault → Rose (S.faults store.old) (S.faults store.new) }
 {
@@ -75,6 +78,7 @@ fn update_on<S: Store, P: SqlText>(
     requires read { AreFor given.options.dialect given.changelog }
     requires short { All HasShortTexts given.changelog.sets }
     requires moment { given.stamp.reading ≤ 253402300799999 }
+    requires name { is_mark given.stamp.who ≡ false }
     requires rows { OnIts given.options.dialect (S.state store.old) (λ database. database.rows ≡ rows.now) }
     requires faultless { faults (sets_in given) rows.now ≡ [] }
     requires goes { OnIts given.options.dialect (S.state store.old) (λ database. is_halt (own_choice (log_in given) (contents_of database)) ≡ false) }
@@ -82,6 +86,7 @@ fn update_on<S: Store, P: SqlText>(
     ensures tells { IfOk result (λ done. OnIts given.options.dialect (S.state store.old) (λ database. IfFinished done (TellsUpdate prints (settled_in prints given database) done))) }
     ensures answers { Answers None result }
     ensures works { OnIts given.options.dialect (S.state store.old) (λ database. Works given.options.dialect (update_script given database) database (S.state store.old) result (S.state store.new)) }
+    ensures any_moment { OnIts given.options.dialect (S.state store.old) (λ database. CrashesIn given.options.dialect (update_script given database) database (S.state store.old) (S.crashes store.old) (S.crashes store.new)) }
     ensures later { S.faults store.old ≤ S.faults store.new }
     ensures disk { result ≡ Err status.DiskFault → Rose (S.faults store.old) (S.faults store.new) }
 {
@@ -116,6 +121,7 @@ fn run<S: Store, P: SqlText>(
     requires read { AreFor given.options.dialect given.changelog }
     requires short { All HasShortTexts given.changelog.sets }
     requires moment { given.stamp.reading ≤ 253402300799999 }
+    requires name { is_mark given.stamp.who ≡ false }
     requires rows { OnIts given.options.dialect (S.state store.old) (λ database. database.rows ≡ rows.now) }
     requires faultless { faults (sets_in given) rows.now ≡ [] }
     requires goes { OnIts given.options.dialect (S.state store.old) (λ database. is_halt (own_choice (log_in given) (contents_of database)) ≡ false) }
@@ -124,6 +130,7 @@ fn run<S: Store, P: SqlText>(
     ensures tells { IfOk result (λ done. OnIts given.options.dialect (S.state store.old) (λ database. IfFinished done (TellsUpdate prints (settled_in prints given database) done))) }
     ensures answers { Answers None result }
     ensures works { OnIts given.options.dialect (S.state store.old) (λ database. Works given.options.dialect (update_script given database) database (S.state store.old) result (S.state store.new)) }
+    ensures any_moment { OnIts given.options.dialect (S.state store.old) (λ database. CrashesIn given.options.dialect (update_script given database) database (S.state store.old) (S.crashes store.old) (S.crashes store.new)) }
     ensures later { S.faults store.old ≤ S.faults store.new }
     ensures disk { result ≡ Err status.DiskFault → Rose (S.faults store.old) (S.faults store.new) }
 {

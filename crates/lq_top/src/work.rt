@@ -1,23 +1,27 @@
 ghost use Rattle.std.specs.List.{All};
-ghost use Rattle.std.specs.Prelude.{◌≡◌, ◌≤◌, ◌⊎◌, Err, IfErr, IfOk, IfSome, None, Ok, Some, false, map, option_map, string_bytes, true};
+ghost use Rattle.std.specs.Prelude.{◌≡◌, ◌≤◌, ◌⊎◌, Err, IfOk, IfSome, None, Some, false, map, string_bytes, true};
 ghost use Rattle.lq_base.specs.Character.{char_count};
 ghost use Rattle.lq_changelog.specs.ShortTexts.{HasShortTexts};
 ghost use Rattle.lq_cli.specs.Line.{line_of};
 ghost use Rattle.lq_cli.specs.declared.line.Line.{Line};
 ghost use Rattle.lq_kinds.specs.Dialects.{AreFor};
-ghost use Rattle.lq_kinds.specs.declared.change_set.Changelog.{Changelog as Log};
 ghost use Rattle.lq_outside.specs.Count.{Rose};
-ghost use Rattle.lq_sources.specs.Answers.{Finds, IsTold, Source};
+ghost use Rattle.lq_outside.specs.Crash.{Settled};
+ghost use Rattle.lq_sources.specs.Answers.{Finds};
 ghost use Rattle.lq_sources.specs.declared.fault.LoadFault.{LoadFault as Fault};
 ghost use Rattle.lq_sources.specs.declared.fault.LoadFault.TheVariants as load;
+ghost use Rattle.lq_tell.specs.Texts.{status_done};
 ghost use Rattle.lq_tell.specs.declared.status.Status.TheVariants as status;
 ghost use Rattle.lq_top.specs.Asks.{Asks, HasFault, IsFaultOf, asked_by, asked_tag, back_tag, file_status, loaded, no_changelog};
-ghost use Rattle.lq_top.specs.Bytes.{OnFile, TellsDamage, given_at};
+ghost use Rattle.lq_top.specs.Bytes.{TellsDamage, given_at};
 ghost use Rattle.lq_top.specs.Clock.{ReadAtMostOnce};
-ghost use Rattle.lq_top.specs.Jobs.{DoesJob, DoesLine, is_on_file, job_tag};
 ghost use Rattle.lq_top.specs.Copies.{job_of};
-ghost use Rattle.lq_top.specs.Kinds.{IsNotLoaded, IsOfDatabase, IsOfFiles, IsOfLine, IsOfWords};
+ghost use Rattle.lq_top.specs.Jobs.{DoesLine, is_command, is_on_file, job_tag};
+ghost use Rattle.lq_top.specs.Kinds.{IsNotLoaded, IsOfFiles, IsOfWords};
+ghost use Rattle.lq_top.specs.Run.{Crashes};
 ghost use Rattle.lq_top.specs.Stamp.{stamp_of};
+ghost use Rattle.lq_top.specs.Worked.{WorkedBy, WorkedOn};
+ghost use Rattle.lq_top.specs.Works.{is_finished};
 
 use crate::copying::{Printing, on_copy};
 use crate::given::Asked;
@@ -63,6 +67,8 @@ pub fn work<F: Files, D: Disk, C: Clock>(
     ensures kind { IsOfWords result.done }
     ensures untouched { IsOfFiles result.done → result.disk ≡ disk }
     ensures does { (asks : Asks (map (λ word. string_bytes word) words.now) (F.told files.old)) → DoesLine asks.line.job (given_at (asked_by asks.line.options asks.changelog) (stamp_of who.now (C.last clock.new))) (D.told disk) result.done (D.told result.disk) }
+    ensures any_moment { (asks : Asks (map (λ word. string_bytes word) words.now) (F.told files.old)) → Crashes asks (stamp_of who.now (C.last clock.new)) (D.told disk) (D.crashes disk) (D.crashes result.disk) }
+    ensures safe { (asks : Asks (map (λ word. string_bytes word) words.now) (F.told files.old)) → is_command asks.line.job ≡ true → is_finished (status_done result.done) ≡ true → Settled (D.told result.disk) (D.crashes result.disk) }
     ensures damaged { (line : Line) → line_of (map (λ word. string_bytes word) words.now) ≡ Some line → TellsDamage line.options.dialect (D.told disk) result.done }
     ensures off { (line : Line) → line_of (map (λ word. string_bytes word) words.now) ≡ Some line → is_on_file line.job ≡ false → result.disk ≡ disk }
     ensures tag { (result.tag ≡ asked_tag (line_of (map (λ word. string_bytes word) words.now))) ⊎ (result.done ≡ Err status.OutOfMemory) }
@@ -99,16 +105,8 @@ fn on_line<F: Files, D: Disk, C: Clock>(
 ) -> Ending<D>
     requires tag { IfSome (job_tag line.job) (λ tag. char_count tag ≤ 255) }
     ensures read { result.done ≡ Err status.ReadFault → Rose (F.faults files.old) (F.faults files.new) }
-    ensures changelog { (fault : Fault) → result.done ≡ Err (status.Changelog fault) → (source : Source) → IsTold (F.told files.old) source → loaded source line.options.dialect line.given line.root ≡ Err fault }
-    ensures not_loaded { (source : Source) → IsTold (F.told files.old) source → (fault : Fault) → loaded source line.options.dialect line.given line.root ≡ Err fault → IsNotLoaded fault result.done }
-    ensures kind { IsOfLine result.done }
-    ensures untouched { IsOfFiles result.done → result.disk ≡ disk }
-    ensures does { (source : Source) (g : Log) → IsTold (F.told files.old) source → loaded source line.options.dialect line.given line.root ≡ Ok g → DoesLine line.job (given_at (asked_by line.options g) (stamp_of who.now (C.last clock.new))) (D.told disk) result.done (D.told result.disk) }
-    ensures damaged { TellsDamage line.options.dialect (D.told disk) result.done }
-    ensures off { is_on_file line.job ≡ false → result.disk ≡ disk }
+    ensures worked { WorkedBy D.told D.faults D.crashes (F.told files.old) (λ source. loaded source line.options.dialect line.given line.root) line.job line.options (stamp_of who.now (C.last clock.new)) disk result.done result.disk }
     ensures tag { result.tag ≡ back_tag line.job }
-    ensures later { D.faults disk ≤ D.faults result.disk }
-    ensures fault { result.done ≡ Err status.DiskFault → Rose (D.faults disk) (D.faults result.disk) }
     ensures once { ReadAtMostOnce (C.to_come clock.old) (C.to_come clock.new) (C.last clock.new) }
 {
     let Line {
@@ -160,15 +158,7 @@ fn in_dialect<F: Files, D: Disk, C: Clock>(
 ) -> Worked<D>
     requires tag { IfSome (job_tag job.now) (λ tag. char_count tag ≤ 255) }
     ensures read { result.done ≡ Err status.ReadFault → Rose (F.faults files.old) (F.faults files.new) }
-    ensures changelog { (fault : Fault) → result.done ≡ Err (status.Changelog fault) → (source : Source) → IsTold (F.told files.old) source → loaded source options.dialect given.now root.now ≡ Err fault }
-    ensures not_loaded { (source : Source) → IsTold (F.told files.old) source → (fault : Fault) → loaded source options.dialect given.now root.now ≡ Err fault → IsNotLoaded fault result.done }
-    ensures kind { IsOfLine result.done }
-    ensures untouched { IsOfFiles result.done → result.disk ≡ disk }
-    ensures does { (source : Source) (g : Log) → IsTold (F.told files.old) source → loaded source options.dialect given.now root.now ≡ Ok g → DoesLine job.now (given_at (asked_by options g) (stamp_of who.now (C.last clock.new))) (D.told disk) result.done (D.told result.disk) }
-    ensures damaged { TellsDamage options.dialect (D.told disk) result.done }
-    ensures off { is_on_file job.now ≡ false → result.disk ≡ disk }
-    ensures later { D.faults disk ≤ D.faults result.disk }
-    ensures fault { result.done ≡ Err status.DiskFault → Rose (D.faults disk) (D.faults result.disk) }
+    ensures worked { WorkedBy D.told D.faults D.crashes (F.told files.old) (λ source. loaded source options.dialect given.now root.now) job.now options (stamp_of who.now (C.last clock.new)) disk result.done result.disk }
     ensures once { ReadAtMostOnce (C.to_come clock.old) (C.to_come clock.new) (C.last clock.new) }
 {
     match options.dialect {
@@ -196,15 +186,7 @@ fn with_sql<F: Files, D: Disk, C: Clock, P: SqlText + Drop + Copy>(
     requires sql { P.dialect ≡ options.dialect }
     requires tag { IfSome (job_tag job.now) (λ tag. char_count tag ≤ 255) }
     ensures read { result.done ≡ Err status.ReadFault → Rose (F.faults files.old) (F.faults files.new) }
-    ensures changelog { (fault : Fault) → result.done ≡ Err (status.Changelog fault) → (source : Source) → IsTold (F.told files.old) source → loaded source options.dialect given.now root.now ≡ Err fault }
-    ensures not_loaded { (source : Source) → IsTold (F.told files.old) source → (fault : Fault) → loaded source options.dialect given.now root.now ≡ Err fault → IsNotLoaded fault result.done }
-    ensures kind { IsOfLine result.done }
-    ensures untouched { IsOfFiles result.done → result.disk ≡ disk }
-    ensures does { (source : Source) (g : Log) → IsTold (F.told files.old) source → loaded source options.dialect given.now root.now ≡ Ok g → DoesLine job.now (given_at (asked_by options g) (stamp_of who.now (C.last clock.new))) (D.told disk) result.done (D.told result.disk) }
-    ensures damaged { TellsDamage options.dialect (D.told disk) result.done }
-    ensures off { is_on_file job.now ≡ false → result.disk ≡ disk }
-    ensures later { D.faults disk ≤ D.faults result.disk }
-    ensures fault { result.done ≡ Err status.DiskFault → Rose (D.faults disk) (D.faults result.disk) }
+    ensures worked { WorkedBy D.told D.faults D.crashes (F.told files.old) (λ source. loaded source options.dialect given.now root.now) job.now options (stamp_of who.now (C.last clock.new)) disk result.done result.disk }
     ensures once { ReadAtMostOnce (C.to_come clock.old) (C.to_come clock.new) (C.last clock.new) }
 {
     match changelog_of(alloc, files, root, options.dialect, &sql, given) {
@@ -274,12 +256,7 @@ fn on_job<D: Disk, C: Clock, P: SqlText + Drop + Copy>(
     requires read { AreFor asked.options.dialect asked.changelog }
     requires short { All HasShortTexts asked.changelog.sets }
     requires tag { IfSome (job_tag job.now) (λ tag. char_count tag ≤ 255) }
-    ensures does { is_on_file job.now ≡ true → OnFile asked.options.dialect (D.told disk) (λ database. DoesJob job.now (given_at asked (stamp_of who.now (C.last clock.new))) database (D.told disk) result.done (D.told result.disk)) }
-    ensures kind { IsOfDatabase result.done }
-    ensures damaged { TellsDamage asked.options.dialect (D.told disk) result.done }
-    ensures off { is_on_file job.now ≡ false → result.disk ≡ disk }
-    ensures later { D.faults disk ≤ D.faults result.disk }
-    ensures fault { result.done ≡ Err status.DiskFault → Rose (D.faults disk) (D.faults result.disk) }
+    ensures worked { WorkedOn D.told D.faults D.crashes job.now (given_at asked (stamp_of who.now (C.last clock.new))) disk result.done result.disk }
     ensures once { ReadAtMostOnce (C.to_come clock.old) (C.to_come clock.new) (C.last clock.new) }
 {
     match job {
@@ -317,11 +294,7 @@ fn printed<D: Disk, C: Clock, P: SqlText + Drop + Copy>(
     requires sql { P.dialect ≡ asked.options.dialect }
     requires read { AreFor asked.options.dialect asked.changelog }
     requires short { All HasShortTexts asked.changelog.sets }
-    ensures does { OnFile asked.options.dialect (D.told disk) (λ database. DoesJob (job_of printing.entry) (given_at asked (stamp_of who.now (C.last clock.new))) database (D.told disk) result.done (D.told result.disk)) }
-    ensures kind { IsOfDatabase result.done }
-    ensures damaged { TellsDamage asked.options.dialect (D.told disk) result.done }
-    ensures later { D.faults disk ≤ D.faults result.disk }
-    ensures fault { result.done ≡ Err status.DiskFault → Rose (D.faults disk) (D.faults result.disk) }
+    ensures worked { WorkedOn D.told D.faults D.crashes (job_of printing.entry) (given_at asked (stamp_of who.now (C.last clock.new))) disk result.done result.disk }
     ensures once { ReadAtMostOnce (C.to_come clock.old) (C.to_come clock.new) (C.last clock.new) }
 {
     let mut disk = disk;

@@ -1,6 +1,6 @@
 use Rattle.lq_base.specs.declared.command.Command.TheVariants as command
 use Rattle.std.specs.Prelude.{false}
-use Rattle.lq_top.proofs.Commanded.{answers_as, kept_as, works_as}
+use Rattle.lq_top.proofs.Commanded.{answers_as, crashes_as, kept_as, works_as}
 use Rattle.lq_top.proofs.Telling.{on_its_tells, tells_as}
 use Rattle.lq_top.specs.Inserts.{TellsSync, synced_in}
 use Rattle.lq_top.specs.Jobs.{back_in}
@@ -37,6 +37,21 @@ returns-in-Sync-clause-refused g c = λ database has. kept_as c.args.command.now
 pub returns-in-Sync-clause-works : goal.returns-in-Sync-clause-works
 returns-in-Sync-clause-works g c = λ database has.
     works_as c.args.command.now command.Sync c.in-Sync.is c.args.given database (g.S.Store.state c.args.store.now) (g.S.Store.state c.sync.new.store) c.sync.result (c.sync.ensures.works database has)
+
+-- at any moment
+
+pub returns-in-Update-clause-any_moment : goal.returns-in-Update-clause-any_moment
+returns-in-Update-clause-any_moment g c = λ database has.
+    crashes_as c.args.command.now command.Update c.in-Update.is c.args.given database (g.S.Store.state c.args.store.now) (g.S.Store.crashes c.args.store.now) (g.S.Store.crashes c.update.new.store) (c.update.ensures.any_moment database has)
+
+pub returns-in-Rollback-clause-any_moment : goal.returns-in-Rollback-clause-any_moment
+returns-in-Rollback-clause-any_moment g c = λ database has.
+    crashes_as c.args.command.now (command.Rollback c.in-Rollback.target) c.in-Rollback.is c.args.given database (g.S.Store.state c.args.store.now) (g.S.Store.crashes c.args.store.now) (g.S.Store.crashes c.rollback.new.store)
+    (c.rollback.ensures.any_moment database has)
+
+pub returns-in-Sync-clause-any_moment : goal.returns-in-Sync-clause-any_moment
+returns-in-Sync-clause-any_moment g c = λ database has.
+    crashes_as c.args.command.now command.Sync c.in-Sync.is c.args.given database (g.S.Store.state c.args.store.now) (g.S.Store.crashes c.args.store.now) (g.S.Store.crashes c.sync.new.store) (c.sync.ensures.any_moment database has)
 
 -- what they tell
 

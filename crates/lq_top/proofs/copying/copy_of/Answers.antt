@@ -1,6 +1,7 @@
 use Rattle.std.proofs.Common.{subst}
 use Rattle.std.specs.Prelude.{IfErr}
 use Rattle.lq_top.proofs.OnFiles.{rose_later}
+use Rattle.lq_top.proofs.OnlyRead.{read_on, read_once}
 use Rattle.lq_top.proofs.copying.copy_of.Goals as goal
 use Rattle.lq_top.specs.Copies.{IsNoCopy}
 
@@ -13,3 +14,10 @@ returns-in-Ok-clause-refused g c = subst (λ told. IfErr c.copy_sized.result (Is
 pub returns-in-Ok-clause-failed : goal.returns-in-Ok-clause-failed
 returns-in-Ok-clause-failed g c = λ is.
     rose_later (g.D.Disk.faults c.args.disk.now) (g.D.Disk.faults c.size.new.self) (g.D.Disk.faults c.copy_sized.new.disk) c.size.ensures.faults.later (c.copy_sized.ensures.failed is)
+
+pub returns-in-Ok-clause-any_moment : goal.returns-in-Ok-clause-any_moment
+returns-in-Ok-clause-any_moment g c =
+    read_on (g.D.Disk.told c.args.disk.now) (g.D.Disk.crashes c.args.disk.now) (g.met.D.Disk.sound c.args.disk.now) (g.D.Disk.crashes c.size.new.self) c.size.ensures.crash (g.D.Disk.crashes c.copy_sized.new.disk) c.copy_sized.ensures.any_moment
+
+pub returns-in-Err-clause-any_moment : goal.returns-in-Err-clause-any_moment
+returns-in-Err-clause-any_moment g c = read_once (g.D.Disk.told c.args.disk.now) (g.D.Disk.crashes c.args.disk.now) (g.met.D.Disk.sound c.args.disk.now) (g.D.Disk.crashes c.size.new.self) c.size.ensures.crash

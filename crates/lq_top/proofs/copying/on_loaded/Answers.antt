@@ -26,7 +26,7 @@ pub returns-clause-sure : goal.returns-clause-sure
 returns-clause-sure g c = λ is. memory_no_disk c.in-Err.status c.in-Err.ensures.no_memory is
 
 pub print_on-requires-clause-valid : goal.print_on-requires-clause-valid
-print_on-requires-clause-valid g c = λ live. c.requires.valid
+print_on-requires-clause-valid g c = record { journal_is = c.requires.valid.journal_is; lives = λ live. c.requires.valid }
 
 pub print_on-requires-clause-ready : goal.print_on-requires-clause-ready
 print_on-requires-clause-ready g c =

@@ -27,6 +27,6 @@ returns-clause-works g c = λ database has. works_nothing c.args.given.now.optio
 pub returns-clause-sure : goal.returns-clause-sure
 returns-clause-sure g c = no_disk c.listed.result c.listed.ensures.fault
 
-pub returns-clause-pending : goal.returns-clause-pending
-returns-clause-pending g c =
-    pending_told c.args.given.now (g.S.Store.state c.args.store.now) c.as_slice.result.now c.listed.result (λ database has. c.in_ok-rows.ensures.rows database has ∙ sym c.as_slice.ensures) c.listed.ensures.out
+pub returns-clause-tells : goal.returns-clause-tells
+returns-clause-tells g c =
+    pending_told c.args.given.now (g.S.Store.state c.args.store.now) c.as_slice.result.now c.listed.result (λ database has. c.in_ok-rows.ensures.rows database has ∙ sym c.as_slice.ensures) c.listed.ensures.done c.listed.ensures.out

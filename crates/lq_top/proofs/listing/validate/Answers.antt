@@ -1,6 +1,8 @@
 use Rattle.std.proofs.Common.{rules}
+use Rattle.lq_report.specs.Output.{validated_text}
 use Rattle.lq_top.proofs.Commanded.{answers_done, invalid_no_disk, no_disk, passed, refused_as}
 use Rattle.lq_top.proofs.Endings.{works_nothing}
+use Rattle.lq_top.proofs.Telling.{text_tells}
 use Rattle.lq_top.specs.Refusals.{invalid}
 use Rattle.lq_top.specs.Scripts.{sets_in}
 use Rattle.lq_turns.specs.Faults.{faults}
@@ -27,3 +29,6 @@ returns-clause-works g c = λ database has. works_nothing c.args.given.now.optio
 
 pub returns-clause-sure : goal.returns-clause-sure
 returns-clause-sure g c = no_disk c.validated.result c.validated.ensures.fault
+
+pub returns-clause-tells : goal.returns-clause-tells
+returns-clause-tells g c = text_tells validated_text c.validated.result c.validated.ensures.done c.validated.ensures.out

@@ -1,17 +1,18 @@
-use Rattle.std.proofs.Common.{ap, subst, sym}
-use Rattle.lq_db.specs.Db.{disk_in, engine_in, state}
-use Rattle.lq_outside.specs.Count.{Rose}
-use Rattle.lq_top.proofs.OnFiles.{does_job, does_nothing, memory_kind, memory_no_disk, memory_tells}
-use Rattle.lq_top.proofs.OnReady.{ready_kind, ready_tells}
-use Rattle.lq_top.proofs.RefusedKinds.{refusal_plain}
+use Rattle.std.proofs.Common.{subst, sym}
+use Rattle.std.specs.Prelude.{Err, IfSome, Ok, ◌≡◌}
+use Rattle.lq_cli.specs.declared.line.Job.TheVariants as job
+use Rattle.lq_db.specs.Db.{IsNew, disk_in, engine_in, state}
+use Rattle.lq_db.specs.Load.{catalogue_of}
+use Rattle.lq_store.specs.Executor.{kept}
+use Rattle.lq_top.proofs.OnDatabases.{memory_worked, worked}
 use Rattle.lq_top.proofs.WithClock.{given_dialect, given_is, given_read, given_ready, given_short, given_sql}
 use Rattle.lq_top.proofs.opening.on_database.Goals as goal
-use Rattle.lq_top.specs.Bytes.{given_at}
-use Rattle.lq_top.specs.Refusals.{refusal}
+use Rattle.lq_top.specs.Bytes.{given_at, most_bytes}
 use Rattle.lq_top.specs.Stamp.{stamp_of}
+use Rattle.lq_top.specs.Worked.{WorkedOn}
 
 pub run_command-done-requires-clause-valid : goal.run_command-done-requires-clause-valid
-run_command-done-requires-clause-valid g c = λ live. c.requires.valid
+run_command-done-requires-clause-valid g c = record { journal_is = c.requires.valid.journal_is; lives = λ live. c.requires.valid }
 
 pub run_command-done-requires-clause-ready : goal.run_command-done-requires-clause-ready
 run_command-done-requires-clause-ready g c =
@@ -27,44 +28,25 @@ run_command-done-requires-clause-read g c = given_read c.in-Ok.given c.args.aske
 pub run_command-done-requires-clause-short : goal.run_command-done-requires-clause-short
 run_command-done-requires-clause-short g c = given_short c.in-Ok.given c.args.asked c.in-Ok.ensures.given.0 c.in-Ok.ensures.given.1 c.requires.short
 
-pub returns-in-Ok-clause-does : goal.returns-in-Ok-clause-does
-returns-in-Ok-clause-does g c =
+pub returns-in-Ok-clause-worked : goal.returns-in-Ok-clause-worked
+returns-in-Ok-clause-worked g c =
     let db = c.args.db in
     let ran = c.run_command-done in
-    let stamp = stamp_of c.args.who.now (g.C.Clock.last c.stamped.new.clock) in
+    let left = ran.new.store in
+    let given = c.in-Ok.given in
     let made = c.in-Ok.ensures in
-    does_job g.P.SqlText.dialect (g.D.Disk.told (disk_in db)) (g.D.Disk.crashes (disk_in db)) (g.E.Executor.held (engine_in db)) db c.requires.valid c.requires.limit
-    (g.D.Disk.told c.into_disk.result) (g.D.Disk.told (disk_in ran.new.store)) (ap g.D.Disk.told c.into_disk.ensures) (g.D.Disk.crashes (disk_in ran.new.store)) (g.E.Executor.held (engine_in ran.new.store)) ran.new.store ran.ensures.valid
-    c.args.asked stamp c.in-Ok.given (given_is c.in-Ok.given c.args.asked stamp made.given.0 made.given.1 made.stamp)
-    c.args.command.now ran.result ran.ensures.answers (λ database has refused. ap (λ left. g.D.Disk.told (disk_in left)) (ran.ensures.refused database has refused)) ran.ensures.works ran.ensures.tells
+    let stamp = stamp_of c.args.who.now (g.C.Clock.last c.stamped.new.clock) in
+    let same = sym (given_dialect given c.args.asked made.given.0 made.given.1) in
+    subst (λ after. WorkedOn g.D.Disk.told g.D.Disk.faults g.D.Disk.crashes (job.Run c.args.command.now) (given_at c.args.asked stamp) (disk_in db) ran.result after) (sym c.into_disk.ensures)
+    (subst (λ given. WorkedOn g.D.Disk.told g.D.Disk.faults g.D.Disk.crashes (job.Run c.args.command.now) given (disk_in db) ran.result (disk_in left)) (given_is given c.args.asked stamp made.given.0 made.given.1 made.stamp)
+    (worked g.D.Disk.told g.D.Disk.faults g.D.Disk.crashes g.P.SqlText.dialect (g.E.Executor.held (engine_in db)) (g.E.Executor.held (engine_in left)) db left c.requires.valid ran.ensures.valid given
+    (subst (λ d. IsNew d most_bytes db) same c.requires.new)
+    (given_ready given c.args.asked made.given.0 made.given.1 (state (g.D.Disk.told (disk_in db)) (g.E.Executor.held (engine_in db)) db) c.requires.ready)
+    (subst (λ d. IfSome (g.D.Disk.told (disk_in db)) (λ bytes. catalogue_of d most_bytes bytes ≡ Ok (kept (g.E.Executor.held (engine_in db))))) same c.requires.catalogue)
+    c.args.command.now ran.result ran.ensures.answers ran.ensures.refused ran.ensures.works ran.ensures.any_moment ran.ensures.tells ran.ensures.later ran.ensures.disk))
 
-pub returns-in-Ok-clause-whole : goal.returns-in-Ok-clause-whole
-returns-in-Ok-clause-whole g c = λ told.
-    let db = c.args.db in
-    let given = c.in-Ok.given in
-    ready_tells c.args.asked.options.dialect given.options.dialect (given_dialect given c.args.asked c.in-Ok.ensures.given.0 c.in-Ok.ensures.given.1) (state (g.D.Disk.told (disk_in db)) (g.E.Executor.held (engine_in db)) db) c.requires.ready
-    (refusal c.args.command.now given) (refusal_plain given c.args.command.now) c.run_command-done.result c.run_command-done.ensures.answers told
-
-pub returns-in-Ok-clause-kind : goal.returns-in-Ok-clause-kind
-returns-in-Ok-clause-kind g c =
-    let db = c.args.db in
-    let given = c.in-Ok.given in
-    ready_kind c.args.asked.options.dialect given.options.dialect (given_dialect given c.args.asked c.in-Ok.ensures.given.0 c.in-Ok.ensures.given.1) (state (g.D.Disk.told (disk_in db)) (g.E.Executor.held (engine_in db)) db) c.requires.ready
-    (refusal c.args.command.now given) (refusal_plain given c.args.command.now) c.run_command-done.result c.run_command-done.ensures.answers
-
-pub returns-in-Ok-clause-fault : goal.returns-in-Ok-clause-fault
-returns-in-Ok-clause-fault g c = λ is. subst (λ disk. Rose (g.D.Disk.faults (disk_in c.args.db)) (g.D.Disk.faults disk)) (sym c.into_disk.ensures) (c.run_command-done.ensures.disk is)
-
-pub returns-in-Err-clause-does : goal.returns-in-Err-clause-does
-returns-in-Err-clause-does g c = λ bytes told_is database has.
-    does_nothing c.args.command.now (given_at c.args.asked (stamp_of c.args.who.now (g.C.Clock.last c.stamped.new.clock))) database (g.D.Disk.told (disk_in c.args.db)) (g.D.Disk.told c.into_disk-in-Err.result) c.in-Err.status c.in-Err.ensures.no_memory
-    (ap g.D.Disk.told c.into_disk-in-Err.ensures)
-
-pub returns-in-Err-clause-whole : goal.returns-in-Err-clause-whole
-returns-in-Err-clause-whole g c = λ told. memory_tells c.args.asked.options.dialect told c.in-Err.status c.in-Err.ensures.no_memory
-
-pub returns-in-Err-clause-kind : goal.returns-in-Err-clause-kind
-returns-in-Err-clause-kind g c = memory_kind c.in-Err.status c.in-Err.ensures.no_memory
-
-pub returns-in-Err-clause-fault : goal.returns-in-Err-clause-fault
-returns-in-Err-clause-fault g c = λ is. absurd (memory_no_disk c.in-Err.status c.in-Err.ensures.no_memory is)
+pub returns-in-Err-clause-worked : goal.returns-in-Err-clause-worked
+returns-in-Err-clause-worked g c =
+    let given = given_at c.args.asked (stamp_of c.args.who.now (g.C.Clock.last c.stamped.new.clock)) in
+    subst (λ after. WorkedOn g.D.Disk.told g.D.Disk.faults g.D.Disk.crashes (job.Run c.args.command.now) given (disk_in c.args.db) (Err c.in-Err.status) after) (sym c.into_disk-in-Err.ensures)
+    (memory_worked g.D.Disk.told g.D.Disk.faults g.D.Disk.crashes given (disk_in c.args.db) c.args.command.now c.in-Err.status c.in-Err.ensures.no_memory)

@@ -1,6 +1,7 @@
 use Rattle.std.proofs.Common.{refl, rules, sym, ◌∙◌}
 use Rattle.std.specs.Prelude.{Err, ◌≡◌}
-use Rattle.lq_top.proofs.RolledBack.{err_works, unready_answers, unready_no_disk, whole_answers, whole_kept}
+use Rattle.lq_top.proofs.Endings.{untouched_crashes, untouched_works}
+use Rattle.lq_top.proofs.RolledBack.{unready_answers, unready_no_disk, whole_answers, whole_kept}
 use Rattle.lq_top.specs.Scripts.{rollback_script}
 use Rattle.lq_top.proofs.rollback.rollback.Goals as goal
 
@@ -17,10 +18,12 @@ pub returns-in_err-rows-clause-refused : goal.returns-in_err-rows-clause-refused
 returns-in_err-rows-clause-refused g c = λ database has refused. refl
 
 pub returns-in_err-rows-clause-works : goal.returns-in_err-rows-clause-works
-returns-in_err-rows-clause-works g c =
-    let x = g.S.Store.state c.args.store.now in
+returns-in_err-rows-clause-works g c = λ database has.
     let is : c.from_residual.result ≡ Err c.in_err-rows.field-0.0 = search rules in
-    λ database has. err_works c.args.given.options.dialect (rollback_script c.args.given c.args.target.now database) database x x c.from_residual.result c.in_err-rows.field-0.0 is
+    untouched_works c.args.given.options.dialect (rollback_script c.args.given c.args.target.now database) database (g.S.Store.state c.args.store.now) c.from_residual.result c.in_err-rows.field-0.0 is has
+
+pub returns-in_err-rows-clause-any_moment : goal.returns-in_err-rows-clause-any_moment
+returns-in_err-rows-clause-any_moment g c = λ database has. untouched_crashes c.args.given.options.dialect (rollback_script c.args.given c.args.target.now database) database (g.S.Store.state c.args.store.now) (g.S.Store.crashes c.args.store.now)
 
 pub returns-in_err-rows-clause-disk : goal.returns-in_err-rows-clause-disk
 returns-in_err-rows-clause-disk g c =
@@ -43,3 +46,6 @@ returns-clause-refused g c = λ database has.
 
 pub returns-clause-works : goal.returns-clause-works
 returns-clause-works g c = c.rollback_rows.ensures.works
+
+pub returns-clause-any_moment : goal.returns-clause-any_moment
+returns-clause-any_moment g c = c.rollback_rows.ensures.any_moment

@@ -2,10 +2,12 @@ use Rattle.std.proofs.Common.{refl, rules, subst, sym}
 use Rattle.std.specs.Prelude.{Err, List, reverse, ◌≡◌}
 use Rattle.lq_back.specs.Reversal.{AreWays}
 use Rattle.lq_back.specs.declared.reversal.TakenBack.{TakenBack}
-use Rattle.lq_top.proofs.RolledBack.{err_works, kept_none, missing_answers, target_no_disk, target_tells_ok, target_works, way_answers, way_no_disk, way_there}
+use Rattle.lq_top.proofs.Endings.{untouched_crashes, untouched_works}
+use Rattle.lq_top.proofs.RolledBack.{kept_none, missing_answers, target_no_disk, target_so, target_tells_ok, way_answers, way_no_disk, way_there}
 use Rattle.lq_top.proofs.Updated.{answers_so}
 use Rattle.lq_top.specs.Refusals.{no_way_back}
 use Rattle.lq_top.specs.Scripts.{rollback_script}
+use Rattle.lq_top.specs.Works.{CrashesIn, Works}
 use Rattle.lq_top.proofs.rollback.rollback_rows.Goals as goal
 
 -- no row has the tag
@@ -18,10 +20,12 @@ pub returns-in_err-undone-clause-refused : goal.returns-in_err-undone-clause-ref
 returns-in_err-undone-clause-refused g c = λ refused. refl
 
 pub returns-in_err-undone-clause-works : goal.returns-in_err-undone-clause-works
-returns-in_err-undone-clause-works g c =
-    let x = g.S.Store.state c.args.store.now in
+returns-in_err-undone-clause-works g c = λ database has.
     let is : c.from_residual.result ≡ Err c.in_err-undone.field-0.0 = search rules in
-    λ database has. err_works c.args.given.options.dialect (rollback_script c.args.given c.args.target.now database) database x x c.from_residual.result c.in_err-undone.field-0.0 is
+    untouched_works c.args.given.options.dialect (rollback_script c.args.given c.args.target.now database) database (g.S.Store.state c.args.store.now) c.from_residual.result c.in_err-undone.field-0.0 is has
+
+pub returns-in_err-undone-clause-any_moment : goal.returns-in_err-undone-clause-any_moment
+returns-in_err-undone-clause-any_moment g c = λ database has. untouched_crashes c.args.given.options.dialect (rollback_script c.args.given c.args.target.now database) database (g.S.Store.state c.args.store.now) (g.S.Store.crashes c.args.store.now)
 
 pub returns-in_err-undone-clause-disk : goal.returns-in_err-undone-clause-disk
 returns-in_err-undone-clause-disk g c =
@@ -38,10 +42,12 @@ pub returns-in_err-ways-clause-refused : goal.returns-in_err-ways-clause-refused
 returns-in_err-ways-clause-refused g c = λ refused. refl
 
 pub returns-in_err-ways-clause-works : goal.returns-in_err-ways-clause-works
-returns-in_err-ways-clause-works g c =
-    let x = g.S.Store.state c.args.store.now in
+returns-in_err-ways-clause-works g c = λ database has.
     let is : c.from_residual-in_err-ways.result ≡ Err c.in_err-ways.field-0.0 = search rules in
-    λ database has. err_works c.args.given.options.dialect (rollback_script c.args.given c.args.target.now database) database x x c.from_residual-in_err-ways.result c.in_err-ways.field-0.0 is
+    untouched_works c.args.given.options.dialect (rollback_script c.args.given c.args.target.now database) database (g.S.Store.state c.args.store.now) c.from_residual-in_err-ways.result c.in_err-ways.field-0.0 is has
+
+pub returns-in_err-ways-clause-any_moment : goal.returns-in_err-ways-clause-any_moment
+returns-in_err-ways-clause-any_moment g c = λ database has. untouched_crashes c.args.given.options.dialect (rollback_script c.args.given c.args.target.now database) database (g.S.Store.state c.args.store.now) (g.S.Store.crashes c.args.store.now)
 
 pub returns-in_err-ways-clause-disk : goal.returns-in_err-ways-clause-disk
 returns-in_err-ways-clause-disk g c =
@@ -69,5 +75,15 @@ returns-clause-refused g c =
 
 pub returns-clause-works : goal.returns-clause-works
 returns-clause-works g c = λ database has.
-    target_works c.args.given database c.args.target.now c.args.rows.now (reverse c.in_ok-undone.undone.now) (c.requires.rows database has) c.in_ok-undone.ensures.undone
-    (g.S.Store.state c.args.store.now) (g.S.Store.state c.take_back.new.store) c.take_back.result (c.take_back.ensures.works database has)
+    let x = g.S.Store.state c.args.store.now in
+    let y = g.S.Store.state c.take_back.new.store in
+    target_so c.args.given database c.args.target.now c.args.rows.now (reverse c.in_ok-undone.undone.now) (c.requires.rows database has) c.in_ok-undone.ensures.undone
+    (λ calls. Works c.args.given.options.dialect calls database x c.take_back.result y) (c.take_back.ensures.works database has)
+
+pub returns-clause-any_moment : goal.returns-clause-any_moment
+returns-clause-any_moment g c = λ database has.
+    let x = g.S.Store.state c.args.store.now in
+    let before = g.S.Store.crashes c.args.store.now in
+    let now = g.S.Store.crashes c.take_back.new.store in
+    target_so c.args.given database c.args.target.now c.args.rows.now (reverse c.in_ok-undone.undone.now) (c.requires.rows database has) c.in_ok-undone.ensures.undone
+    (λ calls. CrashesIn c.args.given.options.dialect calls database x before now) (c.take_back.ensures.any_moment database has)

@@ -4,7 +4,7 @@ use Rattle.lq_seen.specs.View.{any_meaning}
 use Rattle.lq_turns.specs.Contents.{contents_of}
 use Rattle.lq_turns.specs.Rest.{OfRows}
 use Rattle.lq_top.proofs.Endings.{kept_lock}
-use Rattle.lq_top.proofs.RolledBack.{back_may, back_works, rows_told}
+use Rattle.lq_top.proofs.RolledBack.{back_crashes, back_may, back_works, rows_told}
 use Rattle.lq_top.proofs.Stopped.{rows_stopped}
 use Rattle.lq_top.proofs.Updated.{answers_end, ok_on_its}
 use Rattle.lq_top.specs.Tells.{IfFinished, TellsRollback}
@@ -55,7 +55,13 @@ pub returns-clause-works : goal.returns-clause-works
 returns-clause-works g c = λ database has.
     let ran = c.run_turns-source in
     back_works c.args.given.options.dialect c.args.given.stamp c.args.source c.requires.some database (g.S.Store.state c.args.store.now) (g.S.Store.state ran.new.store) ran.result.end c.ended.result
-    c.ended.ensures.whole (ran.ensures.leaves database has)
+    c.ended.ensures.whole (ran.ensures.leaves database has) (ran.ensures.left database has)
+
+pub returns-clause-any_moment : goal.returns-clause-any_moment
+returns-clause-any_moment g c = λ database has.
+    let ran = c.run_turns-source in
+    back_crashes c.args.given.options.dialect c.args.given.stamp c.args.source c.requires.some database (g.S.Store.state c.args.store.now) (g.S.Store.crashes c.args.store.now) (g.S.Store.crashes ran.new.store)
+    (ran.ensures.any_moment database has)
 
 pub returns-clause-disk : goal.returns-clause-disk
 returns-clause-disk g c = λ disk. c.run_turns-source.ensures.rose (c.ended.ensures.disk disk)

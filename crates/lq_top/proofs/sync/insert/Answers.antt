@@ -1,6 +1,8 @@
 use Rattle.std.proofs.Common.{sym, ◌∙◌}
 use Rattle.lq_top.proofs.Commanded.{answers_done, no_disk, true_not}
+use Rattle.lq_top.proofs.Endings.{untouched_crashes}
 use Rattle.lq_top.proofs.Inserted.{idle_sync_tells, idle_sync_works}
+use Rattle.lq_top.specs.Scripts.{sync_script}
 use Rattle.lq_top.proofs.sync.insert.Goals as goal
 
 pub returns-then-is_empty-clause-answers : goal.returns-then-is_empty-clause-answers
@@ -13,6 +15,9 @@ returns-then-is_empty-clause-tells g c =
 pub returns-then-is_empty-clause-works : goal.returns-then-is_empty-clause-works
 returns-then-is_empty-clause-works g c = λ database has.
     idle_sync_works c.args.given c.args.before.now c.args.made c.requires.rows database (c.requires.before database has) (c.is_empty.ensures.0 c.if-is_empty.true) (g.S.Store.state c.args.store.now) c.no_rows.result has
+
+pub returns-then-is_empty-clause-any_moment : goal.returns-then-is_empty-clause-any_moment
+returns-then-is_empty-clause-any_moment g c = λ database has. untouched_crashes c.args.given.options.dialect (sync_script c.args.given database) database (g.S.Store.state c.args.store.now) (g.S.Store.crashes c.args.store.now)
 
 pub returns-then-is_empty-clause-disk : goal.returns-then-is_empty-clause-disk
 returns-then-is_empty-clause-disk g c = λ disk. absurd (no_disk c.no_rows.result c.no_rows.ensures.fault disk)

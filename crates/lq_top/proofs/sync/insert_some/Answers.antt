@@ -1,12 +1,34 @@
-use Rattle.std.proofs.Common.{ap, ◌∙◌}
-use Rattle.std.specs.Prelude.{None}
-use Rattle.lq_top.proofs.Endings.{kept_lock, works_by}
+use Rattle.std.proofs.Common.{ap, rules, ◌∙◌}
+use Rattle.std.specs.Prelude.{Err, None, ◌≡◌}
+use Rattle.lq_tell.specs.declared.status.Status.TheVariants as status
+use Rattle.lq_top.proofs.Endings.{kept_lock, untouched_crashes, untouched_works, works_by, works_left}
 use Rattle.lq_top.proofs.Inserted.{names_stop, sync_tells}
 use Rattle.lq_top.proofs.Commanded.{answers_end}
 use Rattle.lq_top.specs.Scripts.{sync_script}
 use Rattle.lq_top.specs.Stopping.{refused_at}
 use Rattle.lq_turns.specs.Synced.{insert_stop, marked_by}
 use Rattle.lq_top.proofs.sync.insert_some.Goals as goal
+
+pub returns-in_err-happened-clause-works : goal.returns-in_err-happened-clause-works
+returns-in_err-happened-clause-works g c = λ database has.
+    let is : c.from_residual.result ≡ Err status.OutOfMemory = search rules in
+    untouched_works c.args.given.options.dialect (sync_script c.args.given database) database (g.S.Store.state c.args.store.now) c.from_residual.result status.OutOfMemory is has
+
+pub returns-in_err-happened-clause-any_moment : goal.returns-in_err-happened-clause-any_moment
+returns-in_err-happened-clause-any_moment g c = λ database has. untouched_crashes c.args.given.options.dialect (sync_script c.args.given database) database (g.S.Store.state c.args.store.now) (g.S.Store.crashes c.args.store.now)
+
+pub returns-in_err-of-clause-works : goal.returns-in_err-of-clause-works
+returns-in_err-of-clause-works g c = λ database has.
+    let is : c.from_residual-in_err-of.result ≡ Err status.OutOfMemory = search rules in
+    untouched_works c.args.given.options.dialect (sync_script c.args.given database) database (g.S.Store.state c.args.store.now) c.from_residual-in_err-of.result status.OutOfMemory is has
+
+pub returns-in_err-of-clause-any_moment : goal.returns-in_err-of-clause-any_moment
+returns-in_err-of-clause-any_moment g c = λ database has. untouched_crashes c.args.given.options.dialect (sync_script c.args.given database) database (g.S.Store.state c.args.store.now) (g.S.Store.crashes c.args.store.now)
+
+pub returns-in_err-end-clause-works : goal.returns-in_err-end-clause-works
+returns-in_err-end-clause-works g c = λ database has.
+    let is : c.from_residual-in_err-end.result ≡ Err status.OutOfMemory = search rules in
+    works_left c.args.given.options.dialect (sync_script c.args.given database) database (g.S.Store.state c.args.store.now) (g.S.Store.state c.run.new.store) c.from_residual-in_err-end.result status.OutOfMemory is (c.in_err-end.ensures.left database has)
 
 pub ended-requires-clause-lock : goal.ended-requires-clause-lock
 ended-requires-clause-lock g c =
@@ -30,4 +52,4 @@ returns-clause-tells g c =
 pub returns-clause-works : goal.returns-clause-works
 returns-clause-works g c = λ database has.
     works_by c.args.given.options.dialect (sync_script c.args.given database) database (g.S.Store.state c.args.store.now) (g.S.Store.state c.run.new.store) c.in_ok-end.end c.ended.result c.ended.ensures.whole
-    (c.in_ok-end.ensures.leaves database has)
+    (c.in_ok-end.ensures.leaves database has) (c.in_ok-end.ensures.left database has)

@@ -1,9 +1,10 @@
 use Rattle.std.proofs.Common.{ap, rules, ◌∙◌}
 use Rattle.std.specs.Prelude.{option_map}
 use Rattle.lq_top.proofs.Commanded.{kept_none, none_of, passed, refused_as}
+use Rattle.lq_top.proofs.Endings.{untouched_crashes, untouched_works}
 use Rattle.lq_top.specs.Refusals.{untagged}
 use Rattle.lq_track.specs.Log.{identity_of}
-use Rattle.lq_turns.specs.Script.{last_row}
+use Rattle.lq_turns.specs.Script.{last_row, tag_calls}
 use Rattle.lq_top.proofs.tag.tag_rows.Goals as goal
 
 pub returns-in_err-of-clause-answers : goal.returns-in_err-of-clause-answers
@@ -17,3 +18,15 @@ returns-clause-answers g c = passed (untagged c.args.rows.now) c.in_ok-of.of c.t
 
 pub returns-clause-refused : goal.returns-clause-refused
 returns-clause-refused g c = kept_none (untagged c.args.rows.now) c.args.store.now c.tag_last.new.store (none_of (untagged c.args.rows.now) c.in_ok-of.of c.in_ok-of.ensures.passes)
+
+-- where there is no row nothing is called
+
+pub returns-in_err-of-clause-works : goal.returns-in_err-of-clause-works
+returns-in_err-of-clause-works g c = λ database has.
+    let calls = tag_calls c.args.tag.now database in
+    let x = g.S.Store.state c.args.store.now in
+    untouched_works c.args.dialect calls database x _ c.in_err-of.field-0.0 (search rules) has
+
+pub returns-in_err-of-clause-any_moment : goal.returns-in_err-of-clause-any_moment
+returns-in_err-of-clause-any_moment g c = λ database has.
+    untouched_crashes c.args.dialect (tag_calls c.args.tag.now database) database (g.S.Store.state c.args.store.now) (g.S.Store.crashes c.args.store.now)

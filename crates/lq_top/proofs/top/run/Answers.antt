@@ -3,8 +3,9 @@ use Rattle.std.specs.Option.{option_copied}
 use Rattle.std.specs.Prelude.{map, string_bytes}
 use Rattle.lq_cli.specs.Line.{line_of}
 use Rattle.lq_tell.specs.declared.status.Status.TheVariants as status
+use Rattle.lq_top.proofs.Resumed.{crash_marked, has_gone_on_back, has_resumed, leaves_marked}
 use Rattle.lq_top.proofs.Said.{has_said, succeeds}
-use Rattle.lq_top.proofs.Written.{IsWritten, cause, ends_unread, gone_back, has_run, has_synced, has_updated, is_logged, no_files_left, no_words, tag_so, tells_damage, written_fault}
+use Rattle.lq_top.proofs.Written.{IsWritten, cause, ends_unread, gone_back, has_run, has_synced, has_updated, is_logged, no_files_left, no_words, tag_so, tells_damage, was_over, written_fault}
 use Rattle.lq_top.proofs.top.run.Goals as goal
 use Rattle.lq_top.specs.Asks.{asked_tag}
 use Rattle.lq_top.specs.Stamp.{stamp_of}
@@ -58,6 +59,14 @@ returns-clause-untouched g c =
     let by : IsWritten c.work-disk.result.done c.tell-status.result = record { kind = c.work-disk.ensures.kind; ended = c.tell-status.ensures.status; cut = c.tell-status.ensures.cut; had = c.tell-status.ensures.had } in
     λ unread. no_files_left c.work-disk.result.done c.tell-status.result by unread (λ usage. (c.work-disk.ensures.usage_only (c.work-disk.ensures.usage usage)).1) c.work-disk.ensures.untouched
 
+pub returns-clause-any_moment : goal.returns-clause-any_moment
+returns-clause-any_moment g c = λ asks. c.work-disk.ensures.any_moment asks
+
+pub returns-clause-safe : goal.returns-clause-safe
+returns-clause-safe g c =
+    let by : IsWritten c.work-disk.result.done c.tell-status.result = record { kind = c.work-disk.ensures.kind; ended = c.tell-status.ensures.status; cut = c.tell-status.ensures.cut; had = c.tell-status.ensures.had } in
+    λ asks command over. c.work-disk.ensures.safe asks command (was_over c.work-disk.result.done c.tell-status.result by over)
+
 pub returns-clause-rollback : goal.returns-clause-rollback
 returns-clause-rollback g c =
     let by : IsWritten c.work-disk.result.done c.tell-status.result = record { kind = c.work-disk.ensures.kind; ended = c.tell-status.ensures.status; cut = c.tell-status.ensures.cut; had = c.tell-status.ensures.had } in
@@ -94,3 +103,29 @@ returns-clause-success g c =
     λ back. succeeds back stamp c.tell-status.result left (g.O.Sink.told c.args.out.now) (g.O.Sink.told c.tell-status.new.out)
     (has_run stamp file c.work-disk.result.done left c.tell-status.result by back.asks (c.work-disk.ensures.does back.asks))
     (has_said back.asks stamp file left c.work-disk.result.done c.tell-status.result (g.O.Sink.told c.args.out.now) (g.O.Sink.told c.tell-status.new.out) by (c.work-disk.ensures.does back.asks) c.tell-status.ensures.whole)
+
+pub returns-clause-resumed_update : goal.returns-clause-resumed_update
+returns-clause-resumed_update g c =
+    let by : IsWritten c.work-disk.result.done c.tell-status.result = record { kind = c.work-disk.ensures.kind; ended = c.tell-status.ensures.status; cut = c.tell-status.ensures.cut; had = c.tell-status.ensures.had } in
+    let stamp = stamp_of c.args.who.now (g.C.Clock.last c.work-disk.new.clock) in
+    let file = g.D.Disk.told c.args.disk in
+    let left = g.D.Disk.told c.work-disk.result.disk in
+    λ asks. has_resumed asks stamp file c.work-disk.result.done c.tell-status.result left (g.O.Sink.told c.args.out.now) (g.O.Sink.told c.tell-status.new.out) by (c.work-disk.ensures.does asks)
+    (has_run stamp file c.work-disk.result.done left c.tell-status.result by asks (c.work-disk.ensures.does asks))
+    (has_said asks stamp file left c.work-disk.result.done c.tell-status.result (g.O.Sink.told c.args.out.now) (g.O.Sink.told c.tell-status.new.out) by (c.work-disk.ensures.does asks) c.tell-status.ensures.whole)
+
+pub returns-clause-resumed_rollback : goal.returns-clause-resumed_rollback
+returns-clause-resumed_rollback g c =
+    let by : IsWritten c.work-disk.result.done c.tell-status.result = record { kind = c.work-disk.ensures.kind; ended = c.tell-status.ensures.status; cut = c.tell-status.ensures.cut; had = c.tell-status.ensures.had } in
+    let stamp = stamp_of c.args.who.now (g.C.Clock.last c.work-disk.new.clock) in
+    let file = g.D.Disk.told c.args.disk in
+    let left = g.D.Disk.told c.work-disk.result.disk in
+    λ asks. has_gone_on_back asks stamp file c.work-disk.result.done c.tell-status.result left (has_run stamp file c.work-disk.result.done left c.tell-status.result by asks (c.work-disk.ensures.does asks))
+
+pub returns-clause-marked : goal.returns-clause-marked
+returns-clause-marked g c =
+    λ asks. leaves_marked asks (stamp_of c.args.who.now (g.C.Clock.last c.work-disk.new.clock)) (g.D.Disk.told c.args.disk) c.work-disk.result.done (g.D.Disk.told c.work-disk.result.disk) (c.work-disk.ensures.does asks)
+
+pub returns-clause-marked_at_crash : goal.returns-clause-marked_at_crash
+returns-clause-marked_at_crash g c =
+    λ asks read bytes. crash_marked asks (stamp_of c.args.who.now (g.C.Clock.last c.work-disk.new.clock)) (g.D.Disk.told c.args.disk) read bytes

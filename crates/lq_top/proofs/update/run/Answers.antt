@@ -1,8 +1,20 @@
+use Rattle.std.proofs.Common.{rules}
+use Rattle.std.specs.Prelude.{Err, ◌≡◌}
+use Rattle.lq_tell.specs.declared.status.Status.TheVariants as status
+use Rattle.lq_top.proofs.Endings.{untouched_crashes, untouched_works}
 use Rattle.lq_top.proofs.Stopped.{sets_stopped}
-use Rattle.lq_top.proofs.Updated.{ok_on_its, sets_told, turns_may, turns_work}
-use Rattle.lq_top.specs.Scripts.{settled_in}
+use Rattle.lq_top.proofs.Updated.{ok_on_its, sets_told, turns_crash, turns_may, turns_work}
+use Rattle.lq_top.specs.Scripts.{settled_in, update_script}
 use Rattle.lq_top.specs.Tells.{IfFinished, TellsUpdate}
 use Rattle.lq_top.proofs.update.run.Goals as goal
+
+pub returns-in_err-source-clause-works : goal.returns-in_err-source-clause-works
+returns-in_err-source-clause-works g c = λ database has.
+    let is : c.from_residual.result ≡ Err status.OutOfMemory = search rules in
+    untouched_works c.args.given.options.dialect (update_script c.args.given database) database (g.S.Store.state c.args.store.now) c.from_residual.result status.OutOfMemory is has
+
+pub returns-in_err-source-clause-any_moment : goal.returns-in_err-source-clause-any_moment
+returns-in_err-source-clause-any_moment g c = λ database has. untouched_crashes c.args.given.options.dialect (update_script c.args.given database) database (g.S.Store.state c.args.store.now) (g.S.Store.crashes c.args.store.now)
 
 pub run_turns-source-requires-clause-may_run : goal.run_turns-source-requires-clause-may_run
 run_turns-source-requires-clause-may_run g c = λ database has.
@@ -35,5 +47,11 @@ returns-clause-tells g c =
 pub returns-clause-works : goal.returns-clause-works
 returns-clause-works g c = λ database has.
     let ran = c.run_turns-source in
-    turns_work c.args.given (g.S.Store.state c.args.store.now) c.args.rows.now c.in_ok-source.source c.in_ok-source.ensures.left database (g.S.Store.state ran.new.store) ran.result.end c.ended.result
-    (c.requires.rows database has) c.requires.work (c.requires.goes database has) c.ended.ensures.whole (ran.ensures.leaves database has)
+    turns_work c.args.given (g.S.Store.state c.args.store.now) c.args.rows.now c.in_ok-source.source c.in_ok-source.ensures.left database (c.requires.rows database has) c.requires.work (c.requires.goes database has)
+    (g.S.Store.state ran.new.store) ran.result.end c.ended.result c.ended.ensures.whole (ran.ensures.leaves database has) (ran.ensures.left database has)
+
+pub returns-clause-any_moment : goal.returns-clause-any_moment
+returns-clause-any_moment g c = λ database has.
+    let ran = c.run_turns-source in
+    turns_crash c.args.given (g.S.Store.state c.args.store.now) c.args.rows.now c.in_ok-source.source c.in_ok-source.ensures.left database (c.requires.rows database has) c.requires.work (c.requires.goes database has)
+    (g.S.Store.crashes c.args.store.now) (g.S.Store.crashes ran.new.store) (ran.ensures.any_moment database has)

@@ -1,9 +1,27 @@
-use Rattle.lq_top.proofs.Unchanged.{printed_does}
+use Rattle.lq_top.proofs.LeftOnFile.{since_read}
+use Rattle.lq_top.proofs.Unchanged.{printed_does, prints_no_command, prints_on_file}
 use Rattle.lq_top.proofs.work.printed.Goals as goal
 use Rattle.lq_top.specs.Bytes.{given_at}
+use Rattle.lq_top.specs.Copies.{job_of}
+use Rattle.lq_top.specs.Jobs.{job_script}
 use Rattle.lq_top.specs.Stamp.{stamp_of}
 
-pub returns-clause-does : goal.returns-clause-does
-returns-clause-does g c = λ database opens.
-    printed_does c.args.printing (given_at c.args.asked (stamp_of c.args.who.now (g.C.Clock.last c.on_copy-done.new.clock))) database (g.D.Disk.told c.args.disk) c.on_copy-done.result (g.D.Disk.told c.on_copy-done.new.disk)
-    opens (c.on_copy-done.ensures.answers database opens) (c.on_copy-done.ensures.tells database opens) c.on_copy-done.ensures.told
+pub returns-clause-worked : goal.returns-clause-worked
+returns-clause-worked g c =
+    let ran = c.on_copy-done in
+    let given = given_at c.args.asked (stamp_of c.args.who.now (g.C.Clock.last ran.new.clock)) in
+    let told = g.D.Disk.told c.args.disk in
+    record {
+      used = record {
+        damaged = ran.ensures.damaged;
+        safe = λ command finished. prints_no_command c.args.printing command;
+        off = λ off. prints_on_file c.args.printing off;
+        later = ran.ensures.later;
+        fault = ran.ensures.fault;
+      };
+      kind = ran.ensures.kind;
+      does = λ on database opens.
+          printed_does c.args.printing given database told ran.result (g.D.Disk.told ran.new.disk) opens (ran.ensures.answers database opens) (ran.ensures.tells database opens) ran.ensures.told;
+      any_moment = λ on database opens.
+          since_read given.options.dialect (job_script (job_of c.args.printing) given database) database told (g.D.Disk.crashes c.args.disk) (g.met.D.Disk.sound c.args.disk) (g.D.Disk.crashes ran.new.disk) ran.ensures.any_moment;
+    }

@@ -1,44 +1,68 @@
-use Rattle.std.proofs.Common.{ap, inl, inr, refl, subst, sym, ◌∙◌}
-use Rattle.std.specs.Prelude.{Err, List, Some, false, map, string_bytes, ℕ, ◌≡◌}
-use Rattle.lq_cli.specs.Line.{line_of}
+use Rattle.std.proofs.Common.{ap, inl, inr, refl, sym, ◌∙◌}
+use Rattle.std.specs.Prelude.{Err, Result, false, map, string_bytes, true, ◌≡◌}
 use Rattle.lq_cli.specs.declared.line.Line.{Line}
 use Rattle.lq_sources.specs.Answers.{IsTold, Source}
+use Rattle.lq_outside.specs.Crash.{Settled}
+use Rattle.lq_tell.specs.Texts.{status_done}
+use Rattle.lq_tell.specs.declared.done.Done.{Done}
+use Rattle.lq_tell.specs.declared.status.Status.{Status}
 use Rattle.lq_tell.specs.declared.status.Status.TheVariants as status
-use Rattle.lq_top.proofs.Loading.{is_failed, is_usage, line_does, line_fails, memory_no_changelog, no_line, no_usage, not_less, of_line_is, other, refused_kind, refused_whole, words_kind}
+use Rattle.lq_top.proofs.Handing.{line_crashes, unused_crashes}
+use Rattle.lq_top.proofs.Loading.{false_true, is_failed, is_usage, line_does, line_fails, memory_no_changelog, no_line, no_usage, not_less, of_line_is, other, refused_kind, refused_whole, words_kind}
 use Rattle.lq_top.proofs.ShortTag.{short_tag}
 use Rattle.lq_top.proofs.work.work.Goals as goal
 use Rattle.lq_top.specs.Asks.{asked_tag, loaded}
 use Rattle.lq_top.specs.Bytes.{TellsDamage}
-use Rattle.lq_top.specs.Jobs.{is_on_file}
+use Rattle.lq_top.specs.Jobs.{is_command, is_on_file}
 use Rattle.lq_top.specs.Stamp.{stamp_of}
+use Rattle.lq_top.specs.Works.{is_finished}
 
 pub on_line-requires : goal.on_line-requires
 on_line-requires g c = record { tag = short_tag (map (λ word. string_bytes word) c.args.words.now) c.in-Ok.line c.in-Ok.ensures.line }
 
 pub returns-in-Ok-clause-usage : goal.returns-in-Ok-clause-usage
-returns-in-Ok-clause-usage g c = λ is. absurd (no_usage c.on_line.result.done c.on_line.ensures.kind is)
+returns-in-Ok-clause-usage g c = λ is. absurd (no_usage c.on_line.result.done c.on_line.ensures.worked.kind is)
 
 pub returns-in-Ok-clause-usage_only : goal.returns-in-Ok-clause-usage_only
 returns-in-Ok-clause-usage_only g c = λ none. no_line (map (λ word. string_bytes word) c.args.words.now) c.in-Ok.line none c.in-Ok.ensures.line
 
 pub returns-in-Ok-clause-changelog : goal.returns-in-Ok-clause-changelog
 returns-in-Ok-clause-changelog g c = λ fault is line is_line.
-    of_line_is (map (λ word. string_bytes word) c.args.words.now) (g.F.Files.told c.args.files.now) c.in-Ok.line c.in-Ok.ensures.line (λ (l : Line). (source : Source) → IsTold (g.F.Files.told c.args.files.now) source → loaded source l.options.dialect l.given l.root ≡ Err fault) (c.on_line.ensures.changelog fault is) line is_line
+    of_line_is (map (λ word. string_bytes word) c.args.words.now) (g.F.Files.told c.args.files.now) c.in-Ok.line c.in-Ok.ensures.line (λ (l : Line). (source : Source) → IsTold (g.F.Files.told c.args.files.now) source → loaded source l.options.dialect l.given l.root ≡ Err fault) (c.on_line.ensures.worked.changelog fault is) line is_line
 
 pub returns-in-Ok-clause-not_loaded : goal.returns-in-Ok-clause-not_loaded
-returns-in-Ok-clause-not_loaded g c = λ fault has. line_fails (map (λ word. string_bytes word) c.args.words.now) (g.F.Files.told c.args.files.now) c.in-Ok.line c.in-Ok.ensures.line c.on_line.result.done c.on_line.ensures.not_loaded fault has
+returns-in-Ok-clause-not_loaded g c = λ fault has. line_fails (map (λ word. string_bytes word) c.args.words.now) (g.F.Files.told c.args.files.now) c.in-Ok.line c.in-Ok.ensures.line c.on_line.result.done c.on_line.ensures.worked.not_loaded fault has
 
 pub returns-in-Ok-clause-kind : goal.returns-in-Ok-clause-kind
-returns-in-Ok-clause-kind g c = words_kind c.on_line.result.done c.on_line.ensures.kind
+returns-in-Ok-clause-kind g c = words_kind c.on_line.result.done c.on_line.ensures.worked.kind
 
 pub returns-in-Ok-clause-does : goal.returns-in-Ok-clause-does
-returns-in-Ok-clause-does g c = λ asks. line_does (map (λ word. string_bytes word) c.args.words.now) (g.F.Files.told c.args.files.now) c.in-Ok.line c.in-Ok.ensures.line (stamp_of c.args.who.now (g.C.Clock.last c.on_line.new.clock)) (g.D.Disk.told c.args.disk) c.on_line.result.done (g.D.Disk.told c.on_line.result.disk) c.on_line.ensures.does asks
+returns-in-Ok-clause-does g c = λ asks. line_does (map (λ word. string_bytes word) c.args.words.now) (g.F.Files.told c.args.files.now) c.in-Ok.line c.in-Ok.ensures.line (stamp_of c.args.who.now (g.C.Clock.last c.on_line.new.clock)) (g.D.Disk.told c.args.disk) c.on_line.result.done (g.D.Disk.told c.on_line.result.disk) c.on_line.ensures.worked.does asks
+
+pub returns-in-Ok-clause-untouched : goal.returns-in-Ok-clause-untouched
+returns-in-Ok-clause-untouched g c = c.on_line.ensures.worked.untouched
+
+pub returns-in-Ok-clause-any_moment : goal.returns-in-Ok-clause-any_moment
+returns-in-Ok-clause-any_moment g c = λ asks.
+    line_crashes (map (λ word. string_bytes word) c.args.words.now) (g.F.Files.told c.args.files.now) c.in-Ok.line c.in-Ok.ensures.line (stamp_of c.args.who.now (g.C.Clock.last c.on_line.new.clock)) (g.D.Disk.told c.args.disk)
+    (g.D.Disk.crashes c.args.disk) (g.D.Disk.crashes c.on_line.result.disk) c.on_line.ensures.worked.any_moment (g.met.D.Disk.sound c.args.disk) asks
+
+pub returns-in-Ok-clause-safe : goal.returns-in-Ok-clause-safe
+returns-in-Ok-clause-safe g c = λ asks.
+    of_line_is (map (λ word. string_bytes word) c.args.words.now) (g.F.Files.told c.args.files.now) c.in-Ok.line c.in-Ok.ensures.line
+    (λ (l : Line). is_command l.job ≡ true → is_finished (status_done c.on_line.result.done) ≡ true → Settled (g.D.Disk.told c.on_line.result.disk) (g.D.Disk.crashes c.on_line.result.disk)) c.on_line.ensures.worked.used.safe asks.line asks.is_line
+
+pub returns-in-Ok-clause-later : goal.returns-in-Ok-clause-later
+returns-in-Ok-clause-later g c = c.on_line.ensures.worked.used.later
+
+pub returns-in-Ok-clause-fault : goal.returns-in-Ok-clause-fault
+returns-in-Ok-clause-fault g c = c.on_line.ensures.worked.used.fault
 
 pub returns-in-Ok-clause-damaged : goal.returns-in-Ok-clause-damaged
-returns-in-Ok-clause-damaged g c = λ line is_line. of_line_is (map (λ word. string_bytes word) c.args.words.now) (g.F.Files.told c.args.files.now) c.in-Ok.line c.in-Ok.ensures.line (λ (l : Line). TellsDamage l.options.dialect (g.D.Disk.told c.args.disk) c.on_line.result.done) c.on_line.ensures.damaged line is_line
+returns-in-Ok-clause-damaged g c = λ line is_line. of_line_is (map (λ word. string_bytes word) c.args.words.now) (g.F.Files.told c.args.files.now) c.in-Ok.line c.in-Ok.ensures.line (λ (l : Line). TellsDamage l.options.dialect (g.D.Disk.told c.args.disk) c.on_line.result.done) c.on_line.ensures.worked.used.damaged line is_line
 
 pub returns-in-Ok-clause-off : goal.returns-in-Ok-clause-off
-returns-in-Ok-clause-off g c = λ line is_line. of_line_is (map (λ word. string_bytes word) c.args.words.now) (g.F.Files.told c.args.files.now) c.in-Ok.line c.in-Ok.ensures.line (λ (l : Line). is_on_file l.job ≡ false → c.on_line.result.disk ≡ c.args.disk) c.on_line.ensures.off line is_line
+returns-in-Ok-clause-off g c = λ line is_line. of_line_is (map (λ word. string_bytes word) c.args.words.now) (g.F.Files.told c.args.files.now) c.in-Ok.line c.in-Ok.ensures.line (λ (l : Line). is_on_file l.job ≡ false → c.on_line.result.disk ≡ c.args.disk) c.on_line.ensures.worked.used.off line is_line
 
 pub returns-in-Ok-clause-tag : goal.returns-in-Ok-clause-tag
 returns-in-Ok-clause-tag g c = inl (c.on_line.ensures.tag ∙ sym (ap asked_tag c.in-Ok.ensures.line))
@@ -63,6 +87,12 @@ returns-in-Err-Usage-clause-kind g c = refused_kind c.refused.result.done status
 
 pub returns-in-Err-Usage-clause-does : goal.returns-in-Err-Usage-clause-does
 returns-in-Err-Usage-clause-does g c = λ asks. no_line (map (λ word. string_bytes word) c.args.words.now) asks.line (c.in-Err-Usage.ensures.usage c.in-Err-Usage.field-0-is) asks.is_line
+
+pub returns-in-Err-Usage-clause-any_moment : goal.returns-in-Err-Usage-clause-any_moment
+returns-in-Err-Usage-clause-any_moment g c = λ asks. no_line (map (λ word. string_bytes word) c.args.words.now) asks.line (c.in-Err-Usage.ensures.usage c.in-Err-Usage.field-0-is) asks.is_line
+
+pub returns-in-Err-Usage-clause-safe : goal.returns-in-Err-Usage-clause-safe
+returns-in-Err-Usage-clause-safe g c = λ asks. no_line (map (λ word. string_bytes word) c.args.words.now) asks.line (c.in-Err-Usage.ensures.usage c.in-Err-Usage.field-0-is) asks.is_line
 
 pub returns-in-Err-Usage-clause-damaged : goal.returns-in-Err-Usage-clause-damaged
 returns-in-Err-Usage-clause-damaged g c = λ line is_line. refused_whole line.options.dialect (g.D.Disk.told c.args.disk) c.refused.result.done status.Usage c.refused.ensures.done tt
@@ -96,6 +126,13 @@ returns-in-Err-OutOfMemory-clause-kind g c = refused_kind c.refused-in-Err-OutOf
 
 pub returns-in-Err-OutOfMemory-clause-does : goal.returns-in-Err-OutOfMemory-clause-does
 returns-in-Err-OutOfMemory-clause-does g c = λ asks on database opens. inl (inr c.refused-in-Err-OutOfMemory.ensures.done, ap g.D.Disk.told c.refused-in-Err-OutOfMemory.ensures.disk)
+
+pub returns-in-Err-OutOfMemory-clause-any_moment : goal.returns-in-Err-OutOfMemory-clause-any_moment
+returns-in-Err-OutOfMemory-clause-any_moment g c = λ asks.
+    unused_crashes g.D.Disk.told g.D.Disk.crashes c.args.disk c.refused-in-Err-OutOfMemory.result.disk c.refused-in-Err-OutOfMemory.ensures.disk (g.met.D.Disk.sound c.args.disk) asks (stamp_of c.args.who.now (g.C.Clock.last c.args.clock.now))
+
+pub returns-in-Err-OutOfMemory-clause-safe : goal.returns-in-Err-OutOfMemory-clause-safe
+returns-in-Err-OutOfMemory-clause-safe g c = λ asks command finished. absurd (false_true (sym (ap (λ (r : Result Done Status). is_finished (status_done r)) c.refused-in-Err-OutOfMemory.ensures.done) ∙ finished))
 
 pub returns-in-Err-OutOfMemory-clause-damaged : goal.returns-in-Err-OutOfMemory-clause-damaged
 returns-in-Err-OutOfMemory-clause-damaged g c = λ line is_line. refused_whole line.options.dialect (g.D.Disk.told c.args.disk) c.refused-in-Err-OutOfMemory.result.done status.OutOfMemory c.refused-in-Err-OutOfMemory.ensures.done tt

@@ -1,0 +1,366 @@
+-- Commands that go on after stops, and what a stop of one leaves that holds the lock.
+use Rattle.std.proofs.Common.{ap, inl, inr, refl, subst, sym, ◌∙◌}
+use Rattle.std.specs.List.{list_all}
+use Rattle.std.specs.Option.{option_map, option_or}
+use Rattle.std.specs.Prelude.{Bool, List, None, Ok, Option, Result, Some, [], false, if◌then◌else◌, length, not, option_and_then, true, ℕ, ◌&&◌, ◌++◌, ◌||◌, ◌∷◌, ◌≡◌, ◌⊎◌}
+use Rattle.lq_base.specs.declared.command.Command.TheVariants as command
+use Rattle.lq_base.specs.declared.command.Target.{Target}
+use Rattle.lq_base.specs.declared.dialect.Dialect.{Dialect}
+use Rattle.lq_base.specs.declared.dialect.Dialect.TheVariants.{Mysql, Postgresql}
+use Rattle.lq_base.specs.declared.identity.Identity.{Identity}
+use Rattle.lq_base.specs.declared.reason.Reason.{Reason}
+use Rattle.lq_base.specs.declared.tracking.Lock.{Lock}
+use Rattle.lq_base.specs.declared.tracking.Tracked.{Tracked}
+use Rattle.lq_cli.specs.declared.line.Job.{Job}
+use Rattle.lq_cli.specs.declared.line.Job.TheVariants.{Drill, RollbackSql, Run, Soak, UpdateSql}
+use Rattle.lq_expr.specs.declared.options.Options.{Options}
+use Rattle.lq_kinds.specs.Dialects.{AreFor}
+use Rattle.lq_kinds.specs.declared.any_change.AnyChange.{AnyChange}
+use Rattle.lq_kinds.specs.declared.change_set.ChangeSet.{ChangeSet}
+use Rattle.lq_model.proofs.Lists.{and_true, named_itself}
+use Rattle.lq_model.specs.Sound.{IsSound}
+use Rattle.lq_model.specs.declared.caller.Room.TheVariants.{Ordinary}
+use Rattle.lq_run.specs.Stands.{entries_of}
+use Rattle.lq_seen.specs.Selection.{is_met}
+use Rattle.lq_seen.specs.View.{any_meaning, views}
+use Rattle.lq_store.specs.Journal.{Entry}
+use Rattle.lq_tell.specs.declared.done.Done.{Done}
+use Rattle.lq_tell.specs.declared.status.Status.{Status}
+use Rattle.lq_tell.specs.declared.status.Status.TheVariants as status
+use Rattle.lq_track.specs.Database.{Database, SameDatabase}
+use Rattle.lq_track.specs.Lock.{free}
+use Rattle.lq_track.specs.Log.{identity_of}
+use Rattle.lq_turns.proofs.Known.{faultless_are_apart}
+use Rattle.lq_turns.proofs.Locked.{led_both}
+use Rattle.lq_turns.proofs.Returns.{rollback_resumes}
+use Rattle.lq_turns.proofs.Stands.{rollback_stops, sync_stops, update_stops}
+use Rattle.lq_turns.proofs.Trails.{update_resumes}
+use Rattle.lq_turns.specs.Again.{are_twins, has_own_sum}
+use Rattle.lq_turns.specs.Contents.{Contents, contents_of}
+use Rattle.lq_turns.specs.Deed.{all_done}
+use Rattle.lq_turns.specs.Faults.{faults}
+use Rattle.lq_turns.specs.Laws.{AreKnown, AreRead, at_rest, rollback_calls}
+use Rattle.lq_turns.specs.Ran.{RanSince, Run as RunOf, are_reversible}
+use Rattle.lq_turns.specs.Rollback.{rollback_of, rows_kept, rows_undone, undo_turns}
+use Rattle.lq_turns.specs.Script.{closing, last_row, release_calls, tag_of, update_calls}
+use Rattle.lq_turns.specs.Session.{all_called, left_by, session_on}
+use Rattle.lq_turns.specs.Set.{Changelog, Set}
+use Rattle.lq_turns.specs.Settle.{tested, updated}
+use Rattle.lq_turns.specs.Stops.{IsLeft, IsSteady, Journal, joined}
+use Rattle.lq_turns.specs.Trails.{IsStopped, is_by_count, rollback_to as calls_to}
+use Rattle.lq_turns.specs.declared.call.Call.{Call}
+use Rattle.lq_turns.specs.declared.call.Call.TheVariants.{Alone}
+use Rattle.lq_turns.specs.declared.choice.What.TheVariants.{New}
+use Rattle.lq_turns.specs.declared.deed.Deed.{Deed}
+use Rattle.lq_turns.specs.declared.deed.Deed.TheVariants.{Locks, Rows}
+use Rattle.lq_turns.specs.declared.deed.OnLock.TheVariants.{Freed}
+use Rattle.lq_turns.specs.declared.deed.OnRows.TheVariants.{Tagged}
+use Rattle.lq_turns.specs.declared.fault.Fault.{Fault}
+use Rattle.lq_turns.specs.declared.stamp.Stamp.{Stamp}
+use Rattle.lq_turns.specs.declared.turn.Turn.{Turn}
+use Rattle.lq_top.proofs.Planned.{kept}
+use Rattle.lq_top.proofs.Unchanged.{holds_it}
+use Rattle.lq_top.proofs.ViewsRead.{views_are_read}
+use Rattle.lq_top.proofs.Written.{Does, IsWritten, failed_unfinished, false_true, was_over}
+use Rattle.lq_top.specs.Asks.{Asks, Files}
+use Rattle.lq_top.specs.Bytes.{Becomes, IsLeftOn, Opens, most_bytes}
+use Rattle.lq_db.specs.Log.{entries_in}
+use Rattle.lq_top.specs.Jobs.{DoesLine, is_on_file, job_refusal, job_script}
+use Rattle.lq_top.specs.Refusals.{if_halts, if_some, invalid, own_halt, refusal, unready}
+use Rattle.lq_top.specs.Resumed.{EndsSo, LeavesMarked, RollbackResumes, StandsHeld, UpdateResumes, turns_to}
+use Rattle.lq_top.specs.Run.{EndsBy, IsOutside, Runs, given_by, is_over}
+use Rattle.lq_top.specs.Says.{Said, SaysJob}
+use Rattle.lq_top.specs.Scripts.{log_in, rollback_to, sets_in, update_script, updated_in}
+use Rattle.lq_top.specs.Tells.{status_by}
+use Rattle.lq_top.specs.Works.{is_finished}
+use Rattle.lq_top.specs.declared.given.Given.{Given}
+
+-- what the law on updates asks of a view of a changelog
+
+own_sums : (options : Options) (xs : List ChangeSet) → list_all has_own_sum (views options xs) ≡ true
+own_sums options [] = refl
+own_sums options (x ∷ xs) = and_true _ _ (and_true _ _ (named_itself x.sum) refl) (own_sums options xs)
+
+chosen_here : (here met : Bool) → (not (here && met) || here) ≡ true
+chosen_here true true = refl
+chosen_here true false = refl
+chosen_here false met = refl
+
+are_here : (options : Options) (xs : List ChangeSet) → list_all (λ (x : Set AnyChange). not x.selected || x.here) (views options xs) ≡ true
+are_here options [] = refl
+are_here options (x ∷ xs) = and_true _ _ (chosen_here x.here (is_met x.context options.contexts && is_met options.labels x.labels)) (are_here options xs)
+
+-- an update that comes to its end has no validation faults
+
+not_outside : (s : Status) → IsOutside s → is_over s ≡ true → ⊥
+not_outside s (inl is) over = false_true (sym (ap is_over is) ∙ over)
+not_outside s (inr (inl is)) over = false_true (sym (ap is_over is) ∙ over)
+not_outside s (inr (inr is)) over = false_true (sym (ap is_over is) ∙ over)
+
+no_faults : (s : Status) (xs : List Fault) → EndsBy (if_some xs) s → is_over s ≡ true → xs ≡ []
+no_faults s [] ends over = refl
+no_faults s (fault ∷ more) (inl is) over = absurd (false_true (sym (ap is_over is) ∙ over))
+no_faults s (fault ∷ more) (inr out) over = absurd (not_outside s out over)
+
+or_nothing : (o : Option Status) → option_or o None ≡ o
+or_nothing None = refl
+or_nothing (Some x) = refl
+
+faultless : (given : Given) (database : Database) (s : Status) → database.lock ≡ free → own_halt given database ≡ None → EndsBy (refusal command.Update given database) s → is_over s ≡ true → faults (sets_in given) database.rows ≡ []
+faultless given database s unlocked goes ends over =
+    no_faults s (faults (sets_in given) database.rows)
+    (subst (λ (o : Option Status). EndsBy o s)
+    (ap (option_or (unready given database)) goes
+    ∙ (or_nothing (unready given database)
+    ∙ ap (λ (lock : Lock). option_or (if lock.locked then Some (status.Locked lock) else None) (invalid given database.rows)) unlocked))
+    ends)
+    over
+
+-- the laws, at a dialect that is postgresql
+
+abbrev UpdatesAt : Dialect → Type 0
+UpdatesAt d = (stamp : Stamp) (g : Changelog AnyChange) (start database : Database)
+    → IsSound d start.users → start.lock ≡ free → AreRead d any_meaning g.sets → list_all has_own_sum g.sets ≡ true → are_twins g.sets ≡ false
+    → IsSteady d any_meaning stamp g (contents_of start)
+    → IsStopped start (λ who. update_calls d any_meaning (record stamp { who = who }) g) database
+    → SameDatabase (left_by d (update_calls d any_meaning stamp g database) database) (at_rest start (updated d any_meaning stamp.reading g (contents_of start)).contents)
+    × ((updated d any_meaning stamp.reading g (contents_of database)).stop ≡ (updated d any_meaning stamp.reading g (contents_of start)).stop)
+
+updates_at : (d : Dialect) → d ≡ Postgresql → UpdatesAt d
+updates_at d is = subst UpdatesAt (sym is) (update_resumes any_meaning kept)
+
+abbrev RollsBackAt : Dialect → Type 0
+RollsBackAt d = (stamp : Stamp) (sets : List (Set AnyChange)) (target : Target) (before : Contents) (xs : List (RunOf AnyChange)) (start database : Database)
+    → is_by_count target ≡ false → start.lock ≡ free → RanSince d any_meaning before xs (contents_of start) → are_reversible d any_meaning xs before.users ≡ true → AreKnown d any_meaning sets xs
+    → rows_kept target start.rows ≡ Some (length before.rows) → list_all (λ (x : RunOf AnyChange). x.set.in_transaction) xs ≡ true
+    → IsStopped start (λ who. calls_to d any_meaning (record stamp { who = who }) sets target) database
+    → SameDatabase (left_by d (calls_to d any_meaning stamp sets target database) database) (at_rest database before)
+
+rolls_back_at : (d : Dialect) → d ≡ Postgresql → RollsBackAt d
+rolls_back_at d is = subst RollsBackAt (sym is) (rollback_resumes any_meaning kept)
+
+-- the status of an update
+
+over_is : (s : Status) → is_over s ≡ true → (is_finished s ≡ true) ⊎ (s ≡ status.WriteFault)
+over_is status.Done over = inl over
+over_is status.Usage over = inl over
+over_is status.ReadFault over = inl over
+over_is (status.Changelog fault) over = inl over
+over_is (status.Invalid faults) over = inl over
+over_is (status.Locked lock) over = inl over
+over_is (status.Halted place why) over = inl over
+over_is (status.Refused identity statement before reason) over = inl over
+over_is status.NoTarget over = inl over
+over_is (status.NotReversible identity) over = inl over
+over_is status.DiskFault over = inl over
+over_is (status.Damaged at) over = inl over
+over_is (status.Full used next) over = inl over
+over_is status.WriteFault over = inr refl
+over_is status.OutOfMemory over = inl over
+over_is (status.Busy session) over = inl over
+
+update_status : (given : Given) (database : Database) (s : Status) (before after : Option (List ℕ)) → SaysJob (Run command.Update) given database s before after → s ≡ status_by (updated_in false given database).settled.stop
+update_status given database s before after says = says.status
+
+ends_so : (wanted s : Status) → is_over s ≡ true → (is_finished s ≡ true → s ≡ wanted) → EndsSo wanted s
+ends_so wanted s over is = elim (over_is s over) as (λ _. EndsSo wanted s) [
+  | inl finished ↦ inl (is finished)
+  | inr fault ↦ inr fault
+]
+
+-- the calls of a rollback, by how many rows stay
+same_calls : (given : Given) (database : Database) (o : Option ℕ)
+    → rollback_to given o database ≡ elim o as (λ _. List Call) [ Some stay ↦ rollback_calls given.options.dialect any_meaning given.stamp (sets_in given) stay database | None ↦ [] ]
+same_calls given database None = refl
+same_calls given database (Some stay) = refl
+
+module _ (job : Job) (given : Given) (before : Option (List ℕ)) (done : Result Done Status) (after : Option (List ℕ)) where
+  -- one that came to its end had a changelog that was read for the dialect
+  was_read : (s : Status) → IsWritten done s → (database : Database) → Does job given database before done after → is_over s ≡ true → AreFor given.options.dialect given.changelog
+  was_read s by database does over = elim does as (λ _. AreFor given.options.dialect given.changelog) [
+    | inl failed ↦ absurd (failed_unfinished done failed.0 (was_over done s by over))
+    | inr made ↦ made.0
+  ]
+
+module _ {words : List (List ℕ)} {files : Files} (asks : Asks words files) (stamp : Stamp) (before : Option (List ℕ)) (done : Result Done Status) (s : Status) (after : Option (List ℕ)) where
+  abbrev given : Given
+  given = given_by asks stamp
+
+  abbrev d : Dialect
+  d = asks.line.options.dialect
+
+  pub has_resumed : (out_before out_after : Option (List ℕ)) → IsWritten done s → DoesLine asks.line.job (given_by asks stamp) before done after → Runs asks stamp before s after → Said asks stamp before s out_before out_after
+      → UpdateResumes asks stamp before s after
+  has_resumed out_before out_after by does runs said = λ database opens was over.
+      let on = ap is_on_file was.is_update in
+      let ran = runs on database opens in
+      let read = was_read asks.line.job given before done after s by database (does on database opens) over in
+      let ends = subst (λ (job : Job). EndsBy (job_refusal job given database) s) was.is_update ran.ends in
+      let goes : own_halt given database ≡ None = ap (λ told. if_halts (tested New (log_in given).condition told)) (was.steady.bare (contents_of database)) in
+      let apart = faultless_are_apart AnyChange (sets_in given) database.rows (are_here asks.line.options asks.changelog.sets) (faultless given database s was.stopped.unlocked goes ends over) in
+      let law = updates_at d was.is_postgresql stamp (log_in given) was.start database was.sound was.unlocked (views_are_read d asks.line.options asks.changelog read) (own_sums asks.line.options asks.changelog.sets) apart was.steady was.stopped in
+      let made = subst (λ (job : Job). Becomes d (job_script job given database) database before after) was.is_update (ran.works over) in (
+        (left_by d (update_script given database) database, made.holds, law.0),
+        ends_so (status_by (updated d any_meaning stamp.reading (log_in given) (contents_of was.start)).stop) s over
+            (λ finished. update_status given database s out_before out_after (subst (λ (job : Job). SaysJob job given database s out_before out_after) was.is_update (said database opens finished)) ∙ ap status_by law.1),
+      )
+
+  pub has_gone_on_back : Runs asks stamp before s after → RollbackResumes asks stamp before s after
+  has_gone_on_back runs = λ database opens was over.
+      let ran = runs (ap is_on_file was.is_rollback) database opens in
+      let law = rolls_back_at d was.is_postgresql stamp (sets_in given) was.target was.before was.ran was.start database was.not_by_count was.unlocked was.since was.reversible was.known was.stays was.whole was.stopped in
+      let made = subst (λ (job : Job). Becomes d (job_script job given database) database before after) was.is_rollback (ran.works over) in
+      let calls = subst (λ (cs : List Call). Becomes d cs database before after) (same_calls given database (rows_kept was.target database.rows)) made in
+      (left_by d (calls_to d any_meaning stamp (sets_in given) was.target database) database, calls.holds, record { users = law.users; rows = law.rows; lock = law.lock })
+
+-- what a stop leaves that holds the lock
+
+ok_same : {x y : Database} → (let r : Result Database Reason = Ok x in r) ≡ Ok y → x ≡ y
+ok_same is = Prim.cc
+
+unlocked_held : (now database : Database) → now.lock ≡ database.lock → database.lock ≡ free → now.lock.locked ≡ true → ⊥
+unlocked_held now database same unlocked locked = false_true (sym (ap (λ (lock : Lock). lock.locked) (same ∙ unlocked)) ∙ locked)
+
+module _ (d : Dialect) (database now : Database) where
+  -- a front of the calls' entries that leads there
+  abbrev FrontLed : List Call → Type 0
+  FrontLed calls = (front : Journal) × (rest : Journal) × ((all_called d calls (session_on database)).entries ≡ front ++ rest) × (all_done d (joined front) database ≡ Ok now)
+
+  -- after the closing entry the lock is free
+  closed_free : (before : Database) → all_done d (Locks Freed ∷ []) before ≡ Ok now → now.lock ≡ free
+  closed_free before led = ap (λ (e : Database). e.lock) (sym (ok_same led))
+
+  front_led : (calls : List Call) (written : Journal) → IsLeft d calls database [] written → all_done d (joined written) database ≡ Ok now → now.lock.locked ≡ true → FrontLed calls
+  front_led calls written left led locked = elim left.is as (λ _. FrontLed calls) [
+    | inl same ↦ (left.front, left.rest, left.entries, subst (λ (es : Journal). all_done d (joined es) database ≡ Ok now) same led)
+    | inr closed ↦ absurd (closed_held (subst (λ (es : Journal). all_done d (joined es) database ≡ Ok now) closed.0 led))
+  ] where
+    closed_held : all_done d (joined (left.front ++ (Locks Freed ∷ []) ∷ [])) database ≡ Ok now → ⊥
+    closed_held led =
+        let parts = led_both d left.front ((Locks Freed ∷ []) ∷ []) database now led in
+        false_true (sym (ap (λ (lock : Lock). lock.locked) (closed_free parts.0 parts.2)) ∙ locked)
+
+  -- no call leaves the database as it was
+  none_led : (front rest : Journal) → (let none : Journal = [] in none) ≡ front ++ rest → all_done d (joined front) database ≡ Ok now → now.lock ≡ database.lock
+  none_led [] rest is led = ap (λ (e : Database). e.lock) (sym (ok_same led))
+  none_led (entry ∷ front) rest is led = Prim.cc
+
+  none_held : (written : Journal) → IsLeft d [] database [] written → all_done d (joined written) database ≡ Ok now → database.lock ≡ free → now.lock.locked ≡ true → ⊥
+  none_held written left led unlocked locked =
+      let it = front_led [] written left led locked in
+      unlocked_held now database (none_led it.0 it.1 it.2 it.3) unlocked locked
+
+  -- nor does a release-locks on a free lock
+  release_held : (written : Journal) → IsLeft d (release_calls database) database [] written → all_done d (joined written) database ≡ Ok now → database.lock ≡ free → now.lock.locked ≡ true → ⊥
+  release_held written left led unlocked locked =
+      none_held written (subst (λ (cs : List Call). IsLeft d cs database [] written) (ap (λ (lock : Lock). if lock.locked then closing ∷ [] else []) unlocked) left) led unlocked locked
+
+  -- a tag leaves the lock as it was
+  tag_led : (of : Identity) (tag : List ℕ) (front rest : Journal) → (let entries : Journal = (Rows (Tagged of tag) ∷ []) ∷ [] in entries) ≡ front ++ rest → all_done d (joined front) database ≡ Ok now → now.lock ≡ database.lock
+  tag_led of tag [] rest is led = ap (λ (e : Database). e.lock) (sym (ok_same led))
+  tag_led of tag (entry ∷ []) rest is led =
+      let same : entry ≡ Rows (Tagged of tag) ∷ [] = Prim.cc in
+      one_led (subst (λ (deeds : List Deed). all_done d (joined (deeds ∷ [])) database ≡ Ok now) same led)
+    where
+      one_led : all_done d (Rows (Tagged of tag) ∷ []) database ≡ Ok now → now.lock ≡ database.lock
+      one_led led = ap (λ (e : Database). e.lock) (sym (ok_same led))
+  tag_led of tag (entry ∷ other ∷ front) rest is led = Prim.cc
+
+tag_entries : (d : Dialect) (database : Database) (of : Identity) (tag : List ℕ) → (all_called d (Alone (Rows (Tagged of tag) ∷ []) Ordinary ∷ []) (session_on database)).entries ≡ (Rows (Tagged of tag) ∷ []) ∷ []
+tag_entries Postgresql database of tag = refl
+tag_entries Mysql database of tag = refl
+
+tag_held : (d : Dialect) (database now : Database) (tag : List ℕ) (last : Option Tracked) (written : Journal) → IsLeft d (tag_of tag last) database [] written → all_done d (joined written) database ≡ Ok now → database.lock ≡ free
+    → now.lock.locked ≡ true → ⊥
+tag_held d database now tag None written left led unlocked locked = none_held d database now written left led unlocked locked
+tag_held d database now tag (Some row) written left led unlocked locked =
+    let it = front_led d database now (tag_of tag (Some row)) written left led locked in
+    unlocked_held now database (tag_led d database now (identity_of row) tag it.0 it.1 (sym (tag_entries d database (identity_of row) tag) ∙ it.2) it.3) unlocked locked
+
+-- a rollback's calls are those of its turns
+
+module _ (given : Given) (target : Target) (database : Database) where
+  abbrev of_turns : Option (List Turn) → List Call
+  of_turns o = elim o as (λ _. List Call) [ Some turns ↦ rollback_of given.options.dialect given.stamp turns database | None ↦ [] ]
+
+  turns_by : (o : Option ℕ) → rollback_to given o database ≡ of_turns (option_and_then (λ (stay : ℕ). undo_turns given.options.dialect any_meaning (sets_in given) (rows_undone stay database.rows)) o)
+  turns_by None = refl
+  turns_by (Some stay) = refl
+
+  back_stands : (now : Database) (written : Journal) (o : Option (List Turn)) → turns_to given target database ≡ o → IsLeft given.options.dialect (of_turns o) database [] written → all_done given.options.dialect (joined written) database ≡ Ok now
+      → database.lock ≡ free → now.lock.locked ≡ true → StandsHeld (Run (command.Rollback target)) given database now
+  back_stands now written None is left led unlocked locked = absurd (none_held given.options.dialect database now written left led unlocked locked)
+  back_stands now written (Some turns) is left led unlocked locked =
+      let it = front_led given.options.dialect database now (rollback_of given.options.dialect given.stamp turns database) written left led locked in
+      (turns, is, rollback_stops given.options.dialect given.stamp turns database now it.0 it.1 unlocked it.2 it.3 locked)
+
+-- a file on which nothing was written holds what it held
+
+nothing_behind : (xs ys : List Entry) → xs ++ ys ≡ xs → ys ≡ []
+nothing_behind [] ys is = is
+nothing_behind (x ∷ xs) ys is =
+    let rest : xs ++ ys ≡ xs = Prim.cc in
+    nothing_behind xs ys rest
+
+no_entry : (d : Dialect) (written : Journal) → entries_of d written ≡ [] → written ≡ []
+no_entry d [] is = refl
+no_entry d (entry ∷ written) is = Prim.cc
+
+some_entries : {xs ys : List Entry} → (let o : Option (List Entry) = Some xs in o) ≡ Some ys → xs ≡ ys
+some_entries is = Prim.cc
+
+same_left : (d : Dialect) (calls : List Call) (database : Database) (before after : Option (List ℕ)) → Opens d before database → after ≡ before → (left : IsLeftOn d calls database before after) → database ≡ left.now
+same_left d calls database before after opens same left =
+    let held = holds_it d before database opens in
+    let here = sym held.told_are ∙ (ap (entries_in d most_bytes) (sym same) ∙ (left.entries ∙ ap (option_map (λ (entries : List Entry). entries ++ entries_of d left.written)) held.told_are)) in
+    let none = no_entry d left.written (nothing_behind held.entries (entries_of d left.written) (sym (some_entries here))) in
+    ok_same (subst (λ (written : Journal). all_done d (joined written) database ≡ Ok left.now) none left.led)
+
+-- how each job stands
+
+-- the changelog was read for the dialect, or nothing was written
+abbrev IsReadOr : Given → Option (List ℕ) → Option (List ℕ) → Type 0
+IsReadOr given before after = AreFor given.options.dialect given.changelog ⊎ (after ≡ before)
+
+module _ (given : Given) (database : Database) (before after : Option (List ℕ)) (opens : Opens given.options.dialect before database) (unlocked : database.lock ≡ free) where
+  update_stands : AreFor given.options.dialect given.changelog → (left : IsLeftOn given.options.dialect (update_script given database) database before after) → left.now.lock.locked ≡ true → StandsHeld (Run command.Update) given database left.now
+  update_stands read left locked = λ goes.
+      let it = front_led given.options.dialect database left.now (update_script given database) left.written left.stops left.led locked in
+      update_stops any_meaning kept given.options.dialect given.stamp (log_in given) database left.now it.0 it.1 opens.stands.sound (views_are_read given.options.dialect given.options given.changelog read) unlocked goes it.2 it.3 locked
+
+  stands : (job : Job) → (is_on_file job ≡ true → IsReadOr given before after) → (left : IsLeftOn given.options.dialect (job_script job given database) database before after) → left.now.lock.locked ≡ true → StandsHeld job given database left.now
+  stands (Run command.Validate) read left locked = none_held given.options.dialect database left.now left.written left.stops left.led unlocked locked
+  stands (Run command.Status) read left locked = none_held given.options.dialect database left.now left.written left.stops left.led unlocked locked
+  stands (Run command.Update) read left locked = elim (read refl) as (λ _. StandsHeld (Run command.Update) given database left.now) [
+    | inl its ↦ update_stands its left locked
+    | inr same ↦ absurd (unlocked_held left.now database (ap (λ (e : Database). e.lock) (sym (same_left given.options.dialect (update_script given database) database before after opens same left))) unlocked locked)
+  ]
+  stands (Run (command.Tag name)) read left locked = tag_held given.options.dialect database left.now name (last_row database.rows) left.written left.stops left.led unlocked locked
+  stands (Run (command.Rollback target)) read left locked =
+      back_stands given target database left.now left.written (turns_to given target database) refl
+      (subst (λ (cs : List Call). IsLeft given.options.dialect cs database [] left.written) (turns_by given target database (rows_kept target database.rows)) left.stops) left.led unlocked locked
+  stands (Run command.Sync) read left locked =
+      let it = front_led given.options.dialect database left.now (job_script (Run command.Sync) given database) left.written left.stops left.led locked in
+      sync_stops AnyChange given.options.dialect given.stamp (log_in given) database left.now it.0 it.1 unlocked it.2 it.3 locked
+  stands (Run command.Release) read left locked = release_held given.options.dialect database left.now left.written left.stops left.led unlocked locked
+  stands UpdateSql read left locked = none_held given.options.dialect database left.now left.written left.stops left.led unlocked locked
+  stands (RollbackSql target) read left locked = none_held given.options.dialect database left.now left.written left.stops left.led unlocked locked
+  stands (Drill path) read left locked = none_held given.options.dialect database left.now left.written left.stops left.led unlocked locked
+  stands (Soak number sets) read left locked = none_held given.options.dialect database left.now left.written left.stops left.led unlocked locked
+
+module _ {words : List (List ℕ)} {files : Files} (asks : Asks words files) (stamp : Stamp) (before : Option (List ℕ)) where
+  read_or : (database : Database) (done : Result Done Status) (after : Option (List ℕ)) → Does asks.line.job (given_by asks stamp) database before done after → IsReadOr (given_by asks stamp) before after
+  read_or database done after does = elim does as (λ _. IsReadOr (given_by asks stamp) before after) [
+    | inl failed ↦ inr failed.1
+    | inr made ↦ inl made.0
+  ]
+
+  -- in the end
+  pub leaves_marked : (done : Result Done Status) (after : Option (List ℕ)) → DoesLine asks.line.job (given_by asks stamp) before done after → LeavesMarked asks stamp before after
+  leaves_marked done after does = λ database opens unlocked left locked.
+      stands (given_by asks stamp) database before after opens unlocked asks.line.job (λ on. read_or database done after (does on database opens)) left locked
+
+  -- and on any bytes
+  pub crash_marked : AreFor asks.line.options.dialect asks.changelog → (bytes : List ℕ) → LeavesMarked asks stamp before (Some bytes)
+  crash_marked read bytes = λ database opens unlocked left locked.
+      stands (given_by asks stamp) database before (Some bytes) opens unlocked asks.line.job (λ on. inl read) left locked

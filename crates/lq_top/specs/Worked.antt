@@ -1,0 +1,62 @@
+-- What a job did on the disk of its database file.
+use Rattle.std.specs.Prelude.{Err, IsTrue, List, Ok, Option, Result, Some, false, true, ℕ, ◌≡◌, ◌≤◌, ◌⊎◌}
+use Rattle.lq_base.specs.declared.dialect.Dialect.{Dialect}
+use Rattle.lq_cli.specs.declared.line.Job.{Job}
+use Rattle.lq_expr.specs.declared.options.Options.{Options}
+use Rattle.lq_kinds.specs.declared.change_set.Changelog.{Changelog}
+use Rattle.lq_outside.specs.Count.{Rose}
+use Rattle.lq_outside.specs.Crash.{Crashes as DiskCrashes, Settled}
+use Rattle.lq_sources.specs.Answers.{IsTold, Source}
+use Rattle.lq_sources.specs.Faults.{Loaded}
+use Rattle.lq_sources.specs.declared.fault.LoadFault.{LoadFault}
+use Rattle.lq_tell.specs.Texts.{status_done}
+use Rattle.lq_tell.specs.declared.done.Done.{Done}
+use Rattle.lq_tell.specs.declared.status.Status.{Status}
+use Rattle.lq_tell.specs.declared.status.Status.TheVariants as status
+use Rattle.lq_track.specs.Database.{Database}
+use Rattle.lq_turns.specs.declared.call.Call.{Call}
+use Rattle.lq_turns.specs.declared.stamp.Stamp.{Stamp}
+use Rattle.lq_top.specs.Asks.{Files, asked_by}
+use Rattle.lq_top.specs.Bytes.{IsLeftOn, OnFile, TellsDamage, WasLeft, given_at}
+use Rattle.lq_top.specs.Jobs.{DoesJob, DoesLine, is_command, is_on_file, job_script}
+use Rattle.lq_top.specs.Kinds.{IsNotLoaded, IsOfDatabase, IsOfFiles, IsOfLine}
+use Rattle.lq_top.specs.Works.{is_finished}
+use Rattle.lq_top.specs.declared.given.Given.{Given}
+
+-- A crash at any moment of these calls leaves what a stop of them may leave; or, since an earlier moment, the entries of what one before them might have left.
+pub record CrashesSince (d : Dialect) (calls : List Call) (database : Database) (told : Option (List ℕ)) (before now : DiskCrashes) : Type 0 where
+  pub honest : now.is_honest ≡ before.is_honest
+  pub later : before.moment ≤ now.moment
+  pub each : IsTrue before.is_honest → (t : ℕ) (bytes : List ℕ) → t ≤ before.moment → now.left_since t bytes → WasLeft d (before.left_since t) bytes ⊎ IsLeftOn d calls database told (Some bytes)
+
+-- at each moment of a job, on a file that holds a database
+abbrev pub CrashesJob : Job → Given → Option (List ℕ) → DiskCrashes → DiskCrashes → Type 0
+CrashesJob job given told before now = is_on_file job ≡ true → OnFile given.options.dialect told (λ database. CrashesSince given.options.dialect (job_script job given database) database told before now)
+
+-- for disks, by what they tell, by how many of their calls have failed, and by what a crash leaves of them
+module _ {D : Type 0} (told : D → Option (List ℕ)) (faults : D → ℕ) (crashes : D → DiskCrashes) where
+  -- how a job left its disk
+  pub record UsedDisk (job : Job) (d : Dialect) (before : D) (done : Result Done Status) (after : D) : Type 0 where
+    pub damaged : TellsDamage d (told before) done
+    -- after a command that came to its end a crash leaves what is there
+    pub safe : is_command job ≡ true → is_finished (status_done done) ≡ true → Settled (told after) (crashes after)
+    pub off : is_on_file job ≡ false → after ≡ before
+    pub later : faults before ≤ faults after
+    pub fault : done ≡ Err status.DiskFault → Rose (faults before) (faults after)
+
+  -- what a job did with what was given
+  pub record WorkedOn (job : Job) (given : Given) (before : D) (done : Result Done Status) (after : D) : Type 0 where
+    pub used : UsedDisk job given.options.dialect before done after
+    pub kind : IsOfDatabase done
+    pub does : is_on_file job ≡ true → OnFile given.options.dialect (told before) (λ database. DoesJob job given database (told before) done (told after))
+    pub any_moment : CrashesJob job given (told before) (crashes before) (crashes after)
+
+  -- what it did with what its files give: a changelog, or a fault
+  pub record WorkedBy (files : Files) (meant : Source → Loaded Changelog) (job : Job) (options : Options) (stamp : Stamp) (before : D) (done : Result Done Status) (after : D) : Type 0 where
+    pub used : UsedDisk job options.dialect before done after
+    pub kind : IsOfLine done
+    pub untouched : IsOfFiles done → after ≡ before
+    pub changelog : (fault : LoadFault) → done ≡ Err (status.Changelog fault) → (source : Source) → IsTold files source → meant source ≡ Err fault
+    pub not_loaded : (source : Source) → IsTold files source → (fault : LoadFault) → meant source ≡ Err fault → IsNotLoaded fault done
+    pub does : (source : Source) (g : Changelog) → IsTold files source → meant source ≡ Ok g → DoesLine job (given_at (asked_by options g) stamp) (told before) done (told after)
+    pub any_moment : (source : Source) (g : Changelog) → IsTold files source → meant source ≡ Ok g → CrashesJob job (given_at (asked_by options g) stamp) (told before) (crashes before) (crashes after)
