@@ -1,0 +1,6 @@
+mod Ending
+mod Followed
+pub mod Machines
+mod Moved
+mod Players
+mod Steps
