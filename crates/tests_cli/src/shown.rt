@@ -43,7 +43,7 @@ fn push_given(text: &mut String, line: &Line) -> Result<(), NoMemory> {
 }
 
 /// The line in one text: contexts with `@`, then the label filter, then properties.
-fn shown(alloc: Global, line: &Line) -> Result<String, NoMemory> {
+pub fn shown(alloc: Global, line: &Line) -> Result<String, NoMemory> {
     let mut text = heading(alloc, line)?;
     push_contexts(&mut text, line)?;
     if let Some(labels) = &line.options.labels {

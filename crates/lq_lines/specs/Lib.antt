@@ -1,0 +1,5 @@
+pub mod Commands
+pub mod File
+pub mod Form
+pub mod Gives
+pub mod Steps
