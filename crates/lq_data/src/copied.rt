@@ -1,5 +1,5 @@
 //! Statements copied.
-ghost use Rattle.std.specs.Prelude.{◌≡◌, IfOk, true};
+ghost use Rattle.std.specs.Prelude.{◌≡◌, ◌++◌, ◌∷◌, [], ◌≤◌, IfOk, OnErr, OnOk, length, take, true};
 ghost use Rattle.lq_model.specs.declared.statement.Statement.TheVariants as statement;
 ghost use Rattle.lq_data.specs.Copied.{is_of_object};
 
@@ -207,16 +207,45 @@ fn copy_of(alloc: Global, statement: &Statement) -> Result<Statement, NoMemory>
     }
 }
 
-/// A copy of each statement, in order.
-pub(crate) fn copies_of(
+// Drops the statements from place `count` on.
+fn cut(to: &mut Items<Statement>, count: usize)
+    requires { count ≤ length to.old }
+    ensures { to.new ≡ take count to.old }
+{
+    while to.len() > count {
+        let _ = to.pop();
+    }
+}
+
+/// Adds a copy of the statement, or changes nothing.
+fn push_copy(
+    alloc: Global,
+    statement: &Statement,
+    to: &mut Items<Statement>,
+) -> Result<(), NoMemory>
+    ensures ok { OnOk result (to.new ≡ to.old ++ statement.now ∷ []) }
+    ensures err { OnErr result (to.new ≡ to.old) }
+{
+    let copy = copy_of(alloc, statement)?;
+    to.push(copy)?;
+    Ok(())
+}
+
+/// Adds a copy of each statement, in order, or changes nothing.
+pub(crate) fn push_copies(
     alloc: Global,
     statements: &[Statement],
-) -> Result<Items<Statement>, NoMemory>
-    ensures { IfOk result (λ copies. copies ≡ statements.now) }
+    to: &mut Items<Statement>,
+) -> Result<(), NoMemory>
+    ensures ok { OnOk result (to.new ≡ to.old ++ statements.now) }
+    ensures err { OnErr result (to.new ≡ to.old) }
 {
-    let mut copies = Items::new(alloc);
+    let before = to.len();
     for statement in statements {
-        copies.push(copy_of(alloc, statement)?)?;
+        if push_copy(alloc, statement, to).is_err() {
+            cut(to, before);
+            return Err(NoMemory);
+        }
     }
-    Ok(copies)
+    Ok(())
 }

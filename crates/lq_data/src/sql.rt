@@ -3,12 +3,10 @@ ghost use Rattle.lq_tree.specs.Found.{Reads};
 ghost use Rattle.lq_data.specs.Script.{is_delimiter, script};
 ghost use Rattle.lq_data.specs.Sql.{a_sql, delimiter_keys, is_for, split_keys, with_statements};
 
-use crate::copied::copies_of;
+use crate::copied::push_copies;
 use crate::script::statements_in;
 use lq_base::{Dialect, Items, KindFault, NoMemory, Text};
-use lq_model::{
-    Canon, Change, Field, Look, ParseFault, SqlText, Statement, Undo, append_all, write_change,
-};
+use lq_model::{Canon, Change, Field, Look, ParseFault, SqlText, Statement, Undo, write_change};
 use lq_tree::{Given, Node, Reader, bad, bad_key, known, optional, optional_by, public, required};
 use std::alloc::Global;
 use std::marker::Model;
@@ -191,8 +189,7 @@ impl Change for Sql {
         _dialect: Dialect,
         to: &mut Items<Statement>,
     ) -> Result<(), NoMemory> {
-        let made = copies_of(alloc, self.statements.as_slice())?;
-        append_all(to, made)
+        push_copies(alloc, self.statements.as_slice(), to)
     }
 
     fn undo(&self, _alloc: Global, _dialect: Dialect) -> Result<Undo, NoMemory> {

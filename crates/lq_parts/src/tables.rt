@@ -216,8 +216,12 @@ impl Tables {
     pub fn forget(&mut self)
         ensures { self.new ≡ history self.old.now [] }
     {
+        if moves_behind_rows(&self.done) {
+            forget_all(&mut self.entries);
+        } else {
+            forget_changed(&mut self.entries, &self.done);
+        }
         self.done.clear();
-        forget_all(&mut self.entries);
     }
 }
 
@@ -471,6 +475,53 @@ fn rows_back(entries: &mut Vec<(Name, Held)>, at: usize, mark: u64, next: u64)
 {
     let held = &mut entries[at].1;
     held.go_back(mark, next);
+}
+
+/// Whether a table came, went or got another name after rows were changed, so that those are perhaps
+/// no longer at the place that the step tells.
+fn moves_behind_rows(done: &[Step]) -> bool {
+    let mut has_rows = false;
+    for step in done {
+        match step {
+            Step::Rows { .. } => has_rows = true,
+            Step::Shaped { .. } => {}
+            Step::Put { .. } | Step::Taken { .. } | Step::Renamed { .. } => {
+                if has_rows {
+                    return true;
+                }
+            }
+        }
+    }
+    false
+}
+
+/// Only tables whose rows were changed have something to forget.
+fn forget_changed(entries: &mut Vec<(Name, Held)>, done: &[Step])
+    ensures tables { tables_of entries.new.items ≡ tables_of entries.old.items }
+    ensures ordered { IsOrdered entries.old.items → IsOrdered entries.new.items }
+{
+    for step in done {
+        forget_rows(entries, step);
+    }
+}
+
+fn forget_rows(entries: &mut Vec<(Name, Held)>, step: &Step)
+    ensures tables { tables_of entries.new.items ≡ tables_of entries.old.items }
+    ensures ordered { IsOrdered entries.old.items → IsOrdered entries.new.items }
+{
+    match step {
+        Step::Rows { at, .. } => forget_there(entries, *at),
+        _ => {}
+    }
+}
+
+fn forget_there(entries: &mut Vec<(Name, Held)>, at: usize)
+    ensures tables { tables_of entries.new.items ≡ tables_of entries.old.items }
+    ensures ordered { IsOrdered entries.old.items → IsOrdered entries.new.items }
+{
+    if at < entries.len() {
+        forget_at(entries, at);
+    }
 }
 
 fn forget_all(entries: &mut Vec<(Name, Held)>)

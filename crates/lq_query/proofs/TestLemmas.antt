@@ -1,5 +1,5 @@
 -- The definitions over tests at the tests that have parts.
-use Rattle.std.proofs.Common.{List, ap, refl, ◌∙◌, ◌&&◌, ◌||◌, ◌++◌, ◌≡◌}
+use Rattle.std.proofs.Common.{List, None, Some, ap, refl, true, ◌∙◌, ◌&&◌, ◌||◌, ◌++◌, ◌≡◌}
 use Rattle.lq_base.specs.declared.value.Value.{Value}
 use Rattle.lq_model.specs.Comparison.{kinds_agree}
 use Rattle.lq_model.specs.Query.{lacks_column}
@@ -13,6 +13,13 @@ use Rattle.lq_model.proofs.Lists.{any-append}
 pub truth_and : (cs : List Column) (vs : List Value) (a b : Test) → truth cs vs (And a b) ≡ both_true (truth cs vs a) (truth cs vs b)
 unfolding Rattle.lq_model.specs.declared.test.Test.TheBlock.hidden-the_row-Test-0 denote.Hole.Carrier.hidden
 truth_and cs vs a b = refl
+
+-- AND by its first part
+pub and_true : (cs : List Column) (vs : List Value) (a b : Test) → truth cs vs a ≡ Some true → truth cs vs (And a b) ≡ truth cs vs b
+and_true cs vs a b is = truth_and cs vs a b ∙ ap (λ x. both_true x (truth cs vs b)) is
+
+pub and_unknown : (cs : List Column) (vs : List Value) (a b : Test) → truth cs vs a ≡ None → truth cs vs (And a b) ≡ both_true None (truth cs vs b)
+and_unknown cs vs a b is = truth_and cs vs a b ∙ ap (λ x. both_true x (truth cs vs b)) is
 
 pub truth_or : (cs : List Column) (vs : List Value) (a b : Test) → truth cs vs (Or a b) ≡ one_true (truth cs vs a) (truth cs vs b)
 unfolding Rattle.lq_model.specs.declared.test.Test.TheBlock.hidden-the_row-Test-0 denote.Hole.Carrier.hidden

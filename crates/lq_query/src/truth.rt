@@ -48,7 +48,12 @@ fn truth(columns: &[Column], row: &[Value], test: &Test) -> Option<bool>
         }
         Test::IsNull(x) => Some(is_null(operand(columns, row, x))),
         Test::NotNull(x) => Some(!is_null(operand(columns, row, x))),
-        Test::And(a, b) => both_true(truth(columns, row, a.get()), truth(columns, row, b.get())),
+        // a row that fails the first part is not tested for the second
+        Test::And(a, b) => match truth(columns, row, a.get()) {
+            Some(false) => Some(false),
+            Some(true) => truth(columns, row, b.get()),
+            None => both_true(None, truth(columns, row, b.get())),
+        },
         Test::Or(a, b) => one_true(truth(columns, row, a.get()), truth(columns, row, b.get())),
         Test::Not(a) => not_so(truth(columns, row, a.get())),
     }
