@@ -1,5 +1,5 @@
 -- Names come into a set one after another.
-use Rattle.std.proofs.Common.{Bor, ◌<◌, ◌+◌, suc, add-one, length, drop, get_or, ◌≡◌, ◌∙◌, ◌||◌, Bool, true, false, List, [], ◌∷◌, refl, ap, sym, map, ℕ}
+use Rattle.std.proofs.Common.{Bor, ◌<◌, ◌+◌, suc, add-one, length, drop, get_or, ◌≡◌, ◌∙◌, ◌||◌, Bool, true, false, List, [], ◌∷◌, refl, ap, sym, ℕ}
 use Rattle.std.proofs.Math.Seq.{drop-cons}
 use Rattle.std.specs.BTreeSet.{BTreeSet, insert_key}
 use Rattle.std.specs.List.{list_any}

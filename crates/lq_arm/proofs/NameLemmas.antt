@@ -1,18 +1,16 @@
 -- Lemmas on the names that are taken.
-use Rattle.std.proofs.Common.{List, [], ap, codes, map, refl, subst, sym, true, ◌++◌, ◌∙◌, ◌∷◌, ◌≡◌, ◌||◌, Bool, false}
+use Rattle.std.proofs.Common.{List, [], ap, codes, map, refl, sym, true, ◌++◌, ◌∙◌, ◌∷◌, ◌≡◌, ◌||◌, Bool, false}
 use Rattle.std.proofs.lemmas.Slice.Eq.{bytes_eq-Decides}
 use Rattle.std.specs.List.{flat_map, list_any}
-use Rattle.std.specs.Prelude.{is_some}
 use Rattle.std.specs.Str.{bytes_eq}
 use Rattle.lq_base.specs.Name.{is_named}
 use Rattle.lq_base.specs.declared.name.Name.{Name}
-use Rattle.lq_model.specs.Catalogue.{Catalogue, Table, sequence_of, table_of, view_of}
+use Rattle.lq_model.specs.Catalogue.{Catalogue, Table}
 use Rattle.lq_model.specs.NameSpaces.{all_foreign_names, object_names, shared_names}
 use Rattle.lq_model.specs.Names.{is_in}
 use Rattle.lq_model.specs.Reserved.{lock_key}
 use Rattle.lq_model.specs.TableNames.{constraint_names, foreign_names, index_names, inner_names, key_list}
 use Rattle.lq_model.proofs.Lists.{any-append, any-map, any_same, named_itself, same_name, true_false, whether}
-use Rattle.lq_model.proofs.Maps.{found}
 use Rattle.lq_rows.specs.Stored.{Stored}
 
 -- the tables that are kept so
@@ -50,14 +48,6 @@ module _ (n : Name) (it : Table) where
   index_is =
       any-append (is_named n) (map (λ u. u.name) it.uniques) (map (λ i. i.name) it.indexes)
       ∙ rw (named n (λ u. u.name) it.uniques, named n (λ i. i.name) it.indexes) refl
-
-pub object_is : (n : Name) (c : Catalogue) → is_in n (object_names c) ≡ ((is_some (table_of c n) || is_some (view_of c n)) || is_some (sequence_of c n))
-object_is n c =
-    any_three n (map (λ e. e.0) c.tables) (map (λ e. e.0) c.views) (map (λ e. e.0) c.sequences)
-    ∙ ap (λ b. b || (is_in n (map (λ e. e.0) c.views) || is_in n (map (λ e. e.0) c.sequences))) (found n c.tables)
-    ∙ ap (λ b. is_some (table_of c n) || (b || is_in n (map (λ e. e.0) c.sequences))) (found n c.views)
-    ∙ ap (λ b. is_some (table_of c n) || (is_some (view_of c n) || b)) (found n c.sequences)
-    ∙ regrouped (is_some (table_of c n)) (is_some (view_of c n)) (is_some (sequence_of c n))
 
 any_flat : {A B : Type 0} (p : B → Bool) (f : A → List B) (xs : List A) → list_any p (flat_map f xs) ≡ list_any (λ x. list_any p (f x)) xs
 any_flat p f [] = refl

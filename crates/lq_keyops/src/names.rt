@@ -38,19 +38,21 @@ pub fn no_tests() -> Tests
     }
 }
 
-/// Whether a table, a view or a sequence has the name.
-#[tactic(auto, using(lq_arm::proofs::NameLemmas::object_is))]
-fn is_object(parts: &Parts, name: &Name) -> bool
-    ensures { result ≡ is_in name.now (spaces.object_names parts.now.now) }
+/// Whether the name is taken in PostgreSQL's one space. It looks at all tables.
+fn stands_shared(parts: &Parts, name: &Name) -> bool
+    ensures { result ≡ is_in name.now (spaces.shared_names parts.now.now) }
 {
-    parts.table(name).is_some() || parts.view(name).is_some() || parts.sequence(name).is_some()
+    parts.has_object(name) || any_is_inner(parts.tables(), name)
 }
 
-/// Whether the name is taken in PostgreSQL's one space. It looks at all tables.
+/// Whether the name is taken in PostgreSQL's one space.
 fn is_shared(parts: &Parts, name: &Name) -> bool
     ensures { result ≡ is_in name.now (spaces.shared_names parts.now.now) }
 {
-    is_object(parts, name) || any_is_inner(parts.tables(), name)
+    match parts.knows_shared_name(name) {
+        Some(found) => found,
+        None => stands_shared(parts, name),
+    }
 }
 
 /// Whether a unique constraint of the table may not have the name.
@@ -83,11 +85,21 @@ pub fn index_taken(parts: &Parts, held: &Held, dialect: Dialect, name: &Name) ->
     }
 }
 
+/// Whether a foreign key of any table has the name. It looks at all tables.
+fn stands_foreign(parts: &Parts, name: &Name) -> bool
+    ensures { result ≡ is_in name.now (spaces.all_foreign_names parts.now.now) }
+{
+    any_is_foreign(parts.tables(), name)
+}
+
 /// Whether a foreign key of any table has the name.
 fn is_any_foreign(parts: &Parts, name: &Name) -> bool
     ensures { result ≡ is_in name.now (spaces.all_foreign_names parts.now.now) }
 {
-    any_is_foreign(parts.tables(), name)
+    match parts.knows_foreign_name(name) {
+        Some(found) => found,
+        None => stands_foreign(parts, name),
+    }
 }
 
 /// Whether a foreign key of the table may not have the name.

@@ -1,5 +1,5 @@
 -- Lemmas on the statements of views and sequences.
-use Rattle.std.proofs.Common.{Bool, List, None, Ok, Option, Some, T, [], ap, cond, false, is_none, not, refl, sym, true, unwrap_or, ◌||◌, ◌∙◌, ◌∷◌, ◌≡◌}
+use Rattle.std.proofs.Common.{Bool, List, None, Ok, Option, Some, T, [], ap, cond, false, is_none, refl, sym, true, unwrap_or, ◌||◌, ◌∙◌, ◌∷◌, ◌≡◌}
 use Rattle.std.specs.FinMap.Entries.{is_sorted}
 use Rattle.std.specs.BTreeMap.{insert_entry}
 use Rattle.std.specs.List.Sorted.{IsStrictlySortedBy}
@@ -18,7 +18,7 @@ use Rattle.lq_model.specs.Sequences.{sequence_renamed}
 use Rattle.lq_model.specs.declared.caller.By.{By}
 use Rattle.lq_model.specs.declared.caller.By.TheVariants.{Program, User}
 use Rattle.lq_model.proofs.Decide.{none_from_unless}
-use Rattle.lq_model.proofs.Lists.{named_itself, or_left, other_way, whether}
+use Rattle.lq_model.proofs.Lists.{named_itself, other_way, whether}
 use Rattle.lq_model.proofs.Maps.{lookup-insert_entry, lookup-remove_entry, same_maps, sorted-insert_entry, sorted-remove_entry, sorted_entries}
 use Rattle.lq_model.proofs.Sequences.{free_sequence, free_view}
 

@@ -18,19 +18,21 @@ pub fn are_reserved(by: By, first: &Name, second: &Name) -> bool
     is_reserved(by, first) || is_reserved(by, second)
 }
 
-/// Whether a table, a view or a sequence has the name.
-#[tactic(auto, using(lq_arm::proofs::NameLemmas::object_is))]
-fn is_object(parts: &Parts, name: &Name) -> bool
-    ensures { result ≡ is_in name.now (spaces.object_names parts.now.now) }
+/// Whether the name is taken in PostgreSQL's one space. It looks at all tables.
+fn stands_shared(parts: &Parts, name: &Name) -> bool
+    ensures { result ≡ is_in name.now (spaces.shared_names parts.now.now) }
 {
-    parts.table(name).is_some() || parts.view(name).is_some() || parts.sequence(name).is_some()
+    parts.has_object(name) || any_is_inner(parts.tables(), name)
 }
 
-/// Whether the name is taken in PostgreSQL's one space. It looks at all tables.
+/// Whether the name is taken in PostgreSQL's one space.
 fn is_shared(parts: &Parts, name: &Name) -> bool
     ensures { result ≡ is_in name.now (spaces.shared_names parts.now.now) }
 {
-    is_object(parts, name) || any_is_inner(parts.tables(), name)
+    match parts.knows_shared_name(name) {
+        Some(found) => found,
+        None => stands_shared(parts, name),
+    }
 }
 
 /// Whether a table, a view or a sequence may not have the name.
@@ -39,7 +41,7 @@ fn is_held(parts: &Parts, dialect: Dialect, name: &Name) -> bool
 {
     match dialect {
         Dialect::Postgresql => is_shared(parts, name),
-        Dialect::Mysql => is_object(parts, name),
+        Dialect::Mysql => parts.has_object(name),
     }
 }
 

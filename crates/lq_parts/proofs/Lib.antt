@@ -2,3 +2,4 @@ mod EntryLemmas
 mod PartLemmas
 mod SlotLemmas
 mod StepLemmas
+mod TakenLemmas

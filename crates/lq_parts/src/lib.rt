@@ -9,6 +9,7 @@ mod shelf;
 mod slot;
 mod step;
 mod tables;
+mod taken;
 
 pub use lq_rows::RunFault;
 pub use object::{Sequence, View};

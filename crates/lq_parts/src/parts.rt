@@ -1,17 +1,25 @@
+ghost use Rattle.std.specs.List.{flat_map};
+ghost use Rattle.std.specs.Map.{lookup, set_value};
 ghost use Rattle.std.specs.Option.{option_copied};
-ghost use Rattle.std.specs.Prelude.{◌≡◌, ◌≤◌, None, [], IfOk, OnErr, OnOk, is_some, length, option_map, true};
+ghost use Rattle.std.specs.Prelude.{◌≡◌, ◌≤◌, None, [], IfOk, IfSome, OnErr, OnOk, is_some, length, option_map, true};
+ghost use Rattle.lq_base.specs.Name.{is_named};
 ghost use Rattle.lq_chain.specs.History.{back, changed, history, marked, undone_to};
 ghost use Rattle.lq_chain.specs.Marks.{kept_rows, replaced};
-ghost use Rattle.lq_model.specs.Catalogue.{no_objects, sequence_of, table_of, the_table, view_of, with_new, with_sequence, with_table, with_view, without_sequence, without_table, without_view};
+ghost use Rattle.lq_model.specs.Catalogue.{Table, no_objects, sequence_of, table_of, the_table, view_of, with_new, with_sequence, with_table, with_view, without_sequence, without_table, without_view};
+ghost use Rattle.lq_model.specs.NameSpaces.{all_foreign_names, object_names, shared_names};
+ghost use Rattle.lq_model.specs.Names.{is_in};
+ghost use Rattle.lq_model.specs.TableNames.{inner_names};
+ghost use Rattle.lq_model.specs.Twin.{is_twin};
 ghost use Rattle.lq_parts.specs.Kept.{with_renamed};
 ghost use Rattle.lq_parts.specs.Steps.{tables_of};
-ghost use Rattle.lq_rows.specs.Stored.{has_values_in, with_all, with_row, with_shape};
-ghost use Rattle.lq_model.specs.Twin.{is_twin};
+ghost use Rattle.lq_parts.specs.Taken.{AreKnown};
+ghost use Rattle.lq_rows.specs.Stored.{has_values_in, shape_of, with_all, with_row, with_shape};
 
 use crate::object::{Sequence, View};
 use crate::part::Part;
 use crate::shelf::Shelf;
 use crate::tables::Tables;
+use crate::taken::TakenNames;
 use lq_base::{Name, NoMemory, Value};
 use lq_rows::{Held, Row, Shape, Values};
 use std::alloc::Global;
@@ -28,6 +36,7 @@ pub struct Parts {
     tables: Tables,
     views: Shelf<View>,
     sequences: Shelf<Sequence>,
+    names: TakenNames,
     /// What each change since the last `forget` was of, the newest last.
     done: Vec<Part>,
 }
@@ -46,6 +55,10 @@ impl Model for Parts {
     ghost use Rattle.lq_parts.specs.Kept.{catalogue_of, kept_as, past_catalogues};
 
     ghost view = { λ p. history (catalogue_of (kept_as p.tables p.views p.sequences)) (past_catalogues (kept_as p.tables p.views p.sequences) (reverse p.done.items)) };
+
+    ghost use Rattle.lq_parts.specs.Taken.{AreKnown};
+
+    ghost invariant = { λ p. AreKnown p.tables.now p.names };
 }
 
 impl Parts {
@@ -57,6 +70,7 @@ impl Parts {
             tables: Tables::new(alloc),
             views: Shelf::new(alloc),
             sequences: Shelf::new(alloc),
+            names: TakenNames::new(alloc),
             done: Vec::new(alloc),
         }
     }
@@ -133,6 +147,66 @@ impl Parts {
     {
         self.tables.is_twin(alloc, table, row)
     }
+
+    /// Whether a table, view or sequence has the name.
+    #[tactic(auto, using(crate::proofs::PartLemmas::object_is))]
+    pub fn has_object(&self, name: &Name) -> bool
+        ensures { result ≡ is_in name.now (object_names self.now.now) }
+    {
+        self.table(name).is_some() || self.view(name).is_some() || self.sequence(name).is_some()
+    }
+
+    /// Whether the key, a unique constraint or an index of one of the tables has the name.
+    fn has_inner_name(&mut self, name: &Name) -> Result<bool, NoMemory>
+        ensures found { IfOk result (λ found. found ≡ is_in name.now (flat_map (λ e. inner_names e.1) self.old.now.tables)) }
+        ensures same { self.new ≡ self.old }
+    {
+        self.names.has_inner(self.tables.entries(), name)
+    }
+
+    /// Whether the name stands in PostgreSQL's one space: in O(log n) once the names inside the tables
+    /// are known, which they get by the first call.
+    pub fn has_shared_name(&mut self, name: &Name) -> Result<bool, NoMemory>
+        ensures found { IfOk result (λ found. found ≡ is_in name.now (shared_names self.old.now)) }
+        ensures same { self.new ≡ self.old }
+    {
+        let has_object = self.has_object(name);
+        let has_inner = self.has_inner_name(name)?;
+        Ok(has_object | has_inner)
+    }
+
+    /// Whether a foreign key of one of the tables has the name, as fast.
+    pub fn has_foreign_name(&mut self, name: &Name) -> Result<bool, NoMemory>
+        ensures found { IfOk result (λ found. found ≡ is_in name.now (all_foreign_names self.old.now)) }
+        ensures same { self.new ≡ self.old }
+    {
+        self.names.has_foreign(self.tables.entries(), name)
+    }
+
+    fn knows_inner_name(&self, name: &Name) -> Option<bool>
+        ensures { IfSome result (λ found. found ≡ is_in name.now (flat_map (λ e. inner_names e.1) self.now.now.tables)) }
+    {
+        self.names.knows_inner(name)
+    }
+
+    /// Whether the name stands in PostgreSQL's one space, where that is known without a look at all
+    /// tables.
+    pub fn knows_shared_name(&self, name: &Name) -> Option<bool>
+        ensures { IfSome result (λ found. found ≡ is_in name.now (shared_names self.now.now)) }
+    {
+        let has_object = self.has_object(name);
+        match self.knows_inner_name(name) {
+            None => None,
+            Some(has_inner) => Some(has_object | has_inner),
+        }
+    }
+
+    /// Whether a foreign key has the name, where that is known without a look at all tables.
+    pub fn knows_foreign_name(&self, name: &Name) -> Option<bool>
+        ensures { IfSome result (λ found. found ≡ is_in name.now (all_foreign_names self.now.now)) }
+    {
+        self.names.knows_foreign(name)
+    }
 }
 
 #[tactic(auto, using(crate::proofs::PartLemmas::newest_first))]
@@ -144,9 +218,17 @@ impl Parts {
         ensures err { OnErr result (self.new ≡ self.old) }
     {
         self.done.reserve(1)?;
-        self.tables.put(name, held)?;
-        self.done.push_reserved(Part::Tables);
-        Ok(())
+        self.names.add(held.shape());
+        match self.tables.put(name, held) {
+            Ok(()) => {
+                self.done.push_reserved(Part::Tables);
+                Ok(())
+            }
+            Err(NoMemory) => {
+                self.names.forget();
+                Err(NoMemory)
+            }
+        }
     }
 
     /// Takes the table of the name away, or changes nothing.
@@ -157,6 +239,7 @@ impl Parts {
     {
         self.done.reserve(1)?;
         self.tables.take(name)?;
+        self.names.forget();
         self.done.push_reserved(Part::Tables);
         Ok(())
     }
@@ -171,6 +254,7 @@ impl Parts {
     {
         self.done.reserve(1)?;
         self.tables.rename(name, to)?;
+        self.names.forget();
         self.done.push_reserved(Part::Tables);
         Ok(())
     }
@@ -182,9 +266,17 @@ impl Parts {
         ensures err { OnErr result (self.new ≡ self.old) }
     {
         self.done.reserve(1)?;
-        self.tables.shape(name, shape)?;
-        self.done.push_reserved(Part::Tables);
-        Ok(())
+        learn_shape(&mut self.names, &self.tables, name, &shape);
+        match self.tables.shape(name, shape) {
+            Ok(()) => {
+                self.done.push_reserved(Part::Tables);
+                Ok(())
+            }
+            Err(NoMemory) => {
+                self.names.forget();
+                Err(NoMemory)
+            }
+        }
     }
 
     /// Adds a row to the table at the end, and gives it another next number, or changes nothing.
@@ -314,9 +406,23 @@ impl Parts {
     {
         match self.done.pop() {
             None => {}
-            Some(Part::Tables) => self.tables.step_back(),
+            Some(Part::Tables) => {
+                self.tables.step_back();
+                self.names.forget();
+            }
             Some(Part::Views) => self.views.step_back(),
             Some(Part::Sequences) => self.sequences.step_back(),
         }
+    }
+}
+
+/// What is known of the names inside the tables, after the table got the shape.
+fn learn_shape(names: &mut TakenNames, tables: &Tables, name: &Name, shape: &Shape)
+    requires { is_some (lookup (is_named name.now) tables.now.now) ≡ true }
+    ensures { (it : Table) → shape.now ≡ shape_of it → AreKnown tables.now.now names.old → AreKnown (set_value (is_named name.now) tables.now.now it) names.new }
+{
+    match tables.get(name) {
+        Some(held) => names.reshape(held.shape(), shape),
+        None => unreachable!(),
     }
 }

@@ -21,7 +21,7 @@ use lq_shapes::{
 use std::alloc::Global;
 
 fn create_tests(
-    parts: &Parts,
+    parts: &mut Parts,
     alloc: Global,
     by: By,
     dialect: Dialect,
@@ -29,7 +29,8 @@ fn create_tests(
     made: &Defined,
 ) -> Result<Tests, NoMemory>
     requires { IsDefined new.now.key.now new.now.columns.now made.now }
-    ensures { IfOk result (λ tests. verdict_of tests ≡ verdict_of (tests_of (spec.create_table by dialect new.now.name.now new.now.columns.now new.now.key.now new.now.uniques.now new.now.foreign.now parts.now.now) (create_table_faults new.now.name.now new.now.columns.now new.now.key.now new.now.uniques.now new.now.foreign.now parts.now.now))) }
+    ensures tests { IfOk result (λ tests. verdict_of tests ≡ verdict_of (tests_of (spec.create_table by dialect new.now.name.now new.now.columns.now new.now.key.now new.now.uniques.now new.now.foreign.now parts.old.now) (create_table_faults new.now.name.now new.now.columns.now new.now.key.now new.now.uniques.now new.now.foreign.now parts.old.now))) }
+    ensures same { parts.new ≡ parts.old }
 {
     let columns = made.columns.as_slice();
     let own = Columns::new(alloc, columns)?;

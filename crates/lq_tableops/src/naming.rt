@@ -9,11 +9,11 @@ ghost use Rattle.lq_model.specs.declared.column.Column.{Column};
 ghost use Rattle.lq_base.specs.declared.dialect.Dialect.TheVariants as dialects;
 ghost use Rattle.lq_shapes.specs.Created.{made};
 
-use crate::clashes::{is_object, one_foreign, one_reserved, one_shared, takes_lock_key};
+use crate::clashes::{one_foreign, one_reserved, one_shared, takes_lock_key};
 use lq_base::{Dialect, Items, Name, NoMemory};
 use lq_model::{By, ForeignKey, Unique};
 use lq_parts::Parts;
-use lq_shapes::{Names, NewTable, push_foreign, push_key, push_targets, push_uniques, repeats};
+use lq_shapes::{NewTable, push_foreign, push_key, push_targets, push_uniques, repeats};
 use std::alloc::Global;
 
 /// Adds the names of its key, its unique constraints and its foreign keys.
@@ -95,18 +95,20 @@ fn inner_is_own(alloc: Global, new: &NewTable<'_>) -> Result<bool, NoMemory>
 }
 
 /// Whether the table's name, its key's or a unique constraint's stands in PostgreSQL's one space.
-fn shared_taken(parts: &Parts, alloc: Global, new: &NewTable<'_>) -> Result<bool, NoMemory>
-    ensures { (cs : List Column) → IfOk result (λ found. found ≡ list_any (λ n. is_in n (shared_names parts.now.now)) (new.now.name.now ∷ inner_names (made cs new.now.key.now new.now.uniques.now new.now.foreign.now))) }
+fn shared_taken(parts: &mut Parts, alloc: Global, new: &NewTable<'_>) -> Result<bool, NoMemory>
+    ensures found { (cs : List Column) → IfOk result (λ found. found ≡ list_any (λ n. is_in n (shared_names parts.old.now)) (new.now.name.now ∷ inner_names (made cs new.now.key.now new.now.uniques.now new.now.foreign.now))) }
+    ensures same { parts.new ≡ parts.old }
 {
     let mut names = Items::new(alloc);
     names.push(new.name)?;
     push_inner(&mut names, new)?;
-    let all = Names::new(alloc, names)?;
-    Ok(one_shared(parts, &all))
+    let found = one_shared(parts, names.as_slice())?;
+    Ok(found)
 }
 
-fn clashes_shared(parts: &Parts, alloc: Global, new: &NewTable<'_>) -> Result<bool, NoMemory>
-    ensures { (cs : List Column) → IfOk result (λ found. found ≡ (is_taken dialects.Postgresql new.now.name.now parts.now.now || are_clashing dialects.Postgresql new.now.name.now (made cs new.now.key.now new.now.uniques.now new.now.foreign.now) parts.now.now)) }
+fn clashes_shared(parts: &mut Parts, alloc: Global, new: &NewTable<'_>) -> Result<bool, NoMemory>
+    ensures found { (cs : List Column) → IfOk result (λ found. found ≡ (is_taken dialects.Postgresql new.now.name.now parts.old.now || are_clashing dialects.Postgresql new.now.name.now (made cs new.now.key.now new.now.uniques.now new.now.foreign.now) parts.old.now)) }
+    ensures same { parts.new ≡ parts.old }
 {
     let taken = shared_taken(parts, alloc, new)?;
     let twice = constraints_repeat(alloc, new)?;
@@ -132,32 +134,36 @@ fn foreign_repeat(alloc: Global, keys: &[ForeignKey]) -> Result<bool, NoMemory>
     Ok(found)
 }
 
-fn foreign_taken(parts: &Parts, alloc: Global, keys: &[ForeignKey]) -> Result<bool, NoMemory>
-    ensures { IfOk result (λ found. found ≡ list_any (λ n. is_in n (all_foreign_names parts.now.now)) (map (λ f. f.name) keys.now)) }
+fn foreign_taken(parts: &mut Parts, alloc: Global, keys: &[ForeignKey]) -> Result<bool, NoMemory>
+    ensures found { IfOk result (λ found. found ≡ list_any (λ n. is_in n (all_foreign_names parts.old.now)) (map (λ f. f.name) keys.now)) }
+    ensures same { parts.new ≡ parts.old }
 {
     let mut names = Items::new(alloc);
     push_foreign(&mut names, keys)?;
-    let all = Names::new(alloc, names)?;
-    Ok(one_foreign(parts, &all))
+    let found = one_foreign(parts, names.as_slice())?;
+    Ok(found)
 }
 
-fn clashes_apart(parts: &Parts, alloc: Global, new: &NewTable<'_>) -> Result<bool, NoMemory>
-    ensures { (cs : List Column) → IfOk result (λ found. found ≡ (is_taken dialects.Mysql new.now.name.now parts.now.now || are_clashing dialects.Mysql new.now.name.now (made cs new.now.key.now new.now.uniques.now new.now.foreign.now) parts.now.now)) }
+fn clashes_apart(parts: &mut Parts, alloc: Global, new: &NewTable<'_>) -> Result<bool, NoMemory>
+    ensures found { (cs : List Column) → IfOk result (λ found. found ≡ (is_taken dialects.Mysql new.now.name.now parts.old.now || are_clashing dialects.Mysql new.now.name.now (made cs new.now.key.now new.now.uniques.now new.now.foreign.now) parts.old.now)) }
+    ensures same { parts.new ≡ parts.old }
 {
+    let is_there = parts.has_object(new.name);
     let twice = uniques_repeat(alloc, new.uniques)?;
     let foreign_twice = foreign_repeat(alloc, new.foreign)?;
     let taken = foreign_taken(parts, alloc, new.foreign)?;
-    Ok(is_object(parts, new.name) | (twice | (foreign_twice | taken)))
+    Ok(is_there | (twice | (foreign_twice | taken)))
 }
 
 /// Whether the table's name or one of its constraints' may not be had.
 pub fn clashes(
-    parts: &Parts,
+    parts: &mut Parts,
     alloc: Global,
     dialect: Dialect,
     new: &NewTable<'_>,
 ) -> Result<bool, NoMemory>
-    ensures { (cs : List Column) → IfOk result (λ found. found ≡ (is_taken dialect new.now.name.now parts.now.now || are_clashing dialect new.now.name.now (made cs new.now.key.now new.now.uniques.now new.now.foreign.now) parts.now.now)) }
+    ensures found { (cs : List Column) → IfOk result (λ found. found ≡ (is_taken dialect new.now.name.now parts.old.now || are_clashing dialect new.now.name.now (made cs new.now.key.now new.now.uniques.now new.now.foreign.now) parts.old.now)) }
+    ensures same { parts.new ≡ parts.old }
 {
     match dialect {
         Dialect::Postgresql => clashes_shared(parts, alloc, new),

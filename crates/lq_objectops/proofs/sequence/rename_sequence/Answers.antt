@@ -1,4 +1,4 @@
-use Rattle.std.proofs.Common.{Ok, ap, refl, sym, ◌∙◌, ◌≡◌}
+use Rattle.std.proofs.Common.{Ok, ap, sym, ◌∙◌}
 use Rattle.lq_chain.specs.History.{changed}
 use Rattle.lq_model.specs.Catalogue.{with_sequence, without_sequence}
 use Rattle.lq_model.specs.NameSpaces.{is_taken}

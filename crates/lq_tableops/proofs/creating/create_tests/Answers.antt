@@ -5,8 +5,8 @@ use Rattle.lq_tableops.specs.Aimed.{AreAims}
 use Rattle.lq_tableops.proofs.CreateLemmas.{create_tests_are}
 use Rattle.lq_tableops.proofs.creating.create_tests.Goals as goal
 
-pub returns : goal.returns
-returns c =
+pub returns-clause-tests : goal.returns-clause-tests
+returns-clause-tests c =
     let new = c.args.new.now in
     let db = c.args.parts.now.now in
     let cs = c.args.made.now.columns in
@@ -16,6 +16,6 @@ returns c =
     (subst (λ xs. AreAims new.name.now (made xs new.key.now new.uniques.now new.foreign.now) db new.foreign.now c.in_ok-aims.aims) own c.in_ok-aims.ensures)
     (c.in_ok-reserved.ensures cs)
     (ap (λ b. b || c.in_ok-aims.aims.missing) (c.lacks_own.ensures ∙ ap (λ xs. lacks_own (made xs new.key.now new.uniques.now new.foreign.now)) own))
-    (c.in_ok-clash.ensures cs) (c.in_ok-lock_key.ensures cs)
+    (c.in_ok-clash.ensures.found cs) (c.in_ok-lock_key.ensures cs)
     (c.in_ok-twice.ensures ∙ ap (λ xs. lists_twice (made xs new.key.now new.uniques.now new.foreign.now)) c.as_slice-columns.ensures) refl
     (rw (c.one_depends.ensures) refl) (rw (c.one_numbers_wrongly.ensures, c.repeats_number.ensures) refl) refl refl refl refl refl refl

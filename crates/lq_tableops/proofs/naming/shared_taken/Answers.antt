@@ -7,9 +7,10 @@ use Rattle.lq_shapes.specs.Created.{made}
 use Rattle.lq_tableops.proofs.NamingLemmas as lemma
 use Rattle.lq_tableops.proofs.naming.shared_taken.Goals as goal
 
-pub returns : goal.returns
-returns c = λ cs.
+pub returns-clause-found : goal.returns-clause-found
+returns-clause-found c = λ cs.
     let new = c.args.new.now in
-    c.one_shared.ensures
-    ∙ ap (list_any (λ n. is_in n (shared_names c.args.parts.now.now))) (c.in_ok-all.ensures ∙ lemma.one_more new.name.now (inner_names (made cs new.key.now new.uniques.now new.foreign.now)) (lemma.named c.push.new.self) (lemma.named c.push_inner.new.to)
+    c.in_ok-found.ensures.found
+    ∙ ap (λ ns. list_any (λ n. is_in n (shared_names c.args.parts.now.now)) (lemma.named ns)) c.as_slice.ensures
+    ∙ ap (list_any (λ n. is_in n (shared_names c.args.parts.now.now))) (lemma.one_more new.name.now (inner_names (made cs new.key.now new.uniques.now new.foreign.now)) (lemma.named c.push.new.self) (lemma.named c.push_inner.new.to)
     (lemma.begun c.new-names.result c.push.new.self new.name c.new-names.ensures c.in_ok-push.ensures.ok) (c.in_ok-push_inner.ensures cs))

@@ -1,0 +1,11 @@
+use Rattle.std.proofs.Common.{Some, rules, ◌≡◌}
+use Rattle.std.specs.Map.{lookup}
+use Rattle.lq_base.specs.Name.{is_named}
+use Rattle.lq_parts.proofs.parts.learn_shape.Goals as goal
+
+pub returns : goal.returns
+returns c =
+    let ts = c.args.tables.now.now in
+    let was = c.in-Some.held.now.now in
+    let there : lookup (is_named c.args.name.now) ts ≡ Some was = search rules in
+    λ it is known. c.reshape.ensures ts c.args.name.now was it c.shape.ensures is there known

@@ -1,0 +1,410 @@
+ghost use Rattle.std.specs.Map.{lookup, set_value};
+ghost use Rattle.std.specs.BTreeMap.{insert_entry};
+ghost use Rattle.std.specs.Prelude.{◌≡◌, ◌∷◌, ◌++◌, List, None, Some, [], IfOk, IfSome, OnOk, map};
+ghost use Rattle.lq_base.specs.Name.{is_named, name_cmp};
+ghost use Rattle.lq_base.specs.declared.name.Name.{Name};
+ghost use Rattle.lq_model.specs.Catalogue.{Table};
+ghost use Rattle.lq_model.specs.Names.{is_in};
+ghost use Rattle.lq_model.specs.TableNames.{foreign_names, inner_names, key_list};
+ghost use Rattle.lq_parts.specs.Steps.{tables_of};
+ghost use Rattle.lq_parts.specs.Taken.{AreKnown, Gains, HasJust, IsTrueOf, TableMap, begins, foreign_stay, inner_stay, names_in};
+ghost use Rattle.lq_rows.specs.Stored.{shape_of};
+
+use lq_base::{Duplicate, Name, NoMemory};
+use lq_model::{ForeignKey, Index, Key, Unique};
+use lq_rows::{Held, Shape};
+use std::alloc::Global;
+use std::collections::BTreeSet;
+
+/// What is known of the names inside the tables: each set is made when it is first asked for.
+#[derive(Drop)]
+pub struct TakenNames {
+    pub(crate) alloc: Global,
+    /// The names of keys, unique constraints and indexes.
+    pub(crate) inner: Option<BTreeSet<Name>>,
+    /// The names of foreign keys.
+    pub(crate) foreign: Option<BTreeSet<Name>>,
+}
+
+impl TakenNames {
+    /// Nothing is known.
+    #[tactic(auto, using(crate::proofs::TakenLemmas::none_known))]
+    pub fn new(alloc: Global) -> TakenNames
+        ensures { (tables : TableMap) → AreKnown tables result }
+    {
+        TakenNames {
+            alloc,
+            inner: None,
+            foreign: None,
+        }
+    }
+
+    /// Nothing is known any longer.
+    #[tactic(auto, using(crate::proofs::TakenLemmas::none_known))]
+    pub fn forget(&mut self)
+        ensures { (tables : TableMap) → AreKnown tables self.new }
+    {
+        self.inner = None;
+        self.foreign = None;
+    }
+
+    /// Whether the key, a unique constraint or an index of one of the tables has the name.
+    pub fn has_inner(&mut self, tables: &[(Name, Held)], name: &Name) -> Result<bool, NoMemory>
+        requires { AreKnown (tables_of tables.now) self.old }
+        ensures found { IfOk result (λ found. found ≡ is_in name.now (names_in inner_names (tables_of tables.now))) }
+        ensures known { AreKnown (tables_of tables.now) self.new }
+    {
+        asked_inner(self.alloc, &mut self.inner, tables, name)
+    }
+
+    /// Whether a foreign key of one of the tables has the name.
+    pub fn has_foreign(&mut self, tables: &[(Name, Held)], name: &Name) -> Result<bool, NoMemory>
+        requires { AreKnown (tables_of tables.now) self.old }
+        ensures found { IfOk result (λ found. found ≡ is_in name.now (names_in foreign_names (tables_of tables.now))) }
+        ensures known { AreKnown (tables_of tables.now) self.new }
+    {
+        asked_foreign(self.alloc, &mut self.foreign, tables, name)
+    }
+
+    /// Whether the key, a unique constraint or an index of one of the tables has the name, where that is
+    /// known.
+    pub fn knows_inner(&self, name: &Name) -> Option<bool>
+        ensures { (tables : TableMap) → AreKnown tables self.now → IfSome result (λ found. found ≡ is_in name.now (names_in inner_names tables)) }
+    {
+        known_in(&self.inner, name)
+    }
+
+    /// Whether a foreign key of one of the tables has the name, where that is known.
+    pub fn knows_foreign(&self, name: &Name) -> Option<bool>
+        ensures { (tables : TableMap) → AreKnown tables self.now → IfSome result (λ found. found ≡ is_in name.now (names_in foreign_names tables)) }
+    {
+        known_in(&self.foreign, name)
+    }
+
+    /// Adds the names inside a new table to what is known, which it drops where memory is wanting.
+    pub fn add(&mut self, shape: &Shape)
+        ensures { (tables : TableMap) (n : Name) (it : Table) → shape.now ≡ shape_of it → lookup (is_named n) tables ≡ None → AreKnown tables self.old → AreKnown (insert_entry name_cmp tables n it) self.new }
+    {
+        match self.learn(shape) {
+            Ok(()) => {}
+            Err(NoMemory) => self.forget(),
+        }
+    }
+
+    fn learn(&mut self, shape: &Shape) -> Result<(), NoMemory>
+        ensures { OnOk result ((tables : TableMap) (n : Name) (it : Table) → shape.now ≡ shape_of it → lookup (is_named n) tables ≡ None → AreKnown tables self.old → AreKnown (insert_entry name_cmp tables n it) self.new) }
+    {
+        learn_inner(self.alloc, &mut self.inner, shape)?;
+        learn_foreign(self.alloc, &mut self.foreign, shape)?;
+        Ok(())
+    }
+
+    /// What is known, after a table got another shape: all that was known, where the names of the old
+    /// shape stay.
+    pub fn reshape(&mut self, old: &Shape, new: &Shape)
+        ensures { (tables : TableMap) (n : Name) (was it : Table) → old.now ≡ shape_of was → new.now ≡ shape_of it → lookup (is_named n) tables ≡ Some was → AreKnown tables self.old → AreKnown (set_value (is_named n) tables it) self.new }
+    {
+        match self.relearn(old, new) {
+            Ok(()) => {}
+            Err(NoMemory) => self.forget(),
+        }
+    }
+
+    fn relearn(&mut self, old: &Shape, new: &Shape) -> Result<(), NoMemory>
+        ensures { OnOk result ((tables : TableMap) (n : Name) (was it : Table) → old.now ≡ shape_of was → new.now ≡ shape_of it → lookup (is_named n) tables ≡ Some was → AreKnown tables self.old → AreKnown (set_value (is_named n) tables it) self.new) }
+    {
+        relearn_inner(self.alloc, &mut self.inner, old, new)?;
+        relearn_foreign(self.alloc, &mut self.foreign, old, new)?;
+        Ok(())
+    }
+}
+
+fn known_in(known: &Option<BTreeSet<Name>>, name: &Name) -> Option<bool>
+    ensures { (ns : List Name) → IsTrueOf ns known.now → IfSome result (λ found. found ≡ is_in name.now ns) }
+{
+    match known {
+        None => None,
+        Some(set) => Some(has_name(set, name)),
+    }
+}
+
+/// Whether the set, which is made of the tables where it is not known yet, has the name.
+fn asked_inner(
+    alloc: Global,
+    known: &mut Option<BTreeSet<Name>>,
+    tables: &[(Name, Held)],
+    name: &Name,
+) -> Result<bool, NoMemory>
+    requires { IsTrueOf (names_in inner_names (tables_of tables.now)) known.old }
+    ensures found { IfOk result (λ found. found ≡ is_in name.now (names_in inner_names (tables_of tables.now))) }
+    ensures known { IsTrueOf (names_in inner_names (tables_of tables.now)) known.new }
+{
+    if let Some(set) = known.as_ref() {
+        return Ok(has_name(set, name));
+    }
+    let set = see_inner(alloc, tables)?;
+    let found = has_name(&set, name);
+    *known = Some(set);
+    Ok(found)
+}
+
+/// The same of the names of foreign keys.
+fn asked_foreign(
+    alloc: Global,
+    known: &mut Option<BTreeSet<Name>>,
+    tables: &[(Name, Held)],
+    name: &Name,
+) -> Result<bool, NoMemory>
+    requires { IsTrueOf (names_in foreign_names (tables_of tables.now)) known.old }
+    ensures found { IfOk result (λ found. found ≡ is_in name.now (names_in foreign_names (tables_of tables.now))) }
+    ensures known { IsTrueOf (names_in foreign_names (tables_of tables.now)) known.new }
+{
+    if let Some(set) = known.as_ref() {
+        return Ok(has_name(set, name));
+    }
+    let set = see_foreign(alloc, tables)?;
+    let found = has_name(&set, name);
+    *known = Some(set);
+    Ok(found)
+}
+
+fn has_name(set: &BTreeSet<Name>, name: &Name) -> bool
+    ensures { (ns : List Name) → HasJust ns set.now → result ≡ is_in name.now ns }
+{
+    set.contains(name)
+}
+
+/// Adds the names of the shape's key, unique constraints and indexes, where the others are known.
+fn learn_inner(
+    alloc: Global,
+    known: &mut Option<BTreeSet<Name>>,
+    shape: &Shape,
+) -> Result<(), NoMemory>
+    ensures { OnOk result ((it : Table) (ns : List Name) → shape.now ≡ shape_of it → IsTrueOf ns known.old → IsTrueOf (inner_names it ++ ns) known.new) }
+{
+    match known {
+        None => Ok(()),
+        Some(set) => {
+            add_inner(alloc, set, shape)?;
+            Ok(())
+        }
+    }
+}
+
+/// Adds the names of the shape's foreign keys, where the others are known.
+fn learn_foreign(
+    alloc: Global,
+    known: &mut Option<BTreeSet<Name>>,
+    shape: &Shape,
+) -> Result<(), NoMemory>
+    ensures { OnOk result ((it : Table) (ns : List Name) → shape.now ≡ shape_of it → IsTrueOf ns known.old → IsTrueOf (foreign_names it ++ ns) known.new) }
+{
+    match known {
+        None => Ok(()),
+        Some(set) => {
+            add_foreign(alloc, set, shape)?;
+            Ok(())
+        }
+    }
+}
+
+/// Adds the names of the new shape where those of the old one stay, and drops all otherwise.
+fn relearn_inner(
+    alloc: Global,
+    known: &mut Option<BTreeSet<Name>>,
+    old: &Shape,
+    new: &Shape,
+) -> Result<(), NoMemory>
+    ensures { OnOk result ((tables : TableMap) (n : Name) (was it : Table) → old.now ≡ shape_of was → new.now ≡ shape_of it → lookup (is_named n) tables ≡ Some was → IsTrueOf (names_in inner_names tables) known.old → IsTrueOf (names_in inner_names (set_value (is_named n) tables it)) known.new) }
+{
+    if inner_stay(old, new) {
+        learn_inner(alloc, known, new)?;
+        return Ok(());
+    }
+    *known = None;
+    Ok(())
+}
+
+/// The same of the names of foreign keys.
+fn relearn_foreign(
+    alloc: Global,
+    known: &mut Option<BTreeSet<Name>>,
+    old: &Shape,
+    new: &Shape,
+) -> Result<(), NoMemory>
+    ensures { OnOk result ((tables : TableMap) (n : Name) (was it : Table) → old.now ≡ shape_of was → new.now ≡ shape_of it → lookup (is_named n) tables ≡ Some was → IsTrueOf (names_in foreign_names tables) known.old → IsTrueOf (names_in foreign_names (set_value (is_named n) tables it)) known.new) }
+{
+    if foreign_stay(old, new) {
+        learn_foreign(alloc, known, new)?;
+        return Ok(());
+    }
+    *known = None;
+    Ok(())
+}
+
+/// Whether the names of the old shape's key, unique constraints and indexes stay, at their places.
+fn inner_stay(old: &Shape, new: &Shape) -> bool
+    ensures { result ≡ inner_stay old.now new.now }
+{
+    key_stays(&old.key, &new.key)
+        & (uniques_stay(old.uniques.as_slice(), new.uniques.as_slice())
+            & indexes_stay(old.indexes.as_slice(), new.indexes.as_slice()))
+}
+
+fn foreign_stay(old: &Shape, new: &Shape) -> bool
+    ensures { result ≡ foreign_stay old.now new.now }
+{
+    keys_stay(old.foreign.as_slice(), new.foreign.as_slice())
+}
+
+fn key_stays(old: &Option<Key>, new: &Option<Key>) -> bool
+    ensures { result ≡ begins (map (λ k. k.name) (key_list old.now)) (map (λ k. k.name) (key_list new.now)) }
+{
+    let Some(old) = old else {
+        return true;
+    };
+    let Some(new) = new else {
+        return false;
+    };
+    old.name == new.name
+}
+
+fn uniques_stay(old: &[Unique], new: &[Unique]) -> bool
+    ensures { result ≡ begins (map (λ u. u.name) old.now) (map (λ u. u.name) new.now) }
+{
+    let [first, old @ ..] = old else {
+        return true;
+    };
+    let [other, new @ ..] = new else {
+        return false;
+    };
+    if first.name != other.name {
+        return false;
+    }
+    uniques_stay(old, new)
+}
+
+fn indexes_stay(old: &[Index], new: &[Index]) -> bool
+    ensures { result ≡ begins (map (λ i. i.name) old.now) (map (λ i. i.name) new.now) }
+{
+    let [first, old @ ..] = old else {
+        return true;
+    };
+    let [other, new @ ..] = new else {
+        return false;
+    };
+    if first.name != other.name {
+        return false;
+    }
+    indexes_stay(old, new)
+}
+
+fn keys_stay(old: &[ForeignKey], new: &[ForeignKey]) -> bool
+    ensures { result ≡ begins (map (λ f. f.name) old.now) (map (λ f. f.name) new.now) }
+{
+    let [first, old @ ..] = old else {
+        return true;
+    };
+    let [other, new @ ..] = new else {
+        return false;
+    };
+    if first.name != other.name {
+        return false;
+    }
+    keys_stay(old, new)
+}
+
+#[tactic(auto, using(crate::proofs::TakenLemmas::sees_none, crate::proofs::TakenLemmas::sees_more, crate::proofs::TakenLemmas::sees_all))]
+fn see_inner(alloc: Global, tables: &[(Name, Held)]) -> Result<BTreeSet<Name>, NoMemory>
+    ensures { IfOk result (λ set. HasJust (names_in inner_names (tables_of tables.now)) set) }
+{
+    let mut set = BTreeSet::new(alloc);
+    for entry in tables {
+        add_inner(alloc, &mut set, entry.1.shape())?;
+    }
+    Ok(set)
+}
+
+#[tactic(auto, using(crate::proofs::TakenLemmas::sees_none, crate::proofs::TakenLemmas::sees_more, crate::proofs::TakenLemmas::sees_all))]
+fn see_foreign(alloc: Global, tables: &[(Name, Held)]) -> Result<BTreeSet<Name>, NoMemory>
+    ensures { IfOk result (λ set. HasJust (names_in foreign_names (tables_of tables.now)) set) }
+{
+    let mut set = BTreeSet::new(alloc);
+    for entry in tables {
+        add_foreign(alloc, &mut set, entry.1.shape())?;
+    }
+    Ok(set)
+}
+
+#[tactic(auto, using(crate::proofs::TakenLemmas::inner_gained))]
+fn add_inner(alloc: Global, set: &mut BTreeSet<Name>, shape: &Shape) -> Result<(), NoMemory>
+    ensures { OnOk result ((it : Table) → shape.now ≡ shape_of it → Gains (inner_names it) set.old set.new) }
+{
+    add_key(alloc, set, &shape.key)?;
+    add_uniques(alloc, set, shape.uniques.as_slice())?;
+    add_indexes(alloc, set, shape.indexes.as_slice())?;
+    Ok(())
+}
+
+#[tactic(auto, using(crate::proofs::TakenLemmas::foreign_gained))]
+fn add_foreign(alloc: Global, set: &mut BTreeSet<Name>, shape: &Shape) -> Result<(), NoMemory>
+    ensures { OnOk result ((it : Table) → shape.now ≡ shape_of it → Gains (foreign_names it) set.old set.new) }
+{
+    add_foreign_keys(alloc, set, shape.foreign.as_slice())?;
+    Ok(())
+}
+
+#[tactic(auto, using(crate::proofs::TakenLemmas::gains_none))]
+fn add_key(alloc: Global, set: &mut BTreeSet<Name>, key: &Option<Key>) -> Result<(), NoMemory>
+    ensures { OnOk result (Gains (map (λ k. k.name) (key_list key.now)) set.old set.new) }
+{
+    match key {
+        None => Ok(()),
+        Some(key) => {
+            add_name(alloc, set, &key.name)?;
+            Ok(())
+        }
+    }
+}
+
+#[tactic(auto, using(crate::proofs::TakenLemmas::gathers_none, crate::proofs::TakenLemmas::gathers_more, crate::proofs::TakenLemmas::gathers_all))]
+fn add_uniques(alloc: Global, set: &mut BTreeSet<Name>, uniques: &[Unique]) -> Result<(), NoMemory>
+    ensures { OnOk result (Gains (map (λ u. u.name) uniques.now) set.old set.new) }
+{
+    for unique in uniques {
+        add_name(alloc, set, &unique.name)?;
+    }
+    Ok(())
+}
+
+#[tactic(auto, using(crate::proofs::TakenLemmas::gathers_none, crate::proofs::TakenLemmas::gathers_more, crate::proofs::TakenLemmas::gathers_all))]
+fn add_indexes(alloc: Global, set: &mut BTreeSet<Name>, indexes: &[Index]) -> Result<(), NoMemory>
+    ensures { OnOk result (Gains (map (λ i. i.name) indexes.now) set.old set.new) }
+{
+    for index in indexes {
+        add_name(alloc, set, &index.name)?;
+    }
+    Ok(())
+}
+
+#[tactic(auto, using(crate::proofs::TakenLemmas::gathers_none, crate::proofs::TakenLemmas::gathers_more, crate::proofs::TakenLemmas::gathers_all))]
+fn add_foreign_keys(
+    alloc: Global,
+    set: &mut BTreeSet<Name>,
+    keys: &[ForeignKey],
+) -> Result<(), NoMemory>
+    ensures { OnOk result (Gains (map (λ f. f.name) keys.now) set.old set.new) }
+{
+    for key in keys {
+        add_name(alloc, set, &key.name)?;
+    }
+    Ok(())
+}
+
+#[tactic(auto, using(crate::proofs::TakenLemmas::gained))]
+fn add_name(alloc: Global, set: &mut BTreeSet<Name>, name: &Name) -> Result<(), NoMemory>
+    ensures { OnOk result (Gains (name.now ∷ []) set.old set.new) }
+{
+    set.insert(name.duplicate(alloc)?)?;
+    Ok(())
+}
