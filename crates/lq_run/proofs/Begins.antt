@@ -30,12 +30,12 @@ abbrev pub resting : Database → List (List Deed) → Session
 resting database entries = record { committed = database; is_open = false; seen = database; begun = []; entries = entries }
 
 -- the lock is taken, nothing is open, and the contents are as they were
-record IsOpened (stamp : Stamp) (x : Database) (s : Session) : Type 0 where
-  committed : s.committed.lock ≡ taken (pos stamp.reading) stamp.who
-  seen : s.seen.lock ≡ taken (pos stamp.reading) stamp.who
-  row : (s.committed.has_lock_row ≡ true) × (s.seen.has_lock_row ≡ true)
-  shut : s.is_open ≡ false
-  both : both_of s ≡ both_on x
+pub record IsOpened (stamp : Stamp) (x : Database) (s : Session) : Type 0 where
+  pub committed : s.committed.lock ≡ taken (pos stamp.reading) stamp.who
+  pub seen : s.seen.lock ≡ taken (pos stamp.reading) stamp.who
+  pub row : (s.committed.has_lock_row ≡ true) × (s.seen.has_lock_row ≡ true)
+  pub shut : s.is_open ≡ false
+  pub both : both_of s ≡ both_on x
 
 abbrev flagged : Database → Bool → Bool → Bool → Database
 flagged x a b e = record x { has_log = a; has_lock = b; has_lock_row = e }
@@ -70,7 +70,7 @@ module _ {Key : Type 0} (d : Dialect) (m : Meaning Key) (stamp : Stamp) (number 
   abbrev pub first_session : Session
   first_session = called d (Alone (map Locks (opening stamp database)) Ordinary) (resting database entries)
 
-  opened : IsOpened stamp database first_session
+  pub opened : IsOpened stamp database first_session
   opened = is_opened d stamp database entries database.has_log database.has_lock database.has_lock_row
 
   pub begins : {Told : Type 0} (r : Standing Key Told) (told : Told) (start y : State) → IsNew d m stamp r → start.dialect ≡ d → Stands start number y first_session → KnowsContents d m stamp r database told

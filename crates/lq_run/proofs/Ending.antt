@@ -71,16 +71,16 @@ not_committed h = Prim.cc
 not_aborted : Abort ≡ closing → ⊥
 not_aborted h = Prim.cc
 
-some_last : (calls : List Call) → calls ++ closing ∷ [] ≢ []
+pub some_last : (calls : List Call) → calls ++ closing ∷ [] ≢ []
 some_last [] h = not_nil h
 some_last (call ∷ calls) h = not_nil h
 
 -- the call that frees the lock is the last
-only_last : (front : List Call) (call : Call) → call ∷ [] ≡ front ++ closing ∷ [] → call ≡ closing
+pub only_last : (front : List Call) (call : Call) → call ∷ [] ≡ front ++ closing ∷ [] → call ≡ closing
 only_last [] call is = head_is is
 only_last (c ∷ front) call is = absurd (some_last front (sym (tail_is is)))
 
-keeps_split : (who : List ℕ) (call : Call) (more front : List Call) → call ∷ more ≡ front ++ closing ∷ [] → more ≢ [] → AllHoldOn who front → HoldsOn who call × KeepsLock who more
+pub keeps_split : (who : List ℕ) (call : Call) (more front : List Call) → call ∷ more ≡ front ++ closing ∷ [] → more ≢ [] → AllHoldOn who front → HoldsOn who call × KeepsLock who more
 keeps_split who call more [] is some all = absurd (some (tail_is is))
 keeps_split who call more (c ∷ front) is some all = (subst (HoldsOn who) (sym (head_is is)) all.0, record { front = front; is = tail_is is; holds = all.1 })
 
@@ -194,7 +194,7 @@ module _ {Key : Type 0} (d : Dialect) (m : Meaning Key) (stamp : Stamp) (number 
     ends_bare p why refused e other at_room only shut (inr marked) = subst (λ a. EndsAs d m stamp number start first last a y) (sym marked.2) (frees why other (stands_still marked.1))
 
 module _ {Key Told : Type 0} (d : Dialect) (m : Meaning Key) (stamp : Stamp) (number : ℕ) where
-  left_after : (r : Standing Key Told) (x : Both) → is_over r.hand.phase ≡ false → rest d m stamp (place r) x ≢ []
+  pub left_after : (r : Standing Key Told) (x : Both) → is_over r.hand.phase ≡ false → rest d m stamp (place r) x ≢ []
   left_after r x = rest_left d m stamp number r.hand.phase (calls_left r.hand) r.hand.goes_on (turns_of r) x
 
   pub before_last : (r : Standing Key Told) (s last : Session) → IsOnWay d m stamp number r s last → IsBefore s last

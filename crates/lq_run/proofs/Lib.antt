@@ -1,5 +1,5 @@
 mod Works
-mod Doing
+pub mod Doing
 mod AllWorks
 mod ToldCalls
 mod Stated
@@ -8,16 +8,17 @@ mod Makes
 mod Takes
 mod Known
 mod Stepping
-mod Losing
+pub mod Losing
 mod Names
 mod Grows
-mod Keeping
-mod Ending
+pub mod Keeping
+pub mod Ending
 mod Opens
-mod Begins
+pub mod Begins
 mod Counting
+pub mod Beside
 mod Left
-mod Whole
+pub mod Whole
 mod Stopped
 mod Replayed
 pub mod Behind

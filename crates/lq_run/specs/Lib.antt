@@ -11,3 +11,4 @@ pub mod Opens
 pub mod Left
 pub mod Crashes
 pub mod Crashing
+pub mod Beside

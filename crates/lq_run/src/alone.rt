@@ -1,5 +1,6 @@
-ghost use Rattle.std.specs.Prelude.{◌≡◌, ◌++◌, ◌∷◌, ◌≤◌, [], IfErr, IfOk, IsTrue, OnOk, false, is_some, map, nat_lt, option_map, unwrap_or};
+ghost use Rattle.std.specs.Prelude.{◌≡◌, ◌++◌, ◌∷◌, ◌≤◌, [], IfErr, IfOk, IsTrue, OnOk, false, is_some, map, nat_lt, option_map, true, unwrap_or};
 ghost use Rattle.lq_model.specs.Catalogue.{table_of};
+ghost use Rattle.lq_run.specs.Beside.{Beside, is_disk_result};
 ghost use Rattle.lq_run.specs.Crashes.{BehindOpened, BehindReleased, BehindTagged, CrashesOpened, CrashesReleased, CrashesTagged};
 ghost use Rattle.lq_run.specs.Crashing.{CrashesFor, CrashesOpening};
 ghost use Rattle.lq_run.specs.Does.{AllWritable, AloneFor};
@@ -56,6 +57,8 @@ pub fn take_lock<S: Store, P: SqlText>(
     ensures crash { CrashesOpening dialect stamp.now session (S.state store.old) (S.crashes store.old) (S.crashes store.new) }
     ensures any_moment { CrashesOpened dialect stamp.now (S.state store.old) (S.crashes store.old) (S.crashes store.new) }
     ensures faults { CountsDisk result (S.faults store.old) (S.faults store.new) }
+    ensures beside { Beside session (is_disk_result result) (S.state store.old) (S.state store.new) }
+    ensures shuts { (S.state store.new).live ≡ true → is_open session (S.state store.new).begun ≡ false }
 {
     statements_read_back();
     match first_deeds(alloc, session, store, dialect, stamp) {
@@ -93,6 +96,8 @@ pub fn tag_row<S: Store, P: SqlText>(
     ensures crash { CrashesFor dialect session (call.Alone (deed.Rows (on_rows.Tagged of tag) ∷ []) room.Ordinary) (S.state store.old) (S.crashes store.old) (S.crashes store.new) }
     ensures any_moment { CrashesTagged dialect of tag (S.state store.old) (S.crashes store.old) (S.crashes store.new) }
     ensures faults { CountsDisk result (S.faults store.old) (S.faults store.new) }
+    ensures beside { Beside session (is_disk_result result) (S.state store.old) (S.state store.new) }
+    ensures shuts { (S.state store.new).live ≡ true → is_open session (S.state store.new).begun ≡ false }
 {
     statements_read_back();
     do_alone(
@@ -125,6 +130,8 @@ pub fn free_lock<S: Store, P: SqlText>(
     ensures crash { CrashesFor dialect session closing (S.state store.old) (S.crashes store.old) (S.crashes store.new) }
     ensures any_moment { CrashesReleased dialect (S.state store.old) (S.crashes store.old) (S.crashes store.new) }
     ensures faults { CountsDisk result (S.faults store.old) (S.faults store.new) }
+    ensures beside { Beside session (is_disk_result result) (S.state store.old) (S.state store.new) }
+    ensures shuts { (S.state store.new).live ≡ true → is_open session (S.state store.new).begun ≡ false }
 {
     statements_read_back();
     do_alone(

@@ -1,11 +1,13 @@
-ghost use Rattle.std.specs.Prelude.{◌≡◌, ◌++◌, IfOk, IsTrue, OnOk, false, true};
+ghost use Rattle.std.specs.Prelude.{◌≡◌, ◌++◌, IfOk, IsTrue, None, OnOk, false, true};
 ghost use Rattle.lq_hand.specs.Writable.{IsWritable};
+ghost use Rattle.lq_run.specs.Beside.{Beside, is_disk_result, open_after};
 ghost use Rattle.lq_run.specs.Crashes.{CrashesLeave};
 ghost use Rattle.lq_run.specs.Crashing.{CrashesFor, LeftAlone};
 ghost use Rattle.lq_run.specs.Does.{AbortFor, AllRead, AllWritable, AloneFor, BeginFor, CommitFor, DoesFor, IsRead, Reads};
+ghost use Rattle.lq_run.specs.Moves.{moved_of};
 ghost use Rattle.lq_run.specs.Stands.{text_by, texts_of};
 ghost use Rattle.lq_store.specs.Calls.{CountsDisk};
-ghost use Rattle.lq_store.specs.State.{is_open};
+ghost use Rattle.lq_store.specs.State.{is_open, other};
 ghost use Rattle.lq_turns.specs.Deed.{made_of};
 ghost use Rattle.lq_turns.specs.declared.call.Call.TheVariants as call;
 
@@ -32,6 +34,8 @@ pub fn do_deed<S: Store>(
     ensures does { DoesFor dialect session deed.now (S.state store.old) result (S.state store.new) }
     ensures crash { CrashesFor dialect session (call.Execute deed.now) (S.state store.old) (S.crashes store.old) (S.crashes store.new) }
     ensures faults { CountsDisk result (S.faults store.old) (S.faults store.new) }
+    ensures beside { Beside session (is_disk_result result) (S.state store.old) (S.state store.new) }
+    ensures leaves_open { (S.state store.new).live ≡ true → is_open session (S.state store.new).begun ≡ true }
 {
     match store.execute(session, caller(deed), text) {
         Ok(_) => Ok(()),
@@ -48,6 +52,8 @@ pub fn commit<S: Store>(session: u32, store: &mut S, dialect: Dialect) -> Result
     ensures does { CommitFor dialect session (S.state store.old) result (S.state store.new) }
     ensures crash { CrashesFor dialect session call.Commit (S.state store.old) (S.crashes store.old) (S.crashes store.new) }
     ensures faults { CountsDisk result (S.faults store.old) (S.faults store.new) }
+    ensures beside { Beside session (is_disk_result result) (S.state store.old) (S.state store.new) }
+    ensures leaves_open { (S.state store.new).live ≡ true → is_open session (S.state store.new).begun ≡ open_after (moved_of result) call.Commit }
 {
     store.commit(session)
 }
@@ -61,6 +67,8 @@ pub fn begin<S: Store>(session: u32, store: &mut S, dialect: Dialect) -> Result<
     ensures does { BeginFor dialect session (S.state store.old) result (S.state store.new) }
     ensures crash { CrashesLeave (S.state store.old).entries LeftAlone (S.crashes store.old) (S.crashes store.new) }
     ensures faults { CountsDisk result (S.faults store.old) (S.faults store.new) }
+    ensures beside { Beside session (is_disk_result result) (S.state store.old) (S.state store.new) }
+    ensures leaves_open { other session (S.state store.old) ≡ None → is_open session (S.state store.new).begun ≡ true }
 {
     store.begin(session)
 }
@@ -74,11 +82,14 @@ pub fn abort<S: Store>(session: u32, store: &mut S, dialect: Dialect)
     ensures does { AbortFor dialect session (S.state store.old) (S.state store.new) }
     ensures crash { CrashesLeave (S.state store.old).entries LeftAlone (S.crashes store.old) (S.crashes store.new) }
     ensures faults { S.faults store.new ≡ S.faults store.old }
+    ensures beside { Beside session false (S.state store.old) (S.state store.new) }
+    ensures shuts { is_open session (S.state store.new).begun ≡ false }
 {
     store.abort(session);
 }
 
 /// Does deeds in a transaction of their own.
+#[tactic(auto, using(crate::proofs::Beside::stays))]
 pub fn do_alone<S: Store, P: SqlText>(
     alloc: Global,
     session: u32,
@@ -97,6 +108,8 @@ pub fn do_alone<S: Store, P: SqlText>(
     ensures does { AloneFor dialect session deeds.now room (S.state store.old) result (S.state store.new) }
     ensures crash { CrashesFor dialect session (call.Alone deeds.now room) (S.state store.old) (S.crashes store.old) (S.crashes store.new) }
     ensures faults { CountsDisk result (S.faults store.old) (S.faults store.new) }
+    ensures beside { Beside session (is_disk_result result) (S.state store.old) (S.state store.new) }
+    ensures shuts { (S.state store.new).live ≡ true → is_open session (S.state store.new).begun ≡ false }
 {
     let mut texts = Items::new(alloc);
     let Ok(()) = print_all(alloc, sql, dialect, deeds, &mut texts) else {

@@ -1,12 +1,13 @@
-ghost use Rattle.std.specs.Prelude.{◌≡◌, ◌≢◌, ◌≤◌, IsTrue, [], false, true};
+ghost use Rattle.std.specs.Prelude.{◌≡◌, ◌≢◌, ◌≤◌, IsTrue, None, [], false, true};
 ghost use Rattle.lq_hand.specs.Hand.{AreTurns, IsNext, calls_left};
 ghost use Rattle.lq_hand.specs.declared.hand.Phase.TheVariants as phase;
 ghost use Rattle.lq_hand.specs.Writable.{IsWritable};
 ghost use Rattle.lq_outside.specs.Count.{Rose};
+ghost use Rattle.lq_run.specs.Beside.{AsksNext, Beside, open_after};
 ghost use Rattle.lq_run.specs.Crashing.{CrashesFor, CrashesTaken};
 ghost use Rattle.lq_run.specs.Faults.{is_disk_move};
 ghost use Rattle.lq_run.specs.Moves.{Makes, MovesTo, Takes, WasOpen, moved_of};
-ghost use Rattle.lq_store.specs.State.{is_open};
+ghost use Rattle.lq_store.specs.State.{is_open, other};
 ghost use Rattle.lq_turns.specs.declared.call.Call.TheVariants as call;
 ghost use Rattle.lq_turns.specs.declared.stamp.Stamp.{Stamp};
 
@@ -53,6 +54,8 @@ pub fn take<T: Source, S: Store, P: SqlText>(
     ensures lack { WasOpen session (S.state store.old) result (S.state store.new) }
     ensures later { S.faults store.old ≤ S.faults store.new }
     ensures rose { is_disk_move result ≡ true → Rose (S.faults store.old) (S.faults store.new) }
+    ensures beside { Beside session (is_disk_move result) (S.state store.old) (S.state store.new) }
+    ensures asks { other session (S.state store.old) ≡ None → (S.state store.new).live ≡ true → AsksNext dialect result hand.new (is_open session (S.state store.new).begun) }
 {
     let Some(call) = hand.calls.pop() else {
         unreachable!();
@@ -87,6 +90,8 @@ fn make<T: Source, S: Store, P: SqlText>(
     ensures lack { WasOpen session (S.state store.old) result (S.state store.new) }
     ensures later { S.faults store.old ≤ S.faults store.new }
     ensures rose { is_disk_move result ≡ true → Rose (S.faults store.old) (S.faults store.new) }
+    ensures beside { Beside session (is_disk_move result) (S.state store.old) (S.state store.new) }
+    ensures leaves_open { other session (S.state store.old) ≡ None → (S.state store.new).live ≡ true → is_open session (S.state store.new).begun ≡ open_after result call.now }
 {
     match call {
         Call::Begin => move_of(begin(session, store, dialect)),
@@ -115,6 +120,8 @@ fn execute<T: Source, S: Store, P: SqlText>(
     ensures lack { WasOpen session (S.state store.old) result (S.state store.new) }
     ensures later { S.faults store.old ≤ S.faults store.new }
     ensures rose { is_disk_move result ≡ true → Rose (S.faults store.old) (S.faults store.new) }
+    ensures beside { Beside session (is_disk_move result) (S.state store.old) (S.state store.new) }
+    ensures leaves_open { (S.state store.new).live ≡ true → is_open session (S.state store.new).begun ≡ true }
 {
     match print(alloc, sql, dialect, deed) {
         Ok(text) => move_of(do_deed(session, store, dialect, deed, text.as_str())),

@@ -7,6 +7,7 @@ ghost use Rattle.lq_model.specs.declared.fault.StoreFault.TheVariants as fault;
 ghost use Rattle.lq_base.specs.declared.dialect.Dialect.{Dialect};
 ghost use Rattle.lq_outside.specs.Count.{Rose};
 ghost use Rattle.lq_hand.specs.Counts.{first_coming};
+ghost use Rattle.lq_run.specs.Beside.{Beside, IsSet};
 ghost use Rattle.lq_run.specs.Crashes.{CrashesLeave};
 ghost use Rattle.lq_run.specs.Crashing.{CrashesClosing, CrashesFor, CrashesNext, CrashesStep, LeftAlone};
 ghost use Rattle.lq_run.specs.Does.{AbortFor};
@@ -110,6 +111,8 @@ impl<T: Source + Drop> Runner<T> {
         ensures later { S.faults store.old ≤ S.faults store.new }
         ensures rose { is_disk_step result ≡ true → Rose (S.faults store.old) (S.faults store.new) }
         ensures going { GoesOn result self.new.hand.phase }
+        ensures beside { Beside session (is_disk_step result) (S.state store.old) (S.state store.new) }
+        ensures asks { IsSet self.old.dialect session self.new.hand (S.state store.old) (S.state store.new) }
     {
         match self.hand.phase {
             Phase::Inside => self.go_on(session, store, sql),
@@ -138,6 +141,8 @@ impl<T: Source + Drop> Runner<T> {
         ensures later { S.faults store.old ≤ S.faults store.new }
         ensures rose { is_disk_step result ≡ true → Rose (S.faults store.old) (S.faults store.new) }
         ensures going { GoesOn result self.new.hand.phase }
+        ensures beside { Beside session (is_disk_step result) (S.state store.old) (S.state store.new) }
+        ensures asks { IsSet self.old.dialect session self.new.hand (S.state store.old) (S.state store.new) }
     {
         if self.hand.calls.is_empty() {
             self.between(session, store, sql)
@@ -166,6 +171,8 @@ impl<T: Source + Drop> Runner<T> {
         ensures later { S.faults store.old ≤ S.faults store.new }
         ensures rose { is_disk_step result ≡ true → Rose (S.faults store.old) (S.faults store.new) }
         ensures going { GoesOn result self.new.hand.phase }
+        ensures beside { Beside session (is_disk_step result) (S.state store.old) (S.state store.new) }
+        ensures asks { IsSet self.old.dialect session self.new.hand (S.state store.old) (S.state store.new) }
     {
         let call = next_coming(self.dialect, &self.hand);
         show(&mut self.source, call, self.dialect, session, store);
@@ -197,6 +204,8 @@ impl<T: Source + Drop> Runner<T> {
         ensures later { S.faults store.old ≤ S.faults store.new }
         ensures rose { is_disk_step result ≡ true → Rose (S.faults store.old) (S.faults store.new) }
         ensures going { GoesOn result self.new.hand.phase }
+        ensures beside { Beside session (is_disk_step result) (S.state store.old) (S.state store.new) }
+        ensures asks { IsSet self.old.dialect session self.new.hand (S.state store.old) (S.state store.new) }
     {
         match take::<T, S, P>(
             &mut self.hand,
@@ -265,6 +274,8 @@ impl<T: Source + Drop> Runner<T> {
         ensures disk { disk_failed self.new.fault ≡ false }
         ensures faults { S.faults store.new ≡ S.faults store.old }
         ensures going { GoesOn result self.new.hand.phase }
+        ensures beside { Beside session false (S.state store.old) (S.state store.new) }
+        ensures shuts { is_open session (S.state store.new).begun ≡ false }
     {
         abort(session, store, self.dialect);
         self.fault = Some(StoreFault::OutOfMemory);
@@ -290,6 +301,8 @@ impl<T: Source + Drop> Runner<T> {
         ensures later { S.faults store.old ≤ S.faults store.new }
         ensures rose { is_disk_step result ≡ true → Rose (S.faults store.old) (S.faults store.new) }
         ensures going { GoesOn result self.new.hand.phase }
+        ensures beside { Beside session (is_disk_step result) (S.state store.old) (S.state store.new) }
+        ensures asks { IsSet self.old.dialect session self.new.hand (S.state store.old) (S.state store.new) }
     {
         abort(session, store, self.dialect);
         self.hand = no_turn(self.alloc);
@@ -318,6 +331,8 @@ impl<T: Source + Drop> Runner<T> {
         ensures later { S.faults store.old ≤ S.faults store.new }
         ensures rose { is_disk_step result ≡ true → Rose (S.faults store.old) (S.faults store.new) }
         ensures going { GoesOn result self.new.hand.phase }
+        ensures beside { Beside session (is_disk_step result) (S.state store.old) (S.state store.new) }
+        ensures asks { IsSet self.old.dialect session self.new.hand (S.state store.old) (S.state store.new) }
     {
         match stands(&self.stamp, store) {
             Holding::Bare => self.held(session, store, sql, false),
@@ -355,6 +370,8 @@ impl<T: Source + Drop> Runner<T> {
         ensures later { S.faults store.old ≤ S.faults store.new }
         ensures rose { is_disk_step result ≡ true → Rose (S.faults store.old) (S.faults store.new) }
         ensures going { GoesOn result self.new.hand.phase }
+        ensures beside { Beside session (is_disk_step result) (S.state store.old) (S.state store.new) }
+        ensures asks { IsSet self.old.dialect session self.new.hand (S.state store.old) (S.state store.new) }
     {
         if may_enter(self.fault, self.refused) {
             self.enter(session, store, sql, is_marked)
@@ -390,6 +407,8 @@ impl<T: Source + Drop> Runner<T> {
         ensures later { S.faults store.old ≤ S.faults store.new }
         ensures rose { is_disk_step result ≡ true → Rose (S.faults store.old) (S.faults store.new) }
         ensures going { GoesOn result self.new.hand.phase }
+        ensures beside { Beside session (is_disk_step result) (S.state store.old) (S.state store.new) }
+        ensures asks { IsSet self.old.dialect session self.new.hand (S.state store.old) (S.state store.new) }
     {
         match next(
             &mut self.source,
@@ -438,6 +457,8 @@ impl<T: Source + Drop> Runner<T> {
         ensures later { S.faults store.old ≤ S.faults store.new }
         ensures rose { is_disk_step result ≡ true → Rose (S.faults store.old) (S.faults store.new) }
         ensures going { GoesOn result self.new.hand.phase }
+        ensures beside { Beside session (is_disk_step result) (S.state store.old) (S.state store.new) }
+        ensures asks { IsSet self.old.dialect session self.new.hand (S.state store.old) (S.state store.new) }
     {
         match self.fault {
             None => self.close(session, store, sql),
@@ -472,6 +493,8 @@ impl<T: Source + Drop> Runner<T> {
         ensures later { S.faults store.old ≤ S.faults store.new }
         ensures rose { is_disk_step result ≡ true → Rose (S.faults store.old) (S.faults store.new) }
         ensures going { GoesOn result self.new.hand.phase }
+        ensures beside { Beside session (is_disk_step result) (S.state store.old) (S.state store.new) }
+        ensures asks { IsSet self.old.dialect session self.new.hand (S.state store.old) (S.state store.new) }
     {
         if is_marked {
             self.hand.phase = Phase::Over;
@@ -497,6 +520,8 @@ impl<T: Source + Drop> Runner<T> {
         ensures later { S.faults store.old ≤ S.faults store.new }
         ensures rose { is_disk_step result ≡ true → Rose (S.faults store.old) (S.faults store.new) }
         ensures going { GoesOn result self.new.hand.phase }
+        ensures beside { Beside session (is_disk_step result) (S.state store.old) (S.state store.new) }
+        ensures asks { IsSet self.old.dialect session self.new.hand (S.state store.old) (S.state store.new) }
     {
         self.hand.phase = Phase::Over;
         match do_alone(

@@ -9,6 +9,7 @@ use Rattle.lq_run.proofs.Since.{leave_none}
 use Rattle.lq_run.proofs.Stopping.{opened}
 use Rattle.lq_run.specs.Crashing.{CrashesFor}
 use Rattle.lq_turns.specs.declared.call.Call.TheVariants.{Alone}
+use Rattle.lq_run.proofs.Beside.{first_beside}
 use Rattle.lq_run.proofs.alone.take_lock.Goals as goal
 
 pub returns-in-Ok-clause-does : goal.returns-in-Ok-clause-does
@@ -66,3 +67,6 @@ returns-in-Err-clause-behind g c =
     opening_behind c.statements_read_back.ensures c.args.dialect (g.S.Store.state c.args.store.now) (g.S.Store.state c.args.store.now) (Err c.in-Err.fault) c.args.stamp.now c.requires.moment
     (opening_leaves c.args.dialect c.args.session (g.S.Store.state c.args.store.now) (g.S.Store.state c.args.store.now) (Err c.in-Err.fault) c.args.stamp.now
     (fails_first c.args.dialect c.args.stamp.now c.args.session (g.S.Store.state c.args.store.now) c.in-Err.fault c.in-Err.ensures.fails))
+
+pub returns-in-Err-clause-beside : goal.returns-in-Err-clause-beside
+returns-in-Err-clause-beside g c = first_beside c.args.session (g.S.Store.state c.args.store.now) c.in-Err.fault c.requires.live c.in-Err.ensures.fails

@@ -1,6 +1,7 @@
 use Rattle.std.specs.Prelude.{Err, Ok}
 use Rattle.lq_run.proofs.ToldCalls.{deed_told, is_read}
 use Rattle.lq_run.proofs.CallCrashes.{deed_crash}
+use Rattle.lq_run.proofs.Beside.{deed_beside, deed_opens}
 use Rattle.lq_run.proofs.calls.do_deed.Goals as goal
 
 pub returns-in-Ok-clause-does : goal.returns-in-Ok-clause-does
@@ -22,3 +23,15 @@ pub returns-in-Err-clause-crash : goal.returns-in-Err-clause-crash
 returns-in-Err-clause-crash g c =
     deed_crash c.args.dialect c.args.session (g.S.Store.state c.args.store.now) (g.S.Store.crashes c.args.store.now) (g.S.Store.crashes c.execute.new.self) c.args.deed.now _ _ (is_read c.args.dialect c.args.deed.now _ c.requires.reads) (c.caller.ensures c.args.dialect)
     c.requires.reads.0 c.requires.open_here c.in-Err.ensures.crash
+
+pub returns-in-Ok-clause-beside : goal.returns-in-Ok-clause-beside
+returns-in-Ok-clause-beside g c = deed_beside c.args.session (g.S.Store.state c.args.store.now) (g.S.Store.state c.execute.new.self) c.requires.live c.caller.result c.args.text.now (Ok c.in-Ok.field-0) c.in-Ok.ensures.does
+
+pub returns-in-Ok-clause-leaves_open : goal.returns-in-Ok-clause-leaves_open
+returns-in-Ok-clause-leaves_open g c = deed_opens c.args.session (g.S.Store.state c.args.store.now) (g.S.Store.state c.execute.new.self) c.requires.live c.caller.result c.args.text.now (Ok c.in-Ok.field-0) c.requires.open_here c.in-Ok.ensures.does
+
+pub returns-in-Err-clause-beside : goal.returns-in-Err-clause-beside
+returns-in-Err-clause-beside g c = deed_beside c.args.session (g.S.Store.state c.args.store.now) (g.S.Store.state c.execute.new.self) c.requires.live c.caller.result c.args.text.now (Err c.in-Err.fault) c.in-Err.ensures.does
+
+pub returns-in-Err-clause-leaves_open : goal.returns-in-Err-clause-leaves_open
+returns-in-Err-clause-leaves_open g c = deed_opens c.args.session (g.S.Store.state c.args.store.now) (g.S.Store.state c.execute.new.self) c.requires.live c.caller.result c.args.text.now (Err c.in-Err.fault) c.requires.open_here c.in-Err.ensures.does

@@ -3,6 +3,7 @@ use Rattle.lq_run.proofs.Makes.{deed_makes, lack_makes, never_lacks}
 use Rattle.lq_run.specs.Moves.{Makes, WasOpen}
 use Rattle.lq_turns.specs.declared.call.Call.TheVariants.{Execute}
 use Rattle.lq_run.proofs.CallCrashes.{none_for}
+use Rattle.lq_run.proofs.Beside.{move_beside, stays}
 use Rattle.lq_run.proofs.hand.execute.Goals as goal
 
 pub returns-in-Ok-clause-makes : goal.returns-in-Ok-clause-makes
@@ -19,3 +20,9 @@ returns-in-Err-clause-makes g c = λ stamp. lack_makes c.args.dialect g.T.Source
 
 pub returns-in-Err-clause-crash : goal.returns-in-Err-clause-crash
 returns-in-Err-clause-crash g c = none_for c.args.dialect c.args.session (g.S.Store.state c.args.store.now) (g.S.Store.crashes c.args.store.now) (Execute c.args.deed.now)
+
+pub returns-in-Ok-clause-beside : goal.returns-in-Ok-clause-beside
+returns-in-Ok-clause-beside g c = move_beside c.args.session (g.S.Store.state c.args.store.now) (g.S.Store.state c.do_deed.new.store) c.do_deed.result c.move_of.result c.move_of.ensures c.do_deed.ensures.beside
+
+pub returns-in-Err-clause-beside : goal.returns-in-Err-clause-beside
+returns-in-Err-clause-beside g c = stays c.args.session (g.S.Store.state c.args.store.now) c.requires.live

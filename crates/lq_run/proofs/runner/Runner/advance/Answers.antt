@@ -3,6 +3,11 @@ use Rattle.std.specs.Prelude.{IsTrue, Some, true, ◌≡◌}
 use Rattle.lq_run.proofs.Stepping.{lack_crash, steps_failed, steps_lacked, steps_on, steps_refused}
 use Rattle.lq_run.specs.Steps.{StepsShown, standing, stopped_by, turns_of}
 use Rattle.lq_store.specs.State.{is_open}
+use Rattle.lq_run.proofs.Beside.{failed_beside, set_back, set_failed, set_inside, set_none}
+use Rattle.lq_hand.specs.Hand.{calls_left}
+use Rattle.lq_run.specs.Beside.{Beside}
+use Rattle.lq_run.specs.Faults.{is_disk_step}
+use Rattle.std.specs.Prelude.{false}
 use Rattle.lq_run.proofs.runner.Runner.advance.Goals as goal
 
 pub returns-in-On-clause-steps : goal.returns-in-On-clause-steps
@@ -46,3 +51,30 @@ pub returns-in-Lack-clause-crash : goal.returns-in-Lack-clause-crash
 returns-in-Lack-clause-crash g c =
     lack_crash c.args.self.now.dialect g.T.Source.meaning c.args.self.now.stamp c.args.session c.args.self.now.hand (turns_of (standing g.T.Source.left g.T.Source.way c.args.self.now)) (g.S.Store.state c.args.store.now) (g.S.Store.state c.take.new.store) (g.S.Store.crashes c.args.store.now) (g.S.Store.crashes c.take.new.store) (g.S.Store.crashes c.take_back.new.store)
     c.requires.inside c.requires.left c.in-Lack.ensures.lack.0 (c.in-Lack.ensures.crash c.args.self.now.stamp) c.take_back.ensures.crash
+
+pub returns-in-On-clause-beside : goal.returns-in-On-clause-beside
+returns-in-On-clause-beside g c = c.in-On.ensures.beside
+
+pub returns-in-On-clause-asks : goal.returns-in-On-clause-asks
+returns-in-On-clause-asks g c = λ none live. set_inside c.args.self.now.dialect c.take.new.hand.phase (calls_left c.take.new.hand) (is_open c.args.session (g.S.Store.state c.take.new.store).begun) c.in-On.ensures.phase (c.in-On.ensures.asks none live)
+
+pub returns-in-Refused-clause-beside : goal.returns-in-Refused-clause-beside
+returns-in-Refused-clause-beside g c = c.in-Refused.ensures.beside
+
+pub returns-in-Refused-clause-asks : goal.returns-in-Refused-clause-asks
+returns-in-Refused-clause-asks g c = λ none live. set_back c.args.self.now.dialect c.take.new.hand.phase (calls_left c.take.new.hand) (is_open c.args.session (g.S.Store.state c.take.new.store).begun) c.in-Refused.ensures.phase (c.in-Refused.ensures.asks none live)
+
+pub returns-in-Failed-clause-beside : goal.returns-in-Failed-clause-beside
+returns-in-Failed-clause-beside g c = failed_beside c.args.session (g.S.Store.state c.args.store.now) (g.S.Store.state c.take.new.store) c.in-Failed.fault c.fail.result c.fail.ensures.told c.in-Failed.ensures.beside
+
+pub returns-in-Failed-clause-asks : goal.returns-in-Failed-clause-asks
+returns-in-Failed-clause-asks g c = λ none live.
+    set_failed c.args.self.now.dialect c.in-Failed.fault c.fail.new.self.hand.phase (calls_left c.fail.new.self.hand) c.fail.new.self.fault c.fail.result (is_open c.args.session (g.S.Store.state c.take.new.store).begun) (g.S.Store.state c.take.new.store).live c.fail.ensures.fails c.in-Failed.ensures.beside.live live (c.in-Failed.ensures.asks none live)
+
+pub returns-in-Lack-clause-beside : goal.returns-in-Lack-clause-beside
+returns-in-Lack-clause-beside g c =
+    subst (λ r. Beside c.args.session (is_disk_step r) (g.S.Store.state c.args.store.now) (g.S.Store.state c.take_back.new.store)) (sym c.take_back.ensures.result)
+    (subst (λ z. Beside c.args.session false z (g.S.Store.state c.take_back.new.store)) c.in-Lack.ensures.lack.0 c.take_back.ensures.beside)
+
+pub returns-in-Lack-clause-asks : goal.returns-in-Lack-clause-asks
+returns-in-Lack-clause-asks g c = λ none live. set_none c.args.self.now.dialect c.take_back.new.self.hand (is_open c.args.session (g.S.Store.state c.take_back.new.store).begun) c.take_back.ensures.hand c.take_back.ensures.shuts

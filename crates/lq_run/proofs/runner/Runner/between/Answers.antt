@@ -4,6 +4,8 @@ use Rattle.lq_run.proofs.Losing.{lost_steps, told_at}
 use Rattle.lq_run.specs.Holds.{IsBare, IsMarked}
 use Rattle.lq_run.specs.Steps.{TellsLock, standing}
 use Rattle.lq_run.proofs.Since.{leave_none}
+use Rattle.lq_run.proofs.Beside.{stays_as}
+use Rattle.lq_run.specs.Faults.{is_disk_step}
 use Rattle.lq_run.proofs.runner.Runner.between.Goals as goal
 
 pub returns-in-Bare-clause-lost : goal.returns-in-Bare-clause-lost
@@ -23,3 +25,9 @@ returns-in-Lost-clause-rose g c = λ is. absurd (not_true (sym c.locked.ensures.
 
 pub returns-in-Lost-clause-crash : goal.returns-in-Lost-clause-crash
 returns-in-Lost-clause-crash g c = λ start s told is held. leave_none (g.S.Store.state c.args.store.now).entries _ (g.S.Store.crashes c.args.store.now)
+
+pub returns-in-Lost-clause-beside : goal.returns-in-Lost-clause-beside
+returns-in-Lost-clause-beside g c = stays_as c.args.session (is_disk_step c.locked.result) (g.S.Store.state c.args.store.now) (g.S.Store.state c.args.store.now) c.locked.ensures.told c.requires.live refl
+
+pub returns-in-Lost-clause-asks : goal.returns-in-Lost-clause-asks
+returns-in-Lost-clause-asks g c = λ none live. c.requires.closed

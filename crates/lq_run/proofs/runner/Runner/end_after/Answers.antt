@@ -3,6 +3,7 @@ use Rattle.lq_run.proofs.Losing.{bare_crash, ends_bare, ends_marked}
 use Rattle.lq_run.specs.Steps.{last_end}
 use Rattle.lq_run.proofs.Since.{leave_none}
 use Rattle.std.specs.Prelude.{Some}
+use Rattle.lq_run.proofs.Beside.{fault_stays}
 use Rattle.lq_run.proofs.runner.Runner.end_after.Goals as goal
 
 pub returns-then-is_marked-clause-ends : goal.returns-then-is_marked-clause-ends
@@ -16,3 +17,9 @@ returns-then-is_marked-clause-crash g c = λ start s is stands fit. leave_none (
 
 pub returns-clause-crash : goal.returns-clause-crash
 returns-clause-crash g c = bare_crash c.args.self.now.dialect c.args.self.now.stamp c.args.session (g.S.Store.state c.args.store.now) (g.S.Store.crashes c.args.store.now) (g.S.Store.crashes c.close.new.store) (Some c.args.fault) c.args.is_marked c.if-is_marked.false c.requires.lock c.close.ensures.crash
+
+pub returns-then-is_marked-clause-beside : goal.returns-then-is_marked-clause-beside
+returns-then-is_marked-clause-beside g c = fault_stays c.args.session (g.S.Store.state c.args.store.now) c.args.self.now.fault c.args.fault c.end_of.result c.requires.live c.requires.fault c.requires.disk c.end_of.ensures
+
+pub returns-then-is_marked-clause-asks : goal.returns-then-is_marked-clause-asks
+returns-then-is_marked-clause-asks g c = λ none live. c.requires.closed

@@ -1,5 +1,7 @@
 use Rattle.lq_run.proofs.Stepping.{back_crash, not_between, steps_back}
 use Rattle.lq_run.specs.Steps.{standing}
+use Rattle.lq_run.proofs.Beside.{set_none}
+use Rattle.lq_store.specs.State.{is_open}
 use Rattle.lq_run.proofs.runner.Runner.give_up.Goals as goal
 
 pub returns-clause-steps : goal.returns-clause-steps
@@ -10,3 +12,9 @@ returns-clause-lost g c = λ there. absurd (not_between c.args.self.now.hand c.r
 
 pub returns-clause-crash : goal.returns-clause-crash
 returns-clause-crash g c = back_crash c.args.self.now.dialect g.T.Source.meaning c.args.self.now.stamp c.args.session (standing g.T.Source.left g.T.Source.way c.args.self.now) (g.S.Store.state c.args.store.now) (g.S.Store.crashes c.args.store.now) (g.S.Store.crashes c.abort.new.store) c.requires.gives_up c.abort.ensures.crash
+
+pub returns-clause-beside : goal.returns-clause-beside
+returns-clause-beside g c = c.abort.ensures.beside
+
+pub returns-clause-asks : goal.returns-clause-asks
+returns-clause-asks g c = λ none live. set_none c.args.self.now.dialect c.no_turn.result (is_open c.args.session (g.S.Store.state c.abort.new.store).begun) c.no_turn.ensures c.abort.ensures.shuts
