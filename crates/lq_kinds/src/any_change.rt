@@ -20,7 +20,7 @@ use lq_views::{CreateSequence, CreateView, DropSequence, DropView, RenameSequenc
 use std::alloc::Global;
 
 /// A change of any type (Liquibase's documentation, "Change Types").
-#[derive(Debug, Drop)]
+#[derive(Debug)]
 pub enum AnyChange {
     CreateTable(CreateTable),
     DropTable(DropTable),
@@ -52,6 +52,44 @@ pub enum AnyChange {
     Sql(Sql),
     TagDatabase(TagDatabase),
     Empty(Empty),
+}
+
+// Written out, so that crates above call it and need not be proved for each type again.
+impl Drop for AnyChange {
+    fn drop(self) {
+        match self {
+            AnyChange::CreateTable(change) => drop(change),
+            AnyChange::DropTable(change) => drop(change),
+            AnyChange::RenameTable(change) => drop(change),
+            AnyChange::AddColumn(change) => drop(change),
+            AnyChange::DropColumn(change) => drop(change),
+            AnyChange::RenameColumn(change) => drop(change),
+            AnyChange::AddPrimaryKey(change) => drop(change),
+            AnyChange::DropPrimaryKey(change) => drop(change),
+            AnyChange::AddForeignKeyConstraint(change) => drop(change),
+            AnyChange::DropForeignKeyConstraint(change) => drop(change),
+            AnyChange::AddUniqueConstraint(change) => drop(change),
+            AnyChange::DropUniqueConstraint(change) => drop(change),
+            AnyChange::AddNotNullConstraint(change) => drop(change),
+            AnyChange::DropNotNullConstraint(change) => drop(change),
+            AnyChange::AddDefaultValue(change) => drop(change),
+            AnyChange::DropDefaultValue(change) => drop(change),
+            AnyChange::CreateIndex(change) => drop(change),
+            AnyChange::DropIndex(change) => drop(change),
+            AnyChange::CreateView(change) => drop(change),
+            AnyChange::DropView(change) => drop(change),
+            AnyChange::RenameView(change) => drop(change),
+            AnyChange::CreateSequence(change) => drop(change),
+            AnyChange::DropSequence(change) => drop(change),
+            AnyChange::RenameSequence(change) => drop(change),
+            AnyChange::Insert(change) => drop(change),
+            AnyChange::Update(change) => drop(change),
+            AnyChange::Delete(change) => drop(change),
+            AnyChange::Sql(change) => drop(change),
+            AnyChange::TagDatabase(change) => drop(change),
+            AnyChange::Empty(change) => drop(change),
+        }
+    }
 }
 
 impl AnyChange {

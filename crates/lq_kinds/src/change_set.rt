@@ -4,7 +4,7 @@ use lq_cond::Cond;
 use lq_expr::Expr;
 
 /// A changeset, as it is read for one dialect (Liquibase's documentation, "Changeset").
-#[derive(Debug, Drop)]
+#[derive(Debug)]
 pub struct ChangeSet {
     pub identity: Identity,
     /// Whether its `dbms` means the dialect. Otherwise its changes and its rollback are not read.
@@ -32,11 +32,49 @@ pub struct ChangeSet {
     pub sum: Text,
 }
 
+// Written out, so that crates above call it and need not be proved for each type again.
+impl Drop for ChangeSet {
+    fn drop(self) {
+        let ChangeSet {
+            identity: _,
+            here: _,
+            changes: _,
+            rollback: _,
+            context: _,
+            labels: _,
+            context_text: _,
+            labels_text: _,
+            comment: _,
+            run_always: _,
+            run_on_change: _,
+            fail_on_error: _,
+            in_transaction: _,
+            valid_sums: _,
+            cond: _,
+            on_fail: _,
+            on_error: _,
+            sum: _,
+        } = self;
+    }
+}
+
 /// The changesets of a changelog in order, with its own precondition.
-#[derive(Debug, Drop)]
+#[derive(Debug)]
 pub struct Changelog {
     pub cond: Cond,
     pub on_fail: OnFail,
     pub on_error: OnFail,
     pub sets: Items<ChangeSet>,
+}
+
+// Written out, so that crates above call it and need not be proved for each type again.
+impl Drop for Changelog {
+    fn drop(self) {
+        let Changelog {
+            cond: _,
+            on_fail: _,
+            on_error: _,
+            sets: _,
+        } = self;
+    }
 }
