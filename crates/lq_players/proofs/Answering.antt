@@ -1,0 +1,116 @@
+-- What a player's answer makes of its step.
+use Rattle.std.proofs.Common.{ap, subst, sym, ◌∙◌}
+use Rattle.std.specs.Prelude.{Bool, Err, None, Ok, Option, Result, Some, false, refl, true, ℕ, ◌≡◌}
+use Rattle.lq_base.specs.declared.tracking.Lock.{Lock}
+use Rattle.lq_drill.specs.Player.{EndsBy, Moves, Standing}
+use Rattle.lq_drill.specs.Shows.{LetsBe}
+use Rattle.lq_drill.specs.declared.fault.DrillFault.{DrillFault}
+use Rattle.lq_drill.specs.declared.fault.DrillFault.TheVariants as drill
+use Rattle.lq_model.specs.declared.fault.StoreFault.{StoreFault}
+use Rattle.lq_model.specs.declared.fault.StoreFault.TheVariants as fault
+use Rattle.lq_players.specs.Answers.{Answers, failure_of, fault_of, is_disk_fault, is_failure}
+use Rattle.lq_players.specs.Playing.{Took}
+use Rattle.lq_run.specs.Beside.{Beside}
+use Rattle.lq_run.specs.Steps.{is_disk}
+use Rattle.lq_store.specs.State.{State, is_open}
+use Rattle.lq_turns.specs.declared.answer.Answer.{Answer}
+use Rattle.lq_turns.specs.declared.answer.Answer.TheVariants.{Busy, Locked}
+
+not_true : false ≡ true → ⊥
+not_true h = Prim.cc
+
+pub some_none : {A : Type 0} (a : A) → Some a ≡ None → ⊥
+some_none a h = Prim.cc
+
+-- an answer that is none to a fault
+
+failure : (why : DrillFault) → is_failure (failure_of why) ≡ true
+failure drill.Disk = refl
+failure (drill.Full used next) = refl
+failure drill.OutOfMemory = refl
+
+same_answer : {a b : Answer} → (let o : Option Answer = Some a in o) ≡ Some b → a ≡ b
+same_answer h = Prim.cc
+
+pub own_answer : (o : Option Answer) (a : Answer) (why : DrillFault) → o ≡ Some a → is_failure a ≡ false → o ≡ Some (failure_of why) → ⊥
+own_answer o a why its own is = not_true (sym own ∙ ap is_failure (same_answer (sym its ∙ is)) ∙ failure why)
+
+pub no_answer : (o : Option Answer) (why : DrillFault) → o ≡ None → o ≡ Some (failure_of why) → ⊥
+no_answer o why none is = some_none (failure_of why) (sym is ∙ none)
+
+-- a call of a session as a step of its player
+pub lets_be : (session : ℕ) (lost : Bool) (x y : State) → Beside session lost x y → LetsBe session x y
+lets_be session lost x y beside = record { grows = record { more = beside.more; entries = beside.entries }; others = beside.others }
+
+err_ok : {why : DrillFault} → (let r : Result (Unit {0}) DrillFault = Err why in r) ≡ Ok tt → ⊥
+err_ok h = Prim.cc
+
+module _ (session : ℕ) (before after : Standing Answer Locked Busy) (x y : State) (result : Result (Unit {0}) DrillFault) where
+  -- it answers what is none to a fault
+  pub answered : (a : Answer) → Answers (Ok a) before.faulted after.answer after.faulted result → is_failure a ≡ false → y.live ≡ true → after.dialect ≡ before.dialect → (y.live ≡ true → is_open session y.begun ≡ after.opens)
+      → LetsBe session x y → ((lock : Lock) → after.owns lock → before.owns lock) → after.ready → Moves session before after x y → Took session before after x y result
+  answered a its own live dialect opens lets owns ready moves = record {
+    live = λ ok. live;
+    dialect = dialect;
+    ready = ready;
+    opens = opens;
+    lets_be = lets;
+    owns = owns;
+    faulted = λ was. its.1 ∙ was;
+    ends = subst (EndsBy failure_of after) (sym its.2) (λ why is. own_answer after.answer a why its.0 own is);
+    moves = moves;
+  }
+
+  -- or a fault of the store
+  pub failed_so : (why : DrillFault) → Answers (Err why) before.faulted after.answer after.faulted result → after.dialect ≡ before.dialect → (y.live ≡ true → is_open session y.begun ≡ after.opens)
+      → LetsBe session x y → ((lock : Lock) → after.owns lock → before.owns lock) → after.ready → Took session before after x y result
+  failed_so why its dialect opens lets owns ready = record {
+    live = λ ok. absurd (err_ok (sym its.2 ∙ ok));
+    dialect = dialect;
+    ready = ready;
+    opens = opens;
+    lets_be = lets;
+    owns = owns;
+    faulted = λ was. its.1;
+    ends = subst (EndsBy failure_of after) (sym its.2) (its.0, its.1);
+    moves = λ jobs origin at is shows plays clean. absurd (not_true (sym clean ∙ its.1));
+  }
+
+  -- or it goes on
+  pub goes_on : result ≡ Ok tt → after.answer ≡ None → y.live ≡ true → after.dialect ≡ before.dialect → (y.live ≡ true → is_open session y.begun ≡ after.opens)
+      → LetsBe session x y → ((lock : Lock) → after.owns lock → before.owns lock) → after.ready → (before.faulted ≡ true → after.faulted ≡ true) → Moves session before after x y → Took session before after x y result
+  goes_on is none live dialect opens lets owns ready stays moves = record {
+    live = λ ok. live;
+    dialect = dialect;
+    ready = ready;
+    opens = opens;
+    lets_be = lets;
+    owns = owns;
+    faulted = stays;
+    ends = subst (EndsBy failure_of after) (sym is) (λ why it. no_answer after.answer why none it);
+    moves = moves;
+  }
+
+-- faults
+
+fault_disk : (why : StoreFault) → is_disk_fault (fault_of why) ≡ is_disk why
+fault_disk fault.Disk = refl
+fault_disk (fault.Full used next) = refl
+fault_disk fault.OutOfMemory = refl
+fault_disk (fault.Busy n) = refl
+fault_disk fault.NotSql = refl
+fault_disk (fault.Refused reason) = refl
+
+pub the_disk : (why : StoreFault) → fault_of why ≡ drill.Disk → why ≡ fault.Disk
+the_disk fault.Disk is = refl
+the_disk (fault.Full used next) is = Prim.cc
+the_disk fault.OutOfMemory is = Prim.cc
+the_disk (fault.Busy n) is = Prim.cc
+the_disk fault.NotSql is = Prim.cc
+the_disk (fault.Refused reason) is = Prim.cc
+
+pub err_is : {A : Type 0} {why other : DrillFault} → (let r : Result A DrillFault = Err why in r) ≡ Err other → why ≡ other
+err_is h = Prim.cc
+
+pub fault_beside : (session : ℕ) (x y : State) (why : StoreFault) (it : DrillFault) → it ≡ fault_of why → Beside session (is_disk why) x y → Beside session (is_disk_fault it) x y
+fault_beside session x y why it is beside = subst (λ b. Beside session b x y) (sym (ap is_disk_fault is ∙ fault_disk why)) beside

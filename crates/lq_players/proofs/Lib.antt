@@ -1,0 +1,9 @@
+mod Answering
+mod Machines
+mod Erased
+mod Shown
+mod Firsts
+mod Laters
+mod Told
+mod Taking
+mod Apart

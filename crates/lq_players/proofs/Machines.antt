@@ -1,0 +1,161 @@
+-- A runner's step in the machine.
+use Rattle.std.proofs.Common.{ap, arith, inl, inr, subst, sym, ◌∙◌}
+use Rattle.std.proofs.lemmas.Bool.Decides.{nat_tests}
+use Rattle.std.specs.Prelude.{Bool, List, None, Option, Some, [], cond, false, if◌then◌else◌, is_some, nat_eq, refl, true, ℕ, ◌==◌, ◌&&◌, ◌++◌, ◌∷◌, ◌≡◌, ◌≢◌}
+use Rattle.lq_base.specs.declared.dialect.Dialect.{Dialect}
+use Rattle.lq_drill.proofs.Machines.{answered_is}
+use Rattle.lq_drill.specs.Player.{answer_of, held_by}
+use Rattle.lq_drill.specs.Shows.{IsHolders, IsOpenAs}
+use Rattle.lq_players.specs.Checked.{AnswersAtOnce, IsLetIn, Work}
+use Rattle.lq_players.specs.Judged.{AnswersFirst}
+use Rattle.lq_store.specs.State.{Transaction, is_open, other_in}
+use Rattle.lq_track.specs.Database.{Database}
+use Rattle.lq_turns.specs.Schedule.{Holder, Machine, after_call, answers_with, appended, begins, first_step, has_begun, later_step, makes, moved}
+use Rattle.lq_turns.specs.Session.{Session, called, session_on}
+use Rattle.lq_turns.specs.declared.answer.Answer.{Answer}
+use Rattle.lq_turns.specs.declared.answer.Answer.TheVariants.{Busy, Locked}
+use Rattle.lq_turns.specs.declared.call.Call.{Call}
+
+abbrev pub Runs : Type 0
+Runs = Machine Answer Locked Busy
+
+abbrev pub Held : Type 0
+Held = Holder Answer Locked Busy
+
+pub own_number : (n : ℕ) → nat_eq n n ≡ true
+own_number n = grind (arith, nat_tests)
+
+pub its_number : (n : ℕ) → (n == n) ≡ true
+its_number n = grind (arith, nat_tests)
+
+same_number : (a b : ℕ) → nat_eq a b ≡ true → a ≡ b
+same_number a b is = grind (arith, nat_tests, is)
+
+pub own_open : (a b n : ℕ) → a ≡ b → (a == n) ≡ true → nat_eq b n ≡ true
+own_open a b n same is = grind (arith, nat_tests, same, is)
+
+not_true : false ≡ true → ⊥
+not_true h = Prim.cc
+
+some_none : {A : Type 0} (a : A) → Some a ≡ None → ⊥
+some_none a h = Prim.cc
+
+none_some : {A : Type 0} (a : A) → None ≡ Some a → ⊥
+none_some a h = Prim.cc
+
+some_is : {A : Type 0} {a b : A} → Some a ≡ Some b → a ≡ b
+some_is h = Prim.cc
+
+-- the runner's own holder is the machine's
+pub holder_is : (n : ℕ) (o : Option Held) (h : Held) → held_by n o ≡ Some h → (o ≡ Some h) × (h.runner ≡ n)
+holder_is n None h is = absurd (none_some h is)
+holder_is n (Some k) h is = by (nat_eq k.runner n) refl is where
+  by : (b : Bool) → nat_eq k.runner n ≡ b → (if b then Some k else None) ≡ Some h → (Some k ≡ Some h) × (h.runner ≡ n)
+  by true its is = (is, subst (λ (j : Held). j.runner ≡ n) (some_is is) (same_number k.runner n its))
+  by false its is = absurd (none_some h is)
+
+-- after a call that was not the last
+pub held_after : (n : ℕ) (s : Session) (calls : List Call) (a : Answer) (y : Runs) → calls ≢ []
+    → after_call Answer Locked Busy n s calls a y ≡ record y { committed = s.committed; holder = Some (record { runner = n; session = s; rest = calls; answer = a }); begun = n ∷ y.begun }
+held_after n s [] a y some = absurd (some refl)
+held_after n s (call ∷ calls) a y some = refl
+
+module _ (d : Dialect) (jobs : ℕ → Work) (n : ℕ) (x : Runs) where
+  abbrev pub told : Answer → Runs
+  told a = answers_with Answer Locked Busy n a x
+
+  pub is_first : answer_of n x.answers ≡ None → has_begun Answer Locked Busy n x ≡ false → moved Answer Locked Busy d jobs n x ≡ first_step Answer Locked Busy d jobs n x
+  is_first none fresh =
+      ap (λ b. if b then x else if has_begun Answer Locked Busy n x then later_step Answer Locked Busy d jobs n x else first_step Answer Locked Busy d jobs n x) (answered_is Answer Locked Busy n x.answers ∙ ap is_some none)
+      ∙ ap (λ b. if b then later_step Answer Locked Busy d jobs n x else first_step Answer Locked Busy d jobs n x) fresh
+
+  pub is_later : answer_of n x.answers ≡ None → has_begun Answer Locked Busy n x ≡ true → moved Answer Locked Busy d jobs n x ≡ later_step Answer Locked Busy d jobs n x
+  is_later none begun =
+      ap (λ b. if b then x else if has_begun Answer Locked Busy n x then later_step Answer Locked Busy d jobs n x else first_step Answer Locked Busy d jobs n x) (answered_is Answer Locked Busy n x.answers ∙ ap is_some none)
+      ∙ ap (λ b. if b then later_step Answer Locked Busy d jobs n x else first_step Answer Locked Busy d jobs n x) begun
+
+  -- the first step
+
+  abbrev began : Runs
+  began = begins Answer Locked Busy d jobs n ((jobs n).refuses x.committed) x
+
+  abbrev goes : Option Held → Runs
+  goes o = elim o as (λ _. Runs) [ None ↦ began | Some h ↦ if h.session.is_open then told (Busy h.runner) else began ]
+
+  abbrev by_other : Option ℕ → Runs
+  by_other None = began
+  by_other (Some k) = told (Busy k)
+
+  -- by what the store shows of the holder
+  by_holder : (o : Option Held) (t : Option Transaction) → is_open n t ≡ false → IsHolders d x.committed o t → goes o ≡ by_other (other_in n t)
+  by_holder None t shut is = sym (ap (λ s. by_other (other_in n s)) is)
+  by_holder (Some h) None shut is = ap (λ b. if b then told (Busy h.runner) else began) is.1.0
+  by_holder (Some h) (Some t) shut is = ap (λ b. if b then told (Busy h.runner) else began) is.1.0 ∙ ap (λ k. told (Busy k)) (sym is.1.1) ∙ ap (λ b. by_other (cond b None (Some t.session))) (sym shut)
+
+  module _ (t : Option Transaction) (shut : is_open n t ≡ false) (holders : IsHolders d x.committed x.holder t) where
+    first_out : ((jobs n).needs_lock && x.committed.lock.locked) ≡ true → first_step Answer Locked Busy d jobs n x ≡ told (Locked x.committed.lock)
+    first_out is = ap (λ b. if b then told (Locked x.committed.lock) else goes x.holder) is
+
+    first_in : IsLetIn (jobs n) x.committed → first_step Answer Locked Busy d jobs n x ≡ by_other (other_in n t)
+    first_in is = ap (λ b. if b then told (Locked x.committed.lock) else goes x.holder) is ∙ by_holder x.holder t shut holders
+
+    begins_told : (a : Answer) → AnswersAtOnce (jobs n) a x.committed → began ≡ told a
+    begins_told a (inl refuses) = ap (λ o. begins Answer Locked Busy d jobs n o x) refuses
+    begins_told a (inr none) =
+        ap (λ o. begins Answer Locked Busy d jobs n o x) none.passes ∙ ap (λ calls. makes Answer Locked Busy d jobs n (session_on x.committed) calls ((jobs n).answer x.committed) x) none.script_is
+        ∙ ap (λ b. told b) none.answer_is
+
+    -- an answer at once
+    pub first_told : (a : Answer) → AnswersFirst ((jobs n).needs_lock && x.committed.lock.locked) (other_in n t) (jobs n) a x.committed → first_step Answer Locked Busy d jobs n x ≡ told a
+    first_told a it = by ((jobs n).needs_lock && x.committed.lock.locked) refl (other_in n t) refl it where
+      by : (b : Bool) → ((jobs n).needs_lock && x.committed.lock.locked) ≡ b → (o : Option ℕ) → other_in n t ≡ o → AnswersFirst b o (jobs n) a x.committed → first_step Answer Locked Busy d jobs n x ≡ told a
+      by true is o other it = first_out is ∙ ap (λ b. told b) (sym it)
+      by false is (Some k) other it = first_in is ∙ ap by_other other ∙ ap (λ b. told b) (sym it)
+      by false is None other it = first_in is ∙ ap by_other other ∙ begins_told a it
+
+    -- or a first call
+    pub first_calls : (call : Call) (rest : List Call) (a : Answer) → IsLetIn (jobs n) x.committed → other_in n t ≡ None → (jobs n).refuses x.committed ≡ None → (jobs n).script x.committed ≡ call ∷ rest → (jobs n).answer x.committed ≡ a
+        → first_step Answer Locked Busy d jobs n x ≡ after_call Answer Locked Busy n (called d call (session_on x.committed)) rest a (record x { entries = x.entries ++ appended d call (session_on x.committed) })
+    first_calls call rest a is other passes script_is answer_is =
+        first_in is ∙ ap by_other other ∙ ap (λ o. begins Answer Locked Busy d jobs n o x) passes ∙ ap (λ calls. makes Answer Locked Busy d jobs n (session_on x.committed) calls ((jobs n).answer x.committed) x) script_is
+        ∙ ap (λ b. makes Answer Locked Busy d jobs n (session_on x.committed) (call ∷ rest) b x) answer_is
+
+  -- a later step
+
+  abbrev goes_later : Option Held → Runs
+  goes_later o = elim o as (λ _. Runs) [ None ↦ told (Locked x.committed.lock) | Some h ↦ if nat_eq h.runner n then makes Answer Locked Busy d jobs n h.session h.rest h.answer x else told (Locked x.committed.lock) ]
+
+  lost_by : (o : Option Held) → held_by n o ≡ None → goes_later o ≡ told (Locked x.committed.lock)
+  lost_by None none = refl
+  lost_by (Some h) none = by (nat_eq h.runner n) none where
+    by : (b : Bool) → (if b then Some h else None) ≡ None → (if b then makes Answer Locked Busy d jobs n h.session h.rest h.answer x else told (Locked x.committed.lock)) ≡ told (Locked x.committed.lock)
+    by true none = absurd (some_none h none)
+    by false none = refl
+
+  pub later_lost : held_by n x.holder ≡ None → later_step Answer Locked Busy d jobs n x ≡ told (Locked x.committed.lock)
+  later_lost none = lost_by x.holder none
+
+  makes_by : (o : Option Held) (h : Held) → held_by n o ≡ Some h → goes_later o ≡ makes Answer Locked Busy d jobs n h.session h.rest h.answer x
+  makes_by None h is = absurd (none_some h is)
+  makes_by (Some k) h is = by (nat_eq k.runner n) is where
+    by : (b : Bool) → (if b then Some k else None) ≡ Some h → (if b then makes Answer Locked Busy d jobs n k.session k.rest k.answer x else told (Locked x.committed.lock)) ≡ makes Answer Locked Busy d jobs n h.session h.rest h.answer x
+    by true is = ap (λ (j : Held). makes Answer Locked Busy d jobs n j.session j.rest j.answer x) (some_is is)
+    by false is = absurd (none_some h is)
+
+  pub later_makes : (h : Held) (call : Call) (rest : List Call) → held_by n x.holder ≡ Some h → h.rest ≡ call ∷ rest
+      → later_step Answer Locked Busy d jobs n x ≡ after_call Answer Locked Busy n (called d call h.session) rest h.answer (record x { entries = x.entries ++ appended d call h.session })
+  later_makes h call rest is next = makes_by x.holder h is ∙ ap (λ calls. makes Answer Locked Busy d jobs n h.session calls h.answer x) next
+
+-- who has a transaction open
+
+pub not_other : (d : Dialect) (n k : ℕ) (s : Session) (t : Option Transaction) → IsOpenAs d n s t → other_in n t ≡ Some k → ⊥
+not_other d n k s None is other = none_some k other
+not_other d n k s (Some t) is other = none_some k (sym (ap (λ b. cond b None (Some t.session)) (own_it t.session is.1)) ∙ other) where
+  own_it : (a : ℕ) → a ≡ n → (a == n) ≡ true
+  own_it a same = grind (arith, nat_tests, same)
+
+-- where it is not the holder it has none open
+pub not_open : (d : Dialect) (n : ℕ) (committed : Database) (o : Option Held) (t : Option Transaction) → held_by n o ≡ None → IsHolders d committed o t → is_open n t ≡ true → ⊥
+not_open d n committed None t none is opened = not_true (sym (ap (is_open n) is) ∙ opened)
+not_open d n committed (Some h) None none is opened = not_true opened
+not_open d n committed (Some h) (Some t) none is opened = some_none h (sym (ap (λ b. if b then Some h else None) (own_open t.session h.runner n is.1.1 opened)) ∙ none)

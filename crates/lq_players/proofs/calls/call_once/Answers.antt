@@ -1,0 +1,25 @@
+use Rattle.std.proofs.Common.{ap, rules, sym, ◌∙◌}
+use Rattle.std.specs.Prelude.{Err, ◌≡◌}
+use Rattle.lq_players.proofs.Answering.{err_is, fault_beside, the_disk}
+use Rattle.lq_players.proofs.Told.{once_done}
+use Rattle.lq_players.proofs.calls.call_once.Goals as goal
+
+pub returns-in-Ok-clause-calls : goal.returns-in-Ok-clause-calls
+returns-in-Ok-clause-calls g c =
+    let same : c.as_slice.result.now ≡ c.args.call.deeds = search rules in
+    once_done c.args.dialect c.args.session c.args.call (g.S.Store.state c.args.store.now) (g.S.Store.state c.do_alone.new.store) c.as_slice.result.now c.in-Ok.field-0 same c.in-Ok.ensures.does
+
+pub returns-in-Ok-clause-beside : goal.returns-in-Ok-clause-beside
+returns-in-Ok-clause-beside g c = c.in-Ok.ensures.beside
+
+pub returns-in-Ok-clause-later : goal.returns-in-Ok-clause-later
+returns-in-Ok-clause-later g c = c.in-Ok.ensures.faults.later
+
+pub returns-clause-beside : goal.returns-clause-beside
+returns-clause-beside g c = fault_beside c.args.session (g.S.Store.state c.args.store.now) (g.S.Store.state c.do_alone.new.store) c.in-Err.fault c.fault_of.result c.fault_of.ensures c.in-Err.ensures.beside
+
+pub returns-clause-later : goal.returns-clause-later
+returns-clause-later g c = c.in-Err.ensures.faults.later
+
+pub returns-clause-rose : goal.returns-clause-rose
+returns-clause-rose g c = λ is. c.in-Err.ensures.faults.rose (ap (λ w. Err w) (the_disk c.in-Err.fault (sym c.fault_of.ensures ∙ err_is is)))

@@ -1,0 +1,11 @@
+use Rattle.lq_players.proofs.Taking.{answers_disk, hindered_disk, took_hindered}
+use Rattle.lq_players.proofs.playing.Playing.go_on.Goals as goal
+
+pub make_call-requires-clause-free : goal.make_call-requires-clause-free
+make_call-requires-clause-free g c = c.in-None.ensures
+
+pub returns-in-Some-clause-took : goal.returns-in-Some-clause-took
+returns-in-Some-clause-took g c = took_hindered g.T.Source.meaning g.T.Source.left g.T.Source.way g.T.Source.reads g.T.Checks.job g.T.Checks.ends c.args.self.now c.args.session (g.S.Store.state c.args.store.now) c.requires.going c.requires.begun c.requires.opens c.requires.live c.finish.new.self c.finish.result c.in-Some.answer c.finish.ensures.runner c.finish.ensures.begun c.finish.ensures.answers c.in-Some.ensures
+
+pub returns-in-Some-clause-rose : goal.returns-in-Some-clause-rose
+returns-in-Some-clause-rose g c = λ is. absurd (hindered_disk g.T.Source.meaning g.T.Source.left g.T.Source.way g.T.Source.reads g.T.Checks.job g.T.Checks.ends c.args.self.now c.args.session (g.S.Store.state c.args.store.now) c.requires.going c.requires.begun c.requires.opens c.requires.live c.in-Some.answer c.in-Some.ensures (answers_disk c.in-Some.answer c.args.self.now.faulted c.finish.new.self.faulted c.finish.new.self.answer c.finish.result c.finish.ensures.answers is))

@@ -1,0 +1,80 @@
+-- What a player answers, and what its faults of the store come to.
+use Rattle.std.specs.Prelude.{Bool, Err, None, Ok, Option, Result, Some, false, true, ◌≡◌}
+use Rattle.lq_drill.specs.declared.fault.DrillFault.{DrillFault}
+use Rattle.lq_drill.specs.declared.fault.DrillFault.TheVariants as drill
+use Rattle.lq_model.specs.declared.fault.StoreFault.{StoreFault}
+use Rattle.lq_model.specs.declared.fault.StoreFault.TheVariants as fault
+use Rattle.lq_run.specs.declared.runner.End.{End}
+use Rattle.lq_run.specs.declared.runner.End.TheVariants as end
+use Rattle.lq_turns.specs.declared.answer.Answer.{Answer}
+use Rattle.lq_turns.specs.declared.answer.Answer.TheVariants as answer
+use Rattle.lq_turns.specs.declared.stop.Refusal.{Refusal}
+
+abbrev pub failure_of : DrillFault → Answer
+failure_of drill.Disk = answer.Disk
+failure_of (drill.Full used next) = answer.Full used next
+failure_of drill.OutOfMemory = answer.OutOfMemory
+
+-- an answer to a fault of the store
+abbrev pub is_failure : Answer → Bool
+is_failure answer.Done = false
+is_failure (answer.Locked lock) = false
+is_failure (answer.Invalid faults) = false
+is_failure (answer.Halted identity why) = false
+is_failure (answer.Refused identity statement kept reason) = false
+is_failure answer.NoTarget = false
+is_failure (answer.NotReversible of) = false
+is_failure answer.Disk = true
+is_failure (answer.Full used next) = true
+is_failure (answer.Busy session) = false
+is_failure answer.OutOfMemory = true
+
+abbrev pub fault_of : StoreFault → DrillFault
+fault_of fault.Disk = drill.Disk
+fault_of (fault.Full used next) = drill.Full used next
+fault_of fault.OutOfMemory = drill.OutOfMemory
+fault_of (fault.Busy n) = drill.OutOfMemory
+fault_of fault.NotSql = drill.OutOfMemory
+fault_of (fault.Refused reason) = drill.OutOfMemory
+
+-- a command ended by a fault of the store
+abbrev pub is_failed_end : End → Bool
+is_failed_end end.Done = false
+is_failed_end (end.Refused refusal) = false
+is_failed_end (end.Locked lock) = false
+is_failed_end end.Disk = true
+is_failed_end (end.Full used next) = true
+is_failed_end end.OutOfMemory = true
+
+-- or it had the lock to its end
+abbrev pub is_told_end : End → Bool
+is_told_end end.Done = true
+is_told_end (end.Refused refusal) = true
+is_told_end (end.Locked lock) = false
+is_told_end end.Disk = false
+is_told_end (end.Full used next) = false
+is_told_end end.OutOfMemory = false
+
+-- the refusal that stopped it, if one did
+abbrev pub refusal_in : End → Option Refusal
+refusal_in end.Done = None
+refusal_in (end.Refused refusal) = Some refusal
+refusal_in (end.Locked lock) = None
+refusal_in end.Disk = None
+refusal_in (end.Full used next) = None
+refusal_in end.OutOfMemory = None
+
+-- the player answers, and a fault of the store is kept in mind
+abbrev pub Answers : Result Answer DrillFault → Bool → Option Answer → Bool → Result (Unit {0}) DrillFault → Type 0
+Answers (Ok a) was answers now result = (answers ≡ Some a) × (now ≡ was) × (result ≡ Ok tt)
+Answers (Err why) was answers now result = (answers ≡ Some (failure_of why)) × (now ≡ true) × (result ≡ Err why)
+
+-- the disk failed
+abbrev pub is_disk_fault : DrillFault → Bool
+is_disk_fault drill.Disk = true
+is_disk_fault (drill.Full used next) = false
+is_disk_fault drill.OutOfMemory = false
+
+abbrev pub is_disk_answer : {A : Type 0} → Result A DrillFault → Bool
+is_disk_answer (Ok a) = false
+is_disk_answer (Err why) = is_disk_fault why
