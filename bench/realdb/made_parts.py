@@ -111,6 +111,8 @@ class Parts(Tables):
         new = [] if columns else [Column(self.name("c"), column.kind) for column in wanted]
         key = ForeignKey(self.name("fk"), columns or tuple(it.name for it in new), parent.name, key.columns,
                          self.chance(0.5))
+        if any((it.columns, it.parent) == (key.columns, key.parent) for it in child.foreign):
+            return None
         if columns and not all(has_parent(row, key, parent.rows) for row in child.rows):
             return None
         made = self.put_columns(child, new) if new else []
@@ -185,8 +187,9 @@ class Parts(Tables):
         return Step([made], undo, False)
 
     def drop_view(self) -> Optional[Step]:
-        """Drops a view."""
-        view = self.pick(self.schema.views.values())
+        """Drops a view, but not one of all columns whose table has got more since: made anew it would have those too."""
+        view = self.pick(it for it in self.schema.views.values() if "*" not in it.query.split(" FROM ")[0]
+                         or it.needs >= set(self.schema.tables[it.table].names()))
         if not view:
             return None
         del self.schema.views[view.name]
