@@ -5,4 +5,16 @@ pub mod Judged
 pub mod Hindered
 pub mod Under
 pub mod Playing
-pub mod AnyPlayer
+pub mod Tasks
+pub mod Waiting
+pub mod InTables
+pub mod AtEnd
+pub mod RowChecks
+pub mod RowOrder
+pub mod AtOnce
+pub mod Syncing
+pub mod RollingBack
+pub mod UpdateChecks
+pub mod Updating
+pub mod AnyCommand
+pub mod Drilling

@@ -1,14 +1,30 @@
 //! Commands that take their steps beside others, over one database.
 #![tactic(auto)]
 
-mod any_player;
+mod any_command;
+mod at_end;
+mod at_once;
 mod calls;
 mod checks;
+mod drilling;
+mod hands;
 mod hindrance;
+mod in_tables;
 mod laws;
 mod playing;
+mod rolling_back;
+mod row_checks;
+mod row_order;
+mod syncing;
+mod update_checks;
+mod updating;
 
-pub use any_player::AnyPlayer;
+pub use any_command::AnyCommand;
+pub use at_once::{AtOnce, OneStep};
 pub use checks::{Checks, OneCall, Verdict};
+pub use drilling::drill_commands;
 pub use laws::names_are_apart;
 pub use playing::Playing;
+pub use rolling_back::RollingBack;
+pub use syncing::Syncing;
+pub use updating::Updating;

@@ -40,6 +40,7 @@ impl<T: Checks + Drop> Playing<T> {
         ensures new { (n : ℕ) → IsNew n (stands T.meaning T.left T.way T.reads T.job T.ends result) }
         ensures ready { (stands T.meaning T.left T.way T.reads T.job T.ends result).ready }
         ensures dialect { (stands T.meaning T.left T.way T.reads T.job T.ends result).dialect ≡ dialect }
+        ensures stamp { result.runner.stamp ≡ stamp }
         ensures job { (stands T.meaning T.left T.way T.reads T.job T.ends result).job ≡ T.job command dialect stamp }
     {
         Playing {

@@ -14,3 +14,6 @@ returns-clause-dialect g c = c.new.ensures.command.0
 pub returns-clause-job : goal.returns-clause-job
 returns-clause-job g c =
     ap (λ s. g.T.Checks.job s c.new.result.dialect c.new.result.stamp) c.new.ensures.source ∙ ap (λ d. g.T.Checks.job c.args.command d c.new.result.stamp) c.new.ensures.command.0 ∙ ap (λ t. g.T.Checks.job c.args.command c.args.dialect t) c.new.ensures.command.1
+
+pub returns-clause-stamp : goal.returns-clause-stamp
+returns-clause-stamp g c = c.new.ensures.command.1

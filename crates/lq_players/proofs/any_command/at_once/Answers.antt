@@ -1,0 +1,10 @@
+use Rattle.std.proofs.Common.{subst}
+use Rattle.lq_run.specs.Holds.{IsHeld}
+use Rattle.lq_players.proofs.any_command.at_once.Goals as goal
+
+pub returns : goal.returns
+returns c = record {
+  unstarted = record { new = c.new.ensures.new; ready = c.new.ensures.ready; dialect = c.new.ensures.dialect };
+  job = c.new.ensures.job;
+  owns = λ lock held. subst (λ stamp. IsHeld stamp lock) c.new.ensures.stamp held;
+}

@@ -1,0 +1,4 @@
+use Rattle.lq_players.proofs.at_once.AtOnceSource.refused.Goals as goal
+
+pub returns-clause-gives_up : goal.returns-clause-gives_up
+returns-clause-gives_up c = λ d stamp told. record { goes_on = λ refusal z h. tt; stops = λ refusal z h. tt }

@@ -1,0 +1,234 @@
+ghost use Rattle.std.specs.List.{All};
+ghost use Rattle.std.specs.Option.{option_copied};
+ghost use Rattle.std.specs.Prelude.{◌≡◌, ◌≤◌, Err, IsTrue, None};
+ghost use Rattle.lq_base.specs.declared.command.Command.TheVariants as command;
+ghost use Rattle.lq_base.specs.declared.tracking.Lock.{Lock};
+ghost use Rattle.lq_beside.specs.Fitting.{HasTexts};
+ghost use Rattle.lq_changelog.specs.ShortTexts.{HasShortTexts};
+ghost use Rattle.lq_players.specs.AnyCommand.{IsUnstarted, Starts, command_stands};
+ghost use Rattle.lq_players.specs.AtOnce.{HasShortTag, command_of};
+ghost use Rattle.lq_players.specs.Tasks.{task_for, work_of};
+ghost use Rattle.lq_drill.specs.declared.fault.DrillFault.TheVariants as drill;
+ghost use Rattle.lq_kinds.specs.Dialects.{AreFor};
+ghost use Rattle.lq_outside.specs.Count.{Rose};
+ghost use Rattle.lq_players.specs.Playing.{Took};
+ghost use Rattle.lq_run.specs.Holds.{IsHeld};
+ghost use Rattle.lq_seen.specs.View.{view_log};
+ghost use Rattle.lq_store.specs.State.{is_open};
+
+use crate::at_once::{AtOnce, OneStep};
+use crate::playing::Playing;
+use crate::rolling_back::RollingBack;
+use crate::syncing::Syncing;
+use crate::updating::Updating;
+use lq_base::{Command, Dialect, Target};
+use lq_drill::{DrillFault, Player};
+use lq_expr::Options;
+use lq_kinds::Changelog;
+use lq_model::SqlText;
+use lq_store::Store;
+use lq_turns::{Answer, Stamp};
+use std::alloc::Global;
+
+/// A command of any kind, as a player.
+#[derive(Drop)]
+pub enum AnyCommand {
+    /// It ends with its first step.
+    AtOnce(Playing<AtOnce>),
+    Update(Playing<Updating>),
+    Rollback(Playing<RollingBack>),
+    Sync(Playing<Syncing>),
+}
+
+impl AnyCommand {
+    /// A command that has made no step, for statements of this dialect. Its lock carries the stamp. The
+    /// changelog was loaded for the dialect of the options; a tag has at most 255 characters.
+    pub fn new(
+        alloc: Global,
+        dialect: Dialect,
+        stamp: Stamp,
+        command: Command,
+        changelog: Changelog,
+        options: Options,
+    ) -> AnyCommand
+        requires moment { stamp.reading ≤ 253402300799999 }
+        requires options { options.dialect ≡ dialect }
+        requires read { AreFor options.dialect changelog }
+        requires short { All HasShortTexts changelog.sets }
+        requires tag { HasShortTag command }
+        ensures unstarted { IsUnstarted dialect result }
+        ensures job { (command_stands result).job ≡ work_of dialect (task_for command options changelog stamp) }
+        ensures owns { (lock : Lock) → (command_stands result).owns lock → IsHeld stamp lock }
+    {
+        start(alloc, dialect, stamp, command, changelog, options)
+    }
+
+    /// What it has answered, if it has.
+    pub fn answer(&self) -> Option<&Answer>
+        ensures { option_copied result ≡ (command_stands self.now).answer }
+    {
+        match self {
+            AnyCommand::AtOnce(player) => player.answer.as_ref(),
+            AnyCommand::Update(player) => player.answer.as_ref(),
+            AnyCommand::Rollback(player) => player.answer.as_ref(),
+            AnyCommand::Sync(player) => player.answer.as_ref(),
+        }
+    }
+
+    fn play<S: Store, P: SqlText>(
+        &mut self,
+        session: u32,
+        store: &mut S,
+        sql: &P,
+    ) -> Result<(), DrillFault>
+        requires valid { S.valid store.old }
+        requires live { IsTrue (S.state store.old).live }
+        requires sql { P.dialect ≡ (command_stands self.old).dialect }
+        requires ready { (command_stands self.old).ready }
+        requires opens { is_open session (S.state store.old).begun ≡ (command_stands self.old).opens }
+        requires going { (command_stands self.old).answer ≡ None }
+        ensures valid { S.valid store.new }
+        ensures took { Took session (command_stands self.old) (command_stands self.new) (S.state store.old) (S.state store.new) result }
+        ensures later { S.faults store.old ≤ S.faults store.new }
+        ensures rose { result ≡ Err drill.Disk → Rose (S.faults store.old) (S.faults store.new) }
+    {
+        match self {
+            AnyCommand::AtOnce(player) => player.step(session, store, sql),
+            AnyCommand::Update(player) => player.step(session, store, sql),
+            AnyCommand::Rollback(player) => player.step(session, store, sql),
+            AnyCommand::Sync(player) => player.step(session, store, sql),
+        }
+    }
+}
+
+fn start(
+    alloc: Global,
+    dialect: Dialect,
+    stamp: Stamp,
+    command: Command,
+    changelog: Changelog,
+    options: Options,
+) -> AnyCommand
+    requires moment { stamp.reading ≤ 253402300799999 }
+    requires options { options.dialect ≡ dialect }
+    requires read { AreFor options.dialect changelog }
+    requires short { All HasShortTexts changelog.sets }
+    requires tag { HasShortTag command }
+    ensures { Starts dialect (task_for command options changelog stamp) result }
+{
+    match command {
+        Command::Validate => at_once(alloc, dialect, stamp, OneStep::Validate, changelog, options),
+        Command::Status => at_once(alloc, dialect, stamp, OneStep::Status, changelog, options),
+        Command::Tag(tag) => at_once(alloc, dialect, stamp, OneStep::Tag(tag), changelog, options),
+        Command::Release => at_once(alloc, dialect, stamp, OneStep::Release, changelog, options),
+        Command::Update => update(alloc, dialect, stamp, changelog, options),
+        Command::Rollback(target) => rollback(alloc, dialect, stamp, target, changelog, options),
+        Command::Sync => sync(alloc, dialect, stamp, changelog, options),
+    }
+}
+
+fn at_once(
+    alloc: Global,
+    dialect: Dialect,
+    stamp: Stamp,
+    command: OneStep,
+    changelog: Changelog,
+    options: Options,
+) -> AnyCommand
+    requires moment { stamp.reading ≤ 253402300799999 }
+    requires tag { HasShortTag (command_of command) }
+    ensures { Starts dialect (task_for (command_of command) options changelog stamp) result }
+{
+    let once = AtOnce {
+        command,
+        changelog,
+        options,
+    };
+    AnyCommand::AtOnce(Playing::new(alloc, dialect, stamp, once))
+}
+
+fn update(
+    alloc: Global,
+    dialect: Dialect,
+    stamp: Stamp,
+    changelog: Changelog,
+    options: Options,
+) -> AnyCommand
+    requires moment { stamp.reading ≤ 253402300799999 }
+    requires options { options.dialect ≡ dialect }
+    requires read { AreFor options.dialect changelog }
+    requires texts { All HasTexts (view_log options changelog).sets }
+    ensures { Starts dialect (task_for command.Update options changelog stamp) result }
+{
+    let updating = Updating::new(alloc, changelog, options);
+    AnyCommand::Update(Playing::new(alloc, dialect, stamp, updating))
+}
+
+fn rollback(
+    alloc: Global,
+    dialect: Dialect,
+    stamp: Stamp,
+    target: Target,
+    changelog: Changelog,
+    options: Options,
+) -> AnyCommand
+    requires moment { stamp.reading ≤ 253402300799999 }
+    requires options { options.dialect ≡ dialect }
+    requires read { AreFor options.dialect changelog }
+    ensures { Starts dialect (task_for (command.Rollback target) options changelog stamp) result }
+{
+    let rolling = RollingBack::new(alloc, changelog, options, target);
+    AnyCommand::Rollback(Playing::new(alloc, dialect, stamp, rolling))
+}
+
+fn sync(
+    alloc: Global,
+    dialect: Dialect,
+    stamp: Stamp,
+    changelog: Changelog,
+    options: Options,
+) -> AnyCommand
+    requires moment { stamp.reading ≤ 253402300799999 }
+    requires texts { All HasTexts (view_log options changelog).sets }
+    ensures { Starts dialect (task_for command.Sync options changelog stamp) result }
+{
+    let syncing = Syncing::new(alloc, changelog, options);
+    AnyCommand::Sync(Playing::new(alloc, dialect, stamp, syncing))
+}
+
+impl Player for AnyCommand {
+    ghost use Rattle.lq_changelog.specs.ShortTexts.{HasShortTexts};
+    ghost use Rattle.lq_players.specs.AnyCommand.{command_locked, command_stands};
+    ghost use Rattle.lq_players.specs.Answers.{failure_of};
+    ghost use Rattle.lq_turns.specs.declared.answer.Answer.TheVariants.{Busy, Locked};
+
+    type Answer = Answer;
+
+    ghost locked = { Locked };
+
+    ghost busy = { Busy };
+
+    ghost failed = { failure_of };
+
+    ghost standing = { command_stands };
+
+    ghost held = { command_locked };
+
+    fn has_answered(&self) -> bool {
+        match self {
+            AnyCommand::AtOnce(player) => player.has_answered(),
+            AnyCommand::Update(player) => player.has_answered(),
+            AnyCommand::Rollback(player) => player.has_answered(),
+            AnyCommand::Sync(player) => player.has_answered(),
+        }
+    }
+
+    fn step<S: Store, P: SqlText>(
+        &mut self,
+        session: u32,
+        store: &mut S,
+        sql: &P,
+    ) -> Result<(), DrillFault> {
+        self.play(session, store, sql)
+    }
+}
