@@ -1,0 +1,74 @@
+ghost use Rattle.std.specs.List.{All};
+ghost use Rattle.std.specs.Prelude.{◌≡◌, ◌≤◌};
+ghost use Rattle.lq_players.specs.AnyCommand.{IsUnstarted};
+
+use crate::given::{ALL, CLASH, FIRST, changelog, options};
+use crate::lines::command;
+use lq_base::{Dialect, Text};
+use lq_model::SqlText;
+use lq_players::AnyCommand;
+use lq_turns::Stamp;
+use std::alloc::Global;
+use std::process::Abort;
+
+// Who runs the command of a place, and when.
+fn stamp(rt: &impl Abort, alloc: Global, place: usize) -> Stamp
+    ensures { result.reading ≤ 253402300799999 }
+{
+    let (who, reading) = match place {
+        0 => ("ann", 1000),
+        1 => ("bob", 2000),
+        2 => ("cat", 3000),
+        _ => ("dan", 4000),
+    };
+    Stamp {
+        who: Text::new(alloc, who).expect(rt, "memory"),
+        reading,
+    }
+}
+
+fn json_of(line: &str) -> &'static str {
+    match line {
+        "update first" => FIRST,
+        "update clash" => CLASH,
+        _ => ALL,
+    }
+}
+
+fn player<P: SqlText>(
+    rt: &impl Abort,
+    alloc: Global,
+    dialect: Dialect,
+    sql: &P,
+    place: usize,
+    line: &str,
+) -> AnyCommand
+    requires { P.dialect ≡ dialect }
+    ensures { IsUnstarted P.dialect result }
+{
+    let changelog = changelog(rt, alloc, dialect, sql, json_of(line));
+    let stamp = stamp(rt, alloc, place);
+    let command = command(rt, alloc, line);
+    let options = options(alloc, dialect);
+    AnyCommand::new(alloc, dialect, stamp, command, changelog, options)
+}
+
+/// The commands of lines with `/` between, as `update/tag v1`. The changelog of `update first` is the
+/// first changeset alone, and that of `update clash` has a statement that is refused.
+pub fn players<P: SqlText>(
+    rt: &impl Abort,
+    alloc: Global,
+    dialect: Dialect,
+    sql: &P,
+    lines: &str,
+) -> Vec<AnyCommand>
+    requires { P.dialect ≡ dialect }
+    ensures { All (IsUnstarted P.dialect) result.items }
+{
+    let mut players = Vec::new(alloc);
+    for line in lines.split('/') {
+        let player = player(rt, alloc, dialect, sql, players.len(), line);
+        players.push(player).expect(rt, "memory");
+    }
+    players
+}
