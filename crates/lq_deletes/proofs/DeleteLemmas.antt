@@ -17,7 +17,7 @@ use Rattle.lq_decide.specs.Judged.{judged}
 use Rattle.lq_model.proofs.Decide.{here, none_from_unless}
 use Rattle.lq_model.proofs.DropKeeps.{any_filtered}
 use Rattle.lq_model.proofs.Kept.{lookup_other, never}
-use Rattle.lq_model.proofs.Lists.{and_no_right, any_less, any_less_both, or_false, or_left, or_right}
+use Rattle.lq_model.proofs.Lists.{any_less, any_less_both, or_false, or_left, or_right}
 use Rattle.lq_model.proofs.Maps.{any_local, at_lookup}
 use Rattle.lq_model.specs.Catalogue.{Catalogue, Table, no_table, table_of, the_table, with_table}
 use Rattle.lq_model.specs.Delete.{delete, deleted, is_lost, row_count, without_taken}
@@ -102,10 +102,6 @@ module _ (t : Name) (test : Option Test) (c : Catalogue) (sound : IsLinked c) (t
         at : (a b : Bool) {k : Bool} → (a && b) ≡ false → (b ≡ false → k ≡ false) → (a && k) ≡ false
         at true b asked less = less asked
         at false b asked less = refl
-
-  -- a key that does not aim at the table does not cascade from it
-  pub uncascaded : is_aimed_at t c ≡ false → cascades_at t c ≡ false
-  uncascaded apart = any_less (λ (e : Name × Table). list_any (λ f. f.cascade && is_named t f.table) e.1.foreign) (λ e. list_any (λ f. is_named t f.table) e.1.foreign) c.tables (λ e h. any_less (λ f. f.cascade && is_named t f.table) (λ f. is_named t f.table) e.1.foreign (λ f other. and_no_right f.cascade _ other) h) apart
 
 first_three : (a b g : Bool) (nulls twins orphans children full : Bool) (x : Catalogue × ℕ) (r : Reason)
     → (let all : Result Unit Reason = unless ((a, reason.Reserved) ∷ (b, reason.Missing) ∷ (false, reason.Exists) ∷ (false, reason.Depends) ∷ (g, reason.WrongKind) ∷ (false, reason.TooWide) ∷ (false, reason.NullFound) ∷ (false, reason.Duplicate) ∷ (false, reason.NoParent) ∷ (false, reason.HasChildren) ∷ (false, reason.TooManyRows) ∷ []) tt in all) ≡ Err r

@@ -11,4 +11,5 @@ pub mod OrphanLemmas
 pub mod PlaceLemmas
 pub mod Rounds
 pub mod Staying
+pub mod TargetLemmas
 pub mod Thinned

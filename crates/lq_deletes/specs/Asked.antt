@@ -1,11 +1,12 @@
 -- What DELETE is tested for on a sound catalogue.
 use Rattle.std.specs.List.{list_any}
-use Rattle.std.specs.Prelude.{Bool, Option, [], false, is_none, ◌&&◌, ◌||◌, ◌∷◌}
+use Rattle.std.specs.Prelude.{Bool, Option, [], false, is_none, is_some, not, ◌&&◌, ◌||◌, ◌∷◌}
 use Rattle.lq_arm.specs.declared.tests.Tests.{Tests}
 use Rattle.lq_base.specs.Name.{is_named}
 use Rattle.lq_base.specs.declared.name.Name.{Name}
-use Rattle.lq_model.specs.Catalogue.{Catalogue, table_of, the_table}
+use Rattle.lq_model.specs.Catalogue.{Catalogue, Table, table_of, the_table}
 use Rattle.lq_model.specs.Comparison.{compares_wrongly}
+use Rattle.lq_model.specs.Names.{is_empty}
 use Rattle.lq_model.specs.Reserved.{is_reserved}
 use Rattle.lq_model.specs.TableNames.{column_missing}
 use Rattle.lq_model.specs.Truth.{names_in}
@@ -24,6 +25,10 @@ stated_tests by t test c =
       missing = is_none (table_of c t) || column_missing it (names_in test);
       wrong = compares_wrongly it.columns test;
     }
+
+-- a foreign key may aim at the table: it has a key or a unique constraint
+abbrev pub has_targets : Table → Bool
+has_targets it = is_some it.key || not (is_empty it.uniques)
 
 -- a foreign key aims at the table
 abbrev pub is_aimed_at : Name → Catalogue → Bool

@@ -9,9 +9,9 @@ ghost use Rattle.lq_model.specs.Plan.{decide};
 ghost use Rattle.lq_model.specs.Sound.{IsSound};
 ghost use Rattle.lq_model.specs.Truth.{takes};
 ghost use Rattle.lq_parts.specs.Steps.{tables_of};
-ghost use Rattle.lq_model.specs.ResultTests.{has_orphans};
+ghost use Rattle.lq_model.specs.ResultTests.{has_orphans, is_loose};
 ghost use Rattle.lq_rows.specs.Answers.{Carries, Continues};
-ghost use Rattle.lq_deletes.specs.Asked.{stated_tests};
+ghost use Rattle.lq_deletes.specs.Asked.{cascades_at, has_targets, is_aimed_at, stated_tests};
 ghost use Rattle.lq_deletes.specs.Stay.{IsLinked};
 
 use crate::cascade::cascade;
@@ -98,14 +98,31 @@ fn take(parts: &mut Parts, alloc: Global, table: &Name, test: &Option<Test>) -> 
     parts.keep(alloc, table, marks)
 }
 
+/// Whether a foreign key may aim at the table: it has a key or a unique constraint.
+fn is_target(held: &Held) -> bool
+    ensures { result ≡ has_targets held.now.now }
+{
+    held.key().is_some() || !held.uniques().is_empty()
+}
+
+/// The same of the table of the name; nothing may aim where there is none.
+fn has_targets(parts: &Parts, table: &Name) -> bool
+    ensures { result ≡ has_targets (the_table parts.now.now table.now) }
+{
+    match parts.table(table) {
+        Some(held) => is_target(held),
+        None => false,
+    }
+}
+
 fn aim_at(table: &Name, keys: &[ForeignKey]) -> bool
     ensures { result ≡ list_any (λ f. is_named table.now f.table) keys.now }
 {
     keys.iter().any(|key| *table == key.table)
 }
 
-/// Whether a foreign key aims at the table.
-fn is_aimed_at(entries: &[(Name, Held)], table: &Name) -> bool
+/// Whether a foreign key of one of these tables aims at the table.
+fn one_aims(entries: &[(Name, Held)], table: &Name) -> bool
     ensures { result ≡ list_any (λ e. list_any (λ f. is_named table.now f.table) e.1.foreign) (tables_of entries.now) }
 {
     for entry in entries {
@@ -116,14 +133,25 @@ fn is_aimed_at(entries: &[(Name, Held)], table: &Name) -> bool
     false
 }
 
+/// Whether a foreign key aims at the table. No other table is looked at where none may.
+fn is_aimed_at(parts: &Parts, table: &Name) -> bool
+    requires { is_loose parts.now.now ≡ false }
+    ensures { result ≡ is_aimed_at table.now parts.now.now }
+{
+    if !has_targets(parts, table) {
+        return false;
+    }
+    one_aims(parts.tables(), table)
+}
+
 fn cascade_at(table: &Name, keys: &[ForeignKey]) -> bool
     ensures { result ≡ list_any (λ f. f.cascade && is_named table.now f.table) keys.now }
 {
     keys.iter().any(|key| key.cascade & (*table == key.table))
 }
 
-/// Whether a foreign key that cascades aims at the table.
-fn cascades_at(entries: &[(Name, Held)], table: &Name) -> bool
+/// Whether a foreign key of one of these tables aims at the table and cascades.
+fn one_cascades(entries: &[(Name, Held)], table: &Name) -> bool
     ensures { result ≡ list_any (λ e. list_any (λ f. f.cascade && is_named table.now f.table) e.1.foreign) (tables_of entries.now) }
 {
     for entry in entries {
@@ -132,6 +160,17 @@ fn cascades_at(entries: &[(Name, Held)], table: &Name) -> bool
         }
     }
     false
+}
+
+/// Whether a foreign key that cascades aims at the table. No other table is looked at where none may.
+fn cascades_at(parts: &Parts, table: &Name) -> bool
+    requires { is_loose parts.now.now ≡ false }
+    ensures { result ≡ cascades_at table.now parts.now.now }
+{
+    if !has_targets(parts, table) {
+        return false;
+    }
+    one_cascades(parts.tables(), table)
 }
 
 /// Takes the rows out that the test takes, and those that go with them. At a fault some may be gone.
@@ -147,7 +186,7 @@ fn remove(
     ensures ok { OnOk result (parts.new.now ≡ spec.deleted table.now test.now parts.old.now) }
     ensures goes { Continues parts.old parts.new }
 {
-    if cascades_at(parts.tables(), table) {
+    if cascades_at(parts, table) {
         cascade(parts, alloc, table, test)?;
         return Ok(());
     }
@@ -187,7 +226,7 @@ pub fn delete_from(
         Err(fault) => return Err(fault),
     }
     let before = len_of(parts, table);
-    let is_aimed = is_aimed_at(parts.tables(), table);
+    let is_aimed = is_aimed_at(parts, table);
     remove(parts, alloc, table, test)?;
     if leaves_orphans(alloc, parts, is_aimed)? {
         return Err(RunFault::Refused(Reason::HasChildren));

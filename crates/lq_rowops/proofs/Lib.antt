@@ -2,4 +2,5 @@ mod EditLemmas
 mod InsertDecides
 mod InsertSteps
 mod OrphanLemmas
+mod TargetLemmas
 mod UpdateLemmas

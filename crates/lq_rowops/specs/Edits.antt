@@ -9,6 +9,7 @@ use Rattle.lq_decide.specs.Faults.{are_twins, meets, names_set}
 use Rattle.lq_model.specs.Catalogue.{Catalogue, Table}
 use Rattle.lq_model.specs.Literals.{is_wide, is_wrong, value_in}
 use Rattle.lq_model.specs.ResultTests.{lacks_parent}
+use Rattle.lq_model.specs.TableNames.{target_lists}
 use Rattle.lq_model.specs.Truth.{takes}
 use Rattle.lq_model.specs.Update.{set_all, set_value_of}
 use Rattle.lq_model.specs.declared.column.Column.{Column}
@@ -28,6 +29,10 @@ edit sets test cs row = cond (takes test cs row) (Some (set_all sets cs row)) No
 abbrev pub is_some_such : (List Value → Bool) → Option (List Value) → Bool
 is_some_such p None = false
 is_some_such p (Some row) = p row
+
+-- a column that is set stands in what a foreign key may target
+abbrev pub sets_target : List (Name × Literal) → Table → Bool
+sets_target sets it = list_any (meets (names_set sets)) (target_lists it)
 
 -- a foreign key aims at a column of the table that is set
 abbrev pub aims : Name → List (Name × Literal) → ForeignKey → Bool

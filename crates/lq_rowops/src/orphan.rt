@@ -1,16 +1,18 @@
 ghost use Rattle.std.specs.List.{list_any};
-ghost use Rattle.std.specs.Prelude.{◌≡◌, IfOk};
-ghost use Rattle.lq_decide.specs.Faults.{set_child};
+ghost use Rattle.std.specs.Option.{option_copied};
+ghost use Rattle.std.specs.Prelude.{◌≡◌, IfOk, false, map};
+ghost use Rattle.lq_decide.specs.Faults.{meets, names_set, set_child};
 ghost use Rattle.lq_model.specs.Catalogue.{the_table};
-ghost use Rattle.lq_model.specs.ResultTests.{lacks_parent};
+ghost use Rattle.lq_model.specs.ResultTests.{is_loose, lacks_parent};
+ghost use Rattle.lq_model.specs.TableNames.{key_list};
 ghost use Rattle.lq_parts.specs.Steps.{tables_of};
 ghost use Rattle.lq_rows.specs.Stored.{ShowsRows};
-ghost use Rattle.lq_rowops.specs.Edits.{aims, loses};
+ghost use Rattle.lq_rowops.specs.Edits.{aims, loses, sets_target};
 
 use crate::setting::meets;
 use lq_base::{Literal, Name, NoMemory};
 use lq_chain::Chain;
-use lq_model::{Column, ForeignKey};
+use lq_model::{Column, ForeignKey, Key, Unique};
 use lq_parts::Parts;
 use lq_rows::{Held, Row, Values, lacks_one, see};
 use std::alloc::Global;
@@ -101,8 +103,8 @@ fn child_lost(
     loses_one(alloc, parts, table, sets, held, held.foreign_keys())
 }
 
-/// Whether a row of one of the other tables has lost its parent.
-pub fn children_lost(
+/// Whether a row of one of these tables, of another than the one that is set, has lost its parent.
+fn one_lost(
     alloc: Global,
     parts: &Parts,
     table: &Name,
@@ -117,4 +119,59 @@ pub fn children_lost(
         }
     }
     Ok(false)
+}
+
+/// Whether a column that is set stands in the key.
+fn sets_key(sets: &[(Name, Literal)], key: Option<&Key>) -> bool
+    ensures { result ≡ list_any (meets (names_set sets.now)) (map (λ k. k.columns) (key_list (option_copied key.entry))) }
+{
+    match key {
+        None => false,
+        Some(key) => meets(sets, key.columns.as_slice()),
+    }
+}
+
+/// Whether a column that is set stands in one of the unique constraints.
+fn sets_unique(sets: &[(Name, Literal)], uniques: &[Unique]) -> bool
+    ensures { result ≡ list_any (meets (names_set sets.now)) (map (λ u. u.columns) uniques.now) }
+{
+    match uniques {
+        [] => false,
+        [first, rest @ ..] => meets(sets, first.columns.as_slice()) || sets_unique(sets, rest),
+    }
+}
+
+/// Whether a column that is set stands in what a foreign key may target.
+#[tactic(auto, using(crate::proofs::TargetLemmas::any_two))]
+fn sets_target_of(sets: &[(Name, Literal)], held: &Held) -> bool
+    ensures { result ≡ sets_target sets.now held.now.now }
+{
+    sets_key(sets, held.key()) || sets_unique(sets, held.uniques())
+}
+
+/// The same of the table of the name; nothing may be targeted where there is none.
+fn sets_target(parts: &Parts, table: &Name, sets: &[(Name, Literal)]) -> bool
+    ensures { result ≡ sets_target sets.now (the_table parts.now.now table.now) }
+{
+    match parts.table(table) {
+        Some(held) => sets_target_of(sets, held),
+        None => false,
+    }
+}
+
+/// Whether a row of another table has lost its parent. No table is looked at where nothing is set
+/// that a foreign key may target.
+pub fn children_lost(
+    alloc: Global,
+    parts: &Parts,
+    table: &Name,
+    sets: &[(Name, Literal)],
+) -> Result<bool, NoMemory>
+    requires { is_loose parts.now.now ≡ false }
+    ensures { IfOk result (λ found. found ≡ list_any (set_child table.now sets.now parts.now.now parts.now.now) parts.now.now.tables) }
+{
+    if !sets_target(parts, table, sets) {
+        return Ok(false);
+    }
+    one_lost(alloc, parts, table, sets, parts.tables())
 }

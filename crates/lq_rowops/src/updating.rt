@@ -1,7 +1,8 @@
 ghost use Rattle.std.specs.List.{list_any};
-ghost use Rattle.std.specs.Prelude.{◌≡◌, IfOk, map};
+ghost use Rattle.std.specs.Prelude.{◌≡◌, IfOk, false, map};
 ghost use Rattle.lq_model.specs.Catalogue.{the_table};
 ghost use Rattle.lq_model.specs.Plan.{decide};
+ghost use Rattle.lq_model.specs.ResultTests.{is_loose};
 ghost use Rattle.lq_model.specs.Sound.{IsSound};
 ghost use Rattle.lq_model.specs.Update as spec;
 ghost use Rattle.lq_rows.specs.Answers.{Carries};
@@ -119,9 +120,10 @@ fn tested(
     nulls: bool,
     is_stray: bool,
 ) -> Result<Tests, NoMemory>
+    requires { is_loose parts.now.now ≡ false }
     ensures { IfOk result (λ tests. tests ≡ result_tests table.now sets.now nulls is_stray (the_table parts.now.now table.now) parts.now.now) }
 {
-    let children = children_lost(alloc, parts, table, sets, parts.tables())?;
+    let children = children_lost(alloc, parts, table, sets)?;
     let (twins, orphans) = match parts.table(table) {
         Some(held) => (
             has_twins(alloc, sets, held)?,

@@ -5,7 +5,8 @@ use Rattle.lq_arm.specs.Verdict.{verdict_of}
 use Rattle.lq_model.specs.Catalogue.{the_table}
 use Rattle.lq_model.specs.ResultTests.{has_orphans}
 use Rattle.lq_deletes.specs.Asked.{is_aimed_at}
-use Rattle.lq_deletes.proofs.DeleteLemmas.{delete_done, delete_refused, linked, none_goes, plain, stated_refused, there, uncascaded}
+use Rattle.lq_deletes.proofs.DeleteLemmas.{delete_done, delete_refused, linked, none_goes, plain, stated_refused, there}
+use Rattle.lq_deletes.proofs.TargetLemmas.{uncascaded}
 use Rattle.lq_deletes.proofs.deleting.delete_from.Goals as goal
 
 pub returns-in-Err : goal.returns-in-Err
@@ -27,10 +28,10 @@ leaves_orphans-requires c =
     let test = c.args.test.now in
     let sound = linked c.args.dialect db c.requires in
     let here = there c.args.by c.args.dialect t test db c.requires c.stated-tests.result c.stated-tests.ensures (good (verdict_of c.stated-tests.result) c.verdict.result c.verdict.ensures c.in-Ok.is) in
-    let aimed : c.is_aimed_at-is_aimed.result ≡ is_aimed_at t db = rw (← c.tables.ensures) c.is_aimed_at-is_aimed.ensures in
+    let aimed : c.is_aimed_at-is_aimed.result ≡ is_aimed_at t db = c.is_aimed_at-is_aimed.ensures in
     OnFalse_from c.is_aimed_at-is_aimed.result (has_orphans c.remove.new.parts.now ≡ false) (λ none.
     let apart = sym aimed ∙ none in
-    ap has_orphans (c.in_ok-remove.ensures.ok ∙ none_goes t test db sound here (uncascaded t test db sound here apart)) ∙ plain t test db sound here apart)
+    ap has_orphans (c.in_ok-remove.ensures.ok ∙ none_goes t test db sound here (uncascaded t db apart)) ∙ plain t test db sound here apart)
 
 pub returns-then-branch : goal.returns-then-branch
 returns-then-branch c =
@@ -48,3 +49,6 @@ returns c =
     let count : c.saturating_sub.result ≡ length (the_table db t).rows - length (the_table e.now t).rows =
     c.saturating_sub.ensures ∙ ap (λ n. n - c.len_of.result) before ∙ ap (λ n. length (the_table db t).rows - n) after in
     delete_done c.args.by c.args.dialect t c.args.test.now db c.requires c.args.parts.now e c.stated-tests.result c.stated-tests.ensures passed c.in_ok-remove.ensures.ok c.remove.ensures.goes c.saturating_sub.result (sym c.if-branch.false ∙ c.in_ok-leaves_orphans.ensures) count
+
+pub is_aimed_at-is_aimed-requires : goal.is_aimed_at-is_aimed-requires
+is_aimed_at-is_aimed-requires c = c.requires.aimed

@@ -4,7 +4,7 @@ use Rattle.lq_base.specs.Name.{is_named}
 use Rattle.lq_base.specs.declared.name.Name.{Name}
 use Rattle.lq_model.specs.Catalogue.{Table}
 use Rattle.lq_parts.specs.Steps.{tables_of}
-use Rattle.lq_deletes.proofs.deleting.cascades_at.Given as goal
+use Rattle.lq_deletes.proofs.deleting.one_cascades.Given as goal
 
 abbrev pub invariant-loop-entry : goal.invariant-loop-entry
 invariant-loop-entry l =

@@ -2,7 +2,7 @@ use Rattle.std.proofs.Common.{drop, ◌≡◌}
 use Rattle.std.specs.List.{list_any}
 use Rattle.lq_decide.specs.Faults.{set_child}
 use Rattle.lq_parts.specs.Steps.{tables_of}
-use Rattle.lq_rowops.proofs.orphan.children_lost.Given as goal
+use Rattle.lq_rowops.proofs.orphan.one_lost.Given as goal
 
 abbrev pub invariant-loop-entry : goal.invariant-loop-entry
 invariant-loop-entry l =
