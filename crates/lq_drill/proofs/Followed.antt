@@ -1,12 +1,11 @@
 -- The steps that were taken follow the machine.
 use Rattle.std.proofs.Common.{ap, arith, subst, sym, ◌∙◌}
-use Rattle.std.proofs.lemmas.Bool.Decides.{nat_tests}
 use Rattle.std.proofs.lemmas.List.{append-nil, append_assoc}
 use Rattle.std.specs.Option.{option_map}
-use Rattle.std.specs.Prelude.{Bool, List, None, Option, Some, [], false, is_some, nat_eq, refl, slice_get, slice_set, suc, true, ℕ, ◌+◌, ◌++◌, ◌∷◌, ◌≡◌}
+use Rattle.std.specs.Prelude.{Bool, List, None, Option, Some, [], false, is_some, refl, slice_get, slice_set, suc, true, ℕ, ◌+◌, ◌++◌, ◌∷◌, ◌≡◌}
 use Rattle.lq_base.specs.declared.tracking.Lock.{Lock}
 use Rattle.lq_drill.proofs.Machines.{answer_found, moved_last, stays}
-use Rattle.lq_drill.proofs.Players.{each_set, got_set, never_both, numbers_apart, other_way, plays_other, still_there}
+use Rattle.lq_drill.proofs.Players.{each_set, faulted_set, got_set, never_both, numbers_apart, other_way, plays_other}
 use Rattle.lq_drill.specs.Drill.{AreApart, Begins, ComesTo, Each, Follows, HasFaulted, IsDrilled, IsDrilledUntil, IsFaultless, IsNew, IsSerialDrill, KeepsAnswer, PlaysIn, after, shut}
 use Rattle.lq_drill.specs.Player.{Arrives, Moves, Standing}
 use Rattle.lq_drill.specs.Shows.{Grows, Shows, entries_of}
@@ -52,11 +51,14 @@ module _ (Answer : Type 0) (locked : Lock → Answer) (busy : ℕ → Answer) {X
     is = sym (append-nil ns);
     comes_to = both;
     answers = answers_kept (at ns) ps both.1;
+    dialect = both.0.dialect;
+    limit = both.0.limit;
     more = [];
     entries = both.0.entries ∙ ap (λ l. option_map (λ e. e ++ l) origin.entries) (sym (append-nil (entries_of origin.dialect (at ns).entries)));
   }
 
-  module _ (ns : List ℕ) (n : ℕ) (front : List ℕ) (r : ℕ) (rest : List ℕ) (is : ns ≡ front ++ r ∷ rest) (ps : List X) (y : State) (faulted : HasFaulted standing ps r) (answers : Each standing (KeepsAnswer (at front)) ps) where
+  module _ (ns : List ℕ) (n : ℕ) (front : List ℕ) (r : ℕ) (rest : List ℕ) (is : ns ≡ front ++ r ∷ rest) (ps : List X) (y : State) (faulted : HasFaulted standing ps r) (answers : Each standing (KeepsAnswer (at front)) ps)
+      (dialect : y.dialect ≡ origin.dialect) (limit : y.limit ≡ origin.limit) where
     -- or there was a fault
     faulted_on : (more : List Entry) → y.entries ≡ option_map (λ e. e ++ (entries_of origin.dialect (at front).entries ++ more)) origin.entries → Followed (ns ++ n ∷ []) ps y
     faulted_on more entries = record {
@@ -65,6 +67,8 @@ module _ (Answer : Type 0) (locked : Lock → Answer) (busy : ℕ → Answer) {X
       is = ap (λ l. l ++ n ∷ []) is ∙ append_assoc front (r ∷ rest) (n ∷ []);
       comes_to = faulted;
       answers = answers;
+      dialect = dialect;
+      limit = limit;
       more = more;
       entries = entries;
     }
@@ -102,7 +106,7 @@ module _ (Answer : Type 0) (locked : Lock → Answer) (busy : ℕ → Answer) {X
         let here : ns ≡ front = is ∙ append-nil front in
         let same : at (ns ++ suc k ∷ []) ≡ at front = next ns (suc k) ∙ ap (λ l. moved Answer locked busy origin.dialect jobs (suc k) (at l)) here ∙ stays Answer locked busy origin.dialect jobs (suc k) (at front) (ap is_some (both.1 k p there).answer ∙ gone) in
         whole (ns ++ suc k ∷ []) ps y (subst (λ x. Both x ps y) (sym same) both)
-    by front (r ∷ rest) is faulted answers more entries = faulted_on ns (suc k) front r rest is ps y faulted answers more entries
+    by front (r ∷ rest) is faulted answers more entries = faulted_on ns (suc k) front r rest is ps y faulted answers f.dialect f.limit more entries
 
   module _ (ns : List ℕ) (ps : List X) (w z : State) (k : ℕ) (old new : X) (there : slice_get ps k ≡ Some old) (none : (standing old).answer ≡ None) (dialect : origin.dialect ≡ (standing old).dialect)
       (moves : Moves (suc k) (standing old) (standing new) w z) (grows : Grows w z) (apart : AreApart standing ps) (owns : (lock : Lock) → (standing new).owns lock → (standing old).owns lock)
@@ -139,25 +143,11 @@ module _ (Answer : Type 0) (locked : Lock → Answer) (busy : ℕ → Answer) {X
       is = ap (λ l. l ++ suc k ∷ []) (is ∙ append-nil front);
       comes_to = record { place = k; player = new; there = got_set ps k old new there; number = refl; faulted = faulted };
       answers = keeps_answers (at front) (answers_kept (at front) ps both.1);
+      dialect = grows.dialect ∙ both.0.dialect;
+      limit = grows.limit ∙ both.0.limit;
       more = grows.more;
       entries = grown (entries_of origin.dialect (at front).entries) both.0.entries;
     }
-
-    -- a player that met a fault stays so
-    faulted_still : (r : ℕ) → HasFaulted standing ps r → HasFaulted standing others r
-    faulted_still r f = by (nat_eq k f.place) refl where
-      by : (b : Bool) → nat_eq k f.place ≡ b → HasFaulted standing others r
-      by true same =
-          let here : k ≡ f.place = grind (arith, nat_tests, same) in
-          let one : Some old ≡ Some f.player = sym there ∙ ap (slice_get ps) here ∙ f.there in
-          let it : old ≡ f.player = cc in record {
-            place = k;
-            player = new;
-            there = got_set ps k old new there;
-            number = f.number ∙ ap (λ j. suc j) (sym here);
-            faulted = stays_so (subst (λ (q : X). (standing q).faulted ≡ true) (sym it) f.faulted);
-          }
-      by false differ = record { place = f.place; player = f.player; there = still_there ps k new f.place f.player differ f.there; number = f.number; faulted = f.faulted }
 
     pub stepped : Followed ns ps w → Followed (ns ++ suc k ∷ []) others z
     stepped f = by f.front f.rest f.is f.comes_to f.answers f.more f.entries where
@@ -168,7 +158,7 @@ module _ (Answer : Type 0) (locked : Lock → Answer) (busy : ℕ → Answer) {X
       by : (front rest : List ℕ) → ns ≡ front ++ rest → ComesTo standing jobs origin database front rest ps w → Each standing (KeepsAnswer (at front)) ps → (more : List Entry) → w.entries ≡ option_map (λ e. e ++ (entries_of origin.dialect (at front).entries ++ more)) origin.entries
           → Followed (ns ++ suc k ∷ []) others z
       by front [] is both answers more entries = cases front is both (standing new).faulted refl
-      by front (r ∷ rest) is faulted answers more entries = faulted_on ns (suc k) front r rest is others z (faulted_still r faulted) (keeps_answers (at front) answers) (more ++ grows.more)
+      by front (r ∷ rest) is faulted answers more entries = faulted_on ns (suc k) front r rest is others z (faulted_set Answer locked busy standing ps k old new there stays_so r faulted) (keeps_answers (at front) answers) (grows.dialect ∙ f.dialect) (grows.limit ∙ f.limit) (more ++ grows.more)
           (grown (entries_of origin.dialect (at front).entries ++ more) entries ∙ ap (λ l. option_map (λ e. e ++ l) origin.entries) (append_assoc (entries_of origin.dialect (at front).entries) more grows.more))
 
   -- after a fault the other steps are left out
@@ -183,6 +173,8 @@ module _ (Answer : Type 0) (locked : Lock → Answer) (busy : ℕ → Answer) {X
       is = ap (λ l. l ++ left) is ∙ append_assoc front (r ∷ rest) left;
       comes_to = its;
       answers = answers;
+      dialect = f.dialect;
+      limit = f.limit;
       more = more;
       entries = entries;
     }
@@ -209,12 +201,12 @@ module _ (Answer : Type 0) (locked : Lock → Answer) (busy : ℕ → Answer) {X
     })
     by front (r ∷ rest) at_front faulted = never_both (standing faulted.player).faulted faulted.faulted (clean faulted.place faulted.player faulted.there)
 
-  pub faulted_end : (ns : List ℕ) (ps : List X) (y z : State) (n : ℕ) → HasFaulted standing ps n → Followed ns ps y → z.entries ≡ y.entries → IsDrilledUntil standing jobs origin database ns ps z
-  faulted_end ns ps y z n faulted f same = by f.front f.rest f.is f.comes_to f.answers f.more f.entries where
+  pub faulted_end : (ns : List ℕ) (ps : List X) (y z : State) (n : ℕ) → HasFaulted standing ps n → Followed ns ps y → z.dialect ≡ y.dialect → z.limit ≡ y.limit → z.entries ≡ y.entries → IsDrilledUntil standing jobs origin database ns ps z
+  faulted_end ns ps y z n faulted f dialect limit same = by f.front f.rest f.is f.comes_to f.answers f.more f.entries where
     by : (front rest : List ℕ) → ns ≡ front ++ rest → ComesTo standing jobs origin database front rest ps y → Each standing (KeepsAnswer (at front)) ps → (more : List Entry) → y.entries ≡ option_map (λ e. e ++ (entries_of origin.dialect (at front).entries ++ more)) origin.entries
         → IsDrilledUntil standing jobs origin database ns ps z
     by front [] is both answers more entries = never_both (standing faulted.player).faulted faulted.faulted (both.1 faulted.place faulted.player faulted.there).faultless
-    by front (r ∷ rest) is its answers more entries = record { front = front; next = r; rest = rest; is = is; faulted = its; answers = answers; more = more; entries = same ∙ entries }
+    by front (r ∷ rest) is its answers more entries = record { front = front; next = r; rest = rest; is = is; faulted = its; answers = answers; dialect = dialect ∙ f.dialect; limit = limit ∙ f.limit; more = more; entries = same ∙ entries }
 
   -- a schedule without an early call is serial
   pub serial_end : (ns : List ℕ) (ps : List X) (z : State) → SchedulesAreSerial Answer → IsDrilled standing jobs origin database ns ps z → none_early Answer locked busy origin.dialect jobs ns (start Answer locked busy database) ≡ true → IsSerialDrill standing jobs origin database ns ps z

@@ -1,6 +1,8 @@
+pub mod Crashed
 mod Ending
 mod Followed
 pub mod Machines
 mod Moved
 mod Players
 mod Steps
+mod Stopped

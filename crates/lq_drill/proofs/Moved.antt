@@ -5,12 +5,15 @@ use Rattle.std.proofs.lemmas.Option.{slice_get_read}
 use Rattle.std.specs.Prelude.{Err, List, None, Ok, Option, Result, Some, [], false, get_or, is_some, length, refl, slice_get, slice_set, suc, true, ℕ, ◌++◌, ◌-◌, ◌∷◌, ◌≡◌, ◌≤◌}
 use Rattle.lq_base.specs.declared.dialect.Dialect.{Dialect}
 use Rattle.lq_base.specs.declared.tracking.Lock.{Lock}
+use Rattle.lq_drill.proofs.Crashed.{leave_none}
 use Rattle.lq_drill.proofs.Followed.{stepped, stood}
-use Rattle.lq_drill.proofs.Players.{apart_set, each_set, got_set, numbers_apart, set_again}
-use Rattle.lq_drill.specs.Drill.{AreApart, Each, EndsAs, Follows, HasNotFailed, IsReady}
-use Rattle.lq_drill.specs.Player.{EndsBy, Moves, Standing}
+use Rattle.lq_drill.proofs.Players.{apart_set, each_set, faulted_set, got_set, numbers_apart, set_again}
+use Rattle.lq_drill.proofs.Stopped.{step_leaves}
+use Rattle.lq_drill.specs.Drill.{AreApart, Each, EndsAs, Follows, HasFaulted, HasNotFailed, IsReady, LeftInDrill}
+use Rattle.lq_drill.specs.Player.{EndsBy, HasMet, Moves, MovesSafely, Standing}
 use Rattle.lq_drill.specs.Shows.{LetsBe}
 use Rattle.lq_drill.specs.declared.fault.DrillFault.{DrillFault}
+use Rattle.lq_store.specs.Crashes.{Crashes, CrashesLeave, Keeps}
 use Rattle.lq_store.specs.State.{State, is_open}
 use Rattle.lq_track.specs.Database.{Database}
 use Rattle.lq_turns.specs.Schedule.{Job}
@@ -44,6 +47,9 @@ module _ (Answer : Type 0) (locked : Lock → Answer) (busy : ℕ → Answer) {X
       subst (λ l. Follows standing jobs origin database (ns ++ n ∷ []) l y) (sym put_back)
       (subst (λ j. Follows standing jobs origin database (ns ++ j ∷ []) ps y) (sym number) (stood Answer locked busy standing jobs origin database ns ps y (n - 1) old there gone f))
 
+  pub stands_still : (jobs : ℕ → Job Answer locked busy) (origin : State) (database : Database) (ns : List ℕ) (a : Crashes) → CrashesLeave origin.entries (LeftInDrill standing jobs origin database (ns ++ n ∷ []) (slice_set ps (n - 1) old)) a a
+  stands_still jobs origin database ns a = leave_none origin.entries (LeftInDrill standing jobs origin database (ns ++ n ∷ []) (slice_set ps (n - 1) old)) a
+
   module _ (new : X) where
     abbrev others : List X
     others = slice_set ps (n - 1) new
@@ -61,6 +67,18 @@ module _ (Answer : Type 0) (locked : Lock → Answer) (busy : ℕ → Answer) {X
 
     pub still_apart : ((lock : Lock) → (standing new).owns lock → (standing old).owns lock) → AreApart standing ps → AreApart standing others
     still_apart owns apart = apart_set Answer locked busy standing ps (n - 1) old new there owns apart
+
+    pub still_met : (failed : DrillFault → Answer) → Each standing (HasMet failed) ps → HasMet failed n (standing new) → Each standing (HasMet failed) others
+    still_met failed all its = each_set Answer locked busy standing (HasMet failed) (HasMet failed) ps (n - 1) new all (λ place p differ here it. it) its
+
+    pub still_faulted : ((standing old).faulted ≡ true → (standing new).faulted ≡ true) → (m : ℕ) → HasFaulted standing ps m → HasFaulted standing others m
+    still_faulted stays m faulted = faulted_set Answer locked busy standing ps (n - 1) old new there stays m faulted
+
+    pub leaves_step : (jobs : ℕ → Job Answer locked busy) (origin : State) (database : Database) (ns : List ℕ) (w : State) (a b : Crashes) → origin.dialect ≡ (standing old).dialect → MovesSafely n (standing old) (standing new) w a b → CrashesLeave w.entries Keeps a b
+        → ((standing old).faulted ≡ true → (standing new).faulted ≡ true) → Follows standing jobs origin database ns ps w → CrashesLeave origin.entries (LeftInDrill standing jobs origin database (ns ++ n ∷ []) others) a b
+    leaves_step jobs origin database ns w a b dialect crash keeps stays f =
+        subst (λ j. CrashesLeave origin.entries (LeftInDrill standing jobs origin database (ns ++ j ∷ []) others) a b) (sym number)
+        (step_leaves Answer locked busy standing jobs origin database ns ps w (n - 1) old new there dialect a b (subst (λ j. MovesSafely j (standing old) (standing new) w a b) number crash) keeps stays f)
 
     pub takes_step : (jobs : ℕ → Job Answer locked busy) (origin : State) (database : Database) (ns : List ℕ) (w z : State) → (standing old).answer ≡ None → origin.dialect ≡ (standing old).dialect → Moves n (standing old) (standing new) w z → LetsBe n w z
         → AreApart standing ps → ((lock : Lock) → (standing new).owns lock → (standing old).owns lock) → ((standing old).faulted ≡ true → (standing new).faulted ≡ true) → ((player : X) (lock : Lock) → (standing player).owns lock → lock.locked ≡ true)

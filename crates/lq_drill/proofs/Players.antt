@@ -5,7 +5,7 @@ use Rattle.std.specs.Prelude.{Bool, List, None, Option, Some, [], false, nat_eq,
 use Rattle.lq_base.specs.declared.dialect.Dialect.{Dialect}
 use Rattle.lq_base.specs.declared.tracking.Lock.{Lock}
 use Rattle.lq_drill.proofs.Machines.{Keeps, other_moved}
-use Rattle.lq_drill.specs.Drill.{AreApart, Each}
+use Rattle.lq_drill.specs.Drill.{AreApart, Each, HasFaulted}
 use Rattle.lq_drill.specs.Player.{GoesOn, LeavesLock, Plays, Standing, held_by}
 use Rattle.lq_turns.specs.Schedule.{Holder, Job, Machine, moved}
 
@@ -71,6 +71,22 @@ module _ (Answer : Type 0) (locked : Lock → Answer) (busy : ℕ → Answer) {X
   ] where
     itself : (n : ℕ) → nat_eq n n ≡ true
     itself n = grind (arith, nat_tests)
+
+  -- a player that met a fault stays so
+  pub faulted_set : (ps : List X) (k : ℕ) (old new : X) → slice_get ps k ≡ Some old → ((standing old).faulted ≡ true → (standing new).faulted ≡ true) → (n : ℕ) → HasFaulted standing ps n → HasFaulted standing (slice_set ps k new) n
+  faulted_set ps k old new there stays_so n f = by (nat_eq k f.place) refl where
+    by : (b : Bool) → nat_eq k f.place ≡ b → HasFaulted standing (slice_set ps k new) n
+    by true same =
+        let here : k ≡ f.place = grind (arith, nat_tests, same) in
+        let one : Some old ≡ Some f.player = sym there ∙ ap (slice_get ps) here ∙ f.there in
+        let it : old ≡ f.player = cc in record {
+          place = k;
+          player = new;
+          there = got_set ps k old new there;
+          number = f.number ∙ ap (λ j. suc j) (sym here);
+          faulted = stays_so (subst (λ (q : X). (standing q).faulted ≡ true) (sym it) f.faulted);
+        }
+    by false differ = record { place = f.place; player = f.player; there = still_there ps k new f.place f.player differ f.there; number = f.number; faulted = f.faulted }
 
 -- another's step
 

@@ -1,10 +1,10 @@
 -- Players take the steps of a schedule over one store.
 use Rattle.std.specs.Option.{option_map}
-use Rattle.std.specs.Prelude.{Err, List, None, Ok, Result, Some, [], false, nat_eq, slice_get, suc, true, ℕ, ◌++◌, ◌∷◌, ◌≡◌}
+use Rattle.std.specs.Prelude.{Err, List, None, Ok, Result, Some, [], false, nat_eq, slice_get, suc, true, ℕ, ◌++◌, ◌∷◌, ◌≡◌, ◌⊎◌}
 use Rattle.lq_base.specs.declared.dialect.Dialect.{Dialect}
 use Rattle.lq_base.specs.declared.tracking.Lock.{Lock}
 use Rattle.lq_drill.specs.Player.{Plays, Standing, answer_of}
-use Rattle.lq_drill.specs.Shows.{Shows, entries_of}
+use Rattle.lq_drill.specs.Shows.{LeftBetween, Shows, entries_of}
 use Rattle.lq_drill.specs.declared.fault.DrillFault.{DrillFault}
 use Rattle.lq_store.specs.Journal.{Entry}
 use Rattle.lq_store.specs.State.{State, is_open}
@@ -104,6 +104,8 @@ module _ {Answer : Type 0} {locked : Lock → Answer} {busy : ℕ → Answer} wh
         pub comes_to : ComesTo front rest players y
         -- what these brought stays
         pub answers : Each (KeepsAnswer (after jobs origin database front)) players
+        pub dialect : y.dialect ≡ origin.dialect
+        pub limit : y.limit ≡ origin.limit
         pub more : List Entry
         pub entries : y.entries ≡ option_map (λ entries. entries ++ (entries_of origin.dialect (after jobs origin database front).entries ++ more)) origin.entries
 
@@ -121,8 +123,31 @@ module _ {Answer : Type 0} {locked : Lock → Answer} {busy : ℕ → Answer} wh
         -- the next step was that of a player that met a fault
         pub faulted : HasFaulted players next
         pub answers : Each (KeepsAnswer (after jobs origin database front)) players
+        pub dialect : y.dialect ≡ origin.dialect
+        pub limit : y.limit ≡ origin.limit
         pub more : List Entry
         pub entries : y.entries ≡ option_map (λ entries. entries ++ (entries_of origin.dialect (after jobs origin database front).entries ++ more)) origin.entries
+
+      -- after some of the steps, all the machine's, a front of its entries stands behind those that were there
+      pub record LeftByMachine (steps : List ℕ) (there left : List Entry) : Type 0 where
+        pub front : List ℕ
+        pub rest : List ℕ
+        pub is : steps ≡ front ++ rest
+        pub leaves : LeftBetween origin.dialect (start Answer locked busy database) (after jobs origin database front) there left
+
+      -- from a step on of a player that met a fault others stand behind the machine's
+      pub record LeftAfterFault (steps : List ℕ) (players : List X) (there left : List Entry) : Type 0 where
+        pub front : List ℕ
+        pub next : ℕ
+        pub rest : List ℕ
+        pub is : steps ≡ front ++ next ∷ rest
+        pub faulted : HasFaulted players next
+        pub more : List Entry
+        pub leaves : left ≡ there ++ (entries_of origin.dialect (after jobs origin database front).entries ++ more)
+
+      -- What a crash at any moment leaves: a front of the machine's entries; or, once there was a fault, all that came before it, and more.
+      abbrev pub LeftInDrill : List ℕ → List X → List Entry → List Entry → Type 0
+      LeftInDrill steps players there left = LeftByMachine steps there left ⊎ LeftAfterFault steps players there left
 
       -- The database is the one that the commands give one after another, and each answer that of this serial run, or one that was given at once.
       pub record IsSerialDrill (steps : List ℕ) (players : List X) (y : State) : Type 0 where

@@ -2,8 +2,9 @@
 use Rattle.std.specs.Prelude.{Bool, Err, List, None, Ok, Option, Result, Some, [], false, if◌then◌else◌, nat_eq, true, ℕ, ◌∷◌, ◌≡◌, ◌⊎◌}
 use Rattle.lq_base.specs.declared.dialect.Dialect.{Dialect}
 use Rattle.lq_base.specs.declared.tracking.Lock.{Lock}
-use Rattle.lq_drill.specs.Shows.{Shows}
+use Rattle.lq_drill.specs.Shows.{LeftBetween, Shows}
 use Rattle.lq_drill.specs.declared.fault.DrillFault.{DrillFault}
+use Rattle.lq_store.specs.Crashes.{Crashes, CrashesLeave}
 use Rattle.lq_store.specs.State.{State}
 use Rattle.lq_turns.specs.Schedule.{Holder, Job, Machine, has_begun, moved}
 
@@ -11,6 +12,10 @@ use Rattle.lq_turns.specs.Schedule.{Holder, Job, Machine, has_begun, moved}
 abbrev pub answer_of : {Answer : Type 0} → ℕ → List (ℕ × Answer) → Option Answer
 answer_of n [] = None
 answer_of n (a ∷ more) = if nat_eq a.0 n then Some a.1 else answer_of n more
+
+-- what one answers that met a fault of the store: that fault, or that its lock is gone; or it has not yet answered
+abbrev pub MayAnswer : {Answer : Type 0} → (Lock → Answer) → (DrillFault → Answer) → Option Answer → Type 0
+MayAnswer locked failed answer = (answer ≡ None) ⊎ (((why : DrillFault) × (answer ≡ Some (failed why))) ⊎ ((lock : Lock) × (answer ≡ Some (locked lock))))
 
 -- a runner between two of its steps
 pub record Standing (Answer : Type 0) (locked : Lock → Answer) (busy : ℕ → Answer) : Type 1 where
@@ -65,6 +70,15 @@ module _ {Answer : Type 0} {locked : Lock → Answer} {busy : ℕ → Answer} wh
   abbrev pub Moves : ℕ → Standing Answer locked busy → Standing Answer locked busy → State → State → Type 0
   Moves n before after w z = (jobs : ℕ → Job Answer locked busy) (origin : State) (x : Machine Answer locked busy) → origin.dialect ≡ before.dialect → Shows origin w x → Plays jobs n before x → after.faulted ≡ false
       → Arrives jobs n after origin z x (moved Answer locked busy origin.dialect jobs n x)
+
+  -- Where no fault of the store was met a crash at any moment of the step leaves the entries before it, and a front of those that the machine's step appends.
+  abbrev pub MovesSafely : ℕ → Standing Answer locked busy → Standing Answer locked busy → State → Crashes → Crashes → Type 0
+  MovesSafely n before after w c e = (jobs : ℕ → Job Answer locked busy) (origin : State) (x : Machine Answer locked busy) → origin.dialect ≡ before.dialect → Shows origin w x → Plays jobs n before x → after.faulted ≡ false
+      → CrashesLeave w.entries (LeftBetween origin.dialect x (moved Answer locked busy origin.dialect jobs n x)) c e
+
+  -- where it met a fault of the store it answers so
+  abbrev pub HasMet : (DrillFault → Answer) → ℕ → Standing Answer locked busy → Type 0
+  HasMet failed n r = r.faulted ≡ true → MayAnswer locked failed r.answer
 
   -- it answers a fault of the store exactly where it ends the drill
   abbrev pub EndsBy : (DrillFault → Answer) → Standing Answer locked busy → Result (Unit {0}) DrillFault → Type 0

@@ -42,8 +42,17 @@ module _ {Answer : Type 0} {locked : Lock → Answer} {busy : ℕ → Answer} wh
     pub entries : y.entries ≡ option_map (λ entries. entries ++ entries_of origin.dialect x.entries) origin.entries
     pub used : y.used ≡ origin.used + size_of_all (entries_of origin.dialect x.entries)
 
--- the journal's entries stay, with others behind them
+-- a crash leaves the entries that were there, and a front of those that came to the machine's
+pub record LeftBetween {Answer : Type 0} {locked : Lock → Answer} {busy : ℕ → Answer} (d : Dialect) (x y : Machine Answer locked busy) (there left : List Entry) : Type 0 where
+  pub front : List (List Deed)
+  pub more : List (List Deed)
+  pub came : y.entries ≡ x.entries ++ (front ++ more)
+  pub is : left ≡ there ++ entries_of d front
+
+-- the journal's entries stay, with others behind them, and its dialect and limit are the same
 pub record Grows (x y : State) : Type 0 where
+  pub dialect : y.dialect ≡ x.dialect
+  pub limit : y.limit ≡ x.limit
   pub more : List Entry
   pub entries : y.entries ≡ option_map (λ entries. entries ++ more) x.entries
 

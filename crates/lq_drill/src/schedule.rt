@@ -1,8 +1,10 @@
 ghost use Rattle.std.specs.Prelude.{◌≡◌, ◌≤◌, ◌++◌, ◌∷◌, [], All, Err, IsTrue, List, None, Ok, false, length, true, ℕ};
-ghost use Rattle.lq_drill.specs.Drill.{AreApart, Begins, Each, EndsAs, Follows, HasFaulted, HasNotFailed, IsDrilled, IsDrilledUntil, IsFaultless, IsNew, IsReady, IsSerialDrill};
+ghost use Rattle.lq_drill.specs.Drill.{AreApart, Begins, Each, EndsAs, Follows, HasFaulted, HasNotFailed, IsDrilled, IsDrilledUntil, IsFaultless, IsNew, IsReady, IsSerialDrill, LeftInDrill};
+ghost use Rattle.lq_drill.specs.Player.{HasMet};
 ghost use Rattle.lq_drill.specs.declared.fault.DrillFault.TheVariants as fault;
 ghost use Rattle.lq_outside.specs.Count.{Rose};
 ghost use Rattle.lq_store.specs.Calls.{aborted};
+ghost use Rattle.lq_store.specs.Crashes.{CrashesLeave};
 ghost use Rattle.lq_store.specs.State.{State, is_open, other};
 ghost use Rattle.lq_track.specs.Database.{Database};
 ghost use Rattle.lq_turns.specs.Schedule.{Job, start};
@@ -33,6 +35,8 @@ pub fn drill<R: Player, S: Store, P: SqlText>(
     ensures valid { S.valid store.new }
     ensures live { result ≡ Ok tt → IsTrue (S.state store.new).live }
     ensures closed { (S.state store.new).live ≡ true → (S.state store.new).begun ≡ None }
+    ensures count { length players.new.items ≡ length players.old.items }
+    ensures met { Each R.standing (HasMet R.failed) players.new.items }
     ensures ends { EndsAs R.standing R.failed players.new.items result }
     ensures clean { (jobs : ℕ → Job R.Answer R.locked R.busy) (database : Database) → Begins R.standing jobs (S.state store.old) database players.old.items
         → Each R.standing IsFaultless players.new.items → IsDrilled R.standing jobs (S.state store.old) database steps.now players.new.items (S.state store.new) }
@@ -40,6 +44,8 @@ pub fn drill<R: Player, S: Store, P: SqlText>(
         → (number : ℕ) → HasFaulted R.standing players.new.items number → IsDrilledUntil R.standing jobs (S.state store.old) database steps.now players.new.items (S.state store.new) }
     ensures serial { (jobs : ℕ → Job R.Answer R.locked R.busy) (database : Database) → Begins R.standing jobs (S.state store.old) database players.old.items
         → Each R.standing IsFaultless players.new.items → none_early R.Answer R.locked R.busy (S.state store.old).dialect jobs steps.now (start R.Answer R.locked R.busy database) ≡ true → IsSerialDrill R.standing jobs (S.state store.old) database steps.now players.new.items (S.state store.new) }
+    ensures crash { (jobs : ℕ → Job R.Answer R.locked R.busy) (database : Database) → Begins R.standing jobs (S.state store.old) database players.old.items
+        → CrashesLeave (S.state store.old).entries (LeftInDrill R.standing jobs (S.state store.old) database steps.now players.new.items) (S.crashes store.old) (S.crashes store.new) }
     ensures later { S.faults store.old ≤ S.faults store.new }
     ensures rose { result ≡ Err fault.Disk → Rose (S.faults store.old) (S.faults store.new) }
 {
@@ -59,13 +65,18 @@ fn take_steps<R: Player, S: Store, P: SqlText>(
     requires live { IsTrue (S.state store.old).live }
     requires ready { Each R.standing (IsReady P.dialect (S.state store.old)) players.old.items }
     requires going { Each R.standing (HasNotFailed R.failed) players.old.items }
+    requires met { Each R.standing (HasMet R.failed) players.old.items }
     requires steps { All (λ n. (1 ≤ n) × (n ≤ length players.old.items)) steps.now }
     ensures valid { S.valid store.new }
     ensures live { result ≡ Ok tt → IsTrue (S.state store.new).live }
+    ensures count { length players.new.items ≡ length players.old.items }
     ensures idle { (S.state store.new).live ≡ true → is_open 0 (S.state store.new).begun ≡ is_open 0 (S.state store.old).begun }
+    ensures met { Each R.standing (HasMet R.failed) players.new.items }
     ensures ends { EndsAs R.standing R.failed players.new.items result }
     ensures follows { (jobs : ℕ → Job R.Answer R.locked R.busy) (origin : State) (database : Database) → origin.dialect ≡ P.dialect → AreApart R.standing players.old.items
         → Follows R.standing jobs origin database [] players.old.items (S.state store.old) → Follows R.standing jobs origin database steps.now players.new.items (S.state store.new) }
+    ensures crash { (jobs : ℕ → Job R.Answer R.locked R.busy) (origin : State) (database : Database) → origin.dialect ≡ P.dialect → AreApart R.standing players.old.items → Follows R.standing jobs origin database [] players.old.items (S.state store.old)
+        → CrashesLeave origin.entries (LeftInDrill R.standing jobs origin database steps.now players.new.items) (S.crashes store.old) (S.crashes store.new) }
     ensures later { S.faults store.old ≤ S.faults store.new }
     ensures rose { result ≡ Err fault.Disk → Rose (S.faults store.old) (S.faults store.new) }
 {
@@ -86,16 +97,21 @@ fn move_one<R: Player, S: Store, P: SqlText>(
     requires live { IsTrue (S.state store.old).live }
     requires ready { Each R.standing (IsReady P.dialect (S.state store.old)) players.old.items }
     requires going { Each R.standing (HasNotFailed R.failed) players.old.items }
+    requires met { Each R.standing (HasMet R.failed) players.old.items }
     requires number { (1 ≤ number) × (number ≤ length players.old.items) }
     ensures valid { S.valid store.new }
     ensures live { result ≡ Ok tt → IsTrue (S.state store.new).live }
     ensures count { length players.new.items ≡ length players.old.items }
     ensures ready { (S.state store.new).live ≡ true → Each R.standing (IsReady P.dialect (S.state store.new)) players.new.items }
     ensures idle { (S.state store.new).live ≡ true → is_open 0 (S.state store.new).begun ≡ is_open 0 (S.state store.old).begun }
+    ensures met { Each R.standing (HasMet R.failed) players.new.items }
+    ensures faulted { (n : ℕ) → HasFaulted R.standing players.old.items n → HasFaulted R.standing players.new.items n }
     ensures ends { EndsAs R.standing R.failed players.new.items result }
     ensures apart { AreApart R.standing players.old.items → AreApart R.standing players.new.items }
     ensures follows { (jobs : ℕ → Job R.Answer R.locked R.busy) (origin : State) (database : Database) (steps : List ℕ) → origin.dialect ≡ P.dialect → AreApart R.standing players.old.items
         → Follows R.standing jobs origin database steps players.old.items (S.state store.old) → Follows R.standing jobs origin database (steps ++ number ∷ []) players.new.items (S.state store.new) }
+    ensures crash { (jobs : ℕ → Job R.Answer R.locked R.busy) (origin : State) (database : Database) (steps : List ℕ) → origin.dialect ≡ P.dialect → Follows R.standing jobs origin database steps players.old.items (S.state store.old)
+        → CrashesLeave origin.entries (LeftInDrill R.standing jobs origin database (steps ++ number ∷ []) players.new.items) (S.crashes store.old) (S.crashes store.new) }
     ensures later { S.faults store.old ≤ S.faults store.new }
     ensures rose { result ≡ Err fault.Disk → Rose (S.faults store.old) (S.faults store.new) }
 {
@@ -115,7 +131,10 @@ fn take_back<S: Store>(store: &mut S)
     ensures live { (S.state store.new).live ≡ (S.state store.old).live }
     ensures closed { (S.state store.new).live ≡ true → (S.state store.new).begun ≡ None }
     ensures aborts { (S.state store.old).live ≡ true → S.state store.new ≡ aborted (S.state store.old) }
+    ensures dialect { (S.state store.new).dialect ≡ (S.state store.old).dialect }
+    ensures limit { (S.state store.new).limit ≡ (S.state store.old).limit }
     ensures entries { (S.state store.new).entries ≡ (S.state store.old).entries }
+    ensures crash { CrashesLeave (S.state store.old).entries (λ there left. left ≡ there) (S.crashes store.old) (S.crashes store.new) }
     ensures faults { S.faults store.new ≡ S.faults store.old }
 {
     if !store.is_live() {

@@ -1,19 +1,21 @@
 -- What a player's answer makes of its step.
-use Rattle.std.proofs.Common.{ap, subst, sym, ◌∙◌}
+use Rattle.std.proofs.Common.{ap, inl, inr, subst, sym, ◌∙◌}
 use Rattle.std.specs.Prelude.{Bool, Err, None, Ok, Option, Result, Some, false, refl, true, ℕ, ◌≡◌}
 use Rattle.lq_base.specs.declared.tracking.Lock.{Lock}
-use Rattle.lq_drill.specs.Player.{EndsBy, Moves, Standing}
+use Rattle.lq_drill.specs.Player.{EndsBy, Moves, MovesSafely, Standing}
 use Rattle.lq_drill.specs.Shows.{LetsBe}
 use Rattle.lq_drill.specs.declared.fault.DrillFault.{DrillFault}
 use Rattle.lq_drill.specs.declared.fault.DrillFault.TheVariants as drill
 use Rattle.lq_model.specs.declared.fault.StoreFault.{StoreFault}
 use Rattle.lq_model.specs.declared.fault.StoreFault.TheVariants as fault
-use Rattle.lq_players.specs.Answers.{Answers, failure_of, fault_of, is_disk_fault, is_failure}
+use Rattle.lq_players.specs.Answers.{Answers, failure_of, fault_of, is_disk_fault, is_failure, tells_locked}
 use Rattle.lq_players.specs.Playing.{Took}
 use Rattle.lq_run.specs.Beside.{Beside}
 use Rattle.lq_run.specs.Steps.{is_disk}
+use Rattle.lq_store.specs.Crashes.{Crashes, CrashesLeave, Keeps}
 use Rattle.lq_store.specs.State.{State, is_open}
 use Rattle.lq_turns.specs.declared.answer.Answer.{Answer}
+use Rattle.lq_turns.specs.declared.answer.Answer.TheVariants as answer
 use Rattle.lq_turns.specs.declared.answer.Answer.TheVariants.{Busy, Locked}
 
 not_true : false ≡ true → ⊥
@@ -38,18 +40,36 @@ own_answer o a why its own is = not_true (sym own ∙ ap is_failure (same_answer
 pub no_answer : (o : Option Answer) (why : DrillFault) → o ≡ None → o ≡ Some (failure_of why) → ⊥
 no_answer o why none is = some_none (failure_of why) (sym is ∙ none)
 
+-- that the lock is no longer its own is none
+
+pub its_lock : (a : Answer) → tells_locked a ≡ true → (lock : Lock) × (a ≡ Locked lock)
+its_lock (answer.Locked lock) is = (lock, refl)
+its_lock answer.Done is = absurd (not_true is)
+its_lock (answer.Invalid faults) is = absurd (not_true is)
+its_lock (answer.Halted identity why) is = absurd (not_true is)
+its_lock (answer.Refused identity statement kept reason) is = absurd (not_true is)
+its_lock answer.NoTarget is = absurd (not_true is)
+its_lock (answer.NotReversible of) is = absurd (not_true is)
+its_lock answer.Disk is = absurd (not_true is)
+its_lock (answer.Full used next) is = absurd (not_true is)
+its_lock (answer.Busy session) is = absurd (not_true is)
+its_lock answer.OutOfMemory is = absurd (not_true is)
+
+pub lock_own : (a : Answer) → tells_locked a ≡ true → is_failure a ≡ false
+lock_own a is = ap is_failure (its_lock a is).1
+
 -- a call of a session as a step of its player
 pub lets_be : (session : ℕ) (lost : Bool) (x y : State) → Beside session lost x y → LetsBe session x y
-lets_be session lost x y beside = record { grows = record { more = beside.more; entries = beside.entries }; others = beside.others }
+lets_be session lost x y beside = record { grows = record { dialect = beside.dialect; limit = beside.limit; more = beside.more; entries = beside.entries }; others = beside.others }
 
 err_ok : {why : DrillFault} → (let r : Result (Unit {0}) DrillFault = Err why in r) ≡ Ok tt → ⊥
 err_ok h = Prim.cc
 
-module _ (session : ℕ) (before after : Standing Answer Locked Busy) (x y : State) (result : Result (Unit {0}) DrillFault) where
+module _ (session : ℕ) (before after : Standing Answer Locked Busy) (x y : State) (c e : Crashes) (result : Result (Unit {0}) DrillFault) where
   -- it answers what is none to a fault
   pub answered : (a : Answer) → Answers (Ok a) before.faulted after.answer after.faulted result → is_failure a ≡ false → y.live ≡ true → after.dialect ≡ before.dialect → (y.live ≡ true → is_open session y.begun ≡ after.opens)
-      → LetsBe session x y → ((lock : Lock) → after.owns lock → before.owns lock) → after.ready → Moves session before after x y → Took session before after x y result
-  answered a its own live dialect opens lets owns ready moves = record {
+      → LetsBe session x y → ((lock : Lock) → after.owns lock → before.owns lock) → after.ready → (after.faulted ≡ true → tells_locked a ≡ true) → Moves session before after x y → MovesSafely session before after x c e → CrashesLeave x.entries Keeps c e → Took session before after x y c e result
+  answered a its own live dialect opens lets owns ready locked moves crash keeps = record {
     live = λ ok. live;
     dialect = dialect;
     ready = ready;
@@ -57,14 +77,17 @@ module _ (session : ℕ) (before after : Standing Answer Locked Busy) (x y : Sta
     lets_be = lets;
     owns = owns;
     faulted = λ was. its.1 ∙ was;
+    met = λ bad. let it = its_lock a (locked bad) in inr (inr (it.0, its.0 ∙ ap (λ b. Some b) it.1));
     ends = subst (EndsBy failure_of after) (sym its.2) (λ why is. own_answer after.answer a why its.0 own is);
     moves = moves;
+    crash = crash;
+    keeps = keeps;
   }
 
   -- or a fault of the store
   pub failed_so : (why : DrillFault) → Answers (Err why) before.faulted after.answer after.faulted result → after.dialect ≡ before.dialect → (y.live ≡ true → is_open session y.begun ≡ after.opens)
-      → LetsBe session x y → ((lock : Lock) → after.owns lock → before.owns lock) → after.ready → Took session before after x y result
-  failed_so why its dialect opens lets owns ready = record {
+      → LetsBe session x y → ((lock : Lock) → after.owns lock → before.owns lock) → after.ready → CrashesLeave x.entries Keeps c e → Took session before after x y c e result
+  failed_so why its dialect opens lets owns ready keeps = record {
     live = λ ok. absurd (err_ok (sym its.2 ∙ ok));
     dialect = dialect;
     ready = ready;
@@ -72,14 +95,17 @@ module _ (session : ℕ) (before after : Standing Answer Locked Busy) (x y : Sta
     lets_be = lets;
     owns = owns;
     faulted = λ was. its.1;
+    met = λ bad. inr (inl (why, its.0));
     ends = subst (EndsBy failure_of after) (sym its.2) (its.0, its.1);
     moves = λ jobs origin at is shows plays clean. absurd (not_true (sym clean ∙ its.1));
+    crash = λ jobs origin at is shows plays clean. absurd (not_true (sym clean ∙ its.1));
+    keeps = keeps;
   }
 
   -- or it goes on
   pub goes_on : result ≡ Ok tt → after.answer ≡ None → y.live ≡ true → after.dialect ≡ before.dialect → (y.live ≡ true → is_open session y.begun ≡ after.opens)
-      → LetsBe session x y → ((lock : Lock) → after.owns lock → before.owns lock) → after.ready → (before.faulted ≡ true → after.faulted ≡ true) → Moves session before after x y → Took session before after x y result
-  goes_on is none live dialect opens lets owns ready stays moves = record {
+      → LetsBe session x y → ((lock : Lock) → after.owns lock → before.owns lock) → after.ready → (before.faulted ≡ true → after.faulted ≡ true) → Moves session before after x y → MovesSafely session before after x c e → CrashesLeave x.entries Keeps c e → Took session before after x y c e result
+  goes_on is none live dialect opens lets owns ready stays moves crash keeps = record {
     live = λ ok. live;
     dialect = dialect;
     ready = ready;
@@ -87,8 +113,11 @@ module _ (session : ℕ) (before after : Standing Answer Locked Busy) (x y : Sta
     lets_be = lets;
     owns = owns;
     faulted = stays;
+    met = λ bad. inl none;
     ends = subst (EndsBy failure_of after) (sym is) (λ why it. no_answer after.answer why none it);
     moves = moves;
+    crash = crash;
+    keeps = keeps;
   }
 
 -- faults

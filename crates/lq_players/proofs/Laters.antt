@@ -129,12 +129,12 @@ module _ {Key Told T : Type 0} (m : Meaning Key) (stamp : Stamp) (way : T → Di
 
   module _ (within : Bool) (opened : is_open n w.begun ≡ within) (free : IsFree d stamp n within w) (jobs : ℕ → Work) (origin : State) (x : Runs) (dialect : origin.dialect ≡ before.dialect) (shows : Shows origin w x) (plays : Plays jobs n before x) where
     -- the machine's holder is this command
-    record IsHolder : Type 0 where
-      h : Held
-      held : held_by n x.holder ≡ Some h
-      on : IsUnder origin.dialect m stamp r way answer_of h
+    pub record IsHolder : Type 0 where
+      pub h : Held
+      pub held : held_by n x.holder ≡ Some h
+      pub on : IsUnder origin.dialect m stamp r way answer_of h
 
-    is_holder : IsHolder
+    pub is_holder : IsHolder
     is_holder = by (held_by n x.holder) refl (plays.goes_on none begun) where
       by : (o : Option Held) → held_by n x.holder ≡ o → GoesOn before o x.committed.lock → IsHolder
       by None gone lost = at within refl where
@@ -144,7 +144,7 @@ module _ {Key Told T : Type 0} (m : Meaning Key) (stamp : Stamp) (way : T → Di
       by (Some h) held at = record { h = h; held = held; on = subst (λ k. IsUnder k m stamp r way answer_of h) (sym dialect) (under h at) }
 
     module _ (it : IsHolder) where
-      abbrev s : Session
+      abbrev pub s : Session
       s = bare it.h.session
 
       holders : IsHolders origin.dialect x.committed (Some it.h) w.begun
@@ -153,13 +153,13 @@ module _ {Key Told T : Type 0} (m : Meaning Key) (stamp : Stamp) (way : T → Di
       stands : Stands w n w s
       stands = stands_for origin w x shows n it.h.session holders.0 (subst (λ j. IsOpenAs origin.dialect j it.h.session w.begun) (holder_is n x.holder it.h it.held).1 holders.1)
 
-      there : IsThere origin.dialect m stamp n r w w s it.on.told
+      pub there : IsThere origin.dialect m stamp n r w w s it.on.told
       there = record {
         at = record { dialect = shows.dialect; stands = stands; ready = it.on.on.ready; fits = it.on.on.fits; row = it.on.on.row };
         known = λ healthy. it.on.on.known;
       }
 
-      later : moved Answer Locked Busy origin.dialect jobs n x ≡ later_step Answer Locked Busy origin.dialect jobs n x
+      pub later : moved Answer Locked Busy origin.dialect jobs n x ≡ later_step Answer Locked Busy origin.dialect jobs n x
       later = is_later origin.dialect jobs n x (plays.answer ∙ none) (plays.begun none ∙ begun)
 
       module _ (z : State) (call : Call) (rest_is : List Call) (after_it : Session) (next : rest origin.dialect m stamp (place r) (both_of s) ≡ call ∷ rest_is) (made : after_it ≡ called origin.dialect call s) (stands_now : Stands w n z after_it) where

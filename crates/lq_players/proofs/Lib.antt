@@ -4,6 +4,7 @@ mod Erased
 mod Shown
 mod Firsts
 mod Laters
+mod Safely
 mod Told
 mod Taking
 mod Apart

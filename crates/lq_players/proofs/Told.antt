@@ -1,6 +1,6 @@
 -- What the looks at a store tell.
 use Rattle.std.proofs.Common.{ap, inl, inr, subst, sym, ◌∙◌}
-use Rattle.std.specs.Prelude.{Bool, Err, IfErr, IfOk, IfSome, List, None, Ok, Option, Result, Some, [], false, refl, true, ℕ, ◌&&◌, ◌∷◌, ◌≡◌}
+use Rattle.std.specs.Prelude.{Bool, Err, IfErr, IfOk, IfSome, List, None, Ok, Option, Result, Some, [], false, is_some, refl, true, ℕ, ◌&&◌, ◌∷◌, ◌≡◌}
 use Rattle.lq_base.specs.declared.dialect.Dialect.{Dialect}
 use Rattle.lq_base.specs.declared.tracking.Lock.{Lock}
 use Rattle.lq_drill.specs.declared.fault.DrillFault.{DrillFault}
@@ -13,8 +13,9 @@ use Rattle.lq_hand.specs.declared.hand.Phase.TheVariants as phase
 use Rattle.lq_model.specs.Catalogue.{Catalogue}
 use Rattle.lq_model.specs.declared.fault.StoreFault.{StoreFault}
 use Rattle.lq_model.specs.declared.fault.StoreFault.TheVariants as fault
+use Rattle.lq_players.proofs.Answering.{err_is, the_disk}
 use Rattle.lq_players.proofs.Shown.{none_begun}
-use Rattle.lq_players.specs.Answers.{is_failed_end, is_failure}
+use Rattle.lq_players.specs.Answers.{fault_of, is_failed_end, is_failure}
 use Rattle.lq_players.specs.Checked.{Checked, Work}
 use Rattle.lq_players.specs.Hindered.{Hinders, IsFree, TellsBusy as IsTold, TellsLost, TellsOpen, asks_open, asks_open_at}
 use Rattle.lq_players.specs.Judged.{AnswersBeside, AnswersFirst, CallsOnce, Judged, TellsBusy, TellsHeld}
@@ -24,14 +25,18 @@ use Rattle.lq_players.specs.declared.checks.Verdict.TheVariants as verdict
 use Rattle.lq_run.proofs.Beside.{own_alone}
 use Rattle.lq_run.proofs.Losing.{told_at}
 use Rattle.lq_run.specs.Beside.{Asks}
+use Rattle.lq_run.specs.Crashing.{CrashesFor}
 use Rattle.lq_run.specs.Does.{AloneFor}
+use Rattle.lq_run.specs.Ends.{disk_failed}
 use Rattle.lq_run.specs.Faults.{is_disk_end}
 use Rattle.lq_run.specs.Holds.{Holds, IsHeld}
 use Rattle.lq_run.specs.Stands.{Stands}
+use Rattle.lq_run.specs.Steps.{is_disk}
 use Rattle.lq_run.specs.declared.holding.Holding.TheVariants as holding
 use Rattle.lq_run.specs.declared.runner.End.{End}
 use Rattle.lq_run.specs.declared.runner.End.TheVariants as end
 use Rattle.lq_store.specs.Calls.{IsBusy}
+use Rattle.lq_store.specs.Crashes.{Crashes}
 use Rattle.lq_store.specs.State.{State, is_open, other, seen, seen_in}
 use Rattle.lq_track.specs.Database.{Database, lock_of}
 use Rattle.lq_turns.specs.Held.{StandsFor}
@@ -48,6 +53,9 @@ use Rattle.lq_turns.specs.declared.stop.Refusal.{Refusal}
 
 not_true : false ≡ true → ⊥
 not_true h = Prim.cc
+
+pub no_fact : {X : Type 0} → false ≡ true → X
+no_fact is = absurd (not_true is)
 
 -- of a result
 
@@ -116,6 +124,9 @@ once_done d session call x y deeds u same alone = (
   λ start s is stands fit. subst (λ k. Stands start session y (called k (Alone call.deeds call.room) s)) is ((subst (λ ds. AloneFor d session ds call.room x (Ok u) y) same alone) start s is stands fit).2,
 )
 
+pub once_crashes : (d : Dialect) (session : ℕ) (call : OneCall) (x : State) (before now : Crashes) (deeds : List Deed) → deeds ≡ call.deeds → CrashesFor d session (Alone deeds call.room) x before now → CrashesFor d session (Alone call.deeds call.room) x before now
+once_crashes d session call x before now deeds same crash = subst (λ ds. CrashesFor d session (Alone ds call.room) x before now) same crash
+
 -- a later step
 
 -- what is asked for is what is open
@@ -174,6 +185,18 @@ told_busy session x (fault.Full used next) r busy tells = absurd busy
 told_busy session x (fault.Refused reason) r busy tells = absurd busy
 told_busy session x fault.NotSql r busy tells = absurd busy
 told_busy session x fault.OutOfMemory r busy tells = absurd busy
+
+-- after a fault
+
+pub not_none : {A X : Type 0} (o : Option A) (a : A) → o ≡ Some a → o ≡ None → X
+not_none o a is none = no_fact (sym (ap is_some none) ∙ ap is_some is)
+
+pub not_some : {A X : Type 0} (o : Option A) → o ≡ None → is_some o ≡ true → X
+not_some o none some = no_fact (sym (ap is_some none) ∙ some)
+
+pub no_disk_after : {X : Type 0} (o : Option StoreFault) (why : StoreFault) (r : Result Answer DrillFault) → o ≡ Some why → disk_failed o ≡ false → IfErr r (λ w. w ≡ fault_of why) → r ≡ Err drill.Disk → X
+no_disk_after o why (Ok a) is clean it disk = Prim.cc
+no_disk_after o why (Err w) is clean it disk = no_fact (sym clean ∙ ap disk_failed is ∙ ap is_disk (the_disk why (sym it ∙ err_is disk)))
 
 -- an end
 

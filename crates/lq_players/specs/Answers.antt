@@ -29,6 +29,20 @@ is_failure (answer.Full used next) = true
 is_failure (answer.Busy session) = false
 is_failure answer.OutOfMemory = true
 
+-- that the lock is held, or no longer its own
+abbrev pub tells_locked : Answer → Bool
+tells_locked answer.Done = false
+tells_locked (answer.Locked lock) = true
+tells_locked (answer.Invalid faults) = false
+tells_locked (answer.Halted identity why) = false
+tells_locked (answer.Refused identity statement kept reason) = false
+tells_locked answer.NoTarget = false
+tells_locked (answer.NotReversible of) = false
+tells_locked answer.Disk = false
+tells_locked (answer.Full used next) = false
+tells_locked (answer.Busy session) = false
+tells_locked answer.OutOfMemory = false
+
 abbrev pub fault_of : StoreFault → DrillFault
 fault_of fault.Disk = drill.Disk
 fault_of (fault.Full used next) = drill.Full used next

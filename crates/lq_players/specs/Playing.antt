@@ -1,9 +1,9 @@
 -- A command as a player.
 use Rattle.std.proofs.Common.{ap, inl, inr}
-use Rattle.std.specs.Prelude.{Bool, None, Ok, Option, Result, false, true, ℕ, ◌≡◌, ◌≤◌}
+use Rattle.std.specs.Prelude.{Bool, None, Ok, Option, Result, false, is_some, true, ℕ, ◌≡◌, ◌≤◌}
 use Rattle.lq_base.specs.declared.dialect.Dialect.{Dialect}
 use Rattle.lq_base.specs.declared.tracking.Lock.{Lock}
-use Rattle.lq_drill.specs.Player.{EndsBy, Moves, Standing}
+use Rattle.lq_drill.specs.Player.{EndsBy, HasMet, Moves, MovesSafely, Standing}
 use Rattle.lq_drill.specs.Shows.{LetsBe}
 use Rattle.lq_drill.specs.declared.fault.DrillFault.{DrillFault}
 use Rattle.lq_hand.specs.Hand.{calls_left}
@@ -19,6 +19,7 @@ use Rattle.lq_run.specs.Ends.{disk_failed}
 use Rattle.lq_run.specs.Holds.{IsHeld}
 use Rattle.lq_run.specs.Steps.{is_over, standing}
 use Rattle.lq_run.specs.declared.runner.Runner.{Runner}
+use Rattle.lq_store.specs.Crashes.{Crashes, CrashesLeave, Keeps}
 use Rattle.lq_store.specs.State.{State, is_open}
 use Rattle.lq_turns.specs.Rest.{Turns}
 use Rattle.lq_turns.specs.Set.{Meaning}
@@ -39,27 +40,30 @@ opens_as false hand = false
 
 module _ {T : Type 0} (reads : T → Dialect → Type 0) where
   -- it has made no call
-  pub record IsFresh (r : Runner T) : Type 0 where
+  pub record IsFresh (faulted : Bool) (r : Runner T) : Type 0 where
     pub reads_it : reads r.source r.dialect
     pub moment : r.stamp.reading ≤ 253402300799999
     pub unstopped : (r.fault ≡ None) × (r.refused ≡ None)
+    pub met : faulted ≡ is_some r.fault
 
   -- it has a call to come, for which the session has open what it asks for
-  pub record IsGoing (r : Runner T) : Type 0 where
+  pub record IsGoing (faulted : Bool) (r : Runner T) : Type 0 where
     pub reads_it : reads r.source r.dialect
     pub moment : r.stamp.reading ≤ 253402300799999
     pub goes : is_over r.hand.phase ≡ false
     pub asks : Asks r.dialect r.hand.phase (calls_left r.hand) (asks_open r.hand)
     pub disk : disk_failed r.fault ≡ false
+    -- and remembers whether it met a fault of the store
+    pub met : faulted ≡ is_some r.fault
 
-  abbrev pub IsReadyAs : Bool → Runner T → Type 0
-  IsReadyAs true r = IsGoing r
-  IsReadyAs false r = IsFresh r
+  abbrev pub IsReadyAs : Bool → Bool → Runner T → Type 0
+  IsReadyAs true faulted r = IsGoing faulted r
+  IsReadyAs false faulted r = IsFresh faulted r
 
 module _ {Key Told T : Type 0} (m : Meaning Key) (left : T → Turns Key) (way : T → Dialect → Stamp → Told → Way) (reads : T → Dialect → Type 0) (job : T → Dialect → Stamp → Work) (ends : T → Option Refusal → Answer) where
   abbrev pub stands : Playing T → Standing Answer Locked Busy
   stands p = record {
-    ready = p.answer ≡ None → IsReadyAs reads p.begun p.runner;
+    ready = p.answer ≡ None → IsReadyAs reads p.begun p.faulted p.runner;
     dialect = p.runner.dialect;
     opens = opens_as p.begun p.runner.hand;
     faulted = p.faulted;
@@ -71,7 +75,7 @@ module _ {Key Told T : Type 0} (m : Meaning Key) (left : T → Turns Key) (way :
   }
 
 -- what a step of a player comes to
-pub record Took (session : ℕ) (before after : Standing Answer Locked Busy) (x y : State) (result : Result (Unit {0}) DrillFault) : Type 0 where
+pub record Took (session : ℕ) (before after : Standing Answer Locked Busy) (x y : State) (c e : Crashes) (result : Result (Unit {0}) DrillFault) : Type 0 where
   pub live : result ≡ Ok tt → y.live ≡ true
   pub dialect : after.dialect ≡ before.dialect
   pub ready : after.ready
@@ -79,5 +83,8 @@ pub record Took (session : ℕ) (before after : Standing Answer Locked Busy) (x 
   pub lets_be : LetsBe session x y
   pub owns : (lock : Lock) → after.owns lock → before.owns lock
   pub faulted : before.faulted ≡ true → after.faulted ≡ true
+  pub met : HasMet failure_of session after
   pub ends : EndsBy failure_of after result
   pub moves : Moves session before after x y
+  pub crash : MovesSafely session before after x c e
+  pub keeps : CrashesLeave x.entries Keeps c e

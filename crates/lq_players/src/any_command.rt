@@ -88,7 +88,7 @@ impl AnyCommand {
         requires opens { is_open session (S.state store.old).begun ≡ (command_stands self.old).opens }
         requires going { (command_stands self.old).answer ≡ None }
         ensures valid { S.valid store.new }
-        ensures took { Took session (command_stands self.old) (command_stands self.new) (S.state store.old) (S.state store.new) result }
+        ensures took { Took session (command_stands self.old) (command_stands self.new) (S.state store.old) (S.state store.new) (S.crashes store.old) (S.crashes store.new) result }
         ensures later { S.faults store.old ≤ S.faults store.new }
         ensures rose { result ≡ Err drill.Disk → Rose (S.faults store.old) (S.faults store.new) }
     {

@@ -1,11 +1,13 @@
 ghost use Rattle.std.specs.Prelude.{◌≡◌, ◌≤◌, All, Err, IsTrue, None, Ok, length, true, ℕ};
 ghost use Rattle.lq_players.specs.AnyCommand.{IsUnstarted, command_stands};
 ghost use Rattle.lq_players.specs.Drilling.{BeginInTurn, HaveTasks, NoneReleases, works};
-ghost use Rattle.lq_drill.specs.Drill.{Each, EndsAs, HasFaulted, IsDrilled, IsDrilledUntil, IsFaultless, IsSerialDrill};
+ghost use Rattle.lq_drill.specs.Drill.{Each, EndsAs, HasFaulted, IsDrilled, IsDrilledUntil, IsFaultless, IsSerialDrill, LeftInDrill};
+ghost use Rattle.lq_drill.specs.Player.{HasMet};
 ghost use Rattle.lq_drill.specs.declared.fault.DrillFault.TheVariants as fault;
 ghost use Rattle.lq_kinds.specs.declared.any_change.AnyChange.{AnyChange};
 ghost use Rattle.lq_outside.specs.Count.{Rose};
 ghost use Rattle.lq_players.specs.Answers.{failure_of};
+ghost use Rattle.lq_store.specs.Crashes.{CrashesLeave};
 ghost use Rattle.lq_track.specs.Database.{Database};
 ghost use Rattle.lq_turns.specs.Held.{StandsFor};
 ghost use Rattle.lq_turns.specs.Jobs.{Task};
@@ -34,6 +36,8 @@ pub fn drill_commands<S: Store, P: SqlText>(
     ensures valid { S.valid store.new }
     ensures live { result ≡ Ok tt → IsTrue (S.state store.new).live }
     ensures closed { (S.state store.new).live ≡ true → (S.state store.new).begun ≡ None }
+    ensures count { length players.new.items ≡ length players.old.items }
+    ensures met { Each command_stands (HasMet failure_of) players.new.items }
     ensures ends { EndsAs command_stands failure_of players.new.items result }
     ensures clean { (tasks : ℕ → Task AnyChange) (database : Database) → StandsFor (S.state store.old).dialect (S.state store.old).committed database → HaveTasks (S.state store.old).dialect tasks players.old.items
         → Each command_stands IsFaultless players.new.items → IsDrilled command_stands (works (S.state store.old).dialect tasks) (S.state store.old) database steps.now players.new.items (S.state store.new) }
@@ -43,6 +47,8 @@ pub fn drill_commands<S: Store, P: SqlText>(
         → Each command_stands IsFaultless players.new.items → NoneReleases tasks steps.now → IsSerialDrill command_stands (works (S.state store.old).dialect tasks) (S.state store.old) database steps.now players.new.items (S.state store.new) }
     ensures in_turn { (tasks : ℕ → Task AnyChange) (database : Database) → StandsFor (S.state store.old).dialect (S.state store.old).committed database → HaveTasks (S.state store.old).dialect tasks players.old.items
         → Each command_stands IsFaultless players.new.items → BeginInTurn (S.state store.old).dialect tasks database steps.now → IsSerialDrill command_stands (works (S.state store.old).dialect tasks) (S.state store.old) database steps.now players.new.items (S.state store.new) }
+    ensures crash { (tasks : ℕ → Task AnyChange) (database : Database) → StandsFor (S.state store.old).dialect (S.state store.old).committed database → HaveTasks (S.state store.old).dialect tasks players.old.items
+        → CrashesLeave (S.state store.old).entries (LeftInDrill command_stands (works (S.state store.old).dialect tasks) (S.state store.old) database steps.now players.new.items) (S.crashes store.old) (S.crashes store.new) }
     ensures later { S.faults store.old ≤ S.faults store.new }
     ensures rose { result ≡ Err fault.Disk → Rose (S.faults store.old) (S.faults store.new) }
 {

@@ -1,12 +1,14 @@
-ghost use Rattle.std.specs.Prelude.{◌≡◌, ◌≤◌, IfErr, IfOk, IfSome, IsTrue, false};
+ghost use Rattle.std.specs.Prelude.{◌≡◌, ◌≤◌, Err, IfErr, IfOk, IfSome, IsTrue, None, false, is_some, true};
 ghost use Rattle.lq_drill.specs.declared.fault.DrillFault.TheVariants as drill;
 ghost use Rattle.lq_hand.specs.Hand.{calls_left};
 ghost use Rattle.lq_players.specs.Hindered.{Hinders, TellsBusy, TellsLost, TellsOpen, asks_open, first_within, is_within};
-ghost use Rattle.lq_players.specs.Answers.{is_failure};
+ghost use Rattle.lq_players.specs.Answers.{fault_of, is_failure, tells_locked};
+ghost use Rattle.lq_run.specs.Ends.{disk_failed};
 ghost use Rattle.lq_run.specs.Holds.{Holds};
 ghost use Rattle.lq_store.specs.State.{is_open};
 ghost use Rattle.lq_track.specs.Database.{lock_of};
 
+use crate::calls::fault_of;
 use lq_base::{Dialect, Duplicate, Lock};
 use lq_drill::DrillFault;
 use lq_hand::{Hand, Phase};
@@ -40,6 +42,41 @@ pub fn hindrance<S: Store>(
         Holding::Bare => busy(session, store),
         Holding::Marked => busy(session, store),
     }
+}
+
+/// After a fault of the store a command answers that fault, or that its lock is gone.
+pub fn after_fault(
+    fault: Option<StoreFault>,
+    answer: Result<Answer, DrillFault>,
+) -> Result<Answer, DrillFault>
+    ensures same { fault ≡ None → result ≡ answer }
+    ensures locked { is_some fault ≡ true → IfOk result (λ a. tells_locked a ≡ true) }
+    ensures disk { disk_failed fault ≡ false → result ≡ Err drill.Disk → answer ≡ Err drill.Disk }
+{
+    match fault {
+        None => answer,
+        Some(fault) => match answer {
+            Ok(answer) => locked_or(answer, fault),
+            Err(lack) => Err(lack),
+        },
+    }
+}
+
+fn locked_or(answer: Answer, fault: StoreFault) -> Result<Answer, DrillFault>
+    ensures locked { IfOk result (λ a. tells_locked a ≡ true) }
+    ensures fault { IfErr result (λ why. why ≡ fault_of fault) }
+{
+    if tells_locked(&answer) {
+        Ok(answer)
+    } else {
+        Err(fault_of(fault))
+    }
+}
+
+fn tells_locked(answer: &Answer) -> bool
+    ensures { result ≡ tells_locked answer.now }
+{
+    matches!(answer, Answer::Locked(_))
 }
 
 // How the store's lock stands.

@@ -7,11 +7,13 @@ ghost use Rattle.lq_players.specs.Hindered.{IsFree, asks_open};
 ghost use Rattle.lq_players.specs.Judged.{Begins};
 ghost use Rattle.lq_players.specs.Playing.{IsFresh, IsGoing, Took, opens_as, stands};
 ghost use Rattle.lq_run.specs.Beside.{Beside};
+ghost use Rattle.lq_run.specs.Crashing.{CrashesOpening};
+ghost use Rattle.lq_store.specs.Crashes.{CrashesLeave, Keeps};
 ghost use Rattle.lq_store.specs.State.{is_open};
 
 use crate::calls::{answer_at, call_once, fault_of, judge};
 use crate::checks::{Checks, Verdict};
-use crate::hindrance::hindrance;
+use crate::hindrance::{after_fault, hindrance};
 use lq_base::Dialect;
 use lq_drill::{DrillFault, Player};
 use lq_hand::Progress;
@@ -64,7 +66,7 @@ impl<T: Checks + Drop> Playing<T> {
         requires opens { is_open session (S.state store.old).begun ≡ opens_as self.old.begun self.old.runner.hand }
         requires going { self.old.answer ≡ None }
         ensures valid { S.valid store.new }
-        ensures took { Took session (stands T.meaning T.left T.way T.reads T.job T.ends self.old) (stands T.meaning T.left T.way T.reads T.job T.ends self.new) (S.state store.old) (S.state store.new) result }
+        ensures took { Took session (stands T.meaning T.left T.way T.reads T.job T.ends self.old) (stands T.meaning T.left T.way T.reads T.job T.ends self.new) (S.state store.old) (S.state store.new) (S.crashes store.old) (S.crashes store.new) result }
         ensures later { S.faults store.old ≤ S.faults store.new }
         ensures rose { result ≡ Err drill.Disk → Rose (S.faults store.old) (S.faults store.new) }
     {
@@ -86,11 +88,11 @@ impl<T: Checks + Drop> Playing<T> {
         requires live { IsTrue (S.state store.old).live }
         requires sql { P.dialect ≡ self.old.runner.dialect }
         requires first { self.old.begun ≡ false }
-        requires fresh { IsFresh T.reads self.old.runner }
+        requires fresh { IsFresh T.reads self.old.faulted self.old.runner }
         requires closed { is_open session (S.state store.old).begun ≡ false }
         requires going { self.old.answer ≡ None }
         ensures valid { S.valid store.new }
-        ensures took { Took session (stands T.meaning T.left T.way T.reads T.job T.ends self.old) (stands T.meaning T.left T.way T.reads T.job T.ends self.new) (S.state store.old) (S.state store.new) result }
+        ensures took { Took session (stands T.meaning T.left T.way T.reads T.job T.ends self.old) (stands T.meaning T.left T.way T.reads T.job T.ends self.new) (S.state store.old) (S.state store.new) (S.crashes store.old) (S.crashes store.new) result }
         ensures later { S.faults store.old ≤ S.faults store.new }
         ensures rose { result ≡ Err drill.Disk → Rose (S.faults store.old) (S.faults store.new) }
     {
@@ -135,6 +137,8 @@ impl<T: Checks + Drop> Playing<T> {
         ensures same { self.new.runner ≡ self.old.runner }
         ensures begins { Begins self.old.runner.dialect self.old.runner.stamp session (S.state store.old) (S.state store.new) self.old.begun self.old.answer self.old.faulted self.new.begun self.new.answer self.new.faulted result }
         ensures beside { Beside session (is_disk_answer result) (S.state store.old) (S.state store.new) }
+        ensures crash { CrashesOpening self.old.runner.dialect self.old.runner.stamp session (S.state store.old) (S.crashes store.old) (S.crashes store.new) }
+        ensures keeps { CrashesLeave (S.state store.old).entries Keeps (S.crashes store.old) (S.crashes store.new) }
         ensures shuts { (S.state store.new).live ≡ true → is_open session (S.state store.new).begun ≡ false }
         ensures later { S.faults store.old ≤ S.faults store.new }
         ensures rose { result ≡ Err drill.Disk → Rose (S.faults store.old) (S.faults store.new) }
@@ -193,11 +197,11 @@ impl<T: Checks + Drop> Playing<T> {
         requires live { IsTrue (S.state store.old).live }
         requires sql { P.dialect ≡ self.old.runner.dialect }
         requires begun { self.old.begun ≡ true }
-        requires ready { IsGoing T.reads self.old.runner }
+        requires ready { IsGoing T.reads self.old.faulted self.old.runner }
         requires opens { is_open session (S.state store.old).begun ≡ asks_open self.old.runner.hand }
         requires going { self.old.answer ≡ None }
         ensures valid { S.valid store.new }
-        ensures took { Took session (stands T.meaning T.left T.way T.reads T.job T.ends self.old) (stands T.meaning T.left T.way T.reads T.job T.ends self.new) (S.state store.old) (S.state store.new) result }
+        ensures took { Took session (stands T.meaning T.left T.way T.reads T.job T.ends self.old) (stands T.meaning T.left T.way T.reads T.job T.ends self.new) (S.state store.old) (S.state store.new) (S.crashes store.old) (S.crashes store.new) result }
         ensures later { S.faults store.old ≤ S.faults store.new }
         ensures rose { result ≡ Err drill.Disk → Rose (S.faults store.old) (S.faults store.new) }
     {
@@ -209,7 +213,10 @@ impl<T: Checks + Drop> Playing<T> {
             session,
             store,
         ) {
-            Some(answer) => self.finish(answer),
+            Some(answer) => {
+                let answer = after_fault(self.runner.fault, answer);
+                self.finish(answer)
+            }
             None => self.make_call(session, store, sql),
         }
     }
@@ -225,12 +232,12 @@ impl<T: Checks + Drop> Playing<T> {
         requires live { IsTrue (S.state store.old).live }
         requires sql { P.dialect ≡ self.old.runner.dialect }
         requires begun { self.old.begun ≡ true }
-        requires ready { IsGoing T.reads self.old.runner }
+        requires ready { IsGoing T.reads self.old.faulted self.old.runner }
         requires opens { is_open session (S.state store.old).begun ≡ asks_open self.old.runner.hand }
         requires going { self.old.answer ≡ None }
         requires free { IsFree self.old.runner.dialect self.old.runner.stamp session (asks_open self.old.runner.hand) (S.state store.old) }
         ensures valid { S.valid store.new }
-        ensures took { Took session (stands T.meaning T.left T.way T.reads T.job T.ends self.old) (stands T.meaning T.left T.way T.reads T.job T.ends self.new) (S.state store.old) (S.state store.new) result }
+        ensures took { Took session (stands T.meaning T.left T.way T.reads T.job T.ends self.old) (stands T.meaning T.left T.way T.reads T.job T.ends self.new) (S.state store.old) (S.state store.new) (S.crashes store.old) (S.crashes store.new) result }
         ensures later { S.faults store.old ≤ S.faults store.new }
         ensures rose { result ≡ Err drill.Disk → Rose (S.faults store.old) (S.faults store.new) }
     {

@@ -45,7 +45,7 @@ nothing_more None = refl
 nothing_more (Some e) = ap (λ l. Some l) (sym (append-nil e))
 
 pub stays : (session : ℕ) (x : State) → x.live ≡ true → Beside session false x x
-stays session x live = record { live = live; more = []; entries = nothing_more x.entries; others = λ lives other apart. refl }
+stays session x live = record { live = live; dialect = refl; limit = refl; more = []; entries = nothing_more x.entries; others = λ lives other apart. refl }
 
 -- where nothing was changed
 pub stays_as : (session : ℕ) (failed : Bool) (x y : State) → failed ≡ false → x.live ≡ true → y ≡ x → Beside session failed x y
@@ -88,13 +88,13 @@ none_some n o none some = Prim.cc
 -- what a call leaves of its work
 
 keeps : (session : ℕ) (w : Work) (x : State) → x.live ≡ true → Beside session false x (kept_open w x)
-keeps session w x live = record { live = live; more = w.written; entries = refl; others = λ lives other apart. still other w x.begun }
+keeps session w x live = record { live = live; dialect = refl; limit = refl; more = w.written; entries = refl; others = λ lives other apart. still other w x.begun }
 
 closes : (session : ℕ) (w : Work) (x : State) → x.live ≡ true → ((other : ℕ) → nat_eq session other ≡ false → is_open other x.begun ≡ false) → Beside session false x (closed w x)
-closes session w x live none = record { live = live; more = w.written; entries = refl; others = λ lives other apart. sym (none other apart) }
+closes session w x live none = record { live = live; dialect = refl; limit = refl; more = w.written; entries = refl; others = λ lives other apart. sym (none other apart) }
 
 breaks : (session : ℕ) (written : List Entry) (x y : State) → Fails written x y → Beside session true x y
-breaks session written x y fails = record { live = fails.dead; more = fails.front; entries = fails.entries_are; others = λ lives other apart. absurd (not_true (sym fails.dead ∙ lives)) }
+breaks session written x y fails = record { live = fails.dead; dialect = fails.dialect_is; limit = fails.limit_is; more = fails.front; entries = fails.entries_are; others = λ lives other apart. absurd (not_true (sym fails.dead ∙ lives)) }
 
 by_end : (session : ℕ) (room : Room) (e : Ending) (written : List Entry) (left x y : State) (result : Result ℕ StoreFault) → x.live ≡ true → Beside session false x left → MayEnd room e written left x result y → Beside session (is_disk_result result) x y
 by_end session room e written left x y (Ok n) live is may = subst (λ z. Beside session false x z) (sym may.1.1) is
@@ -121,6 +121,8 @@ module _ (session : ℕ) (x y : State) (live : x.live ≡ true) where
   pub begin_beside : (result : Result (Unit {0}) StoreFault) → is_open session x.begun ≡ false → MayBegin session x result y → Beside session (is_disk_result result) x y
   begin_beside (Ok u) shut may = subst (λ z. Beside session false x z) (sym may.1) (record {
     live = live;
+    dialect = refl;
+    limit = refl;
     more = [];
     entries = nothing_more x.entries;
     others = λ lives other apart. not_its session other apart ∙ sym (ap (is_open other) (none_begun session x.begun shut may.0));
@@ -172,6 +174,8 @@ module _ (session : ℕ) (x y : State) (live : x.live ≡ true) where
   pub abort_beside : is_open session x.begun ≡ true → y ≡ aborted x → Beside session false x y
   abort_beside opened after = subst (λ z. Beside session false x z) (sym after) (record {
     live = live;
+    dialect = refl;
+    limit = refl;
     more = [];
     entries = nothing_more x.entries;
     others = λ lives other apart. sym (others_shut session x.begun opened other apart);

@@ -25,5 +25,6 @@ pub mod Behind
 pub mod Since
 mod CallCrashes
 mod Stopping
+mod Stops
 mod RunCrashes
 pub mod Scripts

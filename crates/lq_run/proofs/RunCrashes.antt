@@ -4,7 +4,8 @@ use Rattle.std.proofs.lemmas.List.{append-nil, append_assoc, append_cancel_left,
 use Rattle.std.specs.Option.{option_map}
 use Rattle.std.specs.Prelude.{List, None, Option, Some, [], false, true, ℕ, ◌++◌, ◌∷◌, ◌≡◌}
 use Rattle.lq_base.specs.declared.dialect.Dialect.{Dialect}
-use Rattle.lq_store.specs.Crashes.{Crashes}
+use Rattle.lq_model.specs.declared.fault.StoreFault.{StoreFault}
+use Rattle.lq_store.specs.Crashes.{Crashes, CrashesLeave}
 use Rattle.lq_store.specs.Journal.{Entry}
 use Rattle.lq_store.specs.State.{State, Transaction}
 use Rattle.lq_turns.specs.Script.{closing}
@@ -19,7 +20,6 @@ use Rattle.lq_run.proofs.Ending.{at_last, before_last, on_way}
 use Rattle.lq_run.proofs.Grows.{calls_grow}
 use Rattle.lq_run.proofs.Since.{leave_from}
 use Rattle.lq_run.proofs.Stopped.{closing_entry}
-use Rattle.lq_run.specs.Crashes.{CrashesLeave}
 use Rattle.lq_run.specs.Crashing.{CrashesStep, LeftInCall, LeftInRun, LeftInStep, MayFree}
 use Rattle.lq_run.specs.Ends.{IsBefore, Reaches}
 use Rattle.lq_run.specs.Holds.{IsBare}
@@ -94,18 +94,18 @@ module _ {Key Told : Type 0} (d : Dialect) (m : Meaning Key) (stamp : Stamp) (nu
         is = behind there left (e ∷ front) left_is;
       }
 
-  freed : (there left : List Entry) → MayFree d m stamp number before s → LeftInCall d closing s (there ++ here) left → LeftInRun d stamp first last there left
-  freed there left (inl only) it =
+  freed : (met : Option StoreFault) (there left : List Entry) → MayFree d m stamp number before met s → LeftInCall d closing s (there ++ here) left → LeftInRun d stamp first last there left
+  freed met there left (inl only) it =
       let ends : called d closing s ≡ last = sym (ap (λ cs. all_called d cs s) only.1) ∙ at_last d m stamp number before told start first last x x is only.0 in
       on closing there left (subst (IsBefore (called d closing s)) ends (calls_grow d [] (called d closing s))) it
-  freed there left (inr bare) it = early there left it.front it.more bare.0 (none_begun start.dialect number s x.begun is.is.there.at.stands.begun bare.1) it.appends it.is
+  freed met there left (inr bare) it = early there left it.front it.more bare.1.0 (none_begun start.dialect number s x.begun is.is.there.at.stands.begun bare.1.1) it.appends it.is
 
-  in_step : (there left : List Entry) → LeftInStep d m stamp number before s (there ++ here) left → LeftInRun d stamp first last there left
-  in_step there left (inl next) = on next.call there left (on_way d m stamp number before told start first last x x is next.call next.others next.next next.by) next.is
-  in_step there left (inr frees) = freed there left frees.0 frees.1
+  in_step : (met : Option StoreFault) (there left : List Entry) → LeftInStep d m stamp number before met s (there ++ here) left → LeftInRun d stamp first last there left
+  in_step met there left (inl next) = on next.call there left (on_way d m stamp number before told start first last x x is next.call next.others next.next next.by) next.is
+  in_step met there left (inr frees) = freed met there left frees.0 frees.1
 
-  pub step_crash : (a b : Crashes) → CrashesStep d m stamp number before x a b → CrashesLeave start.entries (LeftInRun d stamp first last) a b
-  step_crash a b crash =
-      leave_from x.entries start.entries here (LeftInStep d m stamp number before s) (LeftInRun d stamp first last) a b
-      (subst (λ e. x.entries ≡ option_map (λ entries. entries ++ entries_of e s.entries) start.entries) is.is.there.at.dialect is.is.there.at.stands.entries) in_step
+  pub step_crash : (met : Option StoreFault) (a b : Crashes) → CrashesStep d m stamp number before met x a b → CrashesLeave start.entries (LeftInRun d stamp first last) a b
+  step_crash met a b crash =
+      leave_from x.entries start.entries here (LeftInStep d m stamp number before met s) (LeftInRun d stamp first last) a b
+      (subst (λ e. x.entries ≡ option_map (λ entries. entries ++ entries_of e s.entries) start.entries) is.is.there.at.dialect is.is.there.at.stands.entries) (in_step met)
       (crash start s told is.is.there (λ there. is.is.committed))

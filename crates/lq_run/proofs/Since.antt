@@ -4,12 +4,12 @@ use Rattle.std.proofs.lemmas.List.{append-nil}
 use Rattle.std.specs.Option.{option_map}
 use Rattle.std.specs.Prelude.{List, None, Option, Some, [], map, ℕ, ◌++◌, ◌∷◌, ◌≡◌, ◌≤◌}
 use Rattle.lq_base.specs.declared.dialect.Dialect.{Dialect}
-use Rattle.lq_store.specs.Crashes.{Crashes, Leaves, LeavesFront}
+use Rattle.lq_store.specs.Crashes.{Crashes, CrashesLeave, Keeps, Leaves, LeavesFront, Since}
 use Rattle.lq_store.specs.Journal.{Entry, IsFrontOf}
+use Rattle.lq_store.specs.State.{State}
 use Rattle.lq_turns.specs.Session.{Session}
 use Rattle.lq_turns.specs.declared.call.Call.{Call}
 use Rattle.lq_run.proofs.Grows.{calls_grow}
-use Rattle.lq_run.specs.Crashes.{CrashesLeave, Since}
 use Rattle.lq_run.specs.Crashing.{LeftAlone, LeftInCall}
 use Rattle.lq_run.specs.Does.{Appends}
 use Rattle.lq_run.specs.Stands.{entry_of}
@@ -118,3 +118,13 @@ leave_alone (Some there) a b leaves = since_wider _ (LeftAlone there) a b (λ le
   none_of : (front rest : List Entry) → [] ≡ front ++ rest → front ≡ []
   none_of [] rest h = refl
   none_of (e ∷ front) rest h = absurd (nil_cons h)
+
+-- the entries that were there stay in front
+
+pub keeps_call : (o : Option (List Entry)) (written : List Entry) (a b : Crashes) → LeavesFront o written a b → CrashesLeave o Keeps a b
+keeps_call None written a b leaves = tt
+keeps_call (Some there) written a b leaves = since_wider _ (Keeps there) a b (λ left is. (is.0, is.2)) (since_call there written a b leaves)
+
+-- a call, and one after it that finds the same entries
+pub keeps_then : (x y : State) (a b c : Crashes) → y ≡ x → CrashesLeave x.entries Keeps a b → CrashesLeave y.entries Keeps b c → CrashesLeave x.entries Keeps a c
+keeps_then x y a b c same first second = leave_then x.entries Keeps a b c first (subst (λ z. CrashesLeave z.entries Keeps b c) same second)

@@ -1,14 +1,14 @@
 -- The kinds of step.
 use Rattle.std.proofs.Common.{ap, inl, inr, subst, sym, ◌∙◌}
 use Rattle.std.proofs.lemmas.List.{length-reverse}
-use Rattle.std.specs.Prelude.{Bool, Err, List, None, Ok, Option, Result, Some, [], false, length, refl, reverse, true, ℕ, ◌&&◌, ◌++◌, ◌∷◌, ◌≡◌, ◌≢◌, ◌⊎◌}
+use Rattle.std.specs.Prelude.{Bool, Err, List, None, Ok, Option, Result, Some, [], false, is_some, length, refl, reverse, true, ℕ, ◌&&◌, ◌++◌, ◌∷◌, ◌≡◌, ◌≢◌, ◌⊎◌}
 use Rattle.lq_base.specs.declared.dialect.Dialect.{Dialect}
 use Rattle.lq_base.specs.declared.reason.Reason.{Reason}
 use Rattle.lq_model.specs.declared.caller.Room.{Room}
 use Rattle.lq_model.specs.declared.caller.Room.TheVariants.{Ordinary, Release}
 use Rattle.lq_model.specs.declared.fault.StoreFault.{StoreFault}
 use Rattle.lq_model.specs.declared.fault.StoreFault.TheVariants as fault
-use Rattle.lq_store.specs.Crashes.{Crashes}
+use Rattle.lq_store.specs.Crashes.{Crashes, CrashesLeave}
 use Rattle.lq_store.specs.State.{State, Transaction, is_open, seen, seen_in}
 use Rattle.lq_track.specs.Database.{Database}
 use Rattle.lq_turns.specs.Contents.{contents_of, with_contents}
@@ -39,7 +39,6 @@ use Rattle.lq_run.proofs.Known.{expects_on, known_back, known_left, known_on, kn
 use Rattle.lq_hand.specs.Counts.{coming_of, first_coming, no_progress, progress_after, refusal_at, refusal_by, with_accepted, with_refused}
 use Rattle.lq_run.proofs.Since.{leave_then, leave_wider, none_yet}
 use Rattle.lq_run.proofs.Takes.{still_next}
-use Rattle.lq_run.specs.Crashes.{CrashesLeave}
 use Rattle.lq_run.specs.Crashing.{CrashesClosing, CrashesNext, CrashesStep, CrashesTaken, LeftAlone, LeftInClosing, LeftInNext, LeftInStep, MayFree}
 use Rattle.lq_run.specs.Holds.{IsBare}
 use Rattle.lq_run.specs.Does.{AbortFor, AloneFor, DoesAlone, Faults}
@@ -333,13 +332,13 @@ module _ {Key Told : Type 0} (d : Dialect) (m : Meaning Key) (stamp : Stamp) (nu
         refused = refl;
       }))
 
-  pub back_crash : (before : Standing Key Told) (x : State) (a b : Crashes) → before.hand.phase ≡ phase.GivingUp → CrashesLeave x.entries LeftAlone a b → CrashesStep d m stamp number before x a b
-  back_crash before x a b gives leave start s told is held =
+  pub back_crash : (before : Standing Key Told) (met : Option StoreFault) (x : State) (a b : Crashes) → before.hand.phase ≡ phase.GivingUp → CrashesLeave x.entries LeftAlone a b → CrashesStep d m stamp number before met x a b
+  back_crash before met x a b gives leave start s told is held =
       let here : place before ≡ GivingUp (turns_of before) = ap (λ p. hand_place p (calls_left before.hand) before.hand.goes_on (turns_of before)) gives in
-      leave_wider x.entries LeftAlone (LeftInStep d m stamp number before s) a b (λ there left it. inl (record { call = Abort; others = _; next = ap (λ p. rest d m stamp p (both_of s)) here; by = refl; is = none_yet d Abort s there left it })) leave
+      leave_wider x.entries LeftAlone (LeftInStep d m stamp number before met s) a b (λ there left it. inl (record { call = Abort; others = _; next = ap (λ p. rest d m stamp p (both_of s)) here; by = refl; is = none_yet d Abort s there left it })) leave
 
-  pub next_crash : (before : Standing Key Told) (x : State) (a b : Crashes) → CrashesNext d m stamp number (place before) x a b → CrashesStep d m stamp number before x a b
-  next_crash before x a b crash start s told is held = leave_wider x.entries (LeftInNext d m stamp number (place before) s) (LeftInStep d m stamp number before s) a b (λ there left it. inl it) (crash start s is.at)
+  pub next_crash : (before : Standing Key Told) (met : Option StoreFault) (x : State) (a b : Crashes) → CrashesNext d m stamp number (place before) x a b → CrashesStep d m stamp number before met x a b
+  next_crash before met x a b crash start s told is held = leave_wider x.entries (LeftInNext d m stamp number (place before) s) (LeftInStep d m stamp number before met s) a b (λ there left it. inl it) (crash start s is.at)
 
   -- what is to come is the same from another place
   pub from_same : (before here after : Standing Key Told) (told : Told) (x y start : State) (s : Session) (result : Step) → rest d m stamp (place before) (both_of s) ≡ rest d m stamp (place here) (both_of s)
@@ -443,9 +442,9 @@ module _ {Key Told : Type 0} (d : Dialect) (m : Meaning Key) (stamp : Stamp) (nu
       }
 
       -- and its first call is made
-      pub entered_crash : (a b : Crashes) → CrashesNext d m stamp number entered_place x a b → CrashesStep d m stamp number before x a b
-      entered_crash a b crash start s told is held =
-          leave_wider x.entries (LeftInNext d m stamp number entered_place s) (LeftInStep d m stamp number before s) a b
+      pub entered_crash : (met : Option StoreFault) (a b : Crashes) → CrashesNext d m stamp number entered_place x a b → CrashesStep d m stamp number before met x a b
+      entered_crash met a b crash start s told is held =
+          leave_wider x.entries (LeftInNext d m stamp number entered_place s) (LeftInStep d m stamp number before met s) a b
           (λ there left it. inl (record { call = it.call; others = it.others; next = entered_same start s told is ∙ it.next; by = it.by; is = it.is })) (crash start s (entered_at start s told is))
 
     pub steps_entered : (enters : enters_turns before.fault before.refused ≡ true) (hand : Hand) (turns : Turns Key) (way : Dialect → Stamp → Told → Way) (p : Progress) (after : Standing Key Told) (y : State) (result : Step)
@@ -466,31 +465,33 @@ module _ {Key Told : Type 0} (d : Dialect) (m : Meaning Key) (stamp : Stamp) (nu
 
     -- the lock is freed
 
-    frees : (why : Option StoreFault) (a b : Crashes) (start : State) (s : Session) → IsAt d m stamp number (place before) x start s → (why ≡ None → (before.fault ≡ None) × (rest d m stamp (place before) (both_of s) ≡ closing ∷ []))
-        → CrashesClosing d stamp number why x a b → CrashesLeave x.entries (LeftInStep d m stamp number before s) a b
-    frees why a b start s is last crash =
-        leave_wider x.entries (LeftInClosing d stamp why s) (LeftInStep d m stamp number before s) a b (λ there left it. inr (may it.0, it.1)) (crash start s is.dialect is.stands fit) where
+    frees : (why met : Option StoreFault) (a b : Crashes) (start : State) (s : Session) → IsAt d m stamp number (place before) x start s → (why ≡ None → (before.fault ≡ None) × (rest d m stamp (place before) (both_of s) ≡ closing ∷ []))
+        → (is_some why ≡ true → is_some met ≡ true) → CrashesClosing d stamp number why x a b → CrashesLeave x.entries (LeftInStep d m stamp number before met s) a b
+    frees why met a b start s is last stays crash =
+        leave_wider x.entries (LeftInClosing d stamp why s) (LeftInStep d m stamp number before met s) a b (λ there left it. inr (may why last stays it.0, it.1)) (crash start s is.dialect is.stands fit) where
           fit : all_fit d (Locks Freed ∷ []) s.seen ≡ true
           fit = ap (λ b. b && true) is.row.1
 
-          may : (why ≡ None) ⊎ IsBare stamp s.committed.lock → MayFree d m stamp number before s
-          may (inl none) = inl (last none)
-          may (inr bare) = inr (bare, (is_shut d m stamp number x shut start s is.stands).0)
+          may : (w : Option StoreFault) → (w ≡ None → (before.fault ≡ None) × (rest d m stamp (place before) (both_of s) ≡ closing ∷ [])) → (is_some w ≡ true → is_some met ≡ true) → (w ≡ None) ⊎ IsBare stamp s.committed.lock → MayFree d m stamp number before met s
+          may None only meets so = inl (only refl)
+          may (Some f) only meets (inl none) = absurd (some_none none)
+          may (Some f) only meets (inr bare) = inr (meets refl, (bare, (is_shut d m stamp number x shut start s is.stands).0))
 
-    pub ended_crash : enters_turns before.fault before.refused ≡ true → (turns : Turns Key) (way : Told → Way) (a b : Crashes) → Enters d m stamp before.turns (before.way d stamp) (seen number x) entered.NoTurn turns way
-        → CrashesClosing d stamp number before.fault x a b → CrashesStep d m stamp number before x a b
-    ended_crash enters turns way a b is_entered crash start s told is held =
+    pub ended_crash : enters_turns before.fault before.refused ≡ true → (turns : Turns Key) (way : Told → Way) (met : Option StoreFault) (a b : Crashes) → Enters d m stamp before.turns (before.way d stamp) (seen number x) entered.NoTurn turns way
+        → (is_some before.fault ≡ true → is_some met ≡ true) → CrashesClosing d stamp number before.fault x a b → CrashesStep d m stamp number before met x a b
+    ended_crash enters turns way met a b is_entered stays crash start s told is held =
         let at_seen = is_entered s.committed (seen_stands d m stamp number x shut start s is.at.stands is.at.dialect) told (knows_them start s told is enters) in
-        frees before.fault a b start s is.at
-        (λ none. (none, rest_between start s is.at.stands ∙ ap (λ t. rest_at d m stamp (between t) (contents_of s.committed)) (entering enters) ∙ at_seen.0)) crash
+        frees before.fault met a b start s is.at
+        (λ none. (none, rest_between start s is.at.stands ∙ ap (λ t. rest_at d m stamp (between t) (contents_of s.committed)) (entering enters) ∙ at_seen.0)) stays crash
 
-    pub stopped_crash : enters_turns before.fault before.refused ≡ false → (a b : Crashes) → CrashesClosing d stamp number before.fault x a b → CrashesStep d m stamp number before x a b
-    stopped_crash stopped a b crash start s told is held =
-        frees before.fault a b start s is.at
-        (λ none. (none, rest_between start s is.at.stands ∙ ap (λ b. rest_at d m stamp (between (if_goes_on b before.turns)) (contents_of s.committed)) stopped)) crash
+    pub stopped_crash : enters_turns before.fault before.refused ≡ false → (met : Option StoreFault) (a b : Crashes) → (is_some before.fault ≡ true → is_some met ≡ true) → CrashesClosing d stamp number before.fault x a b
+        → CrashesStep d m stamp number before met x a b
+    stopped_crash stopped met a b stays crash start s told is held =
+        frees before.fault met a b start s is.at
+        (λ none. (none, rest_between start s is.at.stands ∙ ap (λ b. rest_at d m stamp (between (if_goes_on b before.turns)) (contents_of s.committed)) stopped)) stays crash
 
-    pub short_crash : (a b : Crashes) → CrashesClosing d stamp number (Some fault.OutOfMemory) x a b → CrashesStep d m stamp number before x a b
-    short_crash a b crash start s told is held = frees (Some fault.OutOfMemory) a b start s is.at (λ none. absurd (some_none none)) crash
+    pub short_crash : (met : Option StoreFault) (a b : Crashes) → is_some met ≡ true → CrashesClosing d stamp number (Some fault.OutOfMemory) x a b → CrashesStep d m stamp number before met x a b
+    short_crash met a b meets crash start s told is held = frees (Some fault.OutOfMemory) met a b start s is.at (λ none. absurd (some_none none)) (λ some. meets) crash
 
     ends_as : (f : Option StoreFault) (r : Option Refusal) (after : Standing Key Told) (told : Told) (y start : State) (s : Session) (result : Step) (p : Place Key) → IsAt d m stamp number p x start s → rest d m stamp p (both_of s) ≡ closing ∷ []
         → ((e : End) → Ends d m stamp number p f r start s x e y → EndsStep d m stamp number before start s x e y) → (f ≡ None → TellsAs (after.way d stamp told) (last_end None r))

@@ -1,6 +1,6 @@
 -- What a session's call or step leaves to the other sessions, and what it has open then, whatever the store stands for.
 use Rattle.std.specs.Option.{option_map}
-use Rattle.std.specs.Prelude.{Bool, Err, List, None, Ok, Option, Result, false, nat_eq, not, true, ℕ, ◌++◌, ◌≡◌}
+use Rattle.std.specs.Prelude.{Bool, Err, List, None, Ok, Result, false, nat_eq, not, true, ℕ, ◌++◌, ◌≡◌}
 use Rattle.lq_base.specs.declared.dialect.Dialect.{Dialect}
 use Rattle.lq_model.specs.declared.fault.StoreFault.{StoreFault}
 use Rattle.lq_store.specs.Journal.{Entry}
@@ -19,9 +19,11 @@ abbrev pub is_disk_result : {T : Type 0} → Result T StoreFault → Bool
 is_disk_result (Ok x) = false
 is_disk_result (Err why) = is_disk why
 
--- The store lives unless the disk failed. The journal's entries stay, with others behind them, and other sessions have open what they had.
+-- The store lives unless the disk failed, and keeps its dialect and its limit. The journal's entries stay, with others behind them, and other sessions have open what they had.
 pub record Beside (session : ℕ) (failed : Bool) (x y : State) : Type 0 where
   pub live : y.live ≡ not failed
+  pub dialect : y.dialect ≡ x.dialect
+  pub limit : y.limit ≡ x.limit
   pub more : List Entry
   pub entries : y.entries ≡ option_map (λ entries. entries ++ more) x.entries
   pub others : y.live ≡ true → (other : ℕ) → nat_eq session other ≡ false → is_open other y.begun ≡ is_open other x.begun

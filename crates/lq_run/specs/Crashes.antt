@@ -1,11 +1,12 @@
 -- What a crash of the machine at any moment of a command leaves, in words of databases.
-use Rattle.std.specs.Prelude.{IfSome, IsTrue, List, Ok, Option, Some, [], false, map, true, ℕ, ◌++◌, ◌∷◌, ◌≡◌, ◌≤◌, ◌⊎◌}
+use Rattle.std.specs.Prelude.{IfSome, List, Ok, Some, [], false, map, true, ℕ, ◌++◌, ◌∷◌, ◌≡◌}
 use Rattle.lq_base.specs.declared.dialect.Dialect.{Dialect}
 use Rattle.lq_base.specs.declared.identity.Identity.{Identity}
 use Rattle.lq_base.specs.declared.tracking.Tracked.{Tracked}
 use Rattle.lq_model.specs.Catalogue.{Catalogue}
 use Rattle.lq_model.specs.declared.caller.Room.TheVariants.{Ordinary}
 use Rattle.lq_store.specs.Crashes.{Crashes}
+pub use Rattle.lq_store.specs.Crashes.{CrashesLeave, Since}
 use Rattle.lq_store.specs.Journal.{Entry, database as run_to}
 use Rattle.lq_store.specs.State.{State}
 use Rattle.lq_track.specs.Database.{Database}
@@ -24,16 +25,6 @@ use Rattle.lq_beside.specs.Replays.{calls_fit}
 use Rattle.lq_run.specs.Commands.{HasDatabase, OnAll, script}
 use Rattle.lq_run.specs.Stands.{entries_of}
 use Rattle.lq_run.specs.Steps.{Standing, place}
-
--- A crash at any moment of the run leaves entries of which this holds; for one that began earlier, or what a crash before the run might have left.
-pub record Since (Left : List Entry → Type 0) (before now : Crashes) : Type 0 where
-  pub honest : now.is_honest ≡ before.is_honest
-  pub later : before.moment ≤ now.moment
-  pub each : IsTrue before.is_honest → (t : ℕ) (left : Option (List Entry)) → t ≤ before.moment → now.left_since t left → before.left_since t left ⊎ ((entries : List Entry) × (left ≡ Some entries) × Left entries)
-
--- the same where the entries that were there are told
-abbrev pub CrashesLeave : Option (List Entry) → (List Entry → List Entry → Type 0) → Crashes → Crashes → Type 0
-CrashesLeave entries Left before now = IfSome entries (λ there. Since (Left there) before now)
 
 -- The entries that were there, and what a stop of these calls may leave; run again, they lead to a database.
 pub record LeftInCommand (d : Dialect) (calls : List Call) (database : Database) (there left : List Entry) : Type 0 where

@@ -1,5 +1,5 @@
 -- What a crash of the machine at any moment of a call, a step or a run leaves, in words of sessions.
-use Rattle.std.specs.Prelude.{List, None, Option, [], false, map, true, ℕ, ◌++◌, ◌∷◌, ◌≡◌, ◌⊎◌}
+use Rattle.std.specs.Prelude.{List, None, Option, [], false, is_some, map, true, ℕ, ◌++◌, ◌∷◌, ◌≡◌, ◌⊎◌}
 use Rattle.lq_base.specs.declared.dialect.Dialect.{Dialect}
 use Rattle.lq_model.specs.declared.caller.Room.TheVariants.{Ordinary}
 use Rattle.lq_model.specs.declared.fault.StoreFault.{StoreFault}
@@ -74,16 +74,17 @@ module _ {Key : Type 0} (d : Dialect) (m : Meaning Key) (stamp : Stamp) (number 
   CrashesTaken hand x before now = (turns : Turns Key) → CrashesNext (place_of hand turns) x before now
 
 module _ {Key Told : Type 0} (d : Dialect) (m : Meaning Key) (stamp : Stamp) (number : ℕ) where
-  -- the lock is freed by the last call of the script, where there was no fault; or, without a mark, where no transaction is open
-  abbrev pub MayFree : Standing Key Told → Session → Type 0
-  MayFree r s = ((r.fault ≡ None) × (rest d m stamp (place r) (both_of s) ≡ closing ∷ [])) ⊎ (IsBare stamp s.committed.lock × (s.is_open ≡ false))
+  -- the lock is freed by the last call of the script, where there was no fault; or after a fault, without a mark, where no transaction is open
+  abbrev pub MayFree : Standing Key Told → Option StoreFault → Session → Type 0
+  MayFree r met s = ((r.fault ≡ None) × (rest d m stamp (place r) (both_of s) ≡ closing ∷ [])) ⊎ ((is_some met ≡ true) × (IsBare stamp s.committed.lock × (s.is_open ≡ false)))
 
-  abbrev pub LeftInStep : Standing Key Told → Session → List Entry → List Entry → Type 0
-  LeftInStep r s there left = LeftInNext d m stamp number (place r) s there left ⊎ (MayFree r s × LeftInCall d closing s there left)
+  -- of a step after which it has met this fault
+  abbrev pub LeftInStep : Standing Key Told → Option StoreFault → Session → List Entry → List Entry → Type 0
+  LeftInStep r met s there left = LeftInNext d m stamp number (place r) s there left ⊎ (MayFree r met s × LeftInCall d closing s there left)
 
   -- for each session for which the store stands there, where the lock is still held
-  abbrev pub CrashesStep : Standing Key Told → State → Crashes → Crashes → Type 0
-  CrashesStep r x before now = (start : State) (s : Session) (told : Told) → IsThere d m stamp number r x start s told → (IsBetween r.hand → IsHeld stamp s.committed.lock) → CrashesLeave x.entries (LeftInStep r s) before now
+  abbrev pub CrashesStep : Standing Key Told → Option StoreFault → State → Crashes → Crashes → Type 0
+  CrashesStep r met x before now = (start : State) (s : Session) (told : Told) → IsThere d m stamp number r x start s told → (IsBetween r.hand → IsHeld stamp s.committed.lock) → CrashesLeave x.entries (LeftInStep r met s) before now
 
 -- Of a command.
 

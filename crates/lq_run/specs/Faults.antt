@@ -1,5 +1,6 @@
 -- Which answers tell of a disk fault.
-use Rattle.std.specs.Prelude.{Bool, false, true}
+use Rattle.std.specs.Prelude.{Bool, Option, false, is_some, true, ◌≡◌}
+use Rattle.lq_model.specs.declared.fault.StoreFault.{StoreFault}
 use Rattle.lq_run.specs.Steps.{is_disk}
 use Rattle.lq_run.specs.declared.hand.Moved.{Moved}
 use Rattle.lq_run.specs.declared.hand.Moved.TheVariants as moved
@@ -25,3 +26,11 @@ is_disk_end end.OutOfMemory = false
 abbrev pub is_disk_step : Step → Bool
 is_disk_step step.Going = false
 is_disk_step (step.Ended e) = is_disk_end e
+
+-- with a fault a command does not come to its end, and that its lock is gone was no fault of this step
+abbrev pub StopsAs : Option StoreFault → Step → Type 0
+StopsAs before step.Going = Unit {0}
+StopsAs before (step.Ended end.Done) = ⊥
+StopsAs before (step.Ended (end.Refused refusal)) = ⊥
+StopsAs before (step.Ended (end.Locked lock)) = is_some before ≡ true
+StopsAs before (step.Ended e) = Unit {0}

@@ -3,6 +3,7 @@ ghost use Rattle.lq_model.specs.Catalogue.{table_of};
 ghost use Rattle.lq_run.specs.Beside.{Beside, is_disk_result};
 ghost use Rattle.lq_run.specs.Crashes.{BehindOpened, BehindReleased, BehindTagged, CrashesOpened, CrashesReleased, CrashesTagged};
 ghost use Rattle.lq_run.specs.Crashing.{CrashesFor, CrashesOpening};
+ghost use Rattle.lq_store.specs.Crashes.{CrashesLeave, Keeps};
 ghost use Rattle.lq_run.specs.Does.{AllWritable, AloneFor};
 ghost use Rattle.lq_run.specs.Left.{LeavesOpened, LeavesReleased, LeavesTagged};
 ghost use Rattle.lq_run.specs.Opens.{FailsFirst, OpensOn, TakesLock, opening_by};
@@ -58,6 +59,7 @@ pub fn take_lock<S: Store, P: SqlText>(
     ensures any_moment { CrashesOpened dialect stamp.now (S.state store.old) (S.crashes store.old) (S.crashes store.new) }
     ensures faults { CountsDisk result (S.faults store.old) (S.faults store.new) }
     ensures beside { Beside session (is_disk_result result) (S.state store.old) (S.state store.new) }
+    ensures keeps { CrashesLeave (S.state store.old).entries Keeps (S.crashes store.old) (S.crashes store.new) }
     ensures shuts { (S.state store.new).live ≡ true → is_open session (S.state store.new).begun ≡ false }
 {
     statements_read_back();
@@ -97,6 +99,7 @@ pub fn tag_row<S: Store, P: SqlText>(
     ensures any_moment { CrashesTagged dialect of tag (S.state store.old) (S.crashes store.old) (S.crashes store.new) }
     ensures faults { CountsDisk result (S.faults store.old) (S.faults store.new) }
     ensures beside { Beside session (is_disk_result result) (S.state store.old) (S.state store.new) }
+    ensures keeps { CrashesLeave (S.state store.old).entries Keeps (S.crashes store.old) (S.crashes store.new) }
     ensures shuts { (S.state store.new).live ≡ true → is_open session (S.state store.new).begun ≡ false }
 {
     statements_read_back();
@@ -131,6 +134,7 @@ pub fn free_lock<S: Store, P: SqlText>(
     ensures any_moment { CrashesReleased dialect (S.state store.old) (S.crashes store.old) (S.crashes store.new) }
     ensures faults { CountsDisk result (S.faults store.old) (S.faults store.new) }
     ensures beside { Beside session (is_disk_result result) (S.state store.old) (S.state store.new) }
+    ensures keeps { CrashesLeave (S.state store.old).entries Keeps (S.crashes store.old) (S.crashes store.new) }
     ensures shuts { (S.state store.new).live ≡ true → is_open session (S.state store.new).begun ≡ false }
 {
     statements_read_back();

@@ -1,7 +1,7 @@
 ghost use Rattle.std.specs.Prelude.{◌≡◌, ◌++◌, IfOk, IsTrue, None, OnOk, false, true};
 ghost use Rattle.lq_hand.specs.Writable.{IsWritable};
 ghost use Rattle.lq_run.specs.Beside.{Beside, is_disk_result, open_after};
-ghost use Rattle.lq_run.specs.Crashes.{CrashesLeave};
+ghost use Rattle.lq_store.specs.Crashes.{CrashesLeave, Keeps};
 ghost use Rattle.lq_run.specs.Crashing.{CrashesFor, LeftAlone};
 ghost use Rattle.lq_run.specs.Does.{AbortFor, AllRead, AllWritable, AloneFor, BeginFor, CommitFor, DoesFor, IsRead, Reads};
 ghost use Rattle.lq_run.specs.Moves.{moved_of};
@@ -35,6 +35,7 @@ pub fn do_deed<S: Store>(
     ensures crash { CrashesFor dialect session (call.Execute deed.now) (S.state store.old) (S.crashes store.old) (S.crashes store.new) }
     ensures faults { CountsDisk result (S.faults store.old) (S.faults store.new) }
     ensures beside { Beside session (is_disk_result result) (S.state store.old) (S.state store.new) }
+    ensures keeps { CrashesLeave (S.state store.old).entries Keeps (S.crashes store.old) (S.crashes store.new) }
     ensures leaves_open { (S.state store.new).live ≡ true → is_open session (S.state store.new).begun ≡ true }
 {
     match store.execute(session, caller(deed), text) {
@@ -53,6 +54,7 @@ pub fn commit<S: Store>(session: u32, store: &mut S, dialect: Dialect) -> Result
     ensures crash { CrashesFor dialect session call.Commit (S.state store.old) (S.crashes store.old) (S.crashes store.new) }
     ensures faults { CountsDisk result (S.faults store.old) (S.faults store.new) }
     ensures beside { Beside session (is_disk_result result) (S.state store.old) (S.state store.new) }
+    ensures keeps { CrashesLeave (S.state store.old).entries Keeps (S.crashes store.old) (S.crashes store.new) }
     ensures leaves_open { (S.state store.new).live ≡ true → is_open session (S.state store.new).begun ≡ open_after (moved_of result) call.Commit }
 {
     store.commit(session)
@@ -68,6 +70,7 @@ pub fn begin<S: Store>(session: u32, store: &mut S, dialect: Dialect) -> Result<
     ensures crash { CrashesLeave (S.state store.old).entries LeftAlone (S.crashes store.old) (S.crashes store.new) }
     ensures faults { CountsDisk result (S.faults store.old) (S.faults store.new) }
     ensures beside { Beside session (is_disk_result result) (S.state store.old) (S.state store.new) }
+    ensures keeps { CrashesLeave (S.state store.old).entries Keeps (S.crashes store.old) (S.crashes store.new) }
     ensures leaves_open { other session (S.state store.old) ≡ None → is_open session (S.state store.new).begun ≡ true }
 {
     store.begin(session)
@@ -83,6 +86,7 @@ pub fn abort<S: Store>(session: u32, store: &mut S, dialect: Dialect)
     ensures crash { CrashesLeave (S.state store.old).entries LeftAlone (S.crashes store.old) (S.crashes store.new) }
     ensures faults { S.faults store.new ≡ S.faults store.old }
     ensures beside { Beside session false (S.state store.old) (S.state store.new) }
+    ensures keeps { CrashesLeave (S.state store.old).entries Keeps (S.crashes store.old) (S.crashes store.new) }
     ensures shuts { is_open session (S.state store.new).begun ≡ false }
 {
     store.abort(session);
@@ -109,6 +113,7 @@ pub fn do_alone<S: Store, P: SqlText>(
     ensures crash { CrashesFor dialect session (call.Alone deeds.now room) (S.state store.old) (S.crashes store.old) (S.crashes store.new) }
     ensures faults { CountsDisk result (S.faults store.old) (S.faults store.new) }
     ensures beside { Beside session (is_disk_result result) (S.state store.old) (S.state store.new) }
+    ensures keeps { CrashesLeave (S.state store.old).entries Keeps (S.crashes store.old) (S.crashes store.new) }
     ensures shuts { (S.state store.new).live ≡ true → is_open session (S.state store.new).begun ≡ false }
 {
     let mut texts = Items::new(alloc);

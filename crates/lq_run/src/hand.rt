@@ -5,6 +5,7 @@ ghost use Rattle.lq_hand.specs.Writable.{IsWritable};
 ghost use Rattle.lq_outside.specs.Count.{Rose};
 ghost use Rattle.lq_run.specs.Beside.{AsksNext, Beside, open_after};
 ghost use Rattle.lq_run.specs.Crashing.{CrashesFor, CrashesTaken};
+ghost use Rattle.lq_store.specs.Crashes.{CrashesLeave, Keeps};
 ghost use Rattle.lq_run.specs.Faults.{is_disk_move};
 ghost use Rattle.lq_run.specs.Moves.{Makes, MovesTo, Takes, WasOpen, moved_of};
 ghost use Rattle.lq_store.specs.State.{is_open, other};
@@ -55,6 +56,7 @@ pub fn take<T: Source, S: Store, P: SqlText>(
     ensures later { S.faults store.old ≤ S.faults store.new }
     ensures rose { is_disk_move result ≡ true → Rose (S.faults store.old) (S.faults store.new) }
     ensures beside { Beside session (is_disk_move result) (S.state store.old) (S.state store.new) }
+    ensures keeps { CrashesLeave (S.state store.old).entries Keeps (S.crashes store.old) (S.crashes store.new) }
     ensures asks { other session (S.state store.old) ≡ None → (S.state store.new).live ≡ true → AsksNext dialect result hand.new (is_open session (S.state store.new).begun) }
 {
     let Some(call) = hand.calls.pop() else {
@@ -91,6 +93,7 @@ fn make<T: Source, S: Store, P: SqlText>(
     ensures later { S.faults store.old ≤ S.faults store.new }
     ensures rose { is_disk_move result ≡ true → Rose (S.faults store.old) (S.faults store.new) }
     ensures beside { Beside session (is_disk_move result) (S.state store.old) (S.state store.new) }
+    ensures keeps { CrashesLeave (S.state store.old).entries Keeps (S.crashes store.old) (S.crashes store.new) }
     ensures leaves_open { other session (S.state store.old) ≡ None → (S.state store.new).live ≡ true → is_open session (S.state store.new).begun ≡ open_after result call.now }
 {
     match call {
@@ -121,6 +124,7 @@ fn execute<T: Source, S: Store, P: SqlText>(
     ensures later { S.faults store.old ≤ S.faults store.new }
     ensures rose { is_disk_move result ≡ true → Rose (S.faults store.old) (S.faults store.new) }
     ensures beside { Beside session (is_disk_move result) (S.state store.old) (S.state store.new) }
+    ensures keeps { CrashesLeave (S.state store.old).entries Keeps (S.crashes store.old) (S.crashes store.new) }
     ensures leaves_open { (S.state store.new).live ≡ true → is_open session (S.state store.new).begun ≡ true }
 {
     match print(alloc, sql, dialect, deed) {

@@ -1,18 +1,19 @@
-ghost use Rattle.std.specs.Prelude.{◌≡◌, ◌≢◌, ◌≤◌, [], Bool, IfSome, IsTrue, None, Some, false, true};
+ghost use Rattle.std.specs.Prelude.{◌≡◌, ◌≢◌, ◌≤◌, [], Bool, IfSome, IsTrue, None, Option, Some, false, is_some, true};
 ghost use Rattle.lq_hand.specs.Enters.{Enters};
 ghost use Rattle.lq_hand.specs.Way.{Expects, Looks};
 ghost use Rattle.lq_hand.specs.Hand.{AreTurns, IsReady, calls_left};
 ghost use Rattle.lq_hand.specs.declared.hand.Phase.TheVariants as phase;
 ghost use Rattle.lq_model.specs.declared.fault.StoreFault.TheVariants as fault;
+ghost use Rattle.lq_model.specs.declared.fault.StoreFault.{StoreFault as Fault};
 ghost use Rattle.lq_base.specs.declared.dialect.Dialect.{Dialect};
 ghost use Rattle.lq_outside.specs.Count.{Rose};
 ghost use Rattle.lq_hand.specs.Counts.{first_coming};
 ghost use Rattle.lq_run.specs.Beside.{Beside, IsSet};
-ghost use Rattle.lq_run.specs.Crashes.{CrashesLeave};
+ghost use Rattle.lq_store.specs.Crashes.{CrashesLeave, Keeps};
 ghost use Rattle.lq_run.specs.Crashing.{CrashesClosing, CrashesFor, CrashesNext, CrashesStep, LeftAlone};
 ghost use Rattle.lq_run.specs.Does.{AbortFor};
 ghost use Rattle.lq_run.specs.Ends.{disk_failed};
-ghost use Rattle.lq_run.specs.Faults.{is_disk_step};
+ghost use Rattle.lq_run.specs.Faults.{StopsAs, is_disk_step};
 ghost use Rattle.lq_run.specs.Holds.{Holds, HoldsAs};
 ghost use Rattle.lq_run.specs.Steps.{ClosesFor, EndsFor, FailsTo, GoesOn, IsShowing, KnownIn, Loses, Shows, Steps, StepsShown, TellsLock, end_of, enters_turns, is_disk, is_over, is_statement, last_end, no_turn, place, standing, stopped_by};
 ghost use Rattle.lq_run.specs.declared.runner.Step.TheVariants as step;
@@ -105,13 +106,16 @@ impl<T: Source + Drop> Runner<T> {
         ensures same { (self.new.dialect ≡ self.old.dialect) × (self.new.stamp ≡ self.old.stamp) }
         ensures reads { T.reads self.new.source self.new.dialect }
         ensures steps { Steps self.old.dialect T.meaning self.old.stamp session (standing T.left T.way self.old) (standing T.left T.way self.new) (S.state store.old) result (S.state store.new) }
-        ensures crash { CrashesStep self.old.dialect T.meaning self.old.stamp session (standing T.left T.way self.old) (S.state store.old) (S.crashes store.old) (S.crashes store.new) }
+        ensures crash { CrashesStep self.old.dialect T.meaning self.old.stamp session (standing T.left T.way self.old) self.new.fault (S.state store.old) (S.crashes store.old) (S.crashes store.new) }
         ensures lost { Loses self.old.dialect self.old.stamp self.old.hand (S.state store.old) result (S.state store.new) }
         ensures disk { disk_failed self.new.fault ≡ false }
         ensures later { S.faults store.old ≤ S.faults store.new }
         ensures rose { is_disk_step result ≡ true → Rose (S.faults store.old) (S.faults store.new) }
         ensures going { GoesOn result self.new.hand.phase }
         ensures beside { Beside session (is_disk_step result) (S.state store.old) (S.state store.new) }
+        ensures keeps { CrashesLeave (S.state store.old).entries Keeps (S.crashes store.old) (S.crashes store.new) }
+        ensures stays { is_some self.old.fault ≡ true → is_some self.new.fault ≡ true }
+        ensures stops { is_some self.new.fault ≡ true → StopsAs self.old.fault result }
         ensures asks { IsSet self.old.dialect session self.new.hand (S.state store.old) (S.state store.new) }
     {
         match self.hand.phase {
@@ -135,13 +139,16 @@ impl<T: Source + Drop> Runner<T> {
         ensures same { (self.new.dialect ≡ self.old.dialect) × (self.new.stamp ≡ self.old.stamp) }
         ensures reads { T.reads self.new.source self.new.dialect }
         ensures steps { Steps self.old.dialect T.meaning self.old.stamp session (standing T.left T.way self.old) (standing T.left T.way self.new) (S.state store.old) result (S.state store.new) }
-        ensures crash { CrashesStep self.old.dialect T.meaning self.old.stamp session (standing T.left T.way self.old) (S.state store.old) (S.crashes store.old) (S.crashes store.new) }
+        ensures crash { CrashesStep self.old.dialect T.meaning self.old.stamp session (standing T.left T.way self.old) self.new.fault (S.state store.old) (S.crashes store.old) (S.crashes store.new) }
         ensures lost { Loses self.old.dialect self.old.stamp self.old.hand (S.state store.old) result (S.state store.new) }
         ensures disk { disk_failed self.new.fault ≡ false }
         ensures later { S.faults store.old ≤ S.faults store.new }
         ensures rose { is_disk_step result ≡ true → Rose (S.faults store.old) (S.faults store.new) }
         ensures going { GoesOn result self.new.hand.phase }
         ensures beside { Beside session (is_disk_step result) (S.state store.old) (S.state store.new) }
+        ensures keeps { CrashesLeave (S.state store.old).entries Keeps (S.crashes store.old) (S.crashes store.new) }
+        ensures stays { is_some self.old.fault ≡ true → is_some self.new.fault ≡ true }
+        ensures stops { is_some self.new.fault ≡ true → StopsAs self.old.fault result }
         ensures asks { IsSet self.old.dialect session self.new.hand (S.state store.old) (S.state store.new) }
     {
         if self.hand.calls.is_empty() {
@@ -172,6 +179,9 @@ impl<T: Source + Drop> Runner<T> {
         ensures rose { is_disk_step result ≡ true → Rose (S.faults store.old) (S.faults store.new) }
         ensures going { GoesOn result self.new.hand.phase }
         ensures beside { Beside session (is_disk_step result) (S.state store.old) (S.state store.new) }
+        ensures keeps { CrashesLeave (S.state store.old).entries Keeps (S.crashes store.old) (S.crashes store.new) }
+        ensures stays { is_some self.old.fault ≡ true → is_some self.new.fault ≡ true }
+        ensures stops { is_some self.new.fault ≡ true → StopsAs self.old.fault result }
         ensures asks { IsSet self.old.dialect session self.new.hand (S.state store.old) (S.state store.new) }
     {
         let call = next_coming(self.dialect, &self.hand);
@@ -205,6 +215,9 @@ impl<T: Source + Drop> Runner<T> {
         ensures rose { is_disk_step result ≡ true → Rose (S.faults store.old) (S.faults store.new) }
         ensures going { GoesOn result self.new.hand.phase }
         ensures beside { Beside session (is_disk_step result) (S.state store.old) (S.state store.new) }
+        ensures keeps { CrashesLeave (S.state store.old).entries Keeps (S.crashes store.old) (S.crashes store.new) }
+        ensures stays { is_some self.old.fault ≡ true → is_some self.new.fault ≡ true }
+        ensures stops { is_some self.new.fault ≡ true → StopsAs self.old.fault result }
         ensures asks { IsSet self.old.dialect session self.new.hand (S.state store.old) (S.state store.new) }
     {
         match take::<T, S, P>(
@@ -245,6 +258,8 @@ impl<T: Source + Drop> Runner<T> {
         ensures fails { FailsTo fault self.new.hand.phase self.new.fault result }
         ensures disk { disk_failed self.new.fault ≡ false }
         ensures told { is_disk_step result ≡ is_disk fault }
+        ensures stays { is_some self.old.fault ≡ true → is_some self.new.fault ≡ true }
+        ensures stops { StopsAs self.old.fault result }
         ensures going { GoesOn result self.new.hand.phase }
     {
         if is_disk(fault) {
@@ -275,6 +290,7 @@ impl<T: Source + Drop> Runner<T> {
         ensures faults { S.faults store.new ≡ S.faults store.old }
         ensures going { GoesOn result self.new.hand.phase }
         ensures beside { Beside session false (S.state store.old) (S.state store.new) }
+        ensures keeps { CrashesLeave (S.state store.old).entries Keeps (S.crashes store.old) (S.crashes store.new) }
         ensures shuts { is_open session (S.state store.new).begun ≡ false }
     {
         abort(session, store, self.dialect);
@@ -295,13 +311,16 @@ impl<T: Source + Drop> Runner<T> {
         ensures same { (self.new.dialect ≡ self.old.dialect) × (self.new.stamp ≡ self.old.stamp) }
         ensures reads { T.reads self.new.source self.new.dialect }
         ensures steps { Steps self.old.dialect T.meaning self.old.stamp session (standing T.left T.way self.old) (standing T.left T.way self.new) (S.state store.old) result (S.state store.new) }
-        ensures crash { CrashesStep self.old.dialect T.meaning self.old.stamp session (standing T.left T.way self.old) (S.state store.old) (S.crashes store.old) (S.crashes store.new) }
+        ensures crash { CrashesStep self.old.dialect T.meaning self.old.stamp session (standing T.left T.way self.old) self.new.fault (S.state store.old) (S.crashes store.old) (S.crashes store.new) }
         ensures lost { Loses self.old.dialect self.old.stamp self.old.hand (S.state store.old) result (S.state store.new) }
         ensures disk { disk_failed self.new.fault ≡ false }
         ensures later { S.faults store.old ≤ S.faults store.new }
         ensures rose { is_disk_step result ≡ true → Rose (S.faults store.old) (S.faults store.new) }
         ensures going { GoesOn result self.new.hand.phase }
         ensures beside { Beside session (is_disk_step result) (S.state store.old) (S.state store.new) }
+        ensures keeps { CrashesLeave (S.state store.old).entries Keeps (S.crashes store.old) (S.crashes store.new) }
+        ensures stays { is_some self.old.fault ≡ true → is_some self.new.fault ≡ true }
+        ensures stops { is_some self.new.fault ≡ true → StopsAs self.old.fault result }
         ensures asks { IsSet self.old.dialect session self.new.hand (S.state store.old) (S.state store.new) }
     {
         abort(session, store, self.dialect);
@@ -325,13 +344,16 @@ impl<T: Source + Drop> Runner<T> {
         ensures same { (self.new.dialect ≡ self.old.dialect) × (self.new.stamp ≡ self.old.stamp) }
         ensures reads { T.reads self.new.source self.new.dialect }
         ensures steps { Steps self.old.dialect T.meaning self.old.stamp session (standing T.left T.way self.old) (standing T.left T.way self.new) (S.state store.old) result (S.state store.new) }
-        ensures crash { CrashesStep self.old.dialect T.meaning self.old.stamp session (standing T.left T.way self.old) (S.state store.old) (S.crashes store.old) (S.crashes store.new) }
+        ensures crash { CrashesStep self.old.dialect T.meaning self.old.stamp session (standing T.left T.way self.old) self.new.fault (S.state store.old) (S.crashes store.old) (S.crashes store.new) }
         ensures lost { Loses self.old.dialect self.old.stamp self.old.hand (S.state store.old) result (S.state store.new) }
         ensures disk { disk_failed self.new.fault ≡ false }
         ensures later { S.faults store.old ≤ S.faults store.new }
         ensures rose { is_disk_step result ≡ true → Rose (S.faults store.old) (S.faults store.new) }
         ensures going { GoesOn result self.new.hand.phase }
         ensures beside { Beside session (is_disk_step result) (S.state store.old) (S.state store.new) }
+        ensures keeps { CrashesLeave (S.state store.old).entries Keeps (S.crashes store.old) (S.crashes store.new) }
+        ensures stays { is_some self.old.fault ≡ true → is_some self.new.fault ≡ true }
+        ensures stops { is_some self.new.fault ≡ true → StopsAs self.old.fault result }
         ensures asks { IsSet self.old.dialect session self.new.hand (S.state store.old) (S.state store.new) }
     {
         match stands(&self.stamp, store) {
@@ -365,12 +387,15 @@ impl<T: Source + Drop> Runner<T> {
         ensures same { (self.new.dialect ≡ self.old.dialect) × (self.new.stamp ≡ self.old.stamp) }
         ensures reads { T.reads self.new.source self.new.dialect }
         ensures steps { Steps self.old.dialect T.meaning self.old.stamp session (standing T.left T.way self.old) (standing T.left T.way self.new) (S.state store.old) result (S.state store.new) }
-        ensures crash { CrashesStep self.old.dialect T.meaning self.old.stamp session (standing T.left T.way self.old) (S.state store.old) (S.crashes store.old) (S.crashes store.new) }
+        ensures crash { CrashesStep self.old.dialect T.meaning self.old.stamp session (standing T.left T.way self.old) self.new.fault (S.state store.old) (S.crashes store.old) (S.crashes store.new) }
         ensures disk { disk_failed self.new.fault ≡ false }
         ensures later { S.faults store.old ≤ S.faults store.new }
         ensures rose { is_disk_step result ≡ true → Rose (S.faults store.old) (S.faults store.new) }
         ensures going { GoesOn result self.new.hand.phase }
         ensures beside { Beside session (is_disk_step result) (S.state store.old) (S.state store.new) }
+        ensures keeps { CrashesLeave (S.state store.old).entries Keeps (S.crashes store.old) (S.crashes store.new) }
+        ensures stays { is_some self.old.fault ≡ true → is_some self.new.fault ≡ true }
+        ensures stops { is_some self.new.fault ≡ true → StopsAs self.old.fault result }
         ensures asks { IsSet self.old.dialect session self.new.hand (S.state store.old) (S.state store.new) }
     {
         if may_enter(self.fault, self.refused) {
@@ -402,12 +427,15 @@ impl<T: Source + Drop> Runner<T> {
         ensures same { (self.new.dialect ≡ self.old.dialect) × (self.new.stamp ≡ self.old.stamp) }
         ensures reads { T.reads self.new.source self.new.dialect }
         ensures steps { Steps self.old.dialect T.meaning self.old.stamp session (standing T.left T.way self.old) (standing T.left T.way self.new) (S.state store.old) result (S.state store.new) }
-        ensures crash { CrashesStep self.old.dialect T.meaning self.old.stamp session (standing T.left T.way self.old) (S.state store.old) (S.crashes store.old) (S.crashes store.new) }
+        ensures crash { CrashesStep self.old.dialect T.meaning self.old.stamp session (standing T.left T.way self.old) self.new.fault (S.state store.old) (S.crashes store.old) (S.crashes store.new) }
         ensures disk { disk_failed self.new.fault ≡ false }
         ensures later { S.faults store.old ≤ S.faults store.new }
         ensures rose { is_disk_step result ≡ true → Rose (S.faults store.old) (S.faults store.new) }
         ensures going { GoesOn result self.new.hand.phase }
         ensures beside { Beside session (is_disk_step result) (S.state store.old) (S.state store.new) }
+        ensures keeps { CrashesLeave (S.state store.old).entries Keeps (S.crashes store.old) (S.crashes store.new) }
+        ensures stays { is_some self.old.fault ≡ true → is_some self.new.fault ≡ true }
+        ensures stops { is_some self.new.fault ≡ true → StopsAs self.old.fault result }
         ensures asks { IsSet self.old.dialect session self.new.hand (S.state store.old) (S.state store.new) }
     {
         match next(
@@ -458,6 +486,9 @@ impl<T: Source + Drop> Runner<T> {
         ensures rose { is_disk_step result ≡ true → Rose (S.faults store.old) (S.faults store.new) }
         ensures going { GoesOn result self.new.hand.phase }
         ensures beside { Beside session (is_disk_step result) (S.state store.old) (S.state store.new) }
+        ensures keeps { CrashesLeave (S.state store.old).entries Keeps (S.crashes store.old) (S.crashes store.new) }
+        ensures stays { is_some self.old.fault ≡ true → is_some self.new.fault ≡ true }
+        ensures stops { (before : Option Fault) → is_some self.new.fault ≡ true → StopsAs before result }
         ensures asks { IsSet self.old.dialect session self.new.hand (S.state store.old) (S.state store.new) }
     {
         match self.fault {
@@ -494,6 +525,9 @@ impl<T: Source + Drop> Runner<T> {
         ensures rose { is_disk_step result ≡ true → Rose (S.faults store.old) (S.faults store.new) }
         ensures going { GoesOn result self.new.hand.phase }
         ensures beside { Beside session (is_disk_step result) (S.state store.old) (S.state store.new) }
+        ensures keeps { CrashesLeave (S.state store.old).entries Keeps (S.crashes store.old) (S.crashes store.new) }
+        ensures stays { is_some self.old.fault ≡ true → is_some self.new.fault ≡ true }
+        ensures stops { (before : Option Fault) → is_some self.new.fault ≡ true → StopsAs before result }
         ensures asks { IsSet self.old.dialect session self.new.hand (S.state store.old) (S.state store.new) }
     {
         if is_marked {
@@ -521,6 +555,9 @@ impl<T: Source + Drop> Runner<T> {
         ensures rose { is_disk_step result ≡ true → Rose (S.faults store.old) (S.faults store.new) }
         ensures going { GoesOn result self.new.hand.phase }
         ensures beside { Beside session (is_disk_step result) (S.state store.old) (S.state store.new) }
+        ensures keeps { CrashesLeave (S.state store.old).entries Keeps (S.crashes store.old) (S.crashes store.new) }
+        ensures stays { is_some self.old.fault ≡ true → is_some self.new.fault ≡ true }
+        ensures stops { (before : Option Fault) → is_some self.new.fault ≡ true → StopsAs before result }
         ensures asks { IsSet self.old.dialect session self.new.hand (S.state store.old) (S.state store.new) }
     {
         self.hand.phase = Phase::Over;
@@ -643,6 +680,7 @@ fn locked<S: Store>(alloc: Global, store: &S) -> Step
     requires live { IsTrue (S.state store.now).live }
     ensures tells { IfSome (lock_of (S.state store.now).dialect (S.state store.now).committed) (λ lock. TellsLock lock result) }
     ensures told { is_disk_step result ≡ false }
+    ensures stops { (before : Option Fault) → is_some before ≡ true → StopsAs before result }
     ensures over { GoesOn result phase.Over }
 {
     tell(alloc, store.lock())
@@ -651,6 +689,7 @@ fn locked<S: Store>(alloc: Global, store: &S) -> Step
 fn tell(alloc: Global, lock: &Lock) -> Step
     ensures tells { TellsLock lock.now result }
     ensures told { is_disk_step result ≡ false }
+    ensures stops { (before : Option Fault) → is_some before ≡ true → StopsAs before result }
     ensures over { GoesOn result phase.Over }
 {
     match lock.duplicate(alloc) {

@@ -3,7 +3,7 @@ use Rattle.std.proofs.Common.{ap, arith, inl, subst, sym, ◌∙◌}
 use Rattle.std.proofs.lemmas.Bool.Decides.{nat_tests}
 use Rattle.std.proofs.lemmas.List.{append-nil}
 use Rattle.std.specs.Option.{option_map}
-use Rattle.std.specs.Prelude.{List, None, Option, Some, [], cond, false, if◌then◌else◌, is_some, nat_eq, refl, true, ℕ, ◌&&◌, ◌++◌, ◌≡◌}
+use Rattle.std.specs.Prelude.{Bool, List, None, Option, Some, [], cond, false, if◌then◌else◌, is_some, nat_eq, refl, true, ℕ, ◌&&◌, ◌++◌, ◌≡◌}
 use Rattle.lq_base.specs.declared.dialect.Dialect.{Dialect}
 use Rattle.lq_base.specs.declared.tracking.Lock.{Lock}
 use Rattle.lq_drill.proofs.Machines.{answered_is}
@@ -40,11 +40,14 @@ nothing_more (Some e) = ap (λ l. Some l) (sym (append-nil e))
 
 -- the store stays as it was
 pub lets_be : (session : ℕ) (x : State) → LetsBe session x x
-lets_be session x = record { grows = record { more = []; entries = nothing_more x.entries }; others = λ live other apart. refl }
+lets_be session x = record { grows = record { dialect = refl; limit = refl; more = []; entries = nothing_more x.entries }; others = λ live other apart. refl }
 
 pub no_fault : (o : Option ℕ) (why : DrillFault) → Some (looked o) ≡ Some (Failed why) → ⊥
 no_fault None why is = cc
 no_fault (Some n) why is = cc
+
+pub no_fault_met : {A : Type 0} → (let no_fault : Bool = false in no_fault) ≡ true → A
+no_fault_met met = cc
 
 own_number : (n : ℕ) → nat_eq n n ≡ true
 own_number n = grind (arith, nat_tests)

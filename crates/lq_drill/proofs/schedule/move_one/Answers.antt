@@ -1,6 +1,7 @@
 use Rattle.std.proofs.Common.{subst, sym, ◌∙◌}
-use Rattle.lq_drill.proofs.Moved.{ended, is_ready, none_idle, none_of, put_back, stays_there, still_apart, still_ready, takes_step}
-use Rattle.lq_drill.specs.Drill.{Each, HasNotFailed, IsReady}
+use Rattle.lq_drill.proofs.Moved.{ended, is_ready, leaves_step, none_idle, none_of, put_back, stands_still, stays_there, still_apart, still_faulted, still_met, still_ready, takes_step}
+use Rattle.lq_drill.specs.Drill.{Each, HasFaulted, HasNotFailed, IsReady}
+use Rattle.lq_drill.specs.Player.{HasMet}
 use Rattle.lq_drill.proofs.schedule.move_one.Goals as goal
 
 pub step-requires-clause-sql : goal.step-requires-clause-sql
@@ -45,3 +46,23 @@ returns-clause-follows g c = λ jobs origin database steps dialect apart follows
     (none_of _ (sym c.has_answered.ensures ∙ c.if-has_answered.false))
     (dialect ∙ sym (is_ready _ _ _ g.R.Player.standing c.args.players.now.items c.args.number _ c.requires.number c.index_mut-player.ensures.value g.P.SqlText.dialect (g.S.Store.state c.args.store.now) c.requires.ready).dialect)
     c.step.ensures.moves c.step.ensures.lets_be apart c.step.ensures.owns c.step.ensures.faulted g.met.R.Player.held follows
+
+pub returns-then-has_answered-clause-met : goal.returns-then-has_answered-clause-met
+returns-then-has_answered-clause-met g c = subst (λ l. Each g.R.Player.standing (HasMet g.R.Player.failed) l) (sym (put_back _ _ _ g.R.Player.standing c.args.players.now.items c.args.number _ c.requires.number c.index_mut-player.ensures.value)) c.requires.met
+
+pub returns-then-has_answered-clause-faulted : goal.returns-then-has_answered-clause-faulted
+returns-then-has_answered-clause-faulted g c = λ n faulted. subst (λ l. HasFaulted g.R.Player.standing l n) (sym (put_back _ _ _ g.R.Player.standing c.args.players.now.items c.args.number _ c.requires.number c.index_mut-player.ensures.value)) faulted
+
+pub returns-then-has_answered-clause-crash : goal.returns-then-has_answered-clause-crash
+returns-then-has_answered-clause-crash g c = λ jobs origin database steps dialect follows. stands_still _ _ _ g.R.Player.standing c.args.players.now.items c.args.number _ c.requires.number c.index_mut-player.ensures.value jobs origin database steps (g.S.Store.crashes c.args.store.now)
+
+pub returns-clause-met : goal.returns-clause-met
+returns-clause-met g c = still_met _ _ _ g.R.Player.standing c.args.players.now.items c.args.number _ c.requires.number c.index_mut-player.ensures.value c.step.new.self g.R.Player.failed c.requires.met c.step.ensures.met
+
+pub returns-clause-faulted : goal.returns-clause-faulted
+returns-clause-faulted g c = still_faulted _ _ _ g.R.Player.standing c.args.players.now.items c.args.number _ c.requires.number c.index_mut-player.ensures.value c.step.new.self c.step.ensures.faulted
+
+pub returns-clause-crash : goal.returns-clause-crash
+returns-clause-crash g c = λ jobs origin database steps dialect follows.
+    leaves_step _ _ _ g.R.Player.standing c.args.players.now.items c.args.number _ c.requires.number c.index_mut-player.ensures.value c.step.new.self jobs origin database steps (g.S.Store.state c.args.store.now) (g.S.Store.crashes c.args.store.now) (g.S.Store.crashes c.step.new.store)
+    (dialect ∙ sym (is_ready _ _ _ g.R.Player.standing c.args.players.now.items c.args.number _ c.requires.number c.index_mut-player.ensures.value g.P.SqlText.dialect (g.S.Store.state c.args.store.now) c.requires.ready).dialect) c.step.ensures.crash c.step.ensures.keeps c.step.ensures.faulted follows

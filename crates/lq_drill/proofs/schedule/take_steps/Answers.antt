@@ -1,7 +1,9 @@
 use Rattle.std.proofs.Common.{arith, le_trans, refl, rules, subst, sym, ◌∙◌}
-use Rattle.std.specs.Prelude.{Err, ◌+◌, ◌≡◌}
+use Rattle.std.specs.Prelude.{Err, [], ◌+◌, ◌≡◌}
+use Rattle.lq_drill.proofs.Crashed.{leave_none}
 use Rattle.lq_drill.proofs.Steps.{all_steps, rose_later, step_on, stop_on}
-use Rattle.lq_drill.specs.Drill.{EndsAs}
+use Rattle.lq_drill.proofs.Stopped.{leaves_all, leaves_on}
+use Rattle.lq_drill.specs.Drill.{EndsAs, LeftInDrill}
 use Rattle.lq_drill.proofs.schedule.take_steps.Goals as goal
 
 pub loop-number-init : goal.loop-number-init
@@ -11,9 +13,11 @@ loop-number-init g c = record {
   count = refl;
   ready = c.requires.ready;
   going = c.requires.going;
+  met = c.requires.met;
   idle = refl;
   later = search rules;
   follows = λ jobs origin database dialect apart follows. follows;
+  crash = λ jobs origin database dialect apart follows. leave_none origin.entries (LeftInDrill g.R.Player.standing jobs origin database [] c.args.players.now.items) (g.S.Store.crashes c.args.store.now);
   apart = λ apart. apart;
 }
 
@@ -25,12 +29,18 @@ loop-number-preserved g c =
       count = c.in_ok-move_one.ensures.count ∙ k.count;
       ready = c.in_ok-move_one.ensures.ready (c.in_ok-move_one.ensures.live refl);
       going = c.in_ok-move_one.ensures.ends;
+      met = c.in_ok-move_one.ensures.met;
       idle = c.in_ok-move_one.ensures.idle (c.in_ok-move_one.ensures.live refl) ∙ k.idle;
       later = le_trans k.later c.in_ok-move_one.ensures.later;
       follows = λ jobs origin database dialect apart follows. step_on _ _ _ g.R.Player.standing jobs origin database c.args.steps.now c.loop-number.number-index c.loop-number.players.items c.move_one.new.players.items (g.S.Store.state c.loop-number.store) (g.S.Store.state c.move_one.new.store)
           (omega arith) (k.follows jobs origin database dialect apart follows) (λ ns before. c.in_ok-move_one.ensures.follows jobs origin database ns dialect (k.apart apart) before);
+      crash = λ jobs origin database dialect apart follows. leaves_on _ _ _ g.R.Player.standing jobs origin database c.args.steps.now c.loop-number.number-index c.loop-number.players.items c.move_one.new.players.items (g.S.Store.crashes c.args.store.now) (g.S.Store.crashes c.loop-number.store) (g.S.Store.crashes c.move_one.new.store)
+          (omega arith) c.in_ok-move_one.ensures.faulted (k.crash jobs origin database dialect apart follows) (c.in_ok-move_one.ensures.crash jobs origin database _ dialect (k.follows jobs origin database dialect apart follows));
       apart = λ apart. c.in_ok-move_one.ensures.apart (k.apart apart);
     }
+
+pub returns-in_err-move_one-clause-count : goal.returns-in_err-move_one-clause-count
+returns-in_err-move_one-clause-count g c = c.in_err-move_one.ensures.count ∙ c.loop-number.invariant.count
 
 pub returns-in_err-move_one-clause-idle : goal.returns-in_err-move_one-clause-idle
 returns-in_err-move_one-clause-idle g c = λ live. c.in_err-move_one.ensures.idle live ∙ c.loop-number.invariant.idle
@@ -58,3 +68,14 @@ returns-in_err-move_one-clause-rose g c =
 pub returns-clause-follows : goal.returns-clause-follows
 returns-clause-follows g c = λ jobs origin database dialect apart follows.
     all_steps _ _ _ g.R.Player.standing jobs origin database c.args.steps.now c.loop-number.number-index c.loop-number.players.items (g.S.Store.state c.loop-number.store) (omega arith) (c.loop-number.invariant.follows jobs origin database dialect apart follows)
+
+pub returns-in_err-move_one-clause-crash : goal.returns-in_err-move_one-clause-crash
+returns-in_err-move_one-clause-crash g c = λ jobs origin database dialect apart follows.
+    let k = c.loop-number.invariant in
+    leaves_all _ _ _ g.R.Player.standing jobs origin database c.args.steps.now (c.loop-number.number-index + 1) c.move_one.new.players.items (g.S.Store.crashes c.args.store.now) (g.S.Store.crashes c.move_one.new.store)
+    (leaves_on _ _ _ g.R.Player.standing jobs origin database c.args.steps.now c.loop-number.number-index c.loop-number.players.items c.move_one.new.players.items (g.S.Store.crashes c.args.store.now) (g.S.Store.crashes c.loop-number.store) (g.S.Store.crashes c.move_one.new.store)
+    (omega arith) c.in_err-move_one.ensures.faulted (k.crash jobs origin database dialect apart follows) (c.in_err-move_one.ensures.crash jobs origin database _ dialect (k.follows jobs origin database dialect apart follows)))
+
+pub returns-clause-crash : goal.returns-clause-crash
+returns-clause-crash g c = λ jobs origin database dialect apart follows.
+    leaves_all _ _ _ g.R.Player.standing jobs origin database c.args.steps.now c.loop-number.number-index c.loop-number.players.items (g.S.Store.crashes c.args.store.now) (g.S.Store.crashes c.loop-number.store) (c.loop-number.invariant.crash jobs origin database dialect apart follows)

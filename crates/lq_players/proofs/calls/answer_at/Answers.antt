@@ -1,6 +1,6 @@
 use Rattle.std.proofs.Common.{ap, sym, ◌∙◌}
-use Rattle.lq_players.specs.Answers.{is_failed_end, refusal_in}
-use Rattle.lq_players.proofs.Told.{always, no_disk, ok_map}
+use Rattle.lq_players.specs.Answers.{is_failed_end, is_told_end, refusal_in}
+use Rattle.lq_players.proofs.Told.{always, no_disk, no_fact, ok_map}
 use Rattle.lq_players.proofs.calls.answer_at.Goals as goal
 
 pub returns-in-Done-clause-whole : goal.returns-in-Done-clause-whole
@@ -8,6 +8,9 @@ returns-in-Done-clause-whole g c = always c.told.result _ (ap is_failed_end c.in
 
 pub returns-in-Done-clause-ends : goal.returns-in-Done-clause-ends
 returns-in-Done-clause-ends g c = ok_map c.told.result _ _ c.told.ensures.ends (λ a it is. it ∙ ap (λ r. g.T.Checks.ends c.args.source.now r) (sym (ap refusal_in c.in-Done.is)))
+
+pub returns-in-Done-clause-locked : goal.returns-in-Done-clause-locked
+returns-in-Done-clause-locked g c = ok_map c.told.result _ _ c.told.ensures.own (λ a own untold. no_fact (sym untold ∙ ap is_told_end c.in-Done.is))
 
 pub returns-in-Done-clause-disk : goal.returns-in-Done-clause-disk
 returns-in-Done-clause-disk g c = λ is. no_disk c.told.result c.told.ensures.fault is
@@ -17,6 +20,9 @@ returns-in-Refused-clause-whole g c = always c.told-in-Refused.result _ (ap is_f
 
 pub returns-in-Refused-clause-ends : goal.returns-in-Refused-clause-ends
 returns-in-Refused-clause-ends g c = ok_map c.told-in-Refused.result _ _ c.told-in-Refused.ensures.ends (λ a it is. it ∙ ap (λ r. g.T.Checks.ends c.args.source.now r) (sym (ap refusal_in c.in-Refused.is)))
+
+pub returns-in-Refused-clause-locked : goal.returns-in-Refused-clause-locked
+returns-in-Refused-clause-locked g c = ok_map c.told-in-Refused.result _ _ c.told-in-Refused.ensures.own (λ a own untold. no_fact (sym untold ∙ ap is_told_end c.in-Refused.is))
 
 pub returns-in-Refused-clause-disk : goal.returns-in-Refused-clause-disk
 returns-in-Refused-clause-disk g c = λ is. no_disk c.told-in-Refused.result c.told-in-Refused.ensures.fault is

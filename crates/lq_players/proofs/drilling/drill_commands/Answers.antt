@@ -27,3 +27,8 @@ pub returns-clause-in_turn : goal.returns-clause-in_turn
 returns-clause-in_turn g c = λ tasks database stands have faultless in_turn.
     let origin = g.S.Store.state c.args.store.now in
     c.drill.ensures.serial (works origin.dialect tasks) database (begins_with c.names_are_apart.ensures origin tasks database c.args.players.now.items stands have) faultless in_turn
+
+pub returns-clause-crash : goal.returns-clause-crash
+returns-clause-crash g c = λ tasks database stands have.
+    let origin = g.S.Store.state c.args.store.now in
+    c.drill.ensures.crash (works origin.dialect tasks) database (begins_with c.names_are_apart.ensures origin tasks database c.args.players.now.items stands have)

@@ -10,6 +10,7 @@ use Rattle.lq_run.proofs.Stopping.{opened}
 use Rattle.lq_run.specs.Crashing.{CrashesFor}
 use Rattle.lq_turns.specs.declared.call.Call.TheVariants.{Alone}
 use Rattle.lq_run.proofs.Beside.{first_beside}
+use Rattle.lq_store.specs.Crashes.{Keeps}
 use Rattle.lq_run.proofs.alone.take_lock.Goals as goal
 
 pub returns-in-Ok-clause-does : goal.returns-in-Ok-clause-does
@@ -70,3 +71,6 @@ returns-in-Err-clause-behind g c =
 
 pub returns-in-Err-clause-beside : goal.returns-in-Err-clause-beside
 returns-in-Err-clause-beside g c = first_beside c.args.session (g.S.Store.state c.args.store.now) c.in-Err.fault c.requires.live c.in-Err.ensures.fails
+
+pub returns-in-Err-clause-keeps : goal.returns-in-Err-clause-keeps
+returns-in-Err-clause-keeps g c = leave_none (g.S.Store.state c.args.store.now).entries Keeps (g.S.Store.crashes c.args.store.now)

@@ -2,6 +2,7 @@ use Rattle.std.specs.Prelude.{Err, Ok}
 use Rattle.lq_run.proofs.ToldCalls.{deed_told, is_read}
 use Rattle.lq_run.proofs.CallCrashes.{deed_crash}
 use Rattle.lq_run.proofs.Beside.{deed_beside, deed_opens}
+use Rattle.lq_run.proofs.Since.{keeps_call}
 use Rattle.lq_run.proofs.calls.do_deed.Goals as goal
 
 pub returns-in-Ok-clause-does : goal.returns-in-Ok-clause-does
@@ -35,3 +36,9 @@ returns-in-Err-clause-beside g c = deed_beside c.args.session (g.S.Store.state c
 
 pub returns-in-Err-clause-leaves_open : goal.returns-in-Err-clause-leaves_open
 returns-in-Err-clause-leaves_open g c = deed_opens c.args.session (g.S.Store.state c.args.store.now) (g.S.Store.state c.execute.new.self) c.requires.live c.caller.result c.args.text.now (Err c.in-Err.fault) c.requires.open_here c.in-Err.ensures.does
+
+pub returns-in-Ok-clause-keeps : goal.returns-in-Ok-clause-keeps
+returns-in-Ok-clause-keeps g c = keeps_call (g.S.Store.state c.args.store.now).entries _ (g.S.Store.crashes c.args.store.now) (g.S.Store.crashes c.execute.new.self) c.in-Ok.ensures.crash
+
+pub returns-in-Err-clause-keeps : goal.returns-in-Err-clause-keeps
+returns-in-Err-clause-keeps g c = keeps_call (g.S.Store.state c.args.store.now).entries _ (g.S.Store.crashes c.args.store.now) (g.S.Store.crashes c.execute.new.self) c.in-Err.ensures.crash

@@ -4,6 +4,8 @@ use Rattle.lq_run.specs.Moves.{Makes, WasOpen}
 use Rattle.lq_turns.specs.declared.call.Call.TheVariants.{Execute}
 use Rattle.lq_run.proofs.CallCrashes.{none_for}
 use Rattle.lq_run.proofs.Beside.{move_beside, stays}
+use Rattle.lq_run.proofs.Since.{leave_none}
+use Rattle.lq_store.specs.Crashes.{Keeps}
 use Rattle.lq_run.proofs.hand.execute.Goals as goal
 
 pub returns-in-Ok-clause-makes : goal.returns-in-Ok-clause-makes
@@ -26,3 +28,6 @@ returns-in-Ok-clause-beside g c = move_beside c.args.session (g.S.Store.state c.
 
 pub returns-in-Err-clause-beside : goal.returns-in-Err-clause-beside
 returns-in-Err-clause-beside g c = stays c.args.session (g.S.Store.state c.args.store.now) c.requires.live
+
+pub returns-in-Err-clause-keeps : goal.returns-in-Err-clause-keeps
+returns-in-Err-clause-keeps g c = leave_none (g.S.Store.state c.args.store.now).entries Keeps (g.S.Store.crashes c.args.store.now)

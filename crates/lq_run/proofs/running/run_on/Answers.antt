@@ -46,9 +46,9 @@ loop-preserved g c =
           (subst (λ d. Steps d g.T.Source.meaning r.stamp c.args.session now next (g.S.Store.state c.loop.store) step.Going (g.S.Store.state c.step.new.store)) k.dialect
           (subst (λ t. Steps c.loop.runner.dialect g.T.Source.meaning t c.args.session now next (g.S.Store.state c.loop.store) step.Going (g.S.Store.state c.step.new.store)) k.stamp c.in-Going.ensures.steps));
       crash = λ start s told is. leave_then start.entries (LeftInRun r.dialect r.stamp s (at_end r.dialect g.T.Source.meaning r.stamp c.args.session (place (standing g.T.Source.left g.T.Source.way r)) s)) (g.S.Store.crashes c.args.store.now) (g.S.Store.crashes c.loop.store) (g.S.Store.crashes c.step.new.store) (k.crash start s told is)
-          (step_crash r.dialect g.T.Source.meaning r.stamp c.args.session now told start s (at_end r.dialect g.T.Source.meaning r.stamp c.args.session (place (standing g.T.Source.left g.T.Source.way r)) s) (g.S.Store.state c.loop.store) (k.reaches start s told is) (g.S.Store.crashes c.loop.store) (g.S.Store.crashes c.step.new.store)
-          (subst (λ d. CrashesStep d g.T.Source.meaning r.stamp c.args.session now (g.S.Store.state c.loop.store) (g.S.Store.crashes c.loop.store) (g.S.Store.crashes c.step.new.store)) k.dialect
-          (subst (λ t. CrashesStep c.loop.runner.dialect g.T.Source.meaning t c.args.session now (g.S.Store.state c.loop.store) (g.S.Store.crashes c.loop.store) (g.S.Store.crashes c.step.new.store)) k.stamp c.in-Going.ensures.crash)));
+          (step_crash r.dialect g.T.Source.meaning r.stamp c.args.session now told start s (at_end r.dialect g.T.Source.meaning r.stamp c.args.session (place (standing g.T.Source.left g.T.Source.way r)) s) (g.S.Store.state c.loop.store) (k.reaches start s told is) c.step.new.self.fault (g.S.Store.crashes c.loop.store) (g.S.Store.crashes c.step.new.store)
+          (subst (λ d. CrashesStep d g.T.Source.meaning r.stamp c.args.session now c.step.new.self.fault (g.S.Store.state c.loop.store) (g.S.Store.crashes c.loop.store) (g.S.Store.crashes c.step.new.store)) k.dialect
+          (subst (λ t. CrashesStep c.loop.runner.dialect g.T.Source.meaning t c.args.session now c.step.new.self.fault (g.S.Store.state c.loop.store) (g.S.Store.crashes c.loop.store) (g.S.Store.crashes c.step.new.store)) k.stamp c.in-Going.ensures.crash)));
     }
 
 pub returns-in-Ended-clause-ends : goal.returns-in-Ended-clause-ends
@@ -92,6 +92,6 @@ returns-in-Ended-clause-crash g c =
     let r = c.args.runner.now in
     let now = standing g.T.Source.left g.T.Source.way c.loop.runner in
     λ start s told is. leave_then start.entries (LeftInRun r.dialect r.stamp s (at_end r.dialect g.T.Source.meaning r.stamp c.args.session (place (standing g.T.Source.left g.T.Source.way r)) s)) (g.S.Store.crashes c.args.store.now) (g.S.Store.crashes c.loop.store) (g.S.Store.crashes c.step.new.store) (k.crash start s told is)
-    (step_crash r.dialect g.T.Source.meaning r.stamp c.args.session now told start s (at_end r.dialect g.T.Source.meaning r.stamp c.args.session (place (standing g.T.Source.left g.T.Source.way r)) s) (g.S.Store.state c.loop.store) (k.reaches start s told is) (g.S.Store.crashes c.loop.store) (g.S.Store.crashes c.step.new.store)
-    (subst (λ d. CrashesStep d g.T.Source.meaning r.stamp c.args.session now (g.S.Store.state c.loop.store) (g.S.Store.crashes c.loop.store) (g.S.Store.crashes c.step.new.store)) k.dialect
-    (subst (λ t. CrashesStep c.loop.runner.dialect g.T.Source.meaning t c.args.session now (g.S.Store.state c.loop.store) (g.S.Store.crashes c.loop.store) (g.S.Store.crashes c.step.new.store)) k.stamp c.in-Ended.ensures.crash)))
+    (step_crash r.dialect g.T.Source.meaning r.stamp c.args.session now told start s (at_end r.dialect g.T.Source.meaning r.stamp c.args.session (place (standing g.T.Source.left g.T.Source.way r)) s) (g.S.Store.state c.loop.store) (k.reaches start s told is) c.step.new.self.fault (g.S.Store.crashes c.loop.store) (g.S.Store.crashes c.step.new.store)
+    (subst (λ d. CrashesStep d g.T.Source.meaning r.stamp c.args.session now c.step.new.self.fault (g.S.Store.state c.loop.store) (g.S.Store.crashes c.loop.store) (g.S.Store.crashes c.step.new.store)) k.dialect
+    (subst (λ t. CrashesStep c.loop.runner.dialect g.T.Source.meaning t c.args.session now c.step.new.self.fault (g.S.Store.state c.loop.store) (g.S.Store.crashes c.loop.store) (g.S.Store.crashes c.step.new.store)) k.stamp c.in-Ended.ensures.crash)))

@@ -19,7 +19,7 @@ step-requires-clause-going g c = subst (λ p. (command_stands p).answer ≡ None
 
 pub returns-in-AtOnce-clause-took : goal.returns-in-AtOnce-clause-took
 returns-in-AtOnce-clause-took g c =
-    subst (λ p. Took c.args.session (command_stands p) (command_stands (any.AtOnce c.step.new.self)) (g.S.Store.state c.args.store.now) (g.S.Store.state c.step.new.store) c.step.result) (sym c.in-AtOnce.is) (record {
+    subst (λ p. Took c.args.session (command_stands p) (command_stands (any.AtOnce c.step.new.self)) (g.S.Store.state c.args.store.now) (g.S.Store.state c.step.new.store) (g.S.Store.crashes c.args.store.now) (g.S.Store.crashes c.step.new.store) c.step.result) (sym c.in-AtOnce.is) (record {
       live = c.step.ensures.live;
       dialect = c.step.ensures.dialect;
       ready = c.step.ensures.ready;
@@ -27,8 +27,11 @@ returns-in-AtOnce-clause-took g c =
       lets_be = c.step.ensures.lets_be;
       owns = c.step.ensures.owns;
       faulted = c.step.ensures.faulted;
+      met = c.step.ensures.met;
       ends = c.step.ensures.ends;
       moves = c.step.ensures.moves;
+      crash = c.step.ensures.crash;
+      keeps = c.step.ensures.keeps;
     })
 
 pub step-requires-in-Update-clause-sql : goal.step-requires-in-Update-clause-sql
@@ -45,7 +48,7 @@ step-requires-in-Update-clause-going g c = subst (λ p. (command_stands p).answe
 
 pub returns-in-Update-clause-took : goal.returns-in-Update-clause-took
 returns-in-Update-clause-took g c =
-    subst (λ p. Took c.args.session (command_stands p) (command_stands (any.Update c.step-in-Update.new.self)) (g.S.Store.state c.args.store.now) (g.S.Store.state c.step-in-Update.new.store) c.step-in-Update.result) (sym c.in-Update.is) (record {
+    subst (λ p. Took c.args.session (command_stands p) (command_stands (any.Update c.step-in-Update.new.self)) (g.S.Store.state c.args.store.now) (g.S.Store.state c.step-in-Update.new.store) (g.S.Store.crashes c.args.store.now) (g.S.Store.crashes c.step-in-Update.new.store) c.step-in-Update.result) (sym c.in-Update.is) (record {
       live = c.step-in-Update.ensures.live;
       dialect = c.step-in-Update.ensures.dialect;
       ready = c.step-in-Update.ensures.ready;
@@ -53,8 +56,11 @@ returns-in-Update-clause-took g c =
       lets_be = c.step-in-Update.ensures.lets_be;
       owns = c.step-in-Update.ensures.owns;
       faulted = c.step-in-Update.ensures.faulted;
+      met = c.step-in-Update.ensures.met;
       ends = c.step-in-Update.ensures.ends;
       moves = c.step-in-Update.ensures.moves;
+      crash = c.step-in-Update.ensures.crash;
+      keeps = c.step-in-Update.ensures.keeps;
     })
 
 pub step-requires-in-Rollback-clause-sql : goal.step-requires-in-Rollback-clause-sql
@@ -71,7 +77,7 @@ step-requires-in-Rollback-clause-going g c = subst (λ p. (command_stands p).ans
 
 pub returns-in-Rollback-clause-took : goal.returns-in-Rollback-clause-took
 returns-in-Rollback-clause-took g c =
-    subst (λ p. Took c.args.session (command_stands p) (command_stands (any.Rollback c.step-in-Rollback.new.self)) (g.S.Store.state c.args.store.now) (g.S.Store.state c.step-in-Rollback.new.store) c.step-in-Rollback.result) (sym c.in-Rollback.is) (record {
+    subst (λ p. Took c.args.session (command_stands p) (command_stands (any.Rollback c.step-in-Rollback.new.self)) (g.S.Store.state c.args.store.now) (g.S.Store.state c.step-in-Rollback.new.store) (g.S.Store.crashes c.args.store.now) (g.S.Store.crashes c.step-in-Rollback.new.store) c.step-in-Rollback.result) (sym c.in-Rollback.is) (record {
       live = c.step-in-Rollback.ensures.live;
       dialect = c.step-in-Rollback.ensures.dialect;
       ready = c.step-in-Rollback.ensures.ready;
@@ -79,8 +85,11 @@ returns-in-Rollback-clause-took g c =
       lets_be = c.step-in-Rollback.ensures.lets_be;
       owns = c.step-in-Rollback.ensures.owns;
       faulted = c.step-in-Rollback.ensures.faulted;
+      met = c.step-in-Rollback.ensures.met;
       ends = c.step-in-Rollback.ensures.ends;
       moves = c.step-in-Rollback.ensures.moves;
+      crash = c.step-in-Rollback.ensures.crash;
+      keeps = c.step-in-Rollback.ensures.keeps;
     })
 
 pub step-requires-in-Sync-clause-sql : goal.step-requires-in-Sync-clause-sql
@@ -97,7 +106,7 @@ step-requires-in-Sync-clause-going g c = subst (λ p. (command_stands p).answer 
 
 pub returns-in-Sync-clause-took : goal.returns-in-Sync-clause-took
 returns-in-Sync-clause-took g c =
-    subst (λ p. Took c.args.session (command_stands p) (command_stands (any.Sync c.step-in-Sync.new.self)) (g.S.Store.state c.args.store.now) (g.S.Store.state c.step-in-Sync.new.store) c.step-in-Sync.result) (sym c.in-Sync.is) (record {
+    subst (λ p. Took c.args.session (command_stands p) (command_stands (any.Sync c.step-in-Sync.new.self)) (g.S.Store.state c.args.store.now) (g.S.Store.state c.step-in-Sync.new.store) (g.S.Store.crashes c.args.store.now) (g.S.Store.crashes c.step-in-Sync.new.store) c.step-in-Sync.result) (sym c.in-Sync.is) (record {
       live = c.step-in-Sync.ensures.live;
       dialect = c.step-in-Sync.ensures.dialect;
       ready = c.step-in-Sync.ensures.ready;
@@ -105,6 +114,9 @@ returns-in-Sync-clause-took g c =
       lets_be = c.step-in-Sync.ensures.lets_be;
       owns = c.step-in-Sync.ensures.owns;
       faulted = c.step-in-Sync.ensures.faulted;
+      met = c.step-in-Sync.ensures.met;
       ends = c.step-in-Sync.ensures.ends;
       moves = c.step-in-Sync.ensures.moves;
+      crash = c.step-in-Sync.ensures.crash;
+      keeps = c.step-in-Sync.ensures.keeps;
     })

@@ -26,3 +26,12 @@ returns-clause-ends g c = c.play.ensures.took.ends
 
 pub returns-clause-moves : goal.returns-clause-moves
 returns-clause-moves g c = c.play.ensures.took.moves
+
+pub returns-clause-met : goal.returns-clause-met
+returns-clause-met g c = c.play.ensures.took.met
+
+pub returns-clause-crash : goal.returns-clause-crash
+returns-clause-crash g c = c.play.ensures.took.crash
+
+pub returns-clause-keeps : goal.returns-clause-keeps
+returns-clause-keeps g c = c.play.ensures.took.keeps

@@ -1,5 +1,5 @@
 use Rattle.std.proofs.Common.{ap, subst, sym, ◌∙◌}
-use Rattle.std.specs.Prelude.{IsTrue, Some, true, ◌≡◌}
+use Rattle.std.specs.Prelude.{IsTrue, Some, is_some, true, ◌≡◌}
 use Rattle.lq_run.proofs.Stepping.{lack_crash, steps_failed, steps_lacked, steps_on, steps_refused}
 use Rattle.lq_run.specs.Steps.{StepsShown, standing, stopped_by, turns_of}
 use Rattle.lq_store.specs.State.{is_open}
@@ -8,6 +8,8 @@ use Rattle.lq_hand.specs.Hand.{calls_left}
 use Rattle.lq_run.specs.Beside.{Beside}
 use Rattle.lq_run.specs.Faults.{is_disk_step}
 use Rattle.std.specs.Prelude.{false}
+use Rattle.lq_run.proofs.Since.{keeps_then}
+use Rattle.lq_run.specs.Faults.{StopsAs}
 use Rattle.lq_run.proofs.runner.Runner.advance.Goals as goal
 
 pub returns-in-On-clause-steps : goal.returns-in-On-clause-steps
@@ -78,3 +80,12 @@ returns-in-Lack-clause-beside g c =
 
 pub returns-in-Lack-clause-asks : goal.returns-in-Lack-clause-asks
 returns-in-Lack-clause-asks g c = λ none live. set_none c.args.self.now.dialect c.take_back.new.self.hand (is_open c.args.session (g.S.Store.state c.take_back.new.store).begun) c.take_back.ensures.hand c.take_back.ensures.shuts
+
+pub returns-in-Lack-clause-keeps : goal.returns-in-Lack-clause-keeps
+returns-in-Lack-clause-keeps g c = keeps_then (g.S.Store.state c.args.store.now) (g.S.Store.state c.take.new.store) (g.S.Store.crashes c.args.store.now) (g.S.Store.crashes c.take.new.store) (g.S.Store.crashes c.take_back.new.store) c.in-Lack.ensures.lack.0 c.in-Lack.ensures.keeps c.take_back.ensures.keeps
+
+pub returns-in-Lack-clause-stays : goal.returns-in-Lack-clause-stays
+returns-in-Lack-clause-stays g c = λ met. ap is_some c.take_back.ensures.fault
+
+pub returns-in-Lack-clause-stops : goal.returns-in-Lack-clause-stops
+returns-in-Lack-clause-stops g c = λ met. subst (StopsAs c.args.self.now.fault) (sym c.take_back.ensures.result) tt

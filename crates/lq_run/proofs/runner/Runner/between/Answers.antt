@@ -6,6 +6,7 @@ use Rattle.lq_run.specs.Steps.{TellsLock, standing}
 use Rattle.lq_run.proofs.Since.{leave_none}
 use Rattle.lq_run.proofs.Beside.{stays_as}
 use Rattle.lq_run.specs.Faults.{is_disk_step}
+use Rattle.lq_store.specs.Crashes.{Keeps}
 use Rattle.lq_run.proofs.runner.Runner.between.Goals as goal
 
 pub returns-in-Bare-clause-lost : goal.returns-in-Bare-clause-lost
@@ -31,3 +32,9 @@ returns-in-Lost-clause-beside g c = stays_as c.args.session (is_disk_step c.lock
 
 pub returns-in-Lost-clause-asks : goal.returns-in-Lost-clause-asks
 returns-in-Lost-clause-asks g c = λ none live. c.requires.closed
+
+pub returns-in-Lost-clause-keeps : goal.returns-in-Lost-clause-keeps
+returns-in-Lost-clause-keeps g c = leave_none (g.S.Store.state c.args.store.now).entries Keeps (g.S.Store.crashes c.args.store.now)
+
+pub returns-in-Lost-clause-stops : goal.returns-in-Lost-clause-stops
+returns-in-Lost-clause-stops g c = λ met. c.locked.ensures.stops c.args.self.now.fault met

@@ -3,6 +3,9 @@ use Rattle.std.specs.Prelude.{Err, Ok}
 use Rattle.lq_run.proofs.Stepping.{closes}
 use Rattle.lq_run.specs.Steps.{Closes, last_end}
 use Rattle.lq_run.proofs.Beside.{ended_beside, fault_beside}
+use Rattle.lq_run.proofs.Stops.{fault_stops, last_stops}
+use Rattle.lq_run.specs.Faults.{StopsAs}
+use Rattle.lq_run.specs.declared.runner.Step.TheVariants as step
 use Rattle.lq_run.proofs.runner.Runner.close.Goals as goal
 
 pub returns-in-Ok-clause-closes : goal.returns-in-Ok-clause-closes
@@ -26,3 +29,9 @@ returns-in-Err-clause-beside g c = fault_beside c.args.session (g.S.Store.state 
 
 pub returns-in-Err-clause-asks : goal.returns-in-Err-clause-asks
 returns-in-Err-clause-asks g c = λ none live. c.in-Err.ensures.shuts live
+
+pub returns-in-Ok-clause-stops : goal.returns-in-Ok-clause-stops
+returns-in-Ok-clause-stops g c = λ before met. subst (λ e. StopsAs before (step.Ended e)) (sym c.last_end.ensures) (last_stops c.args.self.now.fault c.args.self.now.refused before met)
+
+pub returns-in-Err-clause-stops : goal.returns-in-Err-clause-stops
+returns-in-Err-clause-stops g c = λ before met. subst (λ e. StopsAs before (step.Ended e)) (sym c.end_of.ensures) (fault_stops c.in-Err.fault before)

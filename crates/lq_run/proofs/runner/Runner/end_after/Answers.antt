@@ -1,9 +1,13 @@
-use Rattle.std.proofs.Common.{ap}
+use Rattle.std.proofs.Common.{ap, subst, sym}
 use Rattle.lq_run.proofs.Losing.{bare_crash, ends_bare, ends_marked}
 use Rattle.lq_run.specs.Steps.{last_end}
 use Rattle.lq_run.proofs.Since.{leave_none}
 use Rattle.std.specs.Prelude.{Some}
 use Rattle.lq_run.proofs.Beside.{fault_stays}
+use Rattle.lq_run.proofs.Stops.{fault_stops}
+use Rattle.lq_run.specs.Faults.{StopsAs}
+use Rattle.lq_run.specs.declared.runner.Step.TheVariants as step
+use Rattle.lq_store.specs.Crashes.{Keeps}
 use Rattle.lq_run.proofs.runner.Runner.end_after.Goals as goal
 
 pub returns-then-is_marked-clause-ends : goal.returns-then-is_marked-clause-ends
@@ -23,3 +27,9 @@ returns-then-is_marked-clause-beside g c = fault_stays c.args.session (g.S.Store
 
 pub returns-then-is_marked-clause-asks : goal.returns-then-is_marked-clause-asks
 returns-then-is_marked-clause-asks g c = λ none live. c.requires.closed
+
+pub returns-then-is_marked-clause-keeps : goal.returns-then-is_marked-clause-keeps
+returns-then-is_marked-clause-keeps g c = leave_none (g.S.Store.state c.args.store.now).entries Keeps (g.S.Store.crashes c.args.store.now)
+
+pub returns-then-is_marked-clause-stops : goal.returns-then-is_marked-clause-stops
+returns-then-is_marked-clause-stops g c = λ before met. subst (λ e. StopsAs before (step.Ended e)) (sym c.end_of.ensures) (fault_stops c.args.fault before)

@@ -1,4 +1,4 @@
-use Rattle.std.proofs.Common.{subst, sym}
+use Rattle.std.proofs.Common.{refl, subst, sym}
 use Rattle.lq_run.proofs.Stepping.{ended_crash, entered_crash, short_crash, steps_ended, steps_entered, steps_short}
 use Rattle.lq_run.specs.Steps.{standing}
 use Rattle.lq_run.proofs.runner.Runner.enter.Goals as goal
@@ -20,13 +20,22 @@ returns-in-Lack-clause-steps g c =
 pub returns-in-Turn-clause-crash : goal.returns-in-Turn-clause-crash
 returns-in-Turn-clause-crash g c =
     entered_crash c.args.self.now.dialect g.T.Source.meaning c.args.self.now.stamp c.args.session (standing g.T.Source.left g.T.Source.way c.args.self.now) (g.S.Store.state c.args.store.now) c.requires.inside c.requires.none_left c.requires.closed c.requires.enters c.in-Turn.hand (g.T.Source.left c.next.new.source) (g.T.Source.way c.next.new.source) c.in-Turn.ensures.enters
-    (g.S.Store.crashes c.args.store.now) (g.S.Store.crashes c.inside.new.store) c.inside.ensures.crash
+    c.inside.new.self.fault (g.S.Store.crashes c.args.store.now) (g.S.Store.crashes c.inside.new.store) c.inside.ensures.crash
 
 pub returns-in-NoTurn-clause-crash : goal.returns-in-NoTurn-clause-crash
 returns-in-NoTurn-clause-crash g c =
     ended_crash c.args.self.now.dialect g.T.Source.meaning c.args.self.now.stamp c.args.session (standing g.T.Source.left g.T.Source.way c.args.self.now) (g.S.Store.state c.args.store.now) c.requires.inside c.requires.none_left c.requires.closed c.requires.enters (g.T.Source.left c.next.new.source) (g.T.Source.way c.next.new.source c.args.self.now.dialect c.args.self.now.stamp)
-    (g.S.Store.crashes c.args.store.now) (g.S.Store.crashes c.end.new.store) c.in-NoTurn.ensures.enters c.end.ensures.crash
+    c.end.new.self.fault (g.S.Store.crashes c.args.store.now) (g.S.Store.crashes c.end.new.store) c.in-NoTurn.ensures.enters c.end.ensures.stays c.end.ensures.crash
 
 pub returns-in-Lack-clause-crash : goal.returns-in-Lack-clause-crash
 returns-in-Lack-clause-crash g c =
-    short_crash c.args.self.now.dialect g.T.Source.meaning c.args.self.now.stamp c.args.session (standing g.T.Source.left g.T.Source.way c.args.self.now) (g.S.Store.state c.args.store.now) c.requires.inside c.requires.none_left c.requires.closed (g.S.Store.crashes c.args.store.now) (g.S.Store.crashes c.end-in-Lack.new.store) c.end-in-Lack.ensures.crash
+    short_crash c.args.self.now.dialect g.T.Source.meaning c.args.self.now.stamp c.args.session (standing g.T.Source.left g.T.Source.way c.args.self.now) (g.S.Store.state c.args.store.now) c.requires.inside c.requires.none_left c.requires.closed c.end-in-Lack.new.self.fault (g.S.Store.crashes c.args.store.now) (g.S.Store.crashes c.end-in-Lack.new.store) (c.end-in-Lack.ensures.stays refl) c.end-in-Lack.ensures.crash
+
+pub returns-in-NoTurn-clause-stops : goal.returns-in-NoTurn-clause-stops
+returns-in-NoTurn-clause-stops g c = λ met. c.end.ensures.stops c.args.self.now.fault met
+
+pub returns-in-Lack-clause-stays : goal.returns-in-Lack-clause-stays
+returns-in-Lack-clause-stays g c = λ met. c.end-in-Lack.ensures.stays refl
+
+pub returns-in-Lack-clause-stops : goal.returns-in-Lack-clause-stops
+returns-in-Lack-clause-stops g c = λ met. c.end-in-Lack.ensures.stops c.args.self.now.fault met

@@ -11,7 +11,7 @@ pub returns-clause-lost : goal.returns-clause-lost
 returns-clause-lost g c = λ there. absurd (not_between c.args.self.now.hand c.requires.gives_up there)
 
 pub returns-clause-crash : goal.returns-clause-crash
-returns-clause-crash g c = back_crash c.args.self.now.dialect g.T.Source.meaning c.args.self.now.stamp c.args.session (standing g.T.Source.left g.T.Source.way c.args.self.now) (g.S.Store.state c.args.store.now) (g.S.Store.crashes c.args.store.now) (g.S.Store.crashes c.abort.new.store) c.requires.gives_up c.abort.ensures.crash
+returns-clause-crash g c = back_crash c.args.self.now.dialect g.T.Source.meaning c.args.self.now.stamp c.args.session (standing g.T.Source.left g.T.Source.way c.args.self.now) c.args.self.now.fault (g.S.Store.state c.args.store.now) (g.S.Store.crashes c.args.store.now) (g.S.Store.crashes c.abort.new.store) c.requires.gives_up c.abort.ensures.crash
 
 pub returns-clause-beside : goal.returns-clause-beside
 returns-clause-beside g c = c.abort.ensures.beside

@@ -14,4 +14,7 @@ returns-else-may_enter-clause-steps g c =
 
 pub returns-else-may_enter-clause-crash : goal.returns-else-may_enter-clause-crash
 returns-else-may_enter-clause-crash g c =
-    stopped_crash c.args.self.now.dialect g.T.Source.meaning c.args.self.now.stamp c.args.session (standing g.T.Source.left g.T.Source.way c.args.self.now) (g.S.Store.state c.args.store.now) c.requires.inside c.requires.none_left c.requires.closed (sym c.may_enter.ensures ∙ c.if-may_enter.false) (g.S.Store.crashes c.args.store.now) (g.S.Store.crashes c.end.new.store) c.end.ensures.crash
+    stopped_crash c.args.self.now.dialect g.T.Source.meaning c.args.self.now.stamp c.args.session (standing g.T.Source.left g.T.Source.way c.args.self.now) (g.S.Store.state c.args.store.now) c.requires.inside c.requires.none_left c.requires.closed (sym c.may_enter.ensures ∙ c.if-may_enter.false) c.end.new.self.fault (g.S.Store.crashes c.args.store.now) (g.S.Store.crashes c.end.new.store) c.end.ensures.stays c.end.ensures.crash
+
+pub returns-else-may_enter-clause-stops : goal.returns-else-may_enter-clause-stops
+returns-else-may_enter-clause-stops g c = λ met. c.end.ensures.stops c.args.self.now.fault met
