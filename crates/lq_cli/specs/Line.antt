@@ -1,5 +1,5 @@
 -- What the words of a command line ask for.
-use Rattle.std.specs.Prelude.{ℕ, List, [], ◌∷◌, Option, Some, None, option_map, if◌then◌else◌}
+use Rattle.std.specs.Prelude.{ℕ, List, [], ◌∷◌, Option, Some, None, option_map}
 use Rattle.clap.specs.Walk.{Row}
 use Rattle.lq_base.specs.Moment.{moment_of}
 use Rattle.lq_base.specs.declared.command.Command.TheVariants as command
@@ -12,7 +12,7 @@ use Rattle.lq_cli.specs.declared.verb.Verb.{Verb}
 use Rattle.lq_cli.specs.declared.verb.Verb.TheVariants as verb
 use Rattle.lq_cli.specs.Options.{definitions, given_in, value}
 use Rattle.lq_cli.specs.Parsed.{◌>>=◌}
-use Rattle.lq_cli.specs.Table.{changelog_file, context_filter, count, date, form_of, is_offered, label_filter, number, runs, sets, tag, url, verb_of}
+use Rattle.lq_cli.specs.Table.{changelog_file, context_filter, count, date, form_of, label_filter, number, runs, sets, tag, url, verb_of}
 use Rattle.lq_cli.specs.Values.{contexts_of, labels_of, number_from, properties_of, tag_of, url_of}
 
 -- back to a tag, by a count or back to a date
@@ -84,7 +84,7 @@ line_with verb given = do
 
 -- the line of a command with these words after its name
 unfoldable pub line_after : Verb → List (List ℕ) → Option Line
-line_after verb words = if is_offered verb then given_in (form_of verb) words >>= line_with verb else None
+line_after verb words = given_in (form_of verb) words >>= line_with verb
 
 -- the first word is a command's name, and the others are its options
 unfoldable pub line_of : List (List ℕ) → Option Line

@@ -73,8 +73,3 @@ verbs =
 -- the command of this name
 unfoldable pub verb_of : List ℕ → Option Verb
 verb_of word = lookup (bytes_eq word) verbs
-
--- `drill` cannot be asked for yet
-abbrev pub is_offered : Verb → Bool
-is_offered Drill = false
-is_offered _ = true

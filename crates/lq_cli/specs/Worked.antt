@@ -7,7 +7,7 @@ use Rattle.lq_base.specs.declared.dialect.Dialect.{Dialect}
 use Rattle.lq_base.specs.declared.dialect.Dialect.TheVariants.{Postgresql, Mysql}
 use Rattle.lq_expr.specs.declared.expr.Expr.TheVariants.{Name}
 use Rattle.lq_cli.specs.declared.line.Job.{Job}
-use Rattle.lq_cli.specs.declared.line.Job.TheVariants.{Run, RollbackSql, Soak}
+use Rattle.lq_cli.specs.declared.line.Job.TheVariants.{Run, RollbackSql, Drill, Soak}
 use Rattle.lq_cli.specs.declared.line.Line.{Line}
 use Rattle.lq_cli.specs.Line.{line_of}
 
@@ -45,6 +45,9 @@ TagIsRead = line_of (codes "tag" ∷ codes "--tag=v=1" ∷ codes "--url=mysql:f"
 abbrev pub TargetIsRead : Type 0
 TargetIsRead = line_of (codes "rollback-sql" ∷ codes "--url=mysql:f" ∷ codes "--changelog-file=c" ∷ codes "--count=0" ∷ []) ≡ Some (plain_line Mysql (RollbackSql (target.Count 0)) (Some (codes "c")))
 
+abbrev pub DrillIsRead : Type 0
+DrillIsRead = line_of (codes "drill" ∷ codes "--runs" ∷ codes "a/r" ∷ codes "--url=mysql:f" ∷ []) ≡ Some (plain_line Mysql (Drill (codes "a/r")) None)
+
 abbrev pub SoakIsRead : Type 0
 SoakIsRead = line_of (codes "soak" ∷ codes "--url=mysql:f" ∷ codes "--sets=10000" ∷ codes "--number=18446744073709551615" ∷ []) ≡ Some (plain_line Mysql (Soak 18446744073709551615 10000) None)
 
@@ -52,7 +55,7 @@ SoakIsRead = line_of (codes "soak" ∷ codes "--url=mysql:f" ∷ codes "--sets=1
 abbrev pub with_changelog : List ℕ → Words → Words
 with_changelog name more = name ∷ codes "--url=postgresql:f" ∷ codes "--changelog-file=c" ∷ more
 
--- each command that is offered and takes no date, with its required options alone
+-- each command that takes no date, with its required options alone
 abbrev pub RequiredSuffice : Type 0
 RequiredSuffice = list_all (λ words. is_some (line_of words)) (
     with_changelog (codes "validate") []
@@ -65,6 +68,7 @@ RequiredSuffice = list_all (λ words. is_some (line_of words)) (
     ∷ with_changelog (codes "rollback-sql") (codes "--tag=v1" ∷ [])
     ∷ (codes "tag" ∷ codes "--url=mysql:f" ∷ codes "--tag=v1" ∷ [])
     ∷ (codes "release-locks" ∷ codes "--url=mysql:f" ∷ [])
+    ∷ (codes "drill" ∷ codes "--url=mysql:f" ∷ codes "--runs=r" ∷ [])
     ∷ (codes "soak" ∷ codes "--url=mysql:f" ∷ codes "--number=0" ∷ codes "--sets=1" ∷ [])
     ∷ []) ≡ true
 
@@ -105,13 +109,12 @@ CountsAreRefused = AreNone (
     ∷ counting (codes "--count=" ∷ [])
     ∷ [])
 
--- no command, one that there is not or is not offered, two or none of the three targets, a value that says nothing, and
--- `-D` where it is not taken
+-- no command, one that there is not, two or none of the three targets, a value that says nothing, `-D` where it is not
+-- taken, and a drill without its file or with a changelog
 abbrev pub CommandsAreRefused : Type 0
 CommandsAreRefused = AreNone (
     []
     ∷ (codes "Update" ∷ codes "--url=mysql:f" ∷ codes "--changelog-file=c" ∷ [])
-    ∷ (codes "drill" ∷ codes "--url=mysql:f" ∷ codes "--runs=r" ∷ [])
     ∷ (codes "rollback-sql" ∷ codes "--url=mysql:f" ∷ codes "--changelog-file=c" ∷ codes "--tag=v1" ∷ codes "--count=1" ∷ [])
     ∷ (codes "rollback-sql" ∷ codes "--url=mysql:f" ∷ codes "--changelog-file=c" ∷ [])
     ∷ (codes "release-locks" ∷ codes "--url=oracle:f" ∷ [])
@@ -119,5 +122,7 @@ CommandsAreRefused = AreNone (
     ∷ (codes "status" ∷ codes "--url=mysql:f" ∷ codes "--changelog-file=c" ∷ codes "--label-filter=" ∷ [])
     ∷ (codes "tag" ∷ codes "--url=mysql:f" ∷ codes "--tag=" ∷ [])
     ∷ (codes "tag" ∷ codes "--url=mysql:f" ∷ codes "--tag=v1" ∷ codes "-Dx=1" ∷ [])
+    ∷ (codes "drill" ∷ codes "--url=mysql:f" ∷ [])
+    ∷ (codes "drill" ∷ codes "--url=mysql:f" ∷ codes "--runs=r" ∷ codes "--changelog-file=c" ∷ [])
     ∷ (codes "soak" ∷ codes "--url=mysql:f" ∷ codes "--number=0" ∷ codes "--sets=0" ∷ [])
     ∷ [])

@@ -61,9 +61,6 @@ fn line_of(alloc: Global, words: &[String]) -> Result<Line, WordsFault>
 fn line_after(alloc: Global, verb: Verb, words: &[String]) -> Result<Line, WordsFault>
     ensures { Gives (line_after verb (map (λ word. string_bytes word) words.now)) result }
 {
-    if !verb.is_offered() {
-        return Err(WordsFault::Usage);
-    }
     let given = Chosen::read(alloc, verb, words)?;
     line_with(alloc, verb, &given)
 }

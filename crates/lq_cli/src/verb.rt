@@ -1,5 +1,5 @@
 ghost use Rattle.std.specs.Prelude.{◌≡◌};
-ghost use Rattle.lq_cli.specs.Table.{is_offered, verb_of};
+ghost use Rattle.lq_cli.specs.Table.{verb_of};
 
 /// The command that a command line names by its first word.
 #[derive(Clone, Copy, Debug, PartialEq, Eq)]
@@ -40,16 +40,6 @@ impl Verb {
             "drill" => Some(Verb::Drill),
             "soak" => Some(Verb::Soak),
             _ => None,
-        }
-    }
-
-    /// Whether the command can be asked for.
-    pub fn is_offered(self) -> bool
-        ensures { result ≡ is_offered self }
-    {
-        match self {
-            Verb::Drill => false,
-            _ => true,
         }
     }
 }

@@ -4,6 +4,8 @@ use Rattle.std.specs.Prelude.{Err, List, Ok, Option, Result, Some, true, ℕ, �
 use Rattle.lq_cli.specs.Line.{line_of}
 use Rattle.lq_cli.specs.declared.line.Job.{Job}
 use Rattle.lq_cli.specs.declared.line.Line.{Line}
+use Rattle.lq_commands.specs.Works.{is_finished}
+use Rattle.lq_commands.specs.declared.given.Given.{Given}
 use Rattle.lq_expr.specs.declared.options.Options.{Options}
 use Rattle.lq_kinds.specs.Dialects.{AreFor}
 use Rattle.lq_kinds.specs.declared.change_set.Changelog.{Changelog}
@@ -17,13 +19,11 @@ use Rattle.lq_tell.specs.declared.status.Status.{Status}
 use Rattle.lq_turns.specs.declared.stamp.Stamp.{Stamp}
 use Rattle.lq_top.proofs.LeftOnFile.{crashes_on, since_none}
 use Rattle.lq_top.proofs.Loading.{failing, false_true, fails_does, fault_given, files_damage, files_kind, is_loaded, line_kind, loaded_does, no_changelog_fault, no_disk_fault, no_files, not_less, not_loaded as fault_not_loaded, ok_same, some_line}
-use Rattle.lq_top.specs.Asks.{Asks, Files, asked_by, file_status, loaded}
+use Rattle.lq_top.specs.Asks.{Asks, Files, asked_by, file_status, given_to}
 use Rattle.lq_top.specs.Bytes.{CrashesOn, OnFile, given_at}
 use Rattle.lq_top.specs.Jobs.{is_on_file, job_script}
 use Rattle.lq_top.specs.Run.{Crashes, given_by}
 use Rattle.lq_top.specs.Worked.{CrashesJob, WorkedBy, WorkedOn}
-use Rattle.lq_top.specs.Works.{is_finished}
-use Rattle.lq_top.specs.declared.given.Given.{Given}
 
 files_unfinished : (f : LoadFault) → is_finished (file_status f) ≡ true → ⊥
 files_unfinished load.Read finished = false_true finished
@@ -73,11 +73,11 @@ on_file_crashes job given told before now sound moments on database opens = cras
 -- the words are one line
 module _ (words : List (List ℕ)) (files : Files) (line : Line) (is_line : line_of words ≡ Some line) where
   pub line_crashes : (stamp : Stamp) (told : Option (List ℕ)) (before now : DiskCrashes)
-      → ((source : Source) (g : Changelog) → IsTold files source → loaded source line.options.dialect line.given line.root ≡ Ok g → CrashesJob line.job (given_at (asked_by line.options g) stamp) told before now)
+      → ((source : Source) (g : Changelog) → IsTold files source → given_to source line ≡ Ok g → CrashesJob line.job (given_at (asked_by line.options g) stamp) told before now)
       → IsSound told before → (asks : Asks words files) → Crashes asks stamp told before now
   line_crashes stamp told before now moments sound asks =
       on_file_crashes asks.line.job (given_by asks stamp) told before now sound
-      (subst (λ (l : Line). (source : Source) (g : Changelog) → IsTold files source → loaded source l.options.dialect l.given l.root ≡ Ok g → CrashesJob l.job (given_at (asked_by l.options g) stamp) told before now)
+      (subst (λ (l : Line). (source : Source) (g : Changelog) → IsTold files source → given_to source l ≡ Ok g → CrashesJob l.job (given_at (asked_by l.options g) stamp) told before now)
       (some_line (sym is_line ∙ asks.is_line)) moments asks.source asks.changelog asks.told asks.gives)
 
 -- a disk that was not used

@@ -3,10 +3,13 @@ use Rattle.std.proofs.Common.{subst}
 use Rattle.std.specs.Prelude.{List, Option, Some, length, true, ℕ, ◌≡◌}
 use Rattle.lq_base.specs.declared.command.Target.{Target}
 use Rattle.lq_base.specs.declared.dialect.Dialect.{Dialect}
+use Rattle.lq_commands.proofs.Planned.{kept}
+use Rattle.lq_commands.proofs.ViewsRead.{views_are_read}
+use Rattle.lq_commands.specs.Scripts.{log_in, rollback_script, rollback_to, sets_in, sync_script, update_script}
+use Rattle.lq_commands.specs.declared.given.Given.{Given}
 use Rattle.lq_kinds.specs.Dialects.{AreFor}
 use Rattle.lq_kinds.specs.declared.any_change.AnyChange.{AnyChange}
 use Rattle.lq_model.specs.Sound.{IsSound}
-use Rattle.lq_top.proofs.ViewsRead.{views_are_read}
 use Rattle.lq_seen.specs.View.{any_meaning}
 use Rattle.lq_track.specs.Database.{Database, SameDatabase}
 use Rattle.lq_track.specs.Lock.{free}
@@ -21,11 +24,8 @@ use Rattle.lq_turns.specs.Session.{left_by}
 use Rattle.lq_turns.specs.Settle.{updated}
 use Rattle.lq_turns.specs.Synced.{synced}
 use Rattle.lq_turns.specs.declared.call.Call.{Call}
-use Rattle.lq_top.proofs.Planned.{kept}
 use Rattle.lq_top.specs.Bytes.{Becomes}
 use Rattle.lq_top.specs.Run.{HoldsSame}
-use Rattle.lq_top.specs.Scripts.{log_in, rollback_script, rollback_to, sets_in, sync_script, update_script}
-use Rattle.lq_top.specs.declared.given.Given.{Given}
 
 module _ (given : Given) (database : Database) (before after : Option (List ℕ)) where
   abbrev d : Dialect

@@ -6,6 +6,8 @@ use Rattle.lq_base.specs.declared.dialect.Dialect.{Dialect}
 use Rattle.lq_cli.specs.Line.{line_of}
 use Rattle.lq_cli.specs.declared.line.Job.{Job}
 use Rattle.lq_cli.specs.declared.line.Line.{Line}
+use Rattle.lq_commands.specs.Kinds.{is_diskless, is_of_database}
+use Rattle.lq_commands.specs.declared.given.Given.{Given}
 use Rattle.lq_expr.specs.declared.options.Options.{Options}
 use Rattle.lq_kinds.specs.Dialects.{AreFor}
 use Rattle.lq_kinds.specs.declared.change_set.Changelog.{Changelog}
@@ -17,11 +19,10 @@ use Rattle.lq_tell.specs.declared.done.Done.{Done}
 use Rattle.lq_tell.specs.declared.status.Status.{Status}
 use Rattle.lq_tell.specs.declared.status.Status.TheVariants as status
 use Rattle.lq_turns.specs.declared.stamp.Stamp.{Stamp}
-use Rattle.lq_top.specs.Asks.{Asks, Files, HasFault, asked_by, file_status, loaded}
+use Rattle.lq_top.specs.Asks.{Asks, Files, HasFault, asked_by, file_status, given_to}
 use Rattle.lq_top.specs.Bytes.{OnFile, TellsDamage, given_at}
 use Rattle.lq_top.specs.Jobs.{DoesJob, DoesLine, is_on_file}
-use Rattle.lq_top.specs.Kinds.{IsNotLoaded, IsOfDatabase, IsOfFiles, IsOfLine, IsOfWords, Refuses, is_of_database, is_of_line, is_of_soak, is_unwritten}
-use Rattle.lq_top.specs.declared.given.Given.{Given}
+use Rattle.lq_top.specs.Kinds.{IsNotLoaded, IsOfDatabase, IsOfFiles, IsOfLine, IsOfWords, Refuses, is_of_line, is_unwritten}
 
 pub ok_same : {a b : Changelog} → (let r : Loaded Changelog = Ok a in r) ≡ Ok b → a ≡ b
 ok_same h = Prim.cc
@@ -197,7 +198,7 @@ no_changelog_fault done fault kind is = false_true (subst IsOfDatabase is kind)
 pub no_read_fault : (done : Result Done Status) → IsOfDatabase done → done ≡ Err status.ReadFault → ⊥
 no_read_fault done kind is = false_true (subst IsOfDatabase is kind)
 
-of_soak : (s : Status) → is_of_soak s ≡ true → is_of_database s ≡ true
+of_soak : (s : Status) → is_diskless s ≡ true → is_of_database s ≡ true
 of_soak status.Done is = is
 of_soak status.Usage is = is
 of_soak status.ReadFault is = is
@@ -215,11 +216,11 @@ of_soak status.WriteFault is = is
 of_soak status.OutOfMemory is = is
 of_soak (status.Busy session) is = is
 
-pub soak_kind : (done : Result Done Status) → Refuses is_of_soak done → IsOfDatabase done
+pub soak_kind : (done : Result Done Status) → Refuses is_diskless done → IsOfDatabase done
 soak_kind (Ok done) kind = kind
 soak_kind (Err s) kind = of_soak s kind
 
-soak_whole : (d : Dialect) (told : Option (List ℕ)) (s : Status) → is_of_soak s ≡ true → TellsDamage d told (Err s)
+soak_whole : (d : Dialect) (told : Option (List ℕ)) (s : Status) → is_diskless s ≡ true → TellsDamage d told (Err s)
 soak_whole d told status.Done kind = tt
 soak_whole d told status.Usage kind = tt
 soak_whole d told status.ReadFault kind = tt
@@ -237,27 +238,27 @@ soak_whole d told status.WriteFault kind = tt
 soak_whole d told status.OutOfMemory kind = tt
 soak_whole d told (status.Busy session) kind = tt
 
-pub soak_damage : (d : Dialect) (told : Option (List ℕ)) (done : Result Done Status) → Refuses is_of_soak done → TellsDamage d told done
+pub soak_damage : (d : Dialect) (told : Option (List ℕ)) (done : Result Done Status) → Refuses is_diskless done → TellsDamage d told done
 soak_damage d told (Ok done) kind = tt
 soak_damage d told (Err s) kind = soak_whole d told s kind
 
-pub soak_disk : (done : Result Done Status) → Refuses is_of_soak done → done ≡ Err status.DiskFault → ⊥
-soak_disk done kind is = false_true (subst (Refuses is_of_soak) is kind)
+pub soak_disk : (done : Result Done Status) → Refuses is_diskless done → done ≡ Err status.DiskFault → ⊥
+soak_disk done kind is = false_true (subst (Refuses is_diskless) is kind)
 
 -- the words are one line
 
 module _ (words : List (List ℕ)) (files : Files) (line : Line) (is_line : line_of words ≡ Some line) where
   pub line_does : (stamp : Stamp) (before : Option (List ℕ)) (done : Result Done Status) (after : Option (List ℕ))
-      → ((source : Source) (g : Changelog) → IsTold files source → loaded source line.options.dialect line.given line.root ≡ Ok g → DoesLine line.job (given_at (asked_by line.options g) stamp) before done after)
+      → ((source : Source) (g : Changelog) → IsTold files source → given_to source line ≡ Ok g → DoesLine line.job (given_at (asked_by line.options g) stamp) before done after)
       → (asks : Asks words files) → DoesLine asks.line.job (given_at (asked_by asks.line.options asks.changelog) stamp) before done after
   line_does stamp before done after does asks =
-      subst (λ (l : Line). (source : Source) (g : Changelog) → IsTold files source → loaded source l.options.dialect l.given l.root ≡ Ok g → DoesLine l.job (given_at (asked_by l.options g) stamp) before done after)
+      subst (λ (l : Line). (source : Source) (g : Changelog) → IsTold files source → given_to source l ≡ Ok g → DoesLine l.job (given_at (asked_by l.options g) stamp) before done after)
       (some_line (sym is_line ∙ asks.is_line)) does asks.source asks.changelog asks.told asks.gives
 
-  pub line_fails : (done : Result Done Status) → ((source : Source) → IsTold files source → (fault : LoadFault) → loaded source line.options.dialect line.given line.root ≡ Err fault → IsNotLoaded fault done)
+  pub line_fails : (done : Result Done Status) → ((source : Source) → IsTold files source → (fault : LoadFault) → given_to source line ≡ Err fault → IsNotLoaded fault done)
       → (fault : LoadFault) → HasFault words files fault → IsNotLoaded fault done
   line_fails done fails fault has =
-      subst (λ (l : Line). (source : Source) → IsTold files source → (fault : LoadFault) → loaded source l.options.dialect l.given l.root ≡ Err fault → IsNotLoaded fault done)
+      subst (λ (l : Line). (source : Source) → IsTold files source → (fault : LoadFault) → given_to source l ≡ Err fault → IsNotLoaded fault done)
       (some_line (sym is_line ∙ has.is_line)) fails has.source has.told fault has.gives
 
   pub of_line_is : (P : Line → Type 0) → P line → (l : Line) → line_of words ≡ Some l → P l

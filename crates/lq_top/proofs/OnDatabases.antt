@@ -5,6 +5,12 @@ use Rattle.lq_base.specs.declared.command.Command.{Command}
 use Rattle.lq_base.specs.declared.dialect.Dialect.{Dialect}
 use Rattle.lq_cli.specs.declared.line.Job.{Job}
 use Rattle.lq_cli.specs.declared.line.Job.TheVariants as job
+use Rattle.lq_commands.proofs.PlainRefusals.{refusal_plain}
+use Rattle.lq_commands.specs.Outputs.{TellsJob}
+use Rattle.lq_commands.specs.Refusals.{Answers, refusal}
+use Rattle.lq_commands.specs.Scripts.{script}
+use Rattle.lq_commands.specs.Works.{CrashesIn, IsKept, IsReady, OnIts, Works, is_finished}
+use Rattle.lq_commands.specs.declared.given.Given.{Given}
 use Rattle.lq_db.specs.Db.{IsDb, IsNew, IsValid, crashes as crashes_of, disk_in, state}
 use Rattle.lq_db.specs.Load.{IsDbFault, catalogue_of}
 use Rattle.lq_db.specs.declared.db.Db.{Db}
@@ -20,18 +26,16 @@ use Rattle.lq_top.proofs.LeftOnFile.{since_after, since_none, since_read}
 use Rattle.lq_top.proofs.OnFiles.{does_nothing, does_there, fault_kind, fault_rises, fault_tells, load_unfinished, memory_kind, memory_no_disk, memory_tells, memory_unfinished, moments_there, refused_does, rose_later, settled_after}
 use Rattle.lq_top.proofs.OnReady.{ready_kind, ready_tells}
 use Rattle.lq_top.proofs.Ready.{opened}
-use Rattle.lq_top.proofs.RefusedKinds.{refusal_plain}
 use Rattle.lq_top.specs.Bytes.{OnFile, TellsDamage, load_status, most_bytes}
-use Rattle.lq_top.specs.Jobs.{DoesJob, TellsJob, is_command, is_on_file}
+use Rattle.lq_top.specs.Jobs.{DoesJob, is_command, is_on_file}
 use Rattle.lq_top.specs.Kinds.{IsOfDatabase}
-use Rattle.lq_top.specs.Refusals.{Answers, refusal}
-use Rattle.lq_top.specs.Scripts.{script}
 use Rattle.lq_top.specs.Worked.{CrashesJob, WorkedOn}
-use Rattle.lq_top.specs.Works.{CrashesIn, IsKept, IsReady, OnIts, Works, is_finished}
-use Rattle.lq_top.specs.declared.given.Given.{Given}
 
 true_false : true ≡ false → ⊥
 true_false h = Prim.cc
+
+false_true : false ≡ true → ⊥
+false_true h = Prim.cc
 
 same_count : (a b : ℕ) → a ≡ b → b ≤ a
 same_count a b is = omega arith
@@ -79,7 +83,7 @@ module _ {D : Type 0} (told : D → Option (List ℕ)) (faults : D → ℕ) (cra
         safe = λ command finished.
             settled_after d p (script c given ready.database) ready.database x (told (disk_in left)) (crashes (disk_in left)) k left valid (refusal c given ready.database) r (answers ready.database ready.has)
             (λ some. settled_kept (refused ready.database ready.has some)) (works ready.database ready.has) finished;
-        off = λ off. absurd (true_false off);
+        off = λ off. absurd (false_true off);
         later = later;
         fault = fault;
       };
@@ -117,7 +121,7 @@ module _ {D : Type 0} (told : D → Option (List ℕ)) (faults : D → ℕ) (cra
         used = record {
           damaged = subst (λ o. TellsDamage given.options.dialect o r) same did.used.damaged;
           safe = did.used.safe;
-          off = λ off. absurd (true_false off);
+          off = λ off. absurd (false_true off);
           later = omega (arith, later, did.used.later);
           fault = λ is. rose_later (faults disk) (faults after) (faults last) later (did.used.fault is);
         };
@@ -134,7 +138,7 @@ module _ {D : Type 0} (told : D → Option (List ℕ)) (faults : D → ℕ) (cra
         used = record {
           damaged = subst (λ s. TellsDamage given.options.dialect (told disk) (Err s)) (sym is_status) (fault_tells given.options.dialect (told disk) (faults disk) (faults after) f is);
           safe = λ command finished. absurd (load_unfinished f (subst (λ s. is_finished s ≡ true) is_status finished));
-          off = λ off. absurd (true_false off);
+          off = λ off. absurd (false_true off);
           later = later;
           fault = fault_rises given.options.dialect (told disk) (faults disk) (faults after) f s is_status is;
         };

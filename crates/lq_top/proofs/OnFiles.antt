@@ -4,6 +4,11 @@ use Rattle.std.specs.Prelude.{Bool, Err, IfSome, List, None, Ok, Option, Result,
 use Rattle.lq_base.specs.declared.command.Command.{Command}
 use Rattle.lq_base.specs.declared.dialect.Dialect.{Dialect}
 use Rattle.lq_cli.specs.declared.line.Job.TheVariants as job
+use Rattle.lq_commands.specs.Outputs.{TellsJob}
+use Rattle.lq_commands.specs.Refusals.{Answers, IsFault, refusal}
+use Rattle.lq_commands.specs.Scripts.{script}
+use Rattle.lq_commands.specs.Works.{CrashesIn, Works, is_finished}
+use Rattle.lq_commands.specs.declared.given.Given.{Given}
 use Rattle.lq_db.specs.Db.{IsDb, IsValid, state}
 use Rattle.lq_db.specs.Load.{IsDbFault, catalogue_of}
 use Rattle.lq_db.specs.Log.{crashes_in, entries_in, texts_of}
@@ -32,13 +37,9 @@ use Rattle.lq_top.proofs.Ready.{becomes}
 use Rattle.lq_top.proofs.RefusedKinds.{answers_disk, answers_memory}
 use Rattle.lq_top.proofs.Unchanged.{left_same}
 use Rattle.lq_top.specs.Bytes.{Becomes, IsLeftOn, OnFile, Opens, TellsDamage, WorksOn, load_status, most_bytes}
-use Rattle.lq_top.specs.Jobs.{DoesJob, TellsJob}
+use Rattle.lq_top.specs.Jobs.{DoesJob}
 use Rattle.lq_top.specs.Kinds.{IsOfDatabase}
-use Rattle.lq_top.specs.Refusals.{Answers, IsFault, refusal}
-use Rattle.lq_top.specs.Scripts.{script}
 use Rattle.lq_top.specs.Worked.{CrashesSince}
-use Rattle.lq_top.specs.Works.{CrashesIn, Works, is_finished}
-use Rattle.lq_top.specs.declared.given.Given.{Given}
 
 not_finished : false ≡ true → ⊥
 not_finished h = Prim.cc
@@ -63,13 +64,13 @@ module _ {D P E : Type 0} (d p : Dialect) (told : Option (List ℕ)) (crashes : 
   dialect_is : dialect_of db.journal ≡ d
   dialect_is = is.journal_is ∙ has.dialect
 
-  entries_were : entries_in (dialect_of db.journal) (limit_of db.journal) told ≡ entries_in d most_bytes told
+  pub entries_were : entries_in (dialect_of db.journal) (limit_of db.journal) told ≡ entries_in d most_bytes told
   entries_were = ap (λ e. entries_in e (limit_of db.journal) told) dialect_is ∙ ap (λ n. entries_in d n told) limit
 
   undamaged : is_some (texts_of (journal_of (dialect_of db.journal) (limit_of db.journal) bytes)) ≡ true
   undamaged = subst (λ o. IfSome o (λ bytes. is_some (texts_of (journal_of (dialect_of db.journal) (limit_of db.journal) bytes)) ≡ true)) told_is is.whole.undamaged
 
-  entries_told : (there : List Entry) × (entries_in (dialect_of db.journal) (limit_of db.journal) told ≡ Some there)
+  pub entries_told : (there : List Entry) × (entries_in (dialect_of db.journal) (limit_of db.journal) told ≡ Some there)
   entries_told =
       let there = some_there (journal_of (dialect_of db.journal) (limit_of db.journal) bytes) undamaged in
       (there.0, ap (entries_in (dialect_of db.journal) (limit_of db.journal)) told_is ∙ there.1)
@@ -78,10 +79,10 @@ module _ {D P E : Type 0} (d p : Dialect) (told : Option (List ℕ)) (crashes : 
   leads there are = subst (λ e. catalogue_by e there ≡ Some (kept h)) has.dialect (subst (λ o. IfSome o (λ entries. catalogue_by db.dialect entries ≡ Some (kept h))) are is.is_held.is_journal)
 
   -- calls keep the journal's dialect and limit
-  abbrev SameJournal : Type 0
+  abbrev pub SameJournal : Type 0
   SameJournal = (dialect_of left.journal ≡ d) × (limit_of left.journal ≡ most_bytes)
 
-  journal_stays : y.dialect ≡ d → y.limit ≡ x.limit → SameJournal
+  pub journal_stays : y.dialect ≡ d → y.limit ≡ x.limit → SameJournal
   journal_stays dialect same = (valid.journal_is ∙ dialect, same ∙ limit)
 
   journal_after : (calls : List Call) (r : Result Done Status) → Works d calls database x r y → SameJournal

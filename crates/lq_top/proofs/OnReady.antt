@@ -3,23 +3,25 @@ use Rattle.std.proofs.Common.{subst, sym}
 use Rattle.std.specs.Prelude.{List, Option, Result, ℕ, ◌≡◌}
 use Rattle.lq_base.specs.declared.dialect.Dialect.{Dialect}
 use Rattle.lq_cli.specs.declared.line.Job.{Job}
+use Rattle.lq_commands.proofs.PlainRefusals.{IsPlain, print_rollback_plain, print_update_plain}
+use Rattle.lq_commands.specs.Outputs.{TellsJob}
+use Rattle.lq_commands.specs.Refusals.{Answers}
+use Rattle.lq_commands.specs.Works.{IsReady, OnIts}
+use Rattle.lq_commands.specs.declared.given.Asked.{Asked}
+use Rattle.lq_commands.specs.declared.given.Given.{Given}
 use Rattle.lq_run.specs.Commands.{HasDatabase}
 use Rattle.lq_store.specs.State.{State}
 use Rattle.lq_tell.specs.declared.done.Done.{Done}
 use Rattle.lq_tell.specs.declared.status.Status.{Status}
 use Rattle.lq_track.specs.Database.{Database}
 use Rattle.lq_turns.specs.declared.stamp.Stamp.{Stamp}
-use Rattle.lq_top.proofs.RefusedKinds.{IsPlain, answers_kind, answers_whole, print_rollback_plain, print_update_plain}
+use Rattle.lq_top.proofs.RefusedKinds.{answers_kind, answers_whole}
 use Rattle.lq_top.specs.Bytes.{TellsDamage, given_at}
 use Rattle.lq_top.specs.Copies.{job_of}
-use Rattle.lq_top.specs.Jobs.{TellsJob, job_refusal}
+use Rattle.lq_top.specs.Jobs.{job_refusal}
 use Rattle.lq_top.specs.Kinds.{IsOfDatabase}
-use Rattle.lq_top.specs.Refusals.{Answers}
-use Rattle.lq_top.specs.Works.{IsReady, OnIts}
 use Rattle.lq_top.specs.declared.copying.Printing.{Printing}
 use Rattle.lq_top.specs.declared.copying.Printing.TheVariants as print
-use Rattle.lq_top.specs.declared.given.Asked.{Asked}
-use Rattle.lq_top.specs.declared.given.Given.{Given}
 
 module _ (d e : Dialect) (same : e ≡ d) (x : State) (ready : IsReady d x) (refused : Database → Option Status) (plain : (database : Database) → IsPlain (refused database)) (r : Result Done Status)
     (answers : OnIts e x (λ database. Answers (refused database) r)) where

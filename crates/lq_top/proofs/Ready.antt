@@ -3,6 +3,7 @@ use Rattle.std.proofs.Common.{ap, subst, sym, ◌∙◌}
 use Rattle.std.specs.Option.{option_map}
 use Rattle.std.specs.Prelude.{IfSome, List, Ok, Option, Result, Some, true, ℕ, ◌++◌, ◌≡◌}
 use Rattle.lq_base.specs.declared.dialect.Dialect.{Dialect}
+use Rattle.lq_commands.specs.Works.{IsReady}
 use Rattle.lq_db.specs.Db.{IsDb, IsNew, begun_in, state}
 use Rattle.lq_db.specs.Load.{catalogue_of, is_clean}
 use Rattle.lq_db.specs.Log.{entries_in}
@@ -23,7 +24,6 @@ use Rattle.lq_turns.specs.Held.{StandsFor}
 use Rattle.lq_turns.specs.Session.{all_called, session_on}
 use Rattle.lq_turns.specs.declared.call.Call.{Call}
 use Rattle.lq_top.specs.Bytes.{Becomes, Opens, most_bytes}
-use Rattle.lq_top.specs.Works.{IsReady}
 
 ok_is : {a b : Catalogue} → (let r : Result Catalogue ℕ = Ok a in r) ≡ Ok b → a ≡ b
 ok_is h = Prim.cc

@@ -13,6 +13,13 @@ use Rattle.lq_base.specs.declared.tracking.Lock.{Lock}
 use Rattle.lq_base.specs.declared.tracking.Tracked.{Tracked}
 use Rattle.lq_cli.specs.declared.line.Job.{Job}
 use Rattle.lq_cli.specs.declared.line.Job.TheVariants.{Drill, RollbackSql, Run, Soak, UpdateSql}
+use Rattle.lq_commands.proofs.Planned.{kept}
+use Rattle.lq_commands.proofs.ViewsRead.{views_are_read}
+use Rattle.lq_commands.specs.Refusals.{if_halts, if_some, invalid, own_halt, refusal, unready}
+use Rattle.lq_commands.specs.Scripts.{log_in, rollback_to, sets_in, update_script, updated_in}
+use Rattle.lq_commands.specs.Tells.{status_by}
+use Rattle.lq_commands.specs.Works.{is_finished}
+use Rattle.lq_commands.specs.declared.given.Given.{Given}
 use Rattle.lq_expr.specs.declared.options.Options.{Options}
 use Rattle.lq_kinds.specs.Dialects.{AreFor}
 use Rattle.lq_kinds.specs.declared.any_change.AnyChange.{AnyChange}
@@ -58,22 +65,15 @@ use Rattle.lq_turns.specs.declared.deed.OnRows.TheVariants.{Tagged}
 use Rattle.lq_turns.specs.declared.fault.Fault.{Fault}
 use Rattle.lq_turns.specs.declared.stamp.Stamp.{Stamp}
 use Rattle.lq_turns.specs.declared.turn.Turn.{Turn}
-use Rattle.lq_top.proofs.Planned.{kept}
 use Rattle.lq_top.proofs.Unchanged.{holds_it}
-use Rattle.lq_top.proofs.ViewsRead.{views_are_read}
 use Rattle.lq_top.proofs.Written.{Does, IsWritten, failed_unfinished, false_true, was_over}
 use Rattle.lq_top.specs.Asks.{Asks, Files}
 use Rattle.lq_top.specs.Bytes.{Becomes, IsLeftOn, Opens, most_bytes}
 use Rattle.lq_db.specs.Log.{entries_in}
 use Rattle.lq_top.specs.Jobs.{DoesLine, is_on_file, job_refusal, job_script}
-use Rattle.lq_top.specs.Refusals.{if_halts, if_some, invalid, own_halt, refusal, unready}
 use Rattle.lq_top.specs.Resumed.{EndsSo, LeavesMarked, RollbackResumes, StandsHeld, UpdateResumes, turns_to}
 use Rattle.lq_top.specs.Run.{EndsBy, IsOutside, Runs, given_by, is_over}
 use Rattle.lq_top.specs.Says.{Said, SaysJob}
-use Rattle.lq_top.specs.Scripts.{log_in, rollback_to, sets_in, update_script, updated_in}
-use Rattle.lq_top.specs.Tells.{status_by}
-use Rattle.lq_top.specs.Works.{is_finished}
-use Rattle.lq_top.specs.declared.given.Given.{Given}
 
 -- what the law on updates asks of a view of a changelog
 

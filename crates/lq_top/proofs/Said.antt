@@ -11,6 +11,14 @@ use Rattle.lq_base.specs.declared.tracking.Lock.{Lock}
 use Rattle.lq_base.specs.declared.tracking.Tracked.{Tracked}
 use Rattle.lq_cli.specs.declared.line.Job.{Job}
 use Rattle.lq_cli.specs.declared.line.Job.TheVariants.{Drill, RollbackSql, Run, Soak, UpdateSql}
+use Rattle.lq_commands.proofs.Planned.{kept}
+use Rattle.lq_commands.specs.Inserts.{TellsSync, synced_in}
+use Rattle.lq_commands.specs.Outputs.{TellsJob, TellsText, at_once_text, back_in, released_text}
+use Rattle.lq_commands.specs.Refusals.{Answers, held, if_halts, if_not, if_some, invalid, no_way_back, own_halt, refusal, unreachable_by, unready, untagged}
+use Rattle.lq_commands.specs.Scripts.{log_in, nothing_told, rolled_to, sets_in, updated_in}
+use Rattle.lq_commands.specs.Tells.{TellsRollback, TellsUpdate, status_by, update_told}
+use Rattle.lq_commands.specs.Works.{is_finished}
+use Rattle.lq_commands.specs.declared.given.Given.{Given}
 use Rattle.lq_kinds.specs.declared.any_change.AnyChange.{AnyChange}
 use Rattle.lq_report.specs.Output.{sync_text, tagged_text, validated_text}
 use Rattle.lq_seen.specs.Printing.{Account, of_turns}
@@ -36,20 +44,13 @@ use Rattle.lq_turns.specs.declared.choice.Choice.{Choice}
 use Rattle.lq_turns.specs.declared.choice.Choice.TheVariants as choice
 use Rattle.lq_turns.specs.declared.stamp.Stamp.{Stamp}
 use Rattle.lq_turns.specs.declared.turn.Turn.{Turn}
-use Rattle.lq_top.proofs.Planned.{kept}
 use Rattle.lq_top.proofs.Written.{Does, IsWritten, Quiet, failed_unfinished, false_true, none_some, quiet_held, quiet_invalid, quiet_not, quiet_or, quiet_unready, quiet_untagged, quiet_way, refused_for, some_same}
 use Rattle.lq_top.specs.Asks.{Asks, Files}
 use Rattle.lq_top.specs.Bytes.{OnFile}
 use Rattle.lq_top.specs.Headline.{GoesBack, IsTaken, is_taken}
-use Rattle.lq_top.specs.Inserts.{TellsSync, synced_in}
-use Rattle.lq_top.specs.Jobs.{DoesJob, DoesLine, TellsJob, TellsText, at_once_text, back_in, is_on_file, job_refusal, released_text}
-use Rattle.lq_top.specs.Refusals.{Answers, held, if_halts, if_not, if_some, invalid, no_way_back, own_halt, refusal, unreachable_by, unready, untagged}
+use Rattle.lq_top.specs.Jobs.{DoesJob, DoesLine, is_on_file, job_refusal}
 use Rattle.lq_top.specs.Run.{EndsBy, Runs, given_by, is_end}
 use Rattle.lq_top.specs.Says.{Said, Says, SaysJob, SaysRollback, SaysUpdate, unless_refused}
-use Rattle.lq_top.specs.Scripts.{log_in, nothing_told, rolled_to, sets_in, updated_in}
-use Rattle.lq_top.specs.Tells.{TellsRollback, TellsUpdate, status_by, update_told}
-use Rattle.lq_top.specs.Works.{is_finished}
-use Rattle.lq_top.specs.declared.given.Given.{Given}
 
 some_none : {s : Status} → (let o : Option Status = Some s in o) ≡ None → ⊥
 some_none h = Prim.cc

@@ -8,7 +8,7 @@ use Rattle.lq_base.specs.declared.command.Command.TheVariants as command
 use Rattle.lq_base.specs.declared.command.Target.{Target}
 use Rattle.lq_cli.specs.Line.{by_count, drilling, job_of, line_after, line_of, line_with, only_target, rollback, soak, tagging, to_date, to_tag}
 use Rattle.lq_cli.specs.Options.{definitions, given_in, value}
-use Rattle.lq_cli.specs.Table.{changelog_file, context_filter, count, date, form_of, is_offered, label_filter, number, runs, sets, tag, url, verb_of}
+use Rattle.lq_cli.specs.Table.{changelog_file, context_filter, count, date, form_of, label_filter, number, runs, sets, tag, url, verb_of}
 use Rattle.lq_cli.specs.Values.{contexts_of, labels_of, number_from, properties_of, tag_of, url_of}
 use Rattle.lq_cli.specs.declared.line.Job.{Job}
 use Rattle.lq_cli.specs.declared.line.Job.TheVariants.{Drill, RollbackSql, Run, Soak}
@@ -18,28 +18,28 @@ use Rattle.lq_cli.specs.declared.verb.Verb.TheVariants as verb
 use Rattle.lq_model.proofs.Lists.{and_left, and_right}
 use Rattle.lq_top.specs.Jobs.{job_tag}
 
-abbrev IsShort : List ℕ → Type 0
+abbrev pub IsShort : List ℕ → Type 0
 IsShort text = char_count text ≤ 255
 
-abbrev HasShort : Job → Type 0
+abbrev pub HasShort : Job → Type 0
 HasShort job = IfSome (job_tag job) IsShort
 
-abbrev IsShortLine : Line → Type 0
+abbrev pub IsShortLine : Line → Type 0
 IsShortLine line = HasShort line.job
 
-abbrev Any : {A : Type 0} → A → Type 0
+abbrev pub Any : {A : Type 0} → A → Type 0
 Any a = Unit {0}
 
 -- what holds of each answer of a step that follows holds of the answer
-then_holds : {A B : Type 0} (Q : A → Type 0) (P : B → Type 0) (f : A → Option B) (o : Option A) → IfSome o Q → ((a : A) → Q a → IfSome (f a) P) → IfSome (option_and_then f o) P
+pub then_holds : {A B : Type 0} (Q : A → Type 0) (P : B → Type 0) (f : A → Option B) (o : Option A) → IfSome o Q → ((a : A) → Q a → IfSome (f a) P) → IfSome (option_and_then f o) P
 then_holds Q P f None has goes = tt
 then_holds Q P f (Some a) has goes = goes a has
 
-any : {A : Type 0} (o : Option A) → IfSome o (λ (a : A). Unit {0})
+pub any : {A : Type 0} (o : Option A) → IfSome o (λ (a : A). Unit {0})
 any None = tt
 any (Some a) = tt
 
-if_holds : {A : Type 0} (P : A → Type 0) (b : Bool) (o : Option A) → IfSome o P → IfSome (if b then o else None) P
+pub if_holds : {A : Type 0} (P : A → Type 0) (b : Bool) (o : Option A) → IfSome o P → IfSome (if b then o else None) P
 if_holds P true o has = has
 if_holds P false o has = tt
 
@@ -118,9 +118,9 @@ with_short v given =
 after_short : (v : Verb) (words : List (List ℕ)) → IfSome (line_after v words) IsShortLine
 unfolding line_after
 after_short v words =
-    if_holds IsShortLine (is_offered v) _ (then_holds Any IsShortLine (line_with v) (given_in (form_of v) words) (any _) (λ given u. with_short v given))
+    then_holds Any IsShortLine (line_with v) (given_in (form_of v) words) (any _) (λ given u. with_short v given)
 
-of_short : (words : List (List ℕ)) → IfSome (line_of words) IsShortLine
+pub of_short : (words : List (List ℕ)) → IfSome (line_of words) IsShortLine
 unfolding line_of
 of_short [] = tt
 of_short (name ∷ words) = then_holds Any IsShortLine (λ v. line_after v words) (verb_of name) (any _) (λ v u. after_short v words)

@@ -2,19 +2,20 @@
 use Rattle.std.proofs.Common.{inl, inr, refl, subst, sym}
 use Rattle.std.specs.Prelude.{Err, IfErr, List, None, Ok, OnOk, Option, Result, Some, true, ◌≡◌}
 use Rattle.lq_base.specs.declared.dialect.Dialect.{Dialect}
+use Rattle.lq_commands.proofs.PlainRefusals.{IsPlain}
+use Rattle.lq_commands.specs.Kinds.{is_diskless}
+use Rattle.lq_commands.specs.Refusals.{Answers, IsFault, ends}
+use Rattle.lq_commands.specs.Works.{Works, is_finished}
 use Rattle.lq_store.specs.State.{State}
 use Rattle.lq_tell.specs.declared.done.Done.{Done}
 use Rattle.lq_tell.specs.declared.status.Status.{Status}
 use Rattle.lq_tell.specs.declared.status.Status.TheVariants as status
 use Rattle.lq_track.specs.Database.{Database}
 use Rattle.lq_turns.specs.declared.call.Call.{Call}
-use Rattle.lq_top.proofs.RefusedKinds.{IsPlain, ends_soak}
+use Rattle.lq_top.proofs.RefusedKinds.{ends_soak}
 use Rattle.lq_top.specs.Copies.{copy_status}
-use Rattle.lq_top.specs.Kinds.{is_of_soak}
-use Rattle.lq_top.specs.Refusals.{Answers, IsFault, ends}
-use Rattle.lq_top.specs.Works.{Works, is_finished}
 
-plain_passes : (s : Status) → is_of_soak s ≡ true → is_of_soak (copy_status s) ≡ true
+plain_passes : (s : Status) → is_diskless s ≡ true → is_diskless (copy_status s) ≡ true
 plain_passes status.Done is = is
 plain_passes status.Usage is = is
 plain_passes status.ReadFault is = is
@@ -32,23 +33,23 @@ plain_passes status.WriteFault is = is
 plain_passes status.OutOfMemory is = is
 plain_passes (status.Busy session) is = is
 
-fault_passes : (s : Status) → IsFault s → is_of_soak (copy_status s) ≡ true
-fault_passes s (inl disk) = subst (λ s. is_of_soak (copy_status s) ≡ true) (sym disk) refl
-fault_passes s (inr memory) = subst (λ s. is_of_soak (copy_status s) ≡ true) (sym memory) refl
+fault_passes : (s : Status) → IsFault s → is_diskless (copy_status s) ≡ true
+fault_passes s (inl disk) = subst (λ s. is_diskless (copy_status s) ≡ true) (sym disk) refl
+fault_passes s (inr memory) = subst (λ s. is_diskless (copy_status s) ≡ true) (sym memory) refl
 
-refused_passes : (o : Option Status) (s : Status) → IsPlain o → Answers o (Err s) → is_of_soak (copy_status s) ≡ true
+refused_passes : (o : Option Status) (s : Status) → IsPlain o → Answers o (Err s) → is_diskless (copy_status s) ≡ true
 refused_passes None s plain answers = fault_passes s answers
-refused_passes (Some refused) s plain (inl is) = subst (λ s. is_of_soak (copy_status s) ≡ true) (sym is) (plain_passes refused plain)
+refused_passes (Some refused) s plain (inl is) = subst (λ s. is_diskless (copy_status s) ≡ true) (sym is) (plain_passes refused plain)
 refused_passes (Some refused) s plain (inr fault) = fault_passes s fault
 
 -- it refused, or met a fault
-pub refusal_passes : (o : Option Status) (s now : Status) → IsPlain o → Answers o (Err s) → now ≡ copy_status s → is_of_soak now ≡ true
-refusal_passes o s now plain answers is = subst (λ s. is_of_soak s ≡ true) (sym is) (refused_passes o s plain answers)
+pub refusal_passes : (o : Option Status) (s now : Status) → IsPlain o → Answers o (Err s) → now ≡ copy_status s → is_diskless now ≡ true
+refusal_passes o s now plain answers is = subst (λ s. is_diskless s ≡ true) (sym is) (refused_passes o s plain answers)
 
 -- it ended in its run
-pub end_passes : (r : Result (Unit {0}) Status) (s : Status) → ends s ≡ true → IfErr r (λ e. e ≡ s) → IfErr r (λ e. is_of_soak e ≡ true)
+pub end_passes : (r : Result (Unit {0}) Status) (s : Status) → ends s ≡ true → IfErr r (λ e. e ≡ s) → IfErr r (λ e. is_diskless e ≡ true)
 end_passes (Ok u) s ended is = tt
-end_passes (Err e) s ended is = subst (λ s. is_of_soak s ≡ true) (sym is) (ends_soak s ended)
+end_passes (Err e) s ended is = subst (λ s. is_diskless s ≡ true) (sym is) (ends_soak s ended)
 
 -- a store on which a command was done is live
 pub done_lives : (d : Dialect) (calls : List Call) (database : Database) (x y : State) (done : Done) (r : Result (Unit {0}) Status) → Works d calls database x (Ok done) y → OnOk r (done.status ≡ status.Done) → OnOk r (y.live ≡ true)

@@ -4,6 +4,9 @@ use Rattle.std.proofs.lemmas.List.{append-nil}
 use Rattle.std.specs.Option.{option_map}
 use Rattle.std.specs.Prelude.{Bool, Err, List, None, Ok, Option, Result, Some, [], cond, false, map, true, ℕ, ◌++◌, ◌≡◌}
 use Rattle.lq_base.specs.declared.dialect.Dialect.{Dialect}
+use Rattle.lq_commands.specs.Outputs.{TellsJob}
+use Rattle.lq_commands.specs.Refusals.{Answers}
+use Rattle.lq_commands.specs.declared.given.Given.{Given}
 use Rattle.lq_db.proofs.Loads.{folded_runs}
 use Rattle.lq_db.specs.Load.{folded, if_clean, is_clean, read_entries}
 use Rattle.lq_db.specs.Log.{entries_in, texts_of}
@@ -19,20 +22,15 @@ use Rattle.lq_turns.specs.Session.{all_called, left_by, session_on}
 use Rattle.lq_turns.specs.declared.call.Call.{Call}
 use Rattle.lq_top.specs.Bytes.{Becomes, Holds, IsLeftOn, Opens, WorksOn, most_bytes}
 use Rattle.lq_top.specs.Copies.{job_of}
-use Rattle.lq_top.specs.Jobs.{DoesJob, TellsJob, is_command, is_on_file, job_refusal, job_script}
-use Rattle.lq_top.specs.Refusals.{Answers}
+use Rattle.lq_top.specs.Jobs.{DoesJob, is_apart, is_command, job_refusal, job_script}
 use Rattle.lq_top.specs.declared.copying.Printing.{Printing}
 use Rattle.lq_top.specs.declared.copying.Printing.TheVariants as print
-use Rattle.lq_top.specs.declared.given.Given.{Given}
 
 ok_same : {a b : Catalogue} → (let r : Result Catalogue ℕ = Ok a in r) ≡ Ok b → a ≡ b
 ok_same h = Prim.cc
 
 err_ok : {n : ℕ} {b : Catalogue} → (let r : Result Catalogue ℕ = Err n in r) ≡ Ok b → ⊥
 err_ok h = Prim.cc
-
-true_false : true ≡ false → ⊥
-true_false h = Prim.cc
 
 false_true : false ≡ true → ⊥
 false_true h = Prim.cc
@@ -115,9 +113,9 @@ printed_does printing given database before done after opens answers tells same 
     record { answers = answers; refused = λ some. same; works = prints printing given database before done after opens same; tells = tells }
 
 -- which is on the file, and no command
-pub prints_on_file : {A : Type 0} (printing : Printing) → is_on_file (job_of printing) ≡ false → A
-prints_on_file print.Update off = absurd (true_false off)
-prints_on_file (print.Rollback target) off = absurd (true_false off)
+pub prints_on_file : {A : Type 0} (printing : Printing) → is_apart (job_of printing) ≡ true → A
+prints_on_file print.Update off = absurd (false_true off)
+prints_on_file (print.Rollback target) off = absurd (false_true off)
 
 pub prints_no_command : {A : Type 0} (printing : Printing) → is_command (job_of printing) ≡ true → A
 prints_no_command print.Update is = absurd (false_true is)

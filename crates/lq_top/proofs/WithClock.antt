@@ -4,15 +4,15 @@ use Rattle.std.specs.List.{All}
 use Rattle.std.specs.Prelude.{◌≡◌}
 use Rattle.lq_base.specs.declared.dialect.Dialect.{Dialect}
 use Rattle.lq_changelog.specs.ShortTexts.{HasShortTexts}
+use Rattle.lq_commands.specs.Works.{IsReady}
+use Rattle.lq_commands.specs.declared.given.Asked.{Asked}
+use Rattle.lq_commands.specs.declared.given.Given.{Given}
 use Rattle.lq_expr.specs.declared.options.Options.{Options}
 use Rattle.lq_kinds.specs.Dialects.{AreFor}
 use Rattle.lq_kinds.specs.declared.change_set.Changelog.{Changelog}
 use Rattle.lq_store.specs.State.{State}
 use Rattle.lq_turns.specs.declared.stamp.Stamp.{Stamp}
 use Rattle.lq_top.specs.Bytes.{given_at}
-use Rattle.lq_top.specs.Works.{IsReady}
-use Rattle.lq_top.specs.declared.given.Asked.{Asked}
-use Rattle.lq_top.specs.declared.given.Given.{Given}
 
 pub given_is : (given : Given) (asked : Asked) (stamp : Stamp) → given.changelog ≡ asked.changelog → given.options ≡ asked.options → given.stamp ≡ stamp → given ≡ given_at asked stamp
 given_is given asked stamp log options stamped =

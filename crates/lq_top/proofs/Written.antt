@@ -11,6 +11,11 @@ use Rattle.lq_base.specs.declared.tracking.Lock.{Lock}
 use Rattle.lq_base.specs.declared.tracking.Tracked.{Tracked}
 use Rattle.lq_cli.specs.declared.line.Job.{Job}
 use Rattle.lq_cli.specs.declared.line.Job.TheVariants.{Drill, RollbackSql, Run, Soak, UpdateSql}
+use Rattle.lq_commands.specs.Refusals.{Answers, IsFault, ends, held, if_halts, if_not, if_some, invalid, irreversible, own_halt, unreachable_by, unready, untagged}
+use Rattle.lq_commands.specs.Scripts.{log_in, script, sets_in, update_script}
+use Rattle.lq_commands.specs.Turns.{turns_script}
+use Rattle.lq_commands.specs.Works.{is_finished}
+use Rattle.lq_commands.specs.declared.given.Given.{Given}
 use Rattle.lq_kinds.specs.Dialects.{AreFor}
 use Rattle.lq_sources.specs.declared.fault.LoadFault.{LoadFault}
 use Rattle.lq_sources.specs.declared.fault.LoadFault.TheVariants as load
@@ -42,12 +47,7 @@ use Rattle.lq_top.specs.Bytes.{Becomes, IsLeftOn, OnFile, Opens, TellsDamage}
 use Rattle.lq_top.specs.Headline.{GoesBack, GoneBack, HasSynced, HasUpdated}
 use Rattle.lq_top.specs.Jobs.{DoesJob, DoesLine, is_on_file, job_refusal, job_script}
 use Rattle.lq_top.specs.Kinds.{IsNotLoaded, IsOfFiles, IsOfWords, is_unwritten}
-use Rattle.lq_top.specs.Refusals.{Answers, IsFault, ends, held, if_halts, if_not, if_some, invalid, irreversible, own_halt, unreachable_by, unready, untagged}
 use Rattle.lq_top.specs.Run.{EndsBy, EndsUnread, IsDamage, IsLogged, IsOutside, IsUnread, Runs, RunsJob, given_by, is_end, is_over}
-use Rattle.lq_top.specs.Scripts.{log_in, script, sets_in, update_script}
-use Rattle.lq_top.specs.Turns.{turns_script}
-use Rattle.lq_top.specs.Works.{is_finished}
-use Rattle.lq_top.specs.declared.given.Given.{Given}
 
 pub false_true : false ≡ true → ⊥
 false_true h = Prim.cc

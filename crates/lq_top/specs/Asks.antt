@@ -3,36 +3,37 @@ use Rattle.std.specs.Prelude.{Bool, Err, List, None, Ok, Option, Result, Some, [
 use Rattle.lq_base.specs.declared.command.Command.TheVariants as command
 use Rattle.lq_base.specs.declared.command.Target.{Target}
 use Rattle.lq_base.specs.declared.command.Target.TheVariants as target
-use Rattle.lq_base.specs.declared.dialect.Dialect.{Dialect}
-use Rattle.lq_base.specs.declared.run.OnFail.TheVariants.{Halt}
-use Rattle.lq_changelog.specs.Changelog.{changelog}
 use Rattle.lq_cli.specs.Line.{line_of}
 use Rattle.lq_cli.specs.declared.line.Job.{Job}
 use Rattle.lq_cli.specs.declared.line.Job.TheVariants.{Drill, RollbackSql, Run, Soak, UpdateSql}
 use Rattle.lq_cli.specs.declared.line.Line.{Line}
-use Rattle.lq_cond.specs.declared.cond.Cond.TheVariants.{And}
-use Rattle.lq_expr.specs.declared.options.Options.{Options}
 use Rattle.lq_kinds.specs.declared.change_set.Changelog.{Changelog}
-use Rattle.lq_sources.specs.Answers.{IsTold, Source}
+use Rattle.lq_sources.specs.Answers.{IsTold, Source, map_ok}
 use Rattle.lq_sources.specs.Faults.{Loaded}
 use Rattle.lq_sources.specs.declared.fault.LoadFault.{LoadFault}
-use Rattle.lq_sources.specs.declared.fault.LoadFault.TheVariants as load
-use Rattle.lq_tell.specs.declared.status.Status.{Status}
-use Rattle.lq_tell.specs.declared.status.Status.TheVariants as status
-use Rattle.lq_top.specs.declared.given.Asked.{Asked}
+use Rattle.lq_top.specs.Drills.{drill_of}
+pub use Rattle.lq_top.specs.Loads.{Files, asked_by, file_status, loaded, no_changelog}
 
--- what files hold, where they tell it
-abbrev pub Files : Type 0
-Files = Option (List ℕ → Option (List ℕ))
+-- the job is a drill
+abbrev pub is_drill : Job → Bool
+is_drill (Run c) = false
+is_drill UpdateSql = false
+is_drill (RollbackSql target) = false
+is_drill (Drill runs) = true
+is_drill (Soak number sets) = false
 
--- the changelog of a command that reads none
-abbrev pub no_changelog : Changelog
-no_changelog = record { cond = And []; on_fail = Halt; on_error = Halt; sets = [] }
+abbrev pub asks_drill : Option Line → Bool
+asks_drill (Some line) = is_drill line.job
+asks_drill None = false
 
--- what the files give below a root, with properties that are given: a changelog, or a fault
-abbrev pub loaded : Source → Dialect → List (List ℕ × List ℕ) → Option (List ℕ) → Loaded Changelog
-loaded source d given None = Ok no_changelog
-loaded source d given (Some root) = changelog source root d given
+-- A drill has no changelog of its own; a fault of its files is its fault.
+abbrev pub given_for : Job → Source → Line → Loaded Changelog
+given_for (Drill runs) source line = map_ok (λ drill. no_changelog) (drill_of source line.options.dialect line.path runs)
+given_for _ source line = loaded source line.options.dialect line.given line.root
+
+-- what the files give a line: a changelog, or a fault
+abbrev pub given_to : Source → Line → Loaded Changelog
+given_to source line = given_for line.job source line
 
 -- the words are this line, and the files give it this changelog
 pub record Asks (words : List (List ℕ)) (files : Files) : Type 0 where
@@ -41,16 +42,7 @@ pub record Asks (words : List (List ℕ)) (files : Files) : Type 0 where
   pub source : Source
   pub told : IsTold files source
   pub changelog : Changelog
-  pub gives : loaded source line.options.dialect line.given line.root ≡ Ok changelog
-
-abbrev pub asked_by : Options → Changelog → Asked
-asked_by options g = record { changelog = g; options = options }
-
--- the status of a fault of the files
-abbrev pub file_status : LoadFault → Status
-file_status load.Read = status.ReadFault
-file_status load.OutOfMemory = status.OutOfMemory
-file_status fault = status.Changelog fault
+  pub gives : given_to source line ≡ Ok changelog
 
 abbrev pub target_tag : Target → Option (List ℕ)
 target_tag (target.Tag tag) = Some tag
@@ -68,9 +60,23 @@ abbrev pub asked_tag : Option Line → Option (List ℕ)
 asked_tag (Some line) = back_tag line.job
 asked_tag None = None
 
+-- the words are no command line, or those of a drill whose file has no such form
+abbrev pub IsUsage : List (List ℕ) → Files → Type 0
+IsUsage words files = (line : Line) → line_of words ≡ Some line → (runs : List ℕ) × (line.job ≡ Drill runs) × ((source : Source) → IsTold files source → drill_of source line.options.dialect line.path runs ≡ Ok None)
+
+-- the words are those of a drill, and its file has no such form
+pub record HasNoForm (words : List (List ℕ)) (files : Files) : Type 0 where
+  pub line : Line
+  pub is_line : line_of words ≡ Some line
+  pub runs : List ℕ
+  pub is_drill : line.job ≡ Drill runs
+  pub source : Source
+  pub told : IsTold files source
+  pub gives : drill_of source line.options.dialect line.path runs ≡ Ok None
+
 -- the files give no changelog, for this fault
 abbrev pub IsFaultOf : List (List ℕ) → Files → LoadFault → Type 0
-IsFaultOf words files fault = (line : Line) → line_of words ≡ Some line → (source : Source) → IsTold files source → loaded source line.options.dialect line.given line.root ≡ Err fault
+IsFaultOf words files fault = (line : Line) → line_of words ≡ Some line → (source : Source) → IsTold files source → given_to source line ≡ Err fault
 
 -- the files give a fault in place of a changelog
 pub record HasFault (words : List (List ℕ)) (files : Files) (fault : LoadFault) : Type 0 where
@@ -78,4 +84,4 @@ pub record HasFault (words : List (List ℕ)) (files : Files) (fault : LoadFault
   pub is_line : line_of words ≡ Some line
   pub source : Source
   pub told : IsTold files source
-  pub gives : loaded source line.options.dialect line.given line.root ≡ Err fault
+  pub gives : given_to source line ≡ Err fault

@@ -2,6 +2,9 @@
 use Rattle.std.specs.Option.{option_map}
 use Rattle.std.specs.Prelude.{Err, IfSome, IsTrue, List, None, Ok, Option, Result, Some, [], false, true, ℕ, ◌++◌, ◌≡◌, ◌⊎◌}
 use Rattle.lq_base.specs.declared.dialect.Dialect.{Dialect}
+use Rattle.lq_commands.specs.Works.{is_finished}
+use Rattle.lq_commands.specs.declared.given.Asked.{Asked}
+use Rattle.lq_commands.specs.declared.given.Given.{Given}
 use Rattle.lq_db.specs.Load.{catalogue_of}
 use Rattle.lq_db.specs.Log.{entries_in}
 use Rattle.lq_journal.specs.declared.fault.LoadFault.{LoadFault}
@@ -20,9 +23,6 @@ use Rattle.lq_turns.specs.Session.{all_called, left_by, session_on}
 use Rattle.lq_turns.specs.Stops.{IsLeft, Journal, joined}
 use Rattle.lq_turns.specs.declared.call.Call.{Call}
 use Rattle.lq_turns.specs.declared.stamp.Stamp.{Stamp}
-use Rattle.lq_top.specs.Works.{is_finished}
-use Rattle.lq_top.specs.declared.given.Asked.{Asked}
-use Rattle.lq_top.specs.declared.given.Given.{Given}
 
 -- the most bytes of a journal
 abbrev pub most_bytes : ℕ

@@ -1,25 +1,20 @@
--- Which statuses come of the words, of the files and of the database.
+-- Which statuses come of the words, of the files and of drills.
 use Rattle.std.specs.Prelude.{Bool, Err, Ok, Result, false, true, ◌≡◌, ◌⊎◌}
+use Rattle.lq_commands.specs.Kinds.{is_of_database}
+use Rattle.lq_commands.specs.Refusals.{ends}
 use Rattle.lq_sources.specs.declared.fault.LoadFault.{LoadFault}
 use Rattle.lq_tell.specs.declared.done.Done.{Done}
 use Rattle.lq_tell.specs.declared.status.Status.{Status}
 use Rattle.lq_tell.specs.declared.status.Status.TheVariants as status
 use Rattle.lq_top.specs.Asks.{file_status}
-use Rattle.lq_top.specs.Refusals.{ends}
 
--- not of the words, of the files or of the output
-abbrev pub is_of_database : Status → Bool
-is_of_database status.Usage = false
-is_of_database status.ReadFault = false
-is_of_database (status.Changelog fault) = false
-is_of_database status.WriteFault = false
-is_of_database s = true
-
--- nor of a disk: a soak has its own in memory
-abbrev pub is_of_soak : Status → Bool
-is_of_soak status.DiskFault = false
-is_of_soak (status.Damaged at) = false
-is_of_soak s = is_of_database s
+-- so a drill ends that did not come to its end
+abbrev pub is_of_drill : Status → Bool
+is_of_drill status.DiskFault = true
+is_of_drill (status.Damaged at) = true
+is_of_drill (status.Full used next) = true
+is_of_drill status.OutOfMemory = true
+is_of_drill s = false
 
 abbrev pub is_of_line : Status → Bool
 is_of_line status.Usage = false

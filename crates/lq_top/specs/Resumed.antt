@@ -6,6 +6,9 @@ use Rattle.lq_base.specs.declared.command.Target.{Target}
 use Rattle.lq_base.specs.declared.dialect.Dialect.TheVariants.{Postgresql}
 use Rattle.lq_cli.specs.declared.line.Job.{Job}
 use Rattle.lq_cli.specs.declared.line.Job.TheVariants.{Run as Runs}
+use Rattle.lq_commands.specs.Scripts.{sets_in}
+use Rattle.lq_commands.specs.Tells.{status_by}
+use Rattle.lq_commands.specs.declared.given.Given.{Given}
 use Rattle.lq_kinds.specs.declared.any_change.AnyChange.{AnyChange}
 use Rattle.lq_model.specs.Sound.{IsSound}
 use Rattle.lq_seen.specs.View.{any_meaning}
@@ -30,9 +33,6 @@ use Rattle.lq_top.specs.Bytes.{IsLeftOn, OnFile}
 use Rattle.lq_top.specs.Headline.{log_of}
 use Rattle.lq_top.specs.Jobs.{job_script}
 use Rattle.lq_top.specs.Run.{HoldsSame, given_by, is_over}
-use Rattle.lq_top.specs.Scripts.{sets_in}
-use Rattle.lq_top.specs.Tells.{status_by}
-use Rattle.lq_top.specs.declared.given.Given.{Given}
 
 -- A steady update in postgresql that was stopped any number of times, under any names, with release-locks between. The first began on this database.
 pub record UpdateStopped {words : List (List ℕ)} {files : Files} (asks : Asks words files) (stamp : Stamp) (database : Database) : Type 0 where

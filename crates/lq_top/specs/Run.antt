@@ -4,6 +4,8 @@ use Rattle.lq_base.specs.declared.dialect.Dialect.{Dialect}
 use Rattle.lq_cli.specs.declared.line.Job.{Job}
 use Rattle.lq_base.specs.declared.identity.Identity.{Identity}
 use Rattle.lq_base.specs.declared.run.Why.{Why}
+use Rattle.lq_commands.specs.Works.{IsKept, is_finished}
+use Rattle.lq_commands.specs.declared.given.Given.{Given}
 use Rattle.lq_db.specs.Load.{catalogue_of}
 use Rattle.lq_outside.specs.Crash.{Crashes as DiskCrashes, Settled}
 use Rattle.lq_sources.specs.declared.fault.LoadFault.{LoadFault}
@@ -16,8 +18,6 @@ use Rattle.lq_turns.specs.declared.stamp.Stamp.{Stamp}
 use Rattle.lq_top.specs.Asks.{Asks, Files, asked_by, file_status}
 use Rattle.lq_top.specs.Bytes.{Becomes, CrashesOn, Holds, IsLeftOn, OnFile, given_at, most_bytes}
 use Rattle.lq_top.specs.Jobs.{is_command, is_on_file, job_refusal, job_script}
-use Rattle.lq_top.specs.Works.{IsKept, is_finished}
-use Rattle.lq_top.specs.declared.given.Given.{Given}
 
 -- it came to its end, and then perhaps its text could not be written
 abbrev pub is_over : Status → Bool

@@ -4,6 +4,13 @@ use Rattle.lq_base.specs.declared.command.Command.TheVariants as command
 use Rattle.lq_base.specs.declared.command.Target.{Target}
 use Rattle.lq_cli.specs.declared.line.Job.{Job}
 use Rattle.lq_cli.specs.declared.line.Job.TheVariants.{RollbackSql, Run, UpdateSql}
+use Rattle.lq_commands.specs.Inserts.{synced_in}
+use Rattle.lq_commands.specs.Outputs.{at_once_text, back_in}
+use Rattle.lq_commands.specs.Refusals.{own_halt}
+use Rattle.lq_commands.specs.Scripts.{updated_in}
+use Rattle.lq_commands.specs.Tells.{rollback_told, status_by, update_told}
+use Rattle.lq_commands.specs.Works.{is_finished}
+use Rattle.lq_commands.specs.declared.given.Given.{Given}
 use Rattle.lq_report.specs.Output.{sync_text}
 use Rattle.lq_tell.specs.declared.status.Status.{Status}
 use Rattle.lq_track.specs.Database.{Database}
@@ -11,14 +18,7 @@ use Rattle.lq_turns.specs.declared.stamp.Stamp.{Stamp}
 use Rattle.lq_turns.specs.declared.stop.Stop.{Stop}
 use Rattle.lq_top.specs.Asks.{Asks, Files}
 use Rattle.lq_top.specs.Bytes.{OnFile}
-use Rattle.lq_top.specs.Inserts.{synced_in}
-use Rattle.lq_top.specs.Jobs.{at_once_text, back_in}
-use Rattle.lq_top.specs.Refusals.{own_halt}
 use Rattle.lq_top.specs.Run.{given_by}
-use Rattle.lq_top.specs.Scripts.{updated_in}
-use Rattle.lq_top.specs.Tells.{rollback_told, status_by, update_told}
-use Rattle.lq_top.specs.Works.{is_finished}
-use Rattle.lq_top.specs.declared.given.Given.{Given}
 
 -- the status is by what stopped its turns, and this text was written behind what stood in the output
 pub record Says (stop : Option Stop) (text : List ℕ) (s : Status) (before after : Option (List ℕ)) : Type 0 where

@@ -2,6 +2,8 @@
 use Rattle.std.specs.Prelude.{Err, IsTrue, List, Ok, Option, Result, Some, false, true, ℕ, ◌≡◌, ◌≤◌, ◌⊎◌}
 use Rattle.lq_base.specs.declared.dialect.Dialect.{Dialect}
 use Rattle.lq_cli.specs.declared.line.Job.{Job}
+use Rattle.lq_commands.specs.Works.{is_finished}
+use Rattle.lq_commands.specs.declared.given.Given.{Given}
 use Rattle.lq_expr.specs.declared.options.Options.{Options}
 use Rattle.lq_kinds.specs.declared.change_set.Changelog.{Changelog}
 use Rattle.lq_outside.specs.Count.{Rose}
@@ -18,10 +20,8 @@ use Rattle.lq_turns.specs.declared.call.Call.{Call}
 use Rattle.lq_turns.specs.declared.stamp.Stamp.{Stamp}
 use Rattle.lq_top.specs.Asks.{Files, asked_by}
 use Rattle.lq_top.specs.Bytes.{IsLeftOn, OnFile, TellsDamage, WasLeft, given_at}
-use Rattle.lq_top.specs.Jobs.{DoesJob, DoesLine, is_command, is_on_file, job_script}
+use Rattle.lq_top.specs.Jobs.{DoesJob, DoesLine, is_apart, is_command, is_on_file, job_script}
 use Rattle.lq_top.specs.Kinds.{IsNotLoaded, IsOfDatabase, IsOfFiles, IsOfLine}
-use Rattle.lq_top.specs.Works.{is_finished}
-use Rattle.lq_top.specs.declared.given.Given.{Given}
 
 -- A crash at any moment of these calls leaves what a stop of them may leave; or, since an earlier moment, the entries of what one before them might have left.
 pub record CrashesSince (d : Dialect) (calls : List Call) (database : Database) (told : Option (List ℕ)) (before now : DiskCrashes) : Type 0 where
@@ -40,7 +40,7 @@ module _ {D : Type 0} (told : D → Option (List ℕ)) (faults : D → ℕ) (cra
     pub damaged : TellsDamage d (told before) done
     -- after a command that came to its end a crash leaves what is there
     pub safe : is_command job ≡ true → is_finished (status_done done) ≡ true → Settled (told after) (crashes after)
-    pub off : is_on_file job ≡ false → after ≡ before
+    pub off : is_apart job ≡ true → after ≡ before
     pub later : faults before ≤ faults after
     pub fault : done ≡ Err status.DiskFault → Rose (faults before) (faults after)
 

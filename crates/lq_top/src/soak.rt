@@ -2,21 +2,20 @@ ghost use Rattle.std.specs.List.{All};
 ghost use Rattle.std.specs.Prelude.{◌≡◌, ◌≤◌, IfErr, IfOk, IfSome, IsTrue, OnOk, false, true};
 ghost use Rattle.lq_base.specs.Character.{char_count};
 ghost use Rattle.lq_changelog.specs.ShortTexts.{HasShortTexts};
+ghost use Rattle.lq_commands.specs.Kinds.{is_diskless};
+ghost use Rattle.lq_commands.specs.Reading.{ReadOnce};
+ghost use Rattle.lq_commands.specs.Scripts.{tag_in};
+ghost use Rattle.lq_commands.specs.Works.{IsReady};
 ghost use Rattle.lq_db.specs.Db.{IsDb, disk_in, engine_in, state};
 ghost use Rattle.lq_kinds.specs.Dialects.{AreFor};
-ghost use Rattle.lq_top.specs.Clock.{ReadOnce};
-ghost use Rattle.lq_top.specs.Kinds.{Refuses, is_of_soak};
-ghost use Rattle.lq_top.specs.Scripts.{tag_in};
-ghost use Rattle.lq_top.specs.Works.{IsReady};
+ghost use Rattle.lq_top.specs.Kinds.{Refuses};
 ghost use Rattle.lq_turns.specs.Stops.{is_mark};
 
-use crate::command::run_command;
 use crate::copying::copy_status;
-use crate::given::{Given, SESSION};
 use crate::opening::LIMIT;
-use crate::stamp::stamp_of;
 use lq_base::{Command, Dialect, Items, Name, NoMemory, Target, Text};
 use lq_changelog::load;
+use lq_commands::{Given, SESSION, run_command, stamp_of};
 use lq_db::Db;
 use lq_engine::Engine;
 use lq_expr::Options;
@@ -58,7 +57,7 @@ pub fn soak<C: Clock, P: SqlText + Drop + Copy>(
     clock: &mut C,
 ) -> Result<Done, Status>
     requires sql { P.dialect ≡ dialect }
-    ensures refuses { Refuses is_of_soak result }
+    ensures refuses { Refuses is_diskless result }
     ensures once { ReadOnce (C.to_come clock.old) (C.to_come clock.new) (C.last clock.new) }
 {
     let reading = clock.now();
@@ -79,7 +78,7 @@ fn there_and_back<P: SqlText + Drop + Copy>(
     soaker: Soaker<'_>,
 ) -> Result<Text, Status>
     requires { P.dialect ≡ soaker.dialect }
-    ensures { IfErr result (λ s. is_of_soak s ≡ true) }
+    ensures { IfErr result (λ s. is_diskless s ≡ true) }
 {
     let empty = SureDisk::new(Vec::new(alloc));
     let update = Command::Update;
@@ -98,7 +97,7 @@ fn back_text<P: SqlText + Drop + Copy>(
     sum: Text,
 ) -> Result<Text, Status>
     requires { P.dialect ≡ soaker.dialect }
-    ensures { IfErr result (λ s. is_of_soak s ≡ true) }
+    ensures { IfErr result (λ s. is_diskless s ≡ true) }
 {
     let Measured {
         entries,
@@ -149,7 +148,7 @@ fn disk_after<P: SqlText + Drop + Copy>(
 ) -> Result<After<SureDisk>, Status>
     requires sql { P.dialect ≡ soaker.dialect }
     requires tag { IfSome (tag_in command.now) (λ tag. char_count tag ≤ 255) }
-    ensures { IfErr result (λ s. is_of_soak s ≡ true) }
+    ensures { IfErr result (λ s. is_diskless s ≡ true) }
 {
     let given = given_by(alloc, &sql, soaker)?;
     match Db::<SureDisk, P, Engine>::load(alloc, disk, given.options.dialect, sql, LIMIT) {
@@ -174,7 +173,7 @@ fn on_loaded<D: Disk + Drop, P: SqlText + Drop + Copy, E: Executor + Drop>(
     requires tag { IfSome (tag_in command.now) (λ tag. char_count tag ≤ 255) }
     requires moment { given.stamp.reading ≤ 253402300799999 }
     requires name { is_mark given.stamp.who ≡ false }
-    ensures { IfErr result (λ s. is_of_soak s ≡ true) }
+    ensures { IfErr result (λ s. is_diskless s ≡ true) }
 {
     let mut db = db;
     let dialect = given.options.dialect;
@@ -204,7 +203,7 @@ fn done_on<S: Store, P: SqlText>(
     requires name { is_mark given.stamp.who ≡ false }
     ensures valid { S.valid store.new }
     ensures live { OnOk result (IsTrue (S.state store.new).live) }
-    ensures stops { IfErr result (λ s. is_of_soak s ≡ true) }
+    ensures stops { IfErr result (λ s. is_diskless s ≡ true) }
 {
     match run_command(alloc, command, given, store, sql) {
         Ok(done) => unless_done(done),

@@ -1,23 +1,24 @@
-ghost use Rattle.std.specs.Prelude.{◌≡◌, ◌⊎◌, List, None, Some, false, map, string_bytes, ℕ};
+ghost use Rattle.std.specs.Prelude.{◌≡◌, ◌⊎◌, List, None, Some, false, map, string_bytes, true, ℕ};
 ghost use Rattle.std.specs.Option.{option_copied};
 ghost use Rattle.lq_base.specs.declared.identity.Identity.{Identity};
 ghost use Rattle.lq_base.specs.declared.run.Why.{Why};
 ghost use Rattle.lq_cli.specs.Line.{line_of};
 ghost use Rattle.lq_cli.specs.declared.line.Line.{Line};
+ghost use Rattle.lq_commands.specs.Stamp.{stamp_of};
 ghost use Rattle.lq_kinds.specs.Dialects.{AreFor};
 ghost use Rattle.lq_outside.specs.Count.{Rose};
 ghost use Rattle.lq_sources.specs.declared.fault.LoadFault.{LoadFault};
 ghost use Rattle.lq_tell.specs.Lines.{status_lines};
 ghost use Rattle.lq_tell.specs.Texts.{IsSilent};
 ghost use Rattle.lq_tell.specs.declared.status.Status.TheVariants as status;
-ghost use Rattle.lq_top.specs.Asks.{Asks, HasFault, IsFaultOf, asked_tag};
-ghost use Rattle.lq_top.specs.Clock.{ReadAtMostOnce};
+ghost use Rattle.lq_top.specs.Asks.{Asks, HasFault, HasNoForm, IsFaultOf, IsUsage, asked_tag, asks_drill};
+ghost use Rattle.lq_top.specs.Clock.{ReadAtMostOnce, ReadUpTo};
+ghost use Rattle.lq_top.specs.Drilled.{AsksDrill, RunsDrill};
 ghost use Rattle.lq_top.specs.Headline.{GoesBack, GoneBack, HasSynced, HasUpdated, IsTaken};
-ghost use Rattle.lq_top.specs.Jobs.{is_on_file};
+ghost use Rattle.lq_top.specs.Jobs.{is_apart};
 ghost use Rattle.lq_top.specs.Resumed.{LeavesMarked, RollbackResumes, UpdateResumes};
 ghost use Rattle.lq_top.specs.Run.{Crashes, EndsUnread, IsDamage, IsLogged, IsSafe, IsUnread, Runs};
 ghost use Rattle.lq_top.specs.Says.{Said};
-ghost use Rattle.lq_top.specs.Stamp.{stamp_of};
 
 use crate::work::{Ending, work};
 use lq_base::Text;
@@ -36,6 +37,8 @@ pub struct Ended<D: Disk> {
 /// database file, and comes back with every status. The lock names `who`, in whom each `|` and each
 /// control character is `_`.
 ///
+/// A drill runs the commands of a file of runs beside one another, step by step as the file says.
+///
 /// Where the command did its work its text is written to `out`; for every status but `Done` the log
 /// gets lines, and for each precondition that only warns.
 pub fn run<F: Files, D: Disk, C: Clock, O: Sink, L: Sink>(
@@ -49,8 +52,9 @@ pub fn run<F: Files, D: Disk, C: Clock, O: Sink, L: Sink>(
     log: &mut L,
 ) -> Ended<D>
     // Each status by its cause.
-    ensures usage { result.status ≡ status.Usage → line_of (map (λ word. string_bytes word) words.now) ≡ None }
+    ensures usage { result.status ≡ status.Usage → IsUsage (map (λ word. string_bytes word) words.now) (F.told files.old) }
     ensures usage_only { line_of (map (λ word. string_bytes word) words.now) ≡ None → (result.status ≡ status.Usage) ⊎ (result.status ≡ status.OutOfMemory) }
+    ensures formless { HasNoForm (map (λ word. string_bytes word) words.now) (F.told files.old) → (result.status ≡ status.Usage) ⊎ (result.status ≡ status.ReadFault) ⊎ (result.status ≡ status.OutOfMemory) }
     ensures read { result.status ≡ status.ReadFault → Rose (F.faults files.old) (F.faults files.new) }
     ensures changelog { (fault : LoadFault) → result.status ≡ status.Changelog fault → IsFaultOf (map (λ word. string_bytes word) words.now) (F.told files.old) fault }
     ensures changelog_only { (fault : LoadFault) → HasFault (map (λ word. string_bytes word) words.now) (F.told files.old) fault → EndsUnread fault result.status }
@@ -64,7 +68,7 @@ pub fn run<F: Files, D: Disk, C: Clock, O: Sink, L: Sink>(
     // A crash of the machine at any moment, and after the end.
     ensures any_moment { (asks : Asks (map (λ word. string_bytes word) words.now) (F.told files.old)) → Crashes asks (stamp_of who.now (C.last clock.new)) (D.told disk) (D.crashes disk) (D.crashes result.disk) }
     ensures safe { (asks : Asks (map (λ word. string_bytes word) words.now) (F.told files.old)) → IsSafe asks result.status (D.told result.disk) (D.crashes result.disk) }
-    ensures soak { (line : Line) → line_of (map (λ word. string_bytes word) words.now) ≡ Some line → is_on_file line.job ≡ false → result.disk ≡ disk }
+    ensures soak { (line : Line) → line_of (map (λ word. string_bytes word) words.now) ≡ Some line → is_apart line.job ≡ true → result.disk ≡ disk }
 
     // What an update, a rollback and a changelog-sync say that come to their end: by their turns and rows.
     ensures says { (asks : Asks (map (λ word. string_bytes word) words.now) (F.told files.old)) → Said asks (stamp_of who.now (C.last clock.new)) (D.told disk) result.status (O.told out.old) (O.told out.new) }
@@ -83,8 +87,12 @@ pub fn run<F: Files, D: Disk, C: Clock, O: Sink, L: Sink>(
     ensures marked { (asks : Asks (map (λ word. string_bytes word) words.now) (F.told files.old)) → LeavesMarked asks (stamp_of who.now (C.last clock.new)) (D.told disk) (D.told result.disk) }
     ensures marked_at_crash { (asks : Asks (map (λ word. string_bytes word) words.now) (F.told files.old)) → AreFor asks.line.options.dialect asks.changelog → (bytes : List ℕ) → LeavesMarked asks (stamp_of who.now (C.last clock.new)) (D.told disk) (Some bytes) }
 
-    // The clock is read at most once.
-    ensures once { ReadAtMostOnce (C.to_come clock.old) (C.to_come clock.new) (C.last clock.new) }
+    // A drill: its commands take their steps as the runners of the machine do, each with its own reading of the clock.
+    ensures drill { (asks : AsksDrill (map (λ word. string_bytes word) words.now) (F.told files.old)) → RunsDrill asks who.now (C.to_come clock.old) (C.to_come clock.new) (D.told disk) (D.crashes disk) result.status (D.told result.disk) (D.crashes result.disk) (O.told out.old) (O.told out.new) }
+
+    // The clock is read at most once, and by a drill for each of its commands.
+    ensures once { asks_drill (line_of (map (λ word. string_bytes word) words.now)) ≡ false → ReadAtMostOnce (C.to_come clock.old) (C.to_come clock.new) (C.last clock.new) }
+    ensures reads { ReadUpTo 64 (C.to_come clock.old) (C.to_come clock.new) }
 
     // Without an end in the run there is no output. The log gets the lines of the status, behind those of warnings.
     ensures silent { IsSilent result.status → O.told out.new ≡ O.told out.old }

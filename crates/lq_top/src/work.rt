@@ -1,43 +1,41 @@
 ghost use Rattle.std.specs.List.{All};
-ghost use Rattle.std.specs.Prelude.{◌≡◌, ◌≤◌, ◌⊎◌, Err, IfOk, IfSome, None, Some, false, map, string_bytes, true};
+ghost use Rattle.std.specs.Prelude.{◌≡◌, ◌≤◌, ◌⊎◌, Err, IfSome, List, None, Some, false, map, string_bytes, true, ℕ};
 ghost use Rattle.lq_base.specs.Character.{char_count};
 ghost use Rattle.lq_changelog.specs.ShortTexts.{HasShortTexts};
 ghost use Rattle.lq_cli.specs.Line.{line_of};
+ghost use Rattle.lq_cli.specs.declared.line.Job.TheVariants as job;
 ghost use Rattle.lq_cli.specs.declared.line.Line.{Line};
+ghost use Rattle.lq_commands.specs.Stamp.{stamp_of};
+ghost use Rattle.lq_commands.specs.Works.{is_finished};
 ghost use Rattle.lq_kinds.specs.Dialects.{AreFor};
 ghost use Rattle.lq_outside.specs.Count.{Rose};
 ghost use Rattle.lq_outside.specs.Crash.{Settled};
-ghost use Rattle.lq_sources.specs.Answers.{Finds};
 ghost use Rattle.lq_sources.specs.declared.fault.LoadFault.{LoadFault as Fault};
-ghost use Rattle.lq_sources.specs.declared.fault.LoadFault.TheVariants as load;
 ghost use Rattle.lq_tell.specs.Texts.{status_done};
 ghost use Rattle.lq_tell.specs.declared.status.Status.TheVariants as status;
-ghost use Rattle.lq_top.specs.Asks.{Asks, HasFault, IsFaultOf, asked_by, asked_tag, back_tag, file_status, loaded, no_changelog};
+ghost use Rattle.lq_top.specs.Asks.{Asks, HasFault, HasNoForm, IsFaultOf, IsUsage, asked_by, asked_tag, asks_drill, back_tag, given_to, is_drill, loaded};
 ghost use Rattle.lq_top.specs.Bytes.{TellsDamage, given_at};
-ghost use Rattle.lq_top.specs.Clock.{ReadAtMostOnce};
+ghost use Rattle.lq_top.specs.Clock.{ReadAtMostOnce, ReadUpTo};
 ghost use Rattle.lq_top.specs.Copies.{job_of};
-ghost use Rattle.lq_top.specs.Jobs.{DoesLine, is_command, is_on_file, job_tag};
+ghost use Rattle.lq_top.specs.Drilled.{AsksDrill, DoesDrill, DrilledBy, IsFormless, IsSettled};
+ghost use Rattle.lq_top.specs.Jobs.{DoesLine, is_apart, is_command, job_tag};
 ghost use Rattle.lq_top.specs.Kinds.{IsNotLoaded, IsOfFiles, IsOfWords};
 ghost use Rattle.lq_top.specs.Run.{Crashes};
-ghost use Rattle.lq_top.specs.Stamp.{stamp_of};
 ghost use Rattle.lq_top.specs.Worked.{WorkedBy, WorkedOn};
-ghost use Rattle.lq_top.specs.Works.{is_finished};
 
+use crate::changelogs::{changelog_of, file_status};
 use crate::copying::{Printing, on_copy};
-use crate::given::Asked;
+use crate::drilling::drill;
 use crate::opening::{Worked, on_disk};
 use crate::soak::{Seed, soak};
-use lq_base::{Command, Dialect, Items, OnFail, Target, Text};
-use lq_changelog::load;
+use lq_base::{Command, Dialect, Target, Text};
 use lq_cli::{Job, Line, WordsFault, read_words};
-use lq_cond::Cond;
+use lq_commands::Asked;
 use lq_expr::Options;
-use lq_kinds::Changelog;
 use lq_model::SqlText;
 use lq_my::My;
 use lq_outside::{Clock, Disk, Files};
 use lq_pg::Pg;
-use lq_sources::LoadFault;
 use lq_tell::{Done, Status};
 use std::alloc::Global;
 
@@ -59,8 +57,9 @@ pub fn work<F: Files, D: Disk, C: Clock>(
     disk: D,
     clock: &mut C,
 ) -> Ending<D>
-    ensures usage { result.done ≡ Err status.Usage → line_of (map (λ word. string_bytes word) words.now) ≡ None }
-    ensures usage_only { line_of (map (λ word. string_bytes word) words.now) ≡ None → ((result.done ≡ Err status.Usage) ⊎ (result.done ≡ Err status.OutOfMemory)) × (result.disk ≡ disk) }
+    ensures usage { result.done ≡ Err status.Usage → IsUsage (map (λ word. string_bytes word) words.now) (F.told files.old) × (result.disk ≡ disk) }
+    ensures usage_only { line_of (map (λ word. string_bytes word) words.now) ≡ None → (result.done ≡ Err status.Usage) ⊎ (result.done ≡ Err status.OutOfMemory) }
+    ensures formless { HasNoForm (map (λ word. string_bytes word) words.now) (F.told files.old) → IsFormless result.done }
     ensures read { result.done ≡ Err status.ReadFault → Rose (F.faults files.old) (F.faults files.new) }
     ensures changelog { (fault : Fault) → result.done ≡ Err (status.Changelog fault) → IsFaultOf (map (λ word. string_bytes word) words.now) (F.told files.old) fault }
     ensures not_loaded { (fault : Fault) → HasFault (map (λ word. string_bytes word) words.now) (F.told files.old) fault → IsNotLoaded fault result.done }
@@ -70,11 +69,14 @@ pub fn work<F: Files, D: Disk, C: Clock>(
     ensures any_moment { (asks : Asks (map (λ word. string_bytes word) words.now) (F.told files.old)) → Crashes asks (stamp_of who.now (C.last clock.new)) (D.told disk) (D.crashes disk) (D.crashes result.disk) }
     ensures safe { (asks : Asks (map (λ word. string_bytes word) words.now) (F.told files.old)) → is_command asks.line.job ≡ true → is_finished (status_done result.done) ≡ true → Settled (D.told result.disk) (D.crashes result.disk) }
     ensures damaged { (line : Line) → line_of (map (λ word. string_bytes word) words.now) ≡ Some line → TellsDamage line.options.dialect (D.told disk) result.done }
-    ensures off { (line : Line) → line_of (map (λ word. string_bytes word) words.now) ≡ Some line → is_on_file line.job ≡ false → result.disk ≡ disk }
+    ensures off { (line : Line) → line_of (map (λ word. string_bytes word) words.now) ≡ Some line → is_apart line.job ≡ true → result.disk ≡ disk }
     ensures tag { (result.tag ≡ asked_tag (line_of (map (λ word. string_bytes word) words.now))) ⊎ (result.done ≡ Err status.OutOfMemory) }
     ensures later { D.faults disk ≤ D.faults result.disk }
     ensures fault { result.done ≡ Err status.DiskFault → Rose (D.faults disk) (D.faults result.disk) }
-    ensures once { ReadAtMostOnce (C.to_come clock.old) (C.to_come clock.new) (C.last clock.new) }
+    ensures once { asks_drill (line_of (map (λ word. string_bytes word) words.now)) ≡ false → ReadAtMostOnce (C.to_come clock.old) (C.to_come clock.new) (C.last clock.new) }
+    ensures reads { ReadUpTo 64 (C.to_come clock.old) (C.to_come clock.new) }
+    ensures drills { (asks : AsksDrill (map (λ word. string_bytes word) words.now) (F.told files.old)) → DoesDrill asks.line.options.dialect who.now asks.drill (C.to_come clock.old) (C.to_come clock.new) (D.told disk) (D.crashes disk) result.done (D.told result.disk) (D.crashes result.disk) }
+    ensures settled { AsksDrill (map (λ word. string_bytes word) words.now) (F.told files.old) → IsSettled D.told D.faults D.crashes result.done result.disk }
 {
     match read_words(alloc, words) {
         Ok(line) => on_line(alloc, line, who, files, disk, clock),
@@ -105,27 +107,72 @@ fn on_line<F: Files, D: Disk, C: Clock>(
 ) -> Ending<D>
     requires tag { IfSome (job_tag line.job) (λ tag. char_count tag ≤ 255) }
     ensures read { result.done ≡ Err status.ReadFault → Rose (F.faults files.old) (F.faults files.new) }
-    ensures worked { WorkedBy D.told D.faults D.crashes (F.told files.old) (λ source. loaded source line.options.dialect line.given line.root) line.job line.options (stamp_of who.now (C.last clock.new)) disk result.done result.disk }
+    ensures worked { is_drill line.job ≡ false → WorkedBy D.told D.faults D.crashes (F.told files.old) (λ source. given_to source line) line.job line.options (stamp_of who.now (C.last clock.new)) disk result.done result.disk }
+    ensures drilled { (runs : List ℕ) → line.job ≡ job.Drill runs → DrilledBy D.told D.faults D.crashes (F.told files.old) line.options.dialect line.path runs who.now (C.to_come clock.old) (C.to_come clock.new) disk result.done result.disk }
     ensures tag { result.tag ≡ back_tag line.job }
-    ensures once { ReadAtMostOnce (C.to_come clock.old) (C.to_come clock.new) (C.last clock.new) }
+    ensures once { is_drill line.job ≡ false → ReadAtMostOnce (C.to_come clock.old) (C.to_come clock.new) (C.last clock.new) }
 {
     let Line {
         job,
-        path: _,
+        path,
         options,
         root,
         given,
     } = line;
+    match job {
+        Job::Drill(runs) => {
+            let path = path.as_str();
+            let runs = runs.as_str();
+            let Worked { disk, done } = drill(
+                alloc,
+                options.dialect,
+                path,
+                runs,
+                who,
+                files,
+                disk,
+                clock,
+            );
+            Ending {
+                disk,
+                done,
+                tag: None,
+            }
+        }
+        job => on_command(
+            alloc,
+            job,
+            options,
+            &root,
+            given.as_slice(),
+            who,
+            files,
+            disk,
+            clock,
+        ),
+    }
+}
+
+fn on_command<F: Files, D: Disk, C: Clock>(
+    alloc: Global,
+    job: Job,
+    options: Options,
+    root: &Option<Text>,
+    given: &[(Text, Text)],
+    who: &str,
+    files: &mut F,
+    disk: D,
+    clock: &mut C,
+) -> Ending<D>
+    requires tag { IfSome (job_tag job) (λ tag. char_count tag ≤ 255) }
+    requires no_drill { is_drill job ≡ false }
+    ensures read { result.done ≡ Err status.ReadFault → Rose (F.faults files.old) (F.faults files.new) }
+    ensures worked { WorkedBy D.told D.faults D.crashes (F.told files.old) (λ source. loaded source options.dialect given.now root.now) job options (stamp_of who.now (C.last clock.new)) disk result.done result.disk }
+    ensures tag { result.tag ≡ back_tag job }
+    ensures once { ReadAtMostOnce (C.to_come clock.old) (C.to_come clock.new) (C.last clock.new) }
+{
     let Worked { disk, done } = in_dialect(
-        alloc,
-        &job,
-        options,
-        &root,
-        given.as_slice(),
-        who,
-        files,
-        disk,
-        clock,
+        alloc, &job, options, root, given, who, files, disk, clock,
     );
     Ending {
         disk,
@@ -157,6 +204,7 @@ fn in_dialect<F: Files, D: Disk, C: Clock>(
     clock: &mut C,
 ) -> Worked<D>
     requires tag { IfSome (job_tag job.now) (λ tag. char_count tag ≤ 255) }
+    requires no_drill { is_drill job.now ≡ false }
     ensures read { result.done ≡ Err status.ReadFault → Rose (F.faults files.old) (F.faults files.new) }
     ensures worked { WorkedBy D.told D.faults D.crashes (F.told files.old) (λ source. loaded source options.dialect given.now root.now) job.now options (stamp_of who.now (C.last clock.new)) disk result.done result.disk }
     ensures once { ReadAtMostOnce (C.to_come clock.old) (C.to_come clock.new) (C.last clock.new) }
@@ -185,6 +233,7 @@ fn with_sql<F: Files, D: Disk, C: Clock, P: SqlText + Drop + Copy>(
 ) -> Worked<D>
     requires sql { P.dialect ≡ options.dialect }
     requires tag { IfSome (job_tag job.now) (λ tag. char_count tag ≤ 255) }
+    requires no_drill { is_drill job.now ≡ false }
     ensures read { result.done ≡ Err status.ReadFault → Rose (F.faults files.old) (F.faults files.new) }
     ensures worked { WorkedBy D.told D.faults D.crashes (F.told files.old) (λ source. loaded source options.dialect given.now root.now) job.now options (stamp_of who.now (C.last clock.new)) disk result.done result.disk }
     ensures once { ReadAtMostOnce (C.to_come clock.old) (C.to_come clock.new) (C.last clock.new) }
@@ -201,48 +250,6 @@ fn with_sql<F: Files, D: Disk, C: Clock, P: SqlText + Drop + Copy>(
     }
 }
 
-/// The changelog of a command; one that reads none has one without changesets.
-fn changelog_of<F: Files, P: SqlText>(
-    alloc: Global,
-    files: &mut F,
-    root: &Option<Text>,
-    dialect: Dialect,
-    sql: &P,
-    given: &[(Text, Text)],
-) -> Result<Changelog, LoadFault>
-    requires same { P.dialect ≡ dialect }
-    ensures loaded { Finds (F.told files.old) (λ source. loaded source dialect given.now root.now) result }
-    ensures read { IfOk result (λ g. AreFor dialect g) }
-    ensures short { IfOk result (λ g. All HasShortTexts g.sets) }
-    ensures failed { result ≡ Err load.Read → Rose (F.faults files.old) (F.faults files.new) }
-{
-    match root {
-        Some(root) => load(alloc, files, root.as_str(), dialect, sql, given),
-        None => Ok(no_changelog(alloc)),
-    }
-}
-
-fn no_changelog(alloc: Global) -> Changelog
-    ensures { result ≡ no_changelog }
-{
-    Changelog {
-        cond: Cond::And(Items::new(alloc)),
-        on_fail: OnFail::Halt,
-        on_error: OnFail::Halt,
-        sets: Items::new(alloc),
-    }
-}
-
-fn file_status(fault: LoadFault) -> Status
-    ensures { result ≡ file_status fault }
-{
-    match fault {
-        LoadFault::Read => Status::ReadFault,
-        LoadFault::OutOfMemory => Status::OutOfMemory,
-        fault => Status::Changelog(fault),
-    }
-}
-
 fn on_job<D: Disk, C: Clock, P: SqlText + Drop + Copy>(
     alloc: Global,
     sql: P,
@@ -256,6 +263,7 @@ fn on_job<D: Disk, C: Clock, P: SqlText + Drop + Copy>(
     requires read { AreFor asked.options.dialect asked.changelog }
     requires short { All HasShortTexts asked.changelog.sets }
     requires tag { IfSome (job_tag job.now) (λ tag. char_count tag ≤ 255) }
+    requires no_drill { is_drill job.now ≡ false }
     ensures worked { WorkedOn D.told D.faults D.crashes job.now (given_at asked (stamp_of who.now (C.last clock.new))) disk result.done result.disk }
     ensures once { ReadAtMostOnce (C.to_come clock.old) (C.to_come clock.new) (C.last clock.new) }
 {
@@ -274,11 +282,7 @@ fn on_job<D: Disk, C: Clock, P: SqlText + Drop + Copy>(
             let done = soak(alloc, sql, asked.options.dialect, seed, who, clock);
             Worked { disk, done }
         }
-        // No line has it: the command is not offered.
-        Job::Drill(_) => Worked {
-            disk,
-            done: Err(Status::OutOfMemory),
-        },
+        Job::Drill(_) => unreachable!(),
     }
 }
 

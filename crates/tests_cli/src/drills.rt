@@ -130,10 +130,14 @@ fn wrong_lines_are_usage(rt: HostRuntime) -> Result<(), Fail> {
 
 #[test]
 fn other_commands_are_usage(rt: HostRuntime) -> Result<(), Fail> {
-    let files: [&[u8]; 5] = [
+    let files: [&[u8]; 9] = [
         b"update-sql --changelog-file=a\nsteps\n1\n",
         b"rollback-sql --changelog-file=a --count=1\nsteps\n1\n",
         b"drill --runs=r\nsteps\n1\n",
+        b"drill --runs r\nsteps\n1\n",
+        b"drill --runs=r\nsteps\n",
+        b"release-locks\ndrill --runs=r\nsteps\n1\n",
+        b"release-locks\nupdate-sql --changelog-file=a\nsteps\n1\n",
         b"soak --number=1 --sets=1\nsteps\n1\n",
         b"release-locks\nsoak --number=1 --sets=1\nsteps\n1\n",
     ];

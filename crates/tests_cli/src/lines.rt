@@ -9,7 +9,7 @@ const FILE: &str = "--changelog-file=a.json";
 
 #[test]
 fn commands_are_read(rt: HostRuntime) -> Result<(), Fail> {
-    let cases: [(&[&str], &str); 25] = [
+    let cases: [(&[&str], &str); 27] = [
         (
             &["validate", URL, FILE],
             "Run(Validate) Postgresql db a.json",
@@ -109,6 +109,14 @@ fn commands_are_read(rt: HostRuntime) -> Result<(), Fail> {
             "Run(Status) Postgresql db a.json Name(Text { text: \"l\" })",
         ),
         (
+            &["drill", URL, "--runs=a/runs"],
+            "Drill(Text { text: \"a/runs\" }) Postgresql db -",
+        ),
+        (
+            &["drill", "--runs", "a b", MY],
+            "Drill(Text { text: \"a b\" }) Mysql a/b.db -",
+        ),
+        (
             &["soak", "--number", "7", "--sets", "1", URL],
             "Soak { number: 7, sets: 1 } Postgresql db -",
         ),
@@ -127,7 +135,7 @@ fn commands_are_read(rt: HostRuntime) -> Result<(), Fail> {
 
 #[test]
 fn other_words_are_usage(rt: HostRuntime) -> Result<(), Fail> {
-    let cases: [&[&str]; 51] = [
+    let cases: [&[&str]; 56] = [
         &[],
         &["updates", URL, FILE],
         &["Update", URL, FILE],
@@ -197,7 +205,12 @@ fn other_words_are_usage(rt: HostRuntime) -> Result<(), Fail> {
         &["rollback-sql", URL, FILE],
         &["rollback-sql", URL, FILE, "--tag=t", "--count=1"],
         &["tag", URL, "--tag=t", FILE],
-        &["drill", URL, "--runs=r"],
+        &["drill", URL],
+        &["drill", "--runs=r"],
+        &["drill", URL, "--runs=r", "--runs=r"],
+        &["drill", URL, "--runs=r", FILE],
+        &["drills", URL, "--runs=r"],
+        &["Drill", URL, "--runs=r"],
     ];
     for words in cases {
         let text = told(rt.alloc(), words)?;

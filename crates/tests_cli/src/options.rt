@@ -6,7 +6,7 @@ const FILE: &str = "--changelog-file=a.json";
 
 #[test]
 fn options_stand_in_any_order(rt: HostRuntime) {
-    let rows: [Row<'_>; 11] = [
+    let rows: [Row<'_>; 15] = [
         (
             &[
                 "validate",
@@ -94,13 +94,29 @@ fn options_stand_in_any_order(rt: HostRuntime) {
             &["release-locks", "--url", "postgresql:db"],
             "Run(Release) Postgresql db -",
         ),
+        (
+            &["drill", "--runs=r", "--url=mysql:db"],
+            "Drill(Text { text: \"r\" }) Mysql db -",
+        ),
+        (
+            &["drill", "--url=mysql:db", "--runs=r"],
+            "Drill(Text { text: \"r\" }) Mysql db -",
+        ),
+        (
+            &["drill", "--runs", "r", "--url", "mysql:db"],
+            "Drill(Text { text: \"r\" }) Mysql db -",
+        ),
+        (
+            &["drill", "--url", "mysql:db", "--runs", "r"],
+            "Drill(Text { text: \"r\" }) Mysql db -",
+        ),
     ];
     tell(&rt, rt.alloc(), &rows);
 }
 
 #[test]
 fn options_that_are_missing_are_refused(rt: HostRuntime) {
-    let none: [&[&str]; 25] = [
+    let none: [&[&str]; 29] = [
         &["validate"],
         &["validate", URL],
         &["validate", FILE],
@@ -123,6 +139,10 @@ fn options_that_are_missing_are_refused(rt: HostRuntime) {
         &["tag", URL],
         &["tag", "--tag=v1"],
         &["release-locks"],
+        &["drill"],
+        &["drill", URL],
+        &["drill", "--runs=r"],
+        &["drill", "--runs", "r"],
         &["soak", URL, "--number=1"],
         &["soak", URL, "--sets=1"],
         &["soak", "--number=1", "--sets=1"],
@@ -132,7 +152,7 @@ fn options_that_are_missing_are_refused(rt: HostRuntime) {
 
 #[test]
 fn options_that_stand_twice_are_refused(rt: HostRuntime) {
-    let none: [&[&str]; 15] = [
+    let none: [&[&str]; 19] = [
         &["validate", URL, FILE, URL],
         &["validate", FILE, URL, "--changelog-file", "a.json"],
         &["status", URL, FILE, "--url", "mysql:db"],
@@ -172,6 +192,10 @@ fn options_that_stand_twice_are_refused(rt: HostRuntime) {
         ],
         &["tag", URL, URL, "--tag=v1"],
         &["release-locks", URL, URL],
+        &["drill", URL, "--runs=r", URL],
+        &["drill", "--runs=r", URL, "--runs=r"],
+        &["drill", URL, "--runs", "r", "--runs=s"],
+        &["drill", URL, "--runs=r", "--runs", "s"],
         &["soak", URL, URL, "--number=1", "--sets=1"],
     ];
     refuse(&rt, rt.alloc(), &none);
@@ -179,7 +203,7 @@ fn options_that_stand_twice_are_refused(rt: HostRuntime) {
 
 #[test]
 fn options_of_other_commands_are_refused(rt: HostRuntime) {
-    let none: [&[&str]; 18] = [
+    let none: [&[&str]; 28] = [
         &["validate", URL, FILE, "--label-filter=l"],
         &["validate", URL, FILE, "--tag=v1"],
         &["status", URL, FILE, "--count=1"],
@@ -202,6 +226,16 @@ fn options_of_other_commands_are_refused(rt: HostRuntime) {
         &["release-locks", URL, "--tag=v1"],
         &["release-locks", URL, "-Dx=1"],
         &["release-locks", URL, FILE],
+        &["drill", URL, "--runs=r", FILE],
+        &["drill", URL, "--runs=r", "-Dx=1"],
+        &["drill", URL, "--runs=r", "--context-filter=a"],
+        &["drill", URL, "--runs=r", "--label-filter=l"],
+        &["drill", URL, "--runs=r", "--tag=v1"],
+        &["drill", URL, "--runs=r", "--count=1"],
+        &["drill", URL, "--runs=r", "--sets=1"],
+        &["update", URL, FILE, "--runs=r"],
+        &["release-locks", URL, "--runs=r"],
+        &["soak", URL, "--number=1", "--sets=1", "--runs=r"],
         &["soak", URL, "--number=1", "--sets=1", "-Dx=1"],
         &["soak", URL, "--number=1", "--sets=1", FILE],
     ];
@@ -210,7 +244,7 @@ fn options_of_other_commands_are_refused(rt: HostRuntime) {
 
 #[test]
 fn words_that_are_no_option_are_refused(rt: HostRuntime) {
-    let none: [&[&str]; 25] = [
+    let none: [&[&str]; 33] = [
         &[""],
         &[" update", URL, FILE],
         &["--url=postgresql:db", "update", FILE],
@@ -226,6 +260,14 @@ fn words_that_are_no_option_are_refused(rt: HostRuntime) {
         &["update", URL, FILE, "--context-filter"],
         &["update", URL, FILE, "--label-filter"],
         &["tag", URL, "--tag"],
+        &["drill", URL, "--runs"],
+        &["drill", "--runs", URL],
+        &["drill", URL, "-runs=r"],
+        &["drill", URL, "--run=r"],
+        &["drill", URL, "--Runs=r"],
+        &["drill", URL, "r"],
+        &["drill", URL, "--runs=r", "s"],
+        &["drill", URL, "--runs=r", "--help"],
         &["update", URL, FILE, "--define=x=1"],
         &["update", URL, FILE, "--D=x=1"],
         &["update", URL, FILE, "-dx=1"],

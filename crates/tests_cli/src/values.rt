@@ -42,7 +42,7 @@ fn databases_are_named(rt: HostRuntime) {
 // A value that stands apart does not begin with `-`.
 #[test]
 fn values_may_begin_with_a_dash_or_be_empty(rt: HostRuntime) {
-    let rows: [Row<'_>; 6] = [
+    let rows: [Row<'_>; 10] = [
         (
             &["update", URL, "--changelog-file=-a.json"],
             "Run(Update) Postgresql db -a.json",
@@ -67,9 +67,25 @@ fn values_may_begin_with_a_dash_or_be_empty(rt: HostRuntime) {
             &["rollback", URL, FILE, "--tag=--tag=v1"],
             "Run(Rollback(Tag(Text { text: \"--tag=v1\" }))) Postgresql db a.json",
         ),
+        (
+            &["drill", URL, "--runs=-r"],
+            "Drill(Text { text: \"-r\" }) Postgresql db -",
+        ),
+        (
+            &["drill", URL, "--runs=--runs=r"],
+            "Drill(Text { text: \"--runs=r\" }) Postgresql db -",
+        ),
+        (
+            &["drill", URL, "--runs="],
+            "Drill(Text { text: \"\" }) Postgresql db -",
+        ),
+        (
+            &["drill", URL, "--runs", ""],
+            "Drill(Text { text: \"\" }) Postgresql db -",
+        ),
     ];
     tell(&rt, rt.alloc(), &rows);
-    let none: [&[&str]; 14] = [
+    let none: [&[&str]; 19] = [
         &["update", URL, "--changelog-file", "-a.json"],
         &["update", URL, "--changelog-file", "-Dx=1"],
         &["update", URL, FILE, "--context-filter", "-a"],
@@ -82,6 +98,11 @@ fn values_may_begin_with_a_dash_or_be_empty(rt: HostRuntime) {
         &["rollback-to-date", URL, FILE, "--date", "-0001-01-01"],
         &["rollback-to-date", URL, FILE, "--date", ""],
         &["tag", URL, "--tag", ""],
+        &["drill", URL, "--runs", "-r"],
+        &["drill", URL, "--runs", "--runs=r"],
+        &["drill", "--url=", "--runs=r"],
+        &["drill", "--url=mysql:", "--runs=r"],
+        &["drill", "--url=oracle:db", "--runs=r"],
         &["soak", URL, "--sets=1", "--number", "-1"],
         &["soak", URL, "--sets=1", "--number="],
     ];

@@ -1,35 +1,57 @@
-use crate::running::{Failing, NONE, run_over};
-use crate::shop::{BACK_THREE, SHOP, UPDATE, UPDATE_MYSQL};
+use crate::running::{Failing, FileText, NONE, Step, play, run_over};
+use crate::shop::{BACK_THREE, DRILL, RELEASE, SHOP, UPDATE, UPDATE_MYSQL};
 use std::alloc::Global;
 use std::process::Abort;
 
+// Two updates, of which the second finds the lock held.
+const RUNS: FileText = (
+    "runs",
+    "update --changelog-file=db/a.json
+update --changelog-file=db/a.json
+steps
+1 2 1 1 1 1 1 1 1 1 1 1 1 1 1 1
+",
+);
+
+const FILES: [FileText; 2] = [SHOP, RUNS];
+
 fn assert_faults(rt: &impl Abort, alloc: Global, words: &str, bytes: &[u8]) {
-    let good = run_over(rt, alloc, words, &[SHOP], bytes, NONE);
+    let good = run_over(rt, alloc, words, &FILES, bytes, NONE);
     assert_eq!(rt; good.code, 0);
     let failing = Failing { files: 1, ..NONE };
-    let ran = run_over(rt, alloc, words, &[SHOP], bytes, failing);
+    let ran = run_over(rt, alloc, words, &FILES, bytes, failing);
     assert_eq!(rt; ran.code, 3);
     assert!(rt; ran.bytes.as_slice() == bytes && ran.out.is_empty());
     let failing = Failing { out: 1, ..NONE };
-    let ran = run_over(rt, alloc, words, &[SHOP], bytes, failing);
+    let ran = run_over(rt, alloc, words, &FILES, bytes, failing);
     assert_eq!(rt; ran.code, 14);
     assert!(rt; ran.bytes == good.bytes && ran.out.is_empty());
     let failing = Failing { log: 1, ..NONE };
-    let ran = run_over(rt, alloc, words, &[SHOP], bytes, failing);
+    let ran = run_over(rt, alloc, words, &FILES, bytes, failing);
     assert!(rt; ran.code == 0 && ran.bytes == good.bytes && ran.out == good.out);
 }
 
 #[test]
 fn failing_files_and_outputs(rt: HostRuntime) {
-    let first = run_over(&rt, rt.alloc(), UPDATE, &[SHOP], b"", NONE);
+    let first = run_over(&rt, rt.alloc(), UPDATE, &FILES, b"", NONE);
     assert_faults(&rt, rt.alloc(), UPDATE, b"");
     assert_faults(&rt, rt.alloc(), BACK_THREE, &first.bytes);
+    assert_faults(&rt, rt.alloc(), DRILL, b"");
+}
+
+#[test]
+fn each_file_of_a_drill_is_read_first(rt: HostRuntime) {
+    for files in 2..4 {
+        let failing = Failing { files, ..NONE };
+        let ran = run_over(&rt, rt.alloc(), DRILL, &FILES, b"", failing);
+        assert!(rt; ran.code == 3 && ran.bytes.is_empty() && ran.out.is_empty());
+    }
 }
 
 // How many calls of the disk a command makes: each that fails is a disk fault, and has no output.
 fn calls_of(rt: &impl Abort, alloc: Global, words: &str, bytes: &[u8]) -> u64 {
     for disk in 1..200 {
-        let ran = run_over(rt, alloc, words, &[SHOP], bytes, Failing { disk, ..NONE });
+        let ran = run_over(rt, alloc, words, &FILES, bytes, Failing { disk, ..NONE });
         if ran.code == 0 {
             return disk - 1;
         }
@@ -43,15 +65,31 @@ fn calls_of(rt: &impl Abort, alloc: Global, words: &str, bytes: &[u8]) -> u64 {
 fn failing_disk_calls(rt: HostRuntime) {
     // sync, size, read; header, sync; and for each of five entries two writes and two syncs.
     assert_eq!(rt; calls_of(&rt, rt.alloc(), UPDATE, b""), 25);
-    let first = run_over(&rt, rt.alloc(), UPDATE, &[SHOP], b"", NONE);
+    let first = run_over(&rt, rt.alloc(), UPDATE, &FILES, b"", NONE);
     // sync, size, read; and for each of five entries two writes and two syncs.
     assert_eq!(rt; calls_of(&rt, rt.alloc(), BACK_THREE, &first.bytes), 23);
+}
+
+const HELD: [Step; 1] = [Step {
+    words: RELEASE,
+    code: 0,
+    out: "lock released: held by ci#1 since 1970-01-01 00:00:01.000\n",
+    log: "",
+}];
+
+#[test]
+fn a_disk_that_fails_ends_a_drill(rt: HostRuntime) {
+    // As many as the first of the two updates makes alone.
+    assert_eq!(rt; calls_of(&rt, rt.alloc(), DRILL, b""), 25);
+    let failing = Failing { disk: 10, ..NONE };
+    let ran = run_over(&rt, rt.alloc(), DRILL, &FILES, b"", failing);
+    let _left = play(&rt, rt.alloc(), &FILES, &ran.bytes, &HELD);
 }
 
 #[test]
 fn printing_reads_the_disk_alone(rt: HostRuntime) {
     let words = "update-sql --url=postgresql:db --changelog-file=db/a.json";
     assert_eq!(rt; calls_of(&rt, rt.alloc(), words, b""), 2);
-    let ran = run_over(&rt, rt.alloc(), UPDATE_MYSQL, &[SHOP], b"", NONE);
+    let ran = run_over(&rt, rt.alloc(), UPDATE_MYSQL, &FILES, b"", NONE);
     assert_eq!(rt; ran.code, 0);
 }

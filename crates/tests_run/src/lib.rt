@@ -8,6 +8,10 @@ mod commands;
 #[cfg(test)]
 mod conditions;
 #[cfg(test)]
+mod drill_files;
+#[cfg(test)]
+mod drills;
+#[cfg(test)]
 mod faults;
 #[cfg(test)]
 mod fresh;

@@ -3,7 +3,7 @@ use crate::shop::{BACK_ONE, SHOP, UPDATE, UPDATE_MYSQL};
 use std::alloc::Global;
 use std::process::Abort;
 
-const USAGE: &str = "liquibase: usage: liquibase COMMAND --url=DIALECT:FILE [options]\n";
+pub const USAGE: &str = "liquibase: usage: liquibase COMMAND --url=DIALECT:FILE [options]\n";
 
 const WRONG_WORDS: [&str; 8] = [
     "",
@@ -13,7 +13,7 @@ const WRONG_WORDS: [&str; 8] = [
     "rollback-sql --url=postgresql:db --changelog-file=db/a.json --tag=v --count=1",
     "rollback-count --url=postgresql:db --changelog-file=db/a.json --count=01",
     "tag --url=postgresql:db",
-    "drill --url=postgresql:db --runs=r",
+    "drill --url=postgresql:db",
 ];
 
 fn assert_usage(rt: &impl Abort, alloc: Global, words: &'static str) {

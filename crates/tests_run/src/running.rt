@@ -33,6 +33,19 @@ pub const NONE: Failing = Failing {
     log: 0,
 };
 
+/// Who runs a command, and what the clock reads first; then it reads 2000, and from then on 3000.
+#[derive(Clone, Copy)]
+pub struct By {
+    pub who: &'static str,
+    pub reading: u64,
+}
+
+/// A second after 1970 began.
+pub const CI: By = By {
+    who: "ci",
+    reading: 1000,
+};
+
 fn one_call(rt: &impl Abort, alloc: Global, number: u64) -> Vec<u64> {
     let mut calls = Vec::new(alloc);
     if number > 0 {
@@ -51,7 +64,8 @@ fn file_of(rt: &impl Abort, alloc: Global, file: FileText) -> (Text, Items<u8>) 
     (path, bytes)
 }
 
-fn files_of(rt: &impl Abort, alloc: Global, files: &[FileText], failing: u64) -> MemFiles {
+/// These files in memory, of which one call is to fail.
+pub fn files_of(rt: &impl Abort, alloc: Global, files: &[FileText], failing: u64) -> MemFiles {
     let mut held = Items::new(alloc);
     for file in files {
         held.push(file_of(rt, alloc, *file)).expect(rt, "memory");
@@ -69,6 +83,34 @@ fn words_of(rt: &impl Abort, alloc: Global, line: &str) -> Vec<String> {
     words
 }
 
+/// Runs a line of words over files and a database file of these bytes.
+pub fn run_by(
+    rt: &impl Abort,
+    alloc: Global,
+    by: By,
+    line: &str,
+    files: MemFiles,
+    bytes: &[u8],
+    failing: Failing,
+) -> Ran {
+    let words = words_of(rt, alloc, line);
+    let mut files = files;
+    let disk = MemDisk::new(copied(rt, alloc, bytes), one_call(rt, alloc, failing.disk));
+    let readings = Vec::from_slice(alloc, &[by.reading, 2000, 3000]).expect(rt, "memory");
+    let mut clock = SetClock::new(readings);
+    let mut out = MemSink::new(alloc, one_call(rt, alloc, failing.out));
+    let mut log = MemSink::new(alloc, one_call(rt, alloc, failing.log));
+    let ended = run(
+        alloc, &words, by.who, &mut files, disk, &mut clock, &mut out, &mut log,
+    );
+    Ran {
+        code: ended.status.code(),
+        bytes: copied(rt, alloc, ended.disk.bytes()),
+        out: copied(rt, alloc, out.bytes()),
+        log: copied(rt, alloc, log.bytes()),
+    }
+}
+
 /// Runs a line of words over files and a database file of these bytes, a second after 1970 began.
 pub fn run_over(
     rt: &impl Abort,
@@ -78,21 +120,8 @@ pub fn run_over(
     bytes: &[u8],
     failing: Failing,
 ) -> Ran {
-    let words = words_of(rt, alloc, line);
-    let mut files = files_of(rt, alloc, files, failing.files);
-    let disk = MemDisk::new(copied(rt, alloc, bytes), one_call(rt, alloc, failing.disk));
-    let mut clock = SetClock::new(Vec::from_slice(alloc, &[1000]).expect(rt, "memory"));
-    let mut out = MemSink::new(alloc, one_call(rt, alloc, failing.out));
-    let mut log = MemSink::new(alloc, one_call(rt, alloc, failing.log));
-    let ended = run(
-        alloc, &words, "ci", &mut files, disk, &mut clock, &mut out, &mut log,
-    );
-    Ran {
-        code: ended.status.code(),
-        bytes: copied(rt, alloc, ended.disk.bytes()),
-        out: copied(rt, alloc, out.bytes()),
-        log: copied(rt, alloc, log.bytes()),
-    }
+    let files = files_of(rt, alloc, files, failing.files);
+    run_by(rt, alloc, CI, line, files, bytes, failing)
 }
 
 /// A command, and what is told of it: its status's code, its output and its log.
@@ -108,7 +137,8 @@ fn shown(bytes: &[u8]) -> &str {
     str::from_utf8(bytes).unwrap_or("no UTF-8")
 }
 
-fn assert_step(rt: &impl Abort, step: Step, ran: &Ran) {
+/// The command told what the step says.
+pub fn assert_step(rt: &impl Abort, step: Step, ran: &Ran) {
     assert_eq!(rt; shown(&ran.log), step.log);
     assert_eq!(rt; shown(&ran.out), step.out);
     assert_eq!(rt; ran.code, step.code);

@@ -37,6 +37,12 @@ pub const UPDATE: &str = "update --url=postgresql:db --changelog-file=db/a.json"
 
 pub const UPDATE_MYSQL: &str = "update --url=mysql:db --changelog-file=db/a.json";
 
+pub const DRILL: &str = "drill --url=postgresql:db --runs=runs";
+
+pub const DRILL_MYSQL: &str = "drill --url=mysql:db --runs=runs";
+
+pub const RELEASE: &str = "release-locks --url=postgresql:db";
+
 pub const STATUS: &str = "status --url=postgresql:db --changelog-file=db/a.json";
 
 pub const BACK_ONE: &str =

@@ -1,8 +1,8 @@
 use Rattle.std.proofs.Common.{subst}
 use Rattle.std.specs.Prelude.{Result}
+use Rattle.lq_commands.specs.Outputs.{TellsJob}
 use Rattle.lq_tell.specs.declared.done.Done.{Done}
 use Rattle.lq_tell.specs.declared.status.Status.{Status}
-use Rattle.lq_top.specs.Jobs.{TellsJob}
 use Rattle.lq_top.proofs.copying.in_memory.Goals as goal
 
 pub returns-in-Ok-clause-tells : goal.returns-in-Ok-clause-tells

@@ -1,5 +1,7 @@
 use Rattle.std.proofs.Common.{ap, inl, inr, refl, subst, sym, ◌∙◌}
 use Rattle.std.specs.Prelude.{Err}
+use Rattle.lq_commands.specs.Refusals.{Answers}
+use Rattle.lq_commands.specs.Stamp.{stamp_of}
 use Rattle.lq_tell.specs.declared.status.Status.TheVariants as status
 use Rattle.lq_top.proofs.Copied.{copy_fault_answers, copy_fault_kind, copy_fault_tells, copy_no_disk}
 use Rattle.lq_top.proofs.OnFiles.{err_is, fault_answers, fault_kind, fault_tells}
@@ -9,8 +11,6 @@ use Rattle.lq_top.specs.Bytes.{TellsDamage, given_at, load_status}
 use Rattle.lq_top.specs.Copies.{copy_status, job_of}
 use Rattle.lq_top.specs.Jobs.{job_refusal}
 use Rattle.lq_top.specs.Kinds.{IsOfDatabase}
-use Rattle.lq_top.specs.Refusals.{Answers}
-use Rattle.lq_top.specs.Stamp.{stamp_of}
 
 pub on_loaded-requires-clause-ready : goal.on_loaded-requires-clause-ready
 on_loaded-requires-clause-ready g c = is_ready c.args.asked.options.dialect _ _ _ _ c.in-Ok.db c.in-Ok.ensures.valid c.in-Ok.ensures.new c.in-Ok.ensures.clean

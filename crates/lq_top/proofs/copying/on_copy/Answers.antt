@@ -1,10 +1,10 @@
 use Rattle.std.proofs.Common.{inl, refl}
+use Rattle.lq_commands.specs.Stamp.{stamp_of}
 use Rattle.lq_top.proofs.Copied.{copy_opens, copy_tells, no_copy_answers, no_copy_kind, no_copy_tells}
 use Rattle.lq_top.proofs.copying.on_copy.Goals as goal
 use Rattle.lq_top.specs.Bytes.{given_at}
 use Rattle.lq_top.specs.Copies.{job_of}
 use Rattle.lq_top.specs.Jobs.{job_refusal}
-use Rattle.lq_top.specs.Stamp.{stamp_of}
 
 pub returns-in-Err-clause-answers : goal.returns-in-Err-clause-answers
 returns-in-Err-clause-answers g c = λ database opens.

@@ -1,3 +1,4 @@
+use Rattle.lq_commands.specs.Stamp.{stamp_of}
 use Rattle.lq_db.specs.Db.{disk_in, engine_in, state}
 use Rattle.lq_top.proofs.Copied.{memory_answers}
 use Rattle.lq_top.proofs.OnFiles.{memory_kind, memory_no_disk, memory_tells}
@@ -7,7 +8,6 @@ use Rattle.lq_top.proofs.copying.on_loaded.Goals as goal
 use Rattle.lq_top.specs.Bytes.{given_at}
 use Rattle.lq_top.specs.Copies.{job_of}
 use Rattle.lq_top.specs.Jobs.{job_refusal}
-use Rattle.lq_top.specs.Stamp.{stamp_of}
 
 pub returns-clause-answers : goal.returns-clause-answers
 returns-clause-answers g c = λ database has.

@@ -1,8 +1,9 @@
 use Rattle.std.proofs.Common.{subst, sym}
+use Rattle.lq_commands.specs.Outputs.{TellsJob}
+use Rattle.lq_commands.specs.Refusals.{Answers}
 use Rattle.lq_top.proofs.copying.print_on.Goals as goal
 use Rattle.lq_top.specs.Copies.{job_of}
-use Rattle.lq_top.specs.Jobs.{TellsJob, job_refusal}
-use Rattle.lq_top.specs.Refusals.{Answers}
+use Rattle.lq_top.specs.Jobs.{job_refusal}
 
 pub returns-in-Update-clause-answers : goal.returns-in-Update-clause-answers
 returns-in-Update-clause-answers g c = λ database has. subst (λ printing. Answers (job_refusal (job_of printing) c.args.given database) c.print_update.result) (sym c.in-Update.is) (c.print_update.ensures.answers database has)

@@ -1,6 +1,7 @@
 use Rattle.std.proofs.Common.{subst, sym}
 use Rattle.std.specs.Prelude.{Err, IfSome, Ok, ◌≡◌}
 use Rattle.lq_cli.specs.declared.line.Job.TheVariants as job
+use Rattle.lq_commands.specs.Stamp.{stamp_of}
 use Rattle.lq_db.specs.Db.{IsNew, disk_in, engine_in, state}
 use Rattle.lq_db.specs.Load.{catalogue_of}
 use Rattle.lq_store.specs.Executor.{kept}
@@ -8,7 +9,6 @@ use Rattle.lq_top.proofs.OnDatabases.{memory_worked, worked}
 use Rattle.lq_top.proofs.WithClock.{given_dialect, given_is, given_read, given_ready, given_short, given_sql}
 use Rattle.lq_top.proofs.opening.on_database.Goals as goal
 use Rattle.lq_top.specs.Bytes.{given_at, most_bytes}
-use Rattle.lq_top.specs.Stamp.{stamp_of}
 use Rattle.lq_top.specs.Worked.{WorkedOn}
 
 pub run_command-done-requires-clause-valid : goal.run_command-done-requires-clause-valid

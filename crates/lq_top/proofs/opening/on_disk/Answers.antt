@@ -1,10 +1,10 @@
 use Rattle.std.proofs.Common.{inl, inr, refl}
+use Rattle.lq_commands.specs.Stamp.{stamp_of}
 use Rattle.lq_db.specs.Db.{disk_in}
 use Rattle.lq_top.proofs.OnDatabases.{fault_worked, worked_after}
 use Rattle.lq_top.proofs.Ready.{is_ready, still_read}
 use Rattle.lq_top.proofs.opening.on_disk.Goals as goal
 use Rattle.lq_top.specs.Bytes.{given_at}
-use Rattle.lq_top.specs.Stamp.{stamp_of}
 
 pub on_database-requires-clause-ready : goal.on_database-requires-clause-ready
 on_database-requires-clause-ready g c = is_ready c.args.asked.options.dialect _ _ _ _ c.in-Ok.db c.in-Ok.ensures.valid c.in-Ok.ensures.new c.in-Ok.ensures.clean

@@ -1,7 +1,8 @@
-use Rattle.lq_top.proofs.RefusedKinds.{answers_ends, refusal_plain}
+use Rattle.lq_commands.proofs.PlainRefusals.{refusal_plain}
+use Rattle.lq_commands.specs.Refusals.{refusal}
+use Rattle.lq_commands.specs.Scripts.{script}
+use Rattle.lq_top.proofs.RefusedKinds.{answers_ends}
 use Rattle.lq_top.proofs.Soaked.{done_lives, end_passes, refusal_passes}
-use Rattle.lq_top.specs.Refusals.{refusal}
-use Rattle.lq_top.specs.Scripts.{script}
 use Rattle.lq_top.proofs.soak.done_on.Goals as goal
 
 pub returns-in-Ok-clause-live : goal.returns-in-Ok-clause-live

@@ -2,23 +2,24 @@ use Rattle.std.proofs.Common.{refl}
 use Rattle.std.specs.Option.{option_copied}
 use Rattle.std.specs.Prelude.{map, string_bytes}
 use Rattle.lq_cli.specs.Line.{line_of}
+use Rattle.lq_commands.specs.Stamp.{stamp_of}
 use Rattle.lq_tell.specs.declared.status.Status.TheVariants as status
+use Rattle.lq_top.proofs.DrillRuns.{ends_formless, runs_drill, settled_as}
 use Rattle.lq_top.proofs.Resumed.{crash_marked, has_gone_on_back, has_resumed, leaves_marked}
 use Rattle.lq_top.proofs.Said.{has_said, succeeds}
 use Rattle.lq_top.proofs.Written.{IsWritten, cause, ends_unread, gone_back, has_run, has_synced, has_updated, is_logged, no_files_left, no_words, tag_so, tells_damage, was_over, written_fault}
 use Rattle.lq_top.proofs.top.run.Goals as goal
 use Rattle.lq_top.specs.Asks.{asked_tag}
-use Rattle.lq_top.specs.Stamp.{stamp_of}
 
 pub returns-clause-usage : goal.returns-clause-usage
 returns-clause-usage g c =
     let by : IsWritten c.work-disk.result.done c.tell-status.result = record { kind = c.work-disk.ensures.kind; ended = c.tell-status.ensures.status; cut = c.tell-status.ensures.cut; had = c.tell-status.ensures.had } in
-    λ is. c.work-disk.ensures.usage (cause c.work-disk.result.done c.tell-status.result status.Usage by refl is)
+    λ is. (c.work-disk.ensures.usage (cause c.work-disk.result.done c.tell-status.result status.Usage by refl is)).0
 
 pub returns-clause-usage_only : goal.returns-clause-usage_only
 returns-clause-usage_only g c =
     let by : IsWritten c.work-disk.result.done c.tell-status.result = record { kind = c.work-disk.ensures.kind; ended = c.tell-status.ensures.status; cut = c.tell-status.ensures.cut; had = c.tell-status.ensures.had } in
-    λ none. no_words c.work-disk.result.done c.tell-status.result by (c.work-disk.ensures.usage_only none).0
+    λ none. no_words c.work-disk.result.done c.tell-status.result by (c.work-disk.ensures.usage_only none)
 
 pub returns-clause-read : goal.returns-clause-read
 returns-clause-read g c =
@@ -57,7 +58,7 @@ returns-clause-runs g c =
 pub returns-clause-untouched : goal.returns-clause-untouched
 returns-clause-untouched g c =
     let by : IsWritten c.work-disk.result.done c.tell-status.result = record { kind = c.work-disk.ensures.kind; ended = c.tell-status.ensures.status; cut = c.tell-status.ensures.cut; had = c.tell-status.ensures.had } in
-    λ unread. no_files_left c.work-disk.result.done c.tell-status.result by unread (λ usage. (c.work-disk.ensures.usage_only (c.work-disk.ensures.usage usage)).1) c.work-disk.ensures.untouched
+    λ unread. no_files_left c.work-disk.result.done c.tell-status.result by unread (λ usage. (c.work-disk.ensures.usage usage).1) c.work-disk.ensures.untouched
 
 pub returns-clause-any_moment : goal.returns-clause-any_moment
 returns-clause-any_moment g c = λ asks. c.work-disk.ensures.any_moment asks
@@ -129,3 +130,14 @@ returns-clause-marked g c =
 pub returns-clause-marked_at_crash : goal.returns-clause-marked_at_crash
 returns-clause-marked_at_crash g c =
     λ asks read bytes. crash_marked asks (stamp_of c.args.who.now (g.C.Clock.last c.work-disk.new.clock)) (g.D.Disk.told c.args.disk) read bytes
+
+pub returns-clause-formless : goal.returns-clause-formless
+returns-clause-formless g c =
+    let by : IsWritten c.work-disk.result.done c.tell-status.result = record { kind = c.work-disk.ensures.kind; ended = c.tell-status.ensures.status; cut = c.tell-status.ensures.cut; had = c.tell-status.ensures.had } in
+    λ has. ends_formless c.work-disk.result.done c.tell-status.result by (c.work-disk.ensures.formless has)
+
+pub returns-clause-drill : goal.returns-clause-drill
+returns-clause-drill g c =
+    let by : IsWritten c.work-disk.result.done c.tell-status.result = record { kind = c.work-disk.ensures.kind; ended = c.tell-status.ensures.status; cut = c.tell-status.ensures.cut; had = c.tell-status.ensures.had } in
+    λ asks. runs_drill asks c.args.who.now (g.C.Clock.to_come c.args.clock.now) (g.C.Clock.to_come c.work-disk.new.clock) (g.D.Disk.told c.args.disk) (g.D.Disk.crashes c.args.disk) c.work-disk.result.done c.tell-status.result (g.D.Disk.told c.work-disk.result.disk) (g.D.Disk.crashes c.work-disk.result.disk)
+    (g.O.Sink.told c.args.out.now) (g.O.Sink.told c.tell-status.new.out) by (c.work-disk.ensures.drills asks) c.tell-status.ensures.whole (settled_as g.D.Disk.told g.D.Disk.faults g.D.Disk.crashes c.work-disk.result.done c.work-disk.result.disk (c.work-disk.ensures.settled asks))

@@ -1,13 +1,12 @@
-use Rattle.std.proofs.Common.{ap, inr, refl, subst, sym}
+use Rattle.std.proofs.Common.{ap, inr, subst, sym}
 use Rattle.std.specs.Prelude.{IfSome, ◌≤◌}
 use Rattle.lq_base.specs.Character.{char_count}
-use Rattle.lq_tell.specs.declared.status.Status.TheVariants as status
-use Rattle.lq_top.proofs.Loading.{failing, memory_no_disk, soak_damage, soak_disk, soak_kind}
+use Rattle.lq_commands.specs.Stamp.{stamp_of}
+use Rattle.lq_top.proofs.Loading.{soak_damage, soak_disk, soak_kind}
 use Rattle.lq_top.proofs.OnDatabases.{aside_worked}
 use Rattle.lq_top.proofs.work.on_job.Goals as goal
 use Rattle.lq_top.specs.Bytes.{given_at}
 use Rattle.lq_top.specs.Jobs.{is_command, is_on_file, job_tag}
-use Rattle.lq_top.specs.Stamp.{stamp_of}
 use Rattle.lq_top.specs.Worked.{WorkedOn}
 
 pub on_disk-requires-clause-tag : goal.on_disk-requires-clause-tag
@@ -42,10 +41,3 @@ returns-in-Soak-clause-worked g c =
 
 pub returns-in-Soak-clause-once : goal.returns-in-Soak-clause-once
 returns-in-Soak-clause-once g c = inr c.soak-done.ensures.once
-
--- no line has a drill
-
-pub returns-in-Drill-clause-worked : goal.returns-in-Drill-clause-worked
-returns-in-Drill-clause-worked g c =
-    aside_worked g.D.Disk.told g.D.Disk.faults g.D.Disk.crashes c.args.job.now (given_at c.args.asked (stamp_of c.args.who.now (g.C.Clock.last c.args.clock.now))) c.args.disk (failing status.OutOfMemory) (ap is_on_file c.in-Drill.is) (ap is_command c.in-Drill.is)
-    tt refl memory_no_disk

@@ -1,10 +1,10 @@
+use Rattle.lq_commands.specs.Stamp.{stamp_of}
 use Rattle.lq_top.proofs.LeftOnFile.{since_read}
 use Rattle.lq_top.proofs.Unchanged.{printed_does, prints_no_command, prints_on_file}
 use Rattle.lq_top.proofs.work.printed.Goals as goal
 use Rattle.lq_top.specs.Bytes.{given_at}
 use Rattle.lq_top.specs.Copies.{job_of}
 use Rattle.lq_top.specs.Jobs.{job_script}
-use Rattle.lq_top.specs.Stamp.{stamp_of}
 
 pub returns-clause-worked : goal.returns-clause-worked
 returns-clause-worked g c =

@@ -1,5 +1,6 @@
 use Rattle.std.proofs.Common.{ap, subst, sym, ◌∙◌}
 use Rattle.std.specs.Prelude.{Err}
+use Rattle.lq_commands.specs.Stamp.{stamp_of}
 use Rattle.lq_sources.specs.Faults.{Loaded}
 use Rattle.lq_sources.specs.declared.fault.LoadFault.{LoadFault}
 use Rattle.lq_kinds.specs.declared.change_set.Changelog.{Changelog}
@@ -7,7 +8,6 @@ use Rattle.lq_top.proofs.Handing.{loaded_worked, unloaded_worked}
 use Rattle.lq_top.proofs.Loading.{failing, is_read_fault, no_read_fault}
 use Rattle.lq_top.proofs.work.with_sql.Goals as goal
 use Rattle.lq_top.specs.Asks.{loaded}
-use Rattle.lq_top.specs.Stamp.{stamp_of}
 use Rattle.lq_top.specs.Worked.{WorkedBy}
 
 pub returns-in-Ok-clause-read : goal.returns-in-Ok-clause-read

@@ -1,77 +1,95 @@
-use Rattle.std.proofs.Common.{ap, inl, inr, refl, sym, ◌∙◌}
-use Rattle.std.specs.Prelude.{Err, Result, false, map, string_bytes, true, ◌≡◌}
+use Rattle.std.proofs.Common.{ap, inl, inr, refl, subst, sym, ◌∙◌}
+use Rattle.std.specs.Prelude.{Err, List, None, Ok, Result, Some, false, length, map, string_bytes, true, ℕ, ◌≡◌}
+use Rattle.lq_cli.specs.declared.line.Job.TheVariants.{Drill}
 use Rattle.lq_cli.specs.declared.line.Line.{Line}
+use Rattle.lq_commands.specs.Stamp.{stamp_of}
+use Rattle.lq_commands.specs.Works.{is_finished}
 use Rattle.lq_sources.specs.Answers.{IsTold, Source}
 use Rattle.lq_outside.specs.Crash.{Settled}
 use Rattle.lq_tell.specs.Texts.{status_done}
 use Rattle.lq_tell.specs.declared.done.Done.{Done}
 use Rattle.lq_tell.specs.declared.status.Status.{Status}
 use Rattle.lq_tell.specs.declared.status.Status.TheVariants as status
+use Rattle.lq_top.proofs.DrillIdle.{unused_drill}
+use Rattle.lq_top.proofs.DrillLines.{by_job, drill_given, fault_given, fault_there}
 use Rattle.lq_top.proofs.Handing.{line_crashes, unused_crashes}
 use Rattle.lq_top.proofs.Loading.{false_true, is_failed, is_usage, line_does, line_fails, memory_no_changelog, no_line, no_usage, not_less, of_line_is, other, refused_kind, refused_whole, words_kind}
+use Rattle.lq_top.proofs.Readings.{at_most_once, unread}
 use Rattle.lq_top.proofs.ShortTag.{short_tag}
 use Rattle.lq_top.proofs.work.work.Goals as goal
-use Rattle.lq_top.specs.Asks.{asked_tag, loaded}
+use Rattle.lq_top.specs.Asks.{asked_tag, asks_drill, given_to}
 use Rattle.lq_top.specs.Bytes.{TellsDamage}
-use Rattle.lq_top.specs.Jobs.{is_command, is_on_file}
-use Rattle.lq_top.specs.Stamp.{stamp_of}
-use Rattle.lq_top.specs.Works.{is_finished}
+use Rattle.lq_top.specs.Drilled.{DoesDrill, IsFormless, IsSettled}
+use Rattle.lq_top.specs.Drills.{drill_of}
+use Rattle.lq_top.specs.Jobs.{is_apart, is_command, is_on_file}
+use Rattle.lq_top.specs.declared.drilling.Drilling.{Drilling}
 
 pub on_line-requires : goal.on_line-requires
 on_line-requires g c = record { tag = short_tag (map (λ word. string_bytes word) c.args.words.now) c.in-Ok.line c.in-Ok.ensures.line }
 
 pub returns-in-Ok-clause-usage : goal.returns-in-Ok-clause-usage
-returns-in-Ok-clause-usage g c = λ is. absurd (no_usage c.on_line.result.done c.on_line.ensures.worked.kind is)
+returns-in-Ok-clause-usage g c = λ is. by_job c.in-Ok.line.job
+    (λ no. absurd (no_usage c.on_line.result.done (c.on_line.ensures.worked no).kind is))
+    (λ runs drill. (
+      λ line is_line. of_line_is (map (λ word. string_bytes word) c.args.words.now) (g.F.Files.told c.args.files.now) c.in-Ok.line c.in-Ok.ensures.line
+          (λ (l : Line). (runs : List ℕ) × (l.job ≡ Drill runs) × ((source : Source) → IsTold (g.F.Files.told c.args.files.now) source → drill_of source l.options.dialect l.path runs ≡ Ok None)) (runs, drill, (c.on_line.ensures.drilled runs drill).usage is) line is_line,
+      (c.on_line.ensures.drilled runs drill).untouched (inr is),
+    ))
 
 pub returns-in-Ok-clause-usage_only : goal.returns-in-Ok-clause-usage_only
 returns-in-Ok-clause-usage_only g c = λ none. no_line (map (λ word. string_bytes word) c.args.words.now) c.in-Ok.line none c.in-Ok.ensures.line
 
 pub returns-in-Ok-clause-changelog : goal.returns-in-Ok-clause-changelog
 returns-in-Ok-clause-changelog g c = λ fault is line is_line.
-    of_line_is (map (λ word. string_bytes word) c.args.words.now) (g.F.Files.told c.args.files.now) c.in-Ok.line c.in-Ok.ensures.line (λ (l : Line). (source : Source) → IsTold (g.F.Files.told c.args.files.now) source → loaded source l.options.dialect l.given l.root ≡ Err fault) (c.on_line.ensures.worked.changelog fault is) line is_line
+    of_line_is (map (λ word. string_bytes word) c.args.words.now) (g.F.Files.told c.args.files.now) c.in-Ok.line c.in-Ok.ensures.line (λ (l : Line). (source : Source) → IsTold (g.F.Files.told c.args.files.now) source → given_to source l ≡ Err fault)
+    (by_job c.in-Ok.line.job (λ no. (c.on_line.ensures.worked no).changelog fault is) (λ runs drill source told. drill_given source c.in-Ok.line runs drill ∙ fault_given (drill_of source c.in-Ok.line.options.dialect c.in-Ok.line.path runs) fault ((c.on_line.ensures.drilled runs drill).changelog fault is source told))) line is_line
 
 pub returns-in-Ok-clause-not_loaded : goal.returns-in-Ok-clause-not_loaded
-returns-in-Ok-clause-not_loaded g c = λ fault has. line_fails (map (λ word. string_bytes word) c.args.words.now) (g.F.Files.told c.args.files.now) c.in-Ok.line c.in-Ok.ensures.line c.on_line.result.done c.on_line.ensures.worked.not_loaded fault has
+returns-in-Ok-clause-not_loaded g c = λ fault has. line_fails (map (λ word. string_bytes word) c.args.words.now) (g.F.Files.told c.args.files.now) c.in-Ok.line c.in-Ok.ensures.line c.on_line.result.done
+    (by_job c.in-Ok.line.job (λ no. (c.on_line.ensures.worked no).not_loaded) (λ runs drill source told fault gives. (c.on_line.ensures.drilled runs drill).not_loaded source told fault (fault_there (drill_of source c.in-Ok.line.options.dialect c.in-Ok.line.path runs) fault (sym (drill_given source c.in-Ok.line runs drill) ∙ gives)))) fault has
 
 pub returns-in-Ok-clause-kind : goal.returns-in-Ok-clause-kind
-returns-in-Ok-clause-kind g c = words_kind c.on_line.result.done c.on_line.ensures.worked.kind
+returns-in-Ok-clause-kind g c = by_job c.in-Ok.line.job (λ no. words_kind c.on_line.result.done (c.on_line.ensures.worked no).kind) (λ runs drill. (c.on_line.ensures.drilled runs drill).kind)
 
 pub returns-in-Ok-clause-does : goal.returns-in-Ok-clause-does
-returns-in-Ok-clause-does g c = λ asks. line_does (map (λ word. string_bytes word) c.args.words.now) (g.F.Files.told c.args.files.now) c.in-Ok.line c.in-Ok.ensures.line (stamp_of c.args.who.now (g.C.Clock.last c.on_line.new.clock)) (g.D.Disk.told c.args.disk) c.on_line.result.done (g.D.Disk.told c.on_line.result.disk) c.on_line.ensures.worked.does asks
+returns-in-Ok-clause-does g c = λ asks. line_does (map (λ word. string_bytes word) c.args.words.now) (g.F.Files.told c.args.files.now) c.in-Ok.line c.in-Ok.ensures.line (stamp_of c.args.who.now (g.C.Clock.last c.on_line.new.clock)) (g.D.Disk.told c.args.disk) c.on_line.result.done (g.D.Disk.told c.on_line.result.disk)
+    (by_job c.in-Ok.line.job (λ no. (c.on_line.ensures.worked no).does) (λ runs drill source g told gives on. absurd (false_true (sym (ap is_on_file drill) ∙ on)))) asks
 
 pub returns-in-Ok-clause-untouched : goal.returns-in-Ok-clause-untouched
-returns-in-Ok-clause-untouched g c = c.on_line.ensures.worked.untouched
+returns-in-Ok-clause-untouched g c = by_job c.in-Ok.line.job (λ no. (c.on_line.ensures.worked no).untouched) (λ runs drill files. (c.on_line.ensures.drilled runs drill).untouched (inl files))
 
 pub returns-in-Ok-clause-any_moment : goal.returns-in-Ok-clause-any_moment
 returns-in-Ok-clause-any_moment g c = λ asks.
-    line_crashes (map (λ word. string_bytes word) c.args.words.now) (g.F.Files.told c.args.files.now) c.in-Ok.line c.in-Ok.ensures.line (stamp_of c.args.who.now (g.C.Clock.last c.on_line.new.clock)) (g.D.Disk.told c.args.disk)
-    (g.D.Disk.crashes c.args.disk) (g.D.Disk.crashes c.on_line.result.disk) c.on_line.ensures.worked.any_moment (g.met.D.Disk.sound c.args.disk) asks
+    line_crashes (map (λ word. string_bytes word) c.args.words.now) (g.F.Files.told c.args.files.now) c.in-Ok.line c.in-Ok.ensures.line (stamp_of c.args.who.now (g.C.Clock.last c.on_line.new.clock)) (g.D.Disk.told c.args.disk) (g.D.Disk.crashes c.args.disk) (g.D.Disk.crashes c.on_line.result.disk)
+    (by_job c.in-Ok.line.job (λ no. (c.on_line.ensures.worked no).any_moment) (λ runs drill source g told gives on. absurd (false_true (sym (ap is_on_file drill) ∙ on)))) (g.met.D.Disk.sound c.args.disk) asks
 
 pub returns-in-Ok-clause-safe : goal.returns-in-Ok-clause-safe
 returns-in-Ok-clause-safe g c = λ asks.
-    of_line_is (map (λ word. string_bytes word) c.args.words.now) (g.F.Files.told c.args.files.now) c.in-Ok.line c.in-Ok.ensures.line
-    (λ (l : Line). is_command l.job ≡ true → is_finished (status_done c.on_line.result.done) ≡ true → Settled (g.D.Disk.told c.on_line.result.disk) (g.D.Disk.crashes c.on_line.result.disk)) c.on_line.ensures.worked.used.safe asks.line asks.is_line
+    of_line_is (map (λ word. string_bytes word) c.args.words.now) (g.F.Files.told c.args.files.now) c.in-Ok.line c.in-Ok.ensures.line (λ (l : Line). is_command l.job ≡ true → is_finished (status_done c.on_line.result.done) ≡ true → Settled (g.D.Disk.told c.on_line.result.disk) (g.D.Disk.crashes c.on_line.result.disk))
+    (by_job c.in-Ok.line.job (λ no. (c.on_line.ensures.worked no).used.safe) (λ runs drill command. absurd (false_true (sym (ap is_command drill) ∙ command)))) asks.line asks.is_line
 
 pub returns-in-Ok-clause-later : goal.returns-in-Ok-clause-later
-returns-in-Ok-clause-later g c = c.on_line.ensures.worked.used.later
+returns-in-Ok-clause-later g c = by_job c.in-Ok.line.job (λ no. (c.on_line.ensures.worked no).used.later) (λ runs drill. (c.on_line.ensures.drilled runs drill).used.later)
 
 pub returns-in-Ok-clause-fault : goal.returns-in-Ok-clause-fault
-returns-in-Ok-clause-fault g c = c.on_line.ensures.worked.used.fault
+returns-in-Ok-clause-fault g c = by_job c.in-Ok.line.job (λ no. (c.on_line.ensures.worked no).used.fault) (λ runs drill. (c.on_line.ensures.drilled runs drill).used.fault)
 
 pub returns-in-Ok-clause-damaged : goal.returns-in-Ok-clause-damaged
-returns-in-Ok-clause-damaged g c = λ line is_line. of_line_is (map (λ word. string_bytes word) c.args.words.now) (g.F.Files.told c.args.files.now) c.in-Ok.line c.in-Ok.ensures.line (λ (l : Line). TellsDamage l.options.dialect (g.D.Disk.told c.args.disk) c.on_line.result.done) c.on_line.ensures.worked.used.damaged line is_line
+returns-in-Ok-clause-damaged g c = λ line is_line. of_line_is (map (λ word. string_bytes word) c.args.words.now) (g.F.Files.told c.args.files.now) c.in-Ok.line c.in-Ok.ensures.line (λ (l : Line). TellsDamage l.options.dialect (g.D.Disk.told c.args.disk) c.on_line.result.done)
+    (by_job c.in-Ok.line.job (λ no. (c.on_line.ensures.worked no).used.damaged) (λ runs drill. (c.on_line.ensures.drilled runs drill).used.damaged)) line is_line
 
 pub returns-in-Ok-clause-off : goal.returns-in-Ok-clause-off
-returns-in-Ok-clause-off g c = λ line is_line. of_line_is (map (λ word. string_bytes word) c.args.words.now) (g.F.Files.told c.args.files.now) c.in-Ok.line c.in-Ok.ensures.line (λ (l : Line). is_on_file l.job ≡ false → c.on_line.result.disk ≡ c.args.disk) c.on_line.ensures.worked.used.off line is_line
+returns-in-Ok-clause-off g c = λ line is_line. of_line_is (map (λ word. string_bytes word) c.args.words.now) (g.F.Files.told c.args.files.now) c.in-Ok.line c.in-Ok.ensures.line (λ (l : Line). is_apart l.job ≡ true → c.on_line.result.disk ≡ c.args.disk)
+    (by_job c.in-Ok.line.job (λ no. (c.on_line.ensures.worked no).used.off) (λ runs drill off. absurd (false_true (sym (ap is_apart drill) ∙ off)))) line is_line
 
 pub returns-in-Ok-clause-tag : goal.returns-in-Ok-clause-tag
 returns-in-Ok-clause-tag g c = inl (c.on_line.ensures.tag ∙ sym (ap asked_tag c.in-Ok.ensures.line))
 
 pub returns-in-Err-Usage-clause-usage : goal.returns-in-Err-Usage-clause-usage
-returns-in-Err-Usage-clause-usage g c = λ is. c.in-Err-Usage.ensures.usage c.in-Err-Usage.field-0-is
+returns-in-Err-Usage-clause-usage g c = λ is. (λ line is_line. no_line (map (λ word. string_bytes word) c.args.words.now) line (c.in-Err-Usage.ensures.usage c.in-Err-Usage.field-0-is) is_line, c.refused.ensures.disk)
 
 pub returns-in-Err-Usage-clause-usage_only : goal.returns-in-Err-Usage-clause-usage_only
-returns-in-Err-Usage-clause-usage_only g c = λ none. (inl c.refused.ensures.done, c.refused.ensures.disk)
+returns-in-Err-Usage-clause-usage_only g c = λ none. inl c.refused.ensures.done
 
 pub returns-in-Err-Usage-clause-read : goal.returns-in-Err-Usage-clause-read
 returns-in-Err-Usage-clause-read g c = λ is. other is_failed c.refused.ensures.done is refl refl
@@ -110,7 +128,7 @@ pub returns-in-Err-OutOfMemory-clause-usage : goal.returns-in-Err-OutOfMemory-cl
 returns-in-Err-OutOfMemory-clause-usage g c = λ is. other is_usage c.refused-in-Err-OutOfMemory.ensures.done is refl refl
 
 pub returns-in-Err-OutOfMemory-clause-usage_only : goal.returns-in-Err-OutOfMemory-clause-usage_only
-returns-in-Err-OutOfMemory-clause-usage_only g c = λ none. (inr c.refused-in-Err-OutOfMemory.ensures.done, c.refused-in-Err-OutOfMemory.ensures.disk)
+returns-in-Err-OutOfMemory-clause-usage_only g c = λ none. inr c.refused-in-Err-OutOfMemory.ensures.done
 
 pub returns-in-Err-OutOfMemory-clause-read : goal.returns-in-Err-OutOfMemory-clause-read
 returns-in-Err-OutOfMemory-clause-read g c = λ is. other is_failed c.refused-in-Err-OutOfMemory.ensures.done is refl refl
@@ -145,3 +163,57 @@ returns-in-Err-OutOfMemory-clause-later g c = not_less (ap g.D.Disk.faults c.ref
 
 pub returns-in-Err-OutOfMemory-clause-fault : goal.returns-in-Err-OutOfMemory-clause-fault
 returns-in-Err-OutOfMemory-clause-fault g c = λ is. other is_failed c.refused-in-Err-OutOfMemory.ensures.done is refl refl
+
+pub returns-in-Ok-clause-formless : goal.returns-in-Ok-clause-formless
+returns-in-Ok-clause-formless g c = λ has. of_line_is (map (λ word. string_bytes word) c.args.words.now) (g.F.Files.told c.args.files.now) c.in-Ok.line c.in-Ok.ensures.line
+    (λ (l : Line). (runs : List ℕ) → l.job ≡ Drill runs → (source : Source) → IsTold (g.F.Files.told c.args.files.now) source → drill_of source l.options.dialect l.path runs ≡ Ok None → IsFormless c.on_line.result.done)
+    (λ runs drill. (c.on_line.ensures.drilled runs drill).formless) has.line has.is_line has.runs has.is_drill has.source has.told has.gives
+
+pub returns-in-Ok-clause-once : goal.returns-in-Ok-clause-once
+returns-in-Ok-clause-once g c = λ no. c.on_line.ensures.once (sym (ap asks_drill c.in-Ok.ensures.line) ∙ no)
+
+pub returns-in-Ok-clause-reads : goal.returns-in-Ok-clause-reads
+returns-in-Ok-clause-reads g c = by_job c.in-Ok.line.job (λ no. at_most_once (g.C.Clock.to_come c.args.clock.now) (g.C.Clock.to_come c.on_line.new.clock) (g.C.Clock.last c.on_line.new.clock) (c.on_line.ensures.once no)) (λ runs drill. (c.on_line.ensures.drilled runs drill).reads)
+
+pub returns-in-Ok-clause-drills : goal.returns-in-Ok-clause-drills
+returns-in-Ok-clause-drills g c = λ asks. of_line_is (map (λ word. string_bytes word) c.args.words.now) (g.F.Files.told c.args.files.now) c.in-Ok.line c.in-Ok.ensures.line
+    (λ (l : Line). (runs : List ℕ) → l.job ≡ Drill runs → (source : Source) (drill : Drilling) → IsTold (g.F.Files.told c.args.files.now) source → drill_of source l.options.dialect l.path runs ≡ Ok (Some drill)
+    → DoesDrill l.options.dialect c.args.who.now drill (g.C.Clock.to_come c.args.clock.now) (g.C.Clock.to_come c.on_line.new.clock) (g.D.Disk.told c.args.disk) (g.D.Disk.crashes c.args.disk) c.on_line.result.done (g.D.Disk.told c.on_line.result.disk) (g.D.Disk.crashes c.on_line.result.disk))
+    (λ runs drill. (c.on_line.ensures.drilled runs drill).does) asks.line asks.is_line asks.runs asks.is_drill asks.source asks.drill asks.told asks.gives
+
+pub returns-in-Ok-clause-settled : goal.returns-in-Ok-clause-settled
+returns-in-Ok-clause-settled g c = λ asks. of_line_is (map (λ word. string_bytes word) c.args.words.now) (g.F.Files.told c.args.files.now) c.in-Ok.line c.in-Ok.ensures.line (λ (l : Line). (runs : List ℕ) → l.job ≡ Drill runs → IsSettled g.D.Disk.told g.D.Disk.faults g.D.Disk.crashes c.on_line.result.done c.on_line.result.disk)
+    (λ runs drill. (c.on_line.ensures.drilled runs drill).settled) asks.line asks.is_line asks.runs asks.is_drill
+
+pub returns-in-Err-Usage-clause-formless : goal.returns-in-Err-Usage-clause-formless
+returns-in-Err-Usage-clause-formless g c = λ has. no_line (map (λ word. string_bytes word) c.args.words.now) has.line (c.in-Err-Usage.ensures.usage c.in-Err-Usage.field-0-is) has.is_line
+
+pub returns-in-Err-Usage-clause-once : goal.returns-in-Err-Usage-clause-once
+returns-in-Err-Usage-clause-once g c = λ no. inl refl
+
+pub returns-in-Err-Usage-clause-reads : goal.returns-in-Err-Usage-clause-reads
+returns-in-Err-Usage-clause-reads g c = unread 64 (g.C.Clock.to_come c.args.clock.now)
+
+pub returns-in-Err-Usage-clause-drills : goal.returns-in-Err-Usage-clause-drills
+returns-in-Err-Usage-clause-drills g c = λ asks. no_line (map (λ word. string_bytes word) c.args.words.now) asks.line (c.in-Err-Usage.ensures.usage c.in-Err-Usage.field-0-is) asks.is_line
+
+pub returns-in-Err-Usage-clause-settled : goal.returns-in-Err-Usage-clause-settled
+returns-in-Err-Usage-clause-settled g c = λ asks. no_line (map (λ word. string_bytes word) c.args.words.now) asks.line (c.in-Err-Usage.ensures.usage c.in-Err-Usage.field-0-is) asks.is_line
+
+pub returns-in-Err-OutOfMemory-clause-formless : goal.returns-in-Err-OutOfMemory-clause-formless
+returns-in-Err-OutOfMemory-clause-formless g c = λ has. inr (inr c.refused-in-Err-OutOfMemory.ensures.done)
+
+pub returns-in-Err-OutOfMemory-clause-once : goal.returns-in-Err-OutOfMemory-clause-once
+returns-in-Err-OutOfMemory-clause-once g c = λ no. inl refl
+
+pub returns-in-Err-OutOfMemory-clause-reads : goal.returns-in-Err-OutOfMemory-clause-reads
+returns-in-Err-OutOfMemory-clause-reads g c = unread 64 (g.C.Clock.to_come c.args.clock.now)
+
+pub returns-in-Err-OutOfMemory-clause-drills : goal.returns-in-Err-OutOfMemory-clause-drills
+returns-in-Err-OutOfMemory-clause-drills g c = λ asks.
+    let coming = g.C.Clock.to_come c.args.clock.now in
+    let ran = c.refused-in-Err-OutOfMemory in
+    unused_drill g.D.Disk.told g.D.Disk.crashes asks.line.options.dialect c.args.who.now asks.drill coming c.args.disk ran.result.disk ran.ensures.disk ran.result.done status.OutOfMemory ran.ensures.done (inl refl)
+
+pub returns-in-Err-OutOfMemory-clause-settled : goal.returns-in-Err-OutOfMemory-clause-settled
+returns-in-Err-OutOfMemory-clause-settled g c = λ asks. subst (λ r. IsSettled g.D.Disk.told g.D.Disk.faults g.D.Disk.crashes r c.refused-in-Err-OutOfMemory.result.disk) (sym c.refused-in-Err-OutOfMemory.ensures.done) tt

@@ -1,0 +1,74 @@
+-- What a run's end says of the database that it leaves.
+use Rattle.std.proofs.Common.{ap, refl, rules, subst, sym, ◌∙◌}
+use Rattle.std.proofs.lemmas.List.{append-nil}
+use Rattle.std.specs.Option.{option_map}
+use Rattle.std.specs.Prelude.{Bool, Err, IfErr, IfOk, List, None, Ok, Option, Result, Some, [], false, true, ℕ, ◌++◌, ◌≡◌}
+use Rattle.lq_base.specs.declared.dialect.Dialect.{Dialect}
+use Rattle.lq_run.proofs.Behind.{none_left}
+use Rattle.lq_run.proofs.Since.{leave_none}
+use Rattle.lq_run.specs.Commands.{HasDatabase, Leaves, LeavesAs}
+use Rattle.lq_run.specs.Crashes.{LeftBehind, LeftInCommand}
+use Rattle.lq_run.specs.declared.runner.End.{End}
+use Rattle.lq_run.specs.declared.runner.End.TheVariants as end
+use Rattle.lq_store.specs.Crashes.{Crashes}
+use Rattle.lq_store.specs.Journal.{Entry}
+use Rattle.lq_store.specs.State.{State}
+use Rattle.lq_tell.specs.declared.done.Done.{Done}
+use Rattle.lq_tell.specs.declared.status.Status.{Status}
+use Rattle.lq_track.specs.Database.{Database}
+use Rattle.lq_turns.specs.declared.call.Call.{Call}
+use Rattle.lq_commands.specs.Works.{CrashesIn, KeptLock, Works, is_finished, is_whole}
+
+not_true : false ≡ true → ⊥
+not_true h = Prim.cc
+
+no_more : (o : Option (List Entry)) → o ≡ option_map (λ (entries : List Entry). entries ++ []) o
+no_more None = refl
+no_more (Some entries) = ap Some (sym (append-nil entries))
+
+-- no calls leave the database as it is
+pub leaves_nothing : (d : Dialect) (database : Database) (x : State) → HasDatabase d x database → Leaves d [] database x x
+leaves_nothing d database x has = record { database_is = has; limit = refl; entries = no_more x.entries; used = search rules }
+
+module _ (d : Dialect) (calls : List Call) (database : Database) (x y : State) where
+  pub whole_leaves : (e : End) → is_whole e ≡ true → LeavesAs d calls database x e y → Leaves d calls database x y
+  whole_leaves end.Done whole leaves = leaves
+  whole_leaves (end.Refused refusal) whole leaves = leaves
+  whole_leaves (end.Locked lock) whole leaves = absurd leaves
+  whole_leaves end.Disk whole leaves = absurd (not_true whole)
+  whole_leaves (end.Full used next) whole leaves = absurd (not_true whole)
+  whole_leaves end.OutOfMemory whole leaves = absurd (not_true whole)
+
+  pub kept_lock : (e : End) → LeavesAs d calls database x e y → KeptLock e
+  kept_lock end.Done leaves = tt
+  kept_lock (end.Refused refusal) leaves = tt
+  kept_lock (end.Locked lock) leaves = leaves
+  kept_lock end.Disk leaves = tt
+  kept_lock (end.Full used next) leaves = tt
+  kept_lock end.OutOfMemory leaves = tt
+
+  pub works_by : (e : End) (r : Result Done Status) → IfOk r (λ (done : Done). is_finished done.status ≡ true → is_whole e ≡ true) → LeavesAs d calls database x e y → LeftBehind d calls database x y
+      → Works d calls database x r y
+  works_by e (Ok done) whole leaves left = (λ finished. whole_leaves e (whole finished) leaves, λ stopped. left)
+  works_by e (Err s) whole leaves left = left
+
+  -- it met a fault, or there was no memory
+  pub works_left : (r : Result Done Status) (s : Status) → r ≡ Err s → LeftBehind d calls database x y → Works d calls database x r y
+  works_left r s is left = subst (λ (q : Result Done Status). Works d calls database x q y) (sym is) left
+
+  -- what is done has the same status
+  pub works_same : (before after : Done) → after.status ≡ before.status → Works d calls database x (Ok before) y → Works d calls database x (Ok after) y
+  works_same before after same works = (λ finished. works.0 (ap is_finished (sym same) ∙ finished), λ stopped. works.1 (ap is_finished (sym same) ∙ stopped))
+
+-- where there were no calls
+pub works_nothing : (d : Dialect) (database : Database) (x : State) (r : Result Done Status) → HasDatabase d x database → Works d [] database x r x
+works_nothing d database x (Ok done) has = (λ finished. leaves_nothing d database x has, λ stopped. none_left d [] database x has)
+works_nothing d database x (Err s) has = none_left d [] database x has
+
+-- where none was made
+module _ (d : Dialect) (calls : List Call) (database : Database) (x : State) where
+  pub untouched_works : (r : Result Done Status) (s : Status) → r ≡ Err s → HasDatabase d x database → Works d calls database x r x
+  untouched_works r s is has = works_left d calls database x x r s is (none_left d calls database x has)
+
+  pub untouched_crashes : (now : Crashes) → CrashesIn d calls database x now now
+  untouched_crashes now = leave_none x.entries (LeftInCommand d calls database) now

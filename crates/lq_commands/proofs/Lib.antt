@@ -1,0 +1,17 @@
+pub mod BareName
+mod Checked
+mod Commanded
+mod Endings
+mod Freed
+mod InOneTurn
+mod Inserted
+mod LoadedTexts
+pub mod PlainRefusals
+pub mod Planned
+mod RolledBack
+mod Seen
+mod Starts
+mod Stopped
+mod Telling
+mod Updated
+pub mod ViewsRead

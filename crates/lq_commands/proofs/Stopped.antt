@@ -1,0 +1,147 @@
+-- A run that a refusal ends is one at which its source has stopped, and then it is known at which changeset.
+use Rattle.std.proofs.Common.{refl, sym, ◌∙◌}
+use Rattle.std.specs.Prelude.{List, None, Option, Some, false, is_some, option_map, true, ℕ, ◌≡◌}
+use Rattle.lq_base.specs.declared.dialect.Dialect.{Dialect}
+use Rattle.lq_base.specs.declared.identity.Identity.{Identity}
+use Rattle.lq_hand.specs.Enters.{Enters}
+use Rattle.lq_hand.specs.Way.{Way}
+use Rattle.lq_hand.specs.declared.source.Entered.{Entered}
+use Rattle.lq_hand.specs.declared.source.Entered.TheVariants as entered
+use Rattle.lq_model.specs.Catalogue.{Catalogue}
+use Rattle.lq_run.specs.Commands.{HasDatabase, LeavesAll, LeavesAs, SomeMayRun, TellsAll}
+use Rattle.lq_run.specs.Crashes.{BehindAll, CrashesAll, LeftBehind}
+use Rattle.lq_run.specs.Steps.{TellsAs, no_turn, standing}
+use Rattle.lq_run.specs.declared.runner.End.{End}
+use Rattle.lq_run.specs.declared.runner.End.TheVariants as end
+use Rattle.lq_run.specs.declared.runner.Runner.{Runner}
+use Rattle.lq_back.specs.RowTurns.{StopsAt, row_way}
+use Rattle.lq_sets.specs.SetTurns.{YieldsTo, set_way}
+use Rattle.lq_seen.specs.Printing.{Account}
+use Rattle.lq_seen.specs.Telling.{Tells}
+use Rattle.lq_seen.specs.declared.outcome.Outcome.{Outcome}
+use Rattle.lq_back.specs.declared.row_turns.RowTurns.{RowTurns}
+use Rattle.lq_sets.specs.declared.set_turns.SetTurns.{SetTurns}
+use Rattle.lq_store.specs.Crashes.{Crashes}
+use Rattle.lq_store.specs.State.{State}
+use Rattle.lq_track.specs.Database.{Database}
+use Rattle.lq_turns.specs.Contents.{Contents}
+use Rattle.lq_turns.specs.Rest.{Turns}
+use Rattle.lq_turns.specs.Set.{Meaning}
+use Rattle.lq_turns.specs.Settle.{Settled}
+use Rattle.lq_turns.specs.Stops.{is_mark}
+use Rattle.lq_turns.specs.declared.call.Call.{Call}
+use Rattle.lq_turns.specs.declared.stamp.Stamp.{Stamp}
+use Rattle.lq_turns.specs.declared.stop.Refusal.{Refusal}
+use Rattle.lq_turns.specs.declared.stop.Stop.{Stop}
+use Rattle.lq_turns.specs.declared.stop.Stop.TheVariants.{Refused}
+use Rattle.lq_commands.proofs.Starts.{AllOn, name_so, new_holds, new_may_run, new_tells}
+use Rattle.lq_commands.specs.Stopping.{NamesStop, YieldedAt, stopping_way}
+use Rattle.lq_commands.specs.Tells.{HasTold}
+use Rattle.lq_commands.specs.Turns.{MayTurn, turns_script}
+use Rattle.lq_commands.specs.Works.{CrashesIn}
+use Rattle.lq_commands.specs.declared.stopping.Stopping.{Stopping}
+
+-- the next turn is entered as the source enters it
+module _ {Key Told T : Type 0} (d : Dialect) (m : Meaning Key) (stamp : Stamp) (left : T → Turns Key) (way : T → Dialect → Stamp → Told → Way) (old new : T) (seen : Catalogue) where
+  pub enters_stopping : (r : Entered) → Enters d m stamp (left old) (way old d stamp) seen r (left new) (way new d stamp)
+      → Enters d m stamp (left old) (stopping_way way old d stamp) seen r (left new) (stopping_way way new d stamp)
+  enters_stopping (entered.Turn hand) enters = (enters.0, λ database stands told knows. let on = enters.1 database stands told knows in (on.0, record { finished = on.1.finished; refused = on.1.refused }))
+  enters_stopping entered.NoTurn enters = λ database stands told knows. let on = enters database stands told knows in (on.0, (on.1, tt))
+  enters_stopping entered.Lack enters = tt
+
+-- what is told at the end is what the source tells, and to what it yielded
+module _ {T Told : Type 0} (way : T → Dialect → Stamp → Told → Way) (source : T) (d : Dialect) (stamp : Stamp) (told : Told) where
+  pub told_so : (e : End) → TellsAs (stopping_way way source d stamp told) e → TellsAs (way source d stamp told) e
+  told_so end.Done tells = tells.0
+  told_so (end.Refused refusal) tells = tells.0
+  told_so (end.Locked lock) tells = tt
+  told_so end.Disk tells = tt
+  told_so (end.Full used next) tells = tt
+  told_so end.OutOfMemory tells = tt
+
+  pub yielded_so : (e : End) → TellsAs (stopping_way way source d stamp told) e → YieldedAt way d stamp told e
+  yielded_so end.Done tells = tt
+  yielded_so (end.Refused refusal) tells = tells.1
+  yielded_so (end.Locked lock) tells = tt
+  yielded_so end.Disk tells = tt
+  yielded_so (end.Full used next) tells = tt
+  yielded_so end.OutOfMemory tells = tt
+
+-- a run of the turns of a source
+
+abbrev pub stopping : {T : Type 0} → T → Stopping T
+stopping source = record { source = source }
+
+abbrev pub left_in : {Key T : Type 0} → (T → Turns Key) → Stopping T → Turns Key
+left_in left = λ it. left it.source
+
+abbrev pub way_in : {T Told : Type 0} → (T → Dialect → Stamp → Told → Way) → Stopping T → Dialect → Stamp → Told → Way
+way_in way = λ it. stopping_way way it.source
+
+module _ {Key Told T : Type 0} (m : Meaning Key) (left : T → Turns Key) (way : T → Dialect → Stamp → Told → Way) (runner : Runner (Stopping T)) (d : Dialect) (stamp : Stamp) (source : T)
+    (dialect_is : runner.dialect ≡ d) (stamp_is : runner.stamp ≡ stamp) (source_is : runner.source ≡ stopping source) (hand : runner.hand ≡ no_turn) (fault : runner.fault ≡ None) (refused : runner.refused ≡ None)
+    (x : State) (database : Database) (told : Told) (has : HasDatabase d x database) (may : MayTurn d m stamp (left source) (way source d stamp) database told) where
+  may_stop : MayTurn d m stamp (left source) (stopping_way way source d stamp) database told
+  may_stop = record { known = may.known; fits = may.fits }
+
+  pub stopping_may_run : (number : ℕ) → SomeMayRun runner.dialect m runner.stamp number (standing (left_in left) (way_in way) runner) x
+  stopping_may_run number = new_may_run m (left_in left) (way_in way) runner d stamp (stopping source) dialect_is stamp_is source_is hand fault refused x database told has may_stop number
+
+  stopping_holds : (P : Dialect → List Call → Database → Type 0) → AllOn P runner.dialect m runner.stamp (standing (left_in left) (way_in way) runner) x → P d (turns_script d m stamp (left source) database) database
+  stopping_holds P all = new_holds m (left_in left) (way_in way) runner d stamp (stopping source) dialect_is stamp_is source_is hand fault refused x database told has may_stop P all
+
+  pub stopping_leaves : (y : State) (e : End) → LeavesAll runner.dialect m runner.stamp (standing (left_in left) (way_in way) runner) x e y → LeavesAs d (turns_script d m stamp (left source) database) database x e y
+  stopping_leaves y e leaves = stopping_holds (λ f calls on. LeavesAs f calls on x e y) leaves
+
+  pub stopping_left : is_mark stamp.who ≡ false → (y : State) → BehindAll runner.dialect m runner.stamp (standing (left_in left) (way_in way) runner) x y → LeftBehind d (turns_script d m stamp (left source) database) database x y
+  stopping_left name y behind = stopping_holds (λ f calls on. LeftBehind f calls on x y) (behind (name_so runner.stamp stamp stamp_is name))
+
+  pub stopping_crashes : is_mark stamp.who ≡ false → (before now : Crashes) → CrashesAll runner.dialect m runner.stamp (standing (left_in left) (way_in way) runner) x before now
+      → CrashesIn d (turns_script d m stamp (left source) database) database x before now
+  stopping_crashes name before now crash = stopping_holds (λ f calls on. CrashesIn f calls on x before now) (crash (name_so runner.stamp stamp stamp_is name))
+
+  tells_stopping : (e : End) (after : T) → TellsAll runner.dialect m runner.stamp (standing (left_in left) (way_in way) runner) x e (stopping_way way after) → TellsAs (stopping_way way after d stamp told) e
+  tells_stopping e after tells = new_tells m (left_in left) (way_in way) runner d stamp (stopping source) dialect_is stamp_is source_is hand fault refused x database told has may_stop e (stopping_way way after) tells
+
+  pub stopping_tells : (e : End) (after : T) → TellsAll runner.dialect m runner.stamp (standing (left_in left) (way_in way) runner) x e (stopping_way way after) → TellsAs (way after d stamp told) e
+  stopping_tells e after tells = told_so way after d stamp told e (tells_stopping e after tells)
+
+  pub stopping_stops : (e : End) (after : T) → TellsAll runner.dialect m runner.stamp (standing (left_in left) (way_in way) runner) x e (stopping_way way after) → YieldedAt way d stamp told e
+  stopping_stops e after tells = yielded_so way after d stamp told e (tells_stopping e after tells)
+
+-- where the source has stopped, what is told names the changeset
+
+none_stop : {stop : Stop} → (let o : Option Stop = None in o) ≡ Some stop → ⊥
+none_stop h = Prim.cc
+
+some_of : (place : Option Identity) (refusal : Refusal) (stop : Stop) → option_map (λ (of : Identity). Refused of refusal) place ≡ Some stop → is_some place ≡ true
+some_of None refusal stop is = absurd (none_stop is)
+some_of (Some of) refusal stop is = refl
+
+stop_named : (o : Outcome) (told : Settled) (refusal : Refusal) (stop : Stop) → Tells o told (Some refusal) → told.stop ≡ Some stop → is_some o.stopped_at ≡ true
+stop_named o told refusal stop tells is = some_of o.stopped_at refusal stop (sym tells.stop ∙ is)
+
+set_stop : (s : SetTurns) (d : Dialect) (stamp : Stamp) (told : Account) (refusal : Refusal) (c : Contents) (yields : YieldsTo s d stamp told false refusal c) → told.settled.stop ≡ Some (Refused yields.turn.identity refusal)
+set_stop s d stamp told refusal c yields = yields.then_told.0.stop
+
+row_stop : (s : RowTurns) (told : Account) (refusal : Refusal) (stops : StopsAt s told false refusal) → told.settled.stop ≡ Some (Refused stops.last.identity refusal)
+row_stop s told refusal stops = stops.then_told.tells.stop
+
+module _ (o : Outcome) (d : Dialect) (stamp : Stamp) (told : Account) where
+  pub sets_stopped : (e : End) → HasTold o told e → YieldedAt set_way d stamp told e → NamesStop e o.stopped_at
+  sets_stopped end.Done tells yielded = tt
+  sets_stopped (end.Refused refusal) tells yielded =
+      stop_named o told.settled refusal (Refused yielded.yields.turn.identity refusal) tells.tells (set_stop yielded.before d stamp told refusal yielded.contents yielded.yields)
+  sets_stopped (end.Locked lock) tells yielded = tt
+  sets_stopped end.Disk tells yielded = tt
+  sets_stopped (end.Full used next) tells yielded = tt
+  sets_stopped end.OutOfMemory tells yielded = tt
+
+  pub rows_stopped : (e : End) → HasTold o told e → YieldedAt row_way d stamp told e → NamesStop e o.stopped_at
+  rows_stopped end.Done tells yielded = tt
+  rows_stopped (end.Refused refusal) tells yielded =
+      stop_named o told.settled refusal (Refused yielded.yields.last.identity refusal) tells.tells (row_stop yielded.before told refusal yielded.yields)
+  rows_stopped (end.Locked lock) tells yielded = tt
+  rows_stopped end.Disk tells yielded = tt
+  rows_stopped (end.Full used next) tells yielded = tt
+  rows_stopped end.OutOfMemory tells yielded = tt

@@ -1,0 +1,329 @@
+-- An update, from its checks to what it tells.
+use Rattle.std.proofs.Common.{ap, arith, inl, inr, refl, subst, sym, ◌∙◌}
+use Rattle.std.specs.List.{All}
+use Rattle.std.specs.Option.{option_or}
+use Rattle.std.specs.Prelude.{Bool, Err, IfErr, IfOk, List, None, Ok, Option, Result, Some, [], false, if◌then◌else◌, is_some, min, true, ℕ, ◌++◌, ◌-◌, ◌^◌, ◌∷◌, ◌≡◌, ◌≤◌, ◌||◌}
+use Rattle.lq_base.specs.declared.command.Command.TheVariants as command
+use Rattle.lq_base.specs.declared.dialect.Dialect.{Dialect}
+use Rattle.lq_base.specs.declared.identity.Identity.{Identity}
+use Rattle.lq_base.specs.declared.run.Happened.{Happened}
+use Rattle.lq_base.specs.declared.run.Printed.{Printed}
+use Rattle.lq_base.specs.declared.run.Why.{Why}
+use Rattle.lq_base.specs.declared.tracking.Tracked.{Tracked}
+use Rattle.lq_beside.specs.Replays.{calls_fit}
+use Rattle.lq_changelog.specs.ShortTexts.{HasShortTexts}
+use Rattle.lq_kinds.specs.Dialects.{AreFor}
+use Rattle.lq_kinds.specs.declared.any_change.AnyChange.{AnyChange}
+use Rattle.lq_model.specs.declared.statement.Statement.{Statement}
+use Rattle.lq_plan.specs.Work.{work_from}
+use Rattle.lq_plan.specs.declared.turns.Item.{Item}
+use Rattle.lq_run.specs.Commands.{HasDatabase, LeavesAs}
+use Rattle.lq_run.specs.Crashes.{LeftBehind}
+use Rattle.lq_run.specs.Steps.{TellsAs}
+use Rattle.lq_run.specs.declared.runner.End.{End}
+use Rattle.lq_run.specs.declared.runner.End.TheVariants as end
+use Rattle.lq_sets.specs.SetTurns.{Knows, set_way, sets_left}
+use Rattle.lq_seen.proofs.Shown.{none_shown}
+use Rattle.lq_seen.specs.Printing.{Account, of_sets, shown}
+use Rattle.lq_seen.specs.Telling.{bounded}
+use Rattle.lq_seen.specs.View.{any_meaning}
+use Rattle.lq_seen.specs.declared.outcome.Outcome.{Outcome}
+use Rattle.lq_sets.specs.declared.set_turns.SetTurns.{SetTurns}
+use Rattle.lq_store.specs.Crashes.{Crashes}
+use Rattle.lq_store.specs.State.{State}
+use Rattle.lq_tell.specs.declared.done.Done.{Done}
+use Rattle.lq_tell.specs.declared.status.Status.{Status}
+use Rattle.lq_tell.specs.declared.status.Status.TheVariants as status
+use Rattle.lq_tell.specs.Texts.{has_output}
+use Rattle.lq_track.specs.Database.{Database, has_twin_rows}
+use Rattle.lq_turns.specs.Contents.{Contents, contents_of}
+use Rattle.lq_turns.specs.Printed.{printed as statements_run, printed_of}
+use Rattle.lq_turns.specs.Rest.{OfSets}
+use Rattle.lq_turns.specs.Script.{has_work}
+use Rattle.lq_turns.specs.Session.{session_on}
+use Rattle.lq_turns.specs.Set.{Meaning, Set}
+use Rattle.lq_turns.specs.Settle.{Settled, all_settled, and_then, by_own, choice_of, greatest, is_halt, nothing_done, own_choice, settled_by, unless_stopped, what}
+use Rattle.lq_turns.specs.declared.choice.Choice.{Choice}
+use Rattle.lq_turns.specs.declared.choice.Choice.TheVariants as choice
+use Rattle.lq_turns.specs.declared.choice.What.{What}
+use Rattle.lq_turns.specs.declared.stamp.Stamp.{Stamp}
+use Rattle.lq_turns.specs.declared.stop.Stop.{Stop}
+use Rattle.lq_commands.proofs.Endings.{works_by, works_nothing}
+use Rattle.lq_commands.proofs.LoadedTexts.{view_has}
+use Rattle.lq_commands.proofs.Planned.{no_update, no_work, update_is, update_may}
+use Rattle.lq_commands.specs.Refusals.{Answers, IsFault, Passes, ends, if_halts, own_halt, refusal, unready}
+use Rattle.lq_commands.specs.Scripts.{log_in, nothing_told, sets_in, settled_in, update_script}
+use Rattle.lq_commands.specs.Tells.{HasTold, IfFinished, TellsUpdate, status_by, stop_by, update_output}
+use Rattle.lq_commands.specs.Turns.{MayTurn, turns_script}
+use Rattle.lq_commands.specs.Works.{CrashesIn, IsReady, OnIts, Works, is_finished, is_whole}
+use Rattle.lq_commands.specs.declared.given.Given.{Given}
+
+not_true : false ≡ true → ⊥
+not_true h = Prim.cc
+
+true_not : true ≡ false → ⊥
+true_not h = Prim.cc
+
+pub not_both : (b : Bool) → b ≡ true → b ≡ false → ⊥
+not_both b holds fails = true_not (sym holds ∙ fails)
+
+-- on the database of a store
+
+pub ok_on_its : (d : Dialect) (x : State) (r : Result Done Status) (holds : Done → Database → Type 0) → ((database : Database) → HasDatabase d x database → IfOk r (λ (done : Done). holds done database))
+    → IfOk r (λ (done : Done). OnIts d x (λ (database : Database). holds done database))
+ok_on_its d x (Ok done) holds all = all
+ok_on_its d x (Err s) holds all = tt
+
+-- how a run answers
+
+pub answers_done : (r : Result Done Status) → IfErr r (λ (s : Status). s ≡ status.OutOfMemory) → IfOk r (λ (done : Done). done.status ≡ status.Done) → Answers None r
+answers_done (Ok done) err ok = ap ends ok
+answers_done (Err s) err ok = inr err
+
+pub answers_end : (r : Result Done Status) → IfErr r IsFault → IfOk r (λ (done : Done). ends done.status ≡ true) → Answers None r
+answers_end (Ok done) err ok = ok
+answers_end (Err s) err ok = err
+
+is_memory : (s : Status) → s ≡ status.OutOfMemory → (let r : Result Done Status = Err s in r) ≡ Err status.DiskFault → ⊥
+is_memory s is disk = Prim.cc
+
+ok_disk : (done : Done) → (let r : Result Done Status = Ok done in r) ≡ Err status.DiskFault → ⊥
+ok_disk done disk = Prim.cc
+
+pub no_disk : (r : Result Done Status) → IfErr r (λ (s : Status). s ≡ status.OutOfMemory) → r ≡ Err status.DiskFault → ⊥
+no_disk (Ok done) err disk = ok_disk done disk
+no_disk (Err s) err disk = is_memory s err disk
+
+pub answers_so : (a : Option Status) (r : Result Done Status) → a ≡ None → Answers None r → Answers a r
+answers_so a r is answers = subst (λ o. Answers o r) (sym is) answers
+
+-- a command that no check refuses
+
+pub passed : {A : Type 0} (a : Option Status) (x : A) → Passes a (Ok x) → a ≡ None
+passed None x passes = refl
+passed (Some refused) x passes = absurd passes
+
+failed_so : (a : Option Status) (s : Status) → IsFault s → Answers a (Err s)
+failed_so None s is = is
+failed_so (Some refused) s is = inr is
+
+-- an answer that is a fault
+module _ (r : Result Done Status) (s : Status) (is : r ≡ Err s) where
+  err_answers : (a : Option Status) → Answers a (Err s) → Answers a r
+  err_answers a answers = subst (λ (q : Result Done Status). Answers a q) (sym is) answers
+
+-- one that a check refuses
+
+refused_first : (A : Type 0) (a b : Option Status) (s : Status) → Passes {A = A} a (Err s) → Answers (option_or a b) (Err s)
+refused_first A None b s is = failed_so b s (inr is)
+refused_first A (Some refused) b s (inl is) = inl is
+refused_first A (Some refused) b s (inr is) = inr (inr is)
+
+refused_alone : (A : Type 0) (b : Option Status) (s : Status) → Passes {A = A} b (Err s) → Answers b (Err s)
+refused_alone A None s is = inr is
+refused_alone A (Some refused) s (inl is) = inl is
+refused_alone A (Some refused) s (inr is) = inr (inr is)
+
+module _ (given : Given) (database : Database) (r : Result Done Status) (s : Status) (is : r ≡ Err s) where
+  abbrev first : Option Status
+  first = unready given database
+
+  abbrev second : Option Status
+  second = own_halt given database
+
+  -- by the lock, or the rows
+  module _ (passes : Passes {A = List Tracked} first (Err s)) where
+    pub rows_answers : Answers (refusal command.Update given database) r
+    rows_answers = err_answers r s is (option_or first second) (refused_first (List Tracked) first second s passes)
+
+  -- by the changelog's own precondition
+  module _ (ready : first ≡ None) (passes : Passes {A = Option Why} second (Err s)) where
+    pub own_answers : Answers (refusal command.Update given database) r
+    own_answers = err_answers r s is (option_or first second) (subst (λ (o : Option Status). Answers (option_or o second) (Err s)) (sym ready) (refused_alone (Option Why) second s passes))
+
+-- changesets without a turn settle nothing, and nothing is printed of them
+
+module _ (d : Dialect) (m : Meaning AnyChange) (reading : ℕ) where
+  pub none_settled : (xs : List (Set AnyChange)) (c : Contents) → has_work xs c.rows ≡ false → all_settled d m reading xs c ≡ nothing_done c
+  none_settled [] c none = refl
+  none_settled (x ∷ xs) c none = by (what x c.rows) refl (none_settled xs c) where
+    by : (o : Option What) → what x c.rows ≡ o → (has_work xs c.rows ≡ false → all_settled d m reading xs c ≡ nothing_done c) → all_settled d m reading (x ∷ xs) c ≡ nothing_done c
+    by None is more =
+        ap (λ (o : Option What). unless_stopped (settled_by d m reading x c (choice_of x c o)) (all_settled d m reading xs)) is
+        ∙ ap (and_then (nothing_done c)) (more (sym (ap (λ (o : Option What). is_some o || has_work xs c.rows) is) ∙ none))
+    by (Some w) is more = absurd (true_not (sym (ap (λ (o : Option What). is_some o || has_work xs c.rows) is) ∙ none))
+
+  abbrev then_printed : List (Set AnyChange) → Contents → Option Stop → List (Identity × List Statement)
+  then_printed xs c None = statements_run d m reading xs c
+  then_printed xs c (Some stop) = []
+
+  -- what is printed of a changeset by what it settles, and of those behind it
+  abbrev printed_by : Set AnyChange → List (Set AnyChange) → Settled → List (Identity × List Statement)
+  printed_by x xs s = printed_of d m reading x s ++ then_printed xs s.contents s.stop
+
+  pub none_printed : (xs : List (Set AnyChange)) (c : Contents) → has_work xs c.rows ≡ false → statements_run d m reading xs c ≡ []
+  none_printed [] c none = refl
+  none_printed (x ∷ xs) c none = by (what x c.rows) refl (none_printed xs c) where
+    by : (o : Option What) → what x c.rows ≡ o → (has_work xs c.rows ≡ false → statements_run d m reading xs c ≡ []) → statements_run d m reading (x ∷ xs) c ≡ []
+    by None is more =
+        ap (λ (o : Option What). printed_by x xs (settled_by d m reading x c (choice_of x c o))) is
+        ∙ more (sym (ap (λ (o : Option What). is_some o || has_work xs c.rows) is) ∙ none)
+    by (Some w) is more = absurd (true_not (sym (ap (λ (o : Option What). is_some o || has_work xs c.rows) is) ∙ none))
+
+abbrev account_of : Settled → List Printed → Account
+account_of s texts = record { settled = s; printed = texts }
+
+account_is : (s t : Settled) (ps qs : List Printed) → s ≡ t → ps ≡ qs → account_of s ps ≡ account_of t qs
+account_is s t ps qs same texts = ap (λ (u : Settled). account_of u ps) same ∙ ap (λ (us : List Printed). account_of t us) texts
+
+none_within : (most : ℕ) → 0 ≡ min 0 most
+none_within most = omega arith
+
+-- the output of an update that came to its end
+abbrev update_said : Bool → List Happened → ℕ → List Printed → Option (List ℕ)
+update_said prints happened not_fresh texts = Some (update_output prints happened not_fresh texts)
+
+module _ (given : Given) (rows : List Tracked) (database : Database) (same : database.rows ≡ rows) (items : List Item) (is : items ≡ work_from 0 (sets_in given) rows) (none : items ≡ []) where
+  no_turn : has_work (sets_in given) database.rows ≡ false
+  no_turn = ap (has_work (sets_in given)) same ∙ no_work rows 0 (sets_in given) (sym is ∙ none)
+
+  pub idle_works : (x : State) (r : Result Done Status) → HasDatabase given.options.dialect x database → Works given.options.dialect (update_script given database) database x r x
+  idle_works x r has = subst (λ calls. Works given.options.dialect calls database x r x) (sym (no_update given database no_turn)) (works_nothing given.options.dialect database x r has)
+
+  abbrev idle : Settled
+  idle = all_settled given.options.dialect any_meaning given.stamp.reading (sets_in given) (contents_of database)
+
+  abbrev none_ran : List (Identity × List Statement)
+  none_ran = statements_run given.options.dialect any_meaning given.stamp.reading (sets_in given) (contents_of database)
+
+  no_texts : (prints : Bool) → shown prints given.options.dialect none_ran ≡ []
+  no_texts prints =
+      ap (λ (ran : List (Identity × List Statement)). shown prints given.options.dialect ran) (none_printed given.options.dialect any_meaning given.stamp.reading (sets_in given) (contents_of database) no_turn)
+      ∙ none_shown prints given.options.dialect
+
+  idle_account : (prints : Bool) → settled_in prints given database ≡ nothing_told (contents_of database)
+  idle_account prints = account_is idle (nothing_done (contents_of database)) (shown prints given.options.dialect none_ran) []
+      (none_settled given.options.dialect any_meaning given.stamp.reading (sets_in given) (contents_of database) no_turn) (no_texts prints)
+
+  pub idle_tells : (prints : Bool) (r : Result Done Status) → IfOk r (λ (done : Done). done.status ≡ status.Done) → IfOk r (λ (done : Done). done.out ≡ Some (update_output prints [] 0 []))
+      → IfOk r (λ (done : Done). IfFinished done (TellsUpdate prints (settled_in prints given database) done))
+  idle_tells prints (Ok done) ended said = λ finished. subst (λ (a : Account). TellsUpdate prints a done) (sym (idle_account prints))
+      (record { status = ended; out = said ∙ ap (λ (n : ℕ). update_said prints [] n []) (none_within (2 ^ 64 - 1)) })
+  idle_tells prints (Err s) ended said = tt
+
+-- the turns of an update
+
+module _ (given : Given) (x : State) (rows : List Tracked) (source : SetTurns) (left : sets_left source ≡ sets_in given) where
+  abbrev d : Dialect
+  d = given.options.dialect
+
+  pub turns_may : (prints : Bool) → IsReady d x → OnIts d x (λ (database : Database). database.rows ≡ rows) → given.stamp.reading ≤ 253402300799999 → AreFor d given.changelog → All HasShortTexts given.changelog.sets
+      → has_work (sets_in given) rows ≡ true → OnIts d x (λ (database : Database). is_halt (own_choice (log_in given) (contents_of database)) ≡ false)
+      → ((e : Dialect) (stamp : Stamp) (c : Contents) → c.rows ≡ rows → greatest rows ≤ 2147483647 → Knows source e stamp (of_sets prints e stamp.reading (sets_in given) c) c)
+      → (database : Database) → HasDatabase d x database → MayTurn d any_meaning given.stamp (OfSets (sets_left source)) (set_way source d given.stamp) database (settled_in prints given database)
+  turns_may prints ready are moment read short some goes knows database has =
+      let same = are database has in
+      let first = are ready.database ready.has in
+      let differ : has_twin_rows database.rows ≡ false = ap has_twin_rows (same ∙ sym first) ∙ ready.is.differ in
+      let small : greatest rows ≤ 2147483647 = subst (λ (rs : List Tracked). greatest rs ≤ 2147483647) first ready.small in
+      record {
+        known = knows d given.stamp (contents_of database) same small;
+        fits = subst (λ (xs : List (Set AnyChange)). calls_fit d (turns_script d any_meaning given.stamp (OfSets xs) database) (session_on database) ≡ true) (sym left)
+            (update_may given database has.committed.sound differ moment read (view_has given.options given.changelog short) (ap (has_work (sets_in given)) same ∙ some) (goes database has));
+      }
+
+  module _ (database : Database) (same : database.rows ≡ rows) (some : has_work (sets_in given) rows ≡ true) (goes : is_halt (own_choice (log_in given) (contents_of database)) ≡ false) where
+    script_is : turns_script d any_meaning given.stamp (OfSets (sets_left source)) database ≡ update_script given database
+    script_is = ap (λ (xs : List (Set AnyChange)). turns_script d any_meaning given.stamp (OfSets xs) database) left ∙ sym (update_is given database (ap (has_work (sets_in given)) same ∙ some) goes)
+
+    pub turns_work : (y : State) (e : End) (r : Result Done Status) → IfOk r (λ (done : Done). is_finished done.status ≡ true → is_whole e ≡ true)
+        → LeavesAs d (turns_script d any_meaning given.stamp (OfSets (sets_left source)) database) database x e y → LeftBehind d (turns_script d any_meaning given.stamp (OfSets (sets_left source)) database) database x y
+        → Works d (update_script given database) database x r y
+    turns_work y e r whole leaves stops =
+        works_by d (update_script given database) database x y e r whole (subst (λ calls. LeavesAs d calls database x e y) script_is leaves) (subst (λ calls. LeftBehind d calls database x y) script_is stops)
+
+    pub turns_crash : (before now : Crashes) → CrashesIn d (turns_script d any_meaning given.stamp (OfSets (sets_left source)) database) database x before now → CrashesIn d (update_script given database) database x before now
+    turns_crash before now crash = subst (λ calls. CrashesIn d calls database x before now) script_is crash
+
+pub sets_told : (s : SetTurns) (d : Dialect) (stamp : Stamp) (told : Account) (e : End) → TellsAs (set_way s d stamp told) e → HasTold s.outcome told e
+sets_told s d stamp told end.Done tells = tells
+sets_told s d stamp told (end.Refused refusal) tells = tells
+sets_told s d stamp told (end.Locked lock) tells = tt
+sets_told s d stamp told end.Disk tells = tt
+sets_told s d stamp told (end.Full used next) tells = tt
+sets_told s d stamp told end.OutOfMemory tells = tt
+
+-- what is told at the end
+pub record AllTold (o : Outcome) (account : Account) (e : End) : Type 0 where
+  pub happened : o.happened ≡ account.settled.happened
+  pub not_fresh : o.not_fresh ≡ bounded account.settled.not_fresh
+  pub stop : stop_by o.halted o.stopped_at e ≡ account.settled.stop
+  pub printed : o.printed ≡ account.printed
+
+pub all_told : (o : Outcome) (account : Account) (e : End) → is_whole e ≡ true → HasTold o account e → AllTold o account e
+all_told o account end.Done whole told = record { happened = told.tells.happened; not_fresh = told.tells.not_fresh; stop = sym told.tells.stop; printed = told.prints }
+all_told o account (end.Refused refusal) whole told = record { happened = told.tells.happened; not_fresh = told.tells.not_fresh; stop = sym told.tells.stop; printed = told.prints }
+all_told o account (end.Locked lock) whole told = absurd (not_true whole)
+all_told o account end.Disk whole told = absurd (not_true whole)
+all_told o account (end.Full used next) whole told = absurd (not_true whole)
+all_told o account end.OutOfMemory whole told = absurd (not_true whole)
+
+pub tells_update : (prints : Bool) (o : Outcome) (account : Account) (e : End) (done : Done) (happened : List Happened) (texts : List Printed) → happened ≡ o.happened → texts ≡ o.printed
+    → (is_finished done.status ≡ true → is_whole e ≡ true) → (is_finished done.status ≡ true → done.status ≡ status_by (stop_by o.halted o.stopped_at e))
+    → (is_finished done.status ≡ true → done.out ≡ Some (update_output prints happened o.not_fresh texts)) → HasTold o account e → IfFinished done (TellsUpdate prints account done)
+tells_update prints o account e done happened texts are printed_are whole is out told = λ finished.
+    let all = all_told o account e (whole finished) told in record {
+      status = is finished ∙ ap status_by all.stop;
+      out = out finished
+          ∙ (ap (λ (hs : List Happened). update_said prints hs o.not_fresh texts) (are ∙ all.happened)
+          ∙ (ap (λ (n : ℕ). update_said prints account.settled.happened n texts) all.not_fresh
+          ∙ ap (λ (ps : List Printed). update_said prints account.settled.happened (bounded account.settled.not_fresh) ps) (printed_are ∙ all.printed)));
+    }
+
+-- without an output it did not come to its end
+pub no_output : (s : Status) → has_output s ≡ false → is_finished s ≡ true → ⊥
+no_output status.Done none finished = true_not none
+no_output (status.Halted place why) none finished = true_not none
+no_output (status.Refused identity statement kept reason) none finished = true_not none
+no_output status.Usage none finished = not_true finished
+no_output status.ReadFault none finished = not_true finished
+no_output (status.Changelog fault) none finished = not_true finished
+no_output (status.Invalid faults) none finished = not_true finished
+no_output (status.Locked lock) none finished = not_true finished
+no_output status.NoTarget none finished = not_true finished
+no_output (status.NotReversible identity) none finished = not_true finished
+no_output status.DiskFault none finished = not_true finished
+no_output (status.Damaged at) none finished = not_true finished
+no_output (status.Full used next) none finished = not_true finished
+no_output status.WriteFault none finished = not_true finished
+no_output status.OutOfMemory none finished = not_true finished
+no_output (status.Busy session) none finished = not_true finished
+
+-- by the changelog's own precondition
+
+pub not_halt : (by : Choice) (own : Option Why) → Passes (if_halts by) (Ok own) → is_halt by ≡ false
+not_halt (choice.Halts why) own passes = absurd passes
+not_halt choice.Passes own passes = refl
+not_halt choice.Fills own passes = refl
+not_halt choice.Skips own passes = refl
+not_halt (choice.Marks w) own passes = refl
+not_halt (choice.Runs w why) own passes = refl
+
+abbrev account_by : Choice → Contents → Account → Account
+account_by by c a = record { settled = by_own by c a.settled; printed = if is_halt by then [] else a.printed }
+
+module _ (prints : Bool) (c : Contents) (a : Account) (before after : Done) (status_is : after.status ≡ before.status) (out_is : after.out ≡ before.out) where
+  carried : TellsUpdate prints a before → TellsUpdate prints a after
+  carried tells = record { status = status_is ∙ tells.status; out = out_is ∙ tells.out }
+
+  own_tells : (by : Choice) → is_halt by ≡ false → TellsUpdate prints a before → TellsUpdate prints (account_by by c a) after
+  own_tells (choice.Halts why) goes tells = absurd (true_not goes)
+  own_tells (choice.Runs w (Some why)) goes tells = let t = carried tells in record { status = t.status; out = t.out }
+  own_tells (choice.Runs w None) goes tells = let t = carried tells in record { status = t.status; out = t.out }
+  own_tells choice.Passes goes tells = let t = carried tells in record { status = t.status; out = t.out }
+  own_tells choice.Fills goes tells = let t = carried tells in record { status = t.status; out = t.out }
+  own_tells choice.Skips goes tells = let t = carried tells in record { status = t.status; out = t.out }
+  own_tells (choice.Marks w) goes tells = let t = carried tells in record { status = t.status; out = t.out }
+
+  pub updated_tells : (by : Choice) → is_halt by ≡ false → IfFinished before (TellsUpdate prints a before) → IfFinished after (TellsUpdate prints (account_by by c a) after)
+  updated_tells by goes tells = λ finished. own_tells by goes (tells (ap is_finished (sym status_is) ∙ finished))

@@ -1,0 +1,33 @@
+use Rattle.std.proofs.Common.{subst}
+use Rattle.std.specs.Prelude.{Option, true}
+use Rattle.lq_cli.specs.declared.line.Job.TheVariants.{UpdateSql}
+use Rattle.lq_tell.specs.declared.status.Status.{Status}
+use Rattle.lq_commands.proofs.Freed.{freed, freed_ready, update_freed, update_tells}
+use Rattle.lq_commands.proofs.Commanded.{answers_end, answers_so}
+use Rattle.lq_commands.proofs.Telling.{on_its_tells, unfinished_tells}
+use Rattle.lq_commands.specs.Refusals.{Answers, print_update}
+use Rattle.lq_commands.specs.Scripts.{updated_in}
+use Rattle.lq_commands.specs.Tells.{IfFinished, TellsUpdate}
+use Rattle.lq_commands.proofs.command.free_and_update.Goals as goal
+
+pub update-requires-clause-ready : goal.update-requires-clause-ready
+update-requires-clause-ready g c = freed_ready c.args.given.options.dialect (g.S.Store.state c.args.store.now) (g.S.Store.state c.free.new.store) c.in-Ok.ensures.leaves c.requires.ready
+
+pub returns-in-Ok-clause-answers : goal.returns-in-Ok-clause-answers
+returns-in-Ok-clause-answers g c = λ database has.
+    subst (λ (refused : Option Status). Answers refused c.update.result) (update_freed c.args.given database)
+    (c.update.ensures.answers (freed c.args.given.options.dialect database) (c.in-Ok.ensures.leaves database has).database_is)
+
+pub returns-in-Ok-clause-tells : goal.returns-in-Ok-clause-tells
+returns-in-Ok-clause-tells g c = λ database has.
+    let given = c.args.given in
+    update_tells given database c.update.result
+    (on_its_tells given.options.dialect (g.S.Store.state c.free.new.store) c.update.result (λ done e. IfFinished done (TellsUpdate true (updated_in true given e) done)) c.update.ensures.tells
+    (freed given.options.dialect database) (c.in-Ok.ensures.leaves database has).database_is)
+
+pub returns-in-Err-clause-answers : goal.returns-in-Err-clause-answers
+returns-in-Err-clause-answers g c = λ database has.
+    answers_so (print_update c.args.given database) c.fault_answer.result (c.requires.passes database has) (answers_end c.fault_answer.result c.fault_answer.ensures.fault c.fault_answer.ensures.ends)
+
+pub returns-in-Err-clause-tells : goal.returns-in-Err-clause-tells
+returns-in-Err-clause-tells g c = λ database has. unfinished_tells UpdateSql c.args.given database c.fault_answer.result c.fault_answer.ensures.unfinished

@@ -1,0 +1,53 @@
+use Rattle.std.proofs.Common.{rules}
+use Rattle.std.specs.Prelude.{Err, ◌≡◌}
+use Rattle.lq_turns.specs.Contents.{contents_of}
+use Rattle.lq_turns.specs.Settle.{own_choice}
+use Rattle.lq_commands.proofs.Endings.{untouched_crashes, untouched_works, works_left, works_same}
+use Rattle.lq_commands.proofs.Updated.{not_halt, own_answers, passed, rows_answers, updated_tells}
+use Rattle.lq_commands.specs.Refusals.{unready}
+use Rattle.lq_commands.specs.Scripts.{log_in, settled_in, update_script}
+use Rattle.lq_commands.proofs.update.update.Goals as goal
+
+pub returns-in_err-rows-clause-answers : goal.returns-in_err-rows-clause-answers
+returns-in_err-rows-clause-answers g c = λ database has.
+    let is : c.from_residual.result ≡ Err c.in_err-rows.field-0.0 = search rules in
+    rows_answers c.args.given database c.from_residual.result c.in_err-rows.field-0.0 is (c.in_err-rows.ensures.passes database has)
+
+pub returns-in_err-own-clause-answers : goal.returns-in_err-own-clause-answers
+returns-in_err-own-clause-answers g c = λ database has.
+    let is : c.from_residual-in_err-own.result ≡ Err c.in_err-own.field-0.0 = search rules in
+    own_answers c.args.given database c.from_residual-in_err-own.result c.in_err-own.field-0.0 is (passed (unready c.args.given database) c.in_ok-rows.rows (c.in_ok-rows.ensures.passes database has)) (c.in_err-own.ensures database has)
+
+pub returns-in_err-rows-clause-works : goal.returns-in_err-rows-clause-works
+returns-in_err-rows-clause-works g c = λ database has.
+    let is : c.from_residual.result ≡ Err c.in_err-rows.field-0.0 = search rules in
+    untouched_works c.args.given.options.dialect (update_script c.args.given database) database (g.S.Store.state c.args.store.now) c.from_residual.result c.in_err-rows.field-0.0 is has
+
+pub returns-in_err-rows-clause-any_moment : goal.returns-in_err-rows-clause-any_moment
+returns-in_err-rows-clause-any_moment g c = λ database has. untouched_crashes c.args.given.options.dialect (update_script c.args.given database) database (g.S.Store.state c.args.store.now) (g.S.Store.crashes c.args.store.now)
+
+pub returns-in_err-own-clause-works : goal.returns-in_err-own-clause-works
+returns-in_err-own-clause-works g c = λ database has.
+    let is : c.from_residual-in_err-own.result ≡ Err c.in_err-own.field-0.0 = search rules in
+    untouched_works c.args.given.options.dialect (update_script c.args.given database) database (g.S.Store.state c.args.store.now) c.from_residual-in_err-own.result c.in_err-own.field-0.0 is has
+
+pub returns-in_err-own-clause-any_moment : goal.returns-in_err-own-clause-any_moment
+returns-in_err-own-clause-any_moment g c = λ database has. untouched_crashes c.args.given.options.dialect (update_script c.args.given database) database (g.S.Store.state c.args.store.now) (g.S.Store.crashes c.args.store.now)
+
+pub update_on-requires-clause-goes : goal.update_on-requires-clause-goes
+update_on-requires-clause-goes g c = λ database has. not_halt (own_choice (log_in c.args.given) (contents_of database)) c.in_ok-own.own (c.in_ok-own.ensures database has)
+
+pub returns-clause-tells : goal.returns-clause-tells
+returns-clause-tells g c = λ database has.
+    let by = own_choice (log_in c.args.given) (contents_of database) in
+    updated_tells c.args.prints (contents_of database) (settled_in c.args.prints c.args.given database) c.in_ok-done.done c.with_own.result c.with_own.ensures.status c.with_own.ensures.out by
+    (not_halt by c.in_ok-own.own (c.in_ok-own.ensures database has)) (c.in_ok-done.ensures.tells database has)
+
+pub returns-in_err-done-clause-works : goal.returns-in_err-done-clause-works
+returns-in_err-done-clause-works g c = λ database has.
+    let is : c.from_residual-in_err-done.result ≡ Err c.in_err-done.field-0.0 = search rules in
+    works_left c.args.given.options.dialect (update_script c.args.given database) database (g.S.Store.state c.args.store.now) (g.S.Store.state c.update_on.new.store) c.from_residual-in_err-done.result c.in_err-done.field-0.0 is (c.in_err-done.ensures.works database has)
+
+pub returns-clause-works : goal.returns-clause-works
+returns-clause-works g c = λ database has.
+    works_same c.args.given.options.dialect (update_script c.args.given database) database (g.S.Store.state c.args.store.now) (g.S.Store.state c.update_on.new.store) c.in_ok-done.done c.with_own.result c.with_own.ensures.status (c.in_ok-done.ensures.works database has)

@@ -1,0 +1,13 @@
+pub mod AtOnce
+pub mod Inserts
+pub mod Kinds
+pub mod Outputs
+pub mod Reading
+pub mod Refusals
+pub mod Scripts
+pub mod Stamp
+pub mod Stopping
+pub mod Tells
+pub mod Turns
+pub mod Who
+pub mod Works

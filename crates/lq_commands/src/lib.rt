@@ -1,0 +1,22 @@
+//! What each command does on a store: its checks, its calls, and what it tells.
+#![tactic(auto)]
+
+mod checks;
+mod command;
+mod given;
+mod listing;
+mod one_turn;
+mod release;
+mod rollback;
+mod running;
+mod stamp;
+mod stopping;
+mod sync;
+mod tag;
+mod update;
+mod who;
+
+pub use command::{print_rollback, print_update, run_command};
+pub use given::{Asked, Given, SESSION, stamped};
+pub use stamp::{numbered_stamp, stamp_of};
+pub use who::clean;

@@ -1,0 +1,29 @@
+ghost use Rattle.std.specs.Prelude.{◌≡◌, IfOk, string_bytes};
+ghost use Rattle.lq_commands.specs.Who.{clean, kept};
+
+use lq_base::{NoMemory, Text};
+use std::alloc::{AllocError, Global};
+
+/// Who runs the command, as the tracking tables name it: each `|` and each control character is `_`,
+/// any other stays. It fails only for want of memory.
+pub fn clean(alloc: Global, who: &str) -> Result<Text, NoMemory>
+    ensures { IfOk result (λ text. text ≡ clean who.now) }
+{
+    let text = cleaned(alloc, who)?;
+    Text::new(alloc, text.as_str())
+}
+
+fn cleaned(alloc: Global, who: &str) -> Result<String, AllocError>
+    ensures { IfOk result (λ text. string_bytes text ≡ clean who.now) }
+{
+    who.chars().map(kept).collect(alloc)
+}
+
+fn kept(character: char) -> char
+    ensures { result ≡ kept character }
+{
+    match character {
+        '\0'..='\u{1f}' | '\u{7f}' | '|' => '_',
+        _ => character,
+    }
+}

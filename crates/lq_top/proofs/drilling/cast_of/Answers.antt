@@ -1,0 +1,12 @@
+use Rattle.std.proofs.Common.{rules, subst, sym}
+use Rattle.std.specs.Prelude.{Err, length, ◌≡◌}
+use Rattle.lq_commands.specs.Who.{clean}
+use Rattle.lq_top.proofs.Readings.{unread}
+use Rattle.lq_top.proofs.drilling.cast_of.Goals as goal
+use Rattle.lq_top.specs.Players.{Begun}
+
+pub returns-in_err-name : goal.returns-in_err-name
+returns-in_err-name g c =
+    let coming = g.C.Clock.to_come c.args.clock.now in
+    let is : c.from_residual.result ≡ Err c.in_err-name.field-0.0 = search rules in
+    record { begun = subst (Begun c.args.dialect (clean c.args.who.now) c.args.entrants coming coming) (sym is) (unread (length c.args.entrants) coming) }
