@@ -16,6 +16,8 @@ mod faults;
 #[cfg(test)]
 mod fresh;
 #[cfg(test)]
+mod full;
+#[cfg(test)]
 mod refusals;
 #[cfg(test)]
 mod running;
