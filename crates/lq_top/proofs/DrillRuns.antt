@@ -3,6 +3,7 @@ use Rattle.std.proofs.Common.{ap, inl, inr, subst, sym, ◌∙◌}
 use Rattle.std.specs.Option.{option_map}
 use Rattle.std.specs.Prelude.{Bool, Err, List, Ok, Option, Result, Some, false, length, true, ℕ, ◌++◌, ◌≡◌, ◌≤◌, ◌⊎◌}
 use Rattle.lq_base.specs.declared.dialect.Dialect.{Dialect}
+use Rattle.lq_outside.specs.Sink.{IsPart}
 use Rattle.lq_outside.specs.Crash.{Crashes as DiskCrashes, Settled}
 use Rattle.lq_tell.specs.Texts.{EndsAs, has_output, out_text, text_or_none}
 use Rattle.lq_tell.specs.declared.done.Done.{Done}
@@ -44,12 +45,12 @@ module _ (d : Dialect) (who : List ℕ) (drill : Drilling) (readings : List ℕ)
   -- it came to its end
 
   ok_ends : (done : Done) (s : Status) → done.status ≡ status.Done → EndsAs done.status s → (went : Went d who drill readings before after c e) → done.out ≡ Some (told_text drill went.answers)
-      → (has_output s ≡ true → written ≡ option_map (λ (o : List ℕ). o ++ text_or_none done.out) out) → DrillEnds d who drill readings before c s after e out written
-  ok_ends done s is (inl same) went text whole =
+      → (has_output s ≡ true → written ≡ option_map (λ (o : List ℕ). o ++ text_or_none done.out) out) → IsPart (text_or_none done.out) out written → DrillEnds d who drill readings before c s after e out written
+  ok_ends done s is (inl same) went text whole part =
       let at = same ∙ is in
       subst (λ s. DrillEnds d who drill readings before c s after e out written) (sym at) (went, whole (ap has_output at) ∙ ap (λ t. option_map (λ (o : List ℕ). o ++ text_or_none t) out) text)
-  ok_ends done s is (inr (inl memory)) went text whole = subst (λ s. DrillEnds d who drill readings before c s after e out written) (sym memory) (inr went)
-  ok_ends done s is (inr (inr write)) went text whole = subst (λ s. DrillEnds d who drill readings before c s after e out written) (sym write) went
+  ok_ends done s is (inr (inl memory)) went text whole part = subst (λ s. DrillEnds d who drill readings before c s after e out written) (sym memory) (inr went)
+  ok_ends done s is (inr (inr write)) went text whole part = subst (λ s. DrillEnds d who drill readings before c s after e out written) (sym write) (went, subst (λ (t : Option (List ℕ)). IsPart (text_or_none t) out written) text part)
 
   -- or it did not
 
@@ -82,9 +83,9 @@ module _ (d : Dialect) (who : List ℕ) (drill : Drilling) (readings : List ℕ)
   err_ends x s kind (inl same) part = subst (λ s. DrillEnds d who drill readings before c s after e out written) (sym same) (kind_ends x kind part)
   err_ends x s kind (inr memory) part = subst (λ s. DrillEnds d who drill readings before c s after e out written) (sym memory) part
 
-  pub ends_as : (done : Result Done Status) (s : Status) → IsWritten done s → IsOfDrill done → Drills d who drill readings before c done after e → (has_output s ≡ true → written ≡ option_map (λ (o : List ℕ). o ++ out_text done) out) → DrillEnds d who drill readings before c s after e out written
-  ends_as (Ok done) s by kind drills whole = ok_ends done s drills.0 by.ended drills.1.0 drills.1.1 whole
-  ends_as (Err x) s by kind drills whole = err_ends x s kind (failed_ends (Err x) x s by Prim.cc) drills
+  pub ends_as : (done : Result Done Status) (s : Status) → IsWritten done s → IsOfDrill done → Drills d who drill readings before c done after e → (has_output s ≡ true → written ≡ option_map (λ (o : List ℕ). o ++ out_text done) out) → IsPart (out_text done) out written → DrillEnds d who drill readings before c s after e out written
+  ends_as (Ok done) s by kind drills whole part = ok_ends done s drills.0 by.ended drills.1.0 drills.1.1 whole part
+  ends_as (Err x) s by kind drills whole part = err_ends x s kind (failed_ends (Err x) x s by Prim.cc) drills
 
 undrilled : (x : Status) → is_of_drill x ≡ true → has_drilled x ≡ true → ⊥
 undrilled status.DiskFault kind has = false_true has
@@ -114,12 +115,12 @@ safe_as (Ok done) s file crashes by kind settled has = settled
 safe_as (Err x) s file crashes by kind settled has = absurd (err_undrilled x s kind (failed_ends (Err x) x s by Prim.cc) has)
 
 pub runs_drill : {words : List (List ℕ)} {files : Files} (asks : AsksDrill words files) (who : List ℕ) (coming left before : Option (List ℕ)) (c : DiskCrashes) (done : Result Done Status) (s : Status) (after : Option (List ℕ)) (e : DiskCrashes) (out written : Option (List ℕ)) → IsWritten done s
-    → DoesDrill asks.line.options.dialect who asks.drill coming left before c done after e → (has_output s ≡ true → written ≡ option_map (λ (o : List ℕ). o ++ out_text done) out) → SettledAs done after e
+    → DoesDrill asks.line.options.dialect who asks.drill coming left before c done after e → (has_output s ≡ true → written ≡ option_map (λ (o : List ℕ). o ++ out_text done) out) → IsPart (out_text done) out written → SettledAs done after e
     → RunsDrill asks who coming left before c s after e out written
-runs_drill asks who coming left before c done s after e out written by does whole settled = record {
+runs_drill asks who coming left before c done s after e out written by does whole part settled = record {
   readings = does.readings;
   read = does.read;
   few = does.few;
-  ends = ends_as asks.line.options.dialect who asks.drill does.readings before c after e out written done s by does.kind does.drills whole;
+  ends = ends_as asks.line.options.dialect who asks.drill does.readings before c after e out written done s by does.kind does.drills whole part;
   safe = safe_as done s after e by does.kind settled;
 }

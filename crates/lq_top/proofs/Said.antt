@@ -20,6 +20,7 @@ use Rattle.lq_commands.specs.Tells.{TellsRollback, TellsUpdate, status_by, updat
 use Rattle.lq_commands.specs.Works.{is_finished}
 use Rattle.lq_commands.specs.declared.given.Given.{Given}
 use Rattle.lq_kinds.specs.declared.any_change.AnyChange.{AnyChange}
+use Rattle.lq_outside.specs.Sink.{IsPart}
 use Rattle.lq_report.specs.Output.{sync_text, tagged_text, validated_text}
 use Rattle.lq_seen.specs.Printing.{Account, of_turns}
 use Rattle.lq_seen.specs.View.{any_meaning}
@@ -50,7 +51,7 @@ use Rattle.lq_top.specs.Bytes.{OnFile}
 use Rattle.lq_top.specs.Headline.{GoesBack, IsTaken, is_taken}
 use Rattle.lq_top.specs.Jobs.{DoesJob, DoesLine, is_on_file, job_refusal}
 use Rattle.lq_top.specs.Run.{EndsBy, Runs, given_by, is_end}
-use Rattle.lq_top.specs.Says.{Said, Says, SaysJob, SaysRollback, SaysUpdate, unless_refused}
+use Rattle.lq_top.specs.Says.{Said, SaidInPart, Says, SaysJob, SaysRollback, SaysUpdate, unless_refused}
 
 some_none : {s : Status} → (let o : Option Status = Some s in o) ≡ None → ⊥
 some_none h = Prim.cc
@@ -206,6 +207,17 @@ says_line (Soak number sets) given file left done s before after ended does whol
 pub has_said : {words : List (List ℕ)} {files : Files} (asks : Asks words files) (stamp : Stamp) (file left : Option (List ℕ)) (done : Result Done Status) (s : Status) (before after : Option (List ℕ)) → IsWritten done s
     → DoesLine asks.line.job (given_by asks stamp) file done left → (has_output s ≡ true → after ≡ option_map (λ (out : List ℕ). out ++ out_text done) before) → Said asks stamp file s before after
 has_said asks stamp file left done s before after by does whole = says_line asks.line.job (given_by asks stamp) file left done s before after by.ended does whole
+
+-- the same of the text that the output would have got
+pub said_in_part : {words : List (List ℕ)} {files : Files} (asks : Asks words files) (stamp : Stamp) (file left : Option (List ℕ)) (done : Result Done Status) (before after : Option (List ℕ)) → DoesLine asks.line.job (given_by asks stamp) file done left
+    → is_finished (status_done done) ≡ true → IsPart (out_text done) before after → SaidInPart asks stamp file before after
+said_in_part asks stamp file left done before after does finished part = record {
+  wanted = status_done done;
+  finished = finished;
+  text = out_text done;
+  said = says_line asks.line.job (given_by asks stamp) file left done (status_done done) before (option_map (λ (out : List ℕ). out ++ out_text done) before) (inl refl) does (λ has. refl);
+  part = part;
+}
 
 -- turns that all finish do not stop
 

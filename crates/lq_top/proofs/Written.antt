@@ -21,6 +21,7 @@ use Rattle.lq_sources.specs.declared.fault.LoadFault.{LoadFault}
 use Rattle.lq_sources.specs.declared.fault.LoadFault.TheVariants as load
 use Rattle.lq_seen.specs.View.{any_meaning}
 use Rattle.lq_tell.specs.Lines.{status_lines, warning_lines}
+use Rattle.lq_outside.specs.Sink.{IsPart}
 use Rattle.lq_tell.specs.Log.{log_text, stands_alone, warnings_of}
 use Rattle.lq_tell.specs.Texts.{EndsAs, has_output, out_of, status_done}
 use Rattle.lq_tell.specs.declared.done.Done.{Done}
@@ -47,7 +48,7 @@ use Rattle.lq_top.specs.Bytes.{Becomes, IsLeftOn, OnFile, Opens, TellsDamage}
 use Rattle.lq_top.specs.Headline.{GoesBack, GoneBack, HasSynced, HasUpdated}
 use Rattle.lq_top.specs.Jobs.{DoesJob, DoesLine, is_on_file, job_refusal, job_script}
 use Rattle.lq_top.specs.Kinds.{IsNotLoaded, IsOfFiles, IsOfWords, is_unwritten}
-use Rattle.lq_top.specs.Run.{EndsBy, EndsUnread, IsDamage, IsLogged, IsOutside, IsUnread, Runs, RunsJob, given_by, is_end, is_over}
+use Rattle.lq_top.specs.Run.{EndsBy, EndsUnread, IsDamage, IsLogged, IsLoggedInPart, IsOutside, IsUnread, Runs, RunsJob, given_by, is_end, is_over}
 
 pub false_true : false ≡ true → ⊥
 false_true h = Prim.cc
@@ -508,6 +509,15 @@ is_logged tag asked done s before after by tagged is =
       it.1,
       is ∙ ap (λ (lines : List ℕ). option_map (λ (log : List ℕ). log ++ lines) before)
           (ap (λ (warned : List ℕ). warned ++ status_lines tag s) it.2 ∙ ap (λ (lines : List ℕ). warning_lines it.0 it.1 ++ lines) (lines_same tag asked done s by.ended tagged)),
+    )
+
+pub is_logged_part : (tag asked : Option (List ℕ)) (done : Result Done Status) (s : Status) (before after : Option (List ℕ)) → IsWritten done s → (tag ≡ asked) ⊎ (done ≡ Err status.OutOfMemory)
+    → IsPart (log_text tag done s) before after → IsLoggedInPart asked s before after
+is_logged_part tag asked done s before after by tagged part =
+    let it = log_parts done (stands_alone s) in (
+      it.0,
+      it.1,
+      subst (λ (lines : List ℕ). IsPart lines before after) (ap (λ (warned : List ℕ). warned ++ status_lines tag s) it.2 ∙ ap (λ (lines : List ℕ). warning_lines it.0 it.1 ++ lines) (lines_same tag asked done s by.ended tagged)) part,
     )
 
 -- the tag as it was passed on

@@ -16,6 +16,7 @@ use Rattle.lq_drill.specs.Shows.{entries_of}
 use Rattle.lq_kinds.specs.Dialects.{AreFor}
 use Rattle.lq_kinds.specs.declared.any_change.AnyChange.{AnyChange}
 use Rattle.lq_outside.specs.Crash.{Crashes as DiskCrashes, Settled}
+use Rattle.lq_outside.specs.Sink.{IsPart}
 use Rattle.lq_players.specs.Answers.{failure_of}
 use Rattle.lq_players.specs.AtOnce.{HasShortTag}
 use Rattle.lq_players.specs.Drilling.{BeginInTurn, NoneReleases, works}
@@ -258,10 +259,10 @@ pub record AsksDrill (words : List (List ℕ)) (files : Files) : Type 0 where
   pub drill : Drilling
   pub gives : drill_of source line.options.dialect line.path runs ≡ Ok (Some drill)
 
--- what a drill comes to: its text is written behind what stood in the output
+-- what a drill comes to: its text is written behind what stood in the output, or a front of it where that fails
 abbrev pub DrillEnds : Dialect → List ℕ → Drilling → List ℕ → Option (List ℕ) → DiskCrashes → Status → Option (List ℕ) → DiskCrashes → Option (List ℕ) → Option (List ℕ) → Type 0
 DrillEnds d who drill readings before c status.Done after e out written = (went : Went d who drill readings before after c e) × (written ≡ option_map (λ out. out ++ told_text drill went.answers) out)
-DrillEnds d who drill readings before c status.WriteFault after e out written = Went d who drill readings before after c e
+DrillEnds d who drill readings before c status.WriteFault after e out written = (went : Went d who drill readings before after c e) × IsPart (told_text drill went.answers) out written
 DrillEnds d who drill readings before c (status.Full used next) after e out written = IsIdle d before after c e ⊎ Went d who drill readings before after c e
 DrillEnds d who drill readings before c status.DiskFault after e out written = IsIdle d before after c e ⊎ Went d who drill readings before after c e
 DrillEnds d who drill readings before c status.OutOfMemory after e out written = IsIdle d before after c e ⊎ Went d who drill readings before after c e

@@ -8,6 +8,7 @@ use Rattle.lq_commands.specs.Works.{IsKept, is_finished}
 use Rattle.lq_commands.specs.declared.given.Given.{Given}
 use Rattle.lq_db.specs.Load.{catalogue_of}
 use Rattle.lq_outside.specs.Crash.{Crashes as DiskCrashes, Settled}
+use Rattle.lq_outside.specs.Sink.{IsPart}
 use Rattle.lq_sources.specs.declared.fault.LoadFault.{LoadFault}
 use Rattle.lq_tell.specs.Lines.{status_lines, warning_lines}
 use Rattle.lq_tell.specs.declared.status.Status.{Status}
@@ -85,3 +86,7 @@ EndsUnread fault s = (s ≡ file_status fault) ⊎ (s ≡ status.ReadFault) ⊎ 
 -- the log has the lines of the status behind those of warnings
 abbrev pub IsLogged : Option (List ℕ) → Status → Option (List ℕ) → Option (List ℕ) → Type 0
 IsLogged tag s before after = (own : Option Why) × (warned : List (Option Identity × Why)) × (after ≡ option_map (λ log. log ++ (warning_lines own warned ++ status_lines tag s)) before)
+
+-- the log got a front of them, all or none included
+abbrev pub IsLoggedInPart : Option (List ℕ) → Status → Option (List ℕ) → Option (List ℕ) → Type 0
+IsLoggedInPart tag s before after = (own : Option Why) × (warned : List (Option Identity × Why)) × IsPart (warning_lines own warned ++ status_lines tag s) before after

@@ -11,6 +11,7 @@ use Rattle.lq_commands.specs.Scripts.{updated_in}
 use Rattle.lq_commands.specs.Tells.{rollback_told, status_by, update_told}
 use Rattle.lq_commands.specs.Works.{is_finished}
 use Rattle.lq_commands.specs.declared.given.Given.{Given}
+use Rattle.lq_outside.specs.Sink.{IsPart}
 use Rattle.lq_report.specs.Output.{sync_text}
 use Rattle.lq_tell.specs.declared.status.Status.{Status}
 use Rattle.lq_track.specs.Database.{Database}
@@ -51,3 +52,11 @@ SaysJob _ given database s before after = Unit {0}
 -- on each file that holds a database, where the command came to its end and its text was written
 abbrev pub Said : {words : List (List ℕ)} {files : Files} → Asks words files → Stamp → Option (List ℕ) → Status → Option (List ℕ) → Option (List ℕ) → Type 0
 Said asks stamp told s before after = OnFile asks.line.options.dialect told (λ database. is_finished s ≡ true → SaysJob asks.line.job (given_by asks stamp) database s before after)
+
+-- The output failed: it got a front of the text with which the command would have come to its end, with this status.
+pub record SaidInPart {words : List (List ℕ)} {files : Files} (asks : Asks words files) (stamp : Stamp) (told before after : Option (List ℕ)) : Type 0 where
+  pub wanted : Status
+  pub finished : is_finished wanted ≡ true
+  pub text : List ℕ
+  pub said : Said asks stamp told wanted before (option_map (λ (out : List ℕ). out ++ text) before)
+  pub part : IsPart text before after

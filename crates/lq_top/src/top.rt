@@ -17,8 +17,8 @@ ghost use Rattle.lq_top.specs.Drilled.{AsksDrill, RunsDrill};
 ghost use Rattle.lq_top.specs.Headline.{GoesBack, GoneBack, HasSynced, HasUpdated, IsTaken};
 ghost use Rattle.lq_top.specs.Jobs.{is_apart};
 ghost use Rattle.lq_top.specs.Resumed.{LeavesMarked, RollbackResumes, UpdateResumes};
-ghost use Rattle.lq_top.specs.Run.{Crashes, EndsUnread, IsDamage, IsLogged, IsSafe, IsUnread, Runs};
-ghost use Rattle.lq_top.specs.Says.{Said};
+ghost use Rattle.lq_top.specs.Run.{Crashes, EndsUnread, IsDamage, IsLogged, IsLoggedInPart, IsSafe, IsUnread, Runs};
+ghost use Rattle.lq_top.specs.Says.{Said, SaidInPart};
 
 use crate::work::{Ending, work};
 use lq_base::Text;
@@ -73,6 +73,9 @@ pub fn run<F: Files, D: Disk, C: Clock, O: Sink, L: Sink>(
     // What an update, a rollback and a changelog-sync say that come to their end: by their turns and rows.
     ensures says { (asks : Asks (map (λ word. string_bytes word) words.now) (F.told files.old)) → Said asks (stamp_of who.now (C.last clock.new)) (D.told disk) result.status (O.told out.old) (O.told out.new) }
 
+    // Where the output failed it got a front of that text.
+    ensures says_part { (asks : Asks (map (λ word. string_bytes word) words.now) (F.told files.old)) → result.status ≡ status.WriteFault → SaidInPart asks (stamp_of who.now (C.last clock.new)) (D.told disk) (O.told out.old) (O.told out.new) }
+
     // The headline.
     ensures success { GoesBack (map (λ word. string_bytes word) words.now) (F.told files.old) (D.told disk) → IsTaken result.status }
     ensures rollback { (back : GoesBack (map (λ word. string_bytes word) words.now) (F.told files.old) (D.told disk)) → GoneBack back result.status (D.told result.disk) }
@@ -97,6 +100,7 @@ pub fn run<F: Files, D: Disk, C: Clock, O: Sink, L: Sink>(
     // Without an end in the run there is no output. The log gets the lines of the status, behind those of warnings.
     ensures silent { IsSilent result.status → O.told out.new ≡ O.told out.old }
     ensures logged { (Rose (L.faults log.old) (L.faults log.new) → ⊥) → IsLogged (asked_tag (line_of (map (λ word. string_bytes word) words.now))) result.status (L.told log.old) (L.told log.new) }
+    ensures log_part { IsLoggedInPart (asked_tag (line_of (map (λ word. string_bytes word) words.now))) result.status (L.told log.old) (L.told log.new) }
 {
     let Ending { disk, done, tag } = work(alloc, words, who, files, disk, clock);
     let status = tell(alloc, done, text_of(&tag), out, log);

@@ -1,4 +1,4 @@
-use Rattle.std.proofs.Common.{refl}
+use Rattle.std.proofs.Common.{ap, refl}
 use Rattle.std.specs.Option.{option_copied}
 use Rattle.std.specs.Prelude.{map, string_bytes}
 use Rattle.lq_cli.specs.Line.{line_of}
@@ -6,10 +6,11 @@ use Rattle.lq_commands.specs.Stamp.{stamp_of}
 use Rattle.lq_tell.specs.declared.status.Status.TheVariants as status
 use Rattle.lq_top.proofs.DrillRuns.{ends_formless, runs_drill, settled_as}
 use Rattle.lq_top.proofs.Resumed.{crash_marked, has_gone_on_back, has_resumed, leaves_marked}
-use Rattle.lq_top.proofs.Said.{has_said, succeeds}
-use Rattle.lq_top.proofs.Written.{IsWritten, cause, ends_unread, gone_back, has_run, has_synced, has_updated, is_logged, no_files_left, no_words, tag_so, tells_damage, was_over, written_fault}
+use Rattle.lq_top.proofs.Said.{has_said, said_in_part, succeeds}
+use Rattle.lq_top.proofs.Written.{IsWritten, cause, ends_unread, gone_back, has_run, has_synced, has_updated, is_logged, is_logged_part, no_files_left, no_words, tag_so, tells_damage, was_over, written_fault}
 use Rattle.lq_top.proofs.top.run.Goals as goal
 use Rattle.lq_top.specs.Asks.{asked_tag}
+use Rattle.lq_top.specs.Run.{is_over}
 
 pub returns-clause-usage : goal.returns-clause-usage
 returns-clause-usage g c =
@@ -140,4 +141,16 @@ pub returns-clause-drill : goal.returns-clause-drill
 returns-clause-drill g c =
     let by : IsWritten c.work-disk.result.done c.tell-status.result = record { kind = c.work-disk.ensures.kind; ended = c.tell-status.ensures.status; cut = c.tell-status.ensures.cut; had = c.tell-status.ensures.had } in
     λ asks. runs_drill asks c.args.who.now (g.C.Clock.to_come c.args.clock.now) (g.C.Clock.to_come c.work-disk.new.clock) (g.D.Disk.told c.args.disk) (g.D.Disk.crashes c.args.disk) c.work-disk.result.done c.tell-status.result (g.D.Disk.told c.work-disk.result.disk) (g.D.Disk.crashes c.work-disk.result.disk)
-    (g.O.Sink.told c.args.out.now) (g.O.Sink.told c.tell-status.new.out) by (c.work-disk.ensures.drills asks) c.tell-status.ensures.whole (settled_as g.D.Disk.told g.D.Disk.faults g.D.Disk.crashes c.work-disk.result.done c.work-disk.result.disk (c.work-disk.ensures.settled asks))
+    (g.O.Sink.told c.args.out.now) (g.O.Sink.told c.tell-status.new.out) by (c.work-disk.ensures.drills asks) c.tell-status.ensures.whole c.tell-status.ensures.part (settled_as g.D.Disk.told g.D.Disk.faults g.D.Disk.crashes c.work-disk.result.done c.work-disk.result.disk (c.work-disk.ensures.settled asks))
+
+pub returns-clause-says_part : goal.returns-clause-says_part
+returns-clause-says_part g c =
+    let by : IsWritten c.work-disk.result.done c.tell-status.result = record { kind = c.work-disk.ensures.kind; ended = c.tell-status.ensures.status; cut = c.tell-status.ensures.cut; had = c.tell-status.ensures.had } in
+    λ asks is. said_in_part asks (stamp_of c.args.who.now (g.C.Clock.last c.work-disk.new.clock)) (g.D.Disk.told c.args.disk) (g.D.Disk.told c.work-disk.result.disk) c.work-disk.result.done
+    (g.O.Sink.told c.args.out.now) (g.O.Sink.told c.tell-status.new.out) (c.work-disk.ensures.does asks) (was_over c.work-disk.result.done c.tell-status.result by (ap is_over is)) c.tell-status.ensures.part
+
+pub returns-clause-log_part : goal.returns-clause-log_part
+returns-clause-log_part g c =
+    let by : IsWritten c.work-disk.result.done c.tell-status.result = record { kind = c.work-disk.ensures.kind; ended = c.tell-status.ensures.status; cut = c.tell-status.ensures.cut; had = c.tell-status.ensures.had } in
+    is_logged_part (option_copied c.text_of.result) (asked_tag (line_of (map (λ word. string_bytes word) c.args.words.now))) c.work-disk.result.done c.tell-status.result (g.L.Sink.told c.args.log.now) (g.L.Sink.told c.tell-status.new.log) by
+    (tag_so (option_copied c.text_of.result) c.work-disk.result.tag _ c.text_of.ensures c.work-disk.ensures.tag) c.tell-status.ensures.log_part
