@@ -15,6 +15,8 @@ mod interleaved;
 #[cfg(test)]
 mod lines;
 #[cfg(test)]
+mod places;
+#[cfg(test)]
 mod players;
 #[cfg(test)]
 mod released;

@@ -18,6 +18,8 @@ mod fresh;
 #[cfg(test)]
 mod full;
 #[cfg(test)]
+mod memory;
+#[cfg(test)]
 mod refusals;
 #[cfg(test)]
 mod running;

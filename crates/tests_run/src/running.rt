@@ -1,5 +1,5 @@
 use lq_base::{Items, Text};
-use lq_outside::{MemDisk, MemFiles, MemSink, SetClock};
+use lq_outside::{Files, MemDisk, MemFiles, MemSink, SetClock};
 use lq_top::run;
 use std::alloc::Global;
 use std::process::Abort;
@@ -84,12 +84,12 @@ fn words_of(rt: &impl Abort, alloc: Global, line: &str) -> Vec<String> {
 }
 
 /// Runs a line of words over files and a database file of these bytes.
-pub fn run_by(
+pub fn run_by<F: Files + Drop>(
     rt: &impl Abort,
     alloc: Global,
     by: By,
     line: &str,
-    files: MemFiles,
+    files: F,
     bytes: &[u8],
     failing: Failing,
 ) -> Ran {
