@@ -14,7 +14,7 @@ use Rattle.lq_model.specs.declared.fault.StoreFault.{StoreFault}
 use Rattle.lq_model.specs.declared.fault.StoreFault.TheVariants.{Disk}
 use Rattle.lq_outside.specs.Count.{Rose}
 use Rattle.lq_report.specs.Output.{status_text}
-use Rattle.lq_run.specs.Commands.{HasDatabase, Leaves}
+use Rattle.lq_run.specs.Commands.{HasDatabase}
 use Rattle.lq_run.specs.Crashes.{BehindTagged, CrashesTagged, LeftBehind}
 use Rattle.lq_run.specs.Left.{LeavesOnce, LeavesTagged}
 use Rattle.lq_store.specs.Calls.{CountsDisk}
@@ -32,9 +32,9 @@ use Rattle.lq_turns.specs.Session.{session_on}
 use Rattle.lq_turns.specs.declared.call.Call.{Call}
 use Rattle.lq_turns.specs.declared.fault.Fault.{Fault}
 use Rattle.lq_commands.specs.Outputs.{TellsText}
-use Rattle.lq_commands.specs.Refusals.{Answers, IsFault, Passes, ends, if_some, irreversible, no_way_back, refusal, unreachable_by}
+use Rattle.lq_commands.specs.Refusals.{Answers, IsFault, Passes, ends, fault_status, if_some, irreversible, no_way_back, refusal, unreachable_by}
 use Rattle.lq_commands.specs.Scripts.{script, sets_in}
-use Rattle.lq_commands.specs.Works.{CrashesIn, IsKept, OnIts, Works, is_finished}
+use Rattle.lq_commands.specs.Works.{CrashesIn, IsKept, OnIts, SaysFull, Works, is_finished}
 use Rattle.lq_commands.specs.declared.given.Given.{Given}
 
 not_true : false ≡ true → ⊥
@@ -151,13 +151,10 @@ invalid_no_disk A (fault ∷ found) s r (inr lack) disk is = memory_disk (sym la
 -- a fault
 
 module _ (d : Dialect) (calls : List Call) (database : Database) (x y : State) where
-  pub unfinished_works : (r : Result Done Status) → IfOk r (λ (done : Done). is_finished done.status ≡ false) → LeftBehind d calls database x y → Works d calls database x r y
-  unfinished_works (Ok done) unfinished behind = (λ finished. absurd (not_true (sym unfinished ∙ finished)), λ ended. behind)
-  unfinished_works (Err s) unfinished behind = behind
-
-  -- one that is done
-  pub done_works : (done : Done) → done.status ≡ status.Done → Leaves d calls database x y → Works d calls database x (Ok done) y
-  done_works done is leaves = (λ finished. leaves, λ unfinished. absurd (true_not (sym (ap is_finished is) ∙ unfinished)))
+  pub unfinished_works : (why : StoreFault) (r : Result Done Status) → IfOk r (λ (done : Done). is_finished done.status ≡ false) → IfOk r (λ (done : Done). done.status ≡ fault_status why) → LeftBehind d calls database x y
+      → SaysFull d calls database x (fault_status why) → Works d calls database x r y
+  unfinished_works why (Ok done) unfinished same behind full = (λ finished. absurd (not_true (sym unfinished ∙ finished)), λ ended. behind, subst (SaysFull d calls database x) (sym same) full)
+  unfinished_works why (Err s) unfinished same behind full = behind
 
 pub fault_rose : (fault : StoreFault) (before now : ℕ) → CountsDisk {T = Unit {0}} (Err fault) before now → fault ≡ Disk → Rose before now
 fault_rose fault before now counts is = counts.rose (ap (λ (f : StoreFault). (let r : Result (Unit {0}) StoreFault = Err f in r)) is)

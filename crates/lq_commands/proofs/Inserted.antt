@@ -166,9 +166,9 @@ module _ (given : Given) (before rows : List Tracked) (are : rows ≡ rows_to_sy
 
   -- where there are none
 
-  pub idle_sync_works : (database : Database) → database.rows ≡ before → rows ≡ [] → (x : State) (r : Result Done Status) → HasDatabase d x database → Works d (sync_script given database) database x r x
-  idle_sync_works database same none x r has =
-      subst (λ calls. Works d calls database x r x) (sym (no_sync given database (sym (rows_are database same) ∙ none))) (works_nothing d database x r has)
+  pub idle_sync_works : (database : Database) → database.rows ≡ before → rows ≡ [] → (x : State) (r : Result Done Status) → IfOk r (λ (done : Done). done.status ≡ status.Done) → HasDatabase d x database → Works d (sync_script given database) database x r x
+  idle_sync_works database same none x r is has =
+      subst (λ calls. Works d calls database x r x) (sym (no_sync given database (sym (rows_are database same) ∙ none))) (works_nothing d database x r is has)
 
   pub idle_sync_tells : (x : State) (r : Result Done Status) → OnIts d x (λ (database : Database). database.rows ≡ before) → rows ≡ [] → IfOk r (λ (done : Done). done.status ≡ status.Done) → IfOk r (λ (done : Done). done.out ≡ Some (sync_text []))
       → IfOk r (λ (done : Done). OnIts d x (λ (database : Database). IfFinished done (TellsSync (synced_in given database) done)))

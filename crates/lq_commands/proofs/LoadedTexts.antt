@@ -3,7 +3,7 @@ use Rattle.std.proofs.Common.{arith}
 use Rattle.std.proofs.lemmas.List.Elements.{All-map}
 use Rattle.std.specs.List.{All}
 use Rattle.std.specs.Option.{option_or}
-use Rattle.std.specs.Prelude.{IfSome, List, Option, [], length, slice_index_or, suc, ℕ, ◌<◌, ◌∷◌, ◌≤◌}
+use Rattle.std.specs.Prelude.{IfSome, List, Option, [], slice_index_or, suc, ℕ, ◌∷◌, ◌≤◌}
 use Rattle.lq_base.specs.Character.{char_count}
 use Rattle.lq_beside.specs.Fitting.{HasTexts}
 use Rattle.lq_expr.specs.declared.options.Options.{Options}

@@ -1,5 +1,5 @@
 -- A refusal is of the database, and of no disk.
-use Rattle.std.proofs.Common.{refl}
+use Rattle.std.proofs.Common.{ap, refl, sym, ◌∙◌}
 use Rattle.std.specs.Option.{option_or}
 use Rattle.std.specs.Prelude.{Bool, IfSome, List, None, Option, Some, [], false, if◌then◌else◌, true, ℕ, ◌∷◌, ◌≡◌}
 use Rattle.lq_base.specs.declared.command.Command.{Command}
@@ -27,65 +27,124 @@ use Rattle.lq_commands.specs.declared.given.Given.{Given}
 abbrev pub IsPlain : Option Status → Type 0
 IsPlain o = IfSome o (λ s. is_diskless s ≡ true)
 
-or_plain : (o p : Option Status) → IsPlain o → IsPlain p → IsPlain (option_or o p)
-or_plain (Some s) p plain other = plain
-or_plain None p plain other = other
+-- and it is not that the journal is full
+abbrev pub IsNotFull : Status → Type 0
+IsNotFull s = (used next : ℕ) → s ≡ status.Full used next → ⊥
 
-if_plain : (b : Bool) (o : Option Status) → IsPlain o → IsPlain (if b then o else None)
-if_plain true o plain = plain
-if_plain false o plain = tt
+-- the statuses of checks
+abbrev is_refusal : Status → Bool
+is_refusal (status.Invalid faults) = true
+is_refusal (status.Locked lock) = true
+is_refusal (status.Halted place why) = true
+is_refusal status.NoTarget = true
+is_refusal (status.NotReversible of) = true
+is_refusal s = false
 
-held_plain : (database : Database) → IsPlain (held database)
-held_plain database = if_plain database.lock.locked (Some (status.Locked database.lock)) refl
+abbrev Refuses : Option Status → Type 0
+Refuses o = IfSome o (λ s. is_refusal s ≡ true)
 
-some_plain : (faults : List Fault) → IsPlain (if_some faults)
-some_plain [] = tt
-some_plain (fault ∷ faults) = refl
+or_refuses : (o p : Option Status) → Refuses o → Refuses p → Refuses (option_or o p)
+or_refuses (Some s) p first other = first
+or_refuses None p first other = other
 
-halts_plain : (choice : Choice) → IsPlain (if_halts choice)
-halts_plain choice.Passes = tt
-halts_plain choice.Fills = tt
-halts_plain choice.Skips = tt
-halts_plain (choice.Marks what) = tt
-halts_plain (choice.Runs what why) = tt
-halts_plain (choice.Halts why) = refl
+if_refuses : (b : Bool) (o : Option Status) → Refuses o → Refuses (if b then o else None)
+if_refuses true o first = first
+if_refuses false o first = tt
 
-not_plain : (o : Option Identity) → IsPlain (if_not o)
-not_plain (Some of) = refl
-not_plain None = tt
+held_refuses : (database : Database) → Refuses (held database)
+held_refuses database = if_refuses database.lock.locked (Some (status.Locked database.lock)) refl
 
-untagged_plain : (rows : List Tracked) → IsPlain (untagged rows)
-untagged_plain [] = refl
-untagged_plain (row ∷ rows) = tt
+some_refuses : (faults : List Fault) → Refuses (if_some faults)
+some_refuses [] = tt
+some_refuses (fault ∷ faults) = refl
+
+halts_refuses : (choice : Choice) → Refuses (if_halts choice)
+halts_refuses choice.Passes = tt
+halts_refuses choice.Fills = tt
+halts_refuses choice.Skips = tt
+halts_refuses (choice.Marks what) = tt
+halts_refuses (choice.Runs what why) = tt
+halts_refuses (choice.Halts why) = refl
+
+not_refuses : (o : Option Identity) → Refuses (if_not o)
+not_refuses (Some of) = refl
+not_refuses None = tt
+
+untagged_refuses : (rows : List Tracked) → Refuses (untagged rows)
+untagged_refuses [] = refl
+untagged_refuses (row ∷ rows) = tt
+
+false_true : false ≡ true → ⊥
+false_true h = Prim.cc
+
+is_plain : (s : Status) → is_refusal s ≡ true → is_diskless s ≡ true
+is_plain status.Done is = absurd (false_true is)
+is_plain status.Usage is = absurd (false_true is)
+is_plain status.ReadFault is = absurd (false_true is)
+is_plain (status.Changelog fault) is = absurd (false_true is)
+is_plain (status.Invalid faults) is = refl
+is_plain (status.Locked lock) is = refl
+is_plain (status.Halted place why) is = refl
+is_plain (status.Refused identity statement kept reason) is = absurd (false_true is)
+is_plain status.NoTarget is = refl
+is_plain (status.NotReversible of) is = refl
+is_plain status.DiskFault is = absurd (false_true is)
+is_plain (status.Damaged at) is = absurd (false_true is)
+is_plain (status.Full used next) is = absurd (false_true is)
+is_plain status.WriteFault is = absurd (false_true is)
+is_plain status.OutOfMemory is = absurd (false_true is)
+is_plain (status.Busy session) is = absurd (false_true is)
+
+so_plain : (o : Option Status) → Refuses o → IsPlain o
+so_plain None refuses = tt
+so_plain (Some s) refuses = is_plain s refuses
+
+so_not_full : (o : Option Status) → Refuses o → IfSome o IsNotFull
+so_not_full None refuses = tt
+so_not_full (Some s) refuses = λ used next is. false_true (sym (ap is_refusal is) ∙ refuses)
 
 module _ (given : Given) where
-  by_plain : (stay : Option ℕ) (rows : List Tracked) → IsPlain (unreachable_by given stay rows)
-  by_plain None rows = refl
-  by_plain (Some stay) rows = not_plain (not_reversible given.options.dialect any_meaning (sets_in given) (rows_undone stay rows))
+  by_refuses : (stay : Option ℕ) (rows : List Tracked) → Refuses (unreachable_by given stay rows)
+  by_refuses None rows = refl
+  by_refuses (Some stay) rows = not_refuses (not_reversible given.options.dialect any_meaning (sets_in given) (rows_undone stay rows))
 
-  back_plain : (target : Target) (rows : List Tracked) → IsPlain (no_way_back given target rows)
-  back_plain target rows = by_plain (rows_kept target rows) rows
+  back_refuses : (target : Target) (rows : List Tracked) → Refuses (no_way_back given target rows)
+  back_refuses target rows = by_refuses (rows_kept target rows) rows
 
-  invalid_plain : (rows : List Tracked) → IsPlain (invalid given rows)
-  invalid_plain rows = some_plain (faults (sets_in given) rows)
+  invalid_refuses : (rows : List Tracked) → Refuses (invalid given rows)
+  invalid_refuses rows = some_refuses (faults (sets_in given) rows)
 
-  own_plain : (database : Database) → IsPlain (own_halt given database)
-  own_plain database = halts_plain (own_choice (log_in given) (contents_of database))
+  own_refuses : (database : Database) → Refuses (own_halt given database)
+  own_refuses database = halts_refuses (own_choice (log_in given) (contents_of database))
 
-  unready_plain : (database : Database) → IsPlain (unready given database)
-  unready_plain database = or_plain (held database) (invalid given database.rows) (held_plain database) (invalid_plain database.rows)
+  unready_refuses : (database : Database) → Refuses (unready given database)
+  unready_refuses database = or_refuses (held database) (invalid given database.rows) (held_refuses database) (invalid_refuses database.rows)
+
+  refusal_refuses : (c : Command) (database : Database) → Refuses (refusal c given database)
+  refusal_refuses command.Validate database = invalid_refuses database.rows
+  refusal_refuses command.Status database = invalid_refuses database.rows
+  refusal_refuses command.Update database = or_refuses (unready given database) (own_halt given database) (unready_refuses database) (own_refuses database)
+  refusal_refuses (command.Tag name) database = or_refuses (held database) (untagged database.rows) (held_refuses database) (untagged_refuses database.rows)
+  refusal_refuses (command.Rollback target) database = or_refuses (unready given database) (no_way_back given target database.rows) (unready_refuses database) (back_refuses target database.rows)
+  refusal_refuses command.Sync database = unready_refuses database
+  refusal_refuses command.Release database = tt
+
+  print_update_refuses : (database : Database) → Refuses (print_update given database)
+  print_update_refuses database = or_refuses (invalid given database.rows) (own_halt given database) (invalid_refuses database.rows) (own_refuses database)
+
+  print_rollback_refuses : (target : Target) (database : Database) → Refuses (print_rollback given target database)
+  print_rollback_refuses target database = or_refuses (invalid given database.rows) (no_way_back given target database.rows) (invalid_refuses database.rows) (back_refuses target database.rows)
+
+  -- so they are plain, and not of a full journal
 
   pub refusal_plain : (c : Command) (database : Database) → IsPlain (refusal c given database)
-  refusal_plain command.Validate database = invalid_plain database.rows
-  refusal_plain command.Status database = invalid_plain database.rows
-  refusal_plain command.Update database = or_plain (unready given database) (own_halt given database) (unready_plain database) (own_plain database)
-  refusal_plain (command.Tag name) database = or_plain (held database) (untagged database.rows) (held_plain database) (untagged_plain database.rows)
-  refusal_plain (command.Rollback target) database = or_plain (unready given database) (no_way_back given target database.rows) (unready_plain database) (back_plain target database.rows)
-  refusal_plain command.Sync database = unready_plain database
-  refusal_plain command.Release database = tt
+  refusal_plain c database = so_plain (refusal c given database) (refusal_refuses c database)
+
+  pub refusal_not_full : (c : Command) (database : Database) → IfSome (refusal c given database) IsNotFull
+  refusal_not_full c database = so_not_full (refusal c given database) (refusal_refuses c database)
 
   pub print_update_plain : (database : Database) → IsPlain (print_update given database)
-  print_update_plain database = or_plain (invalid given database.rows) (own_halt given database) (invalid_plain database.rows) (own_plain database)
+  print_update_plain database = so_plain (print_update given database) (print_update_refuses database)
 
   pub print_rollback_plain : (target : Target) (database : Database) → IsPlain (print_rollback given target database)
-  print_rollback_plain target database = or_plain (invalid given database.rows) (no_way_back given target database.rows) (invalid_plain database.rows) (back_plain target database.rows)
+  print_rollback_plain target database = so_plain (print_rollback given target database) (print_rollback_refuses target database)

@@ -1,7 +1,7 @@
 -- The scripts of commands as turns of their sources.
 use Rattle.std.proofs.Common.{ap, refl, sym, ◌∙◌}
 use Rattle.std.specs.List.{All, list_all, list_any}
-use Rattle.std.specs.Prelude.{Bool, List, None, Option, Some, [], false, if◌then◌else◌, is_some, map, not, option_map, reverse, suc, true, ℕ, ◌&&◌, ◌++◌, ◌||◌, ◌∷◌, ◌≡◌, ◌≢◌, ◌≤◌}
+use Rattle.std.specs.Prelude.{Bool, List, None, Option, Some, [], false, if◌then◌else◌, is_some, not, option_map, suc, true, ℕ, ◌&&◌, ◌++◌, ◌||◌, ◌∷◌, ◌≡◌, ◌≢◌, ◌≤◌}
 use Rattle.lq_base.specs.declared.command.Target.{Target}
 use Rattle.lq_base.specs.declared.dialect.Dialect.{Dialect}
 use Rattle.lq_base.specs.declared.tracking.Tracked.{Tracked}
@@ -23,17 +23,15 @@ use Rattle.lq_back.specs.SyncTurn.{sync_calls}
 use Rattle.lq_seen.specs.View.{any_meaning}
 use Rattle.lq_track.specs.Database.{Database, has_twin_rows}
 use Rattle.lq_turns.specs.Contents.{contents_of}
-use Rattle.lq_turns.specs.Rest.{OfRows, OfSets, turns_calls}
-use Rattle.lq_turns.specs.Rollback.{rollback_of, rows_kept, rows_undone, turns_made, undo_turns}
+use Rattle.lq_turns.specs.Rest.{OfRows, OfSets}
+use Rattle.lq_turns.specs.Rollback.{rollback_of, rows_kept, rows_undone, undo_turns}
 use Rattle.lq_turns.specs.Script.{has_work, rows_to_sync, sync_of, with_lock}
 use Rattle.lq_turns.specs.Session.{session_on}
-use Rattle.lq_turns.specs.Set.{IsKept as Keeps, Meaning, Set}
+use Rattle.lq_turns.specs.Set.{IsKept as Keeps, Set}
 use Rattle.lq_turns.specs.Settle.{is_halt, own_choice, what}
 use Rattle.lq_turns.specs.Turn.{made}
 use Rattle.lq_turns.specs.declared.call.Call.{Call}
-use Rattle.lq_turns.specs.declared.call.Call.TheVariants.{Begin, Commit, Execute}
 use Rattle.lq_turns.specs.declared.choice.What.{What}
-use Rattle.lq_turns.specs.declared.deed.Deed.TheVariants.{Rows}
 use Rattle.lq_turns.specs.declared.deed.OnRows.{OnRows}
 use Rattle.lq_turns.specs.declared.deed.OnRows.TheVariants.{Deleted, Filled, Inserted, Renewed, Tagged}
 use Rattle.lq_turns.specs.declared.stamp.Stamp.{Stamp}

@@ -45,7 +45,7 @@ use Rattle.lq_commands.specs.Refusals.{Answers, Passes, if_not, irreversible, no
 use Rattle.lq_commands.specs.Scripts.{nothing_told, rollback_script, rolled_back, rolled_to, sets_in, taking_back}
 use Rattle.lq_commands.specs.Tells.{HasTold, IfFinished, TellsRollback, rollback_output, status_by, stop_by}
 use Rattle.lq_commands.specs.Turns.{MayTurn, turns_script}
-use Rattle.lq_commands.specs.Works.{CrashesIn, IsKept, OnIts, Works, is_finished, is_whole}
+use Rattle.lq_commands.specs.Works.{CrashesIn, FullAs, IsKept, OnIts, TellsFull, Works, is_finished, is_whole}
 use Rattle.lq_commands.specs.declared.given.Given.{Given}
 
 not_true : false ≡ true → ⊥
@@ -137,12 +137,12 @@ module _ (d : Dialect) (stamp : Stamp) (source : RowTurns) (some : reverse sourc
       → (database : Database) → MayTurn d any_meaning stamp (OfRows (reverse source.turns)) (row_way source d stamp) database (of_turns prints d (reverse source.turns) (contents_of database))
   back_may prints moment back knows database = record { known = knows (contents_of database); fits = rollback_may d stamp (reverse source.turns) database moment back some }
 
-  pub back_works : (database : Database) (x y : State) (e : End) (r : Result Done Status) → IfOk r (λ (done : Done). is_finished done.status ≡ true → is_whole e ≡ true)
+  pub back_works : (database : Database) (x y : State) (e : End) (r : Result Done Status) → IfOk r (λ (done : Done). is_finished done.status ≡ true → is_whole e ≡ true) → IfOk r (λ (done : Done). TellsFull e done.status)
       → LeavesAs d (turns_script d any_meaning stamp (OfRows (reverse source.turns)) database) database x e y → LeftBehind d (turns_script d any_meaning stamp (OfRows (reverse source.turns)) database) database x y
-      → Works d (rollback_of d stamp (reverse source.turns) database) database x r y
-  back_works database x y e r whole leaves left =
+      → FullAs d (turns_script d any_meaning stamp (OfRows (reverse source.turns)) database) database x e → Works d (rollback_of d stamp (reverse source.turns) database) database x r y
+  back_works database x y e r whole tells leaves left full =
       subst (λ calls. Works d calls database x r y) (sym (rollback_is d stamp database (reverse source.turns) some))
-      (works_by d (turns_script d any_meaning stamp (OfRows (reverse source.turns)) database) database x y e r whole leaves left)
+      (works_by d (turns_script d any_meaning stamp (OfRows (reverse source.turns)) database) database x y e r whole tells leaves left full)
 
   pub back_crashes : (database : Database) (x : State) (before now : Crashes) → CrashesIn d (turns_script d any_meaning stamp (OfRows (reverse source.turns)) database) database x before now
       → CrashesIn d (rollback_of d stamp (reverse source.turns) database) database x before now
@@ -233,8 +233,8 @@ module _ (given : Given) (database : Database) where
 
   -- no rows
 
-  pub idle_works : (x : State) (r : Result Done Status) (rows : List Tracked) → rows ≡ [] → HasDatabase d x database → Works d (taking_back given (reverse rows) database) database x r x
-  idle_works x r rows none has = subst (λ (rs : List Tracked). Works d (taking_back given (reverse rs) database) database x r x) (sym none) (works_nothing d database x r has)
+  pub idle_works : (x : State) (r : Result Done Status) (rows : List Tracked) → rows ≡ [] → IfOk r (λ (done : Done). done.status ≡ status.Done) → HasDatabase d x database → Works d (taking_back given (reverse rows) database) database x r x
+  idle_works x r rows none is has = subst (λ (rs : List Tracked). Works d (taking_back given (reverse rs) database) database x r x) (sym none) (works_nothing d database x r is has)
 
   none_tell : (prints : Bool) (done : Done) → done.status ≡ status.Done → done.out ≡ Some (rollback_output prints [] []) → TellsRollback prints (of_turns prints d [] (contents_of database)) done
   none_tell true done is out = record { status = is; out = out }

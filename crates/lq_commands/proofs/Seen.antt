@@ -1,6 +1,6 @@
 -- What is seen of a store that has a database.
 use Rattle.std.proofs.Common.{ap, refl, subst, sym, ◌∙◌}
-use Rattle.std.specs.Prelude.{Err, IfSome, List, Ok, OnOk, Result, Some, [], ℕ, ◌++◌, ◌∷◌, ◌≡◌}
+use Rattle.std.specs.Prelude.{Err, IfErr, IfSome, List, Ok, OnOk, Result, Some, [], ℕ, ◌++◌, ◌∷◌, ◌≡◌}
 use Rattle.lq_base.proofs.ValueLemmas.{and_then_some}
 use Rattle.lq_base.specs.declared.dialect.Dialect.{Dialect}
 use Rattle.lq_base.specs.declared.tracking.Lock.{Lock}
@@ -14,6 +14,9 @@ use Rattle.lq_track.specs.Database.{Database, lock_of, rows_of}
 use Rattle.lq_turns.specs.Held.{StandsFor}
 use Rattle.lq_turns.specs.Script.{last_row}
 use Rattle.lq_turns.specs.declared.call.Call.{Call}
+use Rattle.lq_commands.proofs.Endings.{full_once}
+use Rattle.lq_commands.specs.Refusals.{fault_status}
+use Rattle.lq_commands.specs.Works.{OnIts, SaysFull}
 
 module _ (d : Dialect) (number : ℕ) (x : State) (database : Database) (has : HasDatabase d x database) where
   pub seen_stands : StandsFor d (seen number x) database
@@ -34,6 +37,12 @@ pub last_is : (front : List Tracked) (row : Tracked) → last_row (front ++ row 
 last_is [] row = refl
 last_is (first ∷ []) row = refl
 last_is (first ∷ other ∷ more) row = last_is (other ∷ more) row
+
+-- where a call met a fault
+pub err_full : (d : Dialect) (calls : Database → List Call) (x y : State) (r : Result (Unit {0}) StoreFault) → ((database : Database) → HasDatabase d x database → LeavesOnce d (calls database) database x r y)
+    → IfErr r (λ (why : StoreFault). OnIts d x (λ (database : Database). SaysFull d (calls database) database x (fault_status why)))
+err_full d calls x y (Ok u) leaves = tt
+err_full d calls x y (Err why) leaves = λ database has. full_once d (calls database) database x y why (leaves database has)
 
 -- where a call is done
 pub ok_leaves : (d : Dialect) (calls : Database → List Call) (x y : State) (r : Result (Unit {0}) StoreFault) → ((database : Database) → HasDatabase d x database → LeavesOnce d (calls database) database x r y)

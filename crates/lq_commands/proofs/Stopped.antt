@@ -10,6 +10,7 @@ use Rattle.lq_hand.specs.declared.source.Entered.TheVariants as entered
 use Rattle.lq_model.specs.Catalogue.{Catalogue}
 use Rattle.lq_run.specs.Commands.{HasDatabase, LeavesAll, LeavesAs, SomeMayRun, TellsAll}
 use Rattle.lq_run.specs.Crashes.{BehindAll, CrashesAll, LeftBehind}
+use Rattle.lq_run.specs.Left.{LeftAll, LeftAs}
 use Rattle.lq_run.specs.Steps.{TellsAs, no_turn, standing}
 use Rattle.lq_run.specs.declared.runner.End.{End}
 use Rattle.lq_run.specs.declared.runner.End.TheVariants as end
@@ -34,11 +35,12 @@ use Rattle.lq_turns.specs.declared.stamp.Stamp.{Stamp}
 use Rattle.lq_turns.specs.declared.stop.Refusal.{Refusal}
 use Rattle.lq_turns.specs.declared.stop.Stop.{Stop}
 use Rattle.lq_turns.specs.declared.stop.Stop.TheVariants.{Refused}
+use Rattle.lq_commands.proofs.Endings.{full_as}
 use Rattle.lq_commands.proofs.Starts.{AllOn, name_so, new_holds, new_may_run, new_tells}
 use Rattle.lq_commands.specs.Stopping.{NamesStop, YieldedAt, stopping_way}
 use Rattle.lq_commands.specs.Tells.{HasTold}
 use Rattle.lq_commands.specs.Turns.{MayTurn, turns_script}
-use Rattle.lq_commands.specs.Works.{CrashesIn}
+use Rattle.lq_commands.specs.Works.{CrashesIn, FullAs}
 use Rattle.lq_commands.specs.declared.stopping.Stopping.{Stopping}
 
 -- the next turn is entered as the source enters it
@@ -95,6 +97,9 @@ module _ {Key Told T : Type 0} (m : Meaning Key) (left : T → Turns Key) (way :
 
   pub stopping_left : is_mark stamp.who ≡ false → (y : State) → BehindAll runner.dialect m runner.stamp (standing (left_in left) (way_in way) runner) x y → LeftBehind d (turns_script d m stamp (left source) database) database x y
   stopping_left name y behind = stopping_holds (λ f calls on. LeftBehind f calls on x y) (behind (name_so runner.stamp stamp stamp_is name))
+
+  pub stopping_full : is_mark stamp.who ≡ false → (y : State) (e : End) → LeftAll runner.dialect m runner.stamp (standing (left_in left) (way_in way) runner) x e y → FullAs d (turns_script d m stamp (left source) database) database x e
+  stopping_full name y e left_so = full_as d (turns_script d m stamp (left source) database) database x y e (stopping_holds (λ f calls on. LeftAs f calls on x e y) (left_so (name_so runner.stamp stamp stamp_is name)))
 
   pub stopping_crashes : is_mark stamp.who ≡ false → (before now : Crashes) → CrashesAll runner.dialect m runner.stamp (standing (left_in left) (way_in way) runner) x before now
       → CrashesIn d (turns_script d m stamp (left source) database) database x before now

@@ -1,6 +1,6 @@
 -- What a command tells of its run, from its database up to its file.
 use Rattle.std.proofs.Common.{subst, sym, ◌∙◌}
-use Rattle.std.specs.Prelude.{Bool, Err, IfOk, List, Ok, Result, Some, false, true, ℕ, ◌≡◌}
+use Rattle.std.specs.Prelude.{Err, IfOk, List, Ok, Result, Some, false, true, ℕ, ◌≡◌}
 use Rattle.lq_base.specs.declared.command.Command.{Command}
 use Rattle.lq_base.specs.declared.dialect.Dialect.{Dialect}
 use Rattle.lq_cli.specs.declared.line.Job.{Job}

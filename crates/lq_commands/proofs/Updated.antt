@@ -55,7 +55,7 @@ use Rattle.lq_commands.specs.Refusals.{Answers, IsFault, Passes, ends, if_halts,
 use Rattle.lq_commands.specs.Scripts.{log_in, nothing_told, sets_in, settled_in, update_script}
 use Rattle.lq_commands.specs.Tells.{HasTold, IfFinished, TellsUpdate, status_by, stop_by, update_output}
 use Rattle.lq_commands.specs.Turns.{MayTurn, turns_script}
-use Rattle.lq_commands.specs.Works.{CrashesIn, IsReady, OnIts, Works, is_finished, is_whole}
+use Rattle.lq_commands.specs.Works.{CrashesIn, FullAs, IsReady, OnIts, TellsFull, Works, is_finished, is_whole}
 use Rattle.lq_commands.specs.declared.given.Given.{Given}
 
 not_true : false ≡ true → ⊥
@@ -187,8 +187,8 @@ module _ (given : Given) (rows : List Tracked) (database : Database) (same : dat
   no_turn : has_work (sets_in given) database.rows ≡ false
   no_turn = ap (has_work (sets_in given)) same ∙ no_work rows 0 (sets_in given) (sym is ∙ none)
 
-  pub idle_works : (x : State) (r : Result Done Status) → HasDatabase given.options.dialect x database → Works given.options.dialect (update_script given database) database x r x
-  idle_works x r has = subst (λ calls. Works given.options.dialect calls database x r x) (sym (no_update given database no_turn)) (works_nothing given.options.dialect database x r has)
+  pub idle_works : (x : State) (r : Result Done Status) → IfOk r (λ (done : Done). done.status ≡ status.Done) → HasDatabase given.options.dialect x database → Works given.options.dialect (update_script given database) database x r x
+  idle_works x r is has = subst (λ calls. Works given.options.dialect calls database x r x) (sym (no_update given database no_turn)) (works_nothing given.options.dialect database x r is has)
 
   abbrev idle : Settled
   idle = all_settled given.options.dialect any_meaning given.stamp.reading (sets_in given) (contents_of database)
@@ -236,11 +236,12 @@ module _ (given : Given) (x : State) (rows : List Tracked) (source : SetTurns) (
     script_is : turns_script d any_meaning given.stamp (OfSets (sets_left source)) database ≡ update_script given database
     script_is = ap (λ (xs : List (Set AnyChange)). turns_script d any_meaning given.stamp (OfSets xs) database) left ∙ sym (update_is given database (ap (has_work (sets_in given)) same ∙ some) goes)
 
-    pub turns_work : (y : State) (e : End) (r : Result Done Status) → IfOk r (λ (done : Done). is_finished done.status ≡ true → is_whole e ≡ true)
+    pub turns_work : (y : State) (e : End) (r : Result Done Status) → IfOk r (λ (done : Done). is_finished done.status ≡ true → is_whole e ≡ true) → IfOk r (λ (done : Done). TellsFull e done.status)
         → LeavesAs d (turns_script d any_meaning given.stamp (OfSets (sets_left source)) database) database x e y → LeftBehind d (turns_script d any_meaning given.stamp (OfSets (sets_left source)) database) database x y
-        → Works d (update_script given database) database x r y
-    turns_work y e r whole leaves stops =
-        works_by d (update_script given database) database x y e r whole (subst (λ calls. LeavesAs d calls database x e y) script_is leaves) (subst (λ calls. LeftBehind d calls database x y) script_is stops)
+        → FullAs d (turns_script d any_meaning given.stamp (OfSets (sets_left source)) database) database x e → Works d (update_script given database) database x r y
+    turns_work y e r whole tells leaves stops full =
+        works_by d (update_script given database) database x y e r whole tells (subst (λ calls. LeavesAs d calls database x e y) script_is leaves) (subst (λ calls. LeftBehind d calls database x y) script_is stops)
+        (subst (λ calls. FullAs d calls database x e) script_is full)
 
     pub turns_crash : (before now : Crashes) → CrashesIn d (turns_script d any_meaning given.stamp (OfSets (sets_left source)) database) database x before now → CrashesIn d (update_script given database) database x before now
     turns_crash before now crash = subst (λ calls. CrashesIn d calls database x before now) script_is crash

@@ -1,8 +1,9 @@
 -- What a command leaves of a database.
-use Rattle.std.specs.Prelude.{Bool, Err, List, Ok, Option, Result, false, is_some, true, ◌≡◌, ◌≤◌}
+use Rattle.std.specs.Prelude.{Bool, Err, List, Ok, Option, Result, false, is_some, true, ℕ, ◌≡◌, ◌≤◌}
 use Rattle.lq_base.specs.declared.dialect.Dialect.{Dialect}
 use Rattle.lq_run.specs.Commands.{HasDatabase, Leaves}
 use Rattle.lq_run.specs.Crashes.{CrashesLeave, LeftBehind, LeftInCommand}
+use Rattle.lq_run.specs.Left.{IsFullIn}
 use Rattle.lq_run.specs.declared.runner.End.{End}
 use Rattle.lq_run.specs.declared.runner.End.TheVariants as end
 use Rattle.lq_store.specs.Crashes.{Crashes}
@@ -46,9 +47,31 @@ abbrev pub KeptLock : End → Type 0
 KeptLock (end.Locked lock) = ⊥
 KeptLock e = Unit {0}
 
--- where a command came to its end its calls' database is there, and their entries are in the journal; however else it ended, what a stop of them may leave
+-- a run that met a full journal tells how full it was
+abbrev pub FullAs : Dialect → List Call → Database → State → End → Type 0
+FullAs d calls database x end.Done = Unit {0}
+FullAs d calls database x (end.Refused refusal) = Unit {0}
+FullAs d calls database x (end.Locked lock) = Unit {0}
+FullAs d calls database x end.Disk = Unit {0}
+FullAs d calls database x (end.Full used next) = IsFullIn d calls database x used next
+FullAs d calls database x end.OutOfMemory = Unit {0}
+
+-- and its status has the same numbers
+abbrev pub TellsFull : End → Status → Type 0
+TellsFull end.Done s = is_finished s ≡ true
+TellsFull (end.Refused refusal) s = is_finished s ≡ true
+TellsFull (end.Locked lock) s = ⊥
+TellsFull end.Disk s = ⊥
+TellsFull (end.Full used next) s = s ≡ status.Full used next
+TellsFull end.OutOfMemory s = ⊥
+
+-- a status that says that the journal is full says how full it was
+abbrev pub SaysFull : Dialect → List Call → Database → State → Status → Type 0
+SaysFull d calls database x s = (used next : ℕ) → s ≡ status.Full used next → IsFullIn d calls database x used next
+
+-- where a command came to its end its calls' database is there, and their entries are in the journal; however else it ended, what a stop of them may leave; and how full a full journal was
 abbrev pub Works : Dialect → List Call → Database → State → Result Done Status → State → Type 0
-Works d calls database x (Ok done) y = (is_finished done.status ≡ true → Leaves d calls database x y) × (is_finished done.status ≡ false → LeftBehind d calls database x y)
+Works d calls database x (Ok done) y = (is_finished done.status ≡ true → Leaves d calls database x y) × (is_finished done.status ≡ false → LeftBehind d calls database x y) × SaysFull d calls database x done.status
 Works d calls database x (Err s) y = LeftBehind d calls database x y
 
 -- at each moment of it a crash of the machine leaves what a stop of these calls may leave

@@ -31,7 +31,8 @@ use std::alloc::Global;
 /// Does a command on the database of a store, whole, and tells what it came to: `Ok` with its
 /// status and its texts where it ran, to its end or to the end of the journal, and `Err` with the status
 /// where it was refused before it began (then nothing was written), the disk failed, or there was no
-/// memory. However it ended, the store holds what its script leaves, or what a stop of it may leave.
+/// memory. However it ended, the store holds what its script leaves, or what a stop of it may leave. A
+/// full journal is told as full as it was when a call of the script had no room.
 pub fn run_command<S: Store, P: SqlText>(
     alloc: Global,
     command: &Command,

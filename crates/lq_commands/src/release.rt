@@ -1,4 +1,4 @@
-ghost use Rattle.std.specs.Prelude.{◌≡◌, ◌≤◌, Err, IfOk, OnOk};
+ghost use Rattle.std.specs.Prelude.{◌≡◌, ◌≤◌, Err, IfErr, IfOk, OnOk};
 ghost use Rattle.lq_base.specs.declared.command.Command.TheVariants as command;
 ghost use Rattle.lq_outside.specs.Count.{Rose};
 ghost use Rattle.lq_run.specs.Commands.{Leaves};
@@ -6,9 +6,9 @@ ghost use Rattle.lq_run.specs.Crashes.{LeftBehind};
 ghost use Rattle.lq_store.specs.Calls.{CountsDisk};
 ghost use Rattle.lq_tell.specs.declared.status.Status.TheVariants.{DiskFault};
 ghost use Rattle.lq_commands.specs.Outputs.{TellsText, released_text};
-ghost use Rattle.lq_commands.specs.Refusals.{Answers, refusal};
+ghost use Rattle.lq_commands.specs.Refusals.{Answers, fault_status, refusal};
 ghost use Rattle.lq_commands.specs.Tells.{IfFinished};
-ghost use Rattle.lq_commands.specs.Works.{CrashesIn, IsKept, IsReady, OnIts, Works};
+ghost use Rattle.lq_commands.specs.Works.{CrashesIn, IsKept, IsReady, OnIts, SaysFull, Works};
 ghost use Rattle.lq_turns.specs.Script.{release_calls};
 
 use crate::given::{Given, SESSION};
@@ -60,6 +60,7 @@ pub fn free<S: Store, P: SqlText>(
     ensures valid { S.valid store.new }
     ensures leaves { OnOk result (OnIts given.now.options.dialect (S.state store.old) (λ database. Leaves given.now.options.dialect (release_calls database) database (S.state store.old) (S.state store.new))) }
     ensures behind { OnIts given.now.options.dialect (S.state store.old) (λ database. LeftBehind given.now.options.dialect (release_calls database) database (S.state store.old) (S.state store.new)) }
+    ensures full { IfErr result (λ fault. OnIts given.now.options.dialect (S.state store.old) (λ database. SaysFull given.now.options.dialect (release_calls database) database (S.state store.old) (fault_status fault))) }
     ensures any_moment { OnIts given.now.options.dialect (S.state store.old) (λ database. CrashesIn given.now.options.dialect (release_calls database) database (S.state store.old) (S.crashes store.old) (S.crashes store.new)) }
     ensures faults { CountsDisk result (S.faults store.old) (S.faults store.new) }
 {

@@ -11,7 +11,7 @@ ghost use Rattle.lq_commands.specs.Scripts.{rollback_script, rolled_back, rolled
 ghost use Rattle.lq_seen.specs.Printing.{Account, of_turns};
 ghost use Rattle.lq_commands.specs.Stopping.{NamesStop};
 ghost use Rattle.lq_commands.specs.Tells.{HasTold, IfFinished, TellsRollback, rollback_output};
-ghost use Rattle.lq_commands.specs.Works.{CrashesIn, IsKept, IsReady, KeptLock, OnIts, Works, is_finished, is_whole};
+ghost use Rattle.lq_commands.specs.Works.{CrashesIn, IsKept, IsReady, KeptLock, OnIts, TellsFull, Works, is_finished, is_whole};
 ghost use Rattle.lq_base.specs.declared.command.Command.TheVariants as command;
 ghost use Rattle.lq_turns.specs.Rollback.{rollback_of, rows_kept};
 ghost use Rattle.lq_turns.specs.Contents.{Contents, contents_of};
@@ -176,6 +176,7 @@ fn ended(alloc: Global, outcome: Outcome, end: End, prints: bool) -> Result<Done
     ensures fault { IfErr result IsFault }
     ensures ends { IfOk result (λ done. ends done.status ≡ true) }
     ensures whole { IfOk result (λ done. is_finished done.status ≡ true → is_whole end ≡ true) }
+    ensures full { IfOk result (λ done. TellsFull end done.status) }
     ensures disk { result ≡ Err status.DiskFault → is_disk_end end ≡ true }
 {
     let Outcome {

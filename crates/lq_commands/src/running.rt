@@ -17,7 +17,7 @@ ghost use Rattle.lq_commands.specs.Refusals.{IsFault, ends, fault_status};
 ghost use Rattle.lq_commands.specs.Stopping.{NamesStop, YieldedAt, one_way};
 ghost use Rattle.lq_commands.specs.Tells.{status_by, stop_by};
 ghost use Rattle.lq_commands.specs.Turns.{MayTurn, turns_script};
-ghost use Rattle.lq_commands.specs.Works.{CrashesIn, IsReady, KeptLock, OnIts, is_finished, is_whole};
+ghost use Rattle.lq_commands.specs.Works.{CrashesIn, FullAs, IsReady, KeptLock, OnIts, TellsFull, is_finished, is_whole};
 ghost use Rattle.lq_turns.specs.Contents.{contents_of};
 ghost use Rattle.lq_turns.specs.Script.{with_lock};
 ghost use Rattle.lq_turns.specs.Stops.{is_mark};
@@ -56,6 +56,7 @@ pub fn fault_answer(alloc: Global, fault: StoreFault) -> Result<Done, Status>
     ensures fault { IfErr result IsFault }
     ensures ends { IfOk result (λ done. ends done.status ≡ true) }
     ensures unfinished { IfOk result (λ done. is_finished done.status ≡ false) }
+    ensures same { IfOk result (λ done. done.status ≡ fault_status fault) }
     ensures disk { result ≡ Err DiskFault → fault ≡ Disk }
 {
     match fault_status(fault) {
@@ -95,6 +96,7 @@ pub fn run_turns<T: Source + Drop, S: Store, P: SqlText>(
     ensures valid { S.valid store.new }
     ensures leaves { OnIts dialect (S.state store.old) (λ database. LeavesAs dialect (turns_script dialect T.meaning stamp (T.left source) database) database (S.state store.old) result.end (S.state store.new)) }
     ensures left { OnIts dialect (S.state store.old) (λ database. LeftBehind dialect (turns_script dialect T.meaning stamp (T.left source) database) database (S.state store.old) (S.state store.new)) }
+    ensures full { OnIts dialect (S.state store.old) (λ database. FullAs dialect (turns_script dialect T.meaning stamp (T.left source) database) database (S.state store.old) result.end) }
     ensures any_moment { OnIts dialect (S.state store.old) (λ database. CrashesIn dialect (turns_script dialect T.meaning stamp (T.left source) database) database (S.state store.old) (S.crashes store.old) (S.crashes store.new)) }
     ensures tells { OnIts dialect (S.state store.old) (λ database. (told : T.Told) → MayTurn dialect T.meaning stamp (T.left source) (T.way source dialect stamp) database told → TellsAs (T.way result.source dialect stamp told) result.end) }
     ensures stops { OnIts dialect (S.state store.old) (λ database. (told : T.Told) → MayTurn dialect T.meaning stamp (T.left source) (T.way source dialect stamp) database told → YieldedAt T.way dialect stamp told result.end) }
@@ -131,6 +133,7 @@ pub fn run_hand<S: Store, P: SqlText>(
     ensures valid { S.valid store.new }
     ensures leaves { OnIts dialect (S.state store.old) (λ database. LeavesAs dialect (with_lock stamp database (made dialect (calls_left hand) (contents_of database))) database (S.state store.old) result (S.state store.new)) }
     ensures left { OnIts dialect (S.state store.old) (λ database. LeftBehind dialect (with_lock stamp database (made dialect (calls_left hand) (contents_of database))) database (S.state store.old) (S.state store.new)) }
+    ensures full { OnIts dialect (S.state store.old) (λ database. FullAs dialect (with_lock stamp database (made dialect (calls_left hand) (contents_of database))) database (S.state store.old) result) }
     ensures any_moment { OnIts dialect (S.state store.old) (λ database. CrashesIn dialect (with_lock stamp database (made dialect (calls_left hand) (contents_of database))) database (S.state store.old) (S.crashes store.old) (S.crashes store.new)) }
     ensures tells { OnIts dialect (S.state store.old) (λ database. TellsAs (one_way (refused_in dialect (calls_left hand) no_progress (contents_of database))) result) }
     ensures later { S.faults store.old ≤ S.faults store.new }
@@ -155,6 +158,7 @@ pub fn run_status(
     ensures ends { IfOk result (λ status. ends status ≡ true) }
     ensures whole { IfOk result (λ status. is_finished status ≡ true → is_whole end ≡ true) }
     ensures tells { IfOk result (λ status. is_finished status ≡ true → status ≡ status_by (stop_by halted stopped_at end)) }
+    ensures full { IfOk result (TellsFull end) }
     ensures disk { result ≡ Err DiskFault → is_disk_end end ≡ true }
 {
     match end {
@@ -169,6 +173,7 @@ pub fn run_status(
 
 fn done_status(halted: Option<Halt>) -> Status
     ensures ends { ends result ≡ true }
+    ensures finished { is_finished result ≡ true }
     ensures tells { result ≡ status_by (stop_by halted None Whole) }
 {
     match halted {
@@ -180,6 +185,7 @@ fn done_status(halted: Option<Halt>) -> Status
 fn refused_status(refusal: Refusal, stopped_at: Option<Identity>) -> Status
     requires { is_some stopped_at ≡ true }
     ensures ends { ends result ≡ true }
+    ensures finished { is_finished result ≡ true }
     ensures tells { result ≡ status_by (stop_by None stopped_at (Stopped refusal)) }
 {
     match stopped_at {

@@ -16,7 +16,7 @@ ghost use Rattle.lq_commands.specs.Refusals.{Answers, IsFault, ends, refusal};
 ghost use Rattle.lq_commands.specs.Scripts.{sets_in, sync_script};
 ghost use Rattle.lq_commands.specs.Stopping.{NamesStop, refused_at};
 ghost use Rattle.lq_commands.specs.Tells.{IfFinished, status_by, stop_by};
-ghost use Rattle.lq_commands.specs.Works.{CrashesIn, IsKept, IsReady, KeptLock, OnIts, Works, is_finished, is_whole};
+ghost use Rattle.lq_commands.specs.Works.{CrashesIn, FullAs, IsKept, IsReady, KeptLock, OnIts, TellsFull, Works, is_finished, is_whole};
 ghost use Rattle.lq_track.specs.Log.{identity_of};
 ghost use Rattle.lq_turns.specs.Script.{rows_to_sync};
 ghost use Rattle.lq_turns.specs.Stops.{is_mark};
@@ -176,6 +176,7 @@ fn run<S: Store, P: SqlText>(
     ensures valid { S.valid store.new }
     ensures leaves { IfOk result (λ e. OnIts given.options.dialect (S.state store.old) (λ database. LeavesAs given.options.dialect (sync_script given database) database (S.state store.old) e (S.state store.new))) }
     ensures left { OnIts given.options.dialect (S.state store.old) (λ database. LeftBehind given.options.dialect (sync_script given database) database (S.state store.old) (S.state store.new)) }
+    ensures full { IfOk result (λ e. OnIts given.options.dialect (S.state store.old) (λ database. FullAs given.options.dialect (sync_script given database) database (S.state store.old) e)) }
     ensures any_moment { OnIts given.options.dialect (S.state store.old) (λ database. CrashesIn given.options.dialect (sync_script given database) database (S.state store.old) (S.crashes store.old) (S.crashes store.new)) }
     ensures tells { IfOk result (EndsWithRows made before.now) }
     ensures later { S.faults store.old ≤ S.faults store.new }
@@ -198,6 +199,7 @@ fn ended(
     ensures fault { IfErr result IsFault }
     ensures ends { IfOk result (λ done. ends done.status ≡ true) }
     ensures whole { IfOk result (λ done. is_finished done.status ≡ true → is_whole end ≡ true) }
+    ensures full { IfOk result (λ done. TellsFull end done.status) }
     ensures tells { IfOk result (λ done. is_finished done.status ≡ true → done.status ≡ status_by (stop_by None of end)) }
     ensures out { IfOk result (λ done. done.out ≡ sync_out done.status happened.now) }
     ensures disk { result ≡ Err status.DiskFault → is_disk_end end ≡ true }

@@ -1,9 +1,10 @@
 -- Players take the steps of a schedule over one store.
 use Rattle.std.specs.Option.{option_map}
-use Rattle.std.specs.Prelude.{Err, List, None, Ok, Result, Some, [], false, nat_eq, slice_get, suc, true, ℕ, ◌++◌, ◌∷◌, ◌≡◌, ◌⊎◌}
+use Rattle.std.specs.Prelude.{Err, IfSome, List, None, Ok, Result, Some, false, nat_eq, slice_get, suc, true, ℕ, ◌++◌, ◌∷◌, ◌≡◌, ◌⊎◌}
 use Rattle.lq_base.specs.declared.dialect.Dialect.{Dialect}
 use Rattle.lq_base.specs.declared.tracking.Lock.{Lock}
-use Rattle.lq_drill.specs.Player.{Plays, Standing, answer_of}
+use Rattle.lq_drill.specs.Faults.{Comes, FreesAtMostOnce, FreesEarly, Meets, answer_of}
+use Rattle.lq_drill.specs.Player.{Plays, Standing}
 use Rattle.lq_drill.specs.Shows.{LeftBetween, Shows, entries_of}
 use Rattle.lq_drill.specs.declared.fault.DrillFault.{DrillFault}
 use Rattle.lq_store.specs.Journal.{Entry}
@@ -26,6 +27,7 @@ module _ {Answer : Type 0} {locked : Lock → Answer} {busy : ℕ → Answer} wh
     pub answer : r.answer ≡ None
     pub opens : r.opens ≡ false
     pub faulted : r.faulted ≡ false
+    pub owes : (why : DrillFault) → r.owes why → ⊥
 
   abbrev pub HasJob : (ℕ → Job Answer locked busy) → ℕ → Standing Answer locked busy → Type 0
   HasJob jobs n r = jobs n ≡ r.job
@@ -91,24 +93,6 @@ module _ {Answer : Type 0} {locked : Lock → Answer} {busy : ℕ → Answer} wh
         pub apart : AreApart players
         pub stands_for : StandsFor origin.dialect origin.committed database
 
-      -- where all steps were the machine's, store and players stand for it; or the next step was that of a player that met a fault
-      abbrev pub ComesTo : List ℕ → List ℕ → List X → State → Type 0
-      ComesTo front [] players y = Shows origin y (after jobs origin database front) × Each (PlaysIn jobs (after jobs origin database front)) players
-      ComesTo front (n ∷ rest) players y = HasFaulted players n
-
-      -- Of the steps that were taken the first are the machine's, up to one that met a fault.
-      pub record Follows (steps : List ℕ) (players : List X) (y : State) : Type 0 where
-        pub front : List ℕ
-        pub rest : List ℕ
-        pub is : steps ≡ front ++ rest
-        pub comes_to : ComesTo front rest players y
-        -- what these brought stays
-        pub answers : Each (KeepsAnswer (after jobs origin database front)) players
-        pub dialect : y.dialect ≡ origin.dialect
-        pub limit : y.limit ≡ origin.limit
-        pub more : List Entry
-        pub entries : y.entries ≡ option_map (λ entries. entries ++ (entries_of origin.dialect (after jobs origin database front).entries ++ more)) origin.entries
-
       -- The answers and the journal are the machine's.
       pub record IsDrilled (steps : List ℕ) (players : List X) (y : State) : Type 0 where
         pub shows : Shows origin y (shut (after jobs origin database steps))
@@ -128,27 +112,6 @@ module _ {Answer : Type 0} {locked : Lock → Answer} {busy : ℕ → Answer} wh
         pub more : List Entry
         pub entries : y.entries ≡ option_map (λ entries. entries ++ (entries_of origin.dialect (after jobs origin database front).entries ++ more)) origin.entries
 
-      -- after some of the steps, all the machine's, a front of its entries stands behind those that were there
-      pub record LeftByMachine (steps : List ℕ) (there left : List Entry) : Type 0 where
-        pub front : List ℕ
-        pub rest : List ℕ
-        pub is : steps ≡ front ++ rest
-        pub leaves : LeftBetween origin.dialect (start Answer locked busy database) (after jobs origin database front) there left
-
-      -- from a step on of a player that met a fault others stand behind the machine's
-      pub record LeftAfterFault (steps : List ℕ) (players : List X) (there left : List Entry) : Type 0 where
-        pub front : List ℕ
-        pub next : ℕ
-        pub rest : List ℕ
-        pub is : steps ≡ front ++ next ∷ rest
-        pub faulted : HasFaulted players next
-        pub more : List Entry
-        pub leaves : left ≡ there ++ (entries_of origin.dialect (after jobs origin database front).entries ++ more)
-
-      -- What a crash at any moment leaves: a front of the machine's entries; or, once there was a fault, all that came before it, and more.
-      abbrev pub LeftInDrill : List ℕ → List X → List Entry → List Entry → Type 0
-      LeftInDrill steps players there left = LeftByMachine steps there left ⊎ LeftAfterFault steps players there left
-
       -- The database is the one that the commands give one after another, and each answer that of this serial run, or one that was given at once.
       pub record IsSerialDrill (steps : List ℕ) (players : List X) (y : State) : Type 0 where
         -- the runners that made a call, in the order of their first ones
@@ -159,3 +122,39 @@ module _ {Answer : Type 0} {locked : Lock → Answer} {busy : ℕ → Answer} wh
         -- the last may be under way
         pub serial : Stands Answer locked busy origin.dialect jobs database order (after jobs origin database steps).holder committed
         pub answers : (place : ℕ) (player : X) (answer : Answer) → slice_get players place ≡ Some player → (standing player).answer ≡ Some answer → Gave Answer locked busy origin.dialect jobs database order steps (suc place) answer
+
+      module _ (failed : DrillFault → Answer) where
+        -- these steps lead from the start to a machine, where players met faults
+        abbrev pub CameTo : List X → List ℕ → Machine Answer locked busy → Type 0
+        CameTo players steps now = Comes failed origin.dialect jobs (HasFaulted players) steps (start Answer locked busy database) now
+
+        -- What a crash at any moment leaves: behind the entries that were there a front of those that some of the steps have brought. They are entries of the machine without faults, and then perhaps one that frees the lock; but where one that had met a fault still had it, a runner that does not need it may have begun.
+        pub record LeftInDrill (steps : List ℕ) (players : List X) (there left : List Entry) : Type 0 where
+          pub front : List ℕ
+          pub rest : List ℕ
+          pub is : steps ≡ front ++ rest
+          pub now : Machine Answer locked busy
+          pub came : CameTo players front now
+          pub leaves : LeftBetween origin.dialect (start Answer locked busy database) now there left
+          pub once : FreesEarly failed origin.dialect jobs (HasFaulted players) front (start Answer locked busy database) now ⊎ FreesAtMostOnce failed origin.dialect jobs front (start Answer locked busy database) now
+
+        -- so they are in the end
+        abbrev pub LeftAtEnd : List ℕ → List X → State → Type 0
+        LeftAtEnd steps players y = IfSome origin.entries (λ there. (left : List Entry) × (y.entries ≡ Some left) × LeftInDrill steps players there left)
+
+        -- the player of this number met this fault at one of its steps
+        pub record MetAt (steps : List ℕ) (players : List X) (n : ℕ) (why : DrillFault) : Type 0 where
+          pub front : List ℕ
+          pub rest : List ℕ
+          pub is : steps ≡ front ++ n ∷ rest
+          pub now : Machine Answer locked busy
+          pub came : CameTo players front now
+          pub meets : Meets failed origin.dialect jobs origin.used origin.limit n now why
+
+        -- a player answered this fault, which it had met
+        pub record FailsBy (steps : List ℕ) (players : List X) (why : DrillFault) : Type 0 where
+          pub place : ℕ
+          pub player : X
+          pub there : slice_get players place ≡ Some player
+          pub answer : (standing player).answer ≡ Some (failed why)
+          pub met : MetAt steps players (suc place) why

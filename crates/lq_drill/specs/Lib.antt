@@ -1,3 +1,5 @@
 pub mod Shows
+pub mod Faults
 pub mod Player
 pub mod Drill
+pub mod Following

@@ -1,17 +1,17 @@
 -- One of several runners, and what a step of it does to the machine.
-use Rattle.std.specs.Prelude.{Bool, Err, List, None, Ok, Option, Result, Some, [], false, if◌then◌else◌, nat_eq, true, ℕ, ◌∷◌, ◌≡◌, ◌⊎◌}
+use Rattle.std.specs.Option.{option_map}
+use Rattle.std.specs.Prelude.{Bool, Err, List, None, Ok, Option, Result, Some, false, true, ℕ, ◌++◌, ◌≡◌, ◌⊎◌}
 use Rattle.lq_base.specs.declared.dialect.Dialect.{Dialect}
 use Rattle.lq_base.specs.declared.tracking.Lock.{Lock}
-use Rattle.lq_drill.specs.Shows.{LeftBetween, Shows}
+use Rattle.lq_drill.specs.Faults.{Meets, Steps}
+pub use Rattle.lq_drill.specs.Faults.{answer_of, held_by}
+use Rattle.lq_drill.specs.Shows.{LeftBetween, Shows, entries_of}
 use Rattle.lq_drill.specs.declared.fault.DrillFault.{DrillFault}
 use Rattle.lq_store.specs.Crashes.{Crashes, CrashesLeave}
+use Rattle.lq_store.specs.Journal.{Entry}
 use Rattle.lq_store.specs.State.{State}
-use Rattle.lq_turns.specs.Schedule.{Holder, Job, Machine, has_begun, moved}
-
--- what a runner answered, if it did
-abbrev pub answer_of : {Answer : Type 0} → ℕ → List (ℕ × Answer) → Option Answer
-answer_of n [] = None
-answer_of n (a ∷ more) = if nat_eq a.0 n then Some a.1 else answer_of n more
+use Rattle.lq_turns.specs.Schedule.{Holder, Job, Machine, has_begun}
+use Rattle.lq_turns.specs.declared.deed.Deed.{Deed}
 
 -- what one answers that met a fault of the store: that fault, or that its lock is gone; or it has not yet answered
 abbrev pub MayAnswer : {Answer : Type 0} → (Lock → Answer) → (DrillFault → Answer) → Option Answer → Type 0
@@ -26,6 +26,8 @@ pub record Standing (Answer : Type 0) (locked : Lock → Answer) (busy : ℕ →
   pub opens : Bool
   -- it met a fault of the store
   pub faulted : Bool
+  -- and is to answer this one
+  pub owes : DrillFault → Type 0
   -- what it does at its first step
   pub job : Job Answer locked busy
   -- it has made a call
@@ -37,11 +39,6 @@ pub record Standing (Answer : Type 0) (locked : Lock → Answer) (busy : ℕ →
   pub answer : Option Answer
 
 module _ {Answer : Type 0} {locked : Lock → Answer} {busy : ℕ → Answer} where
-  -- the holder, where it is this runner
-  abbrev pub held_by : ℕ → Option (Holder Answer locked busy) → Option (Holder Answer locked busy)
-  held_by n None = None
-  held_by n (Some h) = if nat_eq h.runner n then Some h else None
-
   -- one that has begun is the holder, or its lock is gone
   abbrev pub GoesOn : Standing Answer locked busy → Option (Holder Answer locked busy) → Lock → Type 0
   GoesOn r None lock = r.owns lock → ⊥
@@ -50,7 +47,6 @@ module _ {Answer : Type 0} {locked : Lock → Answer} {busy : ℕ → Answer} wh
   -- the runner stands as the machine's of this number
   pub record Plays (jobs : ℕ → Job Answer locked busy) (n : ℕ) (r : Standing Answer locked busy) (x : Machine Answer locked busy) : Type 0 where
     pub answer : answer_of n x.answers ≡ r.answer
-    pub faultless : r.faulted ≡ false
     -- until it has answered
     pub begun : r.answer ≡ None → has_begun Answer locked busy n x ≡ r.begun
     pub waits : r.answer ≡ None → r.begun ≡ false → jobs n ≡ r.job
@@ -66,15 +62,38 @@ module _ {Answer : Type 0} {locked : Lock → Answer} {busy : ℕ → Answer} wh
     pub plays : Plays jobs n r y
     pub lock : LeavesLock r x y
 
-  -- Where no fault of the store was met the step is the machine's, whatever machine the store and the runner stood for.
-  abbrev pub Moves : ℕ → Standing Answer locked busy → Standing Answer locked busy → State → State → Type 0
-  Moves n before after w z = (jobs : ℕ → Job Answer locked busy) (origin : State) (x : Machine Answer locked busy) → origin.dialect ≡ before.dialect → Shows origin w x → Plays jobs n before x → after.faulted ≡ false
-      → Arrives jobs n after origin z x (moved Answer locked busy origin.dialect jobs n x)
+  -- the fault was met before, or in the step from this machine
+  abbrev pub IsDue : (DrillFault → Answer) → (ℕ → Job Answer locked busy) → ℕ → Standing Answer locked busy → State → Machine Answer locked busy → DrillFault → Type 0
+  IsDue failed jobs n before origin x why = before.owes why ⊎ Meets failed origin.dialect jobs origin.used origin.limit n x why
 
-  -- Where no fault of the store was met a crash at any moment of the step leaves the entries before it, and a front of those that the machine's step appends.
-  abbrev pub MovesSafely : ℕ → Standing Answer locked busy → Standing Answer locked busy → State → Crashes → Crashes → Type 0
-  MovesSafely n before after w c e = (jobs : ℕ → Job Answer locked busy) (origin : State) (x : Machine Answer locked busy) → origin.dialect ≡ before.dialect → Shows origin w x → Plays jobs n before x → after.faulted ≡ false
-      → CrashesLeave w.entries (LeftBetween origin.dialect x (moved Answer locked busy origin.dialect jobs n x)) c e
+  -- the entries of the store before the step, and a front of those that the machine's brings
+  pub record Brings (d : Dialect) (x y : Machine Answer locked busy) (w z : State) : Type 0 where
+    pub front : List (List Deed)
+    pub more : List (List Deed)
+    pub came : y.entries ≡ x.entries ++ (front ++ more)
+    pub entries : z.entries ≡ option_map (λ entries. entries ++ entries_of d front) w.entries
+
+  -- A step from a machine: it is the machine's, or that of a runner that met a fault, and the store and the runner come to where that leads; or it ends by a fault.
+  abbrev pub MovesAs : (DrillFault → Answer) → (ℕ → Job Answer locked busy) → ℕ → Standing Answer locked busy → Standing Answer locked busy → State → State → State → Machine Answer locked busy → Result (Unit {0}) DrillFault → Type 0
+  MovesAs failed jobs n before after origin w z x (Ok u) =
+      ((y : Machine Answer locked busy) × Steps failed origin.dialect jobs (after.faulted ≡ true) n x y × Arrives jobs n after origin z x y) × ((why : DrillFault) → after.owes why → IsDue failed jobs n before origin x why)
+  MovesAs failed jobs n before after origin w z x (Err why) = ((y : Machine Answer locked busy) × Steps failed origin.dialect jobs (after.faulted ≡ true) n x y × Brings origin.dialect x y w z) × IsDue failed jobs n before origin x why
+
+  -- so it does from whatever machine the store and the runner stood for
+  abbrev pub Moves : (DrillFault → Answer) → ℕ → Standing Answer locked busy → Standing Answer locked busy → State → Result (Unit {0}) DrillFault → State → Type 0
+  Moves failed n before after w result z = (jobs : ℕ → Job Answer locked busy) (origin : State) (x : Machine Answer locked busy) → origin.dialect ≡ before.dialect → Shows origin w x → Plays jobs n before x
+      → MovesAs failed jobs n before after origin w z x result
+
+  -- what a step from a machine leaves at any moment
+  pub record LeftInStep (failed : DrillFault → Answer) (d : Dialect) (jobs : ℕ → Job Answer locked busy) (met : Type 0) (n : ℕ) (x : Machine Answer locked busy) (there left : List Entry) : Type 0 where
+    pub to : Machine Answer locked busy
+    pub steps : Steps failed d jobs met n x to
+    pub leaves : LeftBetween d x to there left
+
+  -- A crash at any moment of the step leaves the entries before it, and a front of those that the machine's step brings.
+  abbrev pub MovesSafely : (DrillFault → Answer) → ℕ → Standing Answer locked busy → Standing Answer locked busy → State → Crashes → Crashes → Type 0
+  MovesSafely failed n before after w c e = (jobs : ℕ → Job Answer locked busy) (origin : State) (x : Machine Answer locked busy) → origin.dialect ≡ before.dialect → Shows origin w x → Plays jobs n before x
+      → CrashesLeave w.entries (LeftInStep failed origin.dialect jobs (after.faulted ≡ true) n x) c e
 
   -- where it met a fault of the store it answers so
   abbrev pub HasMet : (DrillFault → Answer) → ℕ → Standing Answer locked busy → Type 0

@@ -3,7 +3,6 @@ ghost use Rattle.lq_drill.specs.Player.{EndsBy, HasMet, Moves, MovesSafely};
 ghost use Rattle.lq_drill.specs.Shows.{LetsBe};
 ghost use Rattle.lq_drill.specs.declared.fault.DrillFault.TheVariants as fault;
 ghost use Rattle.lq_outside.specs.Count.{Rose};
-ghost use Rattle.lq_store.specs.Crashes.{CrashesLeave, Keeps};
 ghost use Rattle.lq_store.specs.State.{is_open};
 
 use crate::fault::DrillFault;
@@ -59,9 +58,8 @@ pub trait Player {
         ensures faulted { (standing self.old).faulted ≡ true → (standing self.new).faulted ≡ true }
         ensures met { HasMet failed session (standing self.new) }
         ensures ends { EndsBy failed (standing self.new) result }
-        ensures moves { Moves session (standing self.old) (standing self.new) (S.state store.old) (S.state store.new) }
-        ensures crash { MovesSafely session (standing self.old) (standing self.new) (S.state store.old) (S.crashes store.old) (S.crashes store.new) }
-        ensures keeps { CrashesLeave (S.state store.old).entries Keeps (S.crashes store.old) (S.crashes store.new) }
+        ensures moves { Moves failed session (standing self.old) (standing self.new) (S.state store.old) result (S.state store.new) }
+        ensures crash { MovesSafely failed session (standing self.old) (standing self.new) (S.state store.old) (S.crashes store.old) (S.crashes store.new) }
         ensures later { S.faults store.old ≤ S.faults store.new }
         ensures rose { result ≡ Err fault.Disk → Rose (S.faults store.old) (S.faults store.new) };
 

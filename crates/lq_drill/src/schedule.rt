@@ -1,5 +1,6 @@
-ghost use Rattle.std.specs.Prelude.{◌≡◌, ◌≤◌, ◌++◌, ◌∷◌, [], All, Err, IsTrue, List, None, Ok, false, length, true, ℕ};
-ghost use Rattle.lq_drill.specs.Drill.{AreApart, Begins, Each, EndsAs, Follows, HasFaulted, HasNotFailed, IsDrilled, IsDrilledUntil, IsFaultless, IsNew, IsReady, IsSerialDrill, LeftInDrill};
+ghost use Rattle.std.specs.Prelude.{◌≡◌, ◌≤◌, ◌++◌, ◌∷◌, [], All, Err, IfErr, IsTrue, List, None, Ok, false, length, true, ℕ};
+ghost use Rattle.lq_drill.specs.Drill.{AreApart, Begins, Each, EndsAs, FailsBy, HasFaulted, HasNotFailed, IsDrilled, IsDrilledUntil, IsFaultless, IsNew, IsReady, IsSerialDrill, LeftAtEnd, LeftInDrill};
+ghost use Rattle.lq_drill.specs.Following.{Follows, FollowsOrStops};
 ghost use Rattle.lq_drill.specs.Player.{HasMet};
 ghost use Rattle.lq_drill.specs.declared.fault.DrillFault.TheVariants as fault;
 ghost use Rattle.lq_outside.specs.Count.{Rose};
@@ -45,7 +46,9 @@ pub fn drill<R: Player, S: Store, P: SqlText>(
     ensures serial { (jobs : ℕ → Job R.Answer R.locked R.busy) (database : Database) → Begins R.standing jobs (S.state store.old) database players.old.items
         → Each R.standing IsFaultless players.new.items → none_early R.Answer R.locked R.busy (S.state store.old).dialect jobs steps.now (start R.Answer R.locked R.busy database) ≡ true → IsSerialDrill R.standing jobs (S.state store.old) database steps.now players.new.items (S.state store.new) }
     ensures crash { (jobs : ℕ → Job R.Answer R.locked R.busy) (database : Database) → Begins R.standing jobs (S.state store.old) database players.old.items
-        → CrashesLeave (S.state store.old).entries (LeftInDrill R.standing jobs (S.state store.old) database steps.now players.new.items) (S.crashes store.old) (S.crashes store.new) }
+        → CrashesLeave (S.state store.old).entries (LeftInDrill R.standing jobs (S.state store.old) database R.failed steps.now players.new.items) (S.crashes store.old) (S.crashes store.new) }
+    ensures left { (jobs : ℕ → Job R.Answer R.locked R.busy) (database : Database) → Begins R.standing jobs (S.state store.old) database players.old.items → LeftAtEnd R.standing jobs (S.state store.old) database R.failed steps.now players.new.items (S.state store.new) }
+    ensures cause { (jobs : ℕ → Job R.Answer R.locked R.busy) (database : Database) → Begins R.standing jobs (S.state store.old) database players.old.items → IfErr result (FailsBy R.standing jobs (S.state store.old) database R.failed steps.now players.new.items) }
     ensures later { S.faults store.old ≤ S.faults store.new }
     ensures rose { result ≡ Err fault.Disk → Rose (S.faults store.old) (S.faults store.new) }
 {
@@ -74,9 +77,9 @@ fn take_steps<R: Player, S: Store, P: SqlText>(
     ensures met { Each R.standing (HasMet R.failed) players.new.items }
     ensures ends { EndsAs R.standing R.failed players.new.items result }
     ensures follows { (jobs : ℕ → Job R.Answer R.locked R.busy) (origin : State) (database : Database) → origin.dialect ≡ P.dialect → AreApart R.standing players.old.items
-        → Follows R.standing jobs origin database [] players.old.items (S.state store.old) → Follows R.standing jobs origin database steps.now players.new.items (S.state store.new) }
-    ensures crash { (jobs : ℕ → Job R.Answer R.locked R.busy) (origin : State) (database : Database) → origin.dialect ≡ P.dialect → AreApart R.standing players.old.items → Follows R.standing jobs origin database [] players.old.items (S.state store.old)
-        → CrashesLeave origin.entries (LeftInDrill R.standing jobs origin database steps.now players.new.items) (S.crashes store.old) (S.crashes store.new) }
+        → Follows R.standing jobs origin database R.failed [] players.old.items (S.state store.old) → FollowsOrStops R.standing jobs origin database R.failed steps.now players.new.items (S.state store.new) result }
+    ensures crash { (jobs : ℕ → Job R.Answer R.locked R.busy) (origin : State) (database : Database) → origin.dialect ≡ P.dialect → AreApart R.standing players.old.items → Follows R.standing jobs origin database R.failed [] players.old.items (S.state store.old)
+        → CrashesLeave origin.entries (LeftInDrill R.standing jobs origin database R.failed steps.now players.new.items) (S.crashes store.old) (S.crashes store.new) }
     ensures later { S.faults store.old ≤ S.faults store.new }
     ensures rose { result ≡ Err fault.Disk → Rose (S.faults store.old) (S.faults store.new) }
 {
@@ -109,9 +112,9 @@ fn move_one<R: Player, S: Store, P: SqlText>(
     ensures ends { EndsAs R.standing R.failed players.new.items result }
     ensures apart { AreApart R.standing players.old.items → AreApart R.standing players.new.items }
     ensures follows { (jobs : ℕ → Job R.Answer R.locked R.busy) (origin : State) (database : Database) (steps : List ℕ) → origin.dialect ≡ P.dialect → AreApart R.standing players.old.items
-        → Follows R.standing jobs origin database steps players.old.items (S.state store.old) → Follows R.standing jobs origin database (steps ++ number ∷ []) players.new.items (S.state store.new) }
-    ensures crash { (jobs : ℕ → Job R.Answer R.locked R.busy) (origin : State) (database : Database) (steps : List ℕ) → origin.dialect ≡ P.dialect → Follows R.standing jobs origin database steps players.old.items (S.state store.old)
-        → CrashesLeave origin.entries (LeftInDrill R.standing jobs origin database (steps ++ number ∷ []) players.new.items) (S.crashes store.old) (S.crashes store.new) }
+        → Follows R.standing jobs origin database R.failed steps players.old.items (S.state store.old) → FollowsOrStops R.standing jobs origin database R.failed (steps ++ number ∷ []) players.new.items (S.state store.new) result }
+    ensures crash { (jobs : ℕ → Job R.Answer R.locked R.busy) (origin : State) (database : Database) (steps : List ℕ) → origin.dialect ≡ P.dialect → AreApart R.standing players.old.items → Follows R.standing jobs origin database R.failed steps players.old.items (S.state store.old)
+        → CrashesLeave origin.entries (LeftInDrill R.standing jobs origin database R.failed (steps ++ number ∷ []) players.new.items) (S.crashes store.old) (S.crashes store.new) }
     ensures later { S.faults store.old ≤ S.faults store.new }
     ensures rose { result ≡ Err fault.Disk → Rose (S.faults store.old) (S.faults store.new) }
 {

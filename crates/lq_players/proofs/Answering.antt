@@ -12,7 +12,7 @@ use Rattle.lq_players.specs.Answers.{Answers, failure_of, fault_of, is_disk_faul
 use Rattle.lq_players.specs.Playing.{Took}
 use Rattle.lq_run.specs.Beside.{Beside}
 use Rattle.lq_run.specs.Steps.{is_disk}
-use Rattle.lq_store.specs.Crashes.{Crashes, CrashesLeave, Keeps}
+use Rattle.lq_store.specs.Crashes.{Crashes}
 use Rattle.lq_store.specs.State.{State, is_open}
 use Rattle.lq_turns.specs.declared.answer.Answer.{Answer}
 use Rattle.lq_turns.specs.declared.answer.Answer.TheVariants as answer
@@ -55,9 +55,6 @@ its_lock (answer.Full used next) is = absurd (not_true is)
 its_lock (answer.Busy session) is = absurd (not_true is)
 its_lock answer.OutOfMemory is = absurd (not_true is)
 
-pub lock_own : (a : Answer) → tells_locked a ≡ true → is_failure a ≡ false
-lock_own a is = ap is_failure (its_lock a is).1
-
 -- a call of a session as a step of its player
 pub lets_be : (session : ℕ) (lost : Bool) (x y : State) → Beside session lost x y → LetsBe session x y
 lets_be session lost x y beside = record { grows = record { dialect = beside.dialect; limit = beside.limit; more = beside.more; entries = beside.entries }; others = beside.others }
@@ -68,8 +65,8 @@ err_ok h = Prim.cc
 module _ (session : ℕ) (before after : Standing Answer Locked Busy) (x y : State) (c e : Crashes) (result : Result (Unit {0}) DrillFault) where
   -- it answers what is none to a fault
   pub answered : (a : Answer) → Answers (Ok a) before.faulted after.answer after.faulted result → is_failure a ≡ false → y.live ≡ true → after.dialect ≡ before.dialect → (y.live ≡ true → is_open session y.begun ≡ after.opens)
-      → LetsBe session x y → ((lock : Lock) → after.owns lock → before.owns lock) → after.ready → (after.faulted ≡ true → tells_locked a ≡ true) → Moves session before after x y → MovesSafely session before after x c e → CrashesLeave x.entries Keeps c e → Took session before after x y c e result
-  answered a its own live dialect opens lets owns ready locked moves crash keeps = record {
+      → LetsBe session x y → ((lock : Lock) → after.owns lock → before.owns lock) → after.ready → (after.faulted ≡ true → tells_locked a ≡ true) → Moves failure_of session before after x (Ok tt) y → MovesSafely failure_of session before after x c e → Took session before after x y c e result
+  answered a its own live dialect opens lets owns ready locked moves crash = record {
     live = λ ok. live;
     dialect = dialect;
     ready = ready;
@@ -79,15 +76,14 @@ module _ (session : ℕ) (before after : Standing Answer Locked Busy) (x y : Sta
     faulted = λ was. its.1 ∙ was;
     met = λ bad. let it = its_lock a (locked bad) in inr (inr (it.0, its.0 ∙ ap (λ b. Some b) it.1));
     ends = subst (EndsBy failure_of after) (sym its.2) (λ why is. own_answer after.answer a why its.0 own is);
-    moves = moves;
+    moves = subst (λ (r : Result (Unit {0}) DrillFault). Moves failure_of session before after x r y) (sym its.2) moves;
     crash = crash;
-    keeps = keeps;
   }
 
   -- or a fault of the store
   pub failed_so : (why : DrillFault) → Answers (Err why) before.faulted after.answer after.faulted result → after.dialect ≡ before.dialect → (y.live ≡ true → is_open session y.begun ≡ after.opens)
-      → LetsBe session x y → ((lock : Lock) → after.owns lock → before.owns lock) → after.ready → CrashesLeave x.entries Keeps c e → Took session before after x y c e result
-  failed_so why its dialect opens lets owns ready keeps = record {
+      → LetsBe session x y → ((lock : Lock) → after.owns lock → before.owns lock) → after.ready → Moves failure_of session before after x (Err why) y → MovesSafely failure_of session before after x c e → Took session before after x y c e result
+  failed_so why its dialect opens lets owns ready moves crash = record {
     live = λ ok. absurd (err_ok (sym its.2 ∙ ok));
     dialect = dialect;
     ready = ready;
@@ -97,15 +93,14 @@ module _ (session : ℕ) (before after : Standing Answer Locked Busy) (x y : Sta
     faulted = λ was. its.1;
     met = λ bad. inr (inl (why, its.0));
     ends = subst (EndsBy failure_of after) (sym its.2) (its.0, its.1);
-    moves = λ jobs origin at is shows plays clean. absurd (not_true (sym clean ∙ its.1));
-    crash = λ jobs origin at is shows plays clean. absurd (not_true (sym clean ∙ its.1));
-    keeps = keeps;
+    moves = subst (λ (r : Result (Unit {0}) DrillFault). Moves failure_of session before after x r y) (sym its.2) moves;
+    crash = crash;
   }
 
   -- or it goes on
   pub goes_on : result ≡ Ok tt → after.answer ≡ None → y.live ≡ true → after.dialect ≡ before.dialect → (y.live ≡ true → is_open session y.begun ≡ after.opens)
-      → LetsBe session x y → ((lock : Lock) → after.owns lock → before.owns lock) → after.ready → (before.faulted ≡ true → after.faulted ≡ true) → Moves session before after x y → MovesSafely session before after x c e → CrashesLeave x.entries Keeps c e → Took session before after x y c e result
-  goes_on is none live dialect opens lets owns ready stays moves crash keeps = record {
+      → LetsBe session x y → ((lock : Lock) → after.owns lock → before.owns lock) → after.ready → (before.faulted ≡ true → after.faulted ≡ true) → Moves failure_of session before after x (Ok tt) y → MovesSafely failure_of session before after x c e → Took session before after x y c e result
+  goes_on is none live dialect opens lets owns ready stays moves crash = record {
     live = λ ok. live;
     dialect = dialect;
     ready = ready;
@@ -115,9 +110,8 @@ module _ (session : ℕ) (before after : Standing Answer Locked Busy) (x y : Sta
     faulted = stays;
     met = λ bad. inl none;
     ends = subst (EndsBy failure_of after) (sym is) (λ why it. no_answer after.answer why none it);
-    moves = moves;
+    moves = subst (λ (r : Result (Unit {0}) DrillFault). Moves failure_of session before after x r y) (sym is) moves;
     crash = crash;
-    keeps = keeps;
   }
 
 -- faults

@@ -1,5 +1,5 @@
 -- A player's first step is the machine's.
-use Rattle.std.proofs.Common.{ap, inr, subst, sym, ◌∙◌}
+use Rattle.std.proofs.Common.{ap, inl, inr, subst, sym, ◌∙◌}
 use Rattle.std.specs.List.{list_any}
 use Rattle.std.specs.Prelude.{List, None, Ok, Option, Some, [], false, if◌then◌else◌, map, nat_eq, refl, true, ℕ, ◌&&◌, ◌++◌, ◌||◌, ◌∷◌, ◌≡◌, ◌≢◌}
 use Rattle.lq_base.specs.declared.dialect.Dialect.{Dialect}
@@ -7,6 +7,7 @@ use Rattle.lq_base.specs.declared.tracking.Lock.{Lock}
 use Rattle.lq_beside.specs.Replays.{calls_fit}
 use Rattle.lq_drill.specs.Player.{Arrives, GoesOn, Moves, Standing}
 use Rattle.lq_drill.specs.Shows.{Shows}
+use Rattle.lq_drill.specs.declared.fault.DrillFault.{DrillFault}
 use Rattle.lq_hand.specs.Counts.{no_progress}
 use Rattle.lq_hand.specs.Hand.{calls_left, place_of}
 use Rattle.lq_hand.specs.Way.{Way}
@@ -14,9 +15,10 @@ use Rattle.lq_model.specs.declared.caller.Room.TheVariants.{Ordinary}
 use Rattle.lq_players.proofs.Erased.{fit_bare}
 use Rattle.lq_players.proofs.Machines.{Held, Runs, first_calls, first_told, held_after, is_first, own_number}
 use Rattle.lq_players.proofs.Shown.{arrives_last, arrives_told, holds_now, none_begun, none_open, shows_now, stands_first}
+use Rattle.lq_players.specs.Answers.{failure_of}
 use Rattle.lq_players.specs.Checked.{IsLetIn, MakesOne, MakesTurns, Work}
 use Rattle.lq_players.specs.Judged.{AnswersFirst, MayCall}
-use Rattle.lq_players.specs.Under.{IsUnder}
+use Rattle.lq_players.specs.Under.{IsUnder, WillAnswer}
 use Rattle.lq_players.specs.declared.checks.OneCall.{OneCall}
 use Rattle.lq_run.proofs.Begins.{first_session, new_keeps, opened}
 use Rattle.lq_run.proofs.Ending.{some_last}
@@ -53,21 +55,22 @@ module _ (n : ℕ) (before after : Standing Answer Locked Busy) (w : State) (non
   d = before.dialect
 
   -- an answer without a call
-  pub moves_told : (a : Answer) → after.answer ≡ Some a → (w.dialect ≡ d → (database : Database) → StandsFor d w.committed database → AnswersFirst (before.job.needs_lock && database.lock.locked) (other n w) before.job a database) → Moves n before after w w
-  moves_told a its answers jobs origin x dialect shows plays clean =
+  pub moves_told : (a : Answer) → after.answer ≡ Some a → ((why : DrillFault) → after.owes why → before.owes why)
+      → (w.dialect ≡ d → (database : Database) → StandsFor d w.committed database → AnswersFirst (before.job.needs_lock && database.lock.locked) (other n w) before.job a database) → Moves failure_of n before after w (Ok tt) w
+  moves_told a its owes answers jobs origin x dialect shows plays =
       let told = subst (λ j. AnswersFirst (j.needs_lock && x.committed.lock.locked) (other n w) j a x.committed) (sym (plays.waits none fresh))
       (answers (shows.dialect ∙ dialect) x.committed (subst (λ k. StandsFor k w.committed x.committed) dialect shows.committed)) in
       let same : moved Answer Locked Busy origin.dialect jobs n x ≡ answers_with Answer Locked Busy n a x
       = is_first origin.dialect jobs n x (plays.answer ∙ none) (plays.begun none ∙ fresh) ∙ first_told origin.dialect jobs n x w.begun shut shows.begun a told in
-      subst (λ y. Arrives jobs n after origin w x y) (sym same) (arrives_told jobs n after origin w a its clean x shows)
+      ((moved Answer Locked Busy origin.dialect jobs n x, inl refl, subst (λ y. Arrives jobs n after origin w x y) (sym same) (arrives_told jobs n after origin w a its x shows)), λ why owed. inl (owes why owed))
 
   module _ (z : State) where
     -- a command of one call
-    pub moves_once : (call : OneCall) → after.answer ≡ Some call.answer → (z.live ≡ true → is_open n z.begun ≡ false)
+    pub moves_once : (call : OneCall) → after.answer ≡ Some call.answer → ((why : DrillFault) → after.owes why → before.owes why) → (z.live ≡ true → is_open n z.begun ≡ false)
         → (w.dialect ≡ d → (database : Database) → StandsFor d w.committed database → MayCall n w before.job database × MakesOne d before.job call database)
         → ((start : State) (s : Session) → start.dialect ≡ d → Stands start n w s → all_fit d call.deeds s.seen ≡ true → Stands start n z (called d (Alone call.deeds call.room) s))
-        → Moves n before after w z
-    moves_once call its shuts may does jobs origin x dialect shows plays clean =
+        → Moves failure_of n before after w (Ok tt) z
+    moves_once call its owes shuts may does jobs origin x dialect shows plays =
         let e = origin.dialect in
         let first = session_on x.committed in
         let made : Call = Alone call.deeds call.room in
@@ -79,9 +82,11 @@ module _ (n : ℕ) (before after : Standing Answer Locked Busy) (w : State) (non
         let y : Runs = record x { committed = (called e made first).committed; holder = None; begun = n ∷ x.begun; entries = x.entries ++ appended e made first } in
         let same : moved Answer Locked Busy e jobs n x ≡ answers_with Answer Locked Busy n call.answer y
         = is_first e jobs n x (plays.answer ∙ none) (plays.begun none ∙ fresh) ∙ first_calls e jobs n x w.begun shut shows.begun made [] call.answer let_in both.0.0 one.passes one.script_is one.answer_is in
-        subst (λ v. Arrives jobs n after origin z x v) (sym same)
-        (arrives_last jobs n after origin z call.answer its clean x y
-        (shows_now origin w x shows n z (called e made first) y stands refl refl (none_open w.dialect n (called e made first) z.begun stands.begun (shuts stands.live))) one.free)
+        let arrives : Arrives jobs n after origin z x (moved Answer Locked Busy e jobs n x)
+        = subst (λ v. Arrives jobs n after origin z x v) (sym same)
+        (arrives_last jobs n after origin z call.answer its x y
+        (shows_now origin w x shows n z (called e made first) y stands refl refl (none_open w.dialect n (called e made first) z.begun stands.begun (shuts stands.live))) one.free) in
+        ((moved Answer Locked Busy e jobs n x, inl refl, arrives), λ why owed. inl (owes why owed))
 
 -- a command that takes the lock
 
@@ -125,18 +130,17 @@ module _ {Key Told T : Type 0} (m : Meaning Key) (stamp : Stamp) (way : T → Di
     is_under =
         let it = running in record {
           told = makes.told;
-          healthy = new.fault;
           on = record {
             ready = it.there.at.ready;
             fits = fit_bare e (rest e m stamp (place r) (both_of first)) first it.there.at.fits;
             row = it.there.at.row;
-            known = it.there.known new.fault;
+            known = it.there.known;
             committed = it.committed;
             seen = it.seen;
             keeps = it.keeps;
           };
           to_come = ap (λ b. rest e m stamp (place r) b) (sym (opened e m stamp n x.committed []).both);
-          answers = makes.answers;
+          answers = subst (λ f. WillAnswer e m stamp r way ends makes.told f (job.answer x.committed)) (sym new.fault) makes.answers;
         }
 
     pub script_is : job.script x.committed ≡ Alone (map Locks (opening stamp x.committed)) Ordinary ∷ to_come
@@ -152,11 +156,11 @@ module _ {Key Told T : Type 0} (m : Meaning Key) (stamp : Stamp) (way : T → Di
 
 module _ {Key Told T : Type 0} (m : Meaning Key) (stamp : Stamp) (way : T → Dialect → Stamp → Told → Way) (ends : T → Option Refusal → Answer) (source : T) (n : ℕ) (before after : Standing Answer Locked Busy) (w z : State) (r : Command Key Told)
     (none : before.answer ≡ None) (fresh : before.begun ≡ false) (shut : is_open n w.begun ≡ false) where
-  pub moves_begun : after.answer ≡ None → after.begun ≡ true → ((h : Held) → IsUnder before.dialect m stamp r way ends h → after.is_at h) → ((lock : Lock) → IsHeld stamp lock → after.owns lock)
+  pub moves_begun : after.answer ≡ None → after.begun ≡ true → ((h : Held) → IsUnder before.dialect m stamp r way ends h → after.is_at h) → ((lock : Lock) → IsHeld stamp lock → after.owns lock) → ((why : DrillFault) → after.owes why → before.owes why)
       → IsNew before.dialect m stamp r → r.progress ≡ no_progress → r.way ≡ way source
       → (w.dialect ≡ before.dialect → (database : Database) → StandsFor before.dialect w.committed database → MayCall n w before.job database × MakesTurns before.dialect m stamp way ends before.job r.turns source r.hand database)
-      → TakesLock before.dialect stamp n w (Ok tt) z → Moves n before after w z
-  moves_begun unanswered began under owns new started from may takes jobs origin x dialect shows plays clean =
+      → TakesLock before.dialect stamp n w (Ok tt) z → Moves failure_of n before after w (Ok tt) z
+  moves_begun unanswered began under owns owes new started from may takes jobs origin x dialect shows plays =
       let e = origin.dialect in
       let both = may (shows.dialect ∙ dialect) x.committed (subst (λ k. StandsFor k w.committed x.committed) dialect shows.committed) in
       let shut_all = none_begun n w.begun shut both.0.0 in
@@ -174,15 +178,15 @@ module _ {Key Told T : Type 0} (m : Meaning Key) (stamp : Stamp) (way : T → Di
       = is_first e jobs n x (plays.answer ∙ none) (plays.begun none ∙ fresh)
       ∙ first_calls e jobs n x w.begun shut shows.begun made held.rest held.answer let_in both.0.0 makes.passes (script_is m stamp way ends source n w z r origin x shows shut_all new_e started (jobs n) from makes takes_e) refl
       ∙ held_after n held.session held.rest held.answer (record x { entries = x.entries ++ appended e made (session_on x.committed) }) (some_to_come m stamp way ends source n w z r origin x shows shut_all new_e started (jobs n) from makes takes_e) in
-      subst (λ v. Arrives jobs n after origin z x v) (sym same) (record {
+      let arrives : Arrives jobs n after origin z x y = record {
         shows = shows_next m stamp way ends source n w z r origin x shows shut_all new_e started (jobs n) from makes takes_e;
         plays = record {
           answer = plays.answer ∙ none ∙ sym unanswered;
-          faultless = clean;
           begun = λ yet. ap (λ b. b || list_any (nat_eq n) x.begun) (own_number n) ∙ sym began;
           waits = λ yet waits. absurd (not_true (sym waits ∙ began));
           goes_on = λ yet goes. subst (λ o. GoesOn after o y.committed.lock) (sym (ap (λ b. if b then Some held else None) (own_number n)))
               (under held (subst (λ k. IsUnder k m stamp r way ends held) dialect (is_under m stamp way ends source n w z r origin x shows shut_all new_e started (jobs n) from makes takes_e)));
         };
         lock = inr (inr (owns held.session.committed.lock it.committed));
-      })
+      } in
+      ((moved Answer Locked Busy e jobs n x, inl refl, subst (λ v. Arrives jobs n after origin z x v) (sym same) arrives), λ why owed. inl (owes why owed))

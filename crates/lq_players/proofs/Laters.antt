@@ -1,27 +1,40 @@
--- A player's later steps are the machine's.
+-- A player's later steps are the machine's, or those of one that gives up after a fault.
 use Rattle.std.proofs.Common.{ap, inl, inr, subst, sym, ◌∙◌}
 use Rattle.std.specs.List.{list_any}
-use Rattle.std.specs.Prelude.{Bool, List, None, Option, Some, [], false, if◌then◌else◌, nat_eq, refl, true, ℕ, ◌++◌, ◌||◌, ◌∷◌, ◌≡◌, ◌≢◌, ◌⊎◌}
+use Rattle.std.specs.Prelude.{Bool, List, None, Ok, Option, Some, [], false, if◌then◌else◌, is_some, nat_eq, refl, true, ℕ, ◌++◌, ◌||◌, ◌∷◌, ◌≡◌, ◌≢◌, ◌⊎◌}
 use Rattle.lq_base.specs.declared.dialect.Dialect.{Dialect}
 use Rattle.lq_base.specs.declared.tracking.Lock.{Lock}
-use Rattle.lq_drill.specs.Player.{Arrives, GoesOn, Moves, Plays, Standing, held_by}
+use Rattle.lq_drill.specs.Faults.{Falls, Meets, last_calls}
+use Rattle.lq_drill.specs.Player.{Arrives, GoesOn, IsDue, Moves, MovesAs, Plays, Standing, held_by}
+use Rattle.lq_drill.specs.Player.{answer_of as told_by}
 use Rattle.lq_drill.specs.Shows.{IsHolders, IsOpenAs, Shows}
+use Rattle.lq_drill.specs.declared.fault.DrillFault.{DrillFault}
+use Rattle.lq_drill.specs.declared.fault.DrillFault.TheVariants as drill
+use Rattle.lq_hand.specs.Hand.{IsReady}
 use Rattle.lq_hand.specs.Way.{Way}
+use Rattle.lq_model.specs.declared.caller.Room.TheVariants.{Ordinary}
+use Rattle.lq_model.specs.declared.caller.Room.{Room}
 use Rattle.lq_model.specs.declared.fault.StoreFault.{StoreFault}
 use Rattle.lq_model.specs.declared.fault.StoreFault.TheVariants as fault
 use Rattle.lq_players.proofs.Erased.{call_with, fit_bare, with_entries}
-use Rattle.lq_players.proofs.Machines.{Held, Runs, held_after, holder_is, is_later, later_lost, later_makes, not_open, not_other, own_number}
-use Rattle.lq_players.proofs.Shown.{arrives_last, arrives_told, holds_now, shows_now, shut_none, stands_for}
-use Rattle.lq_players.specs.Answers.{is_failed_end, is_told_end, refusal_in}
+use Rattle.lq_players.proofs.Falling.{cause, fallen, fallen_held, given, given_calls, given_shows}
+use Rattle.lq_players.proofs.Machines.{Held, IsToCall, Runs, held_after, holder_is, is_later, later_lost, next_called, not_open, not_other, own_number, some_is}
+use Rattle.lq_players.proofs.Shown.{arrives_last, arrives_told, holds_now, shows_now, shut_begun, shut_none, stands_for}
+use Rattle.lq_players.specs.Answers.{failure_of, fault_of, is_failed_end, is_told_end, refusal_in}
 use Rattle.lq_players.specs.Checked.{Work}
 use Rattle.lq_players.specs.Hindered.{IsFree, IsHindered}
-use Rattle.lq_players.specs.Under.{IsOn, IsUnder, bare}
+use Rattle.lq_players.specs.Playing.{is_locked}
+use Rattle.lq_players.specs.Under.{IsOn, IsUnder, WillAnswer, bare}
 use Rattle.lq_run.proofs.Ending.{keeps_split, left_after, only_last}
 use Rattle.lq_run.proofs.Keeping.{call_holds}
+use Rattle.lq_run.specs.Does.{Faults}
+use Rattle.lq_run.specs.Ends.{disk_failed}
+use Rattle.lq_run.specs.Faults.{StopsAs}
 use Rattle.lq_run.specs.Holds.{IsHeld}
 use Rattle.lq_run.specs.Moves.{Goes}
 use Rattle.lq_run.specs.Stands.{Stands}
-use Rattle.lq_run.specs.Steps.{Closes, Ends, EndsStep, IsThere, Steps, StepsAs, TellsAs, end_of, is_over, last_end, place}
+use Rattle.lq_run.specs.Steps.{Advances, Ends, EndsStep, IsThere, Steps, StepsAs, TakesBack, TellsAs, end_of, is_disk, is_over, last_end, place}
+use Rattle.lq_run.specs.Steps.{Falls as MetFault}
 use Rattle.lq_run.specs.Steps.{Standing as Command}
 use Rattle.lq_run.specs.declared.runner.End.{End}
 use Rattle.lq_run.specs.declared.runner.End.TheVariants as end
@@ -33,7 +46,7 @@ use Rattle.lq_turns.specs.Contents.{contents_of, with_contents}
 use Rattle.lq_turns.specs.Deed.{lock_after}
 use Rattle.lq_turns.specs.Held.{StandsFor}
 use Rattle.lq_turns.specs.Rest.{NoMore, Over, between, rest}
-use Rattle.lq_turns.specs.Schedule.{answers_with, appended, later_step, moved}
+use Rattle.lq_turns.specs.Schedule.{after_call, answers_with, appended, has_begun, moved}
 use Rattle.lq_turns.specs.Script.{closing}
 use Rattle.lq_turns.specs.Session.{Session, called}
 use Rattle.lq_turns.specs.Set.{Meaning}
@@ -41,6 +54,7 @@ use Rattle.lq_turns.specs.Stepped.{both_of}
 use Rattle.lq_turns.specs.declared.answer.Answer.{Answer}
 use Rattle.lq_turns.specs.declared.answer.Answer.TheVariants.{Busy, Locked}
 use Rattle.lq_turns.specs.declared.call.Call.{Call}
+use Rattle.lq_turns.specs.declared.call.Call.TheVariants.{Abort}
 use Rattle.lq_turns.specs.declared.deed.Deed.{Deed}
 use Rattle.lq_turns.specs.declared.deed.Deed.TheVariants.{Locks}
 use Rattle.lq_turns.specs.declared.deed.OnLock.TheVariants.{Freed}
@@ -52,6 +66,9 @@ not_true h = Prim.cc
 
 faulted_not : (why : StoreFault) (f : Option StoreFault) → f ≡ Some why → f ≡ None → ⊥
 faulted_not why f some none = Prim.cc
+
+not_nil : {c : Call} {cs : List Call} → c ∷ cs ≡ [] → ⊥
+not_nil h = Prim.cc
 
 -- how a command ends
 
@@ -78,19 +95,32 @@ tells_refusal it end.Disk is tells = absurd (not_true is)
 tells_refusal it (end.Full used next) is tells = absurd (not_true is)
 tells_refusal it end.OutOfMemory is tells = absurd (not_true is)
 
+-- with a fault a command does not come to its end
+not_stopped : (was : Option StoreFault) (refused : Option Refusal) (e : End) → e ≡ last_end None refused → StopsAs was (step.Ended e) → ⊥
+not_stopped was None e is stops = subst (λ k. StopsAs was (step.Ended k)) is stops
+not_stopped was (Some refusal) e is stops = subst (λ k. StopsAs was (step.Ended k)) is stops
+
 module _ {Key Told : Type 0} (d : Dialect) (m : Meaning Key) (stamp : Stamp) (n : ℕ) (r : Command Key Told) (start : State) (s : Session) (x y : State) (e : End) (whole : is_failed_end e ≡ false) where
-  -- where it met no fault the last call was made
-  last_made : r.fault ≡ None → EndsStep d m stamp n r start s x e y → Goes d m stamp n (place r) Over start s y × (e ≡ last_end None r.refused)
-  last_made none (inl ends) = by (subst (λ f. Ends d m stamp n (place r) f r.refused start s x e y) none ends) where
-    by : Closes d m stamp n (place r) (last_end None r.refused) start s x e y → Goes d m stamp n (place r) Over start s y × (e ≡ last_end None r.refused)
-    by (inl went) = went
-    by (inr failed) = absurd (not_failed failed.0 e whole failed.2)
-  last_made none (inr (inl short)) = by short.1 where
-    by : Ends d m stamp n (between NoMore) (Some fault.OutOfMemory) r.refused start s x e y → Goes d m stamp n (place r) Over start s y × (e ≡ last_end None r.refused)
+  -- its last call was made, and it had met no fault
+  pub record IsLast : Type 0 where
+    pub healthy : r.fault ≡ None
+    pub goes : Goes d m stamp n (place r) Over start s y
+    pub ends : e ≡ last_end None r.refused
+
+  last_made : EndsStep d m stamp n r start s x e y → IsLast
+  last_made (inl ends) = by r.fault refl ends where
+    by : (f : Option StoreFault) → r.fault ≡ f → Ends d m stamp n (place r) f r.refused start s x e y → IsLast
+    by None healthy (inl went) = record { healthy = healthy; goes = went.0; ends = went.1 }
+    by None healthy (inr failed) = absurd (not_failed failed.0 e whole failed.2)
+    by (Some why) met (inl (bare, inl went)) = absurd (not_failed why e whole went.1)
+    by (Some why) met (inl (bare, inr failed)) = absurd (not_failed failed.0 e whole failed.2)
+    by (Some why) met (inr marked) = absurd (not_failed why e whole marked.2)
+  last_made (inr (inl short)) = by short.1 where
+    by : Ends d m stamp n (between NoMore) (Some fault.OutOfMemory) r.refused start s x e y → IsLast
     by (inl (bare, inl went)) = absurd (not_failed fault.OutOfMemory e whole went.1)
     by (inl (bare, inr failed)) = absurd (not_failed failed.0 e whole failed.2)
     by (inr marked) = absurd (not_failed fault.OutOfMemory e whole marked.2)
-  last_made none (inr (inr failed)) = absurd (not_failed fault.Disk e whole failed.1)
+  last_made (inr (inr failed)) = absurd (not_failed fault.Disk e whole failed.1)
 
 -- the lock is free after the last call
 freed : (d : Dialect) (s : Session) → (called d closing s).committed.lock.locked ≡ false
@@ -100,32 +130,98 @@ freed d s = ap (λ (b : Database). b.lock.locked) (committed_last d (Locks Freed
 forgets : {Key Told : Type 0} (d : Dialect) (m : Meaning Key) (stamp : Stamp) (r : Command Key Told) (told : Told) (s : Session) (entries : List (List Deed)) → IsOn d m stamp r told (with_entries s entries) → IsOn d m stamp r told s
 forgets d m stamp r told s entries on = record { ready = on.ready; fits = on.fits; row = on.row; known = on.known; committed = on.committed; seen = on.seen; keeps = on.keeps }
 
+-- only a fault of the disk leaves something
+unchanged : (start x z : State) (n : ℕ) (s : Session) (room : Room) (call : Call) (why : StoreFault) → is_disk why ≡ false → Faults start n x s room call why z → z ≡ x
+unchanged start x z n s room call fault.Disk other faults = absurd (not_true (sym other))
+unchanged start x z n s room call (fault.Full used next) other faults = faults.1
+unchanged start x z n s room call fault.OutOfMemory other faults = faults
+unchanged start x z n s room call (fault.Busy k) other faults = absurd faults
+unchanged start x z n s room call fault.NotSql other faults = absurd faults
+unchanged start x z n s room call (fault.Refused reason) other faults = absurd faults
+
+-- after a call of the holder
+module _ {Key Told T : Type 0} (m : Meaning Key) (stamp : Stamp) (way : T → Dialect → Stamp → Told → Way) (ends : T → Option Refusal → Answer) (n : ℕ) (after : Standing Answer Locked Busy) (origin w z : State) (jobs : ℕ → Work) (first x : Runs) (h : Held) (call : Call) (calls : List Call) (shows : Shows origin w x) (it : IsToCall n x h call calls) (now : Session) (made : now ≡ called origin.dialect call (bare h.session)) (stands_now : Stands w n z now) where
+  abbrev t : Session
+  t = called origin.dialect call h.session
+
+  abbrev es : List (List Deed)
+  es = (call_with origin.dialect call h.session []).0
+
+  as_made : now ≡ with_entries t es
+  as_made = made ∙ (call_with origin.dialect call h.session []).1
+
+  abbrev left : Option Held → Runs
+  left o = record x { committed = t.committed; holder = o; begun = n ∷ x.begun; entries = x.entries ++ appended origin.dialect call h.session }
+
+  shows_left : (o : Option Held) → IsHolders origin.dialect t.committed o z.begun → Shows origin z (left o)
+  shows_left o held = shows_now origin w x shows n z now (left o) stands_now (sym (ap (λ (q : Session). q.committed) as_made)) (ap (λ (q : Session). x.entries ++ q.entries) (sym made)) held
+
+  -- another is to come
+  called_on : (q : Command Key Told) (told : Told) → after.answer ≡ None → after.begun ≡ true → ((k : Held) → IsUnder origin.dialect m stamp q way ends k → after.is_at k) → ((lock : Lock) → IsHeld stamp lock → after.owns lock)
+      → calls ≢ [] → calls ≡ rest origin.dialect m stamp (place q) (both_of now) → IsOn origin.dialect m stamp q told now → WillAnswer origin.dialect m stamp q way ends told q.fault h.answer → Arrives jobs n after origin z first (moved Answer Locked Busy origin.dialect jobs n x)
+  called_on q told unanswered began places keeps some rest_of on answers =
+      let on_it : IsOn origin.dialect m stamp q told t = forgets origin.dialect m stamp q told t es (subst (λ v. IsOn origin.dialect m stamp q told v) as_made on) in
+      let k : Held = record { runner = n; session = t; rest = calls; answer = h.answer } in
+      let same : moved Answer Locked Busy origin.dialect jobs n x ≡ left (Some k)
+      = next_called origin.dialect jobs n x h call calls it ∙ held_after n t calls h.answer (record x { entries = x.entries ++ appended origin.dialect call h.session }) some in
+      subst (λ v. Arrives jobs n after origin z first v) (sym same) (record {
+        shows = shows_left (Some k) (refl, holds_now origin w x shows n z now t es stands_now as_made);
+        plays = record {
+          answer = it.unanswered ∙ sym unanswered;
+          begun = λ yet. ap (λ b. b || list_any (nat_eq n) x.begun) (own_number n) ∙ sym began;
+          waits = λ yet waits. absurd (not_true (sym waits ∙ began));
+          goes_on = λ yet goes. subst (λ o. GoesOn after o (left (Some k)).committed.lock) (sym (ap (λ b. if b then Some k else None) (own_number n)))
+              (places k (record {
+                told = told;
+                on = on_it;
+                to_come = rest_of ∙ ap (λ (v : Session). rest origin.dialect m stamp (place q) (both_of v)) as_made;
+                answers = answers;
+              }));
+        };
+        lock = inr (inr (keeps t.committed.lock on_it.committed));
+      })
+
+  -- or it was the last
+  called_last : (a : Answer) → after.answer ≡ Some a → calls ≡ [] → a ≡ h.answer → call ≡ closing → z.begun ≡ None → Arrives jobs n after origin z first (moved Answer Locked Busy origin.dialect jobs n x)
+  called_last a its no_more is frees shut =
+      let same : moved Answer Locked Busy origin.dialect jobs n x ≡ answers_with Answer Locked Busy n a (left None)
+      = next_called origin.dialect jobs n x h call calls it ∙ ap (λ l. after_call Answer Locked Busy n t l h.answer (record x { entries = x.entries ++ appended origin.dialect call h.session })) no_more ∙ ap (λ b. answers_with Answer Locked Busy n b (left None)) (sym is) in
+      subst (λ v. Arrives jobs n after origin z first v) (sym same)
+      (arrives_last jobs n after origin z a its first (left None) (shows_left None shut) (subst (λ (k : Call). (called origin.dialect k h.session).committed.lock.locked ≡ false) (sym frees) (freed origin.dialect h.session)))
+
+-- what it is to answer does not hang on its place
+answers_as : {Key Told T : Type 0} (d : Dialect) (m : Meaning Key) (stamp : Stamp) (r q : Command Key Told) (way : T → Dialect → Stamp → Told → Way) (ends : T → Option Refusal → Answer) (told : Told) (f : Option StoreFault) (a : Answer)
+    → WillAnswer d m stamp r way ends told f a → WillAnswer d m stamp q way ends told f a
+answers_as d m stamp r q way ends told None a is = is
+answers_as d m stamp r q way ends told (Some why) a is = is
+
 module _ {Key Told T : Type 0} (m : Meaning Key) (stamp : Stamp) (way : T → Dialect → Stamp → Told → Way) (answer_of : T → Option Refusal → Answer) (n : ℕ) (before after : Standing Answer Locked Busy) (w : State) (r : Command Key Told) (none : before.answer ≡ None) (begun : before.begun ≡ true)
     (under : (h : Held) → before.is_at h → IsUnder before.dialect m stamp r way answer_of h) (owns : (lock : Lock) → IsHeld stamp lock → before.owns lock) where
   abbrev d : Dialect
   d = before.dialect
 
   -- what keeps it from its next call it answers
-  pub moves_hindered : (a : Answer) → after.answer ≡ Some a → IsHindered d stamp n w a → Moves n before after w w
-  moves_hindered a its hindered jobs origin x dialect shows plays clean = by (held_by n x.holder) refl (plays.goes_on none begun) where
-    why : ((IsHeld stamp x.committed.lock → ⊥) × (a ≡ Locked x.committed.lock)) ⊎ (IsHeld stamp x.committed.lock × ((k : ℕ) × (other n w ≡ Some k)))
-    why = hindered (shows.dialect ∙ dialect) x.committed (subst (λ k. StandsFor k w.committed x.committed) dialect shows.committed)
+  pub moves_hindered : (a : Answer) → after.answer ≡ Some a → IsHindered d stamp n w a → ((why : DrillFault) → after.owes why → before.owes why) → Moves failure_of n before after w (Ok tt) w
+  moves_hindered a its hindered owes jobs origin x dialect shows plays =
+      ((moved Answer Locked Busy origin.dialect jobs n x, inl refl, by (held_by n x.holder) refl (plays.goes_on none begun)), λ why owed. inl (owes why owed)) where
+        why : ((IsHeld stamp x.committed.lock → ⊥) × (a ≡ Locked x.committed.lock)) ⊎ (IsHeld stamp x.committed.lock × ((k : ℕ) × (other n w ≡ Some k)))
+        why = hindered (shows.dialect ∙ dialect) x.committed (subst (λ k. StandsFor k w.committed x.committed) dialect shows.committed)
 
-    by : (o : Option Held) → held_by n x.holder ≡ o → GoesOn before o x.committed.lock → Arrives jobs n after origin w x (moved Answer Locked Busy origin.dialect jobs n x)
-    by None gone lost = elim why [
-      | inl it ↦
-          let same : moved Answer Locked Busy origin.dialect jobs n x ≡ answers_with Answer Locked Busy n a x
-          = is_later origin.dialect jobs n x (plays.answer ∙ none) (plays.begun none ∙ begun) ∙ later_lost origin.dialect jobs n x gone ∙ ap (λ b. answers_with Answer Locked Busy n b x) (sym it.1) in
-          subst (λ y. Arrives jobs n after origin w x y) (sym same) (arrives_told jobs n after origin w a its clean x shows)
-      | inr it ↦ absurd (lost (owns x.committed.lock it.0))
-    ]
-    by (Some h) held at =
-        let its_holder = holder_is n x.holder h held in
-        let holders : IsHolders origin.dialect x.committed (Some h) w.begun = subst (λ o. IsHolders origin.dialect x.committed o w.begun) its_holder.0 shows.begun in
-        elim why [
-          | inl it ↦ absurd (it.0 (subst (λ (b : Database). IsHeld stamp b.lock) holders.0 (under h at).on.committed))
-          | inr it ↦ absurd (not_other origin.dialect n it.1.0 h.session w.begun (subst (λ j. IsOpenAs origin.dialect j h.session w.begun) its_holder.1 holders.1) it.1.1)
+        by : (o : Option Held) → held_by n x.holder ≡ o → GoesOn before o x.committed.lock → Arrives jobs n after origin w x (moved Answer Locked Busy origin.dialect jobs n x)
+        by None gone lost = elim why [
+          | inl it ↦
+              let same : moved Answer Locked Busy origin.dialect jobs n x ≡ answers_with Answer Locked Busy n a x
+              = is_later origin.dialect jobs n x (plays.answer ∙ none) (plays.begun none ∙ begun) ∙ later_lost origin.dialect jobs n x gone ∙ ap (λ b. answers_with Answer Locked Busy n b x) (sym it.1) in
+              subst (λ y. Arrives jobs n after origin w x y) (sym same) (arrives_told jobs n after origin w a its x shows)
+          | inr it ↦ absurd (lost (owns x.committed.lock it.0))
         ]
+        by (Some h) held at =
+            let its_holder = holder_is n x.holder h held in
+            let holders : IsHolders origin.dialect x.committed (Some h) w.begun = subst (λ o. IsHolders origin.dialect x.committed o w.begun) its_holder.0 shows.begun in
+            elim why [
+              | inl it ↦ absurd (it.0 (subst (λ (b : Database). IsHeld stamp b.lock) holders.0 (under h at).on.committed))
+              | inr it ↦ absurd (not_other origin.dialect n it.1.0 h.session w.begun (subst (λ j. IsOpenAs origin.dialect j h.session w.begun) its_holder.1 holders.1) it.1.1)
+            ]
 
   module _ (within : Bool) (opened : is_open n w.begun ≡ within) (free : IsFree d stamp n within w) (jobs : ℕ → Work) (origin : State) (x : Runs) (dialect : origin.dialect ≡ before.dialect) (shows : Shows origin w x) (plays : Plays jobs n before x) where
     -- the machine's holder is this command
@@ -156,101 +252,179 @@ module _ {Key Told T : Type 0} (m : Meaning Key) (stamp : Stamp) (way : T → Di
       pub there : IsThere origin.dialect m stamp n r w w s it.on.told
       there = record {
         at = record { dialect = shows.dialect; stands = stands; ready = it.on.on.ready; fits = it.on.on.fits; row = it.on.on.row };
-        known = λ healthy. it.on.on.known;
+        known = it.on.on.known;
       }
 
-      pub later : moved Answer Locked Busy origin.dialect jobs n x ≡ later_step Answer Locked Busy origin.dialect jobs n x
-      later = is_later origin.dialect jobs n x (plays.answer ∙ none) (plays.begun none ∙ begun)
+      unanswered_yet : told_by n x.answers ≡ None
+      unanswered_yet = plays.answer ∙ none
 
-      module _ (z : State) (call : Call) (rest_is : List Call) (after_it : Session) (next : rest origin.dialect m stamp (place r) (both_of s) ≡ call ∷ rest_is) (made : after_it ≡ called origin.dialect call s) (stands_now : Stands w n z after_it) where
-        abbrev t : Session
-        t = called origin.dialect call it.h.session
+      begun_there : has_begun Answer Locked Busy n x ≡ true
+      begun_there = plays.begun none ∙ begun
 
-        abbrev es : List (List Deed)
-        es = (call_with origin.dialect call it.h.session []).0
+      -- the lock is its own
+      lock_held : IsHeld stamp x.committed.lock
+      lock_held = subst (λ (b : Database). IsHeld stamp b.lock) holders.0 it.on.on.committed
 
-        as_made : after_it ≡ with_entries t es
-        as_made = made ∙ (call_with origin.dialect call it.h.session []).1
+      -- its next call is the machine's; where it gives up, the first of those that are left to it
 
-        abbrev left : Option Held → Runs
-        left o = record x { committed = t.committed; holder = o; begun = n ∷ x.begun; entries = x.entries ++ appended origin.dialect call it.h.session }
+      pub to_call : (call : Call) (calls : List Call) → rest origin.dialect m stamp (place r) (both_of s) ≡ call ∷ calls → IsToCall n x it.h call calls
+      to_call call calls next = record { unanswered = unanswered_yet; begun = begun_there; held = it.held; next = it.on.to_come ∙ next }
 
-        shows_left : (o : Option Held) → IsHolders origin.dialect t.committed o z.begun → Shows origin z (left o)
-        shows_left o held = shows_now origin w x shows n z after_it (left o) stands_now (sym (ap (λ (q : Session). q.committed) as_made)) (ap (λ (q : Session). x.entries ++ q.entries) (sym made)) held
+      pub left_to_call : (why : DrillFault) (call : Call) (calls : List Call) → last_calls it.h.session ≡ call ∷ calls → IsToCall n (given why it.h x) (fallen why it.h) call calls
+      left_to_call why call calls next = given_calls n x it.h why call calls unanswered_yet begun_there it.held next
 
-        -- another call is to come
-        goes_on : (q : Command Key Told) → after.answer ≡ None → after.begun ≡ true → after.faulted ≡ false → ((h : Held) → IsUnder origin.dialect m stamp q way answer_of h → after.is_at h) → ((lock : Lock) → IsHeld stamp lock → after.owns lock) → q.fault ≡ None
-            → rest_is ≢ [] → rest_is ≡ rest origin.dialect m stamp (place q) (both_of after_it) → IsOn origin.dialect m stamp q it.on.told after_it → Arrives jobs n after origin z x (moved Answer Locked Busy origin.dialect jobs n x)
-        goes_on q unanswered began clean places keeps healthy some rest_of on =
-            let on_it : IsOn origin.dialect m stamp q it.on.told t = forgets origin.dialect m stamp q it.on.told t es (subst (λ v. IsOn origin.dialect m stamp q it.on.told v) as_made on) in
-            let h : Held = record { runner = n; session = t; rest = rest_is; answer = it.h.answer } in
-            let same : moved Answer Locked Busy origin.dialect jobs n x ≡ left (Some h)
-            = later ∙ later_makes origin.dialect jobs n x it.h call rest_is it.held (it.on.to_come ∙ next) ∙ held_after n t rest_is it.h.answer (record x { entries = x.entries ++ appended origin.dialect call it.h.session }) some in
-            subst (λ v. Arrives jobs n after origin z x v) (sym same) (record {
-              shows = shows_left (Some h) (refl, holds_now origin w x shows n z after_it t es stands_now as_made);
-              plays = record {
-                answer = plays.answer ∙ none ∙ sym unanswered;
-                faultless = clean;
-                begun = λ yet. ap (λ b. b || list_any (nat_eq n) x.begun) (own_number n) ∙ sym began;
-                waits = λ yet waits. absurd (not_true (sym waits ∙ began));
-                goes_on = λ yet goes. subst (λ o. GoesOn after o (left (Some h)).committed.lock) (sym (ap (λ b. if b then Some h else None) (own_number n)))
-                    (places h (record {
-                      told = it.on.told;
-                      healthy = healthy;
-                      on = on_it;
-                      to_come = rest_of ∙ ap (λ (v : Session). rest origin.dialect m stamp (place q) (both_of v)) as_made;
-                      answers = it.on.answers;
-                    }));
-              };
-              lock = inr (inr (keeps t.committed.lock on_it.committed));
-            })
+      pub falls : (why : DrillFault) (y : Runs) → (y ≡ given why it.h x) ⊎ (y ≡ moved Answer Locked Busy origin.dialect jobs n (given why it.h x)) → Falls failure_of origin.dialect jobs n x y
+      falls why y is = record { why = why; holder = it.h; held = it.held; locked = is_locked stamp x.committed.lock lock_held; rests = shut_begun origin.dialect it.h.runner it.h.session w.begun holders.1; is = is }
 
-        -- or it was the last
-        closes : (a : Answer) → after.answer ≡ Some a → after.faulted ≡ false → rest_is ≡ [] → a ≡ it.h.answer → call ≡ closing → z.begun ≡ None → Arrives jobs n after origin z x (moved Answer Locked Busy origin.dialect jobs n x)
-        closes a its clean no_rest is frees shut =
-            let same : moved Answer Locked Busy origin.dialect jobs n x ≡ answers_with Answer Locked Busy n a (left None)
-            = later ∙ later_makes origin.dialect jobs n x it.h call [] it.held (it.on.to_come ∙ next ∙ ap (λ l. call ∷ l) no_rest) ∙ ap (λ b. answers_with Answer Locked Busy n b (left None)) (sym is) in
-            subst (λ v. Arrives jobs n after origin z x v) (sym same)
-            (arrives_last jobs n after origin z a its clean x (left None) (shows_left None shut) (subst (λ (k : Call). (called origin.dialect k it.h.session).committed.lock.locked ≡ false) (sym frees) (freed origin.dialect it.h.session)))
+      module _ (z : State) (q : Command Key Told) (unanswered : after.answer ≡ None) (began : after.begun ≡ true) (places : (h : Held) → IsUnder d m stamp q way answer_of h → after.is_at h) (keeps : (lock : Lock) → IsHeld stamp lock → after.owns lock) (flag : is_some q.fault ≡ true → after.faulted ≡ true)
+          (owes : (why : DrillFault) → after.owes why → (f : StoreFault) × (q.fault ≡ Some f) × (fault_of f ≡ why)) where
+        places_it : (h : Held) → IsUnder origin.dialect m stamp q way answer_of h → after.is_at h
+        places_it h is = places h (subst (λ k. IsUnder k m stamp q way answer_of h) dialect is)
+
+        -- what it owes now it met now
+        owes_met : (f : StoreFault) → q.fault ≡ Some f → IsDue failure_of jobs n before origin x (fault_of f) → (why : DrillFault) → after.owes why → IsDue failure_of jobs n before origin x why
+        owes_met f met due why owed =
+            let it_owes = owes why owed in
+            let same : f ≡ it_owes.0 = some_is (sym met ∙ it_owes.1) in
+            subst (λ k. IsDue failure_of jobs n before origin x k) (ap fault_of same ∙ it_owes.2) due
+
+        -- it made its next call
+        advances : is_over q.hand.phase ≡ false → ((f : StoreFault) → r.fault ≡ Some f → before.owes (fault_of f)) → Advances origin.dialect m stamp n r q it.on.told w s z → MovesAs failure_of jobs n before after origin w z x (Ok tt)
+        advances more owed_before on =
+            let goes = on.goes in
+            let to_come : List Call = rest origin.dialect m stamp (place q) (both_of goes.after) in
+            let some : to_come ≢ [] = left_after origin.dialect m stamp n q (both_of goes.after) more in
+            let split = keeps_split stamp.who goes.went.call to_come it.on.on.keeps.front (sym goes.went.next ∙ it.on.on.keeps.is) some it.on.on.keeps.holds in
+            let held = call_holds stamp origin.dialect goes.went.call s split.0 (it.on.on.committed, it.on.on.seen) in
+            let on_it : IsOn origin.dialect m stamp q it.on.told goes.after = record {
+              ready = goes.at.ready;
+              fits = fit_bare origin.dialect to_come goes.after goes.at.fits;
+              row = goes.at.row;
+              known = on.known;
+              committed = subst (λ (v : Session). IsHeld stamp v.committed.lock) (sym goes.went.is) held.0;
+              seen = subst (λ (v : Session). IsHeld stamp v.seen.lock) (sym goes.went.is) held.1;
+              keeps = split.1;
+            } in
+            let will : WillAnswer origin.dialect m stamp q way answer_of it.on.told q.fault it.h.answer
+            = subst (λ f. WillAnswer origin.dialect m stamp q way answer_of it.on.told f it.h.answer) (sym on.fault) (answers_as origin.dialect m stamp r q way answer_of it.on.told r.fault it.h.answer it.on.answers) in
+            let arrives : Arrives jobs n after origin z x (moved Answer Locked Busy origin.dialect jobs n x)
+            = called_on m stamp way answer_of n after origin w z jobs x x it.h goes.went.call to_come shows (to_call goes.went.call to_come goes.went.next) goes.after goes.went.is goes.at.stands q it.on.told unanswered began places_it keeps some refl on_it will in
+            ((moved Answer Locked Busy origin.dialect jobs n x, inl refl, arrives), λ why owed. let it_owes = owes why owed in inl (subst (λ k. before.owes k) it_owes.2 (owed_before it_owes.0 (sym on.fault ∙ it_owes.1))))
+
+        -- it met a fault there, and takes its transaction back next
+        met_fault : disk_failed q.fault ≡ false → MetFault origin.dialect m stamp n r q w s w z → MovesAs failure_of jobs n before after origin w z x (Ok tt)
+        met_fault disk fell = ((y, inr (flag (ap is_some fell.fault), falls (fault_of fell.why) y (inl refl)), arrives), owes_met fell.why fell.fault (inr meets)) where
+          k : Held
+          k = fallen (fault_of fell.why) it.h
+
+          y : Runs
+          y = given (fault_of fell.why) it.h x
+
+          other : is_disk fell.why ≡ false
+          other = sym (ap disk_failed fell.fault) ∙ disk
+
+          still : z ≡ w
+          still = unchanged w w z n s Ordinary fell.meets.call fell.why other fell.meets.faults
+
+          left : rest origin.dialect m stamp (place q) (both_of s) ≡ Abort ∷ closing ∷ []
+          left = ap (λ p. rest origin.dialect m stamp p (both_of s)) fell.gives_up
+
+          has_open : it.h.session.is_open ≡ true
+          has_open = subst (λ p. IsReady origin.dialect it.h.session.is_open p) fell.gives_up fell.at.ready
+
+          last : last_calls it.h.session ≡ Abort ∷ closing ∷ []
+          last = ap (λ b. if b then Abort ∷ closing ∷ [] else closing ∷ []) has_open
+
+          on_it : IsOn origin.dialect m stamp q it.on.told it.h.session
+          on_it = record {
+            ready = fell.at.ready;
+            fits = fell.at.fits;
+            row = fell.at.row;
+            known = λ healthy. absurd (faulted_not fell.why q.fault fell.fault healthy);
+            committed = it.on.on.committed;
+            seen = it.on.on.seen;
+            keeps = record { front = Abort ∷ []; is = left; holds = (tt, tt) };
+          }
+
+          under_it : IsUnder origin.dialect m stamp q way answer_of k
+          under_it = record { told = it.on.told; on = on_it; to_come = last ∙ sym left; answers = subst (λ f. WillAnswer origin.dialect m stamp q way answer_of it.on.told f (failure_of (fault_of fell.why))) (sym fell.fault) refl }
+
+          arrives : Arrives jobs n after origin z x y
+          arrives = record {
+            shows = subst (λ v. Shows origin v y) (sym still) (given_shows origin w n x it.h (fault_of fell.why) it.held shows);
+            plays = record {
+              answer = plays.answer ∙ none ∙ sym unanswered;
+              begun = λ yet. begun_there ∙ sym began;
+              waits = λ yet waits. absurd (not_true (sym waits ∙ began));
+              goes_on = λ yet goes. subst (λ o. GoesOn after o x.committed.lock) (sym (fallen_held n x.holder it.h (fault_of fell.why) it.held)) (places_it k under_it);
+            };
+            lock = inr (inr (keeps x.committed.lock lock_held));
+          }
+
+          meets : Meets failure_of origin.dialect jobs origin.used origin.limit n x (fault_of fell.why)
+          meets = record { at = x; is = inl refl; cause = cause origin w jobs n x x it.h fell.meets.call fell.meets.more refl shows (to_call fell.meets.call fell.meets.more fell.meets.next) z Ordinary fell.why fell.meets.by fell.meets.faults }
+
+        -- there was no memory, and it took its transaction back
+        took_back : TakesBack origin.dialect m stamp n q w s z → MovesAs failure_of jobs n before after origin w z x (Ok tt)
+        took_back back = ((y, inr (flag (ap is_some back.fault), falls drill.OutOfMemory y (inr refl)), arrives), owes_met fault.OutOfMemory back.fault (inr (record { at = x; is = inl refl; cause = tt }))) where
+          y : Runs
+          y = moved Answer Locked Busy origin.dialect jobs n (given drill.OutOfMemory it.h x)
+
+          now : Session
+          now = called origin.dialect Abort s
+
+          left : rest origin.dialect m stamp (place q) (both_of now) ≡ closing ∷ []
+          left = ap (λ p. rest origin.dialect m stamp p (both_of now)) back.ends_turns
+
+          last : last_calls it.h.session ≡ Abort ∷ closing ∷ []
+          last = ap (λ b. if b then Abort ∷ closing ∷ [] else closing ∷ []) back.opened
+
+          on_it : IsOn origin.dialect m stamp q it.on.told now
+          on_it = record {
+            ready = back.at.ready;
+            fits = fit_bare origin.dialect (rest origin.dialect m stamp (place q) (both_of now)) now back.at.fits;
+            row = back.at.row;
+            known = λ healthy. absurd (faulted_not fault.OutOfMemory q.fault back.fault healthy);
+            committed = it.on.on.committed;
+            seen = it.on.on.committed;
+            keeps = record { front = []; is = left; holds = tt };
+          }
+
+          arrives : Arrives jobs n after origin z x y
+          arrives =
+              called_on m stamp way answer_of n after origin w z jobs x (given drill.OutOfMemory it.h x) (fallen drill.OutOfMemory it.h) Abort (closing ∷ []) (given_shows origin w n x it.h drill.OutOfMemory it.held shows) (left_to_call drill.OutOfMemory Abort (closing ∷ []) last) now refl back.at.stands
+              q it.on.told unanswered began places_it keeps not_nil (sym left) on_it (subst (λ f. WillAnswer origin.dialect m stamp q way answer_of it.on.told f (failure_of drill.OutOfMemory)) (sym back.fault) refl)
 
   module _ (z : State) (within : Bool) (opened : is_open n w.begun ≡ within) (free : IsFree d stamp n within w) (q : Command Key Told) where
-    -- it made a call, and another is to come
-    pub moves_on : after.answer ≡ None → after.begun ≡ true → ((h : Held) → IsUnder d m stamp q way answer_of h → after.is_at h) → ((lock : Lock) → IsHeld stamp lock → after.owns lock) → (after.faulted ≡ false → q.fault ≡ None) → is_over q.hand.phase ≡ false
-        → Steps d m stamp n r q w step.Going z → Moves n before after w z
-    moves_on unanswered began places keeps healthy more steps jobs origin x dialect shows plays clean = by ((subst (λ k. Steps k m stamp n r q w step.Going z) (sym dialect) steps) w (s within opened free jobs origin x dialect shows plays it) it.on.told (there within opened free jobs origin x dialect shows plays it) (λ between. it.on.on.committed)) where
+    -- it made a call, or gives up, and another is to come
+    pub moves_on : after.answer ≡ None → after.begun ≡ true → ((h : Held) → IsUnder d m stamp q way answer_of h → after.is_at h) → ((lock : Lock) → IsHeld stamp lock → after.owns lock) → (is_some q.fault ≡ true → after.faulted ≡ true)
+        → ((why : DrillFault) → after.owes why → (f : StoreFault) × (q.fault ≡ Some f) × (fault_of f ≡ why)) → ((f : StoreFault) → r.fault ≡ Some f → before.owes (fault_of f)) → is_over q.hand.phase ≡ false → disk_failed q.fault ≡ false
+        → Steps d m stamp n r q w step.Going z → Moves failure_of n before after w (Ok tt) z
+    moves_on unanswered began places keeps flag owes owed_before more disk steps jobs origin x dialect shows plays = by ((subst (λ k. Steps k m stamp n r q w step.Going z) (sym dialect) steps) w (s within opened free jobs origin x dialect shows plays it) it.on.told (there within opened free jobs origin x dialect shows plays it) (λ between. it.on.on.committed)) where
       it : IsHolder within opened free jobs origin x dialect shows plays
       it = is_holder within opened free jobs origin x dialect shows plays
 
-      by : StepsAs origin.dialect m stamp n r q it.on.told w (s within opened free jobs origin x dialect shows plays it) w step.Going z → Arrives jobs n after origin z x (moved Answer Locked Busy origin.dialect jobs n x)
-      by (inl on) =
-          let goes = on.goes in
-          let some = left_after origin.dialect m stamp n q (both_of goes.after) more in
-          let split = keeps_split stamp.who goes.went.call (rest origin.dialect m stamp (place q) (both_of goes.after)) it.on.on.keeps.front (sym goes.went.next ∙ it.on.on.keeps.is) some it.on.on.keeps.holds in
-          let held = call_holds stamp origin.dialect goes.went.call (s within opened free jobs origin x dialect shows plays it) split.0 (it.on.on.committed, it.on.on.seen) in
-          goes_on within opened free jobs origin x dialect shows plays it z goes.went.call (rest origin.dialect m stamp (place q) (both_of goes.after)) goes.after goes.went.next goes.went.is goes.at.stands
-          q unanswered began clean (λ h is. places h (subst (λ k. IsUnder k m stamp q way answer_of h) dialect is)) keeps (healthy clean) some refl (record {
-            ready = goes.at.ready;
-            fits = fit_bare origin.dialect (rest origin.dialect m stamp (place q) (both_of goes.after)) goes.after goes.at.fits;
-            row = goes.at.row;
-            known = on.known (healthy clean);
-            committed = subst (λ (v : Session). IsHeld stamp v.committed.lock) (sym goes.went.is) held.0;
-            seen = subst (λ (v : Session). IsHeld stamp v.seen.lock) (sym goes.went.is) held.1;
-            keeps = split.1;
-          })
-      by (inr (inl fell)) = absurd (faulted_not fell.why q.fault fell.fault (healthy clean))
-      by (inr (inr back)) = absurd (faulted_not fault.OutOfMemory q.fault back.fault (healthy clean))
+      by : StepsAs origin.dialect m stamp n r q it.on.told w (s within opened free jobs origin x dialect shows plays it) w step.Going z → MovesAs failure_of jobs n before after origin w z x (Ok tt)
+      by (inl on) = advances within opened free jobs origin x dialect shows plays it z q unanswered began places keeps flag owes more owed_before on
+      by (inr (inl fell)) = met_fault within opened free jobs origin x dialect shows plays it z q unanswered began places keeps flag owes disk fell
+      by (inr (inr back)) = took_back within opened free jobs origin x dialect shows plays it z q unanswered began places keeps flag owes back
 
     -- it made its last call
-    pub moves_last : (a : Answer) (e : End) → after.answer ≡ Some a → (after.faulted ≡ false → is_failed_end e ≡ false) → (source : T) → (is_told_end e ≡ true → a ≡ answer_of source (refusal_in e)) → ((k : Dialect) (told : Told) → TellsAs (q.way k stamp told) e → TellsAs (way source k stamp told) e)
-        → Steps d m stamp n r q w (step.Ended e) z → Moves n before after w z
-    moves_last a e its whole source is_its tells steps jobs origin x dialect shows plays clean = by ((subst (λ k. Steps k m stamp n r q w (step.Ended e) z) (sym dialect) steps) w (s within opened free jobs origin x dialect shows plays it) it.on.told (there within opened free jobs origin x dialect shows plays it) (λ between. it.on.on.committed)) where
+    pub moves_last : (a : Answer) (e : End) → after.answer ≡ Some a → is_failed_end e ≡ false → (source : T) → (is_told_end e ≡ true → a ≡ answer_of source (refusal_in e)) → ((k : Dialect) (told : Told) → TellsAs (q.way k stamp told) e → TellsAs (way source k stamp told) e)
+        → (is_some q.fault ≡ true → StopsAs r.fault (step.Ended e)) → ((why : DrillFault) → after.owes why → (f : StoreFault) × (q.fault ≡ Some f) × (fault_of f ≡ why))
+        → Steps d m stamp n r q w (step.Ended e) z → Moves failure_of n before after w (Ok tt) z
+    moves_last a e its whole source is_its tells stops owes steps jobs origin x dialect shows plays = by ((subst (λ k. Steps k m stamp n r q w (step.Ended e) z) (sym dialect) steps) w (s within opened free jobs origin x dialect shows plays it) it.on.told (there within opened free jobs origin x dialect shows plays it) (λ between. it.on.on.committed)) where
       it : IsHolder within opened free jobs origin x dialect shows plays
       it = is_holder within opened free jobs origin x dialect shows plays
 
-      by : StepsAs origin.dialect m stamp n r q it.on.told w (s within opened free jobs origin x dialect shows plays it) w (step.Ended e) z → Arrives jobs n after origin z x (moved Answer Locked Busy origin.dialect jobs n x)
+      by : StepsAs origin.dialect m stamp n r q it.on.told w (s within opened free jobs origin x dialect shows plays it) w (step.Ended e) z → MovesAs failure_of jobs n before after origin w z x (Ok tt)
       by stepped =
-          let last = last_made origin.dialect m stamp n r w (s within opened free jobs origin x dialect shows plays it) w z e (whole clean) it.on.healthy stepped.0 in
-          let goes = last.0 in
-          let is_told : is_told_end e ≡ true = ap is_told_end last.1 ∙ told_end r.refused in
-          closes within opened free jobs origin x dialect shows plays it z goes.went.call [] goes.after goes.went.next goes.went.is goes.at.stands
-          a its clean refl (is_its is_told ∙ it.on.answers source (refusal_in e) (tells_refusal (way source origin.dialect stamp it.on.told) e is_told (tells origin.dialect it.on.told stepped.1))) (only_last it.on.on.keeps.front goes.went.call (sym goes.went.next ∙ it.on.on.keeps.is)) (shut_none w.dialect n goes.after z.begun goes.at.stands.begun goes.at.ready)
+          let last = last_made origin.dialect m stamp n r w (s within opened free jobs origin x dialect shows plays it) w z e whole stepped.0 in
+          let goes = last.goes in
+          let is_told : is_told_end e ≡ true = ap is_told_end last.ends ∙ told_end r.refused in
+          let will : WillAnswer origin.dialect m stamp r way answer_of it.on.told None it.h.answer = subst (λ f. WillAnswer origin.dialect m stamp r way answer_of it.on.told f it.h.answer) last.healthy it.on.answers in
+          let same : a ≡ it.h.answer = is_its is_told ∙ will source (refusal_in e) (tells_refusal (way source origin.dialect stamp it.on.told) e is_told (tells origin.dialect it.on.told stepped.1)) in
+          let arrives : Arrives jobs n after origin z x (moved Answer Locked Busy origin.dialect jobs n x)
+          = called_last m stamp way answer_of n after origin w z jobs x x it.h goes.went.call [] shows (to_call within opened free jobs origin x dialect shows plays it goes.went.call [] goes.went.next) goes.after goes.went.is goes.at.stands
+          a its refl same (only_last it.on.on.keeps.front goes.went.call (sym goes.went.next ∙ it.on.on.keeps.is)) (shut_none w.dialect n goes.after z.begun goes.at.stands.begun goes.at.ready) in
+          ((moved Answer Locked Busy origin.dialect jobs n x, inl refl, arrives), λ why owed. let it_owes = owes why owed in absurd (not_stopped r.fault r.refused e last.ends (stops (ap is_some it_owes.1))))

@@ -3,8 +3,12 @@ mod Machines
 mod Erased
 mod Shown
 mod Firsts
+mod Falling
 mod Laters
+mod Failing
+mod FirstFaults
 mod Safely
+mod SafelyLater
 mod Told
 mod Taking
 mod Apart

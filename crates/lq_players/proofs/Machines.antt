@@ -1,6 +1,7 @@
 -- A runner's step in the machine.
 use Rattle.std.proofs.Common.{ap, arith, inl, inr, subst, sym, ◌∙◌}
 use Rattle.std.proofs.lemmas.Bool.Decides.{nat_tests}
+use Rattle.std.proofs.lemmas.List.{append-nil}
 use Rattle.std.specs.Prelude.{Bool, List, None, Option, Some, [], cond, false, if◌then◌else◌, is_some, nat_eq, refl, true, ℕ, ◌==◌, ◌&&◌, ◌++◌, ◌∷◌, ◌≡◌, ◌≢◌}
 use Rattle.lq_base.specs.declared.dialect.Dialect.{Dialect}
 use Rattle.lq_drill.proofs.Machines.{answered_is}
@@ -10,11 +11,12 @@ use Rattle.lq_players.specs.Checked.{AnswersAtOnce, IsLetIn, Work}
 use Rattle.lq_players.specs.Judged.{AnswersFirst}
 use Rattle.lq_store.specs.State.{Transaction, is_open, other_in}
 use Rattle.lq_track.specs.Database.{Database}
-use Rattle.lq_turns.specs.Schedule.{Holder, Machine, after_call, answers_with, appended, begins, first_step, has_begun, later_step, makes, moved}
+use Rattle.lq_turns.specs.Schedule.{Holder, Machine, after_call, answers_with, appended, begins, first_step, has_answered, has_begun, later_step, makes, moved}
 use Rattle.lq_turns.specs.Session.{Session, called, session_on}
 use Rattle.lq_turns.specs.declared.answer.Answer.{Answer}
 use Rattle.lq_turns.specs.declared.answer.Answer.TheVariants.{Busy, Locked}
 use Rattle.lq_turns.specs.declared.call.Call.{Call}
+use Rattle.lq_turns.specs.declared.deed.Deed.{Deed}
 
 abbrev pub Runs : Type 0
 Runs = Machine Answer Locked Busy
@@ -43,7 +45,7 @@ some_none a h = Prim.cc
 none_some : {A : Type 0} (a : A) → None ≡ Some a → ⊥
 none_some a h = Prim.cc
 
-some_is : {A : Type 0} {a b : A} → Some a ≡ Some b → a ≡ b
+pub some_is : {A : Type 0} {a b : A} → Some a ≡ Some b → a ≡ b
 some_is h = Prim.cc
 
 -- the runner's own holder is the machine's
@@ -159,3 +161,76 @@ pub not_open : (d : Dialect) (n : ℕ) (committed : Database) (o : Option Held) 
 not_open d n committed None t none is opened = not_true (sym (ap (is_open n) is) ∙ opened)
 not_open d n committed (Some h) None none is opened = not_true opened
 not_open d n committed (Some h) (Some t) none is opened = some_none h (sym (ap (λ b. if b then Some h else None) (own_open t.session h.runner n is.1.1 opened)) ∙ none)
+
+-- a call of the lock's holder
+
+-- how its runner stands then is no matter to the entries
+entries_after : (n : ℕ) (s : Session) (calls : List Call) (a : Answer) (y : Runs) → (after_call Answer Locked Busy n s calls a y).entries ≡ y.entries
+entries_after n s [] a y = refl
+entries_after n s (call ∷ calls) a y = refl
+
+-- the runner holds the lock, and this is its next call
+pub record IsToCall (n : ℕ) (x : Runs) (h : Held) (call : Call) (calls : List Call) : Type 0 where
+  pub unanswered : answer_of n x.answers ≡ None
+  pub begun : has_begun Answer Locked Busy n x ≡ true
+  pub held : held_by n x.holder ≡ Some h
+  pub next : h.rest ≡ call ∷ calls
+
+module _ (d : Dialect) (jobs : ℕ → Work) (n : ℕ) (x : Runs) (h : Held) (call : Call) (calls : List Call) (it : IsToCall n x h call calls) where
+  pub next_called : moved Answer Locked Busy d jobs n x ≡ after_call Answer Locked Busy n (called d call h.session) calls h.answer (record x { entries = x.entries ++ appended d call h.session })
+  next_called = is_later d jobs n x it.unanswered it.begun ∙ later_makes d jobs n x h call calls it.held it.next
+
+  pub next_appended : (moved Answer Locked Busy d jobs n x).entries ≡ x.entries ++ appended d call h.session
+  next_appended = ap (λ (y : Runs). y.entries) next_called ∙ entries_after n (called d call h.session) calls h.answer (record x { entries = x.entries ++ appended d call h.session })
+
+-- whatever step a runner takes, the entries that were there stay in front
+
+pub record IsAdded (x y : Runs) : Type 0 where
+  pub more : List (List Deed)
+  pub is : y.entries ≡ x.entries ++ more
+
+none_added : (x y : Runs) → y.entries ≡ x.entries → IsAdded x y
+none_added x y same = record { more = []; is = same ∙ sym (append-nil x.entries) }
+
+module _ (d : Dialect) (jobs : ℕ → Work) (n : ℕ) (x : Runs) where
+  told_adds : (a : Answer) → IsAdded x (answers_with Answer Locked Busy n a x)
+  told_adds a = none_added x (answers_with Answer Locked Busy n a x) refl
+
+  makes_adds : (s : Session) (calls : List Call) (a : Answer) → IsAdded x (makes Answer Locked Busy d jobs n s calls a x)
+  makes_adds s [] a = told_adds a
+  makes_adds s (call ∷ []) a = record { more = appended d call s; is = refl }
+  makes_adds s (call ∷ next ∷ calls) a = record { more = appended d call s; is = refl }
+
+  begins_adds : (o : Option Answer) → IsAdded x (begins Answer Locked Busy d jobs n o x)
+  begins_adds (Some a) = told_adds a
+  begins_adds None = makes_adds (session_on x.committed) ((jobs n).script x.committed) ((jobs n).answer x.committed)
+
+  opens_adds : (opened : Bool) (a : Answer) → IsAdded x (if opened then answers_with Answer Locked Busy n a x else begins Answer Locked Busy d jobs n ((jobs n).refuses x.committed) x)
+  opens_adds true a = told_adds a
+  opens_adds false a = begins_adds ((jobs n).refuses x.committed)
+
+  first_adds : (waits : Bool) (o : Option Held)
+      → IsAdded x (if waits then answers_with Answer Locked Busy n (Locked x.committed.lock) x else elim o as (λ _. Runs) [ None ↦ begins Answer Locked Busy d jobs n ((jobs n).refuses x.committed) x | Some h ↦ if h.session.is_open then answers_with Answer Locked Busy n (Busy h.runner) x else begins Answer Locked Busy d jobs n ((jobs n).refuses x.committed) x ])
+  first_adds true o = told_adds (Locked x.committed.lock)
+  first_adds false None = begins_adds ((jobs n).refuses x.committed)
+  first_adds false (Some h) = opens_adds h.session.is_open (Busy h.runner)
+
+  holds_adds : (own : Bool) (h : Held) → IsAdded x (if own then makes Answer Locked Busy d jobs n h.session h.rest h.answer x else answers_with Answer Locked Busy n (Locked x.committed.lock) x)
+  holds_adds true h = makes_adds h.session h.rest h.answer
+  holds_adds false h = told_adds (Locked x.committed.lock)
+
+  later_adds : (o : Option Held)
+      → IsAdded x (elim o as (λ _. Runs) [ None ↦ answers_with Answer Locked Busy n (Locked x.committed.lock) x | Some h ↦ if nat_eq h.runner n then makes Answer Locked Busy d jobs n h.session h.rest h.answer x else answers_with Answer Locked Busy n (Locked x.committed.lock) x ])
+  later_adds None = told_adds (Locked x.committed.lock)
+  later_adds (Some h) = holds_adds (nat_eq h.runner n) h
+
+  goes_adds : (begun : Bool) → IsAdded x (if begun then later_step Answer Locked Busy d jobs n x else first_step Answer Locked Busy d jobs n x)
+  goes_adds true = later_adds x.holder
+  goes_adds false = first_adds ((jobs n).needs_lock && x.committed.lock.locked) x.holder
+
+  moves_adds : (answered : Bool) → IsAdded x (if answered then x else if has_begun Answer Locked Busy n x then later_step Answer Locked Busy d jobs n x else first_step Answer Locked Busy d jobs n x)
+  moves_adds true = none_added x x refl
+  moves_adds false = goes_adds (has_begun Answer Locked Busy n x)
+
+  pub moved_adds : IsAdded x (moved Answer Locked Busy d jobs n x)
+  moved_adds = moves_adds (has_answered Answer Locked Busy n x)

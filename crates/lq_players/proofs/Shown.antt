@@ -26,7 +26,7 @@ use Rattle.lq_turns.specs.declared.deed.Deed.{Deed}
 not_true : false ≡ true → ⊥
 not_true h = Prim.cc
 
-nothing_more : (entries : Option (List Entry)) → entries ≡ option_map (λ e. e ++ []) entries
+pub nothing_more : (entries : Option (List Entry)) → entries ≡ option_map (λ e. e ++ []) entries
 nothing_more None = refl
 nothing_more (Some e) = ap (λ l. Some l) (sym (append-nil e))
 
@@ -63,6 +63,11 @@ none_open d n s (Some t) is shut = absurd (not_true (sym shut ∙ self_eq t.sess
 pub shut_none : (d : Dialect) (n : ℕ) (s : Session) (t : Option Transaction) → IsBegun d n s t → s.is_open ≡ false → t ≡ None
 shut_none d n s None is shut = refl
 shut_none d n s (Some t) is shut = absurd (not_true (sym shut ∙ is.0))
+
+-- nor has it begun anything
+pub shut_begun : (d : Dialect) (n : ℕ) (s : Session) (t : Option Transaction) → IsOpenAs d n s t → s.is_open ≡ false → s.begun ≡ []
+shut_begun d n s None is shut = is.2
+shut_begun d n s (Some t) is shut = absurd (not_true (sym shut ∙ is.0))
 
 pub none_begun : (n : ℕ) (t : Option Transaction) → is_open n t ≡ false → other_in n t ≡ None → t ≡ None
 none_begun n None shut none = refl
@@ -121,11 +126,10 @@ module _ (origin w : State) (x : Runs) (shows : Shows origin w x) where
 
 -- an answer
 
-module _ (jobs : ℕ → Work) (n : ℕ) (r : Standing Answer Locked Busy) (origin z : State) (a : Answer) (its : r.answer ≡ Some a) (clean : r.faulted ≡ false) where
+module _ (jobs : ℕ → Work) (n : ℕ) (r : Standing Answer Locked Busy) (origin z : State) (a : Answer) (its : r.answer ≡ Some a) where
   plays_told : (y : Runs) → Plays jobs n r (answers_with Answer Locked Busy n a y)
   plays_told y = record {
     answer = ap (λ b. if b then Some a else answer_of n y.answers) (own_number n) ∙ sym its;
-    faultless = clean;
     begun = λ none. absurd (some_none a (sym its ∙ none));
     waits = λ none. absurd (some_none a (sym its ∙ none));
     goes_on = λ none. absurd (some_none a (sym its ∙ none));

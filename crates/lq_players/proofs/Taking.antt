@@ -1,6 +1,6 @@
 -- What each step of a player comes to.
-use Rattle.std.proofs.Common.{ap, subst, sym, ◌∙◌}
-use Rattle.std.specs.Prelude.{Bool, Err, IfOk, None, Ok, Option, Result, Some, false, is_some, refl, true, ℕ, ◌||◌, ◌≡◌, ◌≤◌}
+use Rattle.std.proofs.Common.{ap, inl, inr, subst, sym, ◌∙◌}
+use Rattle.std.specs.Prelude.{Bool, Err, IfErr, IfOk, None, Ok, Option, Result, Some, false, is_some, refl, true, ℕ, ◌||◌, ◌≡◌, ◌≤◌, ◌⊎◌}
 use Rattle.lq_base.specs.declared.dialect.Dialect.{Dialect}
 use Rattle.lq_base.specs.declared.tracking.Lock.{Lock}
 use Rattle.lq_drill.specs.Player.{Standing}
@@ -12,12 +12,16 @@ use Rattle.lq_hand.specs.Way.{Way}
 use Rattle.lq_hand.specs.declared.hand.Hand.{Hand}
 use Rattle.lq_hand.specs.declared.progress.Progress.{Progress}
 use Rattle.lq_model.specs.declared.fault.StoreFault.{StoreFault}
-use Rattle.lq_players.proofs.Answering.{answered, err_is, failed_so, goes_on, lets_be, lock_own, some_none}
+use Rattle.lq_players.proofs.Answering.{answered, err_is, failed_so, goes_on, lets_be, some_none}
+use Rattle.lq_players.proofs.Failing.{due_now, stops_last, stops_still}
+use Rattle.lq_players.proofs.FirstFaults.{stops_begun, stops_once}
 use Rattle.lq_players.proofs.Firsts.{moves_begun, moves_once, moves_told}
 use Rattle.lq_players.proofs.Laters.{moves_hindered, moves_last, moves_on}
-use Rattle.lq_players.proofs.Safely.{safe_begun, safe_ended, safe_going, safe_once, safe_told}
+use Rattle.lq_players.proofs.Safely.{safe_begun, safe_once, safe_told}
+use Rattle.lq_players.proofs.SafelyLater.{safe_ended, safe_going}
+use Rattle.lq_players.proofs.SafelyLater.{met_before as had_met}
 use Rattle.lq_players.proofs.Told.{asks_is, whole_disk}
-use Rattle.lq_players.specs.Answers.{Answers, failure_of, is_disk_answer, is_disk_fault, is_failed_end, is_failure, is_told_end, refusal_in, tells_locked}
+use Rattle.lq_players.specs.Answers.{Answers, FailsAs, failure_of, fault_of, is_disk_answer, is_disk_fault, is_failed_end, is_failure, is_told_end, refusal_in, tells_locked}
 use Rattle.lq_players.specs.Checked.{IsInHand, Work}
 use Rattle.lq_players.specs.Hindered.{Hinders, IsFree, asks_open}
 use Rattle.lq_players.specs.Judged.{Begins, CallsOnce, Judged}
@@ -27,7 +31,6 @@ use Rattle.lq_players.specs.declared.checks.OneCall.{OneCall}
 use Rattle.lq_players.specs.declared.checks.Verdict.TheVariants as verdict
 use Rattle.lq_players.specs.declared.playing.Playing.{Playing}
 use Rattle.lq_run.proofs.Beside.{set_inside, stays}
-use Rattle.lq_run.proofs.Since.{leave_none}
 use Rattle.lq_run.specs.Beside.{Asks, Beside, IsSet}
 use Rattle.lq_run.specs.Commands.{IsNew}
 use Rattle.lq_run.specs.Crashing.{CrashesFor, CrashesOpening, CrashesStep}
@@ -39,7 +42,7 @@ use Rattle.lq_run.specs.declared.runner.End.{End}
 use Rattle.lq_run.specs.declared.runner.End.TheVariants as end
 use Rattle.lq_run.specs.declared.runner.Runner.{Runner}
 use Rattle.lq_run.specs.declared.runner.Step.TheVariants as step
-use Rattle.lq_store.specs.Crashes.{Crashes, CrashesLeave, Keeps}
+use Rattle.lq_store.specs.Crashes.{Crashes}
 use Rattle.lq_store.specs.State.{State, is_open}
 use Rattle.lq_turns.specs.Rest.{Turns}
 use Rattle.lq_turns.specs.Set.{Meaning}
@@ -81,14 +84,9 @@ not_told was end.Disk stops = refl
 not_told was (end.Full used next) stops = refl
 not_told was end.OutOfMemory stops = refl
 
-none_met : (o : Option StoreFault) → is_some o ≡ false → o ≡ None
-none_met None is = refl
-none_met (Some why) is = absurd (not_true (sym is))
-
-no_fault : (was : Bool) (o : Option StoreFault) → (was || is_some o) ≡ false → o ≡ None
-no_fault was None is = refl
-no_fault true (Some why) is = absurd (not_true (sym is))
-no_fault false (Some why) is = absurd (not_true (sym is))
+met_now : (was now : Bool) → now ≡ true → (was || now) ≡ true
+met_now true now is = refl
+met_now false now is = is
 
 module _ {T : Type 0} (reads : T → Dialect → Type 0) where
   pub fresh_by : (r : Runner T) (command : T) (d : Dialect) (stamp : Stamp) → (r.dialect ≡ d) × (r.stamp ≡ stamp) → r.source ≡ command → reads command d → stamp.reading ≤ 253402300799999 → (r.fault ≡ None) × (r.refused ≡ None) → IsFresh reads false r
@@ -132,9 +130,12 @@ module _ {Key Told T : Type 0} (m : Meaning Key) (left : T → Turns Key) (way :
     answered_ready : (q : Playing T) (a : Answer) → q.answer ≡ Some a → q.answer ≡ None → IsReadyAs reads q.begun q.faulted q.runner
     answered_ready q a is unanswered = absurd (some_none a (sym is ∙ unanswered))
 
-    -- a step without a call
-    uncalled : CrashesLeave x.entries Keeps c c
-    uncalled = leave_none x.entries Keeps c
+    -- what it is to answer is what its runner met
+    owes_by : (q : Playing T) → q.runner.fault ≡ p.runner.fault → (why : DrillFault) → (after q).owes why → before.owes why
+    owes_by q same why it = (it.0, sym same ∙ it.1, it.2)
+
+    owed_before : (met : StoreFault) → p.runner.fault ≡ Some met → before.owes (fault_of met)
+    owed_before met is = (met, is, refl)
 
     -- its first step
 
@@ -151,25 +152,28 @@ module _ {Key Told T : Type 0} (m : Meaning Key) (left : T → Turns Key) (way :
         same_stamp : q.runner.stamp ≡ stamp
         same_stamp = ap (λ (r : Runner T). r.stamp) runner_is
 
+        same_fault : q.runner.fault ≡ p.runner.fault
+        same_fault = ap (λ (r : Runner T). r.fault) runner_is
+
         pub took_told : (a : Answer) → Answers (Ok a) p.faulted q.answer q.faulted result → Judged d m stamp way ends (job p.runner.source d stamp) (left s) s session x (verdict.Answer a) → Took session before (after q) x x c c result
         took_told a its judged =
             answered session before (after q) x x c c result a its judged.0 live same_dialect (λ lives. shut_as q.begun q.runner.hand (is_open session x.begun) (begun_is ∙ fresh) shut) (lets_be session false x x (stays session x live))
-            (owns_by q same_stamp) (answered_ready q a its.0) (λ bad. absurd (unmet q.faulted its.1 bad)) (moves_told session before (after q) x none fresh shut a its.0 judged.1) (safe_told session before (after q) x c) uncalled
+            (owns_by q same_stamp) (answered_ready q a its.0) (λ bad. absurd (unmet q.faulted its.1 bad)) (moves_told session before (after q) x none fresh shut a its.0 (owes_by q same_fault) judged.1) (safe_told session before (after q) x c)
 
         pub took_lack : Answers (Err drill.OutOfMemory) p.faulted q.answer q.faulted result → Took session before (after q) x x c c result
         took_lack its =
             failed_so session before (after q) x x c c result drill.OutOfMemory its same_dialect (λ lives. shut_as q.begun q.runner.hand (is_open session x.begun) (begun_is ∙ fresh) shut) (lets_be session false x x (stays session x live))
-            (owns_by q same_stamp) (answered_ready q (failure_of drill.OutOfMemory) its.0) uncalled
+            (owns_by q same_stamp) (answered_ready q (failure_of drill.OutOfMemory) its.0) (stops_still session before (after q) x drill.OutOfMemory (due_now session before drill.OutOfMemory (inr refl))) (safe_told session before (after q) x c)
 
         pub took_once : (y : State) (now : Crashes) (call : OneCall) (done : Result Answer DrillFault) → Answers done p.faulted q.answer q.faulted result → Judged d m stamp way ends (job p.runner.source d stamp) (left s) s session x (verdict.OneCall call)
-            → CallsOnce d session call x done y → Beside session (is_disk_answer done) x y → CrashesFor d session (Alone call.deeds call.room) x c now → CrashesLeave x.entries Keeps c now → (y.live ≡ true → is_open session y.begun ≡ false) → Took session before (after q) x y c now result
-        took_once y now call (Ok a) its judged calls beside crash keeps shuts =
+            → CallsOnce d session call x done y → Beside session (is_disk_answer done) x y → CrashesFor d session (Alone call.deeds call.room) x c now → (y.live ≡ true → is_open session y.begun ≡ false) → Took session before (after q) x y c now result
+        took_once y now call (Ok a) its judged calls beside crash shuts =
             answered session before (after q) x y c now result a its (ap is_failure calls.0 ∙ judged.0) beside.live same_dialect (λ lives. shut_as q.begun q.runner.hand (is_open session y.begun) (begun_is ∙ fresh) (shuts lives)) (lets_be session false x y beside)
-            (owns_by q same_stamp) (answered_ready q a its.0) (λ bad. absurd (unmet q.faulted its.1 bad)) (moves_once session before (after q) x none fresh shut y call (its.0 ∙ ap (λ b. Some b) calls.0) shuts judged.2 calls.1)
-            (safe_once session before (after q) x none fresh shut c now call judged.2 crash) keeps
-        took_once y now call (Err why) its judged calls beside crash keeps shuts =
+            (owns_by q same_stamp) (answered_ready q a its.0) (λ bad. absurd (unmet q.faulted its.1 bad)) (moves_once session before (after q) x none fresh shut y call (its.0 ∙ ap (λ b. Some b) calls.0) (owes_by q same_fault) shuts judged.2 calls.1)
+            (safe_once session before (after q) x none fresh shut c now call judged.2 crash)
+        took_once y now call (Err why) its judged calls beside crash shuts =
             failed_so session before (after q) x y c now result why its same_dialect (λ lives. shut_as q.begun q.runner.hand (is_open session y.begun) (begun_is ∙ fresh) (shuts lives)) (lets_be session (is_disk_fault why) x y beside)
-            (owns_by q same_stamp) (answered_ready q (failure_of why) its.0) keeps
+            (owns_by q same_stamp) (answered_ready q (failure_of why) its.0) (stops_once session before (after q) x none fresh shut y why call judged.2 calls) (safe_once session before (after q) x none fresh shut c now call judged.2 crash)
 
       -- it takes the lock
       module _ (hand : Hand) (started : Progress) (is_started : started ≡ no_progress) (judged : Judged d m stamp way ends (job p.runner.source d stamp) (left s) s session x (verdict.Turns hand)) (reads_it : reads s d) where
@@ -196,17 +200,18 @@ module _ {Key Told T : Type 0} (m : Meaning Key) (left : T → Turns Key) (way :
         }
 
         pub took_begun : (q : Playing T) (y : State) (now : Crashes) (result : Result (Unit {0}) DrillFault) → q.runner ≡ begun_runner → Begins d stamp session x y p.begun p.answer p.faulted q.begun q.answer q.faulted result → Beside session (is_disk_answer result) x y
-            → CrashesOpening d stamp session x c now → CrashesLeave x.entries Keeps c now → (y.live ≡ true → is_open session y.begun ≡ false) → Took session before (after q) x y c now result
-        took_begun q y now (Ok u) runner_is begins beside crash keeps shuts =
+            → CrashesOpening d stamp session x c now → (y.live ≡ true → is_open session y.begun ≡ false) → Took session before (after q) x y c now result
+        took_begun q y now (Ok u) runner_is begins beside crash shuts =
             goes_on session before (after q) x y c now (Ok u) refl (begins.2 ∙ none) beside.live (ap (λ (r : Runner T). r.dialect) runner_is)
             (λ lives. open_as q.begun q.runner.hand (is_open session y.begun) begins.1 (shuts lives ∙ shut_hand ∙ ap (λ (r : Runner T). asks_open r.hand) (sym runner_is))) (lets_be session false x y beside)
             (owns_by q (ap (λ (r : Runner T). r.stamp) runner_is)) (λ unanswered. subst (λ b. IsReadyAs reads b q.faulted q.runner) (sym begins.1) (subst (λ b. IsGoing reads b q.runner) (sym begins.3) (subst (IsGoing reads p.faulted) (sym runner_is) going))) (λ was. begins.3 ∙ was)
             (moves_begun m stamp way ends s session before (after q) x y (standing left way begun_runner) none fresh shut (begins.2 ∙ none) begins.1
-            (λ h is. subst (λ (r : Runner T). IsUnder r.dialect m r.stamp (standing left way r) way ends h) (sym runner_is) is) (λ lock held. subst (λ (r : Runner T). IsHeld r.stamp lock) (sym runner_is) held) new is_started refl judged.1 begins.0)
-            (safe_begun session before (after q) x none fresh shut c now m stamp way ends (left s) s hand judged.1 crash) keeps
-        took_begun q y now (Err why) runner_is begins beside crash keeps shuts =
+            (λ h is. subst (λ (r : Runner T). IsUnder r.dialect m r.stamp (standing left way r) way ends h) (sym runner_is) is) (λ lock held. subst (λ (r : Runner T). IsHeld r.stamp lock) (sym runner_is) held) (owes_by q (ap (λ (r : Runner T). r.fault) runner_is)) new is_started refl judged.1 begins.0)
+            (safe_begun session before (after q) x none fresh shut c now m stamp way ends (left s) s hand judged.1 crash)
+        took_begun q y now (Err why) runner_is begins beside crash shuts =
             failed_so session before (after q) x y c now (Err why) why (begins.1, begins.2, refl) (ap (λ (r : Runner T). r.dialect) runner_is) (λ lives. shut_as q.begun q.runner.hand (is_open session y.begun) (begins.0 ∙ fresh) (shuts lives))
-            (lets_be session (is_disk_fault why) x y beside) (owns_by q (ap (λ (r : Runner T). r.stamp) runner_is)) (answered_ready q (failure_of why) begins.1) keeps
+            (lets_be session (is_disk_fault why) x y beside) (owns_by q (ap (λ (r : Runner T). r.stamp) runner_is)) (answered_ready q (failure_of why) begins.1)
+            (stops_begun session before (after q) x none fresh shut y why m stamp way ends (left s) s hand judged.1 begins.3) (safe_begun session before (after q) x none fresh shut c now m stamp way ends (left s) s hand judged.1 crash)
 
     -- a later step
 
@@ -214,25 +219,25 @@ module _ {Key Told T : Type 0} (m : Meaning Key) (left : T → Turns Key) (way :
       met_before : (now b : Bool) → now ≡ p.faulted → now ≡ b → is_some p.runner.fault ≡ b
       met_before now b same is = sym was_met ∙ sym same ∙ is
 
-      -- what hinders it is its answer where it met no fault
-      hindered_so : (found : Result Answer DrillFault) (a : Answer) → found ≡ Ok a → Hinders d stamp session (asks_open p.runner.hand) x (Some found) → Hinders d stamp session (asks_open p.runner.hand) x (Some (Ok a))
-      hindered_so found a same hinders = subst (λ r. Hinders d stamp session (asks_open p.runner.hand) x (Some r)) same hinders
+      -- what hinders it is its answer; or there was no memory for that, or it answers the fault that it met before
+      hindered_so : (found : Result Answer DrillFault) (r : Result Answer DrillFault) → found ≡ r → Hinders d stamp session (asks_open p.runner.hand) x (Some found) → Hinders d stamp session (asks_open p.runner.hand) x (Some r)
+      hindered_so found r same hinders = subst (λ (o : Result Answer DrillFault). Hinders d stamp session (asks_open p.runner.hand) x (Some o)) same hinders
 
-      own_told : (found : Result Answer DrillFault) (a : Answer) (o : Option StoreFault) → p.runner.fault ≡ o → Hinders d stamp session (asks_open p.runner.hand) x (Some found) → (p.runner.fault ≡ None → found ≡ Ok a) → (is_some p.runner.fault ≡ true → tells_locked a ≡ true) → is_failure a ≡ false
-      own_told found a None healthy hinders same locked = (hindered_so found a (same healthy) hinders).1
-      own_told found a (Some why) met hinders same locked = lock_own a (locked (ap is_some met))
+      hindered_due : (found : Result Answer DrillFault) (why : DrillFault) → Hinders d stamp session (asks_open p.runner.hand) x (Some found) → (found ≡ Err why) ⊎ ((met : StoreFault) × (p.runner.fault ≡ Some met) × (fault_of met ≡ why)) → before.owes why ⊎ (why ≡ drill.OutOfMemory)
+      hindered_due found why hinders (inl is) = let it : Hinders d stamp session (asks_open p.runner.hand) x (Some (Err why)) = hindered_so found (Err why) is hinders in inr it.1
+      hindered_due found why hinders (inr met) = inl met
 
       pub took_hindered : (q : Playing T) (result : Result (Unit {0}) DrillFault) (found told : Result Answer DrillFault) → q.runner ≡ p.runner → q.begun ≡ p.begun → Answers told p.faulted q.answer q.faulted result → Hinders d stamp session (asks_open p.runner.hand) x (Some found)
-          → (p.runner.fault ≡ None → told ≡ found) → (is_some p.runner.fault ≡ true → IfOk told (λ a. tells_locked a ≡ true)) → Took session before (after q) x x c c result
-      took_hindered q result found (Ok a) runner_is begun_is its hinders same locked =
-          answered session before (after q) x x c c result a its (own_told found a p.runner.fault refl hinders (λ healthy. sym (same healthy)) locked) live (ap (λ (r : Runner T). r.dialect) runner_is) (λ lives. open_as q.begun q.runner.hand (is_open session x.begun) (begun_is ∙ begun) (opened ∙ ap (λ (r : Runner T). asks_open r.hand) (sym runner_is)))
+          → IfOk told (λ a. found ≡ Ok a) → (is_some p.runner.fault ≡ true → IfOk told (λ a. tells_locked a ≡ true)) → IfErr told (λ why. (found ≡ Err why) ⊎ ((met : StoreFault) × (p.runner.fault ≡ Some met) × (fault_of met ≡ why))) → Took session before (after q) x x c c result
+      took_hindered q result found (Ok a) runner_is begun_is its hinders kept locked fails =
+          let it : Hinders d stamp session (asks_open p.runner.hand) x (Some (Ok a)) = hindered_so found (Ok a) kept hinders in
+          answered session before (after q) x x c c result a its it.1 live (ap (λ (r : Runner T). r.dialect) runner_is) (λ lives. open_as q.begun q.runner.hand (is_open session x.begun) (begun_is ∙ begun) (opened ∙ ap (λ (r : Runner T). asks_open r.hand) (sym runner_is)))
           (lets_be session false x x (stays session x live)) (owns_by q (ap (λ (r : Runner T). r.stamp) runner_is)) (answered_ready q a its.0) (λ bad. locked (met_before q.faulted true its.1 bad))
-          (λ jobs origin at is shows plays clean. moves_hindered m stamp way ends session before (after q) x (standing left way p.runner) none begun (λ h under. under) (λ lock held. held) a its.0
-          (hindered_so found a (sym (same (none_met p.runner.fault (met_before q.faulted false its.1 clean)))) hinders).2 jobs origin at is shows plays clean)
-          (safe_told session before (after q) x c) uncalled
-      took_hindered q result found (Err why) runner_is begun_is its hinders same locked =
+          (moves_hindered m stamp way ends session before (after q) x (standing left way p.runner) none begun (λ h under. under) (λ lock held. held) a its.0 it.2 (owes_by q (ap (λ (r : Runner T). r.fault) runner_is)))
+          (safe_told session before (after q) x c)
+      took_hindered q result found (Err why) runner_is begun_is its hinders kept locked fails =
           failed_so session before (after q) x x c c result why its (ap (λ (r : Runner T). r.dialect) runner_is) (λ lives. open_as q.begun q.runner.hand (is_open session x.begun) (begun_is ∙ begun) (opened ∙ ap (λ (r : Runner T). asks_open r.hand) (sym runner_is)))
-          (lets_be session false x x (stays session x live)) (owns_by q (ap (λ (r : Runner T). r.stamp) runner_is)) (answered_ready q (failure_of why) its.0) uncalled
+          (lets_be session false x x (stays session x live)) (owns_by q (ap (λ (r : Runner T). r.stamp) runner_is)) (answered_ready q (failure_of why) its.0) (stops_still session before (after q) x why (due_now session before why (hindered_due found why hinders fails))) (safe_told session before (after q) x c)
 
       -- a command that found only memory wanting told no disk fault
       pub hindered_disk : (found : Result Answer DrillFault) → Hinders d stamp session (asks_open p.runner.hand) x (Some found) → found ≡ Err drill.Disk → ⊥
@@ -241,7 +246,7 @@ module _ {Key Told T : Type 0} (m : Meaning Key) (left : T → Turns Key) (way :
         memory : drill.OutOfMemory ≡ drill.Disk → ⊥
         memory h = Prim.cc
 
-      module _ (free : IsFree d stamp session (asks_open p.runner.hand) x) (r : Runner T) (same : (r.dialect ≡ d) × (r.stamp ≡ stamp)) (y : State) (set : IsSet d session r.hand x y) (now : Crashes) (keeps : CrashesLeave x.entries Keeps c now) (crash : CrashesStep d m stamp session (standing left way p.runner) r.fault x c now) (stays_met : is_some p.runner.fault ≡ true → is_some r.fault ≡ true) where
+      module _ (free : IsFree d stamp session (asks_open p.runner.hand) x) (r : Runner T) (same : (r.dialect ≡ d) × (r.stamp ≡ stamp)) (y : State) (set : IsSet d session r.hand x y) (now : Crashes) (crash : CrashesStep d m stamp session (standing left way p.runner) r.fault x c now) (stays_met : is_some p.runner.fault ≡ true → is_some r.fault ≡ true) where
         asks_now : y.live ≡ true → is_open session y.begun ≡ asks_open r.hand
         asks_now lives = asks_is d r.hand.phase (calls_left r.hand) (is_open session y.begun) (set free.alone lives)
 
@@ -249,6 +254,7 @@ module _ {Key Told T : Type 0} (m : Meaning Key) (left : T → Turns Key) (way :
             → Steps d m stamp session (standing left way p.runner) (standing left way r) x step.Going y → Took session before (after (record p { runner = r; faulted = f })) x y c now (Ok tt)
         took_going f faulted_is moment reads_it more disk beside steps =
             let q : Playing T = record p { runner = r; faulted = f } in
+            let met : is_some r.fault ≡ true → f ≡ true = λ is. faulted_is ∙ met_now p.faulted (is_some r.fault) is in
             goes_on session before (after q) x y c now (Ok tt) refl none beside.live same.0 (λ lives. open_as p.begun r.hand (is_open session y.begun) begun (asks_now lives)) (lets_be session false x y beside) (owns_by q same.1)
             (λ unanswered. subst (λ b. IsReadyAs reads b f r) (sym begun) (record {
               reads_it = reads_it;
@@ -261,20 +267,22 @@ module _ {Key Told T : Type 0} (m : Meaning Key) (left : T → Turns Key) (way :
             (λ was. faulted_is ∙ ap (λ b. b || is_some r.fault) was)
             (moves_on m stamp way ends session before (after q) x (standing left way p.runner) none begun (λ h is. is) (λ lock held. held) y (asks_open p.runner.hand) opened free (standing left way r) none begun
             (λ h is. subst (λ k. IsUnder k m r.stamp (standing left way r) way ends h) (sym same.0) (subst (λ t. IsUnder d m t (standing left way r) way ends h) (sym same.1) is)) (λ lock held. subst (λ (t : Stamp). IsHeld t lock) (sym same.1) held)
-            (λ clean. no_fault p.faulted r.fault (sym faulted_is ∙ clean)) more steps)
-            (safe_going m stamp way ends session before (after q) x (standing left way p.runner) none begun (λ h is. is) (λ lock held. held) (asks_open p.runner.hand) opened free r.fault c now (λ clean. no_fault p.faulted r.fault (sym faulted_is ∙ clean)) crash) keeps
+            met (λ why it. it) owed_before more disk steps)
+            (safe_going m stamp way ends session before (after q) x (standing left way p.runner) none begun (λ h is. is) (λ lock held. held) (asks_open p.runner.hand) opened free r.fault c now met crash)
 
         pub took_ended : (q : Playing T) (result : Result (Unit {0}) DrillFault) (e : End) (found : Result Answer DrillFault) → q.runner ≡ r → q.begun ≡ p.begun → Answers found p.faulted q.answer q.faulted result
             → IfOk found (λ a. is_failure a ≡ false) → IfOk found (λ a. is_failed_end e ≡ false) → IfOk found (λ a. is_told_end e ≡ true → a ≡ ends r.source (refusal_in e)) → IfOk found (λ a. is_told_end e ≡ false → tells_locked a ≡ true)
-            → (is_some r.fault ≡ true → StopsAs p.runner.fault (step.Ended e)) → Beside session (is_disk_end e) x y → Steps d m stamp session (standing left way p.runner) (standing left way r) x (step.Ended e) y → Took session before (after q) x y c now result
-        took_ended q result e (Ok a) runner_is begun_is its own whole tells locked stops beside steps =
+            → IfErr found (FailsAs e) → (is_some r.fault ≡ true → StopsAs p.runner.fault (step.Ended e)) → Beside session (is_disk_end e) x y → Steps d m stamp session (standing left way p.runner) (standing left way r) x (step.Ended e) y → Took session before (after q) x y c now result
+        took_ended q result e (Ok a) runner_is begun_is its own whole tells locked fails stops beside steps =
             let alive : y.live ≡ true = (subst (λ b. Beside session b x y) (whole_disk e whole) beside).live in
             answered session before (after q) x y c now result a its own alive (ap (λ (v : Runner T). v.dialect) runner_is ∙ same.0)
             (λ lives. open_as q.begun q.runner.hand (is_open session y.begun) (begun_is ∙ begun) (asks_now lives ∙ ap (λ (v : Runner T). asks_open v.hand) (sym runner_is))) (lets_be session (is_disk_end e) x y beside)
             (owns_by q (ap (λ (v : Runner T). v.stamp) runner_is ∙ same.1)) (answered_ready q a its.0) (λ bad. locked (not_told p.runner.fault e (stops (stays_met (met_before q.faulted true its.1 bad)))))
-            (moves_last m stamp way ends session before (after q) x (standing left way p.runner) none begun (λ h is. is) (λ lock held. held) y (asks_open p.runner.hand) opened free (standing left way r) a e its.0 (λ clean. whole) r.source tells (λ k told it. it) steps)
-            (safe_ended m stamp way ends session before (after q) x (standing left way p.runner) none begun (λ h is. is) (λ lock held. held) (asks_open p.runner.hand) opened free r.fault c now e (λ clean. whole) stops crash) keeps
-        took_ended q result e (Err why) runner_is begun_is its own whole tells locked stops beside steps =
+            (moves_last m stamp way ends session before (after q) x (standing left way p.runner) none begun (λ h is. is) (λ lock held. held) y (asks_open p.runner.hand) opened free (standing left way r) a e its.0 whole r.source tells (λ k told it. it) stops (λ why it. (it.0, sym (ap (λ (v : Runner T). v.fault) runner_is) ∙ it.1, it.2)) steps)
+            (safe_ended m stamp way ends session before (after q) x (standing left way p.runner) none begun (λ h is. is) (λ lock held. held) (asks_open p.runner.hand) opened free r.fault c now (λ is. its.1 ∙ was_met ∙ had_met p.runner.fault r.fault e whole stops is) crash)
+        took_ended q result e (Err why) runner_is begun_is its own whole tells locked fails stops beside steps =
             failed_so session before (after q) x y c now result why its (ap (λ (v : Runner T). v.dialect) runner_is ∙ same.0)
             (λ lives. open_as q.begun q.runner.hand (is_open session y.begun) (begun_is ∙ begun) (asks_now lives ∙ ap (λ (v : Runner T). asks_open v.hand) (sym runner_is))) (lets_be session (is_disk_end e) x y beside)
-            (owns_by q (ap (λ (v : Runner T). v.stamp) runner_is ∙ same.1)) (answered_ready q (failure_of why) its.0) keeps
+            (owns_by q (ap (λ (v : Runner T). v.stamp) runner_is ∙ same.1)) (answered_ready q (failure_of why) its.0)
+            (stops_last m stamp way ends session before (after q) x (standing left way p.runner) none begun (λ h is. is) (λ lock held. held) y (asks_open p.runner.hand) opened free (standing left way r) e why fails its.1 owed_before steps)
+            (safe_ended m stamp way ends session before (after q) x (standing left way p.runner) none begun (λ h is. is) (λ lock held. held) (asks_open p.runner.hand) opened free r.fault c now (λ is. its.1) crash)

@@ -1,6 +1,6 @@
 -- What the looks at a store tell.
 use Rattle.std.proofs.Common.{ap, inl, inr, subst, sym, ◌∙◌}
-use Rattle.std.specs.Prelude.{Bool, Err, IfErr, IfOk, IfSome, List, None, Ok, Option, Result, Some, [], false, is_some, refl, true, ℕ, ◌&&◌, ◌∷◌, ◌≡◌}
+use Rattle.std.specs.Prelude.{Bool, Err, IfErr, IfOk, IfSome, List, None, Ok, Option, Result, Some, [], false, is_some, refl, true, ℕ, ◌&&◌, ◌∷◌, ◌≡◌, ◌⊎◌}
 use Rattle.lq_base.specs.declared.dialect.Dialect.{Dialect}
 use Rattle.lq_base.specs.declared.tracking.Lock.{Lock}
 use Rattle.lq_drill.specs.declared.fault.DrillFault.{DrillFault}
@@ -124,6 +124,9 @@ once_done d session call x y deeds u same alone = (
   λ start s is stands fit. subst (λ k. Stands start session y (called k (Alone call.deeds call.room) s)) is ((subst (λ ds. AloneFor d session ds call.room x (Ok u) y) same alone) start s is stands fit).2,
 )
 
+pub once_failed : (d : Dialect) (session : ℕ) (call : OneCall) (x y : State) (deeds : List Deed) (met : StoreFault) (why : DrillFault) → why ≡ fault_of met → deeds ≡ call.deeds → AloneFor d session deeds call.room x (Err met) y → CallsOnce d session call x (Err why) y
+once_failed d session call x y deeds met why is same alone = (met, sym is, subst (λ ds. AloneFor d session ds call.room x (Err met) y) same alone)
+
 pub once_crashes : (d : Dialect) (session : ℕ) (call : OneCall) (x : State) (before now : Crashes) (deeds : List Deed) → deeds ≡ call.deeds → CrashesFor d session (Alone deeds call.room) x before now → CrashesFor d session (Alone call.deeds call.room) x before now
 once_crashes d session call x before now deeds same crash = subst (λ ds. CrashesFor d session (Alone ds call.room) x before now) same crash
 
@@ -197,6 +200,24 @@ not_some o none some = no_fact (sym (ap is_some none) ∙ some)
 pub no_disk_after : {X : Type 0} (o : Option StoreFault) (why : StoreFault) (r : Result Answer DrillFault) → o ≡ Some why → disk_failed o ≡ false → IfErr r (λ w. w ≡ fault_of why) → r ≡ Err drill.Disk → X
 no_disk_after o why (Ok a) is clean it disk = Prim.cc
 no_disk_after o why (Err w) is clean it disk = no_fact (sym clean ∙ ap disk_failed is ∙ ap is_disk (the_disk why (sym it ∙ err_is disk)))
+
+-- what was found is answered, or the fault
+
+pub own_ok : (r : Result Answer DrillFault) → IfOk r (λ a. r ≡ Ok a)
+own_ok (Ok a) = refl
+own_ok (Err why) = tt
+
+pub own_err : (r : Result Answer DrillFault) (P : DrillFault → Type 0) → IfErr r (λ why. (r ≡ Err why) ⊎ P why)
+own_err (Ok a) P = tt
+own_err (Err why) P = inl refl
+
+pub kept_ok : (r found : Result Answer DrillFault) (answer : Answer) → found ≡ Ok answer → IfOk r (λ a. a ≡ answer) → IfOk r (λ a. found ≡ Ok a)
+kept_ok (Ok a) found answer is it = is ∙ ap (λ b. Ok b) (sym it)
+kept_ok (Err why) found answer is it = tt
+
+pub met_err : (r : Result Answer DrillFault) (o : Option StoreFault) (met : StoreFault) (P : DrillFault → Type 0) → o ≡ Some met → IfErr r (λ why. why ≡ fault_of met) → IfErr r (λ why. P why ⊎ ((it : StoreFault) × (o ≡ Some it) × (fault_of it ≡ why)))
+met_err (Ok a) o met P is it = tt
+met_err (Err why) o met P is it = inr (met, is, sym it)
 
 -- an end
 

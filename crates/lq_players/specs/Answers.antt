@@ -69,6 +69,15 @@ is_told_end end.Disk = false
 is_told_end (end.Full used next) = false
 is_told_end end.OutOfMemory = false
 
+-- what fault it answers at its end: the one that ended it, or that there was no memory for its answer
+abbrev pub FailsAs : End → DrillFault → Type 0
+FailsAs end.Done why = why ≡ drill.OutOfMemory
+FailsAs (end.Refused refusal) why = why ≡ drill.OutOfMemory
+FailsAs (end.Locked lock) why = ⊥
+FailsAs end.Disk why = why ≡ drill.Disk
+FailsAs (end.Full used next) why = why ≡ drill.Full used next
+FailsAs end.OutOfMemory why = why ≡ drill.OutOfMemory
+
 -- the refusal that stopped it, if one did
 abbrev pub refusal_in : End → Option Refusal
 refusal_in end.Done = None

@@ -6,12 +6,12 @@ use Rattle.lq_drill.specs.declared.fault.DrillFault.{DrillFault}
 use Rattle.lq_hand.specs.Way.{Way}
 use Rattle.lq_model.specs.declared.fault.StoreFault.{StoreFault}
 use Rattle.lq_model.specs.declared.fault.StoreFault.TheVariants as fault
-use Rattle.lq_players.specs.Answers.{failure_of, is_failure}
+use Rattle.lq_players.specs.Answers.{failure_of, fault_of, is_failure}
 use Rattle.lq_players.specs.Checked.{AnswersAtOnce, IsInHand, IsLetIn, MakesOne, MakesTurns, Work}
 use Rattle.lq_players.specs.declared.checks.OneCall.{OneCall}
 use Rattle.lq_players.specs.declared.checks.Verdict.{Verdict}
 use Rattle.lq_players.specs.declared.checks.Verdict.TheVariants as verdict
-use Rattle.lq_run.specs.Does.{AllWritable}
+use Rattle.lq_run.specs.Does.{AllWritable, AloneFor}
 use Rattle.lq_run.specs.Opens.{TakesLock}
 use Rattle.lq_run.specs.Stands.{Stands}
 use Rattle.lq_store.specs.State.{State, other}
@@ -66,13 +66,13 @@ module _ {Key Told T : Type 0} (d : Dialect) (m : Meaning Key) (stamp : Stamp) (
   Judged turns source session x (verdict.Turns hand) = IsInHand d stamp hand × OnIts d x (λ database. MayCall session x job database × MakesTurns d m stamp way ends job turns source hand database)
   Judged turns source session x verdict.Lack = Unit {0}
 
--- the one call of a command is made, from every session for which the store stands
+-- the one call of a command is made, from every session for which the store stands; or it met a fault
 abbrev pub CallsOnce : Dialect → ℕ → OneCall → State → Result Answer DrillFault → State → Type 0
 CallsOnce d session call x (Ok a) y = (a ≡ call.answer)
     × ((start : State) (s : Session) → start.dialect ≡ d → Stands start session x s → all_fit d call.deeds s.seen ≡ true → Stands start session y (called d (Alone call.deeds call.room) s))
-CallsOnce d session call x (Err why) y = Unit {0}
+CallsOnce d session call x (Err why) y = (fault : StoreFault) × (fault_of fault ≡ why) × AloneFor d session call.deeds call.room x (Err fault) y
 
 -- a command has taken the lock, and is to be called again; or it met a fault
 abbrev pub Begins : Dialect → Stamp → ℕ → State → State → Bool → Option Answer → Bool → Bool → Option Answer → Bool → Result (Unit {0}) DrillFault → Type 0
 Begins d stamp session x y begun answers faulted begun_now answers_now faulted_now (Ok u) = TakesLock d stamp session x (Ok tt) y × (begun_now ≡ true) × (answers_now ≡ answers) × (faulted_now ≡ faulted)
-Begins d stamp session x y begun answers faulted begun_now answers_now faulted_now (Err why) = (begun_now ≡ begun) × (answers_now ≡ Some (failure_of why)) × (faulted_now ≡ true)
+Begins d stamp session x y begun answers faulted begun_now answers_now faulted_now (Err why) = (begun_now ≡ begun) × (answers_now ≡ Some (failure_of why)) × (faulted_now ≡ true) × ((fault : StoreFault) × (fault_of fault ≡ why) × TakesLock d stamp session x (Err fault) y)

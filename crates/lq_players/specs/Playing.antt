@@ -1,6 +1,6 @@
 -- A command as a player.
 use Rattle.std.proofs.Common.{ap, inl, inr}
-use Rattle.std.specs.Prelude.{Bool, None, Ok, Option, Result, false, is_some, true, ℕ, ◌≡◌, ◌≤◌}
+use Rattle.std.specs.Prelude.{Bool, None, Ok, Option, Result, Some, false, is_some, true, ℕ, ◌≡◌, ◌≤◌}
 use Rattle.lq_base.specs.declared.dialect.Dialect.{Dialect}
 use Rattle.lq_base.specs.declared.tracking.Lock.{Lock}
 use Rattle.lq_drill.specs.Player.{EndsBy, HasMet, Moves, MovesSafely, Standing}
@@ -9,7 +9,8 @@ use Rattle.lq_drill.specs.declared.fault.DrillFault.{DrillFault}
 use Rattle.lq_hand.specs.Hand.{calls_left}
 use Rattle.lq_hand.specs.Way.{Way}
 use Rattle.lq_hand.specs.declared.hand.Hand.{Hand}
-use Rattle.lq_players.specs.Answers.{failure_of}
+use Rattle.lq_model.specs.declared.fault.StoreFault.{StoreFault}
+use Rattle.lq_players.specs.Answers.{failure_of, fault_of}
 use Rattle.lq_players.specs.Checked.{Work}
 use Rattle.lq_players.specs.Hindered.{asks_open}
 use Rattle.lq_players.specs.Under.{IsUnder}
@@ -19,7 +20,7 @@ use Rattle.lq_run.specs.Ends.{disk_failed}
 use Rattle.lq_run.specs.Holds.{IsHeld}
 use Rattle.lq_run.specs.Steps.{is_over, standing}
 use Rattle.lq_run.specs.declared.runner.Runner.{Runner}
-use Rattle.lq_store.specs.Crashes.{Crashes, CrashesLeave, Keeps}
+use Rattle.lq_store.specs.Crashes.{Crashes}
 use Rattle.lq_store.specs.State.{State, is_open}
 use Rattle.lq_turns.specs.Rest.{Turns}
 use Rattle.lq_turns.specs.Set.{Meaning}
@@ -67,6 +68,7 @@ module _ {Key Told T : Type 0} (m : Meaning Key) (left : T → Turns Key) (way :
     dialect = p.runner.dialect;
     opens = opens_as p.begun p.runner.hand;
     faulted = p.faulted;
+    owes = λ why. (fault : StoreFault) × (p.runner.fault ≡ Some fault) × (fault_of fault ≡ why);
     job = job p.runner.source p.runner.dialect p.runner.stamp;
     begun = p.begun;
     is_at = IsUnder p.runner.dialect m p.runner.stamp (standing left way p.runner) way ends;
@@ -85,6 +87,5 @@ pub record Took (session : ℕ) (before after : Standing Answer Locked Busy) (x 
   pub faulted : before.faulted ≡ true → after.faulted ≡ true
   pub met : HasMet failure_of session after
   pub ends : EndsBy failure_of after result
-  pub moves : Moves session before after x y
-  pub crash : MovesSafely session before after x c e
-  pub keeps : CrashesLeave x.entries Keeps c e
+  pub moves : Moves failure_of session before after x result y
+  pub crash : MovesSafely failure_of session before after x c e

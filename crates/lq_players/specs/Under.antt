@@ -1,9 +1,11 @@
 -- A command that has begun, as the lock's holder in the machine.
-use Rattle.std.specs.Prelude.{None, Option, [], true, ◌≡◌}
+use Rattle.std.specs.Prelude.{None, Option, Some, [], true, ◌≡◌}
 use Rattle.lq_base.specs.declared.dialect.Dialect.{Dialect}
 use Rattle.lq_beside.specs.Replays.{calls_fit}
 use Rattle.lq_hand.specs.Hand.{IsReady}
 use Rattle.lq_hand.specs.Way.{Way}
+use Rattle.lq_model.specs.declared.fault.StoreFault.{StoreFault}
+use Rattle.lq_players.specs.Answers.{failure_of, fault_of}
 use Rattle.lq_run.specs.Ends.{KeepsLock}
 use Rattle.lq_run.specs.Holds.{IsHeld}
 use Rattle.lq_run.specs.Steps.{Known, Standing, place}
@@ -22,20 +24,24 @@ abbrev pub bare : Session → Session
 bare s = record s { entries = [] }
 
 module _ {Key Told : Type 0} (d : Dialect) (m : Meaning Key) (stamp : Stamp) (r : Standing Key Told) where
-  -- the session is at the command's place, and holds the lock until the last call; the source knows the contents, on its way to having told so much
+  -- the session is at the command's place, and holds the lock until the last call; unless it met a fault its source knows the contents, on its way to having told so much
   pub record IsOn (told : Told) (s : Session) : Type 0 where
     pub ready : IsReady d s.is_open (place r)
     pub fits : calls_fit d (rest d m stamp (place r) (both_of s)) (bare s) ≡ true
     pub row : (s.committed.has_lock_row ≡ true) × (s.seen.has_lock_row ≡ true)
-    pub known : Known d (r.way d stamp told) r.refused (place r) r.progress (both_of s)
+    pub known : r.fault ≡ None → Known d (r.way d stamp told) r.refused (place r) r.progress (both_of s)
     pub committed : IsHeld stamp s.committed.lock
     pub seen : IsHeld stamp s.seen.lock
     pub keeps : KeepsLock stamp.who (rest d m stamp (place r) (both_of s))
 
-  -- No fault was met, and the holder's calls to come are the command's; so is its answer, where its source has told what it will have told.
+  -- what it will answer: what its source has told by then, or the fault that it met
+  abbrev pub WillAnswer : {T : Type 0} → (T → Dialect → Stamp → Told → Way) → (T → Option Refusal → Answer) → Told → Option StoreFault → Answer → Type 0
+  WillAnswer {T} way ends told None a = (last : T) (refused : Option Refusal) → (way last d stamp told).tells refused → ends last refused ≡ a
+  WillAnswer way ends told (Some why) a = a ≡ failure_of (fault_of why)
+
+  -- The holder's calls to come are the command's; so is its answer.
   pub record IsUnder {T : Type 0} (way : T → Dialect → Stamp → Told → Way) (ends : T → Option Refusal → Answer) (h : Holder Answer Locked Busy) : Type 0 where
     pub told : Told
-    pub healthy : r.fault ≡ None
     pub on : IsOn told h.session
     pub to_come : h.rest ≡ rest d m stamp (place r) (both_of h.session)
-    pub answers : (last : T) (refused : Option Refusal) → (way last d stamp told).tells refused → ends last refused ≡ h.answer
+    pub answers : WillAnswer way ends told r.fault h.answer

@@ -2,13 +2,12 @@ ghost use Rattle.std.specs.Prelude.{◌≡◌, ◌≤◌, ◌&&◌, Err, IfErr, 
 ghost use Rattle.lq_base.specs.declared.dialect.Dialect.{Dialect as Kind};
 ghost use Rattle.lq_drill.specs.declared.fault.DrillFault.TheVariants as drill;
 ghost use Rattle.lq_outside.specs.Count.{Rose};
-ghost use Rattle.lq_players.specs.Answers.{fault_of, is_disk_answer, is_failed_end, is_failure, is_told_end, refusal_in, tells_locked};
+ghost use Rattle.lq_players.specs.Answers.{FailsAs, fault_of, is_disk_answer, is_failed_end, is_failure, is_told_end, refusal_in, tells_locked};
 ghost use Rattle.lq_players.specs.Judged.{CallsOnce, Judged, TellsBusy, TellsHeld};
 ghost use Rattle.lq_run.specs.Beside.{Beside};
 ghost use Rattle.lq_run.specs.Crashing.{CrashesFor};
 ghost use Rattle.lq_run.specs.Does.{AllWritable};
 ghost use Rattle.lq_run.specs.Faults.{is_disk_end};
-ghost use Rattle.lq_store.specs.Crashes.{CrashesLeave, Keeps};
 ghost use Rattle.lq_store.specs.State.{is_open};
 ghost use Rattle.lq_track.specs.Database.{lock_of};
 ghost use Rattle.lq_turns.specs.declared.call.Call.TheVariants.{Alone};
@@ -108,7 +107,6 @@ pub fn call_once<S: Store, P: SqlText>(
     ensures calls { CallsOnce dialect session call (S.state store.old) result (S.state store.new) }
     ensures beside { Beside session (is_disk_answer result) (S.state store.old) (S.state store.new) }
     ensures crash { CrashesFor dialect session (Alone call.deeds call.room) (S.state store.old) (S.crashes store.old) (S.crashes store.new) }
-    ensures keeps { CrashesLeave (S.state store.old).entries Keeps (S.crashes store.old) (S.crashes store.new) }
     ensures shuts { (S.state store.new).live ≡ true → is_open session (S.state store.new).begun ≡ false }
     ensures later { S.faults store.old ≤ S.faults store.new }
     ensures rose { result ≡ Err drill.Disk → Rose (S.faults store.old) (S.faults store.new) }
@@ -144,6 +142,7 @@ pub fn answer_at<T: Checks>(source: &T, end: End) -> Result<Answer, DrillFault>
     ensures whole { IfOk result (λ a. is_failed_end end ≡ false) }
     ensures ends { IfOk result (λ a. is_told_end end ≡ true → a ≡ T.ends source.now (refusal_in end)) }
     ensures locked { IfOk result (λ a. is_told_end end ≡ false → tells_locked a ≡ true) }
+    ensures fails { IfErr result (FailsAs end) }
     ensures disk { result ≡ Err drill.Disk → is_disk_end end ≡ true }
 {
     match end {

@@ -1,7 +1,7 @@
-ghost use Rattle.std.specs.Prelude.{◌≡◌, ◌≤◌, All, Err, IsTrue, None, Ok, length, true, ℕ};
+ghost use Rattle.std.specs.Prelude.{◌≡◌, ◌≤◌, All, Err, IfErr, IsTrue, None, Ok, length, true, ℕ};
 ghost use Rattle.lq_players.specs.AnyCommand.{IsUnstarted, command_stands};
 ghost use Rattle.lq_players.specs.Drilling.{BeginInTurn, HaveTasks, NoneReleases, works};
-ghost use Rattle.lq_drill.specs.Drill.{Each, EndsAs, HasFaulted, IsDrilled, IsDrilledUntil, IsFaultless, IsSerialDrill, LeftInDrill};
+ghost use Rattle.lq_drill.specs.Drill.{Each, EndsAs, FailsBy, HasFaulted, IsDrilled, IsDrilledUntil, IsFaultless, IsSerialDrill, LeftAtEnd, LeftInDrill};
 ghost use Rattle.lq_drill.specs.Player.{HasMet};
 ghost use Rattle.lq_drill.specs.declared.fault.DrillFault.TheVariants as fault;
 ghost use Rattle.lq_kinds.specs.declared.any_change.AnyChange.{AnyChange};
@@ -48,7 +48,11 @@ pub fn drill_commands<S: Store, P: SqlText>(
     ensures in_turn { (tasks : ℕ → Task AnyChange) (database : Database) → StandsFor (S.state store.old).dialect (S.state store.old).committed database → HaveTasks (S.state store.old).dialect tasks players.old.items
         → Each command_stands IsFaultless players.new.items → BeginInTurn (S.state store.old).dialect tasks database steps.now → IsSerialDrill command_stands (works (S.state store.old).dialect tasks) (S.state store.old) database steps.now players.new.items (S.state store.new) }
     ensures crash { (tasks : ℕ → Task AnyChange) (database : Database) → StandsFor (S.state store.old).dialect (S.state store.old).committed database → HaveTasks (S.state store.old).dialect tasks players.old.items
-        → CrashesLeave (S.state store.old).entries (LeftInDrill command_stands (works (S.state store.old).dialect tasks) (S.state store.old) database steps.now players.new.items) (S.crashes store.old) (S.crashes store.new) }
+        → CrashesLeave (S.state store.old).entries (LeftInDrill command_stands (works (S.state store.old).dialect tasks) (S.state store.old) database failure_of steps.now players.new.items) (S.crashes store.old) (S.crashes store.new) }
+    ensures left { (tasks : ℕ → Task AnyChange) (database : Database) → StandsFor (S.state store.old).dialect (S.state store.old).committed database → HaveTasks (S.state store.old).dialect tasks players.old.items
+        → LeftAtEnd command_stands (works (S.state store.old).dialect tasks) (S.state store.old) database failure_of steps.now players.new.items (S.state store.new) }
+    ensures cause { (tasks : ℕ → Task AnyChange) (database : Database) → StandsFor (S.state store.old).dialect (S.state store.old).committed database → HaveTasks (S.state store.old).dialect tasks players.old.items
+        → IfErr result (FailsBy command_stands (works (S.state store.old).dialect tasks) (S.state store.old) database failure_of steps.now players.new.items) }
     ensures later { S.faults store.old ≤ S.faults store.new }
     ensures rose { result ≡ Err fault.Disk → Rose (S.faults store.old) (S.faults store.new) }
 {

@@ -1,4 +1,5 @@
-ghost use Rattle.std.specs.Prelude.{◌≡◌, ◌≤◌, Err, IfErr, IfOk, IfSome, IsTrue, None, false, is_some, true};
+ghost use Rattle.std.specs.Prelude.{◌≡◌, ◌≤◌, ◌⊎◌, Err, IfErr, IfOk, IfSome, IsTrue, None, Ok, Some, false, is_some, true};
+ghost use Rattle.lq_model.specs.declared.fault.StoreFault.{StoreFault as Fault};
 ghost use Rattle.lq_drill.specs.declared.fault.DrillFault.TheVariants as drill;
 ghost use Rattle.lq_hand.specs.Hand.{calls_left};
 ghost use Rattle.lq_players.specs.Hindered.{Hinders, TellsBusy, TellsLost, TellsOpen, asks_open, first_within, is_within};
@@ -51,6 +52,8 @@ pub fn after_fault(
 ) -> Result<Answer, DrillFault>
     ensures same { fault ≡ None → result ≡ answer }
     ensures locked { is_some fault ≡ true → IfOk result (λ a. tells_locked a ≡ true) }
+    ensures kept { IfOk result (λ a. answer ≡ Ok a) }
+    ensures fails { IfErr result (λ why. (answer ≡ Err why) ⊎ ((met : Fault) × (fault ≡ Some met) × (fault_of met ≡ why))) }
     ensures disk { disk_failed fault ≡ false → result ≡ Err drill.Disk → answer ≡ Err drill.Disk }
 {
     match fault {
@@ -64,6 +67,7 @@ pub fn after_fault(
 
 fn locked_or(answer: Answer, fault: StoreFault) -> Result<Answer, DrillFault>
     ensures locked { IfOk result (λ a. tells_locked a ≡ true) }
+    ensures kept { IfOk result (λ a. a ≡ answer) }
     ensures fault { IfErr result (λ why. why ≡ fault_of fault) }
 {
     if tells_locked(&answer) {

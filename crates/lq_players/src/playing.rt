@@ -8,7 +8,6 @@ ghost use Rattle.lq_players.specs.Judged.{Begins};
 ghost use Rattle.lq_players.specs.Playing.{IsFresh, IsGoing, Took, opens_as, stands};
 ghost use Rattle.lq_run.specs.Beside.{Beside};
 ghost use Rattle.lq_run.specs.Crashing.{CrashesOpening};
-ghost use Rattle.lq_store.specs.Crashes.{CrashesLeave, Keeps};
 ghost use Rattle.lq_store.specs.State.{is_open};
 
 use crate::calls::{answer_at, call_once, fault_of, judge};
@@ -138,7 +137,6 @@ impl<T: Checks + Drop> Playing<T> {
         ensures begins { Begins self.old.runner.dialect self.old.runner.stamp session (S.state store.old) (S.state store.new) self.old.begun self.old.answer self.old.faulted self.new.begun self.new.answer self.new.faulted result }
         ensures beside { Beside session (is_disk_answer result) (S.state store.old) (S.state store.new) }
         ensures crash { CrashesOpening self.old.runner.dialect self.old.runner.stamp session (S.state store.old) (S.crashes store.old) (S.crashes store.new) }
-        ensures keeps { CrashesLeave (S.state store.old).entries Keeps (S.crashes store.old) (S.crashes store.new) }
         ensures shuts { (S.state store.new).live ≡ true → is_open session (S.state store.new).begun ≡ false }
         ensures later { S.faults store.old ≤ S.faults store.new }
         ensures rose { result ≡ Err drill.Disk → Rose (S.faults store.old) (S.faults store.new) }

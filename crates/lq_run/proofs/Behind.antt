@@ -81,7 +81,7 @@ module _ (read : StatementsReadBack) (d : Dialect) (calls : List Call) (database
   once_behind : HasDatabase d x database → (result : Result (Unit {0}) StoreFault) → LeavesOnce d calls database x result y → LeftBehind d calls database x y
   once_behind has (Ok u) leaves = leaves_left has leaves
   once_behind has (Err fault.Disk) failed = front_behind last.entries failed front_left
-  once_behind has (Err (fault.Full used more)) same = subst (LeftBehind d calls database x) (sym same) (none_left d calls database x has)
+  once_behind has (Err (fault.Full used more)) is = subst (LeftBehind d calls database x) (sym is.0) (none_left d calls database x has)
   once_behind has (Err fault.OutOfMemory) same = subst (LeftBehind d calls database x) (sym same) (none_left d calls database x has)
   once_behind has (Err (fault.Busy n)) leaves = absurd leaves
   once_behind has (Err fault.NotSql) leaves = absurd leaves
@@ -135,12 +135,12 @@ module _ {Key : Type 0} (read : StatementsReadBack) (d : Dialect) (m : Meaning K
     by (inr early) = subst (λ call. EachFront (called d call is.s)) (sym early.0)
         (λ there front rest parts. in_closing read d calls database fit is.s is.came early.3 (ap (λ (lock : Lock). lock.locked) early.1) (ap has_mark early.1 ∙ unmarked) early.2 there (there ++ entries_of d front) front rest parts refl)
 
-  behind_as : (e : End) → EndsAs d m stamp number x (session_on database) end_session e y → LeftBehind d calls database x y
+  behind_as : (e : End) → EndsAs d m stamp number x (session_on database) end_session None e y → LeftBehind d calls database x y
   behind_as end.Done ends = whole_behind ends
   behind_as (end.Refused refusal) ends = whole_behind ends
   behind_as (end.Locked lock) ends = absurd ends
   behind_as end.Disk ends = breaks_behind ends
-  behind_as (end.Full used more) ends = stops_behind ends
+  behind_as (end.Full used more) ends = stops_behind ends.0
   behind_as end.OutOfMemory ends = stops_behind ends
 
 pub behind_all : {Key Told : Type 0} (read : StatementsReadBack) (d : Dialect) (m : Meaning Key) (stamp : Stamp) (number : ℕ) (r : Standing Key Told) (x y : State) (e : End) → RunsWhole d m stamp number r x e y → BehindAll d m stamp r x y

@@ -11,7 +11,7 @@ use Rattle.lq_turns.specs.Contents.{Contents}
 use Rattle.lq_turns.specs.Goes.{Both, are_accepted, went}
 use Rattle.lq_turns.specs.Rest.{GivingUp, Inside, NoMore, Over, Place, Turns, between, if_goes_on, rest, turns_calls}
 use Rattle.lq_turns.specs.Script.{closing}
-use Rattle.lq_turns.specs.Session.{Session, all_called, called}
+use Rattle.lq_turns.specs.Session.{Session, all_called, called, room_of}
 use Rattle.lq_turns.specs.Set.{Meaning}
 use Rattle.lq_turns.specs.Stepped.{both_of}
 use Rattle.lq_turns.specs.declared.call.Call.{Call}
@@ -23,12 +23,13 @@ use Rattle.lq_turns.specs.Turn.{made}
 use Rattle.lq_hand.specs.Hand.{AreTurns, IsReady, calls_left, hand_place}
 use Rattle.lq_hand.specs.declared.hand.Phase.{Phase}
 use Rattle.lq_hand.specs.declared.hand.Phase.TheVariants as phase
+use Rattle.lq_run.proofs.Full.{full_before}
 use Rattle.lq_run.proofs.Grows.{calls_grow, came_on}
 use Rattle.lq_run.proofs.Keeping.{call_holds}
 use Rattle.lq_run.specs.Does.{Breaks, Faults}
-use Rattle.lq_run.specs.Ends.{AllHoldOn, AreLast, CameFrom, EndsAs, HoldsOn, IsBefore, IsOnWay, IsRunning, KeepsLock, Reaches, StandsBefore, at_end, disk_failed}
+use Rattle.lq_run.specs.Ends.{AllHoldOn, AreLast, CameFrom, EndsAs, HoldsOn, IsBefore, IsOnWay, IsRunning, IsToCome, KeepsFull, KeepsLock, Reaches, StandsBefore, at_end, disk_failed}
 use Rattle.lq_run.specs.Holds.{IsBare, IsHeld}
-use Rattle.lq_run.specs.Moves.{Goes, IsAt, Meets, room_of}
+use Rattle.lq_run.specs.Moves.{Goes, IsAt, Meets}
 use Rattle.lq_run.specs.Stands.{IsBegun, Stands}
 use Rattle.lq_run.specs.Steps.{Advances, Closes, Ends, EndsStep, Falls, Standing, Steps, StepsAs, TakesBack, TellsAs, end_of, is_disk, is_over, last_end, place, turns_of}
 use Rattle.lq_run.specs.declared.runner.End.{End}
@@ -43,6 +44,9 @@ not_true h = Prim.cc
 
 some_none : {why : StoreFault} → (let o : Option StoreFault = Some why in o) ≡ None → ⊥
 some_none h = Prim.cc
+
+no_memory : {used more : ℕ} → fault.OutOfMemory ≡ fault.Full used more → ⊥
+no_memory h = Prim.cc
 
 same_some : {a b : StoreFault} → (let o : Option StoreFault = Some a in o) ≡ Some b → a ≡ b
 same_some h = Prim.cc
@@ -141,7 +145,7 @@ module _ {Key : Type 0} (d : Dialect) (m : Meaning Key) (stamp : Stamp) (number 
 
   -- the end
 
-  module _ (start : State) (first last s : Session) (x y : State) (stands : Stands start number x s) (same_dialect : start.dialect ≡ d) (came : CameFrom d first s) (way : IsBefore s last) where
+  module _ (start : State) (first last : Session) (met : Option StoreFault) (s : Session) (x y : State) (stands : Stands start number x s) (same_dialect : start.dialect ≡ d) (came : CameFrom d first s) (way : IsBefore s last) where
     begun_none : s.is_open ≡ false → s.begun ≡ []
     begun_none = by x.begun stands.begun where
       by : (o : Option Transaction) → IsBegun start.dialect number s o → s.is_open ≡ false → s.begun ≡ []
@@ -152,46 +156,47 @@ module _ {Key : Type 0} (d : Dialect) (m : Meaning Key) (stamp : Stamp) (number 
     stands_still is = (s, came, way, inl (subst (λ z. Stands start number z s) (sym is) stands))
 
     -- a call on the way, or the one that frees a lock without a mark, met a fault
-    meets : (p : Place Key) (room : Room) (why : StoreFault) (is : Meets d m stamp number p start s x room why y) → (IsBefore (called d is.call s) last ⊎ ((is.call ≡ closing) × IsBare stamp s.committed.lock × (s.begun ≡ []) × IsBefore s last))
-        → EndsAs d m stamp number start first last (end_of why) y
-    meets p room fault.Disk is next = record { s = s; x = x; stands = stands; came = came; call = is.call; breaks = subst (λ e. Breaks e is.call s x y) same_dialect is.faults; before = next }
-    meets p room (fault.Full used more) is next = stands_still is.faults.1
-    meets p room fault.OutOfMemory is next = stands_still is.faults
-    meets p room (fault.Busy n) is next = absurd is.faults
-    meets p room fault.NotSql is next = absurd is.faults
-    meets p room (fault.Refused reason) is next = absurd is.faults
+    meets : (p : Place Key) (room : Room) (why : StoreFault) (is : Meets d m stamp number p start s x room why y) → ((room_of is.call ≡ Ordinary) ⊎ ((is.call ≡ closing) × (s.begun ≡ []))) → IsToCome d m stamp number start first last is.call s
+        → EndsAs d m stamp number start first last met (end_of why) y
+    meets p room fault.Disk is which next = record { s = s; x = x; stands = stands; came = came; call = is.call; breaks = subst (λ e. Breaks e is.call s x y) same_dialect is.faults; before = next }
+    meets p room (fault.Full used more) is which next = (stands_still is.faults.1, inl (full_before d m stamp number start first last s x stands same_dialect came is.call room used more is.by which next is.faults.0))
+    meets p room fault.OutOfMemory is which next = stands_still is.faults
+    meets p room (fault.Busy n) is which next = absurd is.faults
+    meets p room fault.NotSql is which next = absurd is.faults
+    meets p room (fault.Refused reason) is which next = absurd is.faults
 
     -- the lock is freed after a fault
-    frees : (why : StoreFault) → is_disk why ≡ false → StandsBefore d m stamp number start first last y → EndsAs d m stamp number start first last (end_of why) y
-    frees fault.Disk other is = absurd (not_true (sym other))
-    frees (fault.Full used more) other is = is
-    frees fault.OutOfMemory other is = is
-    frees (fault.Busy n) other is = is
-    frees fault.NotSql other is = is
-    frees (fault.Refused reason) other is = is
+    frees : (why : StoreFault) → is_disk why ≡ false → KeepsFull d m stamp number start first last met (Some why) → StandsBefore d m stamp number start first last y → EndsAs d m stamp number start first last met (end_of why) y
+    frees fault.Disk other kept is = absurd (not_true (sym other))
+    frees (fault.Full used more) other kept is = (is, kept used more refl)
+    frees fault.OutOfMemory other kept is = is
+    frees (fault.Busy n) other kept is = is
+    frees fault.NotSql other kept is = is
+    frees (fault.Refused reason) other kept is = is
 
-    closes_bare : (p : Place Key) (why : StoreFault) (e : End) → is_disk why ≡ false → IsBare stamp s.committed.lock
+    closes_bare : (p : Place Key) (why : StoreFault) (e : End) → is_disk why ≡ false → KeepsFull d m stamp number start first last met (Some why) → IsBare stamp s.committed.lock
         → ((call : Call) (more : List Call) → rest d m stamp p (both_of s) ≡ call ∷ more → room_of call ≡ Release → (call ≡ closing))
         → ((call : Call) → rest d m stamp p (both_of s) ≡ call ∷ [] → call ≡ closing)
         → ((call : Call) (more : List Call) → rest d m stamp p (both_of s) ≡ call ∷ more → call ≡ closing → s.is_open ≡ false)
-        → Closes d m stamp number p (end_of why) start s x e y → EndsAs d m stamp number start first last e y
-    closes_bare p why e other bare at_room only shut (inl went) =
+        → Closes d m stamp number p (end_of why) start s x e y → EndsAs d m stamp number start first last met e y
+    closes_bare p why e other kept bare at_room only shut (inl went) =
         let is = went.0 in
         let none = begun_none (shut is.went.call [] is.went.next (only is.went.call is.went.next)) in
         let ends : is.after ≡ called d closing s = is.went.is ∙ ap (λ c. called d c s) (only is.went.call is.went.next) in
-        subst (λ a. EndsAs d m stamp number start first last a y) (sym went.1) (frees why other (s, came, way, inr (bare, none, subst (Stands start number y) ends is.at.stands)))
-    closes_bare p why e other bare at_room only shut (inr failed) =
+        subst (λ a. EndsAs d m stamp number start first last met a y) (sym went.1) (frees why other kept (s, came, way, inr (bare, none, subst (Stands start number y) ends is.at.stands)))
+    closes_bare p why e other kept bare at_room only shut (inr failed) =
         let it = failed.1 in
         let frees_it = at_room it.call it.more it.next it.by in
-        subst (λ a. EndsAs d m stamp number start first last a y) (sym failed.2) (meets p Release failed.0 it (inr (frees_it, bare, begun_none (shut it.call it.more it.next frees_it), way)))
+        let none = begun_none (shut it.call it.more it.next frees_it) in
+        subst (λ a. EndsAs d m stamp number start first last met a y) (sym failed.2) (meets p Release failed.0 it (inr (frees_it, none)) (inr (frees_it, bare, none, way)))
 
-    ends_bare : (p : Place Key) (why : StoreFault) (refused : Option Refusal) (e : End) → is_disk why ≡ false
+    ends_bare : (p : Place Key) (why : StoreFault) (refused : Option Refusal) (e : End) → is_disk why ≡ false → KeepsFull d m stamp number start first last met (Some why)
         → ((call : Call) (more : List Call) → rest d m stamp p (both_of s) ≡ call ∷ more → room_of call ≡ Release → (call ≡ closing))
         → ((call : Call) → rest d m stamp p (both_of s) ≡ call ∷ [] → call ≡ closing)
         → ((call : Call) (more : List Call) → rest d m stamp p (both_of s) ≡ call ∷ more → call ≡ closing → s.is_open ≡ false)
-        → Ends d m stamp number p (Some why) refused start s x e y → EndsAs d m stamp number start first last e y
-    ends_bare p why refused e other at_room only shut (inl bare) = closes_bare p why e other bare.0 at_room only shut bare.1
-    ends_bare p why refused e other at_room only shut (inr marked) = subst (λ a. EndsAs d m stamp number start first last a y) (sym marked.2) (frees why other (stands_still marked.1))
+        → Ends d m stamp number p (Some why) refused start s x e y → EndsAs d m stamp number start first last met e y
+    ends_bare p why refused e other kept at_room only shut (inl bare) = closes_bare p why e other kept bare.0 at_room only shut bare.1
+    ends_bare p why refused e other kept at_room only shut (inr marked) = subst (λ a. EndsAs d m stamp number start first last met a y) (sym marked.2) (frees why other kept (stands_still marked.1))
 
 module _ {Key Told : Type 0} (d : Dialect) (m : Meaning Key) (stamp : Stamp) (number : ℕ) where
   pub left_after : (r : Standing Key Told) (x : Both) → is_over r.hand.phase ≡ false → rest d m stamp (place r) x ≢ []
@@ -307,45 +312,65 @@ module _ {Key Told : Type 0} (d : Dialect) (m : Meaning Key) (stamp : Stamp) (nu
       by (inl same) = same
       by (inr fell) = absurd (some_none (sym fell.1 ∙ none))
 
-    ends_last : (refused : Option Refusal) → Stands start number y last → EndsAs d m stamp number start first last (last_end None refused) y
-    ends_last None stands = stands
-    ends_last (Some refusal) stands = stands
-
-    ends_none : (refused : Option Refusal) (e : End) → before.fault ≡ None → Closes d m stamp number (place before) (last_end None refused) start s x e y → EndsAs d m stamp number start first last e y
-    ends_none refused e none (inl went) =
-        subst (λ a. EndsAs d m stamp number start first last a y) (sym went.1)
-        (ends_last refused (subst (Stands start number y) (along d m stamp number (place before) Over start s y went.0 ∙ at_last none) went.0.at.stands))
-    ends_none refused e none (inr failed) =
-        let it = failed.1 in
-        subst (λ a. EndsAs d m stamp number start first last a y) (sym failed.2)
-        (meets d m stamp number start first last s x y here.there.at.stands here.there.at.dialect is.came way (place before) Release failed.0 it
-        (inl (subst (IsBefore (called d it.call s)) (sym (ap (λ cs. all_called d cs s) it.next) ∙ at_last none) (calls_grow d it.more (called d it.call s)))))
-
-    ends_by : (f : Option StoreFault) (e : End) → before.fault ≡ f → Ends d m stamp number (place before) f before.refused start s x e y → EndsAs d m stamp number start first last e y
-    ends_by None e none ends = ends_none before.refused e none ends
-    ends_by (Some why) e some ends =
-        ends_bare d m stamp number start first last s x y here.there.at.stands here.there.at.dialect is.came way (place before) why before.refused e (sym (ap disk_failed some) ∙ here.disk)
-        (λ call more next room. frees_last stamp.who here.keeps.front call more (sym next ∙ here.keeps.is) here.keeps.holds room)
-        (λ call next. only_last here.keeps.front call (sym next ∙ here.keeps.is))
-        (λ call more next frees_it. shut_at d m stamp number (place before) s.is_open (both_of s) more here.there.at.ready (next ∙ ap (λ c. c ∷ more) frees_it)) ends
-
-    by_end : (e : End) → EndsStep d m stamp number before start s x e y → EndsAs d m stamp number start first last e y
-    by_end e (inl ends) = ends_by before.fault e refl ends
-    by_end e (inr (inl short)) =
-        ends_bare d m stamp number start first last s x y here.there.at.stands here.there.at.dialect is.came way (between NoMore) fault.OutOfMemory before.refused e refl
-        (λ call more next room. sym (head_is next)) (λ call next. sym (head_is next)) (λ call more next frees_it. short.0) short.1
-    by_end e (inr (inr failed)) =
-        let it = failed.0 in
-        subst (λ a. EndsAs d m stamp number start first last a y) (sym failed.1)
-        (meets d m stamp number start first last s x y here.there.at.stands here.there.at.dialect is.came way (place before) Ordinary fault.Disk it (inl (on_way it.call it.more it.next it.by)))
-
-    pub ends : (after : Standing Key Told) (e : End) → Steps d m stamp number before after x (step.Ended e) y → EndsAs d m stamp number start first last e y
-    ends after e steps = by_end e (steps start s told here.there (λ there. here.committed)).0
-
-    -- and its source has told all
+    -- where it ends its source has told all
     pub tells : (after : Standing Key Told) (e : End) → Steps d m stamp number before after x (step.Ended e) y → TellsAs (after.way d stamp told) e
     tells after e steps = (steps start s told here.there (λ there. here.committed)).1
 
+    -- a call with the room that frees the lock does so, and no transaction is open there
+
+    frees_it : (call : Call) (more : List Call) → calls ≡ call ∷ more → room_of call ≡ Release → call ≡ closing
+    frees_it call more next room = frees_last stamp.who here.keeps.front call more (sym next ∙ here.keeps.is) here.keeps.holds room
+
+    shut_there : (call : Call) (more : List Call) → calls ≡ call ∷ more → call ≡ closing → s.is_open ≡ false
+    shut_there call more next frees = shut_at d m stamp number (place before) s.is_open (both_of s) more here.there.at.ready (next ∙ ap (λ c. c ∷ more) frees)
+
+    -- with the fault that was met before the first session
+    module _ (met : Option StoreFault) (kept : KeepsFull d m stamp number start first last met before.fault) where
+      ends_last : (refused : Option Refusal) → Stands start number y last → EndsAs d m stamp number start first last met (last_end None refused) y
+      ends_last None stands = stands
+      ends_last (Some refusal) stands = stands
+
+      ends_none : (refused : Option Refusal) (e : End) → before.fault ≡ None → Closes d m stamp number (place before) (last_end None refused) start s x e y → EndsAs d m stamp number start first last met e y
+      ends_none refused e none (inl went) =
+          subst (λ a. EndsAs d m stamp number start first last met a y) (sym went.1)
+          (ends_last refused (subst (Stands start number y) (along d m stamp number (place before) Over start s y went.0 ∙ at_last none) went.0.at.stands))
+      ends_none refused e none (inr failed) =
+          let it = failed.1 in
+          let frees = frees_it it.call it.more it.next it.by in
+          subst (λ a. EndsAs d m stamp number start first last met a y) (sym failed.2)
+          (meets d m stamp number start first last met s x y here.there.at.stands here.there.at.dialect is.came way (place before) Release failed.0 it
+          (inr (frees, begun_none d m stamp number start first last met s x y here.there.at.stands here.there.at.dialect is.came way (shut_there it.call it.more it.next frees)))
+          (inl (subst (IsBefore (called d it.call s)) (sym (ap (λ cs. all_called d cs s) it.next) ∙ at_last none) (calls_grow d it.more (called d it.call s)))))
+
+      ends_by : (f : Option StoreFault) (e : End) → before.fault ≡ f → Ends d m stamp number (place before) f before.refused start s x e y → EndsAs d m stamp number start first last met e y
+      ends_by None e none ends = ends_none before.refused e none ends
+      ends_by (Some why) e some ends =
+          ends_bare d m stamp number start first last met s x y here.there.at.stands here.there.at.dialect is.came way (place before) why before.refused e (sym (ap disk_failed some) ∙ here.disk)
+          (subst (KeepsFull d m stamp number start first last met) some kept) frees_it (λ call next. only_last here.keeps.front call (sym next ∙ here.keeps.is)) shut_there ends
+
+      by_end : (e : End) → EndsStep d m stamp number before start s x e y → EndsAs d m stamp number start first last met e y
+      by_end e (inl ends) = ends_by before.fault e refl ends
+      by_end e (inr (inl short)) =
+          ends_bare d m stamp number start first last met s x y here.there.at.stands here.there.at.dialect is.came way (between NoMore) fault.OutOfMemory before.refused e refl
+          (λ used more same. absurd (no_memory (same_some same))) (λ call more next room. sym (head_is next)) (λ call next. sym (head_is next)) (λ call more next frees. short.0) short.1
+      by_end e (inr (inr failed)) =
+          let it = failed.0 in
+          subst (λ a. EndsAs d m stamp number start first last met a y) (sym failed.1)
+          (meets d m stamp number start first last met s x y here.there.at.stands here.there.at.dialect is.came way (place before) Ordinary fault.Disk it (inl it.by) (inl (on_way it.call it.more it.next it.by)))
+
+      pub ends : (after : Standing Key Told) (e : End) → Steps d m stamp number before after x (step.Ended e) y → EndsAs d m stamp number start first last met e y
+      ends after e steps = by_end e (steps start s told here.there (λ there. here.committed)).0
+
+      -- a step that meets a full journal keeps how full it was
+      pub keeps_full : (after : Standing Key Told) → Steps d m stamp number before after x step.Going y → KeepsFull d m stamp number start first last met after.fault
+      keeps_full after steps = by (steps start s told here.there (λ there. here.committed)) where
+        by : StepsAs d m stamp number before after told start s x step.Going y → KeepsFull d m stamp number start first last met after.fault
+        by (inl on) = subst (KeepsFull d m stamp number start first last met) (sym on.fault) kept
+        by (inr (inl fell)) = λ used more same.
+            let it : Meets d m stamp number (place before) start s x Ordinary (fault.Full used more) y = subst (λ why. Meets d m stamp number (place before) start s x Ordinary why y) (same_some (sym fell.fault ∙ same)) fell.meets in
+            inl (full_before d m stamp number start first last s x here.there.at.stands here.there.at.dialect is.came it.call Ordinary used more it.by (inl it.by) (inl (on_way it.call it.more it.next it.by)) it.faults.0)
+        by (inr (inr back)) = λ used more same. absurd (no_memory (same_some (sym back.fault ∙ same)))
+
   -- a runner that has made too many calls stands where it is
-  pub stops : (r : Standing Key Told) (told : Told) (start : State) (first last : Session) (x : State) → Reaches d m stamp number r x start first last told → EndsAs d m stamp number start first last end.OutOfMemory x
-  stops r told start first last x is = (is.session, is.came, before_last r is.session last is.way, inl is.is.there.at.stands)
+  pub stops : (r : Standing Key Told) (told : Told) (start : State) (first last : Session) (x : State) (met : Option StoreFault) → Reaches d m stamp number r x start first last told → EndsAs d m stamp number start first last met end.OutOfMemory x
+  stops r told start first last x met is = (is.session, is.came, before_last r is.session last is.way, inl is.is.there.at.stands)

@@ -1,17 +1,21 @@
 -- Calls only add to what a session has written.
 use Rattle.std.proofs.Common.{ap, sym, ◌∙◌}
 use Rattle.std.proofs.lemmas.List.{append-nil, append_assoc}
-use Rattle.std.specs.Prelude.{Bool, Err, List, Ok, Result, [], false, refl, true, ◌++◌, ◌∷◌}
+use Rattle.std.specs.Prelude.{Bool, Err, List, Ok, Result, [], false, refl, true, ◌++◌, ◌∷◌, ◌≡◌}
 use Rattle.lq_base.specs.declared.dialect.Dialect.{Dialect}
+use Rattle.lq_base.specs.declared.dialect.Dialect.TheVariants.{Mysql, Postgresql}
 use Rattle.lq_base.specs.declared.reason.Reason.{Reason}
 use Rattle.lq_model.specs.Script.{if_any}
 use Rattle.lq_track.specs.Database.{Database}
 use Rattle.lq_turns.proofs.Made.{calls_both}
 use Rattle.lq_turns.specs.Deed.{done}
+use Rattle.lq_turns.specs.Script.{closing}
 use Rattle.lq_turns.specs.Session.{Session, aborted, accepted, all_called, all_executed, all_executed_as, called, closed, executed_as, is_own, settled_if}
 use Rattle.lq_turns.specs.declared.call.Call.{Call}
 use Rattle.lq_turns.specs.declared.call.Call.TheVariants.{Abort, Alone, Begin, Commit, Execute}
 use Rattle.lq_turns.specs.declared.deed.Deed.{Deed}
+use Rattle.lq_turns.specs.declared.deed.Deed.TheVariants.{Locks}
+use Rattle.lq_turns.specs.declared.deed.OnLock.TheVariants.{Freed}
 use Rattle.lq_run.specs.Ends.{CameFrom, IsBefore}
 
 same : (s : Session) → IsBefore s s
@@ -23,6 +27,11 @@ onwards s t u first second = record { more = first.more ++ second.more; entries 
 up_if : (own : Bool) (s : Session) → IsBefore s (settled_if own s)
 up_if true s = record { more = if_any s.begun; entries = refl }
 up_if false s = same s
+
+-- the call that frees the lock writes one entry, where nothing was begun
+pub closing_entry : (d : Dialect) (s : Session) → s.begun ≡ [] → (called d closing s).entries ≡ s.entries ++ (Locks Freed ∷ []) ∷ []
+closing_entry Postgresql s none = ap (λ (deeds : List Deed). s.entries ++ if_any (deeds ++ Locks Freed ∷ [])) none
+closing_entry Mysql s none = ap (λ (deeds : List Deed). s.entries ++ if_any (deeds ++ Locks Freed ∷ [])) none
 
 module _ (d : Dialect) where
   takes : (deed : Deed) (now : Database) (s : Session) → IsBefore s (accepted d deed now s)

@@ -1,8 +1,8 @@
 -- The store and its database, as one that stands for a session.
-use Rattle.std.proofs.Common.{ap, refl, rules, subst, sym, ◌∙◌}
+use Rattle.std.proofs.Common.{ap, inl, inr, refl, rules, subst, sym, ◌∙◌}
 use Rattle.std.proofs.lemmas.List.{append-nil}
 use Rattle.std.specs.Option.{option_map}
-use Rattle.std.specs.Prelude.{Err, List, None, Ok, Option, Result, Some, [], false, if◌then◌else◌, map, true, ℕ, ◌+◌, ◌++◌, ◌∷◌, ◌≡◌}
+use Rattle.std.specs.Prelude.{Err, List, None, Ok, Option, Result, Some, [], false, if◌then◌else◌, map, true, ℕ, ◌+◌, ◌++◌, ◌∷◌, ◌≡◌, ◌⊎◌}
 use Rattle.lq_base.specs.declared.dialect.Dialect.{Dialect}
 use Rattle.lq_base.specs.declared.identity.Identity.{Identity}
 use Rattle.lq_base.specs.declared.reason.Reason.{Reason}
@@ -29,8 +29,10 @@ use Rattle.lq_turns.specs.declared.deed.OnLock.TheVariants.{Freed}
 use Rattle.lq_turns.specs.declared.deed.OnRows.TheVariants.{Tagged}
 use Rattle.lq_turns.specs.declared.stamp.Stamp.{Stamp}
 use Rattle.lq_beside.specs.Replays.{calls_fit}
+use Rattle.lq_run.proofs.Full.{full_once}
+use Rattle.lq_run.proofs.Grows.{closing_entry}
 use Rattle.lq_run.specs.Commands.{HasDatabase, Leaves}
-use Rattle.lq_run.specs.Does.{AloneFor, Breaks, DoesAlone}
+use Rattle.lq_run.specs.Does.{AloneFor, Breaks, DoesAlone, HasNoRoom}
 use Rattle.lq_run.specs.Left.{LeavesOnce, LeavesOpened, LeavesReleased, LeavesTagged}
 use Rattle.lq_run.specs.Opens.{TakesLock}
 use Rattle.lq_run.specs.Stands.{IsBegun, Stands, entries_of}
@@ -89,13 +91,13 @@ module _ (d : Dialect) (number : ℕ) (x : State) (database : Database) (has : H
         used = subst (λ e. y.used ≡ x.used + size_of_all (entries_of e last.entries)) has.dialect stands.used;
       }
 
-  module _ (deeds : List Deed) (room : Room) (y : State) (never : (reason : Reason) → all_done d deeds database ≡ Err reason → ⊥) where
+  module _ (deeds : List Deed) (room : Room) (y : State) (which : (room ≡ Ordinary) ⊎ ((called d (Alone deeds room) (session_on database)).entries ≡ (Locks Freed ∷ []) ∷ [])) (never : (reason : Reason) → all_done d deeds database ≡ Err reason → ⊥) where
     pub leaves_once : (result : Result (Unit {0}) StoreFault) → DoesAlone x number x (session_on database) deeds room result y → LeavesOnce d (Alone deeds room ∷ []) database x result y
     leaves_once (Ok u) does = leaves_so (Alone deeds room ∷ []) y (executes_shut d deeds (session_on database)) (subst (λ e. Stands x number y (called e (Alone deeds room) (session_on database))) has.dialect does.2)
     leaves_once (Err fault.Disk) does =
         let breaks = subst (λ e. Breaks e (Alone deeds room) (session_on database) x y) has.dialect does in
         subst (λ w. Fails w x y) (breaks.appends.texts ∙ ap (entries_of d) (sym breaks.appends.entries)) breaks.fails
-    leaves_once (Err (fault.Full used next)) does = does.1
+    leaves_once (Err (fault.Full used next)) does = (does.1, full_once d database x (Alone deeds room) room used next (subst (λ e. HasNoRoom e room (Alone deeds room) (session_on database) x used next) has.dialect does.0) which)
     leaves_once (Err fault.OutOfMemory) does = does
     leaves_once (Err (fault.Busy n)) does = does
     leaves_once (Err fault.NotSql) does = does
@@ -105,21 +107,21 @@ module _ (d : Dialect) (number : ℕ) (x y : State) (result : Result (Unit {0}) 
   pub opening_leaves : (stamp : Stamp) → TakesLock d stamp number x result y → LeavesOpened d stamp x result y
   opening_leaves stamp takes database has =
       let it = all_taken d (opening stamp database) database in
-      leaves_once d number x database has (map Locks (opening stamp database)) Ordinary y (λ reason is. ok_err (sym it.1 ∙ is)) result (takes x (session_on database) has.dialect (stands_there d number x database has))
+      leaves_once d number x database has (map Locks (opening stamp database)) Ordinary y (inl refl) (λ reason is. ok_err (sym it.1 ∙ is)) result (takes x (session_on database) has.dialect (stands_there d number x database has))
 
-  alone_leaves : (deeds : List Deed) (room : Room) (database : Database) (has : HasDatabase d x database) → ((reason : Reason) → all_done d deeds database ≡ Err reason → ⊥)
-      → calls_fit d (Alone deeds room ∷ []) (session_on database) ≡ true → AloneFor d number deeds room x result y → LeavesOnce d (Alone deeds room ∷ []) database x result y
-  alone_leaves deeds room database has never fits alone =
-      leaves_once d number x database has deeds room y never result (alone x (session_on database) has.dialect (stands_there d number x database has) (and_left (all_fit d deeds database) true fits))
+  alone_leaves : (deeds : List Deed) (room : Room) (database : Database) (has : HasDatabase d x database) → ((room ≡ Ordinary) ⊎ ((called d (Alone deeds room) (session_on database)).entries ≡ (Locks Freed ∷ []) ∷ []))
+      → ((reason : Reason) → all_done d deeds database ≡ Err reason → ⊥) → calls_fit d (Alone deeds room ∷ []) (session_on database) ≡ true → AloneFor d number deeds room x result y → LeavesOnce d (Alone deeds room ∷ []) database x result y
+  alone_leaves deeds room database has which never fits alone =
+      leaves_once d number x database has deeds room y which never result (alone x (session_on database) has.dialect (stands_there d number x database has) (and_left (all_fit d deeds database) true fits))
 
   pub tag_leaves : (of : Identity) (tag : List ℕ) → AloneFor d number (Rows (Tagged of tag) ∷ []) Ordinary x result y → LeavesTagged d of tag x result y
   tag_leaves of tag alone database row has last is fits =
       let same : tag_calls tag database ≡ Alone (Rows (Tagged of tag) ∷ []) Ordinary ∷ [] = ap (tag_of tag) last ∙ ap (λ i. Alone (Rows (Tagged i tag) ∷ []) Ordinary ∷ []) is in
       subst (λ calls. LeavesOnce d calls database x result y) (sym same)
-      (alone_leaves (Rows (Tagged of tag) ∷ []) Ordinary database has (λ reason refused. ok_err refused) (subst (λ calls. calls_fit d calls (session_on database) ≡ true) same fits) alone)
+      (alone_leaves (Rows (Tagged of tag) ∷ []) Ordinary database has (inl refl) (λ reason refused. ok_err refused) (subst (λ calls. calls_fit d calls (session_on database) ≡ true) same fits) alone)
 
   pub release_leaves : AloneFor d number (Locks Freed ∷ []) Release x result y → LeavesReleased d x result y
   release_leaves alone database has locked fits =
       let same : release_calls database ≡ closing ∷ [] = ap (λ b. if b then closing ∷ [] else []) locked in
       subst (λ calls. LeavesOnce d calls database x result y) (sym same)
-      (alone_leaves (Locks Freed ∷ []) Release database has (λ reason refused. ok_err refused) (subst (λ calls. calls_fit d calls (session_on database) ≡ true) same fits) alone)
+      (alone_leaves (Locks Freed ∷ []) Release database has (inr (closing_entry d (session_on database) refl)) (λ reason refused. ok_err refused) (subst (λ calls. calls_fit d calls (session_on database) ≡ true) same fits) alone)

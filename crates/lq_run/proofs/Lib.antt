@@ -11,6 +11,7 @@ mod Stepping
 pub mod Losing
 mod Names
 mod Grows
+mod Full
 pub mod Keeping
 pub mod Ending
 mod Opens

@@ -35,8 +35,8 @@ use Rattle.lq_turns.specs.declared.deed.Deed.{Deed}
 use Rattle.lq_turns.specs.declared.deed.Deed.TheVariants.{Locks, Rows, Users}
 use Rattle.lq_turns.specs.declared.deed.OnLock.TheVariants.{Freed, LockMade, LockRowMade, LogMade, Marked, Taken}
 use Rattle.lq_turns.specs.declared.deed.OnRows.TheVariants.{Deleted, Filled, Inserted, Renewed, Tagged}
+use Rattle.lq_run.proofs.Grows.{closing_entry}
 use Rattle.lq_run.proofs.Stated.{stated_again, stated_deleted, stated_filled, stated_freed, stated_inserted, stated_lock, stated_lock_row, stated_log, stated_marked, stated_tagged, stated_taken}
-use Rattle.lq_run.proofs.Stopped.{closing_entry}
 use Rattle.lq_run.specs.Crashes.{LeftInCommand}
 use Rattle.lq_run.specs.Ends.{CameFrom, IsBefore}
 use Rattle.lq_run.specs.Stands.{deed_text, entries_of, entry_of}

@@ -17,9 +17,8 @@ use Rattle.lq_turns.specs.declared.deed.Deed.TheVariants.{Locks}
 use Rattle.lq_turns.specs.declared.deed.OnLock.TheVariants.{Freed}
 use Rattle.lq_turns.specs.declared.stamp.Stamp.{Stamp}
 use Rattle.lq_run.proofs.Ending.{at_last, before_last, on_way}
-use Rattle.lq_run.proofs.Grows.{calls_grow}
+use Rattle.lq_run.proofs.Grows.{calls_grow, closing_entry}
 use Rattle.lq_run.proofs.Since.{leave_from}
-use Rattle.lq_run.proofs.Stopped.{closing_entry}
 use Rattle.lq_run.specs.Crashing.{CrashesStep, LeftInCall, LeftInRun, LeftInStep, MayFree}
 use Rattle.lq_run.specs.Ends.{IsBefore, Reaches}
 use Rattle.lq_run.specs.Holds.{IsBare}

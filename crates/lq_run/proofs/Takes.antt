@@ -13,7 +13,7 @@ use Rattle.lq_track.specs.Database.{Database}
 use Rattle.lq_turns.specs.Contents.{Contents, contents_of, with_contents}
 use Rattle.lq_turns.specs.Deed.{contents_after, if_accepted, locked_after}
 use Rattle.lq_turns.specs.Rest.{GivingUp, Inside, Place, Turns, if_goes_on, rest}
-use Rattle.lq_turns.specs.Session.{Session, called, executed_as, is_own, settled_if}
+use Rattle.lq_turns.specs.Session.{Session, called, executed_as, is_own, room_of, settled_if}
 use Rattle.lq_turns.specs.Set.{Meaning}
 use Rattle.lq_turns.specs.Stepped.{Went, both_of}
 use Rattle.lq_turns.specs.declared.call.Call.{Call}
@@ -27,7 +27,7 @@ use Rattle.lq_hand.proofs.InHand.{last_first}
 use Rattle.lq_hand.specs.Hand.{AreTurns, IsNext, IsReady, calls_left, hand_place, opens, place_of}
 use Rattle.lq_run.proofs.Since.{leave_wider, none_yet}
 use Rattle.lq_run.specs.Crashing.{CrashesFor, CrashesTaken, LeftInCall, LeftInNext}
-use Rattle.lq_run.specs.Moves.{Accepts, Goes, IsAt, Makes, Refuses, Takes, refusal_of, room_of}
+use Rattle.lq_run.specs.Moves.{Accepts, Goes, IsAt, Makes, Refuses, Takes, refusal_of}
 use Rattle.lq_run.specs.Stands.{Stands}
 use Rattle.lq_hand.specs.declared.hand.Hand.{Hand}
 use Rattle.lq_run.specs.declared.hand.Moved.TheVariants as moved

@@ -66,7 +66,7 @@ module _ {Key : Type 0} (d : Dialect) (m : Meaning Key) (stamp : Stamp) where
 
     -- for every session for which it may run
     abbrev pub RunsWhole : Standing Key Told → State → End → State → Type 0
-    RunsWhole r x e y = (start : State) (s : Session) (told : Told) → MayRun r x start s told → EndsAs d m stamp number start s (all_called d (script (place r) s.committed) s) e y
+    RunsWhole r x e y = (start : State) (s : Session) (told : Told) → MayRun r x start s told → EndsAs d m stamp number start s (all_called d (script (place r) s.committed) s) None e y
 
 -- The same in words of databases.
 

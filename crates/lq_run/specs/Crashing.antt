@@ -8,7 +8,7 @@ use Rattle.lq_store.specs.Journal.{Entry}
 use Rattle.lq_store.specs.State.{State}
 use Rattle.lq_turns.specs.Rest.{Place, Turns, rest}
 use Rattle.lq_turns.specs.Script.{closing, opening}
-use Rattle.lq_turns.specs.Session.{Session, called}
+use Rattle.lq_turns.specs.Session.{Session, called, room_of}
 use Rattle.lq_turns.specs.Set.{Meaning}
 use Rattle.lq_turns.specs.Stepped.{both_of}
 use Rattle.lq_turns.specs.Stops.{Journal}
@@ -21,7 +21,7 @@ use Rattle.lq_hand.specs.Hand.{place_of}
 use Rattle.lq_hand.specs.declared.hand.Hand.{Hand}
 use Rattle.lq_run.specs.Ends.{CameFrom, IsBefore, IsRunning, at_end}
 use Rattle.lq_run.specs.Holds.{IsBare, IsHeld}
-use Rattle.lq_run.specs.Moves.{IsAt, room_of}
+use Rattle.lq_run.specs.Moves.{IsAt}
 use Rattle.lq_run.specs.Stands.{Stands, entries_of}
 use Rattle.lq_run.specs.Steps.{IsBetween, IsThere, Standing, place}
 use Rattle.lq_run.specs.Crashes.{CrashesLeave}

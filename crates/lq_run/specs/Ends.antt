@@ -1,11 +1,14 @@
 -- How a command ends that runs alone.
-use Rattle.std.specs.Prelude.{Bool, List, None, Option, Some, [], false, ℕ, ◌++◌, ◌∷◌, ◌≡◌, ◌⊎◌}
+use Rattle.std.specs.Prelude.{Bool, List, None, Option, Some, [], false, true, ℕ, ◌+◌, ◌++◌, ◌∷◌, ◌≡◌, ◌⊎◌}
 use Rattle.lq_base.specs.declared.dialect.Dialect.{Dialect}
+use Rattle.lq_model.specs.declared.caller.Room.TheVariants.{Ordinary}
 use Rattle.lq_model.specs.declared.fault.StoreFault.{StoreFault}
+use Rattle.lq_model.specs.declared.fault.StoreFault.TheVariants as fault
+use Rattle.lq_store.specs.Journal.{end_of, is_full, size_of_all}
 use Rattle.lq_store.specs.State.{State}
 use Rattle.lq_turns.specs.Rest.{Place, rest}
 use Rattle.lq_turns.specs.Script.{closing}
-use Rattle.lq_turns.specs.Session.{Session, all_called, called}
+use Rattle.lq_turns.specs.Session.{Session, all_called, called, room_of}
 use Rattle.lq_turns.specs.Set.{Meaning}
 use Rattle.lq_turns.specs.Stepped.{both_of}
 use Rattle.lq_turns.specs.declared.call.Call.{Call}
@@ -16,7 +19,7 @@ use Rattle.lq_turns.specs.declared.deed.OnLock.TheVariants.{Freed, LockMade, Loc
 use Rattle.lq_turns.specs.declared.stamp.Stamp.{Stamp}
 use Rattle.lq_run.specs.Does.{Breaks}
 use Rattle.lq_run.specs.Holds.{IsBare, IsHeld}
-use Rattle.lq_run.specs.Stands.{Stands}
+use Rattle.lq_run.specs.Stands.{Stands, entries_of}
 use Rattle.lq_hand.specs.Way.{Way}
 use Rattle.lq_run.specs.Steps.{IsThere, Standing, TellsAs, is_disk, place}
 use Rattle.lq_run.specs.declared.runner.End.{End}
@@ -79,6 +82,10 @@ module _ {Key : Type 0} (d : Dialect) (m : Meaning Key) (stamp : Stamp) (number 
     abbrev pub StandsBefore : State → Type 0
     StandsBefore y = (s : Session) × CameFrom d first s × IsBefore s last × (Stands start number y s ⊎ (IsBare stamp s.committed.lock × (s.begun ≡ []) × Stands start number y (called d closing s)))
 
+    -- the call is on the way; or it frees a lock without a mark after a fault, where nothing was begun
+    abbrev pub IsToCome : Call → Session → Type 0
+    IsToCome call s = IsBefore (called d call s) last ⊎ ((call ≡ closing) × IsBare stamp s.committed.lock × (s.begun ≡ []) × IsBefore s last)
+
     -- the disk failed at a call on the way, or at the one that frees the lock after another fault
     pub record BreaksBefore (y : State) : Type 0 where
       pub s : Session
@@ -87,16 +94,38 @@ module _ {Key : Type 0} (d : Dialect) (m : Meaning Key) (stamp : Stamp) (number 
       pub came : CameFrom d first s
       pub call : Call
       pub breaks : Breaks d call s x y
-      pub before : IsBefore (called d call s) last ⊎ ((call ≡ closing) × IsBare stamp s.committed.lock × (s.begun ≡ []) × IsBefore s last)
+      pub before : IsToCome call s
+
+    -- so much was written when the entries of such a call had no room
+    pub record IsFullBefore (used next : ℕ) : Type 0 where
+      pub s : Session
+      pub came : CameFrom d first s
+      pub call : Call
+      pub before : IsToCome call s
+      -- only the call that frees the lock may use all of the journal, and nothing is begun then
+      pub which : (room_of call ≡ Ordinary) ⊎ ((call ≡ closing) × (s.begun ≡ []))
+      pub used_is : used ≡ start.used + size_of_all (entries_of d s.entries)
+      pub more : List (List Deed)
+      pub appends : (called d call s).entries ≡ s.entries ++ more
+      pub next_is : next ≡ size_of_all (entries_of d more)
+      pub full : is_full (end_of (room_of call) start.limit) used (entries_of d more) ≡ true
+
+    -- or a fault that was met before says so
+    abbrev pub IsFullSince : Option StoreFault → ℕ → ℕ → Type 0
+    IsFullSince met used next = IsFullBefore used next ⊎ (met ≡ Some (fault.Full used next))
+
+    -- the fault that is kept now tells of a full journal only so
+    abbrev pub KeepsFull : Option StoreFault → Option StoreFault → Type 0
+    KeepsFull met now = (used next : ℕ) → now ≡ Some (fault.Full used next) → IsFullSince met used next
 
     -- without a fault the store stands for the last session
-    abbrev pub EndsAs : End → State → Type 0
-    EndsAs end.Done y = Stands start number y last
-    EndsAs (end.Refused refusal) y = Stands start number y last
-    EndsAs (end.Locked lock) y = ⊥
-    EndsAs end.Disk y = BreaksBefore y
-    EndsAs (end.Full used next) y = StandsBefore y
-    EndsAs end.OutOfMemory y = StandsBefore y
+    abbrev pub EndsAs : Option StoreFault → End → State → Type 0
+    EndsAs met end.Done y = Stands start number y last
+    EndsAs met (end.Refused refusal) y = Stands start number y last
+    EndsAs met (end.Locked lock) y = ⊥
+    EndsAs met end.Disk y = BreaksBefore y
+    EndsAs met (end.Full used next) y = StandsBefore y × IsFullSince met used next
+    EndsAs met end.OutOfMemory y = StandsBefore y
 
 module _ {Key Told : Type 0} (d : Dialect) (m : Meaning Key) (stamp : Stamp) (number : ℕ) where
   -- The store stands for a session at the command's place, and the command holds the lock until its last call.
@@ -125,9 +154,9 @@ module _ {Key Told : Type 0} (d : Dialect) (m : Meaning Key) (stamp : Stamp) (nu
     pub is : IsRunning r x start session told
     pub way : IsOnWay r session last
 
-  -- for every session for which it runs
+  -- for every session for which it runs, with the fault that it had met before
   abbrev pub RunsOn : Standing Key Told → State → End → State → Type 0
-  RunsOn r x e y = (start : State) (s : Session) (told : Told) → IsRunning r x start s told → EndsAs d m stamp number start s (at_end d m stamp number (place r) s) e y
+  RunsOn r x e y = (start : State) (s : Session) (told : Told) → IsRunning r x start s told → EndsAs d m stamp number start s (at_end d m stamp number (place r) s) r.fault e y
 
   -- and what its source has told then
   abbrev pub TellsOn : Standing Key Told → State → End → (Dialect → Stamp → Told → Way) → Type 0

@@ -1,14 +1,15 @@
 -- What is left in words of databases: by a call that is a transaction of its own, and by a command that a fault of the store ended.
 use Rattle.std.specs.Option.{option_map}
-use Rattle.std.specs.Prelude.{Err, List, Ok, Result, Some, [], false, map, true, ℕ, ◌+◌, ◌++◌, ◌∷◌, ◌≡◌}
+use Rattle.std.specs.Prelude.{Err, List, Ok, Result, Some, [], false, map, true, ℕ, ◌+◌, ◌++◌, ◌∷◌, ◌≡◌, ◌⊎◌}
 use Rattle.lq_base.specs.declared.dialect.Dialect.{Dialect}
 use Rattle.lq_base.specs.declared.identity.Identity.{Identity}
 use Rattle.lq_base.specs.declared.tracking.Tracked.{Tracked}
+use Rattle.lq_model.specs.declared.caller.Room.{Room}
 use Rattle.lq_model.specs.declared.caller.Room.TheVariants.{Ordinary}
 use Rattle.lq_model.specs.declared.fault.StoreFault.{StoreFault}
 use Rattle.lq_model.specs.declared.fault.StoreFault.TheVariants as fault
 use Rattle.lq_store.specs.Calls.{Fails, aborted}
-use Rattle.lq_store.specs.Journal.{size_of_all}
+use Rattle.lq_store.specs.Journal.{end_of, is_full, size_of_all}
 use Rattle.lq_store.specs.State.{State}
 use Rattle.lq_track.specs.Database.{Database}
 use Rattle.lq_track.specs.Log.{identity_of}
@@ -20,6 +21,7 @@ use Rattle.lq_turns.specs.Stops.{IsLeft, Journal, is_mark, joined}
 use Rattle.lq_turns.specs.declared.call.Call.{Call}
 use Rattle.lq_turns.specs.declared.call.Call.TheVariants.{Alone}
 use Rattle.lq_turns.specs.declared.deed.Deed.TheVariants.{Locks}
+use Rattle.lq_turns.specs.declared.deed.OnLock.TheVariants.{Freed}
 use Rattle.lq_turns.specs.declared.stamp.Stamp.{Stamp}
 use Rattle.lq_beside.specs.Replays.{calls_fit}
 use Rattle.lq_run.specs.Commands.{HasDatabase, Leaves, OnAll, script}
@@ -28,11 +30,23 @@ use Rattle.lq_run.specs.Steps.{Standing, place}
 use Rattle.lq_run.specs.declared.runner.End.{End}
 use Rattle.lq_run.specs.declared.runner.End.TheVariants as end
 
+-- Behind what was written, a front of the entries of these calls, those that come next have no room; only what frees the lock may use all of the journal.
+pub record IsFullIn (d : Dialect) (calls : List Call) (database : Database) (x : State) (used next : ℕ) : Type 0 where
+  pub written : Journal
+  pub more : Journal
+  pub stops : IsLeft d calls database [] written
+  pub comes : IsLeft d calls database [] (written ++ more)
+  pub used_is : used ≡ x.used + size_of_all (entries_of d written)
+  pub next_is : next ≡ size_of_all (entries_of d more)
+  pub room : Room
+  pub which : (room ≡ Ordinary) ⊎ (more ≡ (Locks Freed ∷ []) ∷ [])
+  pub full : is_full (end_of room x.limit) used (entries_of d more) ≡ true
+
 -- done, it leaves what the call does; only a fault of the disk leaves something, a front of its entry; nothing is refused
 abbrev pub LeavesOnce : Dialect → List Call → Database → State → Result (Unit {0}) StoreFault → State → Type 0
 LeavesOnce d calls database x (Ok u) y = Leaves d calls database x y
 LeavesOnce d calls database x (Err fault.Disk) y = Fails (entries_of d (all_called d calls (session_on database)).entries) x y
-LeavesOnce d calls database x (Err (fault.Full used next)) y = y ≡ x
+LeavesOnce d calls database x (Err (fault.Full used next)) y = (y ≡ x) × IsFullIn d calls database x used next
 LeavesOnce d calls database x (Err fault.OutOfMemory) y = y ≡ x
 LeavesOnce d calls database x (Err (fault.Busy n)) y = ⊥
 LeavesOnce d calls database x (Err fault.NotSql) y = ⊥
@@ -75,7 +89,7 @@ LeftAs d calls database x end.Done y = Unit {0}
 LeftAs d calls database x (end.Refused refusal) y = Unit {0}
 LeftAs d calls database x (end.Locked lock) y = Unit {0}
 LeftAs d calls database x end.Disk y = BreaksIn d calls database x y
-LeftAs d calls database x (end.Full used next) y = StopsIn d calls database x y
+LeftAs d calls database x (end.Full used next) y = StopsIn d calls database x y × IsFullIn d calls database x used next
 LeftAs d calls database x end.OutOfMemory y = StopsIn d calls database x y
 
 -- on every database whose contents are known, and on which its calls fit, where the command's name has no mark of its own

@@ -12,7 +12,7 @@ use Rattle.lq_turns.specs.Contents.{Contents, contents_of}
 use Rattle.lq_turns.specs.Deed.{contents_after}
 use Rattle.lq_turns.specs.Goes.{are_accepted, went}
 use Rattle.lq_turns.specs.Rest.{GivingUp, Inside, Place, Turns, if_goes_on, rest}
-use Rattle.lq_turns.specs.Session.{Session, called}
+use Rattle.lq_turns.specs.Session.{Session, called, room_of}
 use Rattle.lq_turns.specs.Set.{Meaning}
 use Rattle.lq_turns.specs.Stepped.{Went, both_of}
 use Rattle.lq_turns.specs.declared.call.Call.{Call}
@@ -42,14 +42,6 @@ WasOpen number x moved.Lack y = (y ≡ x) × (is_open number x.begun ≡ true)
 WasOpen number x moved.On y = Unit {0}
 WasOpen number x (moved.Refused reason) y = Unit {0}
 WasOpen number x (moved.Failed fault) y = Unit {0}
-
--- how much of the journal a call may fill
-abbrev pub room_of : Call → Room
-room_of (Alone deeds room) = room
-room_of Begin = Ordinary
-room_of (Execute deed) = Ordinary
-room_of Commit = Ordinary
-room_of Abort = Ordinary
 
 -- where the turn stands then
 abbrev pub MovesTo : Moved → Phase → Type 0

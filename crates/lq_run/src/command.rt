@@ -19,9 +19,10 @@ use lq_store::Store;
 ///
 /// Where it is done, or a statement was refused, the store stands for what the whole script leaves. A
 /// fault of the store before the lock is taken leaves it as it was, but for what a fault of the disk
-/// has written; after that it stands for what a front of the script leaves. Where there was no fault
-/// the source has told what it was on its way to tell. A crash at any moment leaves the entries before,
-/// followed by those that a stop of the script may leave.
+/// has written; after that it stands for what a front of the script leaves. A full journal is told as
+/// full as it was when a call had no room. Where there was no fault the source has told what it was on
+/// its way to tell. A crash at any moment leaves the entries before, followed by those that a stop of
+/// the script may leave.
 pub fn run_command<T: Source + Drop, S: Store, P: SqlText>(
     runner: &mut Runner<T>,
     session: u32,

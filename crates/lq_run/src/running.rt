@@ -14,9 +14,9 @@ use lq_store::Store;
 ///
 /// Where it is done, or a statement was refused, the store stands for what the whole script leaves.
 /// After a fault of the store it stands for what a front of the script leaves; and the lock is free
-/// again where it had no mark. Where there was no fault the source has told what it was on its way to
-/// tell. A crash at any moment leaves a front of what the script writes, or of what was written when the
-/// lock was freed after a fault.
+/// again where it had no mark. A full journal is told as full as it was when a call had no room. Where
+/// there was no fault the source has told what it was on its way to tell. A crash at any moment leaves a
+/// front of what the script writes, or of what was written when the lock was freed after a fault.
 pub fn run_on<T: Source + Drop, S: Store, P: SqlText>(
     runner: &mut Runner<T>,
     session: u32,

@@ -1,14 +1,16 @@
 -- What a crash of the machine at any moment of a drill leaves on its file.
 use Rattle.std.proofs.Common.{ap, arith, inl, inr, refl, sym, ◌∙◌}
 use Rattle.std.specs.Option.{option_map}
-use Rattle.std.specs.Prelude.{Bool, Err, IsTrue, List, None, Ok, Option, Result, Some, [], map, slice_get, suc, true, zero, ℕ, ◌++◌, ◌∷◌, ◌≡◌, ◌≤◌}
+use Rattle.std.specs.Prelude.{Bool, Err, IsTrue, List, None, Ok, Option, Result, Some, [], map, slice_get, suc, true, zero, ℕ, ◌++◌, ◌∷◌, ◌≡◌, ◌≤◌, ◌⊎◌}
 use Rattle.lq_base.specs.declared.dialect.Dialect.{Dialect}
 use Rattle.lq_db.specs.Log.{crashes_in, entries_in, texts_of}
 use Rattle.lq_drill.specs.Drill.{HasFaulted as PlayerFaulted, LeftInDrill}
+use Rattle.lq_drill.specs.Faults.{Comes, FreesEarly}
 use Rattle.lq_drill.specs.Shows.{entries_of}
 use Rattle.lq_journal.specs.Journal.{journal_of}
 use Rattle.lq_kinds.specs.declared.any_change.AnyChange.{AnyChange}
 use Rattle.lq_outside.specs.Crash.{Crashes as DiskCrashes, IsSound, LeavesOnly}
+use Rattle.lq_players.specs.Answers.{failure_of}
 use Rattle.lq_players.specs.AnyCommand.{command_stands}
 use Rattle.lq_players.specs.Drilling.{works}
 use Rattle.lq_players.specs.declared.any_command.AnyCommand.{AnyCommand}
@@ -17,10 +19,15 @@ use Rattle.lq_store.specs.Journal.{Entry}
 use Rattle.lq_store.specs.State.{State}
 use Rattle.lq_tell.specs.declared.done.Done.{Done}
 use Rattle.lq_tell.specs.declared.status.Status.{Status}
+use Rattle.lq_tell.specs.declared.status.Status.TheVariants as status
 use Rattle.lq_track.specs.Database.{Database}
 use Rattle.lq_turns.specs.Jobs.{Task}
+use Rattle.lq_turns.specs.Schedule.{start}
+use Rattle.lq_turns.specs.declared.answer.Answer.{Answer}
+use Rattle.lq_turns.specs.declared.answer.Answer.TheVariants as answer
+use Rattle.lq_top.proofs.DrillCame.{comes_met, early_release}
 use Rattle.lq_top.specs.Bytes.{most_bytes}
-use Rattle.lq_top.specs.Drilled.{CrashesTo, Drills, HasFaulted, IsIdle, IsLeftInDrill, Went, machine_after}
+use Rattle.lq_top.specs.Drilled.{CameTo, Commands, CrashesTo, Drills, HasFaulted, IsIdle, IsLeftInDrill, ReleasesEarly, Went}
 use Rattle.lq_top.specs.Players.{faults_in}
 use Rattle.lq_top.specs.declared.drilling.Drilling.{Drilling}
 
@@ -54,31 +61,50 @@ fault_shown players n met = (met.place, met.number, placed (λ (p : AnyCommand).
 -- what the journal's crashes leave the file's leave
 module _ (d : Dialect) (tasks : ℕ → Task AnyChange) (steps : List ℕ) (database : Database) (last : List AnyCommand) (x : State) (told : Option (List ℕ)) where
   abbrev pub LeftBy : List Entry → List Entry → Type 0
-  LeftBy there left = LeftInDrill command_stands (works d tasks) (record x { dialect = d }) database steps last there left
+  LeftBy there left = LeftInDrill command_stands (works d tasks) (record x { dialect = d }) database failure_of steps last there left
 
   abbrev pub LeftOn : Option (List ℕ) → Type 0
   LeftOn file = IsLeftInDrill d tasks steps database (faults_in last) told file
 
+  abbrev first : Commands
+  first = start Answer answer.Locked answer.Busy database
+
+  pub came_to : (front : List ℕ) (now : Commands) → Comes failure_of d (works d tasks) (PlayerFaulted command_stands last) front first now → CameTo d tasks steps database (faults_in last) told front now
+  came_to front now came = comes_met d tasks (PlayerFaulted command_stands last) (HasFaulted (faults_in last)) (fault_shown last) front first now came
+
+  releases_early : (front : List ℕ) (now : Commands) → FreesEarly failure_of d (works d tasks) (PlayerFaulted command_stands last) front first now → ReleasesEarly d tasks steps database (faults_in last) told front now
+  releases_early front now early = record {
+    frees = record {
+      before = early.before;
+      next = early.next;
+      later = early.later;
+      is = early.is;
+      now = early.now;
+      came = came_to early.before early.now early.came;
+      holder = early.holder;
+      held = early.held;
+      gave_up = early.gave_up;
+      early = early.early;
+      unlocked = early.unlocked;
+      goes_on = comes_met d tasks (PlayerFaulted command_stands last) (HasFaulted (faults_in last)) (fault_shown last) (early.next ∷ early.later) early.now now early.goes_on;
+    };
+    is_release = early_release d tasks early.next early.now early.early early.unlocked;
+  }
+
   module _ (there : List Entry) (were : entries_in d most_bytes told ≡ Some there) where
-    left_there : (left : List Entry) (file : Option (List ℕ)) → entries_in d most_bytes file ≡ Some left → LeftBy there left → LeftOn file
-    left_there left file are (inl it) = inl (record {
+    pub left_there : (left : List Entry) (file : Option (List ℕ)) → entries_in d most_bytes file ≡ Some left → LeftBy there left → LeftOn file
+    left_there left file are it = record {
       front = it.front;
       rest = it.rest;
       is = it.is;
+      now = it.now;
+      came = came_to it.front it.now it.came;
       written = it.leaves.front;
       more = it.leaves.more;
-      came = it.leaves.came;
+      brought = it.leaves.came;
       entries = are ∙ ap (λ (entries : List Entry). Some entries) it.leaves.is ∙ ap (option_map (λ (entries : List Entry). entries ++ entries_of d it.leaves.front)) (sym were);
-    })
-    left_there left file are (inr it) = inr (record {
-      front = it.front;
-      next = it.next;
-      rest = it.rest;
-      is = it.is;
-      met = fault_shown last it.next it.faulted;
-      more = it.more;
-      entries = are ∙ ap (λ (entries : List Entry). Some entries) it.leaves ∙ ap (option_map (λ (entries : List Entry). entries ++ (entries_of d (machine_after d tasks database it.front).entries ++ it.more))) (sym were);
-    })
+      once = elim it.once [ inl early ↦ inl (releases_early it.front it.now early) | inr once ↦ inr once ];
+    }
 
     pub crashes_on : (before now : DiskCrashes) → Since (LeftBy there) (crashes_in d most_bytes before) (crashes_in d most_bytes now) → CrashesTo d LeftOn before now
     crashes_on before now since = record {
@@ -123,12 +149,17 @@ module _ (told : Option (List ℕ)) (a : DiskCrashes) (sound : IsSound told a) (
       until = went.until;
       met = went.met;
       crash = λ tasks own database opens. crashes_after d (IsLeftInDrill d tasks drill.steps database went.faulted told) c (went.crash tasks own database opens);
+      left = went.left;
     }
 
     idle_after : IsIdle d told now b c → IsIdle d told now a c
     idle_after idle = record { same = idle.same; crash = crashes_after d (λ left. ⊥) c idle.crash }
 
+    part_after : IsIdle d told now b c ⊎ Went d who drill readings told now b c → IsIdle d told now a c ⊎ Went d who drill readings told now a c
+    part_after (inl idle) = inl (idle_after idle)
+    part_after (inr went) = inr (went_after went)
+
     pub drills_after : (r : Result Done Status) → Drills d who drill readings told b r now c → Drills d who drill readings told a r now c
     drills_after (Ok done) drills = (drills.0, (went_after drills.1.0, drills.1.1))
-    drills_after (Err s) (inl idle) = inl (idle_after idle)
-    drills_after (Err s) (inr went) = inr (went_after went)
+    drills_after (Err (status.Full used next)) drills = (went_after drills.0, drills.1)
+    drills_after (Err s) drills = part_after drills

@@ -13,9 +13,12 @@ use Rattle.lq_db.specs.Db.{IsDb, IsNew, IsValid, crashes as crashes_of, disk_in,
 use Rattle.lq_db.specs.Load.{IsDbFault, catalogue_of}
 use Rattle.lq_db.specs.Log.{crashes_in, entries_in}
 use Rattle.lq_db.specs.declared.db.Db.{Db}
-use Rattle.lq_drill.specs.Drill.{Each, HasFaulted as PlayerFaulted, IsDrilled, IsDrilledUntil, IsFaultless as HasNoFault, IsSerialDrill, LeftInDrill}
+use Rattle.lq_drill.specs.Drill.{Each, FailsBy, HasFaulted as PlayerFaulted, IsDrilled, IsDrilledUntil, IsFaultless as HasNoFault, IsSerialDrill, LeftAtEnd, LeftInDrill, MetAt}
+use Rattle.lq_drill.specs.Faults.{Meets}
 use Rattle.lq_drill.specs.Player.{MayAnswer}
 use Rattle.lq_drill.specs.Shows.{entries_of}
+use Rattle.lq_drill.specs.declared.fault.DrillFault.TheVariants as fault
+use Rattle.lq_drill.specs.declared.fault.DrillFault.{DrillFault}
 use Rattle.lq_journal.specs.State.{dialect_of, limit_of}
 use Rattle.lq_journal.specs.declared.fault.LoadFault.{LoadFault}
 use Rattle.lq_journal.specs.declared.fault.LoadFault.TheVariants as load
@@ -40,17 +43,18 @@ use Rattle.lq_turns.specs.Held.{StandsFor}
 use Rattle.lq_turns.specs.Jobs.{Task}
 use Rattle.lq_turns.specs.declared.answer.Answer.{Answer}
 use Rattle.lq_turns.specs.declared.answer.Answer.TheVariants as answer
-use Rattle.lq_top.proofs.DrillCrashes.{LeftBy, crashes_on, crashes_read, drills_after, fault_shown, fault_there, mapped}
-use Rattle.lq_top.proofs.DrillIdle.{idle, not_begun}
+use Rattle.lq_top.proofs.DrillCrashes.{LeftBy, came_to, crashes_on, crashes_read, drills_after, fault_shown, fault_there, left_there, mapped, placed}
+use Rattle.lq_top.proofs.DrillIdle.{IsUnfilled, idle, not_begun}
 use Rattle.lq_top.proofs.DrillPlayed.{of_drill, played_tells}
 use Rattle.lq_top.proofs.DrillPlayers.{have_tasks}
+use Rattle.lq_top.proofs.InUse.{used_in}
 use Rattle.lq_top.proofs.OnFiles.{entries_told, entries_were, fault_tells, journal_stays, rose_later}
 use Rattle.lq_top.proofs.Ready.{opened}
-use Rattle.lq_top.specs.Bytes.{Holds, Opens, TellsDamage, load_status, most_bytes}
+use Rattle.lq_top.specs.Bytes.{Holds, Opens, TellsDamage, in_use, load_status, most_bytes}
 use Rattle.lq_top.specs.Clock.{ReadInTurn, ReadUpTo}
-use Rattle.lq_top.specs.Drilled.{AnswerAs, AreTasks, CrashesTo, DoesDrill, Drills, GoesAs, GoesUntil, HasFaulted, HoldsMachine, IsFaultless, IsLeftInDrill, IsOfDrill, IsSerial, IsSettled, Went, WorkedDrill, drilled, machine_after}
+use Rattle.lq_top.specs.Drilled.{AnswerAs, AreTasks, CrashesTo, DoesDrill, Drills, EndsFull, GoesAs, GoesUntil, HasFaulted, HoldsMachine, IsFaultless, IsFull, IsLeftInDrill, IsOfDrill, IsSerial, IsSettled, MetFull, Went, WorkedDrill, drilled, machine_after}
 use Rattle.lq_top.specs.Kinds.{Refuses, is_of_drill}
-use Rattle.lq_top.specs.Players.{ArePlayers, PlayEnds, Plays, answers_in, faults_in}
+use Rattle.lq_top.specs.Players.{ArePlayers, PlayEnds, PlayIsFull, Plays, answers_in, faults_in}
 use Rattle.lq_top.specs.declared.drilling.Drilling.{Drilling}
 
 false_true : false ≡ true → ⊥
@@ -161,6 +165,39 @@ module _ {D P E : Type 0} (d p : Dialect) (told : Option (List ℕ)) (crashes : 
     abbrev Left : List Entry → List Entry → Type 0
     Left = LeftBy d tasks steps database last x told
 
+    -- in the end
+    left_now : y.dialect ≡ d → y.limit ≡ x.limit → LeftAtEnd command_stands (works d tasks) (record x { dialect = d }) database failure_of steps last y → IsLeftInDrill d tasks steps database (faults_in last) told now
+    left_now dialect limit ends =
+        let there = entries_told d p told crashes h db is new.limit_is bytes told_is now later k left valid database has in
+        let were = entries_were d p told crashes h db is new.limit_is bytes told_is now later k left valid database has in
+        let same = journal_stays d p told crashes h db is new.limit_is bytes told_is now later k left valid database has dialect limit in
+        let it = subst (λ o. IfSome o (λ there. (these : List Entry) × (y.entries ≡ Some these) × Left there these)) there.1 ends in
+        left_there d tasks steps database last x told there.0 (sym were ∙ there.1) it.0 now (sym (ap (λ e. entries_in e (limit_of left.journal) now) same.0 ∙ ap (λ n. entries_in d n now) same.1) ∙ it.1) it.2
+
+    -- where the journal was full
+    module _ (used next : ℕ) where
+      met_full : (n : ℕ) → MetAt command_stands (works d tasks) (record x { dialect = d }) database failure_of steps last n (fault.Full used next) → MetFull d tasks steps database (faults_in last) told n used next
+      met_full n met =
+          let there = entries_told d p told crashes h db is new.limit_is bytes told_is now later k left valid database has in
+          let were = entries_were d p told crashes h db is new.limit_is bytes told_is now later k left valid database has in
+          record {
+            front = met.front;
+            rest = met.rest;
+            is = met.is;
+            now = met.now;
+            came = came_to d tasks steps database last x told met.front met.now met.came;
+            full = subst (λ o. IfSome o (λ there. Meets failure_of d (works d tasks) (in_use there) most_bytes n met.now (fault.Full used next))) (sym (sym were ∙ there.1))
+                (subst (λ filled. Meets failure_of d (works d tasks) filled most_bytes n met.now (fault.Full used next)) (used_in p told crashes h db is bytes told_is there.0 there.1)
+                (subst (λ limit. Meets failure_of d (works d tasks) x.used limit n met.now (fault.Full used next)) new.limit_is met.meets));
+          }
+
+      ends_full : FailsBy command_stands (works d tasks) (record x { dialect = d }) database failure_of steps last (fault.Full used next) → EndsFull d tasks steps database (faults_in last) told (answers_in last) used next
+      ends_full fails = record {
+        place = fails.place;
+        answer = placed (λ (p : AnyCommand). (command_stands p).answer) last fails.place fails.player fails.there ∙ ap (λ (o : Option Answer). Some o) fails.answer;
+        met = met_full (suc fails.place) fails.met;
+      }
+
     -- at any moment
     moments : y.dialect ≡ d → y.limit ≡ x.limit → CrashesLeave x.entries Left (crashes_of crashes db) (crashes_of later left) → CrashesTo d (IsLeftInDrill d tasks steps database (faults_in last) told) crashes later
     moments dialect limit leaves =
@@ -206,9 +243,15 @@ module _ {D P E : Type 0} (d p : Dialect) (told : Option (List ℕ)) (crashes : 
     ran_until : (n : ℕ) → PlayerFaulted command_stands plays.last n → IsDrilledUntil command_stands (works d tasks) moved database drill.steps plays.last final
     ran_until n met = subst (λ e. IsDrilledUntil command_stands (works e tasks) (record origin { dialect = e }) database drill.steps plays.last final) has.dialect (plays.until tasks database stands_there have_there n met)
 
-    left_in : CrashesLeave origin.entries (LeftInDrill command_stands (works d tasks) moved database drill.steps plays.last) (crashes_of crashes db) (crashes_of later left)
-    left_in = subst (λ e. CrashesLeave origin.entries (LeftInDrill command_stands (works e tasks) (record origin { dialect = e }) database drill.steps plays.last) (crashes_of crashes db) (crashes_of later left)) has.dialect
+    left_in : CrashesLeave origin.entries (LeftInDrill command_stands (works d tasks) moved database failure_of drill.steps plays.last) (crashes_of crashes db) (crashes_of later left)
+    left_in = subst (λ e. CrashesLeave origin.entries (LeftInDrill command_stands (works e tasks) (record origin { dialect = e }) database failure_of drill.steps plays.last) (crashes_of crashes db) (crashes_of later left)) has.dialect
         (plays.crash tasks database stands_there have_there)
+
+    left_in_end : LeftAtEnd command_stands (works d tasks) moved database failure_of drill.steps plays.last final
+    left_in_end = subst (λ e. LeftAtEnd command_stands (works e tasks) (record origin { dialect = e }) database failure_of drill.steps plays.last final) has.dialect (plays.left tasks database stands_there have_there)
+
+    failed_by : (why : DrillFault) → FailsBy command_stands (works origin.dialect tasks) origin database failure_of drill.steps plays.last why → FailsBy command_stands (works d tasks) moved database failure_of drill.steps plays.last why
+    failed_by why fails = subst (λ e. FailsBy command_stands (works e tasks) (record origin { dialect = e }) database failure_of drill.steps plays.last why) has.dialect fails
 
     -- dialect and limit stay
     stays : (final.dialect ≡ d) × (final.limit ≡ origin.limit)
@@ -261,6 +304,20 @@ module _ {D P E : Type 0} (d p : Dialect) (told : Option (List ℕ)) (crashes : 
       let same = stays tasks own database has in
       moments d p told crashes h db is new opens.bytes opens.told_is now later k left valid database has tasks drill.steps plays.last same.0 same.1 (left_in tasks own database has)
 
+  left_at : (tasks : ℕ → Task AnyChange) → AreTasks who drill.entrants readings tasks → (database : Database) → Opens d told database → IsLeftInDrill d tasks drill.steps database (faults_in plays.last) told now
+  left_at tasks own database opens =
+      let has = has_there database opens in
+      let same = stays tasks own database has in
+      left_now d p told crashes h db is new opens.bytes opens.told_is now later k left valid database has tasks drill.steps plays.last same.0 same.1 (left_in_end tasks own database has)
+
+  full_at : (used next : ℕ)
+      → ((tasks : ℕ → Task AnyChange) (database : Database) → StandsFor origin.dialect origin.committed database → HaveTasks origin.dialect tasks players → FailsBy command_stands (works origin.dialect tasks) origin database failure_of drill.steps plays.last (fault.Full used next))
+      → IsFull d who drill readings (faults_in plays.last) told (answers_in plays.last) used next
+  full_at used next fails tasks own database opens =
+      let has = has_there database opens in
+      ends_full d p told crashes h db is new opens.bytes opens.told_is now later k left valid database has tasks drill.steps plays.last used next
+      (failed_by tasks own database has (fault.Full used next) (fails tasks database (stands_there tasks own database has) (have_there tasks own database has)))
+
   abbrev went : Went d who drill readings told now crashes later
   went = record {
     one_each = are.as_many.0;
@@ -271,14 +328,18 @@ module _ {D P E : Type 0} (d p : Dialect) (told : Option (List ℕ)) (crashes : 
     until = went_until;
     met = met_at;
     crash = crash_at;
+    left = left_at;
   }
 
-  drills_by : (r : Result Done Status) → PlayEnds commands plays.last final r → Drills d who drill readings told crashes r now later
-  drills_by (Ok done) ends = (ends.1, (went, ends.2 ∙ ap (λ (all : List Command). Some (drill_text (drilled all (answers_in plays.last)))) are.named))
-  drills_by (Err s) ends = inr went
+  drills_by : (r : Result Done Status) → PlayEnds commands plays.last final r
+      → ((tasks : ℕ → Task AnyChange) (database : Database) → StandsFor origin.dialect origin.committed database → HaveTasks origin.dialect tasks players → PlayIsFull r (FailsBy command_stands (works origin.dialect tasks) origin database failure_of drill.steps plays.last))
+      → Drills d who drill readings told crashes r now later
+  drills_by (Ok done) ends full = (ends.1, (went, ends.2 ∙ ap (λ (all : List Command). Some (drill_text (drilled all (answers_in plays.last)))) are.named))
+  drills_by (Err (status.Full used next)) ends full = (went, full_at used next full)
+  drills_by (Err s) ends full = inr went
 
   pub does : (coming after : Option (List ℕ)) → ReadInTurn coming after readings → DoesDrill d who drill coming after told crashes result now later
-  does coming after in_turn = record { readings = readings; read = in_turn; few = same_count (length drill.entrants) (length readings) (sym are.as_many.0); kind = kind_is result (of_drill result plays.kind); drills = drills_by result plays.ends } where
+  does coming after in_turn = record { readings = readings; read = in_turn; few = same_count (length drill.entrants) (length readings) (sym are.as_many.0); kind = kind_is result (of_drill result plays.kind); drills = drills_by result plays.ends plays.cause } where
     kind_is : (r : Result Done Status) → Refuses is_of_drill r → IsOfDrill r
     kind_is (Ok done) kind = tt
     kind_is (Err s) kind = inl kind
@@ -300,13 +361,18 @@ module _ {D : Type 0} (told : D → Option (List ℕ)) (faults : D → ℕ) (cra
     };
     kind = refl;
     settled = tt;
-    does = not_begun d who drill coming after up (told disk) (told disk) (crashes disk) (crashes disk) (idle d (told disk) (told disk) refl (crashes disk)) status.OutOfMemory (inl refl);
+    does = not_begun d who drill coming after up (told disk) (told disk) (crashes disk) (crashes disk) (idle d (told disk) (told disk) refl (crashes disk)) status.OutOfMemory (inl refl) tt;
   }
 
   load_kind : (f : LoadFault) → is_of_drill (load_status f) ≡ true
   load_kind load.Disk = refl
   load_kind (load.Damaged at) = refl
   load_kind load.OutOfMemory = refl
+
+  load_unfilled : (f : LoadFault) → IsUnfilled (load_status f)
+  load_unfilled load.Disk = tt
+  load_unfilled (load.Damaged at) = tt
+  load_unfilled load.OutOfMemory = tt
 
   load_rose : (before now : ℕ) (file : Option (List ℕ)) (f : LoadFault) → IsDbFault d most_bytes file before now f → (let r : Result Done Status = Err (load_status f) in r) ≡ Err status.DiskFault → Rose before now
   load_rose before now file load.Disk is fault = is
@@ -327,7 +393,7 @@ module _ {D : Type 0} (told : D → Option (List ℕ)) (faults : D → ℕ) (cra
       };
       kind = load_kind f;
       settled = tt;
-      does = not_begun d who drill coming after up (told disk) (told read) (crashes disk) (crashes read) (record { same = same; crash = crashes_read (told disk) (crashes disk) sound (crashes read) only d (λ left. ⊥) }) (load_status f) (inl (load_kind f));
+      does = not_begun d who drill coming after up (told disk) (told read) (crashes disk) (crashes read) (record { same = same; crash = crashes_read (told disk) (crashes disk) sound (crashes read) only d (λ left. ⊥) }) (load_status f) (inl (load_kind f)) (load_unfilled f);
     }
 
     -- what it did on the disk as it was read it did on the disk

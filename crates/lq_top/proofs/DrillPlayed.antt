@@ -15,7 +15,7 @@ use Rattle.lq_tell.specs.declared.status.Status.TheVariants as status
 use Rattle.lq_top.specs.Bytes.{TellsDamage}
 use Rattle.lq_top.specs.Drilled.{drilled}
 use Rattle.lq_top.specs.Kinds.{Refuses, is_of_drill}
-use Rattle.lq_top.specs.Players.{PlayEnds, answers_in, drill_status, is_of_play}
+use Rattle.lq_top.specs.Players.{PlayEnds, PlayIsFull, answers_in, drill_status, is_of_play}
 
 abbrev IsMemory : Status → Type 0
 IsMemory s = s ≡ status.OutOfMemory
@@ -40,6 +40,20 @@ of_fault fault.OutOfMemory = refl
 
 pub fault_kind : (f : DrillFault) (s : Status) → s ≡ drill_status f → Refuses is_of_play (Err s)
 fault_kind f s is = subst (λ s. is_of_play s ≡ true) (sym is) (of_fault f)
+
+-- only a fault of the store tells that the journal is full, and it is that fault
+
+pub tells_not_full : (r : Result Done Status) → IfErr r IsMemory → (by : DrillFault → Type 0) → PlayIsFull r by
+tells_not_full (Ok done) memory by = tt
+tells_not_full (Err s) memory by = subst (λ s. PlayIsFull (Err s) by) (sym memory) tt
+
+full_by : (f : DrillFault) (by : DrillFault → Type 0) → by f → PlayIsFull (Err (drill_status f)) by
+full_by fault.Disk by met = tt
+full_by (fault.Full used next) by met = met
+full_by fault.OutOfMemory by met = tt
+
+pub fault_full : (f : DrillFault) (s : Status) → s ≡ drill_status f → (by : DrillFault → Type 0) → by f → PlayIsFull (Err s) by
+fault_full f s is by met = subst (λ s. PlayIsFull (Err s) by) (sym is) (full_by f by met)
 
 -- a fault of the disk
 

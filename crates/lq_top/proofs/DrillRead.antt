@@ -10,7 +10,7 @@ use Rattle.lq_sources.specs.declared.fault.LoadFault.{LoadFault}
 use Rattle.lq_tell.specs.declared.done.Done.{Done}
 use Rattle.lq_tell.specs.declared.status.Status.{Status}
 use Rattle.lq_tell.specs.declared.status.Status.TheVariants as status
-use Rattle.lq_top.proofs.DrillIdle.{unused_drill}
+use Rattle.lq_top.proofs.DrillIdle.{IsUnfilled, unused_drill}
 use Rattle.lq_top.proofs.Readings.{unread, up_to}
 use Rattle.lq_top.specs.Asks.{Files, file_status}
 use Rattle.lq_top.specs.Bytes.{TellsDamage}
@@ -162,8 +162,8 @@ module _ {D : Type 0} (told : D → Option (List ℕ)) (faults : D → ℕ) (cra
     reads = unread 64 coming;
   }
 
-  does_nothing : (s : Status) → IsOfDrill (Err s) → (drill : Drilling) → DoesDrill d who drill coming coming (told before) (crashes before) (Err s) (told before) (crashes before)
-  does_nothing s kind drill = unused_drill told crashes d who drill coming before before refl (Err s) s refl kind
+  does_nothing : (s : Status) → IsOfDrill (Err s) → IsUnfilled s → (drill : Drilling) → DoesDrill d who drill coming coming (told before) (crashes before) (Err s) (told before) (crashes before)
+  does_nothing s kind unfilled drill = unused_drill told crashes d who drill coming before before refl (Err s) s refl kind unfilled
 
   -- they failed
   failed_worked : Did status.ReadFault
@@ -176,7 +176,7 @@ module _ {D : Type 0} (told : D → Option (List ℕ)) (faults : D → ℕ) (cra
     formless = λ source tells gives. inr (inl refl);
     changelog = λ fault is. absurd Prim.cc;
     not_loaded = λ source tells fault gives. inr (inl refl);
-    does = λ source drill tells gives. does_nothing status.ReadFault (inr refl) drill;
+    does = λ source drill tells gives. does_nothing status.ReadFault (inr refl) tt drill;
     reads = unread 64 coming;
   }
 
@@ -190,7 +190,7 @@ module _ {D : Type 0} (told : D → Option (List ℕ)) (faults : D → ℕ) (cra
     formless = λ source tells gives. inr (inr refl);
     changelog = λ fault is. absurd Prim.cc;
     not_loaded = λ source tells fault gives. inr (inr refl);
-    does = λ source drill tells gives. does_nothing status.OutOfMemory (inl refl) drill;
+    does = λ source drill tells gives. does_nothing status.OutOfMemory (inl refl) tt drill;
     reads = unread 64 coming;
   }
 

@@ -57,31 +57,38 @@ module _ (d : Dialect) (who : List ℕ) (drill : Drilling) (readings : List ℕ)
   abbrev Part : Type 0
   Part = IsIdle d before after c e ⊎ Went d who drill readings before after c e
 
-  part_ends : (x : Status) → is_of_drill x ≡ true → Part → DrillEnds d who drill readings before c x after e out written
-  part_ends status.DiskFault kind part = part
-  part_ends (status.Damaged at) kind part = part
-  part_ends (status.Full used next) kind part = part
-  part_ends status.OutOfMemory kind part = part
-  part_ends status.Done kind part = absurd (false_true kind)
-  part_ends status.Usage kind part = absurd (false_true kind)
-  part_ends status.ReadFault kind part = absurd (false_true kind)
-  part_ends (status.Changelog fault) kind part = absurd (false_true kind)
-  part_ends (status.Invalid faults) kind part = absurd (false_true kind)
-  part_ends (status.Locked lock) kind part = absurd (false_true kind)
-  part_ends (status.Halted place why) kind part = absurd (false_true kind)
-  part_ends (status.Refused identity statement kept reason) kind part = absurd (false_true kind)
-  part_ends status.NoTarget kind part = absurd (false_true kind)
-  part_ends (status.NotReversible identity) kind part = absurd (false_true kind)
-  part_ends status.WriteFault kind part = absurd (false_true kind)
-  part_ends (status.Busy session) kind part = absurd (false_true kind)
+  abbrev Did : Status → Type 0
+  Did x = Drills d who drill readings before c (Err x) after e
 
-  kind_ends : (x : Status) → (is_of_drill x ≡ true) ⊎ (x ≡ status.ReadFault) → Part → DrillEnds d who drill readings before c x after e out written
-  kind_ends x (inl kind) part = part_ends x kind part
-  kind_ends x (inr read) part = subst (λ s. DrillEnds d who drill readings before c s after e out written) (sym read) part
+  part_of : (x : Status) → Did x → Part
+  part_of (status.Full used next) did = inr did.0
+  part_of s did = did
 
-  err_ends : (x s : Status) → (is_of_drill x ≡ true) ⊎ (x ≡ status.ReadFault) → (s ≡ x) ⊎ (s ≡ status.OutOfMemory) → Part → DrillEnds d who drill readings before c s after e out written
-  err_ends x s kind (inl same) part = subst (λ s. DrillEnds d who drill readings before c s after e out written) (sym same) (kind_ends x kind part)
-  err_ends x s kind (inr memory) part = subst (λ s. DrillEnds d who drill readings before c s after e out written) (sym memory) part
+  part_ends : (x : Status) → is_of_drill x ≡ true → Did x → DrillEnds d who drill readings before c x after e out written
+  part_ends status.DiskFault kind did = did
+  part_ends (status.Damaged at) kind did = did
+  part_ends (status.Full used next) kind did = did
+  part_ends status.OutOfMemory kind did = did
+  part_ends status.Done kind did = absurd (false_true kind)
+  part_ends status.Usage kind did = absurd (false_true kind)
+  part_ends status.ReadFault kind did = absurd (false_true kind)
+  part_ends (status.Changelog fault) kind did = absurd (false_true kind)
+  part_ends (status.Invalid faults) kind did = absurd (false_true kind)
+  part_ends (status.Locked lock) kind did = absurd (false_true kind)
+  part_ends (status.Halted place why) kind did = absurd (false_true kind)
+  part_ends (status.Refused identity statement kept reason) kind did = absurd (false_true kind)
+  part_ends status.NoTarget kind did = absurd (false_true kind)
+  part_ends (status.NotReversible identity) kind did = absurd (false_true kind)
+  part_ends status.WriteFault kind did = absurd (false_true kind)
+  part_ends (status.Busy session) kind did = absurd (false_true kind)
+
+  kind_ends : (x : Status) → (is_of_drill x ≡ true) ⊎ (x ≡ status.ReadFault) → Did x → DrillEnds d who drill readings before c x after e out written
+  kind_ends x (inl kind) did = part_ends x kind did
+  kind_ends x (inr read) did = subst (λ s. DrillEnds d who drill readings before c s after e out written) (sym read) (part_of x did)
+
+  err_ends : (x s : Status) → (is_of_drill x ≡ true) ⊎ (x ≡ status.ReadFault) → (s ≡ x) ⊎ (s ≡ status.OutOfMemory) → Did x → DrillEnds d who drill readings before c s after e out written
+  err_ends x s kind (inl same) did = subst (λ s. DrillEnds d who drill readings before c s after e out written) (sym same) (kind_ends x kind did)
+  err_ends x s kind (inr memory) did = subst (λ s. DrillEnds d who drill readings before c s after e out written) (sym memory) (part_of x did)
 
   pub ends_as : (done : Result Done Status) (s : Status) → IsWritten done s → IsOfDrill done → Drills d who drill readings before c done after e → (has_output s ≡ true → written ≡ option_map (λ (o : List ℕ). o ++ out_text done) out) → IsPart (out_text done) out written → DrillEnds d who drill readings before c s after e out written
   ends_as (Ok done) s by kind drills whole part = ok_ends done s drills.0 by.ended drills.1.0 drills.1.1 whole part

@@ -1,4 +1,7 @@
+pub mod Alone
+pub mod AsRunner
 pub mod Copied
+pub mod DrillCame
 pub mod DrillCrashes
 pub mod DrillEnds
 pub mod DrillFiles
@@ -9,12 +12,14 @@ pub mod DrillPlayers
 pub mod DrillRead
 pub mod DrillRuns
 pub mod Handing
+pub mod InUse
 pub mod Kept
 pub mod LeftOnFile
 pub mod Loading
 pub mod OnDatabases
 pub mod OnFiles
 pub mod OnReady
+pub mod OneRunner
 pub mod OnlyRead
 pub mod Readings
 pub mod Ready

@@ -1,6 +1,6 @@
 -- What a command does on a database that was loaded from a file.
 use Rattle.std.proofs.Common.{ap, arith, inl, inr, refl, subst, sym, ◌∙◌}
-use Rattle.std.specs.Prelude.{Bool, Err, IfSome, List, None, Ok, Option, Result, Some, false, is_some, map, true, ℕ, ◌≡◌, ◌≤◌}
+use Rattle.std.specs.Prelude.{Bool, Err, IfOk, IfSome, List, None, Ok, Option, Result, Some, false, is_some, map, true, ℕ, ◌+◌, ◌≡◌, ◌≤◌}
 use Rattle.lq_base.specs.declared.command.Command.{Command}
 use Rattle.lq_base.specs.declared.dialect.Dialect.{Dialect}
 use Rattle.lq_cli.specs.declared.line.Job.TheVariants as job
@@ -14,7 +14,7 @@ use Rattle.lq_db.specs.Load.{IsDbFault, catalogue_of}
 use Rattle.lq_db.specs.Log.{crashes_in, entries_in, texts_of}
 use Rattle.lq_db.specs.declared.db.Db.{Db}
 use Rattle.lq_journal.specs.Journal.{journal_of}
-use Rattle.lq_journal.specs.State.{dialect_of, limit_of}
+use Rattle.lq_journal.specs.State.{dialect_of, limit_of, used_of}
 use Rattle.lq_journal.specs.declared.entry.Entry.{Entry as Placed}
 use Rattle.lq_journal.specs.declared.fault.LoadFault.{LoadFault}
 use Rattle.lq_journal.specs.declared.fault.LoadFault.TheVariants as load
@@ -23,8 +23,10 @@ use Rattle.lq_outside.specs.Count.{Rose}
 use Rattle.lq_outside.specs.Crash.{Crashes, Settled}
 use Rattle.lq_run.specs.Commands.{HasDatabase, Leaves}
 use Rattle.lq_run.specs.Crashes.{LeftBehind, LeftInCommand, Since}
+use Rattle.lq_run.specs.Left.{IsFullIn}
+use Rattle.lq_run.specs.Stands.{entries_of}
 use Rattle.lq_store.specs.Executor.{Held, kept}
-use Rattle.lq_store.specs.Journal.{Entry, database as catalogue_by}
+use Rattle.lq_store.specs.Journal.{Entry, database as catalogue_by, end_of, is_full, size_of_all}
 use Rattle.lq_store.specs.State.{State}
 use Rattle.lq_tell.specs.Texts.{status_done}
 use Rattle.lq_tell.specs.declared.done.Done.{Done}
@@ -32,11 +34,12 @@ use Rattle.lq_tell.specs.declared.status.Status.{Status}
 use Rattle.lq_tell.specs.declared.status.Status.TheVariants as status
 use Rattle.lq_track.specs.Database.{Database}
 use Rattle.lq_turns.specs.declared.call.Call.{Call}
+use Rattle.lq_top.proofs.InUse.{used_in}
 use Rattle.lq_top.proofs.LeftOnFile.{is_left_on, since_on}
 use Rattle.lq_top.proofs.Ready.{becomes}
 use Rattle.lq_top.proofs.RefusedKinds.{answers_disk, answers_memory}
 use Rattle.lq_top.proofs.Unchanged.{left_same}
-use Rattle.lq_top.specs.Bytes.{Becomes, IsLeftOn, OnFile, Opens, TellsDamage, WorksOn, load_status, most_bytes}
+use Rattle.lq_top.specs.Bytes.{Becomes, IsFullOn, IsLeftOn, OnFile, Opens, SaysFullOn, TellsDamage, WorksOn, in_use, load_status, most_bytes}
 use Rattle.lq_top.specs.Jobs.{DoesJob}
 use Rattle.lq_top.specs.Kinds.{IsOfDatabase}
 use Rattle.lq_top.specs.Worked.{CrashesSince}
@@ -106,6 +109,27 @@ module _ {D P E : Type 0} (d p : Dialect) (told : Option (List ℕ)) (crashes : 
   works_there calls (Ok done) works = (λ finished. becomes_there calls (works.0 finished), λ unfinished. left_there calls (works.1 unfinished))
   works_there calls (Err s) behind = left_there calls behind
 
+  -- where the journal of the database was full the file's was
+  full_on : (calls : List Call) (used next : ℕ) → IsFullIn d calls database x used next → IsFullOn d calls database told used next
+  full_on calls used next full =
+      let there = entries_told in
+      let begins : used_of db.journal ≡ in_use there.0 = used_in p told crashes h db is bytes told_is there.0 there.1 in
+      record {
+        written = full.written;
+        more = full.more;
+        stops = full.stops;
+        comes = full.comes;
+        used_is = subst (λ o. IfSome o (λ there. used ≡ in_use there + size_of_all (entries_of d full.written))) (sym (sym entries_were ∙ there.1)) (full.used_is ∙ ap (λ n. n + size_of_all (entries_of d full.written)) begins);
+        next_is = full.next_is;
+        room = full.room;
+        which = full.which;
+        full = subst (λ n. is_full (end_of full.room n) used (entries_of d full.more) ≡ true) limit full.full;
+      }
+
+  full_there : (calls : List Call) (r : Result Done Status) → Works d calls database x r y → IfOk r (λ (ended : Done). SaysFullOn d calls database told ended.status)
+  full_there calls (Ok done) works = λ used next same. full_on calls used next (works.2 used next same)
+  full_there calls (Err s) behind = tt
+
   -- what a command does on the database it does on the file
   pub does_there : (c : Command) (given : Given) (r : Result Done Status) → given.options.dialect ≡ d → Answers (refusal c given database) r → (is_some (refusal c given database) ≡ true → now ≡ told)
       → Works d (script c given database) database x r y → TellsJob (job.Run c) given database r → DoesJob (job.Run c) given database told r now
@@ -114,6 +138,7 @@ module _ {D P E : Type 0} (d p : Dialect) (told : Option (List ℕ)) (crashes : 
     refused = kept;
     works = subst (λ e. WorksOn e (script c given database) database told r now) (sym dialect) (works_there (script c given database) r works);
     tells = tells;
+    full = λ command. subst (λ e. IfOk r (λ (ended : Done). SaysFullOn e (script c given database) database told ended.status)) (sym dialect) (full_there (script c given database) r works);
   }
 
   -- and what a crash may leave of the journal it may leave of the file
@@ -147,7 +172,7 @@ module _ {D P E : Type 0} (d p : Dialect) (calls : List Call) (database : Databa
 pub does_nothing : (c : Command) (given : Given) (database : Database) (told now : Option (List ℕ)) (s : Status) → s ≡ status.OutOfMemory → Opens given.options.dialect told database → now ≡ told → DoesJob (job.Run c) given database told (Err s) now
 does_nothing c given database told now s memory opens same =
     subst (λ s. DoesJob (job.Run c) given database told (Err s) now) (sym memory)
-    (record { answers = answers_memory (refusal c given database); refused = λ some. same; works = left_same given.options.dialect (script c given database) database told now opens same; tells = tt })
+    (record { answers = answers_memory (refusal c given database); refused = λ some. same; works = left_same given.options.dialect (script c given database) database told now opens same; tells = tt; full = λ command. tt })
 
 pub memory_kind : (s : Status) → s ≡ status.OutOfMemory → IsOfDatabase (Err s)
 memory_kind s memory = subst (λ s. IsOfDatabase (Err s)) (sym memory) refl
@@ -218,4 +243,5 @@ refused_does told now before later fault s is_status c given is same database op
       refused = λ some. same;
       works = left_same given.options.dialect (script c given database) database told now opens same;
       tells = tt;
+      full = λ command. tt;
     })

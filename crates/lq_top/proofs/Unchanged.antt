@@ -99,6 +99,15 @@ no_calls : (printing : Printing) (given : Given) (database : Database) → job_s
 no_calls print.Update given database = refl
 no_calls (print.Rollback target) given database = refl
 
+-- which is on the file, and no command
+pub prints_on_file : {A : Type 0} (printing : Printing) → is_apart (job_of printing) ≡ true → A
+prints_on_file print.Update off = absurd (false_true off)
+prints_on_file (print.Rollback target) off = absurd (false_true off)
+
+pub prints_no_command : {A : Type 0} (printing : Printing) → is_command (job_of printing) ≡ true → A
+prints_no_command print.Update is = absurd (false_true is)
+prints_no_command (print.Rollback target) is = absurd (false_true is)
+
 prints : (printing : Printing) (given : Given) (database : Database) (before : Option (List ℕ)) (done : Result Done Status) (after : Option (List ℕ)) → Opens given.options.dialect before database → after ≡ before
     → WorksOn given.options.dialect (job_script (job_of printing) given database) database before done after
 prints printing given database before (Ok done) after opens same = (
@@ -110,13 +119,4 @@ prints printing given database before (Err s) after opens same = left_same given
 pub printed_does : (printing : Printing) (given : Given) (database : Database) (before : Option (List ℕ)) (done : Result Done Status) (after : Option (List ℕ)) → Opens given.options.dialect before database
     → Answers (job_refusal (job_of printing) given database) done → TellsJob (job_of printing) given database done → after ≡ before → DoesJob (job_of printing) given database before done after
 printed_does printing given database before done after opens answers tells same =
-    record { answers = answers; refused = λ some. same; works = prints printing given database before done after opens same; tells = tells }
-
--- which is on the file, and no command
-pub prints_on_file : {A : Type 0} (printing : Printing) → is_apart (job_of printing) ≡ true → A
-prints_on_file print.Update off = absurd (false_true off)
-prints_on_file (print.Rollback target) off = absurd (false_true off)
-
-pub prints_no_command : {A : Type 0} (printing : Printing) → is_command (job_of printing) ≡ true → A
-prints_no_command print.Update is = absurd (false_true is)
-prints_no_command (print.Rollback target) is = absurd (false_true is)
+    record { answers = answers; refused = λ some. same; works = prints printing given database before done after opens same; tells = tells; full = λ command. prints_no_command printing command }

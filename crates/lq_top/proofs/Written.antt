@@ -11,6 +11,7 @@ use Rattle.lq_base.specs.declared.tracking.Lock.{Lock}
 use Rattle.lq_base.specs.declared.tracking.Tracked.{Tracked}
 use Rattle.lq_cli.specs.declared.line.Job.{Job}
 use Rattle.lq_cli.specs.declared.line.Job.TheVariants.{Drill, RollbackSql, Run, Soak, UpdateSql}
+use Rattle.lq_commands.proofs.PlainRefusals.{IsNotFull, refusal_not_full}
 use Rattle.lq_commands.specs.Refusals.{Answers, IsFault, ends, held, if_halts, if_not, if_some, invalid, irreversible, own_halt, unreachable_by, unready, untagged}
 use Rattle.lq_commands.specs.Scripts.{log_in, script, sets_in, update_script}
 use Rattle.lq_commands.specs.Turns.{turns_script}
@@ -44,9 +45,9 @@ use Rattle.lq_top.proofs.Kept.{restores, syncs, updates}
 use Rattle.lq_top.proofs.OnFiles.{by_end}
 use Rattle.lq_top.proofs.Unchanged.{becomes_left, becomes_same, left_same}
 use Rattle.lq_top.specs.Asks.{Asks, Files, file_status}
-use Rattle.lq_top.specs.Bytes.{Becomes, IsLeftOn, OnFile, Opens, TellsDamage}
+use Rattle.lq_top.specs.Bytes.{Becomes, IsLeftOn, OnFile, Opens, SaysFullOn, TellsDamage}
 use Rattle.lq_top.specs.Headline.{GoesBack, GoneBack, HasSynced, HasUpdated}
-use Rattle.lq_top.specs.Jobs.{DoesJob, DoesLine, is_on_file, job_refusal, job_script}
+use Rattle.lq_top.specs.Jobs.{DoesJob, DoesLine, is_command, is_on_file, job_refusal, job_script}
 use Rattle.lq_top.specs.Kinds.{IsNotLoaded, IsOfFiles, IsOfWords, is_unwritten}
 use Rattle.lq_top.specs.Run.{EndsBy, EndsUnread, IsDamage, IsLogged, IsLoggedInPart, IsOutside, IsUnread, Runs, RunsJob, given_by, is_end, is_over}
 
@@ -58,6 +59,18 @@ true_false h = Prim.cc
 
 pub none_some : {s : Status} → (let o : Option Status = None in o) ≡ Some s → ⊥
 none_some h = Prim.cc
+
+read_full : {used next : ℕ} → status.ReadFault ≡ status.Full used next → ⊥
+read_full h = Prim.cc
+
+disk_full : {used next : ℕ} → status.DiskFault ≡ status.Full used next → ⊥
+disk_full h = Prim.cc
+
+memory_full : {used next : ℕ} → status.OutOfMemory ≡ status.Full used next → ⊥
+memory_full h = Prim.cc
+
+write_full : {used next : ℕ} → status.WriteFault ≡ status.Full used next → ⊥
+write_full h = Prim.cc
 
 pub some_same : {a b : Status} → (let o : Option Status = Some a in o) ≡ Some b → a ≡ b
 some_same h = Prim.cc
@@ -429,6 +442,35 @@ failed_outside : (done : Result Done Status) (s : Status) → IsWritten done s �
 failed_outside done s by (inl is) = either (λ same. inl same) (λ memory. inr (inr memory)) (failed_ends done status.ReadFault s by is)
 failed_outside done s by (inr is) = either (λ same. inr (inr same)) (λ memory. inr (inr memory)) (failed_ends done status.OutOfMemory s by is)
 
+outside_not_full : (s : Status) → IsOutside s → IsNotFull s
+outside_not_full s (inl read) used next is = read_full (sym read ∙ is)
+outside_not_full s (inr (inl disk)) used next is = disk_full (sym disk ∙ is)
+outside_not_full s (inr (inr memory)) used next is = memory_full (sym memory ∙ is)
+
+fault_not_full : (s : Status) → IsFault s → IsNotFull s
+fault_not_full s (inl disk) used next is = disk_full (sym disk ∙ is)
+fault_not_full s (inr memory) used next is = memory_full (sym memory ∙ is)
+
+err_not_full : (o : Option Status) (s : Status) → IfSome o IsNotFull → Answers o (Err s) → IsNotFull s
+err_not_full None s never fault = fault_not_full s fault
+err_not_full (Some refused) s never (inl same) = λ used next is. never used next (sym same ∙ is)
+err_not_full (Some refused) s never (inr fault) = fault_not_full s fault
+
+command_not_full : (job : Job) (given : Given) (database : Database) → is_command job ≡ true → IfSome (job_refusal job given database) IsNotFull
+command_not_full (Run c) given database command = refusal_not_full given c database
+command_not_full UpdateSql given database command = absurd (false_true command)
+command_not_full (RollbackSql target) given database command = absurd (false_true command)
+command_not_full (Drill path) given database command = absurd (false_true command)
+command_not_full (Soak number sets) given database command = absurd (false_true command)
+
+-- how full a full journal was is told by the status of the run
+full_by : (job : Job) (given : Given) (database : Database) (before : Option (List ℕ)) (done : Result Done Status) (after : Option (List ℕ)) (s : Status) → EndsAs (status_done done) s → is_command job ≡ true
+    → DoesJob job given database before done after → SaysFullOn given.options.dialect (job_script job given database) database before s
+full_by job given database before (Ok ended) after s (inl same) command does = λ used next is. does.full command used next (sym same ∙ is)
+full_by job given database before (Err x) after s (inl same) command does = λ used next is. absurd (err_not_full (job_refusal job given database) x (command_not_full job given database command) does.answers used next (sym same ∙ is))
+full_by job given database before done after s (inr (inl memory)) command does = λ used next is. absurd (memory_full (sym memory ∙ is))
+full_by job given database before done after s (inr (inr write)) command does = λ used next is. absurd (write_full (sym write ∙ is))
+
 abbrev pub Does : Job → Given → Database → Option (List ℕ) → Result Done Status → Option (List ℕ) → Type 0
 Does job given database before done after = (Failed done × (after ≡ before)) ⊎ (AreFor given.options.dialect given.changelog × DoesJob job given database before done after)
 
@@ -439,12 +481,14 @@ module _ (job : Job) (given : Given) (before : Option (List ℕ)) (done : Result
     refused = λ some. same;
     works = λ over. absurd (failed_unfinished done failed (was_over done s by over));
     left = λ stopped. left_same given.options.dialect (job_script job given database) database before after opens same;
+    full = λ command used next is. absurd (outside_not_full s (failed_outside done s by failed) used next is);
   }
   runs_by database opens (inr (read, does)) = record {
     ends = ends_by (job_refusal job given database) done s by does.answers;
     refused = does.refused;
     works = λ over. becomes_by job given database before done after opens does (was_over done s by over);
     left = λ stopped. left_by job given database before done after does;
+    full = λ command. full_by job given database before done after s by.ended command does;
   }
 
   pub runs : DoesLine job given before done after → is_on_file job ≡ true → OnFile given.options.dialect before (λ database. RunsJob job given database before s after)

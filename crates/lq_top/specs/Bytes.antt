@@ -1,6 +1,6 @@
 -- The database that the bytes of a file hold.
 use Rattle.std.specs.Option.{option_map}
-use Rattle.std.specs.Prelude.{Err, IfSome, IsTrue, List, None, Ok, Option, Result, Some, [], false, true, ℕ, ◌++◌, ◌≡◌, ◌⊎◌}
+use Rattle.std.specs.Prelude.{Err, IfSome, IsTrue, List, None, Ok, Option, Result, Some, [], false, true, ℕ, ◌+◌, ◌++◌, ◌∷◌, ◌≡◌, ◌⊎◌}
 use Rattle.lq_base.specs.declared.dialect.Dialect.{Dialect}
 use Rattle.lq_commands.specs.Works.{is_finished}
 use Rattle.lq_commands.specs.declared.given.Asked.{Asked}
@@ -10,9 +10,11 @@ use Rattle.lq_db.specs.Log.{entries_in}
 use Rattle.lq_journal.specs.declared.fault.LoadFault.{LoadFault}
 use Rattle.lq_journal.specs.declared.fault.LoadFault.TheVariants as load
 use Rattle.lq_model.specs.Catalogue.{Catalogue}
+use Rattle.lq_model.specs.declared.caller.Room.{Room}
+use Rattle.lq_model.specs.declared.caller.Room.TheVariants.{Ordinary}
 use Rattle.lq_outside.specs.Crash.{Crashes as DiskCrashes}
 use Rattle.lq_run.specs.Stands.{entries_of}
-use Rattle.lq_store.specs.Journal.{Entry, database as catalogue_by}
+use Rattle.lq_store.specs.Journal.{Entry, database as catalogue_by, end_of, is_full, size_of_all}
 use Rattle.lq_tell.specs.declared.done.Done.{Done}
 use Rattle.lq_tell.specs.declared.status.Status.{Status}
 use Rattle.lq_tell.specs.declared.status.Status.TheVariants as status
@@ -22,11 +24,17 @@ use Rattle.lq_turns.specs.Held.{StandsFor}
 use Rattle.lq_turns.specs.Session.{all_called, left_by, session_on}
 use Rattle.lq_turns.specs.Stops.{IsLeft, Journal, joined}
 use Rattle.lq_turns.specs.declared.call.Call.{Call}
+use Rattle.lq_turns.specs.declared.deed.Deed.TheVariants.{Locks}
+use Rattle.lq_turns.specs.declared.deed.OnLock.TheVariants.{Freed}
 use Rattle.lq_turns.specs.declared.stamp.Stamp.{Stamp}
 
 -- the most bytes of a journal
 abbrev pub most_bytes : ℕ
 most_bytes = 268435456
+
+-- how many bytes of a journal are in use: those of its head with a gate, and of its entries
+abbrev pub in_use : List Entry → ℕ
+in_use entries = 17 + size_of_all entries
 
 -- what a file tells is no damage, and the catalogue that it leads to stands for the database
 pub record Opens (d : Dialect) (told : Option (List ℕ)) (database : Database) : Type 0 where
@@ -66,6 +74,22 @@ pub record IsLeftOn (d : Dialect) (calls : List Call) (database : Database) (bef
 abbrev pub WorksOn : Dialect → List Call → Database → Option (List ℕ) → Result Done Status → Option (List ℕ) → Type 0
 WorksOn d calls database before (Ok done) after = (is_finished done.status ≡ true → Becomes d calls database before after) × (is_finished done.status ≡ false → IsLeftOn d calls database before after)
 WorksOn d calls database before (Err s) after = IsLeftOn d calls database before after
+
+-- Behind what was written of these calls, those that come next have no room in the file's journal; only what frees the lock may use all of it.
+pub record IsFullOn (d : Dialect) (calls : List Call) (database : Database) (before : Option (List ℕ)) (used next : ℕ) : Type 0 where
+  pub written : Journal
+  pub more : Journal
+  pub stops : IsLeft d calls database [] written
+  pub comes : IsLeft d calls database [] (written ++ more)
+  pub used_is : IfSome (entries_in d most_bytes before) (λ there. used ≡ in_use there + size_of_all (entries_of d written))
+  pub next_is : next ≡ size_of_all (entries_of d more)
+  pub room : Room
+  pub which : (room ≡ Ordinary) ⊎ (more ≡ (Locks Freed ∷ []) ∷ [])
+  pub full : is_full (end_of room most_bytes) used (entries_of d more) ≡ true
+
+-- a status that says that the journal is full says how full it was
+abbrev pub SaysFullOn : Dialect → List Call → Database → Option (List ℕ) → Status → Type 0
+SaysFullOn d calls database before s = (used next : ℕ) → s ≡ status.Full used next → IsFullOn d calls database before used next
 
 -- these bytes have the entries of some that a crash might leave
 abbrev pub WasLeft : Dialect → (List ℕ → Type 0) → List ℕ → Type 0

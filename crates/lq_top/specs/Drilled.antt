@@ -1,8 +1,9 @@
 -- What a drill does.
 use Rattle.std.specs.List.{All}
-use Rattle.std.specs.Prelude.{Bool, Err, IsTrue, List, None, Ok, Option, Result, Some, [], false, true, length, map, option_map, slice_get, suc, ℕ, ◌++◌, ◌∷◌, ◌≡◌, ◌≤◌, ◌⊎◌}
+use Rattle.std.specs.Prelude.{Bool, Err, IfSome, IsTrue, List, None, Ok, Option, Result, Some, [], false, true, length, map, option_map, slice_get, suc, ℕ, ◌++◌, ◌∷◌, ◌≡◌, ◌≤◌, ◌⊎◌}
 use Rattle.std.specs.Int.{IsInRange}
 use Rattle.lq_base.specs.declared.command.Command.{Command}
+use Rattle.lq_base.specs.declared.command.Command.TheVariants.{Release}
 use Rattle.lq_base.specs.declared.dialect.Dialect.{Dialect}
 use Rattle.lq_changelog.specs.ShortTexts.{HasShortTexts}
 use Rattle.lq_cli.specs.Line.{line_of}
@@ -11,8 +12,10 @@ use Rattle.lq_cli.specs.declared.line.Line.{Line}
 use Rattle.lq_commands.specs.Stamp.{numbered_stamp}
 use Rattle.lq_commands.specs.Who.{clean}
 use Rattle.lq_db.specs.Log.{entries_in}
+use Rattle.lq_drill.specs.Faults.{Comes, FreesAtMostOnce, FreesEarly, Meets}
 use Rattle.lq_drill.specs.Player.{MayAnswer, answer_of}
 use Rattle.lq_drill.specs.Shows.{entries_of}
+use Rattle.lq_drill.specs.declared.fault.DrillFault.TheVariants as fault
 use Rattle.lq_kinds.specs.Dialects.{AreFor}
 use Rattle.lq_kinds.specs.declared.any_change.AnyChange.{AnyChange}
 use Rattle.lq_outside.specs.Crash.{Crashes as DiskCrashes, Settled}
@@ -38,7 +41,7 @@ use Rattle.lq_turns.specs.declared.answer.Answer.{Answer}
 use Rattle.lq_turns.specs.declared.answer.Answer.TheVariants as answer
 use Rattle.lq_turns.specs.declared.deed.Deed.{Deed}
 use Rattle.lq_top.specs.Asks.{Files}
-use Rattle.lq_top.specs.Bytes.{Holds, OnFile, WasLeft, most_bytes}
+use Rattle.lq_top.specs.Bytes.{Holds, OnFile, WasLeft, in_use, most_bytes}
 use Rattle.lq_top.specs.Clock.{ReadInTurn, ReadUpTo}
 use Rattle.lq_top.specs.Drills.{drill_of}
 use Rattle.lq_top.specs.Kinds.{IsNotLoaded, IsOfFiles, IsOfWords, Refuses, is_of_drill}
@@ -148,19 +151,42 @@ module _ (d : Dialect) (tasks : ℕ → Task AnyChange) (steps : List ℕ) (data
     pub until : IsUntilFault after
     pub gave : (place : ℕ) (said : Option Answer) (a : Answer) → slice_get answers place ≡ Some said → answer_of (suc place) (machine_after d tasks database until.front).answers ≡ Some a → said ≡ Some a
 
-  -- after some of the steps, all the machine's, a front of its entries stands behind those that were there
-  pub record IsLeftByMachine (file : Option (List ℕ)) : Type 0 where
+  -- these steps lead to a machine, where commands met faults of the store
+  abbrev pub CameTo : List ℕ → Commands → Type 0
+  CameTo front now = Comes failure_of d (works d tasks) (HasFaulted faulted) front (start Answer answer.Locked answer.Busy database) now
+
+  -- on the way a release-locks began, and freed the lock of a command that had met a fault
+  pub record ReleasesEarly (front : List ℕ) (now : Commands) : Type 0 where
+    pub frees : FreesEarly failure_of d (works d tasks) (HasFaulted faulted) front (start Answer answer.Locked answer.Busy database) now
+    pub is_release : (tasks frees.next).command ≡ Release
+
+  -- What a crash leaves at any moment, and what stands in the end: behind the entries that were there a front of those that some of the steps have brought. Where no release-locks freed the lock of a command that had met a fault, they are a front of those of the machine without faults, and then perhaps one that frees the lock.
+  pub record IsLeftInDrill (file : Option (List ℕ)) : Type 0 where
     pub front : List ℕ
     pub rest : List ℕ
     pub is : steps ≡ front ++ rest
+    pub now : Commands
+    pub came : CameTo front now
     pub written : List (List Deed)
     pub more : List (List Deed)
-    pub came : (machine_after d tasks database front).entries ≡ written ++ more
+    pub brought : now.entries ≡ written ++ more
     pub entries : entries_in d most_bytes file ≡ option_map (λ entries. entries ++ entries_of d written) (entries_in d most_bytes before)
+    pub once : ReleasesEarly front now ⊎ FreesAtMostOnce failure_of d (works d tasks) front (start Answer answer.Locked answer.Busy database) now
 
-  -- what a crash leaves at any moment
-  abbrev pub IsLeftInDrill : Option (List ℕ) → Type 0
-  IsLeftInDrill file = IsLeftByMachine file ⊎ IsUntilFault file
+  -- at one of its steps the entries of this command's next call had no room in the journal
+  pub record MetFull (n used next : ℕ) : Type 0 where
+    pub front : List ℕ
+    pub rest : List ℕ
+    pub is : steps ≡ front ++ n ∷ rest
+    pub now : Commands
+    pub came : CameTo front now
+    pub full : IfSome (entries_in d most_bytes before) (λ there. Meets failure_of d (works d tasks) (in_use there) most_bytes n now (fault.Full used next))
+
+  -- a command answered that the journal is full, with these numbers, as it had met it
+  pub record EndsFull (answers : List (Option Answer)) (used next : ℕ) : Type 0 where
+    pub place : ℕ
+    pub answer : slice_get answers place ≡ Some (Some (answer.Full used next))
+    pub met : MetFull (suc place) used next
 
 -- A crash at any moment leaves what this says; or, since an earlier moment, the entries of what one before might have left.
 pub record CrashesTo (d : Dialect) (Left : Option (List ℕ) → Type 0) (before now : DiskCrashes) : Type 0 where
@@ -180,6 +206,11 @@ pub record Went (d : Dialect) (who : List ℕ) (drill : Drilling) (readings : Li
   -- one that met a fault has not answered, or answers that fault, or that its lock is gone
   pub met : (place : ℕ) (said : Option Answer) → slice_get faulted place ≡ Some true → slice_get answers place ≡ Some said → MayAnswer answer.Locked failure_of said
   pub crash : (tasks : ℕ → Task AnyChange) → AreTasks who drill.entrants readings tasks → OnFile d before (λ database. CrashesTo d (IsLeftInDrill d tasks drill.steps database faulted before) c e)
+  pub left : (tasks : ℕ → Task AnyChange) → AreTasks who drill.entrants readings tasks → OnFile d before (λ database. IsLeftInDrill d tasks drill.steps database faulted before after)
+
+-- so it did in a drill with these readings
+abbrev pub IsFull : Dialect → List ℕ → Drilling → List ℕ → List Bool → Option (List ℕ) → List (Option Answer) → ℕ → ℕ → Type 0
+IsFull d who drill readings faulted before answers used next = (tasks : ℕ → Task AnyChange) → AreTasks who drill.entrants readings tasks → OnFile d before (λ database. EndsFull d tasks drill.steps database faulted before answers used next)
 
 -- no step was taken, and nothing was written
 pub record IsIdle (d : Dialect) (before after : Option (List ℕ)) (c e : DiskCrashes) : Type 0 where
@@ -192,6 +223,7 @@ told_text drill answers = drill_text (drilled (commands_of drill.entrants) answe
 -- it came to its end and tells of each command; or it did not: no step was taken, or a command answered a fault of the store
 abbrev pub Drills : Dialect → List ℕ → Drilling → List ℕ → Option (List ℕ) → DiskCrashes → Result Done Status → Option (List ℕ) → DiskCrashes → Type 0
 Drills d who drill readings before c (Ok done) after e = (done.status ≡ status.Done) × ((went : Went d who drill readings before after c e) × (done.out ≡ Some (told_text drill went.answers)))
+Drills d who drill readings before c (Err (status.Full used next)) after e = (went : Went d who drill readings before after c e) × IsFull d who drill readings went.faulted before went.answers used next
 Drills d who drill readings before c (Err s) after e = IsIdle d before after c e ⊎ Went d who drill readings before after c e
 
 -- so a drill ends that its files give
@@ -263,7 +295,7 @@ pub record AsksDrill (words : List (List ℕ)) (files : Files) : Type 0 where
 abbrev pub DrillEnds : Dialect → List ℕ → Drilling → List ℕ → Option (List ℕ) → DiskCrashes → Status → Option (List ℕ) → DiskCrashes → Option (List ℕ) → Option (List ℕ) → Type 0
 DrillEnds d who drill readings before c status.Done after e out written = (went : Went d who drill readings before after c e) × (written ≡ option_map (λ out. out ++ told_text drill went.answers) out)
 DrillEnds d who drill readings before c status.WriteFault after e out written = (went : Went d who drill readings before after c e) × IsPart (told_text drill went.answers) out written
-DrillEnds d who drill readings before c (status.Full used next) after e out written = IsIdle d before after c e ⊎ Went d who drill readings before after c e
+DrillEnds d who drill readings before c (status.Full used next) after e out written = (went : Went d who drill readings before after c e) × IsFull d who drill readings went.faulted before went.answers used next
 DrillEnds d who drill readings before c status.DiskFault after e out written = IsIdle d before after c e ⊎ Went d who drill readings before after c e
 DrillEnds d who drill readings before c status.OutOfMemory after e out written = IsIdle d before after c e ⊎ Went d who drill readings before after c e
 DrillEnds d who drill readings before c (status.Damaged at) after e out written = IsIdle d before after c e ⊎ Went d who drill readings before after c e

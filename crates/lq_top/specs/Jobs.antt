@@ -1,5 +1,5 @@
 -- What a job does on a database file.
-use Rattle.std.specs.Prelude.{Bool, Err, List, None, Option, Result, [], false, true, ℕ, ◌≡◌, ◌⊎◌}
+use Rattle.std.specs.Prelude.{Bool, Err, IfOk, List, None, Option, Result, [], false, true, ℕ, ◌≡◌, ◌⊎◌}
 use Rattle.lq_cli.specs.declared.line.Job.{Job}
 use Rattle.lq_cli.specs.declared.line.Job.TheVariants.{Drill, RollbackSql, Run, Soak, UpdateSql}
 use Rattle.lq_commands.specs.Outputs.{TellsJob}
@@ -13,7 +13,7 @@ use Rattle.lq_tell.specs.declared.status.Status.{Status}
 use Rattle.lq_tell.specs.declared.status.Status.TheVariants as status
 use Rattle.lq_track.specs.Database.{Database}
 use Rattle.lq_turns.specs.declared.call.Call.{Call}
-use Rattle.lq_top.specs.Bytes.{OnFile, WorksOn}
+use Rattle.lq_top.specs.Bytes.{OnFile, SaysFullOn, WorksOn}
 
 -- it works on the file alone: a soak has a database of its own, and in a drill commands work beside one another
 abbrev pub is_on_file : Job → Bool
@@ -55,6 +55,8 @@ pub record DoesJob (job : Job) (given : Given) (database : Database) (before : O
   pub refused : IsKept (job_refusal job given database) before after
   pub works : WorksOn given.options.dialect (job_script job given database) database before done after
   pub tells : TellsJob job given database done
+  -- a command tells how full a full journal was
+  pub full : is_command job ≡ true → IfOk done (λ ended. SaysFullOn given.options.dialect (job_script job given database) database before ended.status)
 
 -- A line whose files give a changelog: they fail all the same, or there is no memory for it, and nothing is written; or it was read for the dialect, and its job is done on the file.
 abbrev pub DoesLine : Job → Given → Option (List ℕ) → Result Done Status → Option (List ℕ) → Type 0

@@ -4,7 +4,7 @@ use Rattle.lq_base.specs.declared.command.Command.{Command}
 use Rattle.lq_base.specs.declared.dialect.Dialect.{Dialect}
 use Rattle.lq_base.specs.declared.memory.NoMemory.{NoMemory}
 use Rattle.lq_commands.specs.Stamp.{numbered_stamp}
-use Rattle.lq_drill.specs.Drill.{Each, HasFaulted, IsDrilled, IsDrilledUntil, IsFaultless, IsSerialDrill, LeftInDrill}
+use Rattle.lq_drill.specs.Drill.{Each, FailsBy, HasFaulted, IsDrilled, IsDrilledUntil, IsFaultless, IsSerialDrill, LeftAtEnd, LeftInDrill}
 use Rattle.lq_drill.specs.Player.{HasMet}
 use Rattle.lq_drill.specs.declared.fault.DrillFault.{DrillFault}
 use Rattle.lq_drill.specs.declared.fault.DrillFault.TheVariants as fault
@@ -77,6 +77,12 @@ abbrev pub PlayEnds : List Command → List AnyCommand → State → Result Done
 PlayEnds commands last y (Ok done) = (y.live ≡ true) × (done.status ≡ status.Done) × (done.out ≡ Some (drill_text (drilled commands (answers_in last))))
 PlayEnds commands last y (Err s) = Unit {0}
 
+-- one that the journal's room ended tells which command it ended, and when
+abbrev pub PlayIsFull : Result Done Status → (DrillFault → Type 0) → Type 0
+PlayIsFull (Ok done) by = Unit {0}
+PlayIsFull (Err (status.Full used next)) by = by (fault.Full used next)
+PlayIsFull (Err s) by = Unit {0}
+
 -- players took the steps, and stand so at the end
 pub record Plays (players : List AnyCommand) (commands : List Command) (steps : List ℕ) (x y : State) (c e : Crashes) (result : Result Done Status) : Type 0 where
   pub last : List AnyCommand
@@ -88,7 +94,9 @@ pub record Plays (players : List AnyCommand) (commands : List Command) (steps : 
       → IsDrilled command_stands (works x.dialect tasks) x database steps last y
   pub until : (tasks : ℕ → Task AnyChange) (database : Database) → StandsFor x.dialect x.committed database → HaveTasks x.dialect tasks players → (number : ℕ) → HasFaulted command_stands last number
       → IsDrilledUntil command_stands (works x.dialect tasks) x database steps last y
-  pub crash : (tasks : ℕ → Task AnyChange) (database : Database) → StandsFor x.dialect x.committed database → HaveTasks x.dialect tasks players → CrashesLeave x.entries (LeftInDrill command_stands (works x.dialect tasks) x database steps last) c e
+  pub crash : (tasks : ℕ → Task AnyChange) (database : Database) → StandsFor x.dialect x.committed database → HaveTasks x.dialect tasks players → CrashesLeave x.entries (LeftInDrill command_stands (works x.dialect tasks) x database failure_of steps last) c e
+  pub left : (tasks : ℕ → Task AnyChange) (database : Database) → StandsFor x.dialect x.committed database → HaveTasks x.dialect tasks players → LeftAtEnd command_stands (works x.dialect tasks) x database failure_of steps last y
+  pub cause : (tasks : ℕ → Task AnyChange) (database : Database) → StandsFor x.dialect x.committed database → HaveTasks x.dialect tasks players → PlayIsFull result (FailsBy command_stands (works x.dialect tasks) x database failure_of steps last)
   pub serial : (tasks : ℕ → Task AnyChange) (database : Database) → StandsFor x.dialect x.committed database → HaveTasks x.dialect tasks players → Each command_stands IsFaultless last → NoneReleases tasks steps
       → IsSerialDrill command_stands (works x.dialect tasks) x database steps last y
   pub in_turn : (tasks : ℕ → Task AnyChange) (database : Database) → StandsFor x.dialect x.committed database → HaveTasks x.dialect tasks players → Each command_stands IsFaultless last → BeginInTurn x.dialect tasks database steps

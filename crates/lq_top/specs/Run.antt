@@ -17,7 +17,7 @@ use Rattle.lq_track.specs.Database.{Database, SameDatabase}
 use Rattle.lq_turns.specs.declared.call.Call.{Call}
 use Rattle.lq_turns.specs.declared.stamp.Stamp.{Stamp}
 use Rattle.lq_top.specs.Asks.{Asks, Files, asked_by, file_status}
-use Rattle.lq_top.specs.Bytes.{Becomes, CrashesOn, Holds, IsLeftOn, OnFile, given_at, most_bytes}
+use Rattle.lq_top.specs.Bytes.{Becomes, CrashesOn, Holds, IsLeftOn, OnFile, SaysFullOn, given_at, most_bytes}
 use Rattle.lq_top.specs.Jobs.{is_command, is_on_file, job_refusal, job_script}
 
 -- it came to its end, and then perhaps its text could not be written
@@ -40,12 +40,13 @@ abbrev pub EndsBy : Option Status → Status → Type 0
 EndsBy None s = (is_end s ≡ true) ⊎ IsOutside s
 EndsBy (Some refused) s = (s ≡ refused) ⊎ IsOutside s
 
--- on a file that holds the database: the status has its cause; a refusal changes nothing; where it came to its end its calls are done, and otherwise it leaves what a stop of them may leave
+-- on a file that holds the database: the status has its cause; a refusal changes nothing; where it came to its end its calls are done, and otherwise it leaves what a stop of them may leave; and a command tells how full a full journal was
 pub record RunsJob (job : Job) (given : Given) (database : Database) (before : Option (List ℕ)) (s : Status) (after : Option (List ℕ)) : Type 0 where
   pub ends : EndsBy (job_refusal job given database) s
   pub refused : IsKept (job_refusal job given database) before after
   pub works : is_over s ≡ true → Becomes given.options.dialect (job_script job given database) database before after
   pub left : is_over s ≡ false → IsLeftOn given.options.dialect (job_script job given database) database before after
+  pub full : is_command job ≡ true → SaysFullOn given.options.dialect (job_script job given database) database before s
 
 -- what the words, the files, who runs it and the clock's reading give to a command
 abbrev pub given_by : {words : List (List ℕ)} {files : Files} → Asks words files → Stamp → Given

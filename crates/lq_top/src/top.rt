@@ -11,6 +11,7 @@ ghost use Rattle.lq_sources.specs.declared.fault.LoadFault.{LoadFault};
 ghost use Rattle.lq_tell.specs.Lines.{status_lines};
 ghost use Rattle.lq_tell.specs.Texts.{IsSilent};
 ghost use Rattle.lq_tell.specs.declared.status.Status.TheVariants as status;
+ghost use Rattle.lq_top.specs.Alone.{TakesSteps};
 ghost use Rattle.lq_top.specs.Asks.{Asks, HasFault, HasNoForm, IsFaultOf, IsUsage, asked_tag, asks_drill};
 ghost use Rattle.lq_top.specs.Clock.{ReadAtMostOnce, ReadUpTo};
 ghost use Rattle.lq_top.specs.Drilled.{AsksDrill, RunsDrill};
@@ -89,6 +90,9 @@ pub fn run<F: Files, D: Disk, C: Clock, O: Sink, L: Sink>(
     // What a stop leaves that holds the lock: in the end, and on any bytes that a crash of the machine left.
     ensures marked { (asks : Asks (map (λ word. string_bytes word) words.now) (F.told files.old)) → LeavesMarked asks (stamp_of who.now (C.last clock.new)) (D.told disk) (D.told result.disk) }
     ensures marked_at_crash { (asks : Asks (map (λ word. string_bytes word) words.now) (F.told files.old)) → AreFor asks.line.options.dialect asks.changelog → (bytes : List ℕ) → LeavesMarked asks (stamp_of who.now (C.last clock.new)) (D.told disk) (Some bytes) }
+
+    // A command by itself takes the steps of a schedule of this one runner, until it answers.
+    ensures alone { (asks : Asks (map (λ word. string_bytes word) words.now) (F.told files.old)) → TakesSteps asks (stamp_of who.now (C.last clock.new)) (D.told disk) result.status (D.told result.disk) }
 
     // A drill: its commands take their steps as the runners of the machine do, each with its own reading of the clock.
     ensures drill { (asks : AsksDrill (map (λ word. string_bytes word) words.now) (F.told files.old)) → RunsDrill asks who.now (C.to_come clock.old) (C.to_come clock.new) (D.told disk) (D.crashes disk) result.status (D.told result.disk) (D.crashes result.disk) (O.told out.old) (O.told out.new) }

@@ -3,6 +3,8 @@ use Rattle.std.specs.Prelude.{Bool, Err, List, Ok, Result, [], false, if◌then�
 use Rattle.lq_base.specs.declared.dialect.Dialect.{Dialect}
 use Rattle.lq_base.specs.declared.reason.Reason.{Reason}
 use Rattle.lq_model.specs.Script.{if_any, statements_in}
+use Rattle.lq_model.specs.declared.caller.Room.{Room}
+use Rattle.lq_model.specs.declared.caller.Room.TheVariants.{Ordinary}
 use Rattle.lq_model.specs.declared.statement.Statement.{Statement}
 use Rattle.lq_track.specs.Database.{Database}
 use Rattle.lq_turns.specs.declared.deed.Deed.{Deed}
@@ -10,6 +12,14 @@ use Rattle.lq_turns.specs.Deed.{done, made_of}
 use Rattle.lq_model.specs.Commits.{commits_itself}
 use Rattle.lq_turns.specs.declared.call.Call.{Call}
 use Rattle.lq_turns.specs.declared.call.Call.TheVariants.{Abort, Alone, Begin, Commit, Execute}
+
+-- how much of the journal a call may fill
+abbrev pub room_of : Call → Room
+room_of (Alone deeds room) = room
+room_of Begin = Ordinary
+room_of (Execute deed) = Ordinary
+room_of Commit = Ordinary
+room_of Abort = Ordinary
 
 pub record Session : Type 0 where
   pub committed : Database

@@ -3,11 +3,11 @@ use Rattle.std.proofs.Common.{ap, arith, inl, subst, sym, ◌∙◌}
 use Rattle.std.proofs.lemmas.Bool.Decides.{nat_tests}
 use Rattle.std.proofs.lemmas.List.{append-nil}
 use Rattle.std.specs.Option.{option_map}
-use Rattle.std.specs.Prelude.{Bool, List, None, Option, Some, [], cond, false, if◌then◌else◌, is_some, nat_eq, refl, true, ℕ, ◌&&◌, ◌++◌, ◌≡◌}
+use Rattle.std.specs.Prelude.{Bool, List, None, Ok, Option, Some, [], cond, false, if◌then◌else◌, is_some, nat_eq, refl, true, ℕ, ◌&&◌, ◌++◌, ◌≡◌}
 use Rattle.lq_base.specs.declared.dialect.Dialect.{Dialect}
 use Rattle.lq_base.specs.declared.tracking.Lock.{Lock}
 use Rattle.lq_drill.proofs.Machines.{answered_is}
-use Rattle.lq_drill.specs.Player.{Arrives, Moves, answer_of}
+use Rattle.lq_drill.specs.Player.{Moves, answer_of}
 use Rattle.lq_drill.specs.Shows.{IsHolders, LetsBe}
 use Rattle.lq_store.specs.Journal.{Entry}
 use Rattle.lq_store.specs.State.{State, Transaction, is_open, other, other_in}
@@ -80,20 +80,25 @@ module _ (d : Dialect) (n : ℕ) (jobs : ℕ → Job Looked (λ lock. Locked) (�
       ∙ ap (λ b. if b then later_step Looked (λ lock. Locked) (λ number. Busy number) d jobs n x else first_step Looked (λ lock. Locked) (λ number. Busy number) d jobs n x) fresh
       ∙ first_is t shut is
 
-pub moves : (n : ℕ) (before after : Looker) (w : State) → before.answer ≡ None → after.answer ≡ Some (looked (other n w)) → is_open n w.begun ≡ false → Moves n (stands before) (stands after) w w
-moves n before after w none answers shut jobs origin x dialect shows plays clean =
+pub moves : (n : ℕ) (before after : Looker) (w : State) → before.answer ≡ None → after.answer ≡ Some (looked (other n w)) → is_open n w.begun ≡ false → Moves (λ why. Failed why) n (stands before) (stands after) w (Ok tt) w
+moves n before after w none answers shut jobs origin x dialect shows plays =
     let a = looked (other n w) in
-    let same : moved Looked (λ lock. Locked) (λ number. Busy number) origin.dialect jobs n x ≡ told n a x = moved_is origin.dialect n jobs x (plays.waits none refl) w.begun shut shows.begun (plays.answer ∙ none) (plays.begun none) in
-    subst (λ y. Arrives jobs n (stands after) origin w x y) (sym same) (record {
-      shows = record { dialect = shows.dialect; limit = shows.limit; live = shows.live; committed = shows.committed; begun = shows.begun; entries = shows.entries; used = shows.used };
-      plays = record {
-        answer = ap (λ b. if b then Some a else answer_of n x.answers) (own_number n) ∙ sym answers;
-        faultless = refl;
-        begun = λ unanswered. absurd (never a (sym answers ∙ unanswered));
-        waits = λ unanswered. absurd (never a (sym answers ∙ unanswered));
-        goes_on = λ unanswered. absurd (never a (sym answers ∙ unanswered));
-      };
-      lock = inl (refl, refl);
-    }) where
+    let same : moved Looked (λ lock. Locked) (λ number. Busy number) origin.dialect jobs n x ≡ told n a x = moved_is origin.dialect n jobs x (plays.waits none refl) w.begun shut shows.begun (plays.answer ∙ none) (plays.begun none) in (
+      (
+        told n a x,
+        inl (sym same),
+        record {
+          shows = record { dialect = shows.dialect; limit = shows.limit; live = shows.live; committed = shows.committed; begun = shows.begun; entries = shows.entries; used = shows.used };
+          plays = record {
+            answer = ap (λ b. if b then Some a else answer_of n x.answers) (own_number n) ∙ sym answers;
+            begun = λ unanswered. absurd (never a (sym answers ∙ unanswered));
+            waits = λ unanswered. absurd (never a (sym answers ∙ unanswered));
+            goes_on = λ unanswered. absurd (never a (sym answers ∙ unanswered));
+          };
+          lock = inl (refl, refl);
+        },
+      ),
+      λ why owes. absurd owes,
+    ) where
       never : (a : Looked) → Some a ≡ None → ⊥
       never a is = cc

@@ -15,4 +15,4 @@ abbrev pub looks : Job Looked (λ lock. Locked) (λ number. Busy number)
 looks = record { needs_lock = false; refuses = λ database. None; script = λ database. []; answer = λ database. Alone }
 
 abbrev pub stands : Looker → Standing Looked (λ lock. Locked) (λ number. Busy number)
-stands player = record { ready = Unit {0}; dialect = player.dialect; opens = false; faulted = false; job = looks; begun = false; is_at = λ holder. ⊥; owns = λ lock. ⊥; answer = player.answer }
+stands player = record { ready = Unit {0}; dialect = player.dialect; opens = false; faulted = false; owes = λ why. ⊥; job = looks; begun = false; is_at = λ holder. ⊥; owns = λ lock. ⊥; answer = player.answer }

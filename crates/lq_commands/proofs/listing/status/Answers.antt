@@ -1,6 +1,7 @@
 use Rattle.std.proofs.Common.{rules, sym, ◌∙◌}
+use Rattle.std.specs.Prelude.{[]}
 use Rattle.lq_commands.proofs.Commanded.{answers_done, invalid_no_disk, no_disk, passed, pending_told, refused_as}
-use Rattle.lq_commands.proofs.Endings.{works_nothing}
+use Rattle.lq_commands.proofs.Endings.{untouched_works, works_nothing}
 use Rattle.lq_commands.specs.Refusals.{invalid}
 use Rattle.lq_commands.specs.Scripts.{sets_in}
 use Rattle.lq_turns.specs.Faults.{faults}
@@ -10,7 +11,7 @@ pub returns-in_err-rows-clause-answers : goal.returns-in_err-rows-clause-answers
 returns-in_err-rows-clause-answers g c = λ database has. refused_as _ (invalid c.args.given.now database.rows) c.in_err-rows.field-0.0 _ (c.in_err-rows.ensures.passes database has) (search rules)
 
 pub returns-in_err-rows-clause-works : goal.returns-in_err-rows-clause-works
-returns-in_err-rows-clause-works g c = λ database has. works_nothing c.args.given.now.options.dialect database (g.S.Store.state c.args.store.now) _ has
+returns-in_err-rows-clause-works g c = λ database has. untouched_works c.args.given.now.options.dialect [] database (g.S.Store.state c.args.store.now) _ c.in_err-rows.field-0.0 (search rules) has
 
 pub returns-in_err-rows-clause-sure : goal.returns-in_err-rows-clause-sure
 returns-in_err-rows-clause-sure g c = λ disk.
@@ -22,7 +23,7 @@ returns-clause-answers g c = λ database has.
     passed (invalid c.args.given.now database.rows) c.in_ok-rows.rows c.listed.result (c.in_ok-rows.ensures.passes database has) (answers_done c.listed.result c.listed.ensures.fault c.listed.ensures.done)
 
 pub returns-clause-works : goal.returns-clause-works
-returns-clause-works g c = λ database has. works_nothing c.args.given.now.options.dialect database (g.S.Store.state c.args.store.now) c.listed.result has
+returns-clause-works g c = λ database has. works_nothing c.args.given.now.options.dialect database (g.S.Store.state c.args.store.now) c.listed.result c.listed.ensures.done has
 
 pub returns-clause-sure : goal.returns-clause-sure
 returns-clause-sure g c = no_disk c.listed.result c.listed.ensures.fault

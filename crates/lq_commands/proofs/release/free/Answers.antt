@@ -4,7 +4,7 @@ use Rattle.lq_run.proofs.Behind.{none_left}
 use Rattle.lq_store.specs.State.{is_open}
 use Rattle.lq_commands.proofs.Endings.{untouched_crashes}
 use Rattle.lq_commands.proofs.Freed.{leaves_free, nothing_failed}
-use Rattle.lq_commands.proofs.Seen.{ok_leaves}
+use Rattle.lq_commands.proofs.Seen.{err_full, ok_leaves}
 use Rattle.lq_turns.specs.Script.{release_calls}
 use Rattle.lq_commands.proofs.release.free.Goals as goal
 
@@ -16,6 +16,13 @@ returns-then-is_held-clause-leaves g c =
     let d = c.args.given.now.options.dialect in
     let x = g.S.Store.state c.args.store.now in
     ok_leaves d release_calls x (g.S.Store.state c.free_lock.new.store) c.free_lock.result
+    (λ database has. c.free_lock.ensures.leaves database has (c.is_held.ensures database has ∙ c.if-is_held.true) (release_fits d x.committed database has.committed))
+
+pub returns-then-is_held-clause-full : goal.returns-then-is_held-clause-full
+returns-then-is_held-clause-full g c =
+    let d = c.args.given.now.options.dialect in
+    let x = g.S.Store.state c.args.store.now in
+    err_full d release_calls x (g.S.Store.state c.free_lock.new.store) c.free_lock.result
     (λ database has. c.free_lock.ensures.leaves database has (c.is_held.ensures database has ∙ c.if-is_held.true) (release_fits d x.committed database has.committed))
 
 pub returns-else-is_held-clause-leaves : goal.returns-else-is_held-clause-leaves

@@ -1,8 +1,8 @@
 use Rattle.std.proofs.Common.{ap, refl, rules, ◌∙◌}
 use Rattle.std.specs.Prelude.{None, Some}
 use Rattle.lq_tell.specs.declared.status.Status.TheVariants.{OutOfMemory}
-use Rattle.lq_commands.proofs.Commanded.{answers_end, done_works, fault_rose, kept_none, lacking, unfinished_works}
-use Rattle.lq_commands.proofs.Endings.{untouched_crashes, untouched_works}
+use Rattle.lq_commands.proofs.Commanded.{answers_end, fault_rose, kept_none, lacking, unfinished_works}
+use Rattle.lq_commands.proofs.Endings.{done_works, untouched_crashes, untouched_works}
 use Rattle.lq_commands.proofs.Seen.{lock_is}
 use Rattle.lq_commands.proofs.Telling.{unended_on_its}
 use Rattle.lq_commands.specs.Outputs.{TellsText, released_text}
@@ -56,8 +56,8 @@ returns-in-Err-clause-refused g c = λ database has. kept_none None c.args.store
 
 pub returns-in-Err-clause-works : goal.returns-in-Err-clause-works
 returns-in-Err-clause-works g c = λ database has.
-    unfinished_works c.args.given.now.options.dialect (release_calls database) database (g.S.Store.state c.args.store.now) (g.S.Store.state c.free.new.store) c.fault_answer.result c.fault_answer.ensures.unfinished
-    (c.in-Err.ensures.behind database has)
+    unfinished_works c.args.given.now.options.dialect (release_calls database) database (g.S.Store.state c.args.store.now) (g.S.Store.state c.free.new.store) c.in-Err.fault c.fault_answer.result c.fault_answer.ensures.unfinished c.fault_answer.ensures.same
+    (c.in-Err.ensures.behind database has) (c.in-Err.ensures.full database has)
 
 pub returns-in-Err-clause-disk : goal.returns-in-Err-clause-disk
 returns-in-Err-clause-disk g c = λ disk. fault_rose c.in-Err.fault (g.S.Store.faults c.args.store.now) (g.S.Store.faults c.free.new.store) c.in-Err.ensures.faults (c.fault_answer.ensures.disk disk)

@@ -55,7 +55,7 @@ pub returns-clause-works : goal.returns-clause-works
 returns-clause-works g c = λ database has.
     let ran = c.run_turns-source in
     back_works c.args.given.options.dialect c.args.given.stamp c.args.source c.requires.some database (g.S.Store.state c.args.store.now) (g.S.Store.state ran.new.store) ran.result.end c.ended.result
-    c.ended.ensures.whole (ran.ensures.leaves database has) (ran.ensures.left database has)
+    c.ended.ensures.whole c.ended.ensures.full (ran.ensures.leaves database has) (ran.ensures.left database has) (ran.ensures.full database has)
 
 pub returns-clause-any_moment : goal.returns-clause-any_moment
 returns-clause-any_moment g c = λ database has.

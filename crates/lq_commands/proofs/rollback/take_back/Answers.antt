@@ -24,7 +24,7 @@ returns-then-is_empty-clause-answers g c = answers_done c.no_turns.result c.no_t
 pub returns-then-is_empty-clause-works : goal.returns-then-is_empty-clause-works
 returns-then-is_empty-clause-works g c =
     let none = no_rows c.args.undone.now c.is_empty.result c.is_empty.ensures c.if-is_empty.true in
-    λ database has. idle_works c.args.given database (g.S.Store.state c.args.store.now) c.no_turns.result c.args.undone.now none has
+    λ database has. idle_works c.args.given database (g.S.Store.state c.args.store.now) c.no_turns.result c.args.undone.now none c.no_turns.ensures.done has
 
 pub returns-then-is_empty-clause-any_moment : goal.returns-then-is_empty-clause-any_moment
 returns-then-is_empty-clause-any_moment g c = λ database has. untouched_crashes c.args.given.options.dialect (taking_back c.args.given (reverse c.args.undone.now) database) database (g.S.Store.state c.args.store.now) (g.S.Store.crashes c.args.store.now)

@@ -2,10 +2,16 @@ use Rattle.std.proofs.Common.{refl}
 use Rattle.std.specs.Prelude.{Option}
 use Rattle.lq_run.specs.Commands.{LeavesAs}
 use Rattle.lq_run.specs.Crashes.{LeftBehind}
+use Rattle.lq_run.specs.Left.{LeftAs}
 use Rattle.lq_run.specs.NoChanges.{no_changes}
 use Rattle.lq_run.specs.Steps.{Standing}
+use Rattle.lq_hand.specs.Hand.{calls_left}
+use Rattle.lq_turns.specs.Contents.{contents_of}
 use Rattle.lq_turns.specs.Rest.{NoMore}
+use Rattle.lq_turns.specs.Script.{with_lock}
+use Rattle.lq_turns.specs.Turn.{made}
 use Rattle.lq_turns.specs.declared.stop.Refusal.{Refusal}
+use Rattle.lq_commands.proofs.Endings.{full_as}
 use Rattle.lq_commands.proofs.InOneTurn.{hand_holds, tells_as, turn_may_run, turn_tells}
 use Rattle.lq_commands.proofs.Starts.{holds_so, may_so, name_so}
 use Rattle.lq_commands.specs.Stopping.{one_way}
@@ -38,6 +44,17 @@ returns-clause-left g c = λ database has.
     hand_holds c.args.dialect c.args.stamp r refl c.requires.inside c.requires.stops c.none-runner.ensures refl (λ d calls on. LeftBehind d calls on x y) x database has (c.requires.fits database has)
     (holds_so no_changes r c.new-runner.result.dialect c.args.dialect c.new-runner.ensures.command.0 c.new-runner.result.stamp c.args.stamp c.new-runner.ensures.command.1 (λ d calls on. LeftBehind d calls on x y) x
     (c.run_command.ensures.behind name))
+
+pub returns-clause-full : goal.returns-clause-full
+returns-clause-full g c = λ database has.
+    let x = g.S.Store.state c.args.store.now in
+    let y = g.S.Store.state c.run_command.new.store in
+    let name = name_so c.new-runner.result.stamp c.args.stamp c.new-runner.ensures.command.1 c.requires.name in
+    let r : Standing (Unit {0}) (Option Refusal) = record { hand = c.args.hand; turns = NoMore; way = λ e stamp told. one_way told; progress = c.none-runner.result; fault = c.new-runner.result.fault; refused = c.new-runner.result.refused } in
+    full_as c.args.dialect (with_lock c.args.stamp database (made c.args.dialect (calls_left c.args.hand) (contents_of database))) database x y c.run_command.result
+    (hand_holds c.args.dialect c.args.stamp r refl c.requires.inside c.requires.stops c.none-runner.ensures refl (λ d calls on. LeftAs d calls on x c.run_command.result y) x database has (c.requires.fits database has)
+    (holds_so no_changes r c.new-runner.result.dialect c.args.dialect c.new-runner.ensures.command.0 c.new-runner.result.stamp c.args.stamp c.new-runner.ensures.command.1 (λ d calls on. LeftAs d calls on x c.run_command.result y) x
+    (c.run_command.ensures.left name)))
 
 pub returns-clause-any_moment : goal.returns-clause-any_moment
 returns-clause-any_moment g c = λ database has.

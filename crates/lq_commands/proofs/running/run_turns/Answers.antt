@@ -1,4 +1,4 @@
-use Rattle.lq_commands.proofs.Stopped.{stopping_crashes, stopping_leaves, stopping_left, stopping_may_run, stopping_stops, stopping_tells}
+use Rattle.lq_commands.proofs.Stopped.{stopping_crashes, stopping_full, stopping_leaves, stopping_left, stopping_may_run, stopping_stops, stopping_tells}
 use Rattle.lq_commands.proofs.running.run_turns.Goals as goal
 
 pub run_command-end-requires-clause-may_run : goal.run_command-end-requires-clause-may_run
@@ -22,6 +22,13 @@ returns-clause-left g c = λ database has.
     let made = c.new-runner.ensures in
     stopping_left g.T.Source.meaning g.T.Source.left g.T.Source.way c.new-runner.result c.args.dialect c.args.stamp c.args.source made.command.0 made.command.1 made.source made.hand made.unstopped.0 made.unstopped.1
     (g.S.Store.state c.args.store.now) database may.0 has may.1 c.requires.name (g.S.Store.state c.run_command-end.new.store) c.run_command-end.ensures.behind
+
+pub returns-clause-full : goal.returns-clause-full
+returns-clause-full g c = λ database has.
+    let may = c.requires.may_run database has in
+    let made = c.new-runner.ensures in
+    stopping_full g.T.Source.meaning g.T.Source.left g.T.Source.way c.new-runner.result c.args.dialect c.args.stamp c.args.source made.command.0 made.command.1 made.source made.hand made.unstopped.0 made.unstopped.1
+    (g.S.Store.state c.args.store.now) database may.0 has may.1 c.requires.name (g.S.Store.state c.run_command-end.new.store) c.run_command-end.result c.run_command-end.ensures.left
 
 pub returns-clause-any_moment : goal.returns-clause-any_moment
 returns-clause-any_moment g c = λ database has.

@@ -14,7 +14,7 @@ returns-then-is_empty-clause-tells g c =
 
 pub returns-then-is_empty-clause-works : goal.returns-then-is_empty-clause-works
 returns-then-is_empty-clause-works g c = λ database has.
-    idle_sync_works c.args.given c.args.before.now c.args.made c.requires.rows database (c.requires.before database has) (c.is_empty.ensures.0 c.if-is_empty.true) (g.S.Store.state c.args.store.now) c.no_rows.result has
+    idle_sync_works c.args.given c.args.before.now c.args.made c.requires.rows database (c.requires.before database has) (c.is_empty.ensures.0 c.if-is_empty.true) (g.S.Store.state c.args.store.now) c.no_rows.result c.no_rows.ensures.done has
 
 pub returns-then-is_empty-clause-any_moment : goal.returns-then-is_empty-clause-any_moment
 returns-then-is_empty-clause-any_moment g c = λ database has. untouched_crashes c.args.given.options.dialect (sync_script c.args.given database) database (g.S.Store.state c.args.store.now) (g.S.Store.crashes c.args.store.now)

@@ -52,4 +52,4 @@ returns-clause-tells g c =
 pub returns-clause-works : goal.returns-clause-works
 returns-clause-works g c = λ database has.
     works_by c.args.given.options.dialect (sync_script c.args.given database) database (g.S.Store.state c.args.store.now) (g.S.Store.state c.run.new.store) c.in_ok-end.end c.ended.result c.ended.ensures.whole
-    (c.in_ok-end.ensures.leaves database has) (c.in_ok-end.ensures.left database has)
+    c.ended.ensures.full (c.in_ok-end.ensures.leaves database has) (c.in_ok-end.ensures.left database has) (c.in_ok-end.ensures.full database has)

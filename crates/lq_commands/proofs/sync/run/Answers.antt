@@ -5,7 +5,7 @@ use Rattle.lq_run.specs.Crashes.{LeftBehind}
 use Rattle.lq_commands.proofs.Endings.{untouched_crashes}
 use Rattle.lq_commands.proofs.Inserted.{turn_ends, turn_fits, turn_holds, turn_so}
 use Rattle.lq_commands.specs.Scripts.{sync_script}
-use Rattle.lq_commands.specs.Works.{CrashesIn}
+use Rattle.lq_commands.specs.Works.{CrashesIn, FullAs}
 use Rattle.lq_commands.proofs.sync.run.Goals as goal
 
 pub run_hand-requires-clause-inside : goal.run_hand-requires-clause-inside
@@ -40,6 +40,12 @@ returns-clause-left g c = λ database has.
     let y = g.S.Store.state c.run_hand.new.store in
     turn_so c.args.given c.args.before.now c.args.made c.requires.rows (calls_left c.in_ok-hand.hand) c.in_ok-hand.ensures.calls c.requires.some database (c.requires.before database has)
     (λ calls. LeftBehind c.args.given.options.dialect calls database x y) (c.run_hand.ensures.left database has)
+
+pub returns-clause-full : goal.returns-clause-full
+returns-clause-full g c = λ database has.
+    let x = g.S.Store.state c.args.store.now in
+    turn_so c.args.given c.args.before.now c.args.made c.requires.rows (calls_left c.in_ok-hand.hand) c.in_ok-hand.ensures.calls c.requires.some database (c.requires.before database has)
+    (λ calls. FullAs c.args.given.options.dialect calls database x c.run_hand.result) (c.run_hand.ensures.full database has)
 
 pub returns-clause-any_moment : goal.returns-clause-any_moment
 returns-clause-any_moment g c = λ database has.

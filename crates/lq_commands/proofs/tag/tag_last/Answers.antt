@@ -1,9 +1,9 @@
 use Rattle.std.proofs.Common.{ap, rules, ◌∙◌}
-use Rattle.std.specs.Prelude.{None, Ok, Some}
+use Rattle.std.specs.Prelude.{Err, None, Ok, Some}
 use Rattle.lq_store.specs.State.{is_open}
 use Rattle.lq_tell.specs.declared.status.Status.TheVariants.{OutOfMemory}
-use Rattle.lq_commands.proofs.Commanded.{answers_end, done_works, fault_rose, lacking, tag_behind, tag_crashes, tag_leaves, unfinished_works}
-use Rattle.lq_commands.proofs.Endings.{untouched_crashes, untouched_works}
+use Rattle.lq_commands.proofs.Commanded.{answers_end, fault_rose, lacking, tag_behind, tag_crashes, tag_leaves, unfinished_works}
+use Rattle.lq_commands.proofs.Endings.{done_works, full_once, untouched_crashes, untouched_works}
 use Rattle.lq_commands.proofs.Telling.{unended_tells}
 use Rattle.lq_commands.specs.Outputs.{TellsText}
 use Rattle.lq_commands.specs.Refusals.{ends}
@@ -74,8 +74,10 @@ pub returns-in-Err-clause-works : goal.returns-in-Err-clause-works
 returns-in-Err-clause-works g c = λ database has.
     let x = g.S.Store.state c.args.store.now in
     let y = g.S.Store.state c.tag_row.new.store in
-    unfinished_works c.args.dialect (tag_calls c.args.tag.now database) database x y c.fault_answer.result c.fault_answer.ensures.unfinished
+    unfinished_works c.args.dialect (tag_calls c.args.tag.now database) database x y c.in-Err.fault c.fault_answer.result c.fault_answer.ensures.unfinished c.fault_answer.ensures.same
     (tag_behind c.args.dialect c.args.of c.in_ok-name.name c.args.tag.now x c.in_ok-name.ensures c.requires.short y c.in-Err.ensures.behind database has (c.requires.last database has))
+    (full_once c.args.dialect (tag_calls c.args.tag.now database) database x y c.in-Err.fault
+    (tag_leaves c.args.dialect c.args.of c.in_ok-name.name c.args.tag.now x c.in_ok-name.ensures c.requires.short y (Err c.in-Err.fault) c.in-Err.ensures.leaves database has (c.requires.last database has)))
 
 pub returns-in-Err-clause-any_moment : goal.returns-in-Err-clause-any_moment
 returns-in-Err-clause-any_moment g c = λ database has.

@@ -48,7 +48,8 @@ pub returns-clause-works : goal.returns-clause-works
 returns-clause-works g c = λ database has.
     let ran = c.run_turns-source in
     turns_work c.args.given (g.S.Store.state c.args.store.now) c.args.rows.now c.in_ok-source.source c.in_ok-source.ensures.left database (c.requires.rows database has) c.requires.work (c.requires.goes database has)
-    (g.S.Store.state ran.new.store) ran.result.end c.ended.result c.ended.ensures.whole (ran.ensures.leaves database has) (ran.ensures.left database has)
+    (g.S.Store.state ran.new.store) ran.result.end c.ended.result c.ended.ensures.whole c.ended.ensures.full (ran.ensures.leaves database has) (ran.ensures.left database has)
+    (ran.ensures.full database has)
 
 pub returns-clause-any_moment : goal.returns-clause-any_moment
 returns-clause-any_moment g c = λ database has.

@@ -26,7 +26,7 @@ returns-then-is_empty-clause-tells g c =
 pub returns-then-is_empty-clause-works : goal.returns-then-is_empty-clause-works
 returns-then-is_empty-clause-works g c = λ database has.
     idle_works c.args.given c.args.rows.now database (c.requires.rows database has) c.in_ok-work.work c.in_ok-work.ensures (c.is_empty.ensures.0 c.if-is_empty.true)
-    (g.S.Store.state c.args.store.now) c.no_turns.result has
+    (g.S.Store.state c.args.store.now) c.no_turns.result c.no_turns.ensures.done has
 
 pub returns-then-is_empty-clause-any_moment : goal.returns-then-is_empty-clause-any_moment
 returns-then-is_empty-clause-any_moment g c = λ database has. untouched_crashes c.args.given.options.dialect (update_script c.args.given database) database (g.S.Store.state c.args.store.now) (g.S.Store.crashes c.args.store.now)

@@ -1,5 +1,7 @@
-use Rattle.std.proofs.Common.{ap, sym, ◌∙◌}
-use Rattle.lq_players.specs.Answers.{is_failed_end, is_told_end, refusal_in}
+use Rattle.std.proofs.Common.{ap, refl, subst, sym, ◌∙◌}
+use Rattle.std.specs.Prelude.{IfErr}
+use Rattle.lq_drill.specs.declared.fault.DrillFault.TheVariants as drill
+use Rattle.lq_players.specs.Answers.{FailsAs, is_failed_end, is_told_end, refusal_in}
 use Rattle.lq_players.proofs.Told.{always, no_disk, no_fact, ok_map}
 use Rattle.lq_players.proofs.calls.answer_at.Goals as goal
 
@@ -26,3 +28,18 @@ returns-in-Refused-clause-locked g c = ok_map c.told-in-Refused.result _ _ c.tol
 
 pub returns-in-Refused-clause-disk : goal.returns-in-Refused-clause-disk
 returns-in-Refused-clause-disk g c = λ is. no_disk c.told-in-Refused.result c.told-in-Refused.ensures.fault is
+
+pub returns-in-Done-clause-fails : goal.returns-in-Done-clause-fails
+returns-in-Done-clause-fails g c = subst (λ e. IfErr c.told.result (FailsAs e)) (sym c.in-Done.is) c.told.ensures.fault
+
+pub returns-in-Refused-clause-fails : goal.returns-in-Refused-clause-fails
+returns-in-Refused-clause-fails g c = subst (λ e. IfErr c.told-in-Refused.result (FailsAs e)) (sym c.in-Refused.is) c.told-in-Refused.ensures.fault
+
+pub returns-in-Disk-clause-fails : goal.returns-in-Disk-clause-fails
+returns-in-Disk-clause-fails g c = subst (λ e. FailsAs e drill.Disk) (sym c.in-Disk.is) refl
+
+pub returns-in-Full-clause-fails : goal.returns-in-Full-clause-fails
+returns-in-Full-clause-fails g c = subst (λ e. FailsAs e (drill.Full c.in-Full.used c.in-Full.next)) (sym c.in-Full.is) refl
+
+pub returns-in-OutOfMemory-clause-fails : goal.returns-in-OutOfMemory-clause-fails
+returns-in-OutOfMemory-clause-fails g c = subst (λ e. FailsAs e drill.OutOfMemory) (sym c.in-OutOfMemory.is) refl

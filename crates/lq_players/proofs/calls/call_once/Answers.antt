@@ -1,7 +1,7 @@
 use Rattle.std.proofs.Common.{ap, rules, sym, ◌∙◌}
 use Rattle.std.specs.Prelude.{Err, ◌≡◌}
 use Rattle.lq_players.proofs.Answering.{err_is, fault_beside, the_disk}
-use Rattle.lq_players.proofs.Told.{once_crashes, once_done}
+use Rattle.lq_players.proofs.Told.{once_crashes, once_done, once_failed}
 use Rattle.lq_players.proofs.calls.call_once.Goals as goal
 
 pub returns-in-Ok-clause-calls : goal.returns-in-Ok-clause-calls
@@ -19,6 +19,11 @@ pub returns-in-Ok-clause-crash : goal.returns-in-Ok-clause-crash
 returns-in-Ok-clause-crash g c =
     let same : c.as_slice.result.now ≡ c.args.call.deeds = search rules in
     once_crashes c.args.dialect c.args.session c.args.call (g.S.Store.state c.args.store.now) (g.S.Store.crashes c.args.store.now) (g.S.Store.crashes c.do_alone.new.store) c.as_slice.result.now same c.do_alone.ensures.crash
+
+pub returns-clause-calls : goal.returns-clause-calls
+returns-clause-calls g c =
+    let same : c.as_slice.result.now ≡ c.args.call.deeds = search rules in
+    once_failed c.args.dialect c.args.session c.args.call (g.S.Store.state c.args.store.now) (g.S.Store.state c.do_alone.new.store) c.as_slice.result.now c.in-Err.fault c.fault_of.result c.fault_of.ensures same c.in-Err.ensures.does
 
 pub returns-clause-crash : goal.returns-clause-crash
 returns-clause-crash g c =

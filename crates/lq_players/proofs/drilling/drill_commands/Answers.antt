@@ -32,3 +32,13 @@ pub returns-clause-crash : goal.returns-clause-crash
 returns-clause-crash g c = λ tasks database stands have.
     let origin = g.S.Store.state c.args.store.now in
     c.drill.ensures.crash (works origin.dialect tasks) database (begins_with c.names_are_apart.ensures origin tasks database c.args.players.now.items stands have)
+
+pub returns-clause-left : goal.returns-clause-left
+returns-clause-left g c = λ tasks database stands have.
+    let origin = g.S.Store.state c.args.store.now in
+    c.drill.ensures.left (works origin.dialect tasks) database (begins_with c.names_are_apart.ensures origin tasks database c.args.players.now.items stands have)
+
+pub returns-clause-cause : goal.returns-clause-cause
+returns-clause-cause g c = λ tasks database stands have.
+    let origin = g.S.Store.state c.args.store.now in
+    c.drill.ensures.cause (works origin.dialect tasks) database (begins_with c.names_are_apart.ensures origin tasks database c.args.players.now.items stands have)

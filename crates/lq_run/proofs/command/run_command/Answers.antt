@@ -6,7 +6,7 @@ use Rattle.lq_run.specs.Ends.{EndsAs}
 use Rattle.lq_run.specs.Steps.{TellsAs, place, standing}
 use Rattle.lq_turns.specs.Session.{all_called}
 use Rattle.std.proofs.Common.{ap, subst, sym, true, ◌≡◌, ◌∙◌}
-use Rattle.std.specs.Prelude.{Err}
+use Rattle.std.specs.Prelude.{Err, None}
 use Rattle.lq_run.specs.Faults.{is_disk_end}
 use Rattle.lq_run.proofs.Known.{tells_fault}
 use Rattle.lq_run.proofs.Counting.{end_disk, is_the_disk, rose_later}
@@ -39,7 +39,7 @@ pub returns-in-Err-clause-ends : goal.returns-in-Err-clause-ends
 returns-in-Err-clause-ends g c =
     let r = c.args.runner.now in
     λ start s told is. subst (λ e. EndsAs r.dialect g.T.Source.meaning r.stamp c.args.session start s
-    (all_called r.dialect (script r.dialect g.T.Source.meaning r.stamp (place (standing g.T.Source.left g.T.Source.way r)) s.committed) s) e (g.S.Store.state c.take_lock.new.store)) (sym c.end_of.ensures)
+    (all_called r.dialect (script r.dialect g.T.Source.meaning r.stamp (place (standing g.T.Source.left g.T.Source.way r)) s.committed) s) None e (g.S.Store.state c.take_lock.new.store)) (sym c.end_of.ensures)
     (not_taken r.dialect g.T.Source.meaning r.stamp c.args.session (standing g.T.Source.left g.T.Source.way r) start (g.S.Store.state c.args.store.now) (g.S.Store.state c.take_lock.new.store) s told is c.in-Err.fault c.in-Err.ensures.does)
 
 pub returns-in-Ok-clause-rose : goal.returns-in-Ok-clause-rose
@@ -73,7 +73,7 @@ returns-in-Err-clause-left g c =
     let r = c.args.runner.now in
     left_all r.dialect g.T.Source.meaning r.stamp c.args.session (standing g.T.Source.left g.T.Source.way r) (g.S.Store.state c.args.store.now) (g.S.Store.state c.take_lock.new.store) c.end_of.result
     (λ start s told is. subst (λ e. EndsAs r.dialect g.T.Source.meaning r.stamp c.args.session start s
-    (all_called r.dialect (script r.dialect g.T.Source.meaning r.stamp (place (standing g.T.Source.left g.T.Source.way r)) s.committed) s) e (g.S.Store.state c.take_lock.new.store)) (sym c.end_of.ensures)
+    (all_called r.dialect (script r.dialect g.T.Source.meaning r.stamp (place (standing g.T.Source.left g.T.Source.way r)) s.committed) s) None e (g.S.Store.state c.take_lock.new.store)) (sym c.end_of.ensures)
     (not_taken r.dialect g.T.Source.meaning r.stamp c.args.session (standing g.T.Source.left g.T.Source.way r) start (g.S.Store.state c.args.store.now) (g.S.Store.state c.take_lock.new.store) s told is c.in-Err.fault c.in-Err.ensures.does))
 
 pub returns-in-Ok-clause-any_moment : goal.returns-in-Ok-clause-any_moment
@@ -99,5 +99,5 @@ returns-in-Err-clause-behind g c =
     let r = c.args.runner.now in
     behind_all c.statements_read_back.ensures r.dialect g.T.Source.meaning r.stamp c.args.session (standing g.T.Source.left g.T.Source.way r) (g.S.Store.state c.args.store.now) (g.S.Store.state c.take_lock.new.store) c.end_of.result
     (λ start s told is. subst (λ e. EndsAs r.dialect g.T.Source.meaning r.stamp c.args.session start s
-    (all_called r.dialect (script r.dialect g.T.Source.meaning r.stamp (place (standing g.T.Source.left g.T.Source.way r)) s.committed) s) e (g.S.Store.state c.take_lock.new.store)) (sym c.end_of.ensures)
+    (all_called r.dialect (script r.dialect g.T.Source.meaning r.stamp (place (standing g.T.Source.left g.T.Source.way r)) s.committed) s) None e (g.S.Store.state c.take_lock.new.store)) (sym c.end_of.ensures)
     (not_taken r.dialect g.T.Source.meaning r.stamp c.args.session (standing g.T.Source.left g.T.Source.way r) start (g.S.Store.state c.args.store.now) (g.S.Store.state c.take_lock.new.store) s told is c.in-Err.fault c.in-Err.ensures.does))

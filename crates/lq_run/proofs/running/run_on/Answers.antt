@@ -1,8 +1,8 @@
-use Rattle.std.proofs.Common.{inl, le_trans, refl, rules, subst, sym, ◌∙◌}
+use Rattle.std.proofs.Common.{inl, inr, le_trans, refl, rules, subst, sym, ◌∙◌}
 use Rattle.std.specs.Prelude.{[]}
 use Rattle.lq_hand.specs.Hand.{IsReady}
 use Rattle.lq_run.proofs.Counting.{rose_later}
-use Rattle.lq_run.proofs.Ending.{ends, reaches, ready_at, stops, tells}
+use Rattle.lq_run.proofs.Ending.{ends, keeps_full, reaches, ready_at, stops, tells}
 use Rattle.lq_run.proofs.RunCrashes.{step_crash}
 use Rattle.lq_run.proofs.Since.{leave_none, leave_then}
 use Rattle.lq_run.specs.Crashing.{CrashesStep, LeftInRun}
@@ -13,7 +13,7 @@ use Rattle.lq_store.specs.State.{is_open}
 use Rattle.lq_run.proofs.running.run_on.Goals as goal
 
 pub loop-init : goal.loop-init
-loop-init g c = record { valid = c.requires.valid; dialect = refl; stamp = refl; reads = c.requires.reads; begun = c.requires.begun; disk = c.requires.runs.is.disk; later = search rules; reaches = λ start s told is. record { session = s; came = record { calls = []; is = refl }; is = is; way = inl refl }; crash = λ start s told is. leave_none start.entries _ (g.S.Store.crashes c.args.store.now) }
+loop-init g c = record { valid = c.requires.valid; dialect = refl; stamp = refl; reads = c.requires.reads; begun = c.requires.begun; disk = c.requires.runs.is.disk; later = search rules; reaches = λ start s told is. record { session = s; came = record { calls = []; is = refl }; is = is; way = inl refl }; full = λ start s told is used next same. inr same; crash = λ start s told is. leave_none start.entries _ (g.S.Store.crashes c.args.store.now) }
 
 pub step-requires-clause-live : goal.step-requires-clause-live
 step-requires-clause-live g c = (c.loop.invariant.reaches c.requires.runs.start c.requires.runs.session c.requires.runs.told c.requires.runs.is).is.there.at.stands.live
@@ -33,6 +33,10 @@ loop-preserved g c =
     let same = c.in-Going.ensures.same in
     let now = standing g.T.Source.left g.T.Source.way c.loop.runner in
     let next = standing g.T.Source.left g.T.Source.way c.step.new.self in
+    let steps : Steps r.dialect g.T.Source.meaning r.stamp c.args.session now next (g.S.Store.state c.loop.store) step.Going (g.S.Store.state c.step.new.store) =
+    subst (λ d. Steps d g.T.Source.meaning r.stamp c.args.session now next (g.S.Store.state c.loop.store) step.Going (g.S.Store.state c.step.new.store)) k.dialect
+    (subst (λ t. Steps c.loop.runner.dialect g.T.Source.meaning t c.args.session now next (g.S.Store.state c.loop.store) step.Going (g.S.Store.state c.step.new.store)) k.stamp c.in-Going.ensures.steps)
+    in
     record {
       valid = c.in-Going.ensures.valid;
       dialect = same.0 ∙ k.dialect;
@@ -42,9 +46,9 @@ loop-preserved g c =
       disk = c.in-Going.ensures.disk;
       later = le_trans k.later c.in-Going.ensures.later;
       reaches = λ start s told is. reaches r.dialect g.T.Source.meaning r.stamp c.args.session now next told start s (at_end r.dialect g.T.Source.meaning r.stamp c.args.session (place (standing g.T.Source.left g.T.Source.way r)) s)
-          (g.S.Store.state c.loop.store) (g.S.Store.state c.step.new.store) c.in-Going.ensures.going (k.reaches start s told is)
-          (subst (λ d. Steps d g.T.Source.meaning r.stamp c.args.session now next (g.S.Store.state c.loop.store) step.Going (g.S.Store.state c.step.new.store)) k.dialect
-          (subst (λ t. Steps c.loop.runner.dialect g.T.Source.meaning t c.args.session now next (g.S.Store.state c.loop.store) step.Going (g.S.Store.state c.step.new.store)) k.stamp c.in-Going.ensures.steps));
+          (g.S.Store.state c.loop.store) (g.S.Store.state c.step.new.store) c.in-Going.ensures.going (k.reaches start s told is) steps;
+      full = λ start s told is. keeps_full r.dialect g.T.Source.meaning r.stamp c.args.session now told start s (at_end r.dialect g.T.Source.meaning r.stamp c.args.session (place (standing g.T.Source.left g.T.Source.way r)) s)
+          (g.S.Store.state c.loop.store) (g.S.Store.state c.step.new.store) (k.reaches start s told is) r.fault (k.full start s told is) next steps;
       crash = λ start s told is. leave_then start.entries (LeftInRun r.dialect r.stamp s (at_end r.dialect g.T.Source.meaning r.stamp c.args.session (place (standing g.T.Source.left g.T.Source.way r)) s)) (g.S.Store.crashes c.args.store.now) (g.S.Store.crashes c.loop.store) (g.S.Store.crashes c.step.new.store) (k.crash start s told is)
           (step_crash r.dialect g.T.Source.meaning r.stamp c.args.session now told start s (at_end r.dialect g.T.Source.meaning r.stamp c.args.session (place (standing g.T.Source.left g.T.Source.way r)) s) (g.S.Store.state c.loop.store) (k.reaches start s told is) c.step.new.self.fault (g.S.Store.crashes c.loop.store) (g.S.Store.crashes c.step.new.store)
           (subst (λ d. CrashesStep d g.T.Source.meaning r.stamp c.args.session now c.step.new.self.fault (g.S.Store.state c.loop.store) (g.S.Store.crashes c.loop.store) (g.S.Store.crashes c.step.new.store)) k.dialect
@@ -58,7 +62,7 @@ returns-in-Ended-clause-ends g c =
     let now = standing g.T.Source.left g.T.Source.way c.loop.runner in
     let next = standing g.T.Source.left g.T.Source.way c.step.new.self in
     λ start s told is. ends r.dialect g.T.Source.meaning r.stamp c.args.session now told start s (at_end r.dialect g.T.Source.meaning r.stamp c.args.session (place (standing g.T.Source.left g.T.Source.way r)) s)
-    (g.S.Store.state c.loop.store) (g.S.Store.state c.step.new.store) (k.reaches start s told is) next c.in-Ended.end
+    (g.S.Store.state c.loop.store) (g.S.Store.state c.step.new.store) (k.reaches start s told is) r.fault (k.full start s told is) next c.in-Ended.end
     (subst (λ d. Steps d g.T.Source.meaning r.stamp c.args.session now next (g.S.Store.state c.loop.store) (step.Ended c.in-Ended.end) (g.S.Store.state c.step.new.store)) k.dialect
     (subst (λ t. Steps c.loop.runner.dialect g.T.Source.meaning t c.args.session now next (g.S.Store.state c.loop.store) (step.Ended c.in-Ended.end) (g.S.Store.state c.step.new.store)) k.stamp c.in-Ended.ensures.steps))
 
@@ -78,7 +82,7 @@ returns-clause-ends g c =
     let k = c.loop.invariant in
     let r = c.args.runner.now in
     λ start s told is. stops r.dialect g.T.Source.meaning r.stamp c.args.session (standing g.T.Source.left g.T.Source.way c.loop.runner) told start s (at_end r.dialect g.T.Source.meaning r.stamp c.args.session (place (standing g.T.Source.left g.T.Source.way r)) s)
-    (g.S.Store.state c.loop.store) (k.reaches start s told is)
+    (g.S.Store.state c.loop.store) r.fault (k.reaches start s told is)
 
 pub returns-in-Ended-clause-rose : goal.returns-in-Ended-clause-rose
 returns-in-Ended-clause-rose g c = λ is. rose_later (g.S.Store.faults c.args.store.now) (g.S.Store.faults c.loop.store) (g.S.Store.faults c.step.new.store) c.loop.invariant.later (c.in-Ended.ensures.rose is)

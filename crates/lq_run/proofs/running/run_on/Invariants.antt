@@ -3,7 +3,7 @@ use Rattle.std.specs.Prelude.{◌≤◌}
 use Rattle.lq_store.specs.State.{State}
 use Rattle.lq_turns.specs.Session.{Session}
 use Rattle.lq_run.specs.Crashing.{CrashesOn}
-use Rattle.lq_run.specs.Ends.{IsRunning, Reaches, at_end, disk_failed}
+use Rattle.lq_run.specs.Ends.{IsRunning, KeepsFull, Reaches, at_end, disk_failed}
 use Rattle.lq_run.specs.Steps.{is_over, place, standing}
 use Rattle.lq_run.proofs.running.run_on.Given as goal
 
@@ -22,5 +22,7 @@ invariant-loop g l =
       reaches : (start : State) (s : Session) (told : g.T.Source.Told) → IsRunning r.dialect g.T.Source.meaning r.stamp l.session (standing g.T.Source.left g.T.Source.way r) (g.S.Store.state l.fn.store) start s told
           → Reaches r.dialect g.T.Source.meaning r.stamp l.session (standing g.T.Source.left g.T.Source.way l.runner) (g.S.Store.state l.store) start s
           (at_end r.dialect g.T.Source.meaning r.stamp l.session (place (standing g.T.Source.left g.T.Source.way r)) s) told;
+      full : (start : State) (s : Session) (told : g.T.Source.Told) → IsRunning r.dialect g.T.Source.meaning r.stamp l.session (standing g.T.Source.left g.T.Source.way r) (g.S.Store.state l.fn.store) start s told
+          → KeepsFull r.dialect g.T.Source.meaning r.stamp l.session start s (at_end r.dialect g.T.Source.meaning r.stamp l.session (place (standing g.T.Source.left g.T.Source.way r)) s) r.fault l.runner.fault;
       crash : CrashesOn r.dialect g.T.Source.meaning r.stamp l.session (standing g.T.Source.left g.T.Source.way r) (g.S.Store.state l.fn.store) (g.S.Store.crashes l.fn.store) (g.S.Store.crashes l.store);
     }

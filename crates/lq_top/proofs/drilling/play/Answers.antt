@@ -1,12 +1,17 @@
 use Rattle.std.proofs.Common.{ap, refl, subst}
 use Rattle.std.specs.Prelude.{Err}
-use Rattle.lq_top.proofs.DrillPlayed.{disk_fault, fault_kind, played_ends, played_kind, tells_no_disk}
+use Rattle.lq_drill.specs.Drill.{FailsBy}
+use Rattle.lq_players.specs.AnyCommand.{command_stands}
+use Rattle.lq_players.specs.Answers.{failure_of}
+use Rattle.lq_players.specs.Drilling.{works}
+use Rattle.lq_top.proofs.DrillPlayed.{disk_fault, fault_full, fault_kind, played_ends, played_kind, tells_no_disk, tells_not_full}
 use Rattle.lq_top.proofs.drilling.play.Goals as goal
 use Rattle.lq_top.specs.Players.{PlayEnds}
 
 pub returns-in-Ok-clause-plays : goal.returns-in-Ok-clause-plays
 returns-in-Ok-clause-plays g c =
     let ran = c.drill_commands in
+    let x = g.S.Store.state c.args.store.now in
     record {
       last = ran.new.players.items;
       as_many = ran.ensures.count;
@@ -16,6 +21,8 @@ returns-in-Ok-clause-plays g c =
       clean = ran.ensures.clean;
       until = ran.ensures.until;
       crash = ran.ensures.crash;
+      left = ran.ensures.left;
+      cause = λ tasks database stands have. tells_not_full c.tell.result c.tell.ensures.no_memory (FailsBy command_stands (works x.dialect tasks) x database failure_of c.args.steps.now ran.new.players.items);
       serial = ran.ensures.serial;
       in_turn = ran.ensures.in_turn;
     }
@@ -26,6 +33,7 @@ returns-in-Ok-clause-rose g c = λ is. absurd (tells_no_disk c.tell.result c.tel
 pub returns-in-Err-clause-plays : goal.returns-in-Err-clause-plays
 returns-in-Err-clause-plays g c =
     let ran = c.drill_commands in
+    let x = g.S.Store.state c.args.store.now in
     record {
       last = ran.new.players.items;
       as_many = ran.ensures.count;
@@ -35,6 +43,8 @@ returns-in-Err-clause-plays g c =
       clean = ran.ensures.clean;
       until = ran.ensures.until;
       crash = ran.ensures.crash;
+      left = ran.ensures.left;
+      cause = λ tasks database stands have. fault_full c.in-Err.fault c.drill_status.result c.drill_status.ensures (FailsBy command_stands (works x.dialect tasks) x database failure_of c.args.steps.now ran.new.players.items) (c.in-Err.ensures.cause tasks database stands have);
       serial = ran.ensures.serial;
       in_turn = ran.ensures.in_turn;
     }

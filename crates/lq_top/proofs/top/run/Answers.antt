@@ -4,6 +4,7 @@ use Rattle.std.specs.Prelude.{map, string_bytes}
 use Rattle.lq_cli.specs.Line.{line_of}
 use Rattle.lq_commands.specs.Stamp.{stamp_of}
 use Rattle.lq_tell.specs.declared.status.Status.TheVariants as status
+use Rattle.lq_top.proofs.Alone.{takes_steps}
 use Rattle.lq_top.proofs.DrillRuns.{ends_formless, runs_drill, settled_as}
 use Rattle.lq_top.proofs.Resumed.{crash_marked, has_gone_on_back, has_resumed, leaves_marked}
 use Rattle.lq_top.proofs.Said.{has_said, said_in_part, succeeds}
@@ -105,6 +106,16 @@ returns-clause-success g c =
     λ back. succeeds back stamp c.tell-status.result left (g.O.Sink.told c.args.out.now) (g.O.Sink.told c.tell-status.new.out)
     (has_run stamp file c.work-disk.result.done left c.tell-status.result by back.asks (c.work-disk.ensures.does back.asks))
     (has_said back.asks stamp file left c.work-disk.result.done c.tell-status.result (g.O.Sink.told c.args.out.now) (g.O.Sink.told c.tell-status.new.out) by (c.work-disk.ensures.does back.asks) c.tell-status.ensures.whole)
+
+pub returns-clause-alone : goal.returns-clause-alone
+returns-clause-alone g c =
+    let by : IsWritten c.work-disk.result.done c.tell-status.result = record { kind = c.work-disk.ensures.kind; ended = c.tell-status.ensures.status; cut = c.tell-status.ensures.cut; had = c.tell-status.ensures.had } in
+    let stamp = stamp_of c.args.who.now (g.C.Clock.last c.work-disk.new.clock) in
+    let file = g.D.Disk.told c.args.disk in
+    let left = g.D.Disk.told c.work-disk.result.disk in
+    λ asks. takes_steps asks stamp file c.tell-status.result left (g.O.Sink.told c.args.out.now) (g.O.Sink.told c.tell-status.new.out)
+    (has_run stamp file c.work-disk.result.done left c.tell-status.result by asks (c.work-disk.ensures.does asks))
+    (has_said asks stamp file left c.work-disk.result.done c.tell-status.result (g.O.Sink.told c.args.out.now) (g.O.Sink.told c.tell-status.new.out) by (c.work-disk.ensures.does asks) c.tell-status.ensures.whole)
 
 pub returns-clause-resumed_update : goal.returns-clause-resumed_update
 returns-clause-resumed_update g c =

@@ -213,7 +213,7 @@ pub returns-in-Err-OutOfMemory-clause-drills : goal.returns-in-Err-OutOfMemory-c
 returns-in-Err-OutOfMemory-clause-drills g c = λ asks.
     let coming = g.C.Clock.to_come c.args.clock.now in
     let ran = c.refused-in-Err-OutOfMemory in
-    unused_drill g.D.Disk.told g.D.Disk.crashes asks.line.options.dialect c.args.who.now asks.drill coming c.args.disk ran.result.disk ran.ensures.disk ran.result.done status.OutOfMemory ran.ensures.done (inl refl)
+    unused_drill g.D.Disk.told g.D.Disk.crashes asks.line.options.dialect c.args.who.now asks.drill coming c.args.disk ran.result.disk ran.ensures.disk ran.result.done status.OutOfMemory ran.ensures.done (inl refl) tt
 
 pub returns-in-Err-OutOfMemory-clause-settled : goal.returns-in-Err-OutOfMemory-clause-settled
 returns-in-Err-OutOfMemory-clause-settled g c = λ asks. subst (λ r. IsSettled g.D.Disk.told g.D.Disk.faults g.D.Disk.crashes r c.refused-in-Err-OutOfMemory.result.disk) (sym c.refused-in-Err-OutOfMemory.ensures.done) tt

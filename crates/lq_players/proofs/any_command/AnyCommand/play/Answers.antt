@@ -31,7 +31,6 @@ returns-in-AtOnce-clause-took g c =
       ends = c.step.ensures.ends;
       moves = c.step.ensures.moves;
       crash = c.step.ensures.crash;
-      keeps = c.step.ensures.keeps;
     })
 
 pub step-requires-in-Update-clause-sql : goal.step-requires-in-Update-clause-sql
@@ -60,7 +59,6 @@ returns-in-Update-clause-took g c =
       ends = c.step-in-Update.ensures.ends;
       moves = c.step-in-Update.ensures.moves;
       crash = c.step-in-Update.ensures.crash;
-      keeps = c.step-in-Update.ensures.keeps;
     })
 
 pub step-requires-in-Rollback-clause-sql : goal.step-requires-in-Rollback-clause-sql
@@ -89,7 +87,6 @@ returns-in-Rollback-clause-took g c =
       ends = c.step-in-Rollback.ensures.ends;
       moves = c.step-in-Rollback.ensures.moves;
       crash = c.step-in-Rollback.ensures.crash;
-      keeps = c.step-in-Rollback.ensures.keeps;
     })
 
 pub step-requires-in-Sync-clause-sql : goal.step-requires-in-Sync-clause-sql
@@ -118,5 +115,4 @@ returns-in-Sync-clause-took g c =
       ends = c.step-in-Sync.ensures.ends;
       moves = c.step-in-Sync.ensures.moves;
       crash = c.step-in-Sync.ensures.crash;
-      keeps = c.step-in-Sync.ensures.keeps;
     })

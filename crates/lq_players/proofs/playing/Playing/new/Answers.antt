@@ -1,9 +1,10 @@
 use Rattle.std.proofs.Common.{ap, refl, ◌∙◌}
 use Rattle.lq_players.proofs.Taking.{fresh_by}
+use Rattle.lq_players.proofs.Told.{not_none}
 use Rattle.lq_players.proofs.playing.Playing.new.Goals as goal
 
 pub returns-clause-new : goal.returns-clause-new
-returns-clause-new g c = λ n. record { begun = refl; answer = refl; opens = refl; faulted = refl }
+returns-clause-new g c = λ n. record { begun = refl; answer = refl; opens = refl; faulted = refl; owes = λ why owed. not_none c.new.result.fault owed.0 owed.1 c.new.ensures.unstopped.0 }
 
 pub returns-clause-ready : goal.returns-clause-ready
 returns-clause-ready g c = λ none. fresh_by g.T.Source.reads c.new.result c.args.command c.args.dialect c.args.stamp c.new.ensures.command c.new.ensures.source c.requires.reads c.requires.moment c.new.ensures.unstopped

@@ -18,7 +18,7 @@ returns-in-Ok-clause-later g c = c.in-Ok.ensures.faults.later
 pub returns-in-Err-clause-begins : goal.returns-in-Err-clause-begins
 returns-in-Err-clause-begins g c =
     subst (λ r. Begins c.args.self.now.runner.dialect c.args.self.now.runner.stamp c.args.session (g.S.Store.state c.args.store.now) (g.S.Store.state c.take_lock.new.store) c.args.self.now.begun c.args.self.now.answer c.args.self.now.faulted c.fail.new.self.begun c.fail.new.self.answer c.fail.new.self.faulted r) (sym c.fail.ensures.answers.2)
-    (c.fail.ensures.begun, c.fail.ensures.answers.0, c.fail.ensures.answers.1)
+    (c.fail.ensures.begun, c.fail.ensures.answers.0, c.fail.ensures.answers.1, (c.in-Err.fault, refl, c.in-Err.ensures.does))
 
 pub returns-in-Err-clause-beside : goal.returns-in-Err-clause-beside
 returns-in-Err-clause-beside g c =

@@ -32,6 +32,3 @@ returns-clause-met g c = c.play.ensures.took.met
 
 pub returns-clause-crash : goal.returns-clause-crash
 returns-clause-crash g c = c.play.ensures.took.crash
-
-pub returns-clause-keeps : goal.returns-clause-keeps
-returns-clause-keeps g c = c.play.ensures.took.keeps

@@ -1,0 +1,114 @@
+-- A machine whose runners may meet faults of the store.
+use Rattle.std.specs.Prelude.{List, None, Option, Some, [], false, if◌then◌else◌, nat_eq, true, ℕ, ◌+◌, ◌++◌, ◌∷◌, ◌≡◌, ◌⊎◌}
+use Rattle.lq_base.specs.declared.dialect.Dialect.{Dialect}
+use Rattle.lq_base.specs.declared.tracking.Lock.{Lock}
+use Rattle.lq_drill.specs.Shows.{entries_of}
+use Rattle.lq_drill.specs.declared.fault.DrillFault.{DrillFault}
+use Rattle.lq_drill.specs.declared.fault.DrillFault.TheVariants as fault
+use Rattle.lq_store.specs.Journal.{end_of, is_full, size_of_all}
+use Rattle.lq_turns.specs.Schedule.{Holder, Job, Machine, all_moved, appended, has_begun, moved}
+use Rattle.lq_turns.specs.Script.{closing}
+use Rattle.lq_turns.specs.Serial.{is_early}
+use Rattle.lq_turns.specs.Session.{Session, room_of, session_on}
+use Rattle.lq_turns.specs.declared.call.Call.{Call}
+use Rattle.lq_turns.specs.declared.call.Call.TheVariants.{Abort}
+use Rattle.lq_turns.specs.declared.deed.Deed.{Deed}
+use Rattle.lq_turns.specs.declared.deed.Deed.TheVariants.{Locks}
+use Rattle.lq_turns.specs.declared.deed.OnLock.TheVariants.{Freed}
+
+-- what a runner answered, if it did
+abbrev pub answer_of : {Answer : Type 0} → ℕ → List (ℕ × Answer) → Option Answer
+answer_of n [] = None
+answer_of n (a ∷ more) = if nat_eq a.0 n then Some a.1 else answer_of n more
+
+-- the calls that are left to a holder that met a fault: it takes its transaction back, if it has one open, and frees the lock
+abbrev pub last_calls : Session → List Call
+last_calls s = if s.is_open then Abort ∷ closing ∷ [] else closing ∷ []
+
+-- the entry that frees the lock
+abbrev pub freed : List (List Deed)
+freed = (Locks Freed ∷ []) ∷ []
+
+module _ {Answer : Type 0} {as_locked : Lock → Answer} {busy : ℕ → Answer} where
+  -- the holder, where it is this runner
+  abbrev pub held_by : ℕ → Option (Holder Answer as_locked busy) → Option (Holder Answer as_locked busy)
+  held_by n None = None
+  held_by n (Some h) = if nat_eq h.runner n then Some h else None
+
+  module _ (failed : DrillFault → Answer) where
+    -- the holder makes no other calls, and then answers the fault
+    abbrev pub gives_up : DrillFault → Holder Answer as_locked busy → Machine Answer as_locked busy → Machine Answer as_locked busy
+    gives_up why h x = record x { holder = Some (record h { rest = last_calls h.session; answer = failed why }) }
+
+    -- no runner has answered a fault
+    abbrev pub IsGoing : Machine Answer as_locked busy → Type 0
+    IsGoing x = (n : ℕ) (why : DrillFault) → answer_of n x.answers ≡ Some (failed why) → ⊥
+
+    module _ (d : Dialect) (jobs : ℕ → Job Answer as_locked busy) where
+      -- In its step the holder of this number met a fault: it gives up, and may have made the next of the calls that are left to it.
+      pub record Falls (n : ℕ) (x z : Machine Answer as_locked busy) : Type 0 where
+        pub why : DrillFault
+        pub holder : Holder Answer as_locked busy
+        pub held : held_by n x.holder ≡ Some holder
+        pub locked : x.committed.lock.locked ≡ true
+        -- without a transaction nothing is begun
+        pub rests : holder.session.is_open ≡ false → holder.session.begun ≡ []
+        pub is : (z ≡ gives_up why holder x) ⊎ (z ≡ moved Answer as_locked busy d jobs n (gives_up why holder x))
+
+      -- one number of a schedule: a step of the machine; or, where its runner met a fault, that
+      abbrev pub Steps : Type 0 → ℕ → Machine Answer as_locked busy → Machine Answer as_locked busy → Type 0
+      Steps met n x z = (z ≡ moved Answer as_locked busy d jobs n x) ⊎ (met × Falls n x z)
+
+      -- The steps of a schedule lead from one machine to another, where these runners met faults. One that has answered a fault ends them.
+      abbrev pub Comes : (ℕ → Type 0) → List ℕ → Machine Answer as_locked busy → Machine Answer as_locked busy → Type 0
+      Comes met [] x z = x ≡ z
+      Comes met (n ∷ ns) x z = IsGoing x × ((y : Machine Answer as_locked busy) × Steps (met n) n x y × Comes met ns y z)
+
+      -- On the way a runner that does not need the lock made its first call, while one that had met a fault still had it.
+      pub record FreesEarly (met : ℕ → Type 0) (steps : List ℕ) (x z : Machine Answer as_locked busy) : Type 0 where
+        pub before : List ℕ
+        pub next : ℕ
+        pub later : List ℕ
+        pub is : steps ≡ before ++ next ∷ later
+        pub now : Machine Answer as_locked busy
+        pub came : Comes met before x now
+        pub holder : Holder Answer as_locked busy
+        pub held : now.holder ≡ Some holder
+        pub gave_up : (why : DrillFault) × (holder.answer ≡ failed why)
+        pub early : is_early Answer as_locked busy d jobs next now ≡ true
+        pub unlocked : (jobs next).needs_lock ≡ false
+        pub goes_on : Comes met (next ∷ later) now z
+
+      -- the entries of the machine without faults after some of the steps, and then perhaps one that frees the lock
+      pub record FreesAtMostOnce (steps : List ℕ) (x z : Machine Answer as_locked busy) : Type 0 where
+        pub front : List ℕ
+        pub rest : List ℕ
+        pub is : steps ≡ front ++ rest
+        pub tail : List (List Deed)
+        pub once : (tail ≡ []) ⊎ (tail ≡ freed)
+        pub entries : z.entries ≡ (all_moved Answer as_locked busy d jobs front x).entries ++ tail
+
+      -- the next call of a runner, its first one or one of the lock's holder, and the session that makes it
+      abbrev pub IsNext : ℕ → Machine Answer as_locked busy → Call → Session → Type 0
+      IsNext n x call s = ((h : Holder Answer as_locked busy) × (rest : List Call) × (held_by n x.holder ≡ Some h) × (h.rest ≡ call ∷ rest) × (s ≡ h.session))
+          ⊎ ((rest : List Call) × (has_begun Answer as_locked busy n x ≡ false) × ((jobs n).script x.committed ≡ call ∷ rest) × (s ≡ session_on x.committed))
+
+      -- the entries of its next call do not go into a journal with this limit, of which so many bytes were filled at the start
+      pub record HasNoRoom (filled limit : ℕ) (n : ℕ) (x : Machine Answer as_locked busy) (used next : ℕ) : Type 0 where
+        pub call : Call
+        pub session : Session
+        pub is_next : IsNext n x call session
+        pub used_is : used ≡ filled + size_of_all (entries_of d x.entries)
+        pub next_is : next ≡ size_of_all (entries_of d (appended d call session))
+        pub full : is_full (end_of (room_of call) limit) used (entries_of d (appended d call session)) ≡ true
+
+      abbrev pub HasCause : ℕ → ℕ → ℕ → Machine Answer as_locked busy → DrillFault → Type 0
+      HasCause filled limit n x fault.Disk = Unit {0}
+      HasCause filled limit n x (fault.Full used next) = HasNoRoom filled limit n x used next
+      HasCause filled limit n x fault.OutOfMemory = Unit {0}
+
+      -- A runner meets a fault in its step: at its next call, or, having given up in this step, at the one that is left.
+      pub record Meets (filled limit : ℕ) (n : ℕ) (x : Machine Answer as_locked busy) (why : DrillFault) : Type 0 where
+        pub at : Machine Answer as_locked busy
+        pub is : (at ≡ x) ⊎ ((other : DrillFault) × (h : Holder Answer as_locked busy) × (held_by n x.holder ≡ Some h) × (at ≡ gives_up other h x))
+        pub cause : HasCause filled limit n at why

@@ -1,0 +1,162 @@
+-- A command by itself is the one runner of a machine.
+use Rattle.std.proofs.Common.{ap, append-nil, inl, inr, refl, subst, sym, ◌∙◌}
+use Rattle.std.specs.Option.{option_map}
+use Rattle.std.specs.Prelude.{List, None, Option, Some, [], false, is_some, true, ℕ, ◌++◌, ◌≡◌, ◌⊎◌}
+use Rattle.lq_base.specs.declared.command.Command.{Command}
+use Rattle.lq_base.specs.declared.dialect.Dialect.{Dialect}
+use Rattle.lq_cli.specs.declared.line.Job.{Job}
+use Rattle.lq_cli.specs.declared.line.Job.TheVariants.{Run}
+use Rattle.lq_commands.specs.Refusals.{refusal}
+use Rattle.lq_commands.specs.Scripts.{script}
+use Rattle.lq_commands.specs.Works.{is_finished}
+use Rattle.lq_commands.specs.declared.given.Given.{Given}
+use Rattle.lq_db.specs.Log.{entries_in}
+use Rattle.lq_drill.specs.Faults.{answer_of, freed}
+use Rattle.lq_kinds.specs.declared.any_change.AnyChange.{AnyChange}
+use Rattle.lq_players.specs.Checked.{Work}
+use Rattle.lq_players.specs.Drilling.{works}
+use Rattle.lq_run.specs.Stands.{entries_of}
+use Rattle.lq_store.specs.Journal.{Entry}
+use Rattle.lq_tell.specs.declared.status.Status.{Status}
+use Rattle.lq_tell.specs.declared.status.Status.TheVariants as status
+use Rattle.lq_track.specs.Database.{Database}
+use Rattle.lq_turns.specs.Jobs.{Task}
+use Rattle.lq_turns.specs.Stops.{Journal}
+use Rattle.lq_turns.specs.declared.answer.Answer.{Answer}
+use Rattle.lq_turns.specs.declared.answer.Answer.TheVariants.{Busy, Locked}
+use Rattle.lq_turns.specs.declared.call.Call.{Call}
+use Rattle.lq_turns.specs.declared.stamp.Stamp.{Stamp}
+use Rattle.lq_top.proofs.AsRunner.{calls_same, checked_of, last_answer, last_finished, refusal_told, status_said, task_of}
+use Rattle.lq_top.proofs.OneRunner.{Follows, follows, refused}
+use Rattle.lq_top.proofs.Unchanged.{becomes_same, left_same}
+use Rattle.lq_top.specs.Alone.{EndsWith, HasAnswered, IsCutShort, TakesSteps, WasCutShort, status_of}
+use Rattle.lq_top.specs.Asks.{Asks, Files}
+use Rattle.lq_top.specs.Bytes.{Becomes, Holds, IsLeftOn, Opens, most_bytes}
+use Rattle.lq_top.specs.Jobs.{is_on_file}
+use Rattle.lq_top.specs.Run.{EndsBy, IsOutside, Runs, RunsJob, given_by, is_end, is_over}
+use Rattle.lq_top.specs.Says.{Said, SaysJob}
+
+false_true : false ≡ true → ⊥
+false_true h = Prim.cc
+
+-- a run that ended came to its end, or its text could not be written, or the journal was full
+ended_as : (s : Status) → is_end s ≡ true → ((is_finished s ≡ true) × (is_over s ≡ true)) ⊎ ((s ≡ status.WriteFault) ⊎ ((used : ℕ) × (next : ℕ) × (s ≡ status.Full used next)))
+ended_as status.Done end = inl (refl, refl)
+ended_as status.Usage end = absurd (false_true end)
+ended_as status.ReadFault end = absurd (false_true end)
+ended_as (status.Changelog fault) end = absurd (false_true end)
+ended_as (status.Invalid faults) end = absurd (false_true end)
+ended_as (status.Locked lock) end = absurd (false_true end)
+ended_as (status.Halted place why) end = inl (refl, refl)
+ended_as (status.Refused identity statement kept reason) end = inl (refl, refl)
+ended_as status.NoTarget end = absurd (false_true end)
+ended_as (status.NotReversible identity) end = absurd (false_true end)
+ended_as status.DiskFault end = absurd (false_true end)
+ended_as (status.Damaged at) end = absurd (false_true end)
+ended_as (status.Full used next) end = inr (inr (used, next, refl))
+ended_as status.WriteFault end = inr (inl refl)
+ended_as status.OutOfMemory end = absurd (false_true end)
+ended_as (status.Busy session) end = absurd (false_true end)
+
+outside_not_over : (s : Status) → IsOutside s → is_over s ≡ false
+outside_not_over s (inl read) = ap is_over read
+outside_not_over s (inr (inl disk)) = ap is_over disk
+outside_not_over s (inr (inr memory)) = ap is_over memory
+
+-- the journal that a stop left, as a front and what frees the lock
+abbrev Cut : Journal → Journal → Type 0
+Cut front written = (tail : Journal) × ((tail ≡ []) ⊎ (tail ≡ freed)) × (written ≡ front ++ tail)
+
+cut_of : {A : Type 0} (front written : Journal) → (written ≡ front) ⊎ ((written ≡ front ++ freed) × A) → Cut front written
+cut_of front written (inl is) = ([], inl refl, is ∙ sym (append-nil front))
+cut_of front written (inr is) = (freed, inr refl, is.0)
+
+module _ (d : Dialect) (task : Task AnyChange) (database : Database) (before : Option (List ℕ)) (s : Status) (after : Option (List ℕ)) where
+  abbrev jobs : ℕ → Work
+  jobs = works d (λ n. task)
+
+  abbrev Makes : List Call → Answer → Type 0
+  Makes calls a = Follows Answer Locked Busy d jobs database calls a
+
+  answered : (calls : List Call) (a : Answer) → Makes calls a → EndsWith a s → Becomes d calls database before after → HasAnswered d task database before s after
+  answered calls a made ends becomes = record {
+    steps = made.steps;
+    said = a;
+    gave = ap (answer_of 1) made.answers;
+    first = λ k few. ap (answer_of 1) (made.silent k few);
+    ends = ends;
+    file = record {
+      holds = subst (Holds d after) (sym made.committed) becomes.holds;
+      entries = becomes.entries ∙ ap (λ (es : Journal). option_map (λ (entries : List Entry). entries ++ entries_of d es) (entries_in d most_bytes before)) (sym made.entries);
+    };
+  }
+
+  cut_short : (calls : List Call) (a : Answer) → Makes calls a → IsCutShort s → IsLeftOn d calls database before after → WasCutShort d task database before s after
+  cut_short calls a made cause left =
+      let it : Cut left.stops.front left.written = cut_of left.stops.front left.written left.stops.is in
+      record {
+        cause = cause;
+        steps = made.steps;
+        front = left.stops.front;
+        rest = left.stops.rest;
+        brought = made.entries ∙ left.stops.entries;
+        tail = it.0;
+        once = it.1;
+        entries = left.entries ∙ ap (λ (es : Journal). option_map (λ (entries : List Entry). entries ++ entries_of d es) (entries_in d most_bytes before)) it.2;
+      }
+
+module _ (c : Command) (given : Given) (database : Database) (before : Option (List ℕ)) (s : Status) (after out written : Option (List ℕ)) (opens : Opens given.options.dialect before database)
+    (ran : RunsJob (Run c) given database before s after) (says : is_finished s ≡ true → SaysJob (Run c) given database s out written) where
+  abbrev Goes : Type 0
+  Goes = HasAnswered given.options.dialect (task_of given c) database before s after ⊎ WasCutShort given.options.dialect (task_of given c) database before s after
+
+  abbrev its_jobs : ℕ → Work
+  its_jobs = works given.options.dialect (λ n. task_of given c)
+
+  abbrev MakesIts : List Call → Answer → Type 0
+  MakesIts calls a = Follows Answer Locked Busy given.options.dialect its_jobs database calls a
+
+  -- its checks refuse it, and the file is as it was
+
+  refused_goes : (a : Answer) → MakesIts [] a → after ≡ before → (s ≡ status_of a) ⊎ IsOutside s → Goes
+  refused_goes a made same (inl is) = inl (answered given.options.dialect (task_of given c) database before s after [] a made (inl is) (becomes_same given.options.dialect database before after opens same))
+  refused_goes a made same (inr out) = inr (cut_short given.options.dialect (task_of given c) database before s after [] a made (inl out) (left_same given.options.dialect [] database before after opens same))
+
+  -- or it makes its calls
+
+  module _ (made : MakesIts (script c given database) (last_answer given database c)) where
+    cut_goes : IsCutShort s → is_over s ≡ false → Goes
+    cut_goes cause stopped = inr (cut_short given.options.dialect (task_of given c) database before s after (script c given database) (last_answer given database c) made cause (ran.left stopped))
+
+    over_goes : EndsWith (last_answer given database c) s → is_over s ≡ true → Goes
+    over_goes ends over = inl (answered given.options.dialect (task_of given c) database before s after (script c given database) (last_answer given database c) made ends (ran.works over))
+
+    end_goes : ((is_finished s ≡ true) × (is_over s ≡ true)) ⊎ ((s ≡ status.WriteFault) ⊎ ((used : ℕ) × (next : ℕ) × (s ≡ status.Full used next))) → Goes
+    end_goes (inl both) = over_goes (inl (status_said given database c s out written (says both.0))) both.1
+    end_goes (inr (inl is)) = over_goes (inr (last_finished given database c, is)) (ap is_over is)
+    end_goes (inr (inr full)) = cut_goes (inr full) (ap is_over full.2)
+
+    made_goes : (is_end s ≡ true) ⊎ IsOutside s → Goes
+    made_goes (inl end) = end_goes (ended_as s end)
+    made_goes (inr out) = cut_goes (inl out) (outside_not_over s out)
+
+  by_checks : (o : Option Answer) → checked_of given database c ≡ o → Goes
+  by_checks (Some a) is =
+      let refusal_is : refusal c given database ≡ Some (status_of a) = refusal_told given database c ∙ ap (option_map status_of) is in
+      refused_goes a (refused Answer Locked Busy given.options.dialect its_jobs database a is) (ran.refused (ap is_some refusal_is)) (subst (λ (o : Option Status). EndsBy o s) refusal_is ran.ends)
+  by_checks None is =
+      let refusal_is : refusal c given database ≡ None = refusal_told given database c ∙ ap (option_map status_of) is in
+      made_goes
+      (subst (λ (calls : List Call). MakesIts calls (last_answer given database c)) (calls_same given database c) (follows Answer Locked Busy given.options.dialect its_jobs database is))
+      (subst (λ (o : Option Status). EndsBy o s) refusal_is ran.ends)
+
+  goes : Goes
+  goes = by_checks (checked_of given database c) refl
+
+pub takes_steps : {words : List (List ℕ)} {files : Files} (asks : Asks words files) (stamp : Stamp) (before : Option (List ℕ)) (s : Status) (after out written : Option (List ℕ)) → Runs asks stamp before s after → Said asks stamp before s out written
+    → TakesSteps asks stamp before s after
+takes_steps asks stamp before s after out written runs said c is database opens =
+    let given : Given = given_by asks stamp in
+    goes c given database before s after out written opens
+    (subst (λ (job : Job). RunsJob job given database before s after) is (runs (ap is_on_file is) database opens))
+    (λ finished. subst (λ (job : Job). SaysJob job given database s out written) is (said database opens finished))
