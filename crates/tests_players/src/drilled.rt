@@ -72,13 +72,15 @@ fn loaded<D: Disk + Drop, P: SqlText + Drop + Copy, E: Executor + Drop>(
     disk: D,
     sql: P,
     dialect: Dialect,
+    limit: u64,
     lines: &str,
     steps: &[u32],
 ) -> (D, String)
     requires sql { P.dialect ≡ dialect }
+    requires limit { (8192 ≤ limit) × (limit ≤ 65536) }
 {
     let loaded: Result<Db<D, P, E>, LoadRefused<D, LoadFault>> = Db::load(
-        alloc, disk, dialect, sql, 65536,
+        alloc, disk, dialect, sql, limit,
     );
     match loaded {
         Ok(mut db) => {
@@ -89,6 +91,27 @@ fn loaded<D: Disk + Drop, P: SqlText + Drop + Copy, E: Executor + Drop>(
             let told = String::from_str(alloc, "not loaded").expect(rt, "memory");
             (refused.disk, told)
         }
+    }
+}
+
+fn drilled_on(
+    rt: &impl Abort,
+    alloc: Global,
+    dialect: Dialect,
+    limit: u64,
+    disk: MemDisk,
+    lines: &str,
+    steps: &[u32],
+) -> (MemDisk, String)
+    requires limit { (8192 ≤ limit) × (limit ≤ 65536) }
+{
+    match dialect {
+        Dialect::Postgresql => {
+            loaded::<MemDisk, Pg, Engine>(rt, alloc, disk, Pg, dialect, limit, lines, steps)
+        },
+        Dialect::Mysql => {
+            loaded::<MemDisk, My, Engine>(rt, alloc, disk, My, dialect, limit, lines, steps)
+        },
     }
 }
 
@@ -104,12 +127,18 @@ pub fn drilled(
 ) -> (MemDisk, String) {
     let fail = Vec::from_slice(alloc, &[failing]).expect(rt, "memory");
     let disk = MemDisk::new(Vec::new(alloc), fail);
-    match dialect {
-        Dialect::Postgresql => {
-            loaded::<MemDisk, Pg, Engine>(rt, alloc, disk, Pg, dialect, lines, steps)
-        },
-        Dialect::Mysql => {
-            loaded::<MemDisk, My, Engine>(rt, alloc, disk, My, dialect, lines, steps)
-        },
-    }
+    drilled_on(rt, alloc, dialect, 65536, disk, lines, steps)
+}
+
+/// The same on a disk that does not fail, with a journal of at most 8,192 bytes, of which the last 4,096
+/// are for what frees the lock.
+pub fn drilled_in_little(
+    rt: &impl Abort,
+    alloc: Global,
+    dialect: Dialect,
+    lines: &str,
+    steps: &[u32],
+) -> (MemDisk, String) {
+    let disk = MemDisk::new(Vec::new(alloc), Vec::new(alloc));
+    drilled_on(rt, alloc, dialect, 8192, disk, lines, steps)
 }

@@ -9,6 +9,8 @@ mod drilled;
 #[cfg(test)]
 mod faults;
 #[cfg(test)]
+mod full;
+#[cfg(test)]
 mod given;
 #[cfg(test)]
 mod interleaved;
