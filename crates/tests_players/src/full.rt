@@ -66,13 +66,11 @@ fn a_command_without_room_takes_its_turn_back(rt: HostRuntime) {
 }
 
 // A lock with a mark stays: of the changeset that is taken back one statement is undone.
-const MYSQL: [Full; 1] = [
-    (
-        ("update/rollback-count 3/update", "1*60 2*60"),
-        "1 done, 2 full 4079 + 130, 3 unfinished, ended by a full journal",
-        ("update/rollback-count 3", "1*60 2*16"),
-    ),
-];
+const MYSQL: [Full; 1] = [(
+    ("update/rollback-count 3/update", "1*60 2*60"),
+    "1 done, 2 full 4079 + 130, 3 unfinished, ended by a full journal",
+    ("update/rollback-count 3", "1*60 2*16"),
+)];
 
 #[test]
 fn where_statements_are_noted_the_lock_stays_held(rt: HostRuntime) {
