@@ -3,6 +3,7 @@ mod Begun
 mod Chosen
 mod Coming
 mod Kept
+mod NoRows
 mod Placed
 mod Planned
 mod Reached

@@ -29,7 +29,7 @@ use Rattle.lq_model.specs.declared.constraint.Key.{Key}
 use Rattle.lq_model.specs.declared.constraint.Unique.{Unique}
 use Rattle.lq_model.specs.declared.index.Index.{Index}
 use Rattle.lq_model.specs.declared.query.Query.{Query}
-use Rattle.lq_sets.specs.Seen.{ConditionsSee, IsSeen}
+use Rattle.lq_sets.specs.Seen.{ConditionsSee, Suffice}
 use Rattle.lq_track.specs.Database.{Database}
 
 abbrev as_told : Bool → Result Bool Reason
@@ -84,6 +84,6 @@ conditions_see d asked rows c database stands =
     sym (ap (λ u. told d asked u rows) (users_are d c database stands)
     ∙ told_same c d rows (λ q. sym (ap (answer User q) (users_are d c database stands)) ∙ queries_see d q c database stands) asked)
 
--- and where the rows are the database's
-pub seen_so : (d : Dialect) (asked : Cond) (rows : List Tracked) (c : Catalogue) (database : Database) → IsSeen d c rows database → told d asked c rows ≡ told d asked database.users database.rows
-seen_so d asked rows c database seen = conditions_see d asked rows c database seen.stands ∙ ap (told d asked database.users) (sym seen.rows_are)
+-- the rows of a database tell what it tells
+pub rows_suffice : (d : Dialect) (asked : Cond) (rows : List Tracked) (database : Database) → database.rows ≡ rows → Suffice d asked database rows
+rows_suffice d asked rows database same = ap (told d asked database.users) same

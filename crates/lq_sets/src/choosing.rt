@@ -3,10 +3,11 @@ ghost use Rattle.lq_base.specs.declared.reason.Reason.{Reason};
 ghost use Rattle.lq_cond.specs.Told.{IsTold};
 ghost use Rattle.lq_cond.specs.declared.cond.Cond.{Cond};
 ghost use Rattle.lq_expr.specs.declared.options.Options.{Options};
-ghost use Rattle.lq_sets.specs.Seen.{IsSeen, is_fill};
+ghost use Rattle.lq_sets.specs.Seen.{IsSeen, Suffice, is_fill};
 ghost use Rattle.lq_seen.specs.View.{condition_of, view, view_log};
 ghost use Rattle.lq_track.specs.Database.{Database};
 ghost use Rattle.lq_turns.specs.Contents.{contents_of};
+ghost use Rattle.lq_turns.specs.Held.{StandsFor};
 ghost use Rattle.lq_turns.specs.Settle.{choice_of, own_choice, reacted, tested};
 
 use crate::condition::holds;
@@ -55,7 +56,7 @@ fn by_condition<K: Look>(
     rows: &[Tracked],
 ) -> Result<Choice, NoMemory>
     requires { is_fill what ≡ false }
-    ensures { IfOk result (λ made. (options : Options) (database : Database) → options.dialect ≡ dialect → IsSeen dialect (K.catalogue look.now) rows.now database → made ≡ choice_of (view options set.now) (contents_of database) (Some what)) }
+    ensures { IfOk result (λ made. (options : Options) (database : Database) → options.dialect ≡ dialect → StandsFor dialect (K.catalogue look.now) database → Suffice dialect set.now.cond database rows.now → made ≡ choice_of (view options set.now) (contents_of database) (Some what)) }
 {
     let answer = holds(alloc, &set.cond, dialect, look, rows);
     let made = tested(what, set.on_fail, set.on_error, answer)?;
@@ -63,8 +64,8 @@ fn by_condition<K: Look>(
 }
 
 /// What a changeset does whose turn, by its row, is this (Liquibase's documentation,
-/// "Preconditions"): by what its precondition tells of the database that is seen, whose rows in run
-/// order these are. A checksum is filled in without a look at the precondition.
+/// "Preconditions"): by what its precondition tells of the database that is seen, where these rows
+/// tell it as much as the database's own. A checksum is filled in without a look at the precondition.
 pub fn choice<K: Look>(
     alloc: Global,
     what: What,
@@ -73,7 +74,7 @@ pub fn choice<K: Look>(
     look: &K,
     rows: &[Tracked],
 ) -> Result<Choice, NoMemory>
-    ensures { IfOk result (λ made. (options : Options) (database : Database) → options.dialect ≡ dialect → IsSeen dialect (K.catalogue look.now) rows.now database → made ≡ choice_of (view options set.now) (contents_of database) (Some what)) }
+    ensures { IfOk result (λ made. (options : Options) (database : Database) → options.dialect ≡ dialect → StandsFor dialect (K.catalogue look.now) database → Suffice dialect set.now.cond database rows.now → made ≡ choice_of (view options set.now) (contents_of database) (Some what)) }
 {
     match what {
         What::Fill => Ok(Choice::Fills),

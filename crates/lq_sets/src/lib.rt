@@ -9,6 +9,7 @@ mod heads;
 mod in_hand;
 mod laws;
 mod planning;
+mod rows_asked;
 mod seen_choice;
 mod set_hand;
 mod set_turns;

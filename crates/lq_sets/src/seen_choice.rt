@@ -9,6 +9,7 @@ ghost use Rattle.lq_turns.specs.Held.{StandsFor};
 ghost use Rattle.lq_turns.specs.Settle.{choice_of};
 
 use crate::choosing::choice;
+use crate::rows_asked::asks_rows;
 use lq_base::{Dialect, Items, NoMemory, Tracked};
 use lq_cond::Cond;
 use lq_kinds::ChangeSet;
@@ -18,7 +19,7 @@ use lq_turns::{Choice, What};
 use std::alloc::Global;
 
 /// What a changeset does in the database that is seen, whose turn, by its row, is this. Where it has
-/// no precondition nothing is looked at.
+/// no precondition nothing is looked at, and where that asks for no row none is read.
 pub fn seen_choice<K: Look>(
     alloc: Global,
     what: What,
@@ -30,6 +31,10 @@ pub fn seen_choice<K: Look>(
 {
     if is_empty(&set.cond) {
         return Ok(unasked(what));
+    }
+    if !asks_rows(&set.cond) {
+        let made = choice(alloc, what, set, dialect, look, &[])?;
+        return Ok(made);
     }
     let rows = rows_seen(alloc, dialect, look)?;
     let made = choice(alloc, what, set, dialect, look, rows.as_slice())?;

@@ -1,12 +1,13 @@
-use Rattle.std.proofs.Common.{◌∙◌}
-use Rattle.lq_cond.specs.Told.{told}
+use Rattle.std.proofs.Common.{subst, sym, ◌∙◌}
+use Rattle.lq_cond.specs.Told.{IsTold, told}
 use Rattle.lq_sets.proofs.Chosen.{choice_so, in_dialect}
 use Rattle.lq_sets.proofs.choosing.by_condition.Goals as goal
 use Rattle.lq_seen.specs.View.{view}
 use Rattle.lq_turns.specs.Contents.{contents_of}
 
 pub returns : goal.returns
-returns g c = λ options database same seen.
-    c.in_ok-made.ensures (told c.args.dialect c.args.set.now.cond database.users database.rows) c.args.dialect c.args.set.now.cond (c.holds-answer.ensures database seen)
+returns g c = λ options database same stands suffice.
+    c.in_ok-made.ensures (told c.args.dialect c.args.set.now.cond database.users database.rows) c.args.dialect c.args.set.now.cond
+    (subst (λ m. IsTold m c.holds-answer.result) (sym suffice) (c.holds-answer.ensures database stands))
     ∙ (in_dialect c.args.what c.args.set.now.cond c.args.set.now.on_fail c.args.set.now.on_error database c.args.dialect options.dialect same
     ∙ choice_so (view options c.args.set.now) (contents_of database) c.args.what c.requires)
