@@ -53,6 +53,7 @@ module _ (Answer : Type 0) (locked : Lock → Answer) (busy : ℕ → Answer) {X
     begun = refl;
     entries = shows.entries;
     used = shows.used;
+    room = shows.room;
   })
 
   clean_follows : (ns : List ℕ) (ps : List X) (y z : State) → Each standing IsFaultless ps → (y.live ≡ true → z ≡ aborted y) → Follows standing jobs origin database failed ns ps y → IsDrilled standing jobs origin database ns ps z

@@ -27,6 +27,10 @@ behind_both : (first more : List Entry) (entries : Option (List Entry)) → opti
 behind_both first more None = refl
 behind_both first more (Some e) = ap (λ l. Some l) (append_assoc e first more)
 
+no_entry : {A : Type 0} (front : List A) (entry : A) (rest : List A) → [] ≡ front ++ entry ∷ rest → ⊥
+no_entry [] entry rest is = cc
+no_entry (first ∷ front) entry rest is = cc
+
 none_is_some : {A B : Type 0} (o : Option A) (a : A) → o ≡ None → o ≡ Some a → B
 none_is_some None a none is = cc
 none_is_some (Some b) a none is = cc
@@ -106,6 +110,7 @@ module _ (Answer : Type 0) (locked : Lock → Answer) (busy : ℕ → Answer) {X
       begun = closed;
       entries = nothing_behind origin.entries;
       used = none_used origin.used;
+      room = λ front deeds rest is. absurd (no_entry front deeds rest is);
     };
     plays = λ place p there.
         let it = new place p there in record {

@@ -6,9 +6,9 @@ use Rattle.lq_drill.specs.Shows.{entries_of}
 use Rattle.lq_drill.specs.declared.fault.DrillFault.{DrillFault}
 use Rattle.lq_drill.specs.declared.fault.DrillFault.TheVariants as fault
 use Rattle.lq_store.specs.Journal.{end_of, is_full, size_of_all}
-use Rattle.lq_turns.specs.Schedule.{Holder, Job, Machine, all_moved, appended, has_begun, moved}
+use Rattle.lq_turns.specs.Schedule.{Holder, Job, Machine, all_moved, appended, moved}
 use Rattle.lq_turns.specs.Script.{closing}
-use Rattle.lq_turns.specs.Serial.{is_early}
+use Rattle.lq_turns.specs.Serial.{is_early, makes_first}
 use Rattle.lq_turns.specs.Session.{Session, room_of, session_on}
 use Rattle.lq_turns.specs.declared.call.Call.{Call}
 use Rattle.lq_turns.specs.declared.call.Call.TheVariants.{Abort}
@@ -88,10 +88,10 @@ module _ {Answer : Type 0} {as_locked : Lock → Answer} {busy : ℕ → Answer}
         pub once : (tail ≡ []) ⊎ (tail ≡ freed)
         pub entries : z.entries ≡ (all_moved Answer as_locked busy d jobs front x).entries ++ tail
 
-      -- the next call of a runner, its first one or one of the lock's holder, and the session that makes it
+      -- the next call that a runner makes, its first one or one of the lock's holder, and the session that makes it
       abbrev pub IsNext : ℕ → Machine Answer as_locked busy → Call → Session → Type 0
       IsNext n x call s = ((h : Holder Answer as_locked busy) × (rest : List Call) × (held_by n x.holder ≡ Some h) × (h.rest ≡ call ∷ rest) × (s ≡ h.session))
-          ⊎ ((rest : List Call) × (has_begun Answer as_locked busy n x ≡ false) × ((jobs n).script x.committed ≡ call ∷ rest) × (s ≡ session_on x.committed))
+          ⊎ ((rest : List Call) × (makes_first Answer as_locked busy d jobs n x ≡ true) × ((jobs n).script x.committed ≡ call ∷ rest) × (s ≡ session_on x.committed))
 
       -- the entries of its next call do not go into a journal with this limit, of which so many bytes were filled at the start
       pub record HasNoRoom (filled limit : ℕ) (n : ℕ) (x : Machine Answer as_locked busy) (used next : ℕ) : Type 0 where

@@ -35,7 +35,8 @@ pub trait Player {
         ensures { result ≡ is_some (standing self.now).answer };
 
     /// Looks at the database any number of times, and makes at most one call that writes. After a fault
-    /// of the store it may go on, and answers that fault in the end. Its session is always the same.
+    /// of the store it may go on, and answers that fault in the end, or that its lock is gone. Its session
+    /// is always the same.
     fn step<S: Store, P: SqlText>(
         &mut self,
         session: u32,

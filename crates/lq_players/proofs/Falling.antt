@@ -52,7 +52,7 @@ given_calls n x h why call calls unanswered begun held next = record { unanswere
 pub given_shows : (origin w : State) (n : ℕ) (x : Runs) (h : Held) (why : DrillFault) → held_by n x.holder ≡ Some h → Shows origin w x → Shows origin w (given why h x)
 given_shows origin w n x h why held shows =
     let holders : IsHolders origin.dialect x.committed (Some h) w.begun = subst (λ o. IsHolders origin.dialect x.committed o w.begun) (holder_is n x.holder h held).0 shows.begun in
-    record { dialect = shows.dialect; limit = shows.limit; live = shows.live; committed = shows.committed; begun = holders; entries = shows.entries; used = shows.used }
+    record { dialect = shows.dialect; limit = shows.limit; live = shows.live; committed = shows.committed; begun = holders; entries = shows.entries; used = shows.used; room = shows.room }
 
 -- a step that brought nothing
 pub brings_none : (d : Dialect) (jobs : ℕ → Work) (n : ℕ) (x : Runs) (w z : State) → z ≡ w → Brings d x (moved Answer Locked Busy d jobs n x) w z

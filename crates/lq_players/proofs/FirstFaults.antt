@@ -18,7 +18,7 @@ use Rattle.lq_model.specs.declared.fault.StoreFault.{StoreFault}
 use Rattle.lq_model.specs.declared.fault.StoreFault.TheVariants as fault
 use Rattle.lq_players.proofs.Failing.{lack_due}
 use Rattle.lq_players.proofs.Falling.{brings_none}
-use Rattle.lq_players.proofs.Machines.{Runs, first_calls, is_first}
+use Rattle.lq_players.proofs.Machines.{Runs, first_calls, is_first, makes_its_first}
 use Rattle.lq_players.proofs.Shown.{none_begun, stands_first}
 use Rattle.lq_players.specs.Answers.{failure_of, fault_of}
 use Rattle.lq_players.specs.Checked.{IsLetIn, MakesOne, MakesTurns, Work}
@@ -98,6 +98,7 @@ module _ (n : ℕ) (before after : Standing Answer Locked Busy) (w : State) (non
         -- it does not go in
         no_room : (used next : ℕ) → NoRoom d (room_of call) call first w used next → IsDue failure_of jobs n before origin x (drill.Full used next)
         no_room used next it =
+            let let_in : IsLetIn (jobs n) x.committed = subst (λ j. IsLetIn j x.committed) (sym (plays.waits none fresh)) may.1 in
             let written_is : it.written ≡ entries_of d (appended d call first) = it.appends.texts ∙ ap (entries_of d) (sym it.appends.entries) in
             let full : is_full (end_of (room_of call) origin.limit) used (entries_of d (appended d call first)) ≡ true
             = ap (λ (l : List Entry). is_full (end_of (room_of call) origin.limit) used l) (sym written_is) ∙ ap (λ u. is_full (end_of (room_of call) origin.limit) u it.written) it.full.1.0
@@ -105,7 +106,7 @@ module _ (n : ℕ) (before after : Standing Answer Locked Busy) (w : State) (non
             let cause : HasNoRoom failure_of d jobs origin.used origin.limit n x used next = record {
               call = call;
               session = first;
-              is_next = inr (calls, plays.begun none ∙ fresh, script_is, refl);
+              is_next = inr (calls, makes_its_first d jobs n x w.begun shut shows.begun call calls let_in may.0 passes script_is (plays.answer ∙ none) (plays.begun none ∙ fresh), script_is, refl);
               used_is = it.full.1.0 ∙ shows.used;
               next_is = it.full.1.1 ∙ ap size_of_all written_is;
               full = full;

@@ -2,7 +2,7 @@
 use Rattle.std.proofs.Common.{ap, arith, inl, inr, subst, sym, ◌∙◌}
 use Rattle.std.proofs.lemmas.Bool.Decides.{nat_tests}
 use Rattle.std.proofs.lemmas.List.{append-nil}
-use Rattle.std.specs.Prelude.{Bool, List, None, Option, Some, [], cond, false, if◌then◌else◌, is_some, nat_eq, refl, true, ℕ, ◌==◌, ◌&&◌, ◌++◌, ◌∷◌, ◌≡◌, ◌≢◌}
+use Rattle.std.specs.Prelude.{Bool, List, None, Option, Some, [], cond, false, if◌then◌else◌, is_none, is_some, nat_eq, not, refl, true, ℕ, ◌==◌, ◌&&◌, ◌++◌, ◌∷◌, ◌≡◌, ◌≢◌}
 use Rattle.lq_base.specs.declared.dialect.Dialect.{Dialect}
 use Rattle.lq_drill.proofs.Machines.{answered_is}
 use Rattle.lq_drill.specs.Player.{answer_of, held_by}
@@ -12,6 +12,7 @@ use Rattle.lq_players.specs.Judged.{AnswersFirst}
 use Rattle.lq_store.specs.State.{Transaction, is_open, other_in}
 use Rattle.lq_track.specs.Database.{Database}
 use Rattle.lq_turns.specs.Schedule.{Holder, Machine, after_call, answers_with, appended, begins, first_step, has_answered, has_begun, later_step, makes, moved}
+use Rattle.lq_turns.specs.Serial.{at_once, makes_first, open_by, unless_called, unless_open, unless_refused}
 use Rattle.lq_turns.specs.Session.{Session, called, session_on}
 use Rattle.lq_turns.specs.declared.answer.Answer.{Answer}
 use Rattle.lq_turns.specs.declared.answer.Answer.TheVariants.{Busy, Locked}
@@ -121,6 +122,27 @@ module _ (d : Dialect) (jobs : ℕ → Work) (n : ℕ) (x : Runs) where
     first_calls call rest a is other passes script_is answer_is =
         first_in is ∙ ap by_other other ∙ ap (λ o. begins Answer Locked Busy d jobs n o x) passes ∙ ap (λ calls. makes Answer Locked Busy d jobs n (session_on x.committed) calls ((jobs n).answer x.committed) x) script_is
         ∙ ap (λ b. makes Answer Locked Busy d jobs n (session_on x.committed) (call ∷ rest) b x) answer_is
+
+    -- which it makes at its first step
+    open_none : (o : Option Held) (t : Option Transaction) → is_open n t ≡ false → IsHolders d x.committed o t → other_in n t ≡ None → open_by Answer Locked Busy d jobs o ≡ None
+    open_none None t shut is other = refl
+    open_none (Some h) None shut is other = ap (λ b. if b then Some h.runner else None) is.1.0
+    open_none (Some h) (Some t) shut is other = absurd (some_none t.session (sym (ap (λ b. cond b None (Some t.session)) shut) ∙ other))
+
+    module _ (call : Call) (rest : List Call) (is : IsLetIn (jobs n) x.committed) (other : other_in n t ≡ None) (passes : (jobs n).refuses x.committed ≡ None) (script_is : (jobs n).script x.committed ≡ call ∷ rest) where
+      not_at_once : at_once Answer Locked Busy d jobs n x ≡ None
+      not_at_once =
+          ap (λ b. if b then Some (Locked x.committed.lock) else unless_open Answer Locked Busy d jobs (open_by Answer Locked Busy d jobs x.holder)
+          (unless_refused Answer Locked Busy d jobs ((jobs n).refuses x.committed) (unless_called Answer Locked Busy d jobs ((jobs n).script x.committed) ((jobs n).answer x.committed)))) is
+          ∙ ap (λ o. unless_open Answer Locked Busy d jobs o (unless_refused Answer Locked Busy d jobs ((jobs n).refuses x.committed) (unless_called Answer Locked Busy d jobs ((jobs n).script x.committed) ((jobs n).answer x.committed))))
+          (open_none x.holder t shut holders other)
+          ∙ ap (λ r. unless_refused Answer Locked Busy d jobs r (unless_called Answer Locked Busy d jobs ((jobs n).script x.committed) ((jobs n).answer x.committed))) passes
+          ∙ ap (λ calls. unless_called Answer Locked Busy d jobs calls ((jobs n).answer x.committed)) script_is
+
+      pub makes_its_first : answer_of n x.answers ≡ None → has_begun Answer Locked Busy n x ≡ false → makes_first Answer Locked Busy d jobs n x ≡ true
+      makes_its_first none fresh =
+          ap (λ b. not b && (not (has_begun Answer Locked Busy n x) && is_none (at_once Answer Locked Busy d jobs n x))) (answered_is Answer Locked Busy n x.answers ∙ ap is_some none)
+          ∙ ap (λ b. not b && is_none (at_once Answer Locked Busy d jobs n x)) fresh ∙ ap is_none not_at_once
 
   -- a later step
 

@@ -131,7 +131,7 @@ module _ (d : Dialect) (stamp : Stamp) (it : AtOnce) (seen : Catalogue) where
       tagged_by : (o : Option Tracked) → last_row rows ≡ o → (v : Verdict) → v ≡ tagging tag o → CheckedAt (step.Tag tag) v
       tagged_by None last v is = subst (CheckedAt (step.Tag tag)) (sym is) (refl, λ database stands let_in. inl (ap untagged (has database stands) ∙ no_last rows last))
       tagged_by (Some row) last v is =
-          subst (CheckedAt (step.Tag tag)) (sym is) (refl, (tt, tt), λ database stands let_in. tags row database stands (ap last_row (has database stands) ∙ last) let_in)
+          subst (CheckedAt (step.Tag tag)) (sym is) (refl, (tt, tt), tt, λ database stands let_in. tags row database stands (ap last_row (has database stands) ∙ last) let_in)
 
       pub tag_checked : it.command ≡ step.Tag tag → (v : Verdict) → v ≡ tagging tag (last_row rows) → OnceChecked d stamp it seen v
       tag_checked same v is = subst (λ what. CheckedAt what v) (sym same) (tagged_by (last_row rows) refl v is)
@@ -155,7 +155,7 @@ module _ (d : Dialect) (stamp : Stamp) (it : AtOnce) (seen : Catalogue) where
 
   released_by : (lock : Lock) → HasLock d seen lock → (b : Bool) → lock.locked ≡ b → (v : Verdict) → v ≡ releasing b → CheckedAt step.Release v
   released_by lock has true held v is =
-      subst (CheckedAt step.Release) (sym is) (refl, (tt, tt), λ database stands let_in. frees database stands (ap (λ (l : Lock). l.locked) (has database stands) ∙ held))
+      subst (CheckedAt step.Release) (sym is) (refl, (tt, tt), refl, λ database stands let_in. frees database stands (ap (λ (l : Lock). l.locked) (has database stands) ∙ held))
   released_by lock has false shut v is =
       subst (CheckedAt step.Release) (sym is) (
         refl,

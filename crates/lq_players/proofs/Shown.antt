@@ -2,19 +2,19 @@
 use Rattle.std.proofs.Common.{ap, arith, inl, inr, subst, sym, ◌∙◌}
 use Rattle.std.proofs.lemmas.Bool.Decides.{nat_tests}
 use Rattle.std.proofs.lemmas.List.{append-nil, append_assoc, map-append}
-use Rattle.std.proofs.lemmas.List.Sums.{sum_by-append}
 use Rattle.std.specs.Option.{option_map}
 use Rattle.std.specs.Prelude.{List, None, Option, Some, [], cond, false, if◌then◌else◌, refl, true, ℕ, ◌+◌, ◌==◌, ◌++◌, ◌≡◌}
 use Rattle.lq_base.specs.declared.dialect.Dialect.{Dialect}
 use Rattle.lq_drill.specs.Player.{answer_of, Arrives, Plays, Standing}
-use Rattle.lq_drill.specs.Shows.{IsHolders, IsOpenAs, Shows, entries_of, entry_of}
+use Rattle.lq_drill.specs.Shows.{HadRoom, IsHolders, IsOpenAs, Shows, entries_of, entry_of}
 use Rattle.lq_players.proofs.Answering.{some_none}
 use Rattle.lq_players.proofs.Machines.{Runs, own_number}
 use Rattle.lq_players.specs.Checked.{Work}
 use Rattle.lq_players.specs.Under.{bare}
+use Rattle.lq_run.proofs.Rooms.{both_rooms, no_entries, sizes}
 use Rattle.lq_run.specs.Stands.{IsBegun, Stands}
 use Rattle.lq_run.specs.Stands.{entries_of as written_of}
-use Rattle.lq_store.specs.Journal.{Entry, entry_size, size_of_all}
+use Rattle.lq_store.specs.Journal.{Entry, size_of_all}
 use Rattle.lq_store.specs.State.{State, Transaction, is_open, other_in}
 use Rattle.lq_turns.specs.Held.{StandsFor}
 use Rattle.lq_turns.specs.Schedule.{answers_with}
@@ -36,11 +36,6 @@ none_used n = omega arith
 joined : (o : Option (List Entry)) (a b c : List Entry) → c ≡ a ++ b → option_map (λ e. e ++ b) (option_map (λ e. e ++ a) o) ≡ option_map (λ e. e ++ c) o
 joined None a b c is = refl
 joined (Some e) a b c is = ap (λ l. Some l) (append_assoc e a b ∙ ap (λ z. e ++ z) (sym is))
-
-sizes : (n : ℕ) (a b : List Entry) → (n + size_of_all a) + size_of_all b ≡ n + size_of_all (a ++ b)
-sizes n a b =
-    let both : size_of_all (a ++ b) ≡ size_of_all a + size_of_all b = sum_by-append (λ entry. entry_size entry) a b in
-    omega (arith, both)
 
 -- the session's transaction
 
@@ -87,6 +82,7 @@ module _ (origin w : State) (x : Runs) (shows : Shows origin w x) where
     begun = subst (λ e. IsBegun e n (bare s) w.begun) (sym shows.dialect) (begun_as origin.dialect n s w.begun opened);
     entries = nothing_more w.entries;
     used = none_used w.used;
+    room = no_entries w.dialect w.limit w.used;
   }
 
   -- for a runner that has made no call
@@ -103,6 +99,7 @@ module _ (origin w : State) (x : Runs) (shows : Shows origin w x) where
     begun = holders;
     entries = now_entries;
     used = now_used;
+    room = now_room;
   } where
     all : entries_of origin.dialect y.entries ≡ entries_of origin.dialect x.entries ++ written_of origin.dialect after.entries
     all = ap (entries_of origin.dialect) entries ∙ map-append (entry_of origin.dialect) x.entries after.entries
@@ -116,6 +113,15 @@ module _ (origin w : State) (x : Runs) (shows : Shows origin w x) where
     now_used =
         stands.used ∙ ap (λ k. w.used + size_of_all (written_of k after.entries)) shows.dialect ∙ ap (λ u. u + size_of_all (written_of origin.dialect after.entries)) shows.used
         ∙ sizes origin.used (entries_of origin.dialect x.entries) (written_of origin.dialect after.entries) ∙ ap (λ l. origin.used + size_of_all l) (sym all)
+
+    -- what the call appends stands behind the machine's entries
+    call_room : HadRoom origin.dialect origin.limit (origin.used + size_of_all (entries_of origin.dialect x.entries)) after.entries
+    call_room =
+        subst (λ u. HadRoom origin.dialect origin.limit u after.entries) shows.used
+        (subst (λ l. HadRoom origin.dialect l w.used after.entries) shows.limit (subst (λ e. HadRoom e w.limit w.used after.entries) shows.dialect stands.room))
+
+    now_room : HadRoom origin.dialect origin.limit origin.used y.entries
+    now_room = subst (HadRoom origin.dialect origin.limit origin.used) (sym entries) (both_rooms origin.dialect origin.limit origin.used x.entries after.entries shows.room call_room)
 
   -- the holder's transaction is the store's
   pub holds_now : (n : ℕ) (z : State) (after t : Session) (es : List (List Deed)) → Stands w n z after → after ≡ record t { entries = es } → IsOpenAs origin.dialect n t z.begun
@@ -138,7 +144,7 @@ module _ (jobs : ℕ → Work) (n : ℕ) (r : Standing Answer Locked Busy) (orig
   -- without a call
   pub arrives_told : (x : Runs) → Shows origin z x → Arrives jobs n r origin z x (answers_with Answer Locked Busy n a x)
   arrives_told x shows = record {
-    shows = record { dialect = shows.dialect; limit = shows.limit; live = shows.live; committed = shows.committed; begun = shows.begun; entries = shows.entries; used = shows.used };
+    shows = record { dialect = shows.dialect; limit = shows.limit; live = shows.live; committed = shows.committed; begun = shows.begun; entries = shows.entries; used = shows.used; room = shows.room };
     plays = plays_told x;
     lock = inl (refl, refl);
   }
@@ -146,7 +152,7 @@ module _ (jobs : ℕ → Work) (n : ℕ) (r : Standing Answer Locked Busy) (orig
   -- after a last call, which left the lock free
   pub arrives_last : (x y : Runs) → Shows origin z y → y.committed.lock.locked ≡ false → Arrives jobs n r origin z x (answers_with Answer Locked Busy n a y)
   arrives_last x y shows free = record {
-    shows = record { dialect = shows.dialect; limit = shows.limit; live = shows.live; committed = shows.committed; begun = shows.begun; entries = shows.entries; used = shows.used };
+    shows = record { dialect = shows.dialect; limit = shows.limit; live = shows.live; committed = shows.committed; begun = shows.begun; entries = shows.entries; used = shows.used; room = shows.room };
     plays = plays_told y;
     lock = inr (inl free);
   }

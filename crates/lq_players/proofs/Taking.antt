@@ -169,11 +169,11 @@ module _ {Key Told T : Type 0} (m : Meaning Key) (left : T → Turns Key) (way :
             → CallsOnce d session call x done y → Beside session (is_disk_answer done) x y → CrashesFor d session (Alone call.deeds call.room) x c now → (y.live ≡ true → is_open session y.begun ≡ false) → Took session before (after q) x y c now result
         took_once y now call (Ok a) its judged calls beside crash shuts =
             answered session before (after q) x y c now result a its (ap is_failure calls.0 ∙ judged.0) beside.live same_dialect (λ lives. shut_as q.begun q.runner.hand (is_open session y.begun) (begun_is ∙ fresh) (shuts lives)) (lets_be session false x y beside)
-            (owns_by q same_stamp) (answered_ready q a its.0) (λ bad. absurd (unmet q.faulted its.1 bad)) (moves_once session before (after q) x none fresh shut y call (its.0 ∙ ap (λ b. Some b) calls.0) (owes_by q same_fault) shuts judged.2 calls.1)
-            (safe_once session before (after q) x none fresh shut c now call judged.2 crash)
+            (owns_by q same_stamp) (answered_ready q a its.0) (λ bad. absurd (unmet q.faulted its.1 bad)) (moves_once session before (after q) x none fresh shut y call (its.0 ∙ ap (λ b. Some b) calls.0) (owes_by q same_fault) shuts judged.3 calls.1)
+            (safe_once session before (after q) x none fresh shut c now call judged.3 crash)
         took_once y now call (Err why) its judged calls beside crash shuts =
             failed_so session before (after q) x y c now result why its same_dialect (λ lives. shut_as q.begun q.runner.hand (is_open session y.begun) (begun_is ∙ fresh) (shuts lives)) (lets_be session (is_disk_fault why) x y beside)
-            (owns_by q same_stamp) (answered_ready q (failure_of why) its.0) (stops_once session before (after q) x none fresh shut y why call judged.2 calls) (safe_once session before (after q) x none fresh shut c now call judged.2 crash)
+            (owns_by q same_stamp) (answered_ready q (failure_of why) its.0) (stops_once session before (after q) x none fresh shut y why call judged.3 calls) (safe_once session before (after q) x none fresh shut c now call judged.3 crash)
 
       -- it takes the lock
       module _ (hand : Hand) (started : Progress) (is_started : started ≡ no_progress) (judged : Judged d m stamp way ends (job p.runner.source d stamp) (left s) s session x (verdict.Turns hand)) (reads_it : reads s d) where

@@ -113,7 +113,7 @@ module _ {Key Told T : Type 0} (d : Dialect) (m : Meaning Key) (stamp : Stamp) (
 
       pub judged : (v : Verdict) → Checked d m stamp way ends job turns source looked v → Judged d m stamp way ends job turns source session x v
       judged (verdict.Answer a) checked = (checked.0, λ same database stands. first_as database a None same stands alone (checked.1 database (stands_seen database stands) (let_in database same stands)))
-      judged (verdict.OneCall call) checked = (checked.0, checked.1, λ same database stands. ((alone, let_in database same stands), checked.2 database (stands_seen database stands) (let_in database same stands)))
+      judged (verdict.OneCall call) checked = (checked.0, checked.1, checked.2, λ same database stands. ((alone, let_in database same stands), checked.3 database (stands_seen database stands) (let_in database same stands)))
       judged (verdict.Turns hand) checked = (checked.0, λ same database stands. ((alone, let_in database same stands), checked.1 database (stands_seen database stands) (let_in database same stands)))
       judged verdict.Lack checked = tt
 

@@ -13,7 +13,7 @@ use Rattle.lq_players.specs.declared.checks.OneCall.{OneCall}
 use Rattle.lq_players.specs.declared.checks.Verdict.{Verdict}
 use Rattle.lq_players.specs.declared.checks.Verdict.TheVariants as verdict
 use Rattle.lq_run.specs.Commands.{both_on, script}
-use Rattle.lq_run.specs.Does.{AllWritable}
+use Rattle.lq_run.specs.Does.{AllWritable, MayFill}
 use Rattle.lq_run.specs.Ends.{AllHoldOn}
 use Rattle.lq_run.specs.Steps.{KnownIn}
 use Rattle.lq_track.specs.Database.{Database}
@@ -77,6 +77,6 @@ module _ {Key Told T : Type 0} (d : Dialect) (m : Meaning Key) (stamp : Stamp) (
 
   abbrev pub Checked : Turns Key → T → Catalogue → Verdict → Type 0
   Checked turns source seen (verdict.Answer a) = (is_failure a ≡ false) × OnSeen seen (AnswersAtOnce job a)
-  Checked turns source seen (verdict.OneCall call) = (is_failure call.answer ≡ false) × AllWritable d call.deeds × OnSeen seen (MakesOne d job call)
+  Checked turns source seen (verdict.OneCall call) = (is_failure call.answer ≡ false) × AllWritable d call.deeds × MayFill call.room call.deeds × OnSeen seen (MakesOne d job call)
   Checked turns source seen (verdict.Turns hand) = IsInHand d stamp hand × OnSeen seen (MakesTurns turns source hand)
   Checked turns source seen verdict.Lack = Unit {0}

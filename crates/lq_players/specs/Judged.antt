@@ -11,7 +11,7 @@ use Rattle.lq_players.specs.Checked.{AnswersAtOnce, IsInHand, IsLetIn, MakesOne,
 use Rattle.lq_players.specs.declared.checks.OneCall.{OneCall}
 use Rattle.lq_players.specs.declared.checks.Verdict.{Verdict}
 use Rattle.lq_players.specs.declared.checks.Verdict.TheVariants as verdict
-use Rattle.lq_run.specs.Does.{AllWritable, AloneFor}
+use Rattle.lq_run.specs.Does.{AllWritable, AloneFor, MayFill}
 use Rattle.lq_run.specs.Opens.{TakesLock}
 use Rattle.lq_run.specs.Stands.{Stands}
 use Rattle.lq_store.specs.State.{State, other}
@@ -62,7 +62,7 @@ OnIts d x holds = x.dialect ≡ d → (database : Database) → StandsFor d x.co
 module _ {Key Told T : Type 0} (d : Dialect) (m : Meaning Key) (stamp : Stamp) (way : T → Dialect → Stamp → Told → Way) (ends : T → Option Refusal → Answer) (job : Work) where
   abbrev pub Judged : Turns Key → T → ℕ → State → Verdict → Type 0
   Judged turns source session x (verdict.Answer a) = (is_failure a ≡ false) × OnIts d x (λ database. AnswersFirst (job.needs_lock && database.lock.locked) (other session x) job a database)
-  Judged turns source session x (verdict.OneCall call) = (is_failure call.answer ≡ false) × AllWritable d call.deeds × OnIts d x (λ database. MayCall session x job database × MakesOne d job call database)
+  Judged turns source session x (verdict.OneCall call) = (is_failure call.answer ≡ false) × AllWritable d call.deeds × MayFill call.room call.deeds × OnIts d x (λ database. MayCall session x job database × MakesOne d job call database)
   Judged turns source session x (verdict.Turns hand) = IsInHand d stamp hand × OnIts d x (λ database. MayCall session x job database × MakesTurns d m stamp way ends job turns source hand database)
   Judged turns source session x verdict.Lack = Unit {0}
 

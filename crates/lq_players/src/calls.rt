@@ -6,7 +6,7 @@ ghost use Rattle.lq_players.specs.Answers.{FailsAs, fault_of, is_disk_answer, is
 ghost use Rattle.lq_players.specs.Judged.{CallsOnce, Judged, TellsBusy, TellsHeld};
 ghost use Rattle.lq_run.specs.Beside.{Beside};
 ghost use Rattle.lq_run.specs.Crashing.{CrashesFor};
-ghost use Rattle.lq_run.specs.Does.{AllWritable};
+ghost use Rattle.lq_run.specs.Does.{AllWritable, MayFill};
 ghost use Rattle.lq_run.specs.Faults.{is_disk_end};
 ghost use Rattle.lq_store.specs.State.{is_open};
 ghost use Rattle.lq_track.specs.Database.{lock_of};
@@ -103,6 +103,7 @@ pub fn call_once<S: Store, P: SqlText>(
     requires closed { is_open session (S.state store.old).begun ≡ false }
     requires sql { P.dialect ≡ dialect }
     requires writable { AllWritable dialect call.deeds }
+    requires fills { MayFill call.room call.deeds }
     ensures valid { S.valid store.new }
     ensures calls { CallsOnce dialect session call (S.state store.old) result (S.state store.new) }
     ensures beside { Beside session (is_disk_answer result) (S.state store.old) (S.state store.new) }

@@ -1,14 +1,15 @@
 -- Several deeds in one call.
-use Rattle.std.proofs.Common.{ap, subst, sym, ◌∙◌}
-use Rattle.std.proofs.lemmas.List.{append-nil}
-use Rattle.std.specs.Prelude.{Bool, Err, List, None, Ok, Option, Result, Some, [], false, refl, true, ℕ, ◌++◌, ◌∷◌, ◌≡◌}
+use Rattle.std.proofs.Common.{ap, inl, inr, subst, sym, ◌∙◌}
+use Rattle.std.proofs.lemmas.List.{append-nil, append_cancel_left}
+use Rattle.std.specs.Prelude.{Bool, Err, List, None, Ok, Option, Result, Some, [], false, refl, true, ℕ, ◌++◌, ◌∷◌, ◌≡◌, ◌⊎◌}
 use Rattle.lq_base.specs.declared.dialect.Dialect.{Dialect}
 use Rattle.lq_base.specs.declared.reason.Reason.{Reason}
 use Rattle.lq_model.proofs.Lists.{and_left, and_right}
 use Rattle.lq_model.specs.declared.caller.Room.{Room}
+use Rattle.lq_model.specs.declared.caller.Room.TheVariants.{Ordinary, Release}
 use Rattle.lq_model.specs.declared.fault.StoreFault.{StoreFault}
 use Rattle.lq_model.specs.declared.fault.StoreFault.TheVariants.{Busy, Disk, Full, NotSql, OutOfMemory, Refused}
-use Rattle.lq_store.specs.Calls.{MayAlone, MayEnd, done_alone, ran_alone}
+use Rattle.lq_store.specs.Calls.{HasRoom, MayAlone, MayEnd, done_alone, ran_alone}
 use Rattle.lq_store.specs.State.{State, Transaction, is_open, other}
 use Rattle.lq_store.specs.Work.{End, NoStatement, Outcome, Ran, Stopped, Work, goes_on, outcome, outcome_all, work_in}
 use Rattle.lq_store.specs.Work.{closed as closed_state}
@@ -19,9 +20,12 @@ use Rattle.lq_turns.specs.Held.{StandsFor, StatementsTell, all_fit, fits}
 use Rattle.lq_turns.specs.Session.{Session, accepted, all_executed, all_executed_as, executed_as, is_own, settled_if}
 use Rattle.lq_turns.specs.declared.call.Call.TheVariants.{Alone}
 use Rattle.lq_turns.specs.declared.deed.Deed.{Deed}
-use Rattle.lq_run.specs.Does.{AllRead, Appends, DoesAlone}
+use Rattle.lq_turns.specs.declared.deed.Deed.TheVariants.{Locks}
+use Rattle.lq_turns.specs.declared.deed.OnLock.TheVariants.{Freed}
+use Rattle.lq_run.specs.Does.{AllRead, Appends, DoesAlone, MayFill}
 use Rattle.lq_run.specs.Stands.{IsBegun, Stands, deed_text, entries_of, entry_of, texts_of}
 use Rattle.lq_run.proofs.Doing.{differ, ends, no_other}
+use Rattle.lq_run.proofs.Grows.{closing_entry}
 use Rattle.lq_run.proofs.Works.{Did, EndsAs, Works, did, settles}
 
 abbrev pub AllEndAs : Result Database Reason → End → Type 0
@@ -101,6 +105,11 @@ stopped_none a h = Prim.cc
 told : (a b : Reason) → Stopped a ≡ Stopped b → a ≡ b
 told a b same = Prim.cc
 
+-- only what frees the lock may use all of the journal
+uses : (d : Dialect) (s : Session) (deeds : List Deed) (room : Room) (more : List (List Deed)) → MayFill room deeds → s.begun ≡ [] → (all_executed d deeds s).entries ≡ s.entries ++ more → (room ≡ Ordinary) ⊎ (more ≡ (Locks Freed ∷ []) ∷ [])
+uses d s deeds Ordinary more fills none entries = inl refl
+uses d s deeds Release more fills none entries = inr (append_cancel_left s.entries more ((Locks Freed ∷ []) ∷ []) (sym entries ∙ ap (λ ds. (all_executed d ds s).entries) fills ∙ closing_entry d s none))
+
 module _ (start : State) (number : ℕ) (x : State) (s : Session) (is : Stands start number x s) (deeds : List Deed) (room : Room) where
   pub works_alone : is_open number x.begun ≡ false → Works start.dialect s.entries (work_in None x.committed) s
   works_alone shut = by x.begun is.begun shut where
@@ -115,21 +124,27 @@ module _ (start : State) (number : ℕ) (x : State) (s : Session) (is : Stands s
     }
     by (Some t) begun h = absurd (differ t.session number begun.1 h)
 
-  by_end : (r : Result Database Reason) (o : Outcome) (result : Result (Unit {0}) StoreFault) (y : State) → all_done start.dialect deeds s.seen ≡ r → AllDid start.dialect s.entries r o (all_executed start.dialect deeds s)
-      → MayAloneAs number room x o result y → DoesAlone start number x s deeds room result y
-  by_end r o result y was all may = by r o.end result was all.ends may where
-    stands : Stands start number (closed_state o.work x) (all_executed start.dialect deeds s)
-    stands = ends start number x s is o.work (all_executed start.dialect deeds s) all.committed all.more all.entries all.written all.shut
+  none_begun : is_open number x.begun ≡ false → s.begun ≡ []
+  none_begun shut = by x.begun is.begun shut where
+    by : (o : Option Transaction) → IsBegun start.dialect number s o → is_open number o ≡ false → s.begun ≡ []
+    by None begun h = begun.2
+    by (Some t) begun h = absurd (differ t.session number begun.1 h)
 
+  by_end : (r : Result Database Reason) (o : Outcome) (result : Result (Unit {0}) StoreFault) (y : State) → all_done start.dialect deeds s.seen ≡ r → MayFill room deeds → s.begun ≡ []
+      → AllDid start.dialect s.entries r o (all_executed start.dialect deeds s) → MayAloneAs number room x o result y → DoesAlone start number x s deeds room result y
+  by_end r o result y was fills none all may = by r o.end result was all.ends may where
     appends : Appends start.dialect (Alone deeds room) s o.work.written
     appends = record { more = all.more; entries = all.entries; texts = all.written }
 
-    at : y ≡ closed_state o.work x → Stands start number y (all_executed start.dialect deeds s)
-    at after = subst (λ z. Stands start number z (all_executed start.dialect deeds s)) (sym after) stands
+    at : HasRoom room o.work.written x → y ≡ closed_state o.work x → Stands start number y (all_executed start.dialect deeds s)
+    at has after =
+        let which : (room ≡ Ordinary) ⊎ (all.more ≡ (Locks Freed ∷ []) ∷ []) = uses start.dialect s deeds room all.more fills none all.entries in
+        subst (λ z. Stands start number z (all_executed start.dialect deeds s)) (sym after)
+        (ends start number x s is o.work (all_executed start.dialect deeds s) all.committed all.more room all.entries all.written which has all.shut)
 
     by : (r : Result Database Reason) (end : End) (result : Result (Unit {0}) StoreFault) → all_done start.dialect deeds s.seen ≡ r → AllEndAs r end
         → MayEnd room end o.work.written (closed_state o.work x) x (ran_alone result end) y → DoesAlone start number x s deeds room result y
-    by (Ok now) (Ran k) (Ok u) was same may = (now, was, at may.1.1)
+    by (Ok now) (Ran k) (Ok u) was same may = (now, was, at may.1.0 may.1.1)
     by (Ok now) (Ran k) (Err (Refused reason)) was same may = absurd (ran_stopped k reason may.0)
     by (Ok now) (Ran k) (Err NotSql) was same may = absurd (ran_none k may.0)
     by (Ok now) (Ran k) (Err (Busy n)) was same may = absurd may
@@ -137,7 +152,7 @@ module _ (start : State) (number : ℕ) (x : State) (s : Session) (is : Stands s
     by (Ok now) (Ran k) (Err (Full used next)) was same may = (record { written = o.work.written; appends = appends; full = may.0 }, may.1)
     by (Ok now) (Ran k) (Err OutOfMemory) was same may = may
     by (Err reason) (Stopped other) (Ok u) was same may = absurd (ran_stopped 0 other (sym may.0))
-    by (Err reason) (Stopped other) (Err (Refused why)) was same may = (was ∙ ap Err (same ∙ told other why may.0), at may.1.1)
+    by (Err reason) (Stopped other) (Err (Refused why)) was same may = (was ∙ ap Err (same ∙ told other why may.0), at may.1.0 may.1.1)
     by (Err reason) (Stopped other) (Err NotSql) was same may = absurd (stopped_none other may.0)
     by (Err reason) (Stopped other) (Err (Busy n)) was same may = absurd may
     by (Err reason) (Stopped other) (Err Disk) was same may = record { written = o.work.written; appends = appends; fails = may }
@@ -148,15 +163,15 @@ module _ (start : State) (number : ℕ) (x : State) (s : Session) (is : Stands s
     by (Err reason) (Ran k) result was same may = absurd same
     by (Err reason) NoStatement result was same may = absurd same
 
-  pub does_alone : AllRead start.dialect deeds → StatementsTell start.dialect → all_fit start.dialect deeds s.seen ≡ true → is_open number x.begun ≡ false
+  pub does_alone : MayFill room deeds → AllRead start.dialect deeds → StatementsTell start.dialect → all_fit start.dialect deeds s.seen ≡ true → is_open number x.begun ≡ false
       → (result : Result (Unit {0}) StoreFault) (y : State) → MayAlone number (texts_of start.dialect deeds) room x result y → DoesAlone start number x s deeds room result y
-  does_alone read tells fit shut result y may =
+  does_alone fills read tells fit shut result y may =
       by result may where
         all : AllDid start.dialect s.entries (all_done start.dialect deeds s.seen) (outcome_all start.dialect (texts_of start.dialect deeds) (work_in None x.committed)) (all_executed start.dialect deeds s)
         all = all_did start.dialect s.entries tells deeds (work_in None x.committed) s read (works_alone shut) fit
 
         ended : (result : Result (Unit {0}) StoreFault) → MayAloneAs number room x (done_alone (texts_of start.dialect deeds) x) result y → DoesAlone start number x s deeds room result y
-        ended result may = by_end (all_done start.dialect deeds s.seen) (outcome_all start.dialect (texts_of start.dialect deeds) (work_in None x.committed)) result y refl all
+        ended result may = by_end (all_done start.dialect deeds s.seen) (outcome_all start.dialect (texts_of start.dialect deeds) (work_in None x.committed)) result y refl fills (none_begun shut) all
             (subst (λ d. MayAloneAs number room x (outcome_all d (texts_of start.dialect deeds) (work_in None x.committed)) result y) is.dialect may)
 
         by : (result : Result (Unit {0}) StoreFault) → MayAlone number (texts_of start.dialect deeds) room x result y → DoesAlone start number x s deeds room result y

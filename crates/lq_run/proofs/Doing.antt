@@ -1,16 +1,16 @@
 -- The calls of a store, as those of a session of deeds.
-use Rattle.std.proofs.Common.{ap, arith, rules, subst, sym, ◌∙◌}
+use Rattle.std.proofs.Common.{ap, inl, rules, subst, sym, ◌∙◌}
 use Rattle.std.proofs.lemmas.List.{append-nil, append_assoc, map-append}
-use Rattle.std.proofs.lemmas.List.Sums.{sum_by-append}
 use Rattle.std.specs.Option.{option_map}
-use Rattle.std.specs.Prelude.{Bool, Err, List, cond, None, Ok, Option, Result, Some, [], false, refl, true, ℕ, ◌+◌, ◌++◌, ◌==◌, ◌∷◌, ◌≡◌}
+use Rattle.std.specs.Prelude.{Bool, Err, List, cond, None, Ok, Option, Result, Some, [], false, refl, true, ℕ, ◌+◌, ◌++◌, ◌==◌, ◌∷◌, ◌≡◌, ◌⊎◌}
 use Rattle.lq_base.specs.declared.reason.Reason.{Reason}
 use Rattle.lq_model.specs.Catalogue.{Catalogue}
+use Rattle.lq_model.specs.declared.caller.Room.{Room}
 use Rattle.lq_model.specs.declared.caller.Room.TheVariants.{Ordinary}
 use Rattle.lq_model.specs.declared.fault.StoreFault.{StoreFault}
 use Rattle.lq_model.specs.declared.fault.StoreFault.TheVariants.{Busy, Disk, Full, NotSql, OutOfMemory, Refused}
-use Rattle.lq_store.specs.Calls.{MayBegin, MayCommit, MayEnd, MayExecute, aborted, finished}
-use Rattle.lq_store.specs.Journal.{Entry, entry_size, size_of_all}
+use Rattle.lq_store.specs.Calls.{HasRoom, MayBegin, MayCommit, MayEnd, MayExecute, aborted, finished}
+use Rattle.lq_store.specs.Journal.{Entry, end_of, is_full, size_of_all}
 use Rattle.lq_store.specs.State.{State, Transaction, is_open, other, other_in, with_entries}
 use Rattle.lq_store.specs.Work.{End, NoStatement, Outcome, Ran, Stopped, Work, kept_open, outcome, still_open, work_in, work_of}
 use Rattle.lq_store.specs.Work.{closed as closed_state}
@@ -20,18 +20,16 @@ use Rattle.lq_turns.specs.Held.{StandsFor, StatementsTell, fits}
 use Rattle.lq_turns.specs.Session.{Session, called, closed, executed_as, is_own, settled_if, settled_up}
 use Rattle.lq_turns.specs.declared.call.Call.TheVariants.{Abort, Begin, Commit, Execute}
 use Rattle.lq_turns.specs.declared.deed.Deed.{Deed}
+use Rattle.lq_turns.specs.declared.deed.Deed.TheVariants.{Locks}
+use Rattle.lq_turns.specs.declared.deed.OnLock.TheVariants.{Freed}
 use Rattle.lq_run.specs.Does.{Appends, DoesCall, DoesDeed, IsRead}
-use Rattle.lq_run.specs.Stands.{IsBegun, Stands, deed_text, entries_of, entry_of}
+use Rattle.lq_run.specs.Stands.{HadRoom, IsBegun, Stands, deed_text, entries_of, entry_of}
+use Rattle.lq_run.proofs.Rooms.{more_room, sizes}
 use Rattle.lq_run.proofs.Works.{Did, EndsAs, Works, did, settles}
 
 joined : (o : Option (List Entry)) (a b c : List Entry) → c ≡ a ++ b → option_map (λ e. e ++ b) (option_map (λ e. e ++ a) o) ≡ option_map (λ e. e ++ c) o
 joined None a b c is = refl
 joined (Some e) a b c is = ap Some (append_assoc e a b ∙ ap (λ z. e ++ z) (sym is))
-
-sizes : (n : ℕ) (a b : List Entry) → (n + size_of_all a) + size_of_all b ≡ n + size_of_all (a ++ b)
-sizes n a b =
-    let both : size_of_all (a ++ b) ≡ size_of_all a + size_of_all b = sum_by-append (λ entry. entry_size entry) a b in
-    omega (arith, both)
 
 abbrev pub unit_of : Result ℕ StoreFault → Result (Unit {0}) StoreFault
 unit_of (Ok n) = Ok tt
@@ -50,10 +48,21 @@ other_same : (t : Transaction) → other_in t.session (Some t) ≡ None
 other_same t = ap (λ b. cond b None (Some t.session)) (self_eq t.session)
 
 module _ (start : State) (number : ℕ) (x : State) (s : Session) (is : Stands start number x s) where
+  -- a call's entries had room behind those of the session
+  had_room : (t : Session) (written : List Entry) (more : List (List Deed)) (room : Room) → t.entries ≡ s.entries ++ more → written ≡ entries_of start.dialect more
+      → (room ≡ Ordinary) ⊎ (more ≡ (Locks Freed ∷ []) ∷ []) → HasRoom room written x → HadRoom start.dialect start.limit start.used t.entries
+  had_room t written more room entries texts which has =
+      let there = start.used + size_of_all (entries_of start.dialect s.entries) in
+      let full : is_full (end_of room start.limit) there (entries_of start.dialect more) ≡ false
+      = ap (λ l. is_full (end_of room l) there (entries_of start.dialect more)) (sym is.limit) ∙ ap (λ u. is_full (end_of room x.limit) u (entries_of start.dialect more)) (sym is.used)
+      ∙ ap (is_full (end_of room x.limit) x.used) (sym texts) ∙ has in
+      subst (λ es. HadRoom start.dialect start.limit start.used es) (sym entries) (more_room start.dialect start.limit start.used room s.entries more is.room which full)
+
   -- the store with what a call wrote and left stands for the session after it
-  pub gained : (t : Session) (written : List Entry) (c : Catalogue) (b : Option Transaction) (more : List (List Deed)) → t.entries ≡ s.entries ++ more → written ≡ entries_of start.dialect more
+  pub gained : (t : Session) (written : List Entry) (c : Catalogue) (b : Option Transaction) (more : List (List Deed)) (room : Room) → t.entries ≡ s.entries ++ more → written ≡ entries_of start.dialect more
+      → (room ≡ Ordinary) ⊎ (more ≡ (Locks Freed ∷ []) ∷ []) → HasRoom room written x
       → StandsFor start.dialect c t.committed → IsBegun start.dialect number t b → Stands start number (record (with_entries written x) { committed = c; begun = b }) t
-  gained t written c b more entries texts stands begun =
+  gained t written c b more room entries texts which has stands begun =
       let all : entries_of start.dialect t.entries ≡ entries_of start.dialect s.entries ++ written = ap (entries_of start.dialect) entries ∙ map-append (entry_of start.dialect) s.entries more ∙ ap (λ z. entries_of start.dialect s.entries ++ z) (sym texts) in
       record {
         dialect = is.dialect;
@@ -63,6 +72,7 @@ module _ (start : State) (number : ℕ) (x : State) (s : Session) (is : Stands s
         begun = begun;
         entries = ap (λ e. option_map (λ entries. entries ++ written) e) is.entries ∙ joined start.entries (entries_of start.dialect s.entries) written (entries_of start.dialect t.entries) all;
         used = ap (λ u. u + size_of_all written) is.used ∙ sizes start.used (entries_of start.dialect s.entries) written ∙ ap (λ z. start.used + size_of_all z) (sym all);
+        room = had_room t written more room entries texts which has;
       }
 
   opened_as : (o : Option Transaction) → is_open number o ≡ true → (t : Transaction) × (o ≡ Some t)
@@ -82,16 +92,16 @@ module _ (start : State) (number : ℕ) (x : State) (s : Session) (is : Stands s
       })
 
   -- its transaction stays open
-  pub stays : (t : Transaction) (w : Work) (after : Session) → x.begun ≡ Some t → Works start.dialect s.entries w after → after.is_open ≡ s.is_open → Stands start number (kept_open w x) after
-  stays t w after there works same =
+  pub stays : (t : Transaction) (w : Work) (after : Session) → x.begun ≡ Some t → Works start.dialect s.entries w after → after.is_open ≡ s.is_open → HasRoom Ordinary w.written x → Stands start number (kept_open w x) after
+  stays t w after there works same has =
       let begun = subst (IsBegun start.dialect number s) there is.begun in
-      gained after w.written w.committed (still_open w x.begun) works.more works.entries works.written works.committed
+      gained after w.written w.committed (still_open w x.begun) works.more Ordinary works.entries works.written (inl refl) has works.committed
       (subst (λ b. IsBegun start.dialect number after (still_open w b)) (sym there) (same ∙ begun.0, begun.1, works.now, works.texts))
 
   -- or is closed
-  pub ends : (w : Work) (after : Session) → StandsFor start.dialect w.committed after.committed → (more : List (List Deed)) → after.entries ≡ s.entries ++ more → w.written ≡ entries_of start.dialect more
-      → (after.is_open ≡ false) × (after.seen ≡ after.committed) × (after.begun ≡ []) → Stands start number (closed_state w x) after
-  ends w after stands more entries written shut = gained after w.written w.committed None more entries written stands shut
+  pub ends : (w : Work) (after : Session) → StandsFor start.dialect w.committed after.committed → (more : List (List Deed)) (room : Room) → after.entries ≡ s.entries ++ more → w.written ≡ entries_of start.dialect more
+      → (room ≡ Ordinary) ⊎ (more ≡ (Locks Freed ∷ []) ∷ []) → HasRoom room w.written x → (after.is_open ≡ false) × (after.seen ≡ after.committed) × (after.begun ≡ []) → Stands start number (closed_state w x) after
+  ends w after stands more room entries written which has shut = gained after w.written w.committed None more room entries written which has stands shut
 
   still : (deed : Deed) (q : Result Contents Reason) (own : Bool) → is_own start.dialect deed ≡ own → (executed_as start.dialect deed s (if_accepted (with_contents (locked_after deed s.seen)) q)).is_open ≡ s.is_open
   still deed (Ok now) own is = elim (is_own start.dialect deed) as (λ o. (settled_if o (record (settled_if o s) { seen = with_contents (locked_after deed s.seen) now; begun = (settled_if o s).begun ++ deed ∷ [] })).is_open ≡ s.is_open) [ true ↦ refl | false ↦ refl ]
@@ -106,12 +116,13 @@ module _ (start : State) (number : ℕ) (x : State) (s : Session) (is : Stands s
         → Did start.dialect s.entries deed q o s → MayEnd Ordinary o.end o.work.written (kept_open o.work x) x result y → DoesDeed start number x s deed (unit_of result) y
     does_by q o t result y there was works may =
         let now = subst (λ r. Works start.dialect s.entries o.work (executed_as start.dialect deed s (if_accepted (with_contents (locked_after deed s.seen)) r))) (sym was) works.works in
-        let stands = stays t o.work (called start.dialect (Execute deed) s) there now (still deed (contents_after start.dialect deed (contents_of s.seen)) (is_own start.dialect deed) refl) in
+        let stands : HasRoom Ordinary o.work.written x → Stands start number (kept_open o.work x) (called start.dialect (Execute deed) s) = λ has.
+        stays t o.work (called start.dialect (Execute deed) s) there now (still deed (contents_after start.dialect deed (contents_of s.seen)) (is_own start.dialect deed) refl) has in
         let appends : Appends start.dialect (Execute deed) s o.work.written = record { more = now.more; entries = now.entries; texts = now.written } in
         by q o.end result was works.ends stands appends may where
-          by : (q : Result Contents Reason) (end : End) (result : Result ℕ StoreFault) → contents_after start.dialect deed (contents_of s.seen) ≡ q → EndsAs q end → Stands start number (kept_open o.work x) (called start.dialect (Execute deed) s)
+          by : (q : Result Contents Reason) (end : End) (result : Result ℕ StoreFault) → contents_after start.dialect deed (contents_of s.seen) ≡ q → EndsAs q end → (HasRoom Ordinary o.work.written x → Stands start number (kept_open o.work x) (called start.dialect (Execute deed) s))
               → Appends start.dialect (Execute deed) s o.work.written → MayEnd Ordinary end o.work.written (kept_open o.work x) x result y → DoesDeed start number x s deed (unit_of result) y
-          by (Ok now) (Ran k) (Ok n) was ends stands appends may = (now, was, subst (λ z. Stands start number z (called start.dialect (Execute deed) s)) (sym may.1.1) stands)
+          by (Ok now) (Ran k) (Ok n) was ends stands appends may = (now, was, subst (λ z. Stands start number z (called start.dialect (Execute deed) s)) (sym may.1.1) (stands may.1.0))
           by (Ok now) (Ran k) (Err (Refused reason)) was ends stands appends may = Prim.cc
           by (Ok now) (Ran k) (Err NotSql) was ends stands appends may = Prim.cc
           by (Ok now) (Ran k) (Err (Busy n)) was ends stands appends may = absurd may
@@ -120,7 +131,7 @@ module _ (start : State) (number : ℕ) (x : State) (s : Session) (is : Stands s
           by (Ok now) (Ran k) (Err OutOfMemory) was ends stands appends may = may
           by (Err reason) (Stopped other) (Ok n) was ends stands appends may = Prim.cc
           by (Err reason) (Stopped other) (Err (Refused told)) was ends stands appends may =
-              (was ∙ ap Err (ends ∙ stopped other told may.0), subst (λ z. Stands start number z (called start.dialect (Execute deed) s)) (sym may.1.1) stands)
+              (was ∙ ap Err (ends ∙ stopped other told may.0), subst (λ z. Stands start number z (called start.dialect (Execute deed) s)) (sym may.1.1) (stands may.1.0))
           by (Err reason) (Stopped other) (Err NotSql) was ends stands appends may = Prim.cc
           by (Err reason) (Stopped other) (Err (Busy n)) was ends stands appends may = absurd may
           by (Err reason) (Stopped other) (Err Disk) was ends stands appends may = record { written = o.work.written; appends = appends; fails = may }
@@ -154,6 +165,7 @@ module _ (start : State) (number : ℕ) (x : State) (s : Session) (is : Stands s
         begun = (refl, refl, subst (StandsFor start.dialect x.committed) (sym begun.1) is.committed, sym (ap (entry_of start.dialect) begun.2));
         entries = is.entries;
         used = is.used;
+        room = is.room;
       }),
     )
     begin_by None there begun h (Err (Busy n)) may = Prim.cc
@@ -176,7 +188,7 @@ module _ (start : State) (number : ℕ) (x : State) (s : Session) (is : Stands s
     appends = record { more = works.more; entries = works.entries; texts = works.written }
 
     by : (result : Result (Unit {0}) StoreFault) → MayCommit x result y → DoesCall start number x s Ordinary Commit result y
-    by (Ok u) may = subst (λ z. Stands start number z (called start.dialect Commit s)) (sym may.1) (ends (finished x) (closed s) works.committed works.more works.entries works.written (refl, refl, refl))
+    by (Ok u) may = subst (λ z. Stands start number z (called start.dialect Commit s)) (sym may.1) (ends (finished x) (closed s) works.committed works.more Ordinary works.entries works.written (inl refl) may.0 (refl, refl, refl))
     by (Err Disk) may = record { written = (finished x).written; appends = appends; fails = may }
     by (Err (Full used next)) may = (record { written = (finished x).written; appends = appends; full = may.0 }, may.1)
     by (Err OutOfMemory) may = absurd may
@@ -193,6 +205,7 @@ module _ (start : State) (number : ℕ) (x : State) (s : Session) (is : Stands s
     begun = (refl, refl, refl);
     entries = is.entries;
     used = is.used;
+    room = is.room;
   })
 
   -- no other session has a transaction

@@ -31,11 +31,12 @@ use Rattle.lq_turns.specs.declared.stamp.Stamp.{Stamp}
 use Rattle.lq_beside.specs.Replays.{calls_fit}
 use Rattle.lq_run.proofs.Full.{full_once}
 use Rattle.lq_run.proofs.Grows.{closing_entry}
+use Rattle.lq_run.proofs.Rooms.{no_entries}
 use Rattle.lq_run.specs.Commands.{HasDatabase, Leaves}
 use Rattle.lq_run.specs.Does.{AloneFor, Breaks, DoesAlone, HasNoRoom}
 use Rattle.lq_run.specs.Left.{LeavesOnce, LeavesOpened, LeavesReleased, LeavesTagged}
 use Rattle.lq_run.specs.Opens.{TakesLock}
-use Rattle.lq_run.specs.Stands.{IsBegun, Stands, entries_of}
+use Rattle.lq_run.specs.Stands.{HadRoom, IsBegun, Stands, entries_of}
 
 not_true : false ≡ true → ⊥
 not_true h = Prim.cc
@@ -74,6 +75,7 @@ module _ (d : Dialect) (number : ℕ) (x : State) (database : Database) (has : H
     begun = subst (IsBegun x.dialect number (session_on database)) (sym has.shut) (refl, refl, refl);
     entries = no_more x.entries;
     used = search rules;
+    room = no_entries x.dialect x.limit x.used;
   }
 
   pub leaves_so : (calls : List Call) (y : State) → (all_called d calls (session_on database)).is_open ≡ false → Stands x number y (all_called d calls (session_on database)) → Leaves d calls database x y
@@ -89,6 +91,7 @@ module _ (d : Dialect) (number : ℕ) (x : State) (database : Database) (has : H
         limit = stands.limit;
         entries = subst (λ e. y.entries ≡ option_map (λ entries. entries ++ entries_of e last.entries) x.entries) has.dialect stands.entries;
         used = subst (λ e. y.used ≡ x.used + size_of_all (entries_of e last.entries)) has.dialect stands.used;
+        room = subst (λ e. HadRoom e x.limit x.used last.entries) has.dialect stands.room;
       }
 
   module _ (deeds : List Deed) (room : Room) (y : State) (which : (room ≡ Ordinary) ⊎ ((called d (Alone deeds room) (session_on database)).entries ≡ (Locks Freed ∷ []) ∷ [])) (never : (reason : Reason) → all_done d deeds database ≡ Err reason → ⊥) where

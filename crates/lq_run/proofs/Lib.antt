@@ -1,5 +1,6 @@
 mod Works
 pub mod Doing
+pub mod Rooms
 mod AllWorks
 mod ToldCalls
 mod Stated

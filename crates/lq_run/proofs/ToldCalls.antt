@@ -15,7 +15,7 @@ use Rattle.lq_turns.specs.Held.{all_fit, fits}
 use Rattle.lq_turns.specs.Session.{called}
 use Rattle.lq_turns.specs.declared.call.Call.TheVariants.{Abort, Begin}
 use Rattle.lq_turns.specs.declared.deed.Deed.{Deed}
-use Rattle.lq_run.specs.Does.{AbortFor, AllRead, AloneFor, BeginFor, CommitFor, DoesFor, IsRead, Reads}
+use Rattle.lq_run.specs.Does.{AbortFor, AllRead, AloneFor, BeginFor, CommitFor, DoesFor, IsRead, MayFill, Reads}
 use Rattle.lq_run.specs.Stands.{Stands, deed_text, texts_of}
 use Rattle.lq_run.proofs.AllWorks.{does_alone}
 use Rattle.lq_run.proofs.Doing.{does_abort, does_begin, does_commit, does_deed, unit_of}
@@ -35,14 +35,14 @@ module _ (d : Dialect) (number : ℕ) (x y : State) where
       subst (λ z. MayExecute (made_of z deed).0 (deed_text z deed) x result y) (sym is) (subst (λ t. MayExecute (made_of d deed).0 t x result y) text_is (subst (λ b. MayExecute b text x result y) by_is may)) in
       does_deed start number x s stands deed read (statements_tell e) fit opened result y may
 
-  pub alone_told : (deeds : List Deed) (texts : List ByText) (room : Room) (result : Result (Unit {0}) StoreFault) → AllRead d deeds → texts ≡ texts_of d deeds → is_open number x.begun ≡ false
+  pub alone_told : (deeds : List Deed) (texts : List ByText) (room : Room) (result : Result (Unit {0}) StoreFault) → AllRead d deeds → texts ≡ texts_of d deeds → MayFill room deeds → is_open number x.begun ≡ false
       → MayAlone number texts room x result y → AloneFor d number deeds room x result y
-  alone_told deeds texts room result read text_is shut may start s is stands fit =
+  alone_told deeds texts room result read text_is fills shut may start s is stands fit =
       let e = start.dialect in
       let read : AllRead e deeds = subst (λ z. AllRead z deeds) (sym is) read in
       let fit : all_fit e deeds s.seen ≡ true = subst (λ z. all_fit z deeds s.seen ≡ true) (sym is) fit in
       let may : MayAlone number (texts_of e deeds) room x result y = subst (λ z. MayAlone number (texts_of z deeds) room x result y) (sym is) (subst (λ t. MayAlone number t room x result y) text_is may) in
-      does_alone start number x s stands deeds room read (statements_tell e) fit shut result y may
+      does_alone start number x s stands deeds room fills read (statements_tell e) fit shut result y may
 
   pub commit_told : (result : Result (Unit {0}) StoreFault) → is_open number x.begun ≡ true → MayCommit x result y → CommitFor d number x result y
   commit_told result opened may start s is stands = does_commit start number x s stands opened result y may

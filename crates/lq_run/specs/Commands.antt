@@ -21,7 +21,7 @@ use Rattle.lq_beside.specs.Replays.{calls_fit}
 use Rattle.lq_hand.specs.Hand.{AreTurns, calls_left}
 use Rattle.lq_hand.specs.declared.hand.Phase.TheVariants as phase
 use Rattle.lq_run.specs.Ends.{AllHoldOn, EndsAs}
-use Rattle.lq_run.specs.Stands.{Stands, entries_of}
+use Rattle.lq_run.specs.Stands.{HadRoom, Stands, entries_of}
 use Rattle.lq_hand.specs.Way.{Way}
 use Rattle.lq_run.specs.Steps.{KnownIn, Standing, TellsAs, place}
 use Rattle.lq_run.specs.declared.runner.End.{End}
@@ -77,12 +77,13 @@ pub record HasDatabase (d : Dialect) (x : State) (database : Database) : Type 0 
   pub shut : x.begun ≡ None
   pub committed : StandsFor d x.committed database
 
--- the calls' database is there, and behind the entries that were there stand those of the calls
+-- the calls' database is there, and behind the entries that were there stand those of the calls, for each of which there was room
 pub record Leaves (d : Dialect) (calls : List Call) (database : Database) (x y : State) : Type 0 where
   pub database_is : HasDatabase d y (left_by d calls database)
   pub limit : y.limit ≡ x.limit
   pub entries : y.entries ≡ option_map (λ entries. entries ++ entries_of d (all_called d calls (session_on database)).entries) x.entries
   pub used : y.used ≡ x.used + size_of_all (entries_of d (all_called d calls (session_on database)).entries)
+  pub room : HadRoom d x.limit x.used (all_called d calls (session_on database)).entries
 
 -- so a command ends that met no fault
 abbrev pub LeavesAs : Dialect → List Call → Database → State → End → State → Type 0

@@ -4,7 +4,7 @@ use Rattle.lq_base.specs.declared.dialect.Dialect.{Dialect}
 use Rattle.lq_model.specs.SqlText.{statement_in}
 use Rattle.lq_model.specs.StatementText.{text_of}
 use Rattle.lq_model.specs.declared.caller.Room.{Room}
-use Rattle.lq_model.specs.declared.caller.Room.TheVariants.{Ordinary}
+use Rattle.lq_model.specs.declared.caller.Room.TheVariants.{Ordinary, Release}
 use Rattle.lq_model.specs.declared.fault.StoreFault.{StoreFault}
 use Rattle.lq_model.specs.declared.fault.StoreFault.TheVariants.{Busy, Disk, Full, NotSql, OutOfMemory, Refused}
 use Rattle.lq_model.specs.declared.statement.Statement.{Statement}
@@ -19,6 +19,8 @@ use Rattle.lq_turns.specs.Session.{Session, called}
 use Rattle.lq_turns.specs.declared.call.Call.{Call}
 use Rattle.lq_turns.specs.declared.call.Call.TheVariants.{Abort, Alone, Begin, Commit, Execute}
 use Rattle.lq_turns.specs.declared.deed.Deed.{Deed}
+use Rattle.lq_turns.specs.declared.deed.Deed.TheVariants.{Locks}
+use Rattle.lq_turns.specs.declared.deed.OnLock.TheVariants.{Freed}
 use Rattle.lq_hand.specs.Writable.{IsWritable}
 use Rattle.lq_run.specs.Stands.{Stands, deed_text, entries_of}
 
@@ -39,6 +41,11 @@ AllWritable d (deed ∷ deeds) = IsWritable d deed × AllWritable d deeds
 abbrev pub AllRead : Dialect → List Deed → Type 0
 AllRead d [] = Unit {0}
 AllRead d (deed ∷ deeds) = IsRead d deed × AllRead d deeds
+
+-- only the deed that frees the lock may fill all of the journal
+abbrev pub MayFill : Room → List Deed → Type 0
+MayFill Ordinary deeds = Unit {0}
+MayFill Release deeds = deeds ≡ Locks Freed ∷ []
 
 -- the entries that a call of a session appends
 pub record Appends (d : Dialect) (call : Call) (s : Session) (written : List Entry) : Type 0 where

@@ -1,15 +1,19 @@
 -- A store's state stands for a session of deeds.
 use Rattle.std.specs.Option.{option_map}
-use Rattle.std.specs.Prelude.{List, None, Option, Some, [], false, map, true, ℕ, ◌+◌, ◌++◌, ◌≡◌}
+use Rattle.std.specs.Prelude.{List, None, Option, Some, [], false, map, true, ℕ, ◌+◌, ◌++◌, ◌∷◌, ◌≡◌, ◌≤◌}
 use Rattle.lq_base.specs.declared.dialect.Dialect.{Dialect}
 use Rattle.lq_model.specs.declared.caller.ByText.{ByText}
+use Rattle.lq_model.specs.declared.caller.Room.{Room}
+use Rattle.lq_model.specs.declared.caller.Room.TheVariants.{Ordinary, Release}
 use Rattle.lq_model.specs.StatementText.{text_of}
-use Rattle.lq_store.specs.Journal.{Entry, size_of_all}
+use Rattle.lq_store.specs.Journal.{Entry, end_of, size_of_all}
 use Rattle.lq_store.specs.State.{State, Transaction}
 use Rattle.lq_turns.specs.Deed.{made_of}
 use Rattle.lq_turns.specs.Held.{StandsFor}
 use Rattle.lq_turns.specs.Session.{Session}
 use Rattle.lq_turns.specs.declared.deed.Deed.{Deed}
+use Rattle.lq_turns.specs.declared.deed.Deed.TheVariants.{Locks}
+use Rattle.lq_turns.specs.declared.deed.OnLock.TheVariants.{Freed}
 
 -- the canonical text of the deed's statement
 abbrev pub deed_text : Dialect → Deed → List ℕ
@@ -28,6 +32,15 @@ text_by d deed = record { by = (made_of d deed).0; text = deed_text d deed }
 abbrev pub texts_of : Dialect → List Deed → List ByText
 texts_of d deeds = map (text_by d) deeds
 
+-- how far an entry may fill the journal: the one that frees the lock may use all of it
+abbrev pub room_of_entry : List Deed → Room
+room_of_entry (Locks Freed ∷ []) = Release
+room_of_entry deeds = Ordinary
+
+-- each of the entries had room behind what was in use and the entries before it
+abbrev pub HadRoom : Dialect → ℕ → ℕ → List (List Deed) → Type 0
+HadRoom d limit used entries = (front : List (List Deed)) (deeds : List Deed) (rest : List (List Deed)) → entries ≡ front ++ deeds ∷ rest → used + size_of_all (entries_of d (front ++ deeds ∷ [])) ≤ end_of (room_of_entry deeds) limit
+
 -- the session's transaction, where it has one; no other session has one
 abbrev pub IsBegun : Dialect → ℕ → Session → Option Transaction → Type 0
 IsBegun d number s None = (s.is_open ≡ false) × (s.seen ≡ s.committed) × (s.begun ≡ [])
@@ -43,3 +56,4 @@ pub record Stands (start : State) (number : ℕ) (x : State) (s : Session) : Typ
   -- the session's entries stand behind those of the start
   pub entries : x.entries ≡ option_map (λ entries. entries ++ entries_of start.dialect s.entries) start.entries
   pub used : x.used ≡ start.used + size_of_all (entries_of start.dialect s.entries)
+  pub room : HadRoom start.dialect start.limit start.used s.entries

@@ -3,7 +3,7 @@ ghost use Rattle.lq_hand.specs.Writable.{IsWritable};
 ghost use Rattle.lq_run.specs.Beside.{Beside, is_disk_result, open_after};
 ghost use Rattle.lq_store.specs.Crashes.{CrashesLeave, Keeps};
 ghost use Rattle.lq_run.specs.Crashing.{CrashesFor, LeftAlone};
-ghost use Rattle.lq_run.specs.Does.{AbortFor, AllRead, AllWritable, AloneFor, BeginFor, CommitFor, DoesFor, IsRead, Reads};
+ghost use Rattle.lq_run.specs.Does.{AbortFor, AllRead, AllWritable, AloneFor, BeginFor, CommitFor, DoesFor, IsRead, MayFill, Reads};
 ghost use Rattle.lq_run.specs.Moves.{moved_of};
 ghost use Rattle.lq_run.specs.Stands.{text_by, texts_of};
 ghost use Rattle.lq_store.specs.Calls.{CountsDisk};
@@ -108,6 +108,7 @@ pub fn do_alone<S: Store, P: SqlText>(
     requires closed { is_open session (S.state store.old).begun ≡ false }
     requires sql { P.dialect ≡ dialect }
     requires writable { AllWritable dialect deeds.now }
+    requires fills { MayFill room deeds.now }
     ensures valid { S.valid store.new }
     ensures does { AloneFor dialect session deeds.now room (S.state store.old) result (S.state store.new) }
     ensures crash { CrashesFor dialect session (call.Alone deeds.now room) (S.state store.old) (S.crashes store.old) (S.crashes store.new) }

@@ -34,7 +34,7 @@ use lq_store::Store;
 use lq_turns::{Deed, OnLock, Refusal, Stamp};
 use std::alloc::Global;
 
-/// How a command that had the lock ends.
+/// How a command ends whose checks are passed.
 #[derive(Debug, Drop)]
 pub enum End {
     Done,

@@ -10,11 +10,11 @@ use lq_hand::Source;
 use lq_model::SqlText;
 use lq_store::Store;
 
-/// Makes all calls that a command has still to make. After 2^64 of them it gives up.
+/// Makes all calls that a command has still to make. After 2^64 - 1 of them it gives up.
 ///
 /// Where it is done, or a statement was refused, the store stands for what the whole script leaves.
-/// After a fault of the store it stands for what a front of the script leaves; and the lock is free
-/// again where it had no mark. A full journal is told as full as it was when a call had no room. Where
+/// After a fault of the store it stands for what a front of the script leaves, and the lock may be free
+/// again, where it had no mark. A full journal is told as full as it was when a call had no room. Where
 /// there was no fault the source has told what it was on its way to tell. A crash at any moment leaves a
 /// front of what the script writes, or of what was written when the lock was freed after a fault.
 pub fn run_on<T: Source + Drop, S: Store, P: SqlText>(

@@ -88,7 +88,7 @@ moves n before after w none answers shut jobs origin x dialect shows plays =
         told n a x,
         inl (sym same),
         record {
-          shows = record { dialect = shows.dialect; limit = shows.limit; live = shows.live; committed = shows.committed; begun = shows.begun; entries = shows.entries; used = shows.used };
+          shows = record { dialect = shows.dialect; limit = shows.limit; live = shows.live; committed = shows.committed; begun = shows.begun; entries = shows.entries; used = shows.used; room = shows.room };
           plays = record {
             answer = ap (λ b. if b then Some a else answer_of n x.answers) (own_number n) ∙ sym answers;
             begun = λ unanswered. absurd (never a (sym answers ∙ unanswered));

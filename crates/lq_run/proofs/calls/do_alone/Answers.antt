@@ -10,7 +10,7 @@ use Rattle.lq_run.proofs.calls.do_alone.Goals as goal
 pub returns-clause-does : goal.returns-clause-does
 returns-clause-does g c =
     alone_told c.args.dialect c.args.session (g.S.Store.state c.args.store.now) (g.S.Store.state c.alone.new.self) c.args.deeds.now _ c.args.room _ c.in-Ok.ensures.read
-    (c.as_slice.ensures ∙ c.in-Ok.ensures.texts ∙ ap (λ z. z ++ texts_of c.args.dialect c.args.deeds.now) c.new-texts.ensures) c.requires.closed c.alone.ensures.does
+    (c.as_slice.ensures ∙ c.in-Ok.ensures.texts ∙ ap (λ z. z ++ texts_of c.args.dialect c.args.deeds.now) c.new-texts.ensures) c.requires.fills c.requires.closed c.alone.ensures.does
 
 pub returns-clause-crash : goal.returns-clause-crash
 returns-clause-crash g c =
