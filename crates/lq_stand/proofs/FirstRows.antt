@@ -1,9 +1,10 @@
--- The rows that each command puts in are the first of their identities.
-use Rattle.std.proofs.Common.{ap, subst, sym, ◌∙◌}
+-- The rows that each command puts in are the first of their identities, and stand behind all others.
+use Rattle.std.proofs.Common.{ap, rules, subst, sym, tests, ◌∙◌}
 use Rattle.std.proofs.lemmas.List.{append_assoc}
 use Rattle.std.specs.List.{list_all, list_any}
-use Rattle.std.specs.Prelude.{Bool, Err, List, None, Ok, Option, Result, Some, [], false, if◌then◌else◌, length, map, nat_lt, not, refl, suc, true, ℕ, ◌&&◌, ◌+◌, ◌++◌, ◌∷◌, ◌≡◌}
+use Rattle.std.specs.Prelude.{Bool, Err, List, None, Ok, Option, Result, Some, [], false, if◌then◌else◌, length, map, nat_lt, not, option_and_then, option_map, refl, suc, true, ℕ, ◌&&◌, ◌+◌, ◌++◌, ◌∷◌, ◌≡◌}
 use Rattle.lq_base.specs.declared.dialect.Dialect.{Dialect}
+use Rattle.lq_base.specs.declared.identity.Identity.{Identity}
 use Rattle.lq_base.specs.declared.reason.Reason.{Reason}
 use Rattle.lq_base.specs.declared.reason.Reason.TheVariants.{TooManyRows, TooWide}
 use Rattle.lq_base.specs.declared.run.OnFail.{OnFail}
@@ -16,19 +17,20 @@ use Rattle.lq_model.proofs.Lists.{all-append, and_left, and_right, and_true, tru
 use Rattle.lq_model.specs.Catalogue.{Catalogue}
 use Rattle.lq_model.specs.Commits.{commits_itself}
 use Rattle.lq_model.specs.Sound.{IsSound}
-use Rattle.lq_model.specs.Statement.{is_statement}
 use Rattle.lq_model.specs.Step.{step}
 use Rattle.lq_model.specs.declared.caller.By.TheVariants.{User}
 use Rattle.lq_model.specs.declared.statement.Statement.{Statement}
 use Rattle.lq_track.specs.Database.{Database}
+use Rattle.lq_track.specs.Log.{identity_of}
 use Rattle.lq_turns.proofs.FirstRuns.{no_row}
 use Rattle.lq_turns.proofs.Made.{At}
 use Rattle.lq_turns.proofs.TurnLeft.{turn_taken, twice}
 use Rattle.lq_turns.proofs.Updates.{opened, settled_is, sound_by, taken_by}
 use Rattle.lq_turns.specs.Contents.{Contents, contents_of, with_contents}
 use Rattle.lq_turns.specs.Deed.{contents_after, done, has_place, if_accepted, is_of, lock_after, locked_after}
+use Rattle.lq_turns.specs.Effects.{undoing}
 use Rattle.lq_turns.specs.Laws.{AreRead}
-use Rattle.lq_turns.specs.Rollback.{calls_if_finished, turns_made}
+use Rattle.lq_turns.specs.Rollback.{calls_if_finished, is_mark_ran, rollback_of, set_of, turns_made, undo_by, undo_turn, undo_turns}
 use Rattle.lq_turns.specs.Script.{calls_of_turn, calls_unless, closing, has_work, last_row, opening, rows_to_sync, set_calls, sets_calls, sync_of, tag_of, turn_by, with_lock}
 use Rattle.lq_turns.specs.Session.{Session, all_called, all_executed, before, called, closed, executed, executed_as, is_own, session_on, settled_if}
 use Rattle.lq_turns.specs.Set.{IsKept, Meaning, Set, has_row, row_at}
@@ -49,7 +51,7 @@ use Rattle.lq_turns.specs.declared.deed.OnRows.TheVariants.{Deleted, Filled, Ins
 use Rattle.lq_turns.specs.declared.stamp.Stamp.{Stamp}
 use Rattle.lq_turns.specs.declared.stop.Stop.{Stop}
 use Rattle.lq_turns.specs.declared.turn.Turn.{Turn}
-use Rattle.lq_beside.specs.Fitting.{is_deleted, is_return}
+use Rattle.lq_beside.specs.Fitting.{is_deleted}
 use Rattle.lq_stand.specs.First.{call_is_first, calls_are_first, deed_is_first, deeds_are_first, is_first}
 use Rattle.lq_stand.specs.Stays.{ReleaseIsFirst, RollbackIsFirst, SyncIsFirst, TagIsFirst, UpdateIsFirst}
 
@@ -63,6 +65,9 @@ none_some : {A B : Type 0} {x : A} → (let o : Option A = None in o) ≡ Some x
 none_some e = absurd (clash e) where
   clash : {A : Type 0} {x : A} → (let o : Option A = None in o) ≡ Some x → ⊥
   clash e = Prim.cc
+
+next_place : (n : ℕ) → nat_lt n (n + 1) ≡ true
+next_place n = search (rules, tests)
 
 -- a call that does nothing to rows, and gives nothing up
 abbrev leaves_rows : Call → Bool
@@ -210,9 +215,9 @@ module _ {Key : Type 0} (d : Dialect) (m : Meaning Key) (keeps : IsKept m) (stam
       again false false e = Prim.cc
 
   row_first : (w : What) (e : Exec) (x : Set Key) (rows : List Tracked) → IsNew w x rows → is_first (record_in stamp.reading w e x rows) rows ≡ true
-  row_first New e x rows new = ap not (no_row (is_of x.identity) rows new)
-  row_first Again e x rows new = refl
-  row_first Fill e x rows new = refl
+  row_first New e x rows new = and_true _ _ (ap not (no_row (is_of x.identity) rows new)) (next_place (greatest rows))
+  row_first Again e x rows new = next_place (greatest rows)
+  row_first Fill e x rows new = next_place (greatest rows)
 
   set_first : (x : Set Key) (c : Contents) (q : Choice) (s : Session) → Chosen q x c.rows → contents_of s.seen ≡ c → calls_are_first d (calls_of_turn d m stamp (turn_by d m stamp x c.rows q) c) s ≡ true
   set_first x c Fills s chosen at = turn_first d stamp.who (fill_turn x) c s refl at
@@ -255,7 +260,7 @@ synced_first {Key} reading (x ∷ xs) rows = by x.selected (has_row rows x.ident
   by : (a b : Bool) → has_row rows x.identity ≡ b → AllFirst (rows_to_sync reading xs (rows ++ row_for reading (greatest rows + 1) exec.Executed x ∷ [])) (rows ++ row_for reading (greatest rows + 1) exec.Executed x ∷ [])
       → AllFirst (rows_to_sync reading xs rows) rows
       → AllFirst (if a && not b then row_for reading (greatest rows + 1) exec.Executed x ∷ rows_to_sync reading xs (rows ++ row_for reading (greatest rows + 1) exec.Executed x ∷ []) else rows_to_sync reading xs rows) rows
-  by true false is with_it without = (ap not is, with_it)
+  by true false is with_it without = (and_true _ _ (ap not is) (next_place (greatest rows)), with_it)
   by true true is with_it without = without
   by false b is with_it without = without
 
@@ -285,20 +290,23 @@ sync_is_first Key d stamp g database = sync_rows_first d stamp (rows_to_sync sta
 
 -- a rollback
 
+abbrev deletes : Turn → Bool
+deletes turn = is_deleted turn.row
+
 deleted_first : (w : OnRows) (rows : List Tracked) → is_deleted w ≡ true → is_first w rows ≡ true
 deleted_first (Deleted of) rows is = refl
 deleted_first (Inserted row) rows is = true_false is refl
-deleted_first (Renewed row) rows is = refl
+deleted_first (Renewed row) rows is = true_false is refl
 deleted_first (Filled of sum) rows is = refl
 deleted_first (Tagged of tag) rows is = refl
 
-turns_first : (d : Dialect) (who : List ℕ) (turns : List Turn) (c : Contents) (s : Session) → list_all (is_return d) turns ≡ true → At s (twice c) → calls_are_first d (turns_made d who turns c) s ≡ true
+turns_first : (d : Dialect) (who : List ℕ) (turns : List Turn) (c : Contents) (s : Session) → list_all deletes turns ≡ true → At s (twice c) → calls_are_first d (turns_made d who turns c) s ≡ true
 turns_first d who [] c s all at = refl
 turns_first d who (turn ∷ turns) c s all at =
     let calls = made d (turn_calls d who turn) c in
     both_first d calls (calls_if_finished (turns_made d who turns (contents_in (ending d turn c))) (ending d turn c)) s
-    (turn_first d who turn c s (deleted_first turn.row c.rows (and_right (list_all (is_statement d) turn.statements) _ (and_left (is_return d turn) _ all))) at.seen)
-    (by (λ now t at. turns_first d who turns now t (and_right (is_return d turn) _ all) at) (ending d turn c) (all_called d calls s) (turn_taken d who turn c s at)) where
+    (turn_first d who turn c s (deleted_first turn.row c.rows (and_left (deletes turn) _ all)) at.seen)
+    (by (λ now t at. turns_first d who turns now t (and_right (deletes turn) _ all) at) (ending d turn c) (all_called d calls s) (turn_taken d who turn c s at)) where
       by : ((now : Contents) (t : Session) → At t (twice now) → calls_are_first d (turns_made d who turns now) t ≡ true) → (e : Ending) (t : Session) → At t (twice (contents_in e))
           → calls_are_first d (calls_if_finished (turns_made d who turns (contents_in e)) e) t ≡ true
       by more (Finished now) t at = more now t at
@@ -307,6 +315,44 @@ turns_first d who (turn ∷ turns) c s all at =
 pub rollback_is_first : RollbackIsFirst
 rollback_is_first d stamp [] database all = refl
 rollback_is_first d stamp (turn ∷ turns) database all = locked_first d stamp database (turns_made d stamp.who (turn ∷ turns) (contents_of database)) (λ s at. turns_first d stamp.who (turn ∷ turns) (contents_of database) s all at)
+
+-- the turns that take rows back delete them, where there are such
+
+abbrev Deletes : Option Turn → Type 0
+Deletes None = Unit {0}
+Deletes (Some turn) = deletes turn ≡ true
+
+abbrev AllDelete : Option (List Turn) → Type 0
+AllDelete None = Unit {0}
+AllDelete (Some turns) = list_all deletes turns ≡ true
+
+both_delete : (first : Option Turn) (more : Option (List Turn)) → Deletes first → AllDelete more → AllDelete (option_and_then (λ (turn : Turn). option_map (λ (turns : List Turn). turn ∷ turns) more) first)
+both_delete None more one rest = tt
+both_delete (Some turn) None one rest = tt
+both_delete (Some turn) (Some turns) one rest = and_true _ _ one rest
+
+module _ {Key : Type 0} (d : Dialect) (m : Meaning Key) where
+  by_set : (of : Identity) (x : Set Key) (o : Option (List Statement))
+      → Deletes (option_map (λ (statements : List Statement). record { identity = of; statements = statements; in_transaction = x.in_transaction; is_undo = true; row = Deleted of }) o)
+  by_set of x None = tt
+  by_set of x (Some statements) = refl
+
+  by_found : (of : Identity) (o : Option (Set Key)) → Deletes (option_and_then (undo_by d m of) o)
+  by_found of None = tt
+  by_found of (Some x) = by_set of x (undoing d m x)
+
+  undo_deletes : (xs : List (Set Key)) (row : Tracked) → Deletes (undo_turn d m xs row)
+  undo_deletes xs row = by (is_mark_ran row.exec) where
+    by : (b : Bool) → Deletes (if b then Some (record { identity = identity_of row; statements = []; in_transaction = true; is_undo = true; row = Deleted (identity_of row) }) else option_and_then (undo_by d m (identity_of row)) (set_of xs (identity_of row)))
+    by true = refl
+    by false = by_found (identity_of row) (set_of xs (identity_of row))
+
+  undone_delete : (xs : List (Set Key)) (rows : List Tracked) → AllDelete (undo_turns d m xs rows)
+  undone_delete xs [] = refl
+  undone_delete xs (row ∷ rows) = both_delete (undo_turn d m xs row) (undo_turns d m xs rows) (undo_deletes xs row) (undone_delete xs rows)
+
+  pub undone_is_first : (stamp : Stamp) (xs : List (Set Key)) (rows : List Tracked) (turns : List Turn) (database : Database) → undo_turns d m xs rows ≡ Some turns → calls_are_first d (rollback_of d stamp turns database) (session_on database) ≡ true
+  undone_is_first stamp xs rows turns database is = rollback_is_first d stamp turns database (subst AllDelete is (undone_delete xs rows))
 
 -- a tag and a release-locks
 

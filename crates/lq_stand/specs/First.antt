@@ -1,5 +1,5 @@
--- That each row that calls put in is the first of its identity.
-use Rattle.std.specs.Prelude.{Bool, Err, List, Ok, [], not, true, ◌&&◌, ◌∷◌}
+-- That each row that calls put in is the first of its identity, and stands behind all others.
+use Rattle.std.specs.Prelude.{Bool, Err, List, Ok, [], nat_lt, not, true, ◌&&◌, ◌∷◌}
 use Rattle.lq_base.specs.declared.dialect.Dialect.{Dialect}
 use Rattle.lq_base.specs.declared.tracking.Tracked.{Tracked}
 use Rattle.lq_track.specs.Database.{Database}
@@ -7,6 +7,7 @@ use Rattle.lq_track.specs.Log.{identity_of}
 use Rattle.lq_turns.specs.Deed.{done}
 use Rattle.lq_turns.specs.Session.{Session, called}
 use Rattle.lq_turns.specs.Set.{has_row}
+use Rattle.lq_turns.specs.Settle.{greatest}
 use Rattle.lq_turns.specs.declared.call.Call.{Call}
 use Rattle.lq_turns.specs.declared.call.Call.TheVariants.{Abort, Alone, Begin, Commit, Execute}
 use Rattle.lq_turns.specs.declared.deed.Deed.{Deed}
@@ -14,10 +15,10 @@ use Rattle.lq_turns.specs.declared.deed.Deed.TheVariants.{Locks, Rows, Users}
 use Rattle.lq_turns.specs.declared.deed.OnRows.{OnRows}
 use Rattle.lq_turns.specs.declared.deed.OnRows.TheVariants.{Deleted, Filled, Inserted, Renewed, Tagged}
 
--- a row that is put in is the first of its identity
+-- a row that is put in is the first of its identity; it, and one that is renewed, has a place behind all others
 abbrev pub is_first : OnRows → List Tracked → Bool
-is_first (Inserted row) rows = not (has_row rows (identity_of row))
-is_first (Renewed row) rows = true
+is_first (Inserted row) rows = not (has_row rows (identity_of row)) && nat_lt (greatest rows) row.order
+is_first (Renewed row) rows = nat_lt (greatest rows) row.order
 is_first (Deleted of) rows = true
 is_first (Filled of sum) rows = true
 is_first (Tagged of tag) rows = true

@@ -1,6 +1,6 @@
 ghost use Rattle.lq_stand.specs.Clean.{CleanStands};
 ghost use Rattle.lq_stand.specs.Places.{PlacesAreSmall};
-ghost use Rattle.lq_stand.specs.Stays.{CallsStayClean, CleanIsFound, ReleaseIsFirst, RollbackIsFirst, StatementsStayApart, SyncIsFirst, TagIsFirst, UpdateIsFirst};
+ghost use Rattle.lq_stand.specs.Stays.{CallsStayClean, CleanIsFound, ReleaseIsFirst, RollbackIsFirst, StatementsStayApart, StopsStayClean, SyncIsFirst, TagIsFirst, UpdateIsFirst};
 ghost use Rattle.lq_turns.specs.Promised.{meaning};
 
 use lq_model::Change;
@@ -25,12 +25,18 @@ pub fn clean_is_found()
     ensures { CleanIsFound }
 {}
 
-/// Calls that fit, and whose new rows are the first of their identities, leave a clean database.
+/// Calls whose new rows are the first of their identities, and stand behind all others, leave a clean
+/// database where a catalogue stands for it.
 pub fn calls_stay_clean()
     ensures { CallsStayClean }
 {}
 
-/// The new rows of an update are the first of their identities.
+/// And so does a stop of them.
+pub fn stops_stay_clean()
+    ensures { StopsStayClean }
+{}
+
+/// The new rows of an update are the first of their identities, and stand behind all others.
 pub fn update_is_first<C: Change>()
     ensures { UpdateIsFirst (meaning C.is_for C.gives C.effect C.fresh C.inverse) }
 {}

@@ -1,3 +1,4 @@
 pub mod LineLemmas
 pub mod LogLemmas
 pub mod SinkLemmas
+pub mod SoakTexts

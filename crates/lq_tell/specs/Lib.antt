@@ -1,5 +1,6 @@
 pub mod Lines
 pub mod Log
+pub mod SoakLog
 pub mod Status
 pub mod Texts
 pub mod Told

@@ -15,12 +15,14 @@ pub struct Done {
 }
 
 impl Done {
-    ghost use Rattle.std.specs.Prelude.{◌≡◌, Some};
+    ghost use Rattle.std.specs.Prelude.{◌≡◌, [], None, Some};
 
-    /// Its work is done, and this is its output.
+    /// Its work is done, and this is its output. There are no warnings.
     pub fn with(alloc: Global, out: Text) -> Done
         ensures status { result.status ≡ Status.Done }
         ensures out { result.out ≡ Some out }
+        ensures own { result.own ≡ None }
+        ensures warned { result.warned ≡ [] }
     {
         Done {
             status: Status::Done,
