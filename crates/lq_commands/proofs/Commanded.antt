@@ -31,9 +31,11 @@ use Rattle.lq_turns.specs.Script.{last_row, tag_calls}
 use Rattle.lq_turns.specs.Session.{session_on}
 use Rattle.lq_turns.specs.declared.call.Call.{Call}
 use Rattle.lq_turns.specs.declared.fault.Fault.{Fault}
+use Rattle.lq_commands.proofs.Warned.{quiet_lines}
 use Rattle.lq_commands.specs.Outputs.{TellsText}
 use Rattle.lq_commands.specs.Refusals.{Answers, IsFault, Passes, ends, fault_status, if_some, irreversible, no_way_back, refusal, unreachable_by}
 use Rattle.lq_commands.specs.Scripts.{script, sets_in}
+use Rattle.lq_commands.specs.Tells.{IsQuiet}
 use Rattle.lq_commands.specs.Works.{CrashesIn, IsKept, OnIts, SaysFull, Works, is_finished}
 use Rattle.lq_commands.specs.declared.given.Given.{Given}
 
@@ -176,9 +178,9 @@ module _ (k l : Command) (is : k ≡ l) (given : Given) (database : Database) wh
 
 -- what is pending on the rows of the database
 pub pending_told : (given : Given) (x : State) (rows : List Tracked) (r : Result Done Status) → OnIts given.options.dialect x (λ (database : Database). database.rows ≡ rows) → IfOk r (λ (done : Done). done.status ≡ status.Done)
-    → IfOk r (λ (done : Done). done.out ≡ Some (status_text (pending (sets_in given) rows))) → IfOk r (λ (done : Done). OnIts given.options.dialect x (λ (database : Database). TellsText (status_text (pending (sets_in given) database.rows)) done))
-pending_told given x rows (Ok done) same is tells = λ database has. record { status = is; out = tells ∙ ap (λ (rs : List Tracked). Some (status_text (pending (sets_in given) rs))) (sym (same database has)) }
-pending_told given x rows (Err s) same is tells = tt
+    → IfOk r (λ (done : Done). done.out ≡ Some (status_text (pending (sets_in given) rows))) → IfOk r IsQuiet → IfOk r (λ (done : Done). OnIts given.options.dialect x (λ (database : Database). TellsText (status_text (pending (sets_in given) database.rows)) done))
+pending_told given x rows (Ok done) same is tells quiet = λ database has. record { status = is; out = tells ∙ ap (λ (rs : List Tracked). Some (status_text (pending (sets_in given) rs))) (sym (same database has)); warned = quiet_lines done quiet }
+pending_told given x rows (Err s) same is tells quiet = tt
 
 -- a tag on the last row, whose calls fit
 module _ (d : Dialect) (of : Identity) (name tag : List ℕ) (x : State) (same : name ≡ tag) (short : char_count tag ≤ 255) where

@@ -7,6 +7,7 @@ use Rattle.lq_base.specs.declared.dialect.Dialect.{Dialect}
 use Rattle.lq_model.specs.declared.fault.StoreFault.{StoreFault}
 use Rattle.lq_model.specs.declared.fault.StoreFault.TheVariants as fault
 use Rattle.lq_run.proofs.Behind.{none_left}
+use Rattle.lq_run.proofs.Rooms.{no_entries}
 use Rattle.lq_run.proofs.Since.{leave_none}
 use Rattle.lq_run.specs.Commands.{HasDatabase, Leaves, LeavesAs}
 use Rattle.lq_run.specs.Crashes.{LeftBehind, LeftInCommand}
@@ -45,7 +46,7 @@ no_more (Some entries) = ap Some (sym (append-nil entries))
 
 -- no calls leave the database as it is
 pub leaves_nothing : (d : Dialect) (database : Database) (x : State) → HasDatabase d x database → Leaves d [] database x x
-leaves_nothing d database x has = record { database_is = has; limit = refl; entries = no_more x.entries; used = search rules }
+leaves_nothing d database x has = record { database_is = has; limit = refl; entries = no_more x.entries; used = search rules; room = no_entries d x.limit x.used }
 
 module _ (d : Dialect) (calls : List Call) (database : Database) (x y : State) where
   pub whole_leaves : (e : End) → is_whole e ≡ true → LeavesAs d calls database x e y → Leaves d calls database x y

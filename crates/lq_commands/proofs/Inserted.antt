@@ -43,10 +43,11 @@ use Rattle.lq_turns.specs.declared.stop.Stop.TheVariants.{Halted, Refused}
 use Rattle.lq_commands.proofs.Endings.{works_nothing}
 use Rattle.lq_commands.proofs.LoadedTexts.{view_has}
 use Rattle.lq_commands.proofs.Planned.{no_sync, sync_is, sync_may}
+use Rattle.lq_commands.proofs.Warned.{quiet_lines}
 use Rattle.lq_commands.specs.Inserts.{EndsWithRows, TellsSync, goes_in, refusal_in, sync_out, synced_in}
 use Rattle.lq_commands.specs.Scripts.{sets_in, sync_script}
 use Rattle.lq_commands.specs.Stopping.{NamesStop, one_way, refused_at}
-use Rattle.lq_commands.specs.Tells.{IfFinished, status_by, stop_by}
+use Rattle.lq_commands.specs.Tells.{IfFinished, IsQuiet, status_by, stop_by}
 use Rattle.lq_commands.specs.Works.{OnIts, Works, is_finished, is_whole}
 use Rattle.lq_commands.specs.declared.given.Given.{Given}
 
@@ -143,13 +144,14 @@ module _ (rows before : List Tracked) (of : Option Identity) (happened : List Ha
   stop_told : is_whole e ≡ true → stop_by None of e ≡ insert_stop rows before
   stop_told whole = ap (λ (o : Option Identity). stop_by None o e) of_is ∙ stop_is (insert_stop rows before) e (no_halt rows before) ends whole
 
-  sync_told : (c : Contents) (done : Done) → c.rows ≡ before → is_whole e ≡ true → done.status ≡ status_by (stop_by None of e) → done.out ≡ sync_out done.status happened → TellsSync (synced_by rows c) done
-  sync_told c done same whole is out =
+  sync_told : (c : Contents) (done : Done) → c.rows ≡ before → is_whole e ≡ true → done.status ≡ status_by (stop_by None of e) → done.out ≡ sync_out done.status happened → IsQuiet done → TellsSync (synced_by rows c) done
+  sync_told c done same whole is out quiet =
       let stop_now : stop_by None of e ≡ insert_stop rows c.rows = stop_told whole ∙ ap (insert_stop rows) (sym same) in
       let status_now : done.status ≡ status_by (insert_stop rows c.rows) = is ∙ ap status_by stop_now in
       record {
         status = status_now;
         out = out ∙ ap (λ (s : Status). sync_out s happened) status_now ∙ ap (sync_out (status_by (insert_stop rows c.rows))) marks ∙ out_is (insert_stop rows c.rows) rows (no_halt rows c.rows);
+        warned = quiet_lines done quiet;
       }
 
 -- beside the rows of the database
@@ -170,21 +172,21 @@ module _ (given : Given) (before rows : List Tracked) (are : rows ≡ rows_to_sy
   idle_sync_works database same none x r is has =
       subst (λ calls. Works d calls database x r x) (sym (no_sync given database (sym (rows_are database same) ∙ none))) (works_nothing d database x r is has)
 
-  pub idle_sync_tells : (x : State) (r : Result Done Status) → OnIts d x (λ (database : Database). database.rows ≡ before) → rows ≡ [] → IfOk r (λ (done : Done). done.status ≡ status.Done) → IfOk r (λ (done : Done). done.out ≡ Some (sync_text []))
+  pub idle_sync_tells : (x : State) (r : Result Done Status) → OnIts d x (λ (database : Database). database.rows ≡ before) → rows ≡ [] → IfOk r (λ (done : Done). done.status ≡ status.Done) → IfOk r (λ (done : Done). done.out ≡ Some (sync_text [])) → IfOk r IsQuiet
       → IfOk r (λ (done : Done). OnIts d x (λ (database : Database). IfFinished done (TellsSync (synced_in given database) done)))
-  idle_sync_tells x (Ok done) same none is out = λ database has finished.
-      subst (λ (rs : List Tracked). TellsSync (synced_by rs (contents_of database)) done) (sym none ∙ rows_are database (same database has)) (record { status = is; out = out })
-  idle_sync_tells x (Err s) same none is out = tt
+  idle_sync_tells x (Ok done) same none is out quiet = λ database has finished.
+      subst (λ (rs : List Tracked). TellsSync (synced_by rs (contents_of database)) done) (sym none ∙ rows_are database (same database has)) (record { status = is; out = out; warned = quiet_lines done quiet })
+  idle_sync_tells x (Err s) same none is out quiet = tt
 
   -- what is told of them
   pub sync_tells : (x : State) (r : Result Done Status) (of : Option Identity) (happened : List Happened) (e : End) → OnIts d x (λ (database : Database). database.rows ≡ before)
       → of ≡ refused_at (insert_stop rows before) → happened ≡ marked_by None rows → EndsWithRows rows before e
-      → IfOk r (λ (done : Done). is_finished done.status ≡ true → is_whole e ≡ true) → IfOk r (λ (done : Done). is_finished done.status ≡ true → done.status ≡ status_by (stop_by None of e)) → IfOk r (λ (done : Done). done.out ≡ sync_out done.status happened)
+      → IfOk r (λ (done : Done). is_finished done.status ≡ true → is_whole e ≡ true) → IfOk r (λ (done : Done). is_finished done.status ≡ true → done.status ≡ status_by (stop_by None of e)) → IfOk r (λ (done : Done). done.out ≡ sync_out done.status happened) → IfOk r IsQuiet
       → IfOk r (λ (done : Done). OnIts d x (λ (database : Database). IfFinished done (TellsSync (synced_in given database) done)))
-  sync_tells x (Ok done) of happened e same of_is marks ends whole is out = λ database has finished.
+  sync_tells x (Ok done) of happened e same of_is marks ends whole is out quiet = λ database has finished.
       subst (λ (rs : List Tracked). TellsSync (synced_by rs (contents_of database)) done) (rows_are database (same database has))
-      (sync_told rows before of happened e of_is marks ends (contents_of database) done (same database has) (whole finished) (is finished) out)
-  sync_tells x (Err s) of happened e same of_is marks ends whole is out = tt
+      (sync_told rows before of happened e of_is marks ends (contents_of database) done (same database has) (whole finished) (is finished) out quiet)
+  sync_tells x (Err s) of happened e same of_is marks ends whole is out quiet = tt
 
   -- the turn that inserts them
   module _ (calls : List Call) (calls_are : calls ≡ sync_calls rows) where

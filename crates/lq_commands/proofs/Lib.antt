@@ -6,8 +6,10 @@ mod Freed
 mod InOneTurn
 mod Inserted
 mod LoadedTexts
+mod MayWrite
 pub mod PlainRefusals
 pub mod Planned
+mod Printed
 mod RolledBack
 mod Seen
 mod Starts
@@ -15,3 +17,4 @@ mod Stopped
 mod Telling
 mod Updated
 pub mod ViewsRead
+pub mod Warned

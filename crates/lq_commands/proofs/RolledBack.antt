@@ -2,7 +2,7 @@
 use Rattle.std.proofs.Common.{ap, arith, inl, inr, refl, subst, sym, ◌∙◌}
 use Rattle.std.proofs.lemmas.Bool.Decides.{nat_tests}
 use Rattle.std.proofs.lemmas.List.{reverse-reverse}
-use Rattle.std.specs.List.{list_all}
+use Rattle.std.specs.List.{flat_map, list_all}
 use Rattle.std.specs.Option.{option_or}
 use Rattle.std.specs.Prelude.{Bool, Err, IfErr, IfOk, List, None, Ok, Option, Result, Some, [], false, is_some, length, option_and_then, option_map, reverse, true, ℕ, ◌==◌, ◌∷◌, ◌≡◌, ◌≢◌, ◌≤◌}
 use Rattle.lq_base.specs.declared.command.Command.TheVariants as command
@@ -25,6 +25,7 @@ use Rattle.lq_back.specs.declared.reversal.TakenBack.{TakenBack}
 use Rattle.lq_back.specs.declared.row_turns.RowTurns.{RowTurns}
 use Rattle.lq_store.specs.Crashes.{Crashes}
 use Rattle.lq_store.specs.State.{State}
+use Rattle.lq_tell.specs.Lines.{warning_line, warning_lines}
 use Rattle.lq_tell.specs.declared.done.Done.{Done}
 use Rattle.lq_tell.specs.declared.status.Status.{Status}
 use Rattle.lq_tell.specs.declared.status.Status.TheVariants as status
@@ -40,10 +41,11 @@ use Rattle.lq_commands.proofs.Endings.{works_by, works_nothing}
 use Rattle.lq_commands.proofs.Planned.{goes_to, rollback_is, rollback_may, taken_back}
 use Rattle.lq_commands.proofs.PlainRefusals.{IsPlain, refusal_plain}
 use Rattle.lq_commands.proofs.Updated.{all_told}
+use Rattle.lq_commands.proofs.Warned.{quiet_lines}
 use Rattle.lq_commands.specs.Kinds.{is_diskless}
 use Rattle.lq_commands.specs.Refusals.{Answers, Passes, if_not, irreversible, no_way_back, refusal, unreachable_by, unready}
 use Rattle.lq_commands.specs.Scripts.{nothing_told, rollback_script, rolled_back, rolled_to, sets_in, taking_back}
-use Rattle.lq_commands.specs.Tells.{HasTold, IfFinished, TellsRollback, rollback_output, status_by, stop_by}
+use Rattle.lq_commands.specs.Tells.{HasTold, IfFinished, IsQuiet, TellsRollback, rollback_output, status_by, stop_by}
 use Rattle.lq_commands.specs.Turns.{MayTurn, turns_script}
 use Rattle.lq_commands.specs.Works.{CrashesIn, FullAs, IsKept, OnIts, TellsFull, Works, is_finished, is_whole}
 use Rattle.lq_commands.specs.declared.given.Given.{Given}
@@ -163,13 +165,15 @@ rollback_said prints happened texts = Some (rollback_output prints happened text
 -- what is told at the end
 pub tells_rollback : (prints : Bool) (o : Outcome) (account : Account) (e : End) (done : Done) (happened : List Happened) (texts : List Printed) → happened ≡ o.happened → texts ≡ o.printed
     → (is_finished done.status ≡ true → is_whole e ≡ true) → (is_finished done.status ≡ true → done.status ≡ status_by (stop_by o.halted o.stopped_at e))
-    → (is_finished done.status ≡ true → done.out ≡ Some (rollback_output prints happened texts)) → HasTold o account e → IfFinished done (TellsRollback prints account done)
-tells_rollback prints o account e done happened texts are printed_are whole is out told = λ finished.
+    → (is_finished done.status ≡ true → done.out ≡ Some (rollback_output prints happened texts)) → warning_lines done.own done.warned ≡ flat_map warning_line o.warned → HasTold o account e
+    → IfFinished done (TellsRollback prints account done)
+tells_rollback prints o account e done happened texts are printed_are whole is out warned told = λ finished.
     let all = all_told o account e (whole finished) told in record {
       status = is finished ∙ ap status_by all.stop;
       out = out finished
           ∙ (ap (λ (hs : List Happened). rollback_said prints hs texts) (are ∙ all.happened)
           ∙ ap (λ (ps : List Printed). rollback_said prints account.settled.happened ps) (printed_are ∙ all.printed));
+      warned = warned ∙ ap (flat_map warning_line) all.warned;
     }
 
 -- rows that are taken back
@@ -236,15 +240,15 @@ module _ (given : Given) (database : Database) where
   pub idle_works : (x : State) (r : Result Done Status) (rows : List Tracked) → rows ≡ [] → IfOk r (λ (done : Done). done.status ≡ status.Done) → HasDatabase d x database → Works d (taking_back given (reverse rows) database) database x r x
   idle_works x r rows none is has = subst (λ (rs : List Tracked). Works d (taking_back given (reverse rs) database) database x r x) (sym none) (works_nothing d database x r is has)
 
-  none_tell : (prints : Bool) (done : Done) → done.status ≡ status.Done → done.out ≡ Some (rollback_output prints [] []) → TellsRollback prints (of_turns prints d [] (contents_of database)) done
-  none_tell true done is out = record { status = is; out = out }
-  none_tell false done is out = record { status = is; out = out }
+  none_tell : (prints : Bool) (done : Done) → done.status ≡ status.Done → done.out ≡ Some (rollback_output prints [] []) → IsQuiet done → TellsRollback prints (of_turns prints d [] (contents_of database)) done
+  none_tell true done is out quiet = record { status = is; out = out; warned = quiet_lines done quiet }
+  none_tell false done is out quiet = record { status = is; out = out; warned = quiet_lines done quiet }
 
-  pub idle_tells : (prints : Bool) (r : Result Done Status) (rows : List Tracked) → rows ≡ [] → IfOk r (λ (done : Done). done.status ≡ status.Done) → IfOk r (λ (done : Done). done.out ≡ Some (rollback_output prints [] []))
+  pub idle_tells : (prints : Bool) (r : Result Done Status) (rows : List Tracked) → rows ≡ [] → IfOk r (λ (done : Done). done.status ≡ status.Done) → IfOk r (λ (done : Done). done.out ≡ Some (rollback_output prints [] [])) → IfOk r IsQuiet
       → IfOk r (λ (done : Done). IfFinished done (TellsRollback prints (rolled_back prints given (reverse rows) database) done))
-  idle_tells prints (Ok done) rows none is out = λ finished.
-      subst (λ (rs : List Tracked). TellsRollback prints (rolled_back prints given (reverse rs) database) done) (sym none) (none_tell prints done is out)
-  idle_tells prints (Err s) rows none is out = tt
+  idle_tells prints (Ok done) rows none is out quiet = λ finished.
+      subst (λ (rs : List Tracked). TellsRollback prints (rolled_back prints given (reverse rs) database) done) (sym none) (none_tell prints done is out quiet)
+  idle_tells prints (Err s) rows none is out quiet = tt
 
   -- to the target
 

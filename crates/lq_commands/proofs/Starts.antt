@@ -9,6 +9,7 @@ use Rattle.lq_hand.specs.Way.{Way}
 use Rattle.lq_hand.specs.Hand.{calls_left, place_of}
 use Rattle.lq_hand.specs.declared.hand.Hand.{Hand}
 use Rattle.lq_model.specs.declared.fault.StoreFault.{StoreFault}
+use Rattle.lq_run.proofs.Rooms.{no_entries}
 use Rattle.lq_run.specs.Commands.{HasDatabase, KnowsContents, OnAll, SomeMayRun, TellsAll, both_on, script}
 use Rattle.lq_run.specs.Stands.{IsBegun, Stands}
 use Rattle.lq_run.specs.Steps.{KnownIn, Standing, TellsAs, enters_turns, no_turn, place, standing, turns_of}
@@ -42,6 +43,7 @@ module _ {Key Told : Type 0} (d : Dialect) (m : Meaning Key) (stamp : Stamp) (nu
     begun = subst (IsBegun x.dialect number (session_on database)) (sym has.shut) (refl, refl, refl);
     entries = no_more x.entries;
     used = search rules;
+    room = no_entries x.dialect x.limit x.used;
   }
 
   pub may_run : (told : Told) → KnowsContents d m stamp r database told → calls_fit d (script d m stamp (place r) database) (session_on database) ≡ true → SomeMayRun d m stamp number r x

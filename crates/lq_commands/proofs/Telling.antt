@@ -10,8 +10,9 @@ use Rattle.lq_tell.specs.declared.done.Done.{Done}
 use Rattle.lq_tell.specs.declared.status.Status.{Status}
 use Rattle.lq_tell.specs.declared.status.Status.TheVariants as status
 use Rattle.lq_track.specs.Database.{Database}
+use Rattle.lq_commands.proofs.Warned.{quiet_lines}
 use Rattle.lq_commands.specs.Outputs.{TellsJob, TellsText}
-use Rattle.lq_commands.specs.Tells.{IfFinished}
+use Rattle.lq_commands.specs.Tells.{IfFinished, IsQuiet}
 use Rattle.lq_commands.specs.Works.{OnIts, is_finished}
 use Rattle.lq_commands.specs.declared.given.Given.{Given}
 
@@ -39,9 +40,9 @@ unended_tells (Ok done) holds unfinished = λ finished. absurd (not_true (sym un
 unended_tells (Err s) holds unfinished = tt
 
 -- a text, where it is done
-pub text_tells : (text : List ℕ) (r : Result Done Status) → IfOk r (λ (done : Done). done.status ≡ status.Done) → IfOk r (λ (done : Done). done.out ≡ Some text) → IfOk r (λ (done : Done). TellsText text done)
-text_tells text (Ok done) status out = record { status = status; out = out }
-text_tells text (Err s) status out = tt
+pub text_tells : (text : List ℕ) (r : Result Done Status) → IfOk r (λ (done : Done). done.status ≡ status.Done) → IfOk r (λ (done : Done). done.out ≡ Some text) → IfOk r IsQuiet → IfOk r (λ (done : Done). TellsText text done)
+text_tells text (Ok done) status out quiet = record { status = status; out = out; warned = quiet_lines done quiet }
+text_tells text (Err s) status out quiet = tt
 
 -- for each database of a store
 

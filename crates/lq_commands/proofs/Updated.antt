@@ -1,6 +1,6 @@
 -- An update, from its checks to what it tells.
 use Rattle.std.proofs.Common.{ap, arith, inl, inr, refl, subst, sym, ◌∙◌}
-use Rattle.std.specs.List.{All}
+use Rattle.std.specs.List.{All, flat_map}
 use Rattle.std.specs.Option.{option_or}
 use Rattle.std.specs.Prelude.{Bool, Err, IfErr, IfOk, List, None, Ok, Option, Result, Some, [], false, if◌then◌else◌, is_some, min, true, ℕ, ◌++◌, ◌-◌, ◌^◌, ◌∷◌, ◌≡◌, ◌≤◌, ◌||◌}
 use Rattle.lq_base.specs.declared.command.Command.TheVariants as command
@@ -31,6 +31,7 @@ use Rattle.lq_seen.specs.declared.outcome.Outcome.{Outcome}
 use Rattle.lq_sets.specs.declared.set_turns.SetTurns.{SetTurns}
 use Rattle.lq_store.specs.Crashes.{Crashes}
 use Rattle.lq_store.specs.State.{State}
+use Rattle.lq_tell.specs.Lines.{own_line, warning_line, warning_lines}
 use Rattle.lq_tell.specs.declared.done.Done.{Done}
 use Rattle.lq_tell.specs.declared.status.Status.{Status}
 use Rattle.lq_tell.specs.declared.status.Status.TheVariants as status
@@ -51,7 +52,8 @@ use Rattle.lq_turns.specs.declared.stop.Stop.{Stop}
 use Rattle.lq_commands.proofs.Endings.{works_by, works_nothing}
 use Rattle.lq_commands.proofs.LoadedTexts.{view_has}
 use Rattle.lq_commands.proofs.Planned.{no_update, no_work, update_is, update_may}
-use Rattle.lq_commands.specs.Refusals.{Answers, IsFault, Passes, ends, if_halts, own_halt, refusal, unready}
+use Rattle.lq_commands.proofs.Warned.{quiet_lines}
+use Rattle.lq_commands.specs.Refusals.{Answers, IsFault, Passes, ends, if_halts, if_warns, own_halt, refusal, unready}
 use Rattle.lq_commands.specs.Scripts.{log_in, nothing_told, sets_in, settled_in, update_script}
 use Rattle.lq_commands.specs.Tells.{HasTold, IfFinished, TellsUpdate, status_by, stop_by, update_output}
 use Rattle.lq_commands.specs.Turns.{MayTurn, turns_script}
@@ -206,10 +208,10 @@ module _ (given : Given) (rows : List Tracked) (database : Database) (same : dat
       (none_settled given.options.dialect any_meaning given.stamp.reading (sets_in given) (contents_of database) no_turn) (no_texts prints)
 
   pub idle_tells : (prints : Bool) (r : Result Done Status) → IfOk r (λ (done : Done). done.status ≡ status.Done) → IfOk r (λ (done : Done). done.out ≡ Some (update_output prints [] 0 []))
-      → IfOk r (λ (done : Done). IfFinished done (TellsUpdate prints (settled_in prints given database) done))
-  idle_tells prints (Ok done) ended said = λ finished. subst (λ (a : Account). TellsUpdate prints a done) (sym (idle_account prints))
-      (record { status = ended; out = said ∙ ap (λ (n : ℕ). update_said prints [] n []) (none_within (2 ^ 64 - 1)) })
-  idle_tells prints (Err s) ended said = tt
+      → IfOk r (λ (done : Done). done.own ≡ None) → IfOk r (λ (done : Done). done.warned ≡ []) → IfOk r (λ (done : Done). IfFinished done (TellsUpdate prints (settled_in prints given database) done))
+  idle_tells prints (Ok done) ended said own warned = λ finished. subst (λ (a : Account). TellsUpdate prints a done) (sym (idle_account prints))
+      (record { status = ended; out = said ∙ ap (λ (n : ℕ). update_said prints [] n []) (none_within (2 ^ 64 - 1)); warned = quiet_lines done (own, warned) })
+  idle_tells prints (Err s) ended said own warned = tt
 
 -- the turns of an update
 
@@ -259,11 +261,12 @@ pub record AllTold (o : Outcome) (account : Account) (e : End) : Type 0 where
   pub happened : o.happened ≡ account.settled.happened
   pub not_fresh : o.not_fresh ≡ bounded account.settled.not_fresh
   pub stop : stop_by o.halted o.stopped_at e ≡ account.settled.stop
+  pub warned : o.warned ≡ account.settled.warned
   pub printed : o.printed ≡ account.printed
 
 pub all_told : (o : Outcome) (account : Account) (e : End) → is_whole e ≡ true → HasTold o account e → AllTold o account e
-all_told o account end.Done whole told = record { happened = told.tells.happened; not_fresh = told.tells.not_fresh; stop = sym told.tells.stop; printed = told.prints }
-all_told o account (end.Refused refusal) whole told = record { happened = told.tells.happened; not_fresh = told.tells.not_fresh; stop = sym told.tells.stop; printed = told.prints }
+all_told o account end.Done whole told = record { happened = told.tells.happened; not_fresh = told.tells.not_fresh; stop = sym told.tells.stop; warned = told.tells.warned; printed = told.prints }
+all_told o account (end.Refused refusal) whole told = record { happened = told.tells.happened; not_fresh = told.tells.not_fresh; stop = sym told.tells.stop; warned = told.tells.warned; printed = told.prints }
 all_told o account (end.Locked lock) whole told = absurd (not_true whole)
 all_told o account end.Disk whole told = absurd (not_true whole)
 all_told o account (end.Full used next) whole told = absurd (not_true whole)
@@ -271,14 +274,16 @@ all_told o account end.OutOfMemory whole told = absurd (not_true whole)
 
 pub tells_update : (prints : Bool) (o : Outcome) (account : Account) (e : End) (done : Done) (happened : List Happened) (texts : List Printed) → happened ≡ o.happened → texts ≡ o.printed
     → (is_finished done.status ≡ true → is_whole e ≡ true) → (is_finished done.status ≡ true → done.status ≡ status_by (stop_by o.halted o.stopped_at e))
-    → (is_finished done.status ≡ true → done.out ≡ Some (update_output prints happened o.not_fresh texts)) → HasTold o account e → IfFinished done (TellsUpdate prints account done)
-tells_update prints o account e done happened texts are printed_are whole is out told = λ finished.
+    → (is_finished done.status ≡ true → done.out ≡ Some (update_output prints happened o.not_fresh texts)) → warning_lines done.own done.warned ≡ flat_map warning_line o.warned → HasTold o account e
+    → IfFinished done (TellsUpdate prints account done)
+tells_update prints o account e done happened texts are printed_are whole is out warned told = λ finished.
     let all = all_told o account e (whole finished) told in record {
       status = is finished ∙ ap status_by all.stop;
       out = out finished
           ∙ (ap (λ (hs : List Happened). update_said prints hs o.not_fresh texts) (are ∙ all.happened)
           ∙ (ap (λ (n : ℕ). update_said prints account.settled.happened n texts) all.not_fresh
           ∙ ap (λ (ps : List Printed). update_said prints account.settled.happened (bounded account.settled.not_fresh) ps) (printed_are ∙ all.printed)));
+      warned = warned ∙ ap (flat_map warning_line) all.warned;
     }
 
 -- without an output it did not come to its end
@@ -313,18 +318,22 @@ not_halt (choice.Runs w why) own passes = refl
 abbrev account_by : Choice → Contents → Account → Account
 account_by by c a = record { settled = by_own by c a.settled; printed = if is_halt by then [] else a.printed }
 
-module _ (prints : Bool) (c : Contents) (a : Account) (before after : Done) (status_is : after.status ≡ before.status) (out_is : after.out ≡ before.out) where
-  carried : TellsUpdate prints a before → TellsUpdate prints a after
-  carried tells = record { status = status_is ∙ tells.status; out = out_is ∙ tells.out }
+module _ (prints : Bool) (c : Contents) (a : Account) (before after : Done) (status_is : after.status ≡ before.status) (out_is : after.out ≡ before.out) (none : before.own ≡ None) (warned_is : after.warned ≡ before.warned) where
+  -- the warning of the changelog's own precondition stands before the others
+  warns : (o : Option Why) → after.own ≡ o → TellsUpdate prints a before → warning_lines after.own after.warned ≡ own_line o ++ flat_map warning_line a.settled.warned
+  warns o is tells =
+      ap (λ (own : Option Why). warning_lines own after.warned) is
+      ∙ (ap (warning_lines o) warned_is
+      ∙ ap (λ (lines : List ℕ). own_line o ++ lines) (sym (ap (λ (own : Option Why). warning_lines own before.warned) none) ∙ tells.warned))
 
-  own_tells : (by : Choice) → is_halt by ≡ false → TellsUpdate prints a before → TellsUpdate prints (account_by by c a) after
-  own_tells (choice.Halts why) goes tells = absurd (true_not goes)
-  own_tells (choice.Runs w (Some why)) goes tells = let t = carried tells in record { status = t.status; out = t.out }
-  own_tells (choice.Runs w None) goes tells = let t = carried tells in record { status = t.status; out = t.out }
-  own_tells choice.Passes goes tells = let t = carried tells in record { status = t.status; out = t.out }
-  own_tells choice.Fills goes tells = let t = carried tells in record { status = t.status; out = t.out }
-  own_tells choice.Skips goes tells = let t = carried tells in record { status = t.status; out = t.out }
-  own_tells (choice.Marks w) goes tells = let t = carried tells in record { status = t.status; out = t.out }
+  own_tells : (by : Choice) → is_halt by ≡ false → after.own ≡ if_warns by → TellsUpdate prints a before → TellsUpdate prints (account_by by c a) after
+  own_tells (choice.Halts why) goes own tells = absurd (true_not goes)
+  own_tells (choice.Runs w (Some why)) goes own tells = record { status = status_is ∙ tells.status; out = out_is ∙ tells.out; warned = warns (Some why) own tells }
+  own_tells (choice.Runs w None) goes own tells = record { status = status_is ∙ tells.status; out = out_is ∙ tells.out; warned = warns None own tells }
+  own_tells choice.Passes goes own tells = record { status = status_is ∙ tells.status; out = out_is ∙ tells.out; warned = warns None own tells }
+  own_tells choice.Fills goes own tells = record { status = status_is ∙ tells.status; out = out_is ∙ tells.out; warned = warns None own tells }
+  own_tells choice.Skips goes own tells = record { status = status_is ∙ tells.status; out = out_is ∙ tells.out; warned = warns None own tells }
+  own_tells (choice.Marks w) goes own tells = record { status = status_is ∙ tells.status; out = out_is ∙ tells.out; warned = warns None own tells }
 
-  pub updated_tells : (by : Choice) → is_halt by ≡ false → IfFinished before (TellsUpdate prints a before) → IfFinished after (TellsUpdate prints (account_by by c a) after)
-  updated_tells by goes tells = λ finished. own_tells by goes (tells (ap is_finished (sym status_is) ∙ finished))
+  pub updated_tells : (by : Choice) → is_halt by ≡ false → after.own ≡ if_warns by → IfFinished before (TellsUpdate prints a before) → IfFinished after (TellsUpdate prints (account_by by c a) after)
+  updated_tells by goes own tells = λ finished. own_tells by goes own (tells (ap is_finished (sym status_is) ∙ finished))

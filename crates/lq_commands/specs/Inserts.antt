@@ -5,6 +5,7 @@ use Rattle.lq_base.specs.declared.tracking.Tracked.{Tracked}
 use Rattle.lq_report.specs.Output.{sync_text}
 use Rattle.lq_run.specs.Steps.{TellsAs}
 use Rattle.lq_run.specs.declared.runner.End.{End}
+use Rattle.lq_tell.specs.Lines.{warning_lines}
 use Rattle.lq_tell.specs.declared.done.Done.{Done}
 use Rattle.lq_tell.specs.declared.status.Status.{Status}
 use Rattle.lq_tell.specs.declared.status.Status.TheVariants as status
@@ -44,7 +45,8 @@ sync_out s happened = None
 abbrev pub synced_in : Given → Database → Settled
 synced_in given database = synced given.stamp.reading (sets_in given) (contents_of database)
 
--- its status is that of what it did, and its output tells of each changeset that was marked
+-- its status is that of what it did, its output tells of each changeset that was marked, and it warns of nothing
 pub record TellsSync (settled : Settled) (done : Done) : Type 0 where
   pub status : done.status ≡ status_by settled.stop
   pub out : done.out ≡ Some (sync_text settled.happened)
+  pub warned : warning_lines done.own done.warned ≡ []

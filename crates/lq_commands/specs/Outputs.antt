@@ -9,6 +9,7 @@ use Rattle.lq_cli.specs.declared.line.Job.TheVariants.{RollbackSql, Run, UpdateS
 use Rattle.lq_report.specs.Output.{status_text, tagged_text, unrecorded_line, validated_text}
 use Rattle.lq_report.specs.Words.{held_text}
 use Rattle.lq_seen.specs.Printing.{Account}
+use Rattle.lq_tell.specs.Lines.{warning_lines}
 use Rattle.lq_tell.specs.declared.done.Done.{Done}
 use Rattle.lq_tell.specs.declared.status.Status.{Status}
 use Rattle.lq_tell.specs.declared.status.Status.TheVariants as status
@@ -24,10 +25,11 @@ use Rattle.lq_commands.specs.declared.given.Given.{Given}
 abbrev pub back_in : Bool → Given → Target → Database → Account
 back_in prints given target database = rolled_to prints given (rows_kept target database.rows) database
 
--- it is done, with this output
+-- it is done, with this output, and warns of nothing
 pub record TellsText (text : List ℕ) (done : Done) : Type 0 where
   pub status : done.status ≡ status.Done
   pub out : done.out ≡ Some text
+  pub warned : warning_lines done.own done.warned ≡ []
 
 -- of a release-locks: the lock that was held, with its mark where it has one
 abbrev pub released_text : Lock → List ℕ

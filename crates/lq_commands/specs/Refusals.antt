@@ -5,6 +5,7 @@ use Rattle.lq_base.specs.declared.command.Command.{Command}
 use Rattle.lq_base.specs.declared.command.Command.TheVariants as command
 use Rattle.lq_base.specs.declared.command.Target.{Target}
 use Rattle.lq_base.specs.declared.identity.Identity.{Identity}
+use Rattle.lq_base.specs.declared.run.Why.{Why}
 use Rattle.lq_base.specs.declared.tracking.Tracked.{Tracked}
 use Rattle.lq_model.specs.declared.fault.StoreFault.{StoreFault}
 use Rattle.lq_model.specs.declared.fault.StoreFault.TheVariants as fault
@@ -18,7 +19,7 @@ use Rattle.lq_turns.specs.Faults.{faults}
 use Rattle.lq_turns.specs.Rollback.{not_reversible, rows_kept, rows_undone}
 use Rattle.lq_turns.specs.Settle.{own_choice}
 use Rattle.lq_turns.specs.declared.choice.Choice.{Choice}
-use Rattle.lq_turns.specs.declared.choice.Choice.TheVariants.{Halts}
+use Rattle.lq_turns.specs.declared.choice.Choice.TheVariants.{Halts, Runs}
 use Rattle.lq_turns.specs.declared.fault.Fault.{Fault}
 use Rattle.lq_commands.specs.Scripts.{log_in, sets_in}
 use Rattle.lq_commands.specs.declared.given.Given.{Given}
@@ -42,6 +43,15 @@ if_halts _ = None
 -- the changelog's own precondition halts
 abbrev pub own_halt : Given → Database → Option Status
 own_halt given database = if_halts (own_choice (log_in given) (contents_of database))
+
+-- why it only warns
+
+abbrev pub if_warns : Choice → Option Why
+if_warns (Runs what why) = why
+if_warns _ = None
+
+abbrev pub own_warning : Given → Database → Option Why
+own_warning given database = if_warns (own_choice (log_in given) (contents_of database))
 
 abbrev pub if_not : Option Identity → Option Status
 if_not (Some of) = Some (status.NotReversible of)

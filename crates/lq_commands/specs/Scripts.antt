@@ -1,5 +1,5 @@
 -- The writing calls of a command that runs alone.
-use Rattle.std.specs.Prelude.{Bool, List, None, Option, Some, [], if◌then◌else◌, ℕ}
+use Rattle.std.specs.Prelude.{Bool, List, None, Option, Some, [], if◌then◌else◌, ℕ, ◌++◌}
 use Rattle.lq_base.specs.declared.command.Command.{Command}
 use Rattle.lq_base.specs.declared.command.Command.TheVariants as command
 use Rattle.lq_base.specs.declared.command.Target.{Target}
@@ -11,6 +11,7 @@ use Rattle.lq_track.specs.Database.{Database}
 use Rattle.lq_turns.specs.Contents.{Contents, contents_of}
 use Rattle.lq_turns.specs.Rollback.{rollback_of, rows_kept, rows_undone, undo_turns}
 use Rattle.lq_turns.specs.Script.{release_calls, sync_calls, tag_calls, update_calls}
+use Rattle.lq_turns.specs.Session.{left_by}
 use Rattle.lq_turns.specs.Set.{Changelog, Set}
 use Rattle.lq_turns.specs.Settle.{is_halt, nothing_done, own_choice, updated}
 use Rattle.lq_turns.specs.declared.call.Call.{Call}
@@ -79,3 +80,7 @@ script (command.Tag name) given database = tag_calls name database
 script (command.Rollback target) given database = rollback_script given target database
 script command.Sync given database = sync_script given database
 script command.Release given database = release_calls database
+
+-- where its statements are printed it runs on a copy, of which a lock that is held is freed first
+abbrev pub printed_script : Command → Given → Database → List Call
+printed_script c given database = release_calls database ++ script c given (left_by given.options.dialect (release_calls database) database)

@@ -1,5 +1,6 @@
 -- What a command that came to its end tells of its run.
-use Rattle.std.specs.Prelude.{Bool, List, None, Option, Some, false, if◌then◌else◌, option_map, true, ℕ, ◌≡◌}
+use Rattle.std.specs.List.{flat_map}
+use Rattle.std.specs.Prelude.{Bool, List, None, Option, Some, [], false, if◌then◌else◌, option_map, true, ℕ, ◌≡◌}
 use Rattle.lq_base.specs.declared.identity.Identity.{Identity}
 use Rattle.lq_base.specs.declared.run.Happened.{Happened}
 use Rattle.lq_base.specs.declared.run.Printed.{Printed}
@@ -10,6 +11,7 @@ use Rattle.lq_seen.specs.Printing.{Account}
 use Rattle.lq_seen.specs.Telling.{Reports, bounded}
 use Rattle.lq_seen.specs.declared.outcome.Halt.{Halt}
 use Rattle.lq_seen.specs.declared.outcome.Outcome.{Outcome}
+use Rattle.lq_tell.specs.Lines.{warning_line, warning_lines}
 use Rattle.lq_tell.specs.declared.done.Done.{Done}
 use Rattle.lq_tell.specs.declared.status.Status.{Status}
 use Rattle.lq_tell.specs.declared.status.Status.TheVariants as status
@@ -48,15 +50,21 @@ update_told prints account = update_output prints account.settled.happened (boun
 abbrev pub rollback_told : Bool → Account → List ℕ
 rollback_told prints account = rollback_output prints account.settled.happened account.printed
 
--- its status and its output are those of its account
+-- it has no warnings
+abbrev pub IsQuiet : Done → Type 0
+IsQuiet done = (done.own ≡ None) × (done.warned ≡ [])
+
+-- its status, its output and the lines of its warnings are those of its account
 
 pub record TellsUpdate (prints : Bool) (account : Account) (done : Done) : Type 0 where
   pub status : done.status ≡ status_by account.settled.stop
   pub out : done.out ≡ Some (update_told prints account)
+  pub warned : warning_lines done.own done.warned ≡ flat_map warning_line account.settled.warned
 
 pub record TellsRollback (prints : Bool) (account : Account) (done : Done) : Type 0 where
   pub status : done.status ≡ status_by account.settled.stop
   pub out : done.out ≡ Some (rollback_told prints account)
+  pub warned : warning_lines done.own done.warned ≡ flat_map warning_line account.settled.warned
 
 -- so does one that came to its end
 abbrev pub IfFinished : Done → Type 0 → Type 0

@@ -1,9 +1,12 @@
 -- What a command leaves of a database.
 use Rattle.std.specs.Prelude.{Bool, Err, List, Ok, Option, Result, false, is_some, true, ℕ, ◌≡◌, ◌≤◌}
+use Rattle.lq_base.specs.declared.command.Command.{Command}
+use Rattle.lq_base.specs.declared.command.Command.TheVariants as command
 use Rattle.lq_base.specs.declared.dialect.Dialect.{Dialect}
 use Rattle.lq_run.specs.Commands.{HasDatabase, Leaves}
 use Rattle.lq_run.specs.Crashes.{CrashesLeave, LeftBehind, LeftInCommand}
 use Rattle.lq_run.specs.Left.{IsFullIn}
+use Rattle.lq_run.specs.Stands.{HadRoom}
 use Rattle.lq_run.specs.declared.runner.End.{End}
 use Rattle.lq_run.specs.declared.runner.End.TheVariants as end
 use Rattle.lq_store.specs.Crashes.{Crashes}
@@ -12,6 +15,7 @@ use Rattle.lq_tell.specs.declared.done.Done.{Done}
 use Rattle.lq_tell.specs.declared.status.Status.{Status}
 use Rattle.lq_tell.specs.declared.status.Status.TheVariants as status
 use Rattle.lq_track.specs.Database.{Database, IsDatabase}
+use Rattle.lq_turns.specs.Session.{all_called, session_on}
 use Rattle.lq_turns.specs.Settle.{greatest}
 use Rattle.lq_turns.specs.declared.call.Call.{Call}
 
@@ -69,6 +73,10 @@ TellsFull end.OutOfMemory s = ⊥
 abbrev pub SaysFull : Dialect → List Call → Database → State → Status → Type 0
 SaysFull d calls database x s = (used next : ℕ) → s ≡ status.Full used next → IsFullIn d calls database x used next
 
+-- there was room for each entry of calls that came to their end, and a full journal is told as full as it was
+abbrev pub TellsRoom : Dialect → List Call → Database → State → Status → Type 0
+TellsRoom d calls database x s = (is_finished s ≡ true → HadRoom d x.limit x.used (all_called d calls (session_on database)).entries) × SaysFull d calls database x s
+
 -- where a command came to its end its calls' database is there, and their entries are in the journal; however else it ended, what a stop of them may leave; and how full a full journal was
 abbrev pub Works : Dialect → List Call → Database → State → Result Done Status → State → Type 0
 Works d calls database x (Ok done) y = (is_finished done.status ≡ true → Leaves d calls database x y) × (is_finished done.status ≡ false → LeftBehind d calls database x y) × SaysFull d calls database x done.status
@@ -77,6 +85,12 @@ Works d calls database x (Err s) y = LeftBehind d calls database x y
 -- at each moment of it a crash of the machine leaves what a stop of these calls may leave
 abbrev pub CrashesIn : Dialect → List Call → Database → State → Crashes → Crashes → Type 0
 CrashesIn d calls database x before now = CrashesLeave x.entries (LeftInCommand d calls database) before now
+
+-- it appends nothing, however it ends
+abbrev pub only_reads : Command → Bool
+only_reads command.Validate = true
+only_reads command.Status = true
+only_reads c = false
 
 -- one that is refused changes nothing
 abbrev pub IsKept : {S : Type 0} → Option Status → S → S → Type 0

@@ -1,6 +1,6 @@
 ghost use Rattle.std.specs.Prelude.{◌≡◌, [], IfErr, IfOk, None, Some, option_map, reverse};
 ghost use Rattle.lq_back.specs.Reversal.{AreWays};
-ghost use Rattle.lq_commands.specs.Refusals.{Passes, held, if_halts, invalid, irreversible, own_halt, unready, untagged};
+ghost use Rattle.lq_commands.specs.Refusals.{Passes, held, if_halts, if_warns, invalid, irreversible, own_halt, own_warning, unready, untagged};
 ghost use Rattle.lq_commands.specs.Scripts.{sets_in};
 ghost use Rattle.lq_commands.specs.Works.{IsReady, OnIts};
 ghost use Rattle.lq_tell.specs.declared.status.Status.TheVariants.{NoTarget};
@@ -74,7 +74,8 @@ pub fn check_own<S: Store>(
     requires valid { S.valid store.now }
     requires ready { IsReady given.now.options.dialect (S.state store.now) }
     requires rows { OnIts given.now.options.dialect (S.state store.now) (λ database. database.rows ≡ rows.now) }
-    ensures { OnIts given.now.options.dialect (S.state store.now) (λ database. Passes (own_halt given.now database) result) }
+    ensures passes { OnIts given.now.options.dialect (S.state store.now) (λ database. Passes (own_halt given.now database) result) }
+    ensures own { IfOk result (λ own. OnIts given.now.options.dialect (S.state store.now) (λ database. own ≡ own_warning given.now database)) }
 {
     match store.look(SESSION) {
         Ok(view) => {
@@ -87,7 +88,8 @@ pub fn check_own<S: Store>(
 }
 
 fn own_answer(choice: Choice) -> Result<Option<Why>, Status>
-    ensures { Passes (if_halts choice) result }
+    ensures passes { Passes (if_halts choice) result }
+    ensures own { IfOk result (λ own. own ≡ if_warns choice) }
 {
     match choice {
         Choice::Halts(why) => Err(Status::Halted {

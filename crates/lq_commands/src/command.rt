@@ -1,7 +1,8 @@
 ghost use Rattle.std.specs.List.{All};
-ghost use Rattle.std.specs.Prelude.{◌≡◌, ◌≤◌, Err, IfSome, None, false, true};
+ghost use Rattle.std.specs.Prelude.{◌≡◌, ◌≤◌, Err, IfOk, IfSome, None, false, true};
 ghost use Rattle.lq_base.specs.Character.{char_count};
 ghost use Rattle.lq_changelog.specs.ShortTexts.{HasShortTexts};
+ghost use Rattle.lq_base.specs.declared.command.Command.TheVariants as command;
 ghost use Rattle.lq_cli.specs.declared.line.Job.TheVariants as job;
 ghost use Rattle.lq_kinds.specs.Dialects.{AreFor};
 ghost use Rattle.lq_outside.specs.Count.{Rose};
@@ -9,9 +10,9 @@ ghost use Rattle.lq_tell.specs.declared.status.Status.TheVariants.{DiskFault};
 ghost use Rattle.lq_commands.specs.AtOnce.{is_at_once};
 ghost use Rattle.lq_commands.specs.Outputs.{TellsJob};
 ghost use Rattle.lq_commands.specs.Refusals.{Answers, Passes, no_way_back, print_rollback, print_update, refusal};
-ghost use Rattle.lq_commands.specs.Scripts.{script, tag_in};
+ghost use Rattle.lq_commands.specs.Scripts.{printed_script, script, tag_in};
 ghost use Rattle.lq_turns.specs.Stops.{is_mark};
-ghost use Rattle.lq_commands.specs.Works.{CrashesIn, IsKept, IsReady, OnIts, Works};
+ghost use Rattle.lq_commands.specs.Works.{CrashesIn, IsKept, IsReady, OnIts, TellsRoom, Works, only_reads};
 
 use crate::checks::{check_own, check_target, check_ways, valid_rows};
 use crate::given::Given;
@@ -31,8 +32,9 @@ use std::alloc::Global;
 /// Does a command on the database of a store, whole, and tells what it came to: `Ok` with its
 /// status and its texts where it ran, to its end or to the end of the journal, and `Err` with the status
 /// where it was refused before it began (then nothing was written), the disk failed, or there was no
-/// memory. However it ended, the store holds what its script leaves, or what a stop of it may leave. A
-/// full journal is told as full as it was when a call of the script had no room.
+/// memory. However it ended, the store holds what its script leaves, or what a stop of it may leave;
+/// `validate` and `status` append nothing. A full journal is told as full as it was when a call of the
+/// script had no room.
 pub fn run_command<S: Store, P: SqlText>(
     alloc: Global,
     command: &Command,
@@ -51,6 +53,7 @@ pub fn run_command<S: Store, P: SqlText>(
     ensures valid { S.valid store.new }
     ensures answers { OnIts given.options.dialect (S.state store.old) (λ database. Answers (refusal command.now given database) result) }
     ensures refused { OnIts given.options.dialect (S.state store.old) (λ database. IsKept (refusal command.now given database) store.old store.new) }
+    ensures reads { only_reads command.now ≡ true → store.new ≡ store.old }
     ensures works { OnIts given.options.dialect (S.state store.old) (λ database. Works given.options.dialect (script command.now given database) database (S.state store.old) result (S.state store.new)) }
     ensures any_moment { OnIts given.options.dialect (S.state store.old) (λ database. CrashesIn given.options.dialect (script command.now given database) database (S.state store.old) (S.crashes store.old) (S.crashes store.new)) }
     ensures tells { OnIts given.options.dialect (S.state store.old) (λ database. TellsJob (job.Run command.now) given database result) }
@@ -81,6 +84,7 @@ fn run_at_once<S: Store, P: SqlText>(
     ensures valid { S.valid store.new }
     ensures answers { OnIts given.now.options.dialect (S.state store.old) (λ database. Answers (refusal command.now given.now database) result) }
     ensures refused { OnIts given.now.options.dialect (S.state store.old) (λ database. IsKept (refusal command.now given.now database) store.old store.new) }
+    ensures reads { only_reads command.now ≡ true → store.new ≡ store.old }
     ensures works { OnIts given.now.options.dialect (S.state store.old) (λ database. Works given.now.options.dialect (script command.now given.now database) database (S.state store.old) result (S.state store.new)) }
     ensures any_moment { OnIts given.now.options.dialect (S.state store.old) (λ database. CrashesIn given.now.options.dialect (script command.now given.now database) database (S.state store.old) (S.crashes store.old) (S.crashes store.new)) }
     ensures tells { OnIts given.now.options.dialect (S.state store.old) (λ database. TellsJob (job.Run command.now) given.now database result) }
@@ -97,7 +101,8 @@ fn run_at_once<S: Store, P: SqlText>(
 }
 
 /// Runs an update on a copy of its database, of which a lock is freed once the checks are passed, and
-/// gives its statements as text. It is refused as an update is, but never for the lock.
+/// gives its statements as text. It is refused as an update is, but never for the lock. A full journal
+/// is told as full as it was when a call on the copy had no room.
 pub fn print_update<S: Store, P: SqlText>(
     alloc: Global,
     given: Given,
@@ -113,6 +118,7 @@ pub fn print_update<S: Store, P: SqlText>(
     requires name { is_mark given.stamp.who ≡ false }
     ensures answers { OnIts given.options.dialect (S.state store.old) (λ database. Answers (print_update given database) result) }
     ensures tells { OnIts given.options.dialect (S.state store.old) (λ database. TellsJob job.UpdateSql given database result) }
+    ensures room { IfOk result (λ done. OnIts given.options.dialect (S.state store.old) (λ database. TellsRoom given.options.dialect (printed_script command.Update given database) database (S.state store.old) done.status)) }
 {
     let rows = valid_rows(alloc, &given, store)?;
     check_own(alloc, &given, store, rows.as_slice())?;
@@ -136,6 +142,7 @@ fn free_and_update<S: Store, P: SqlText>(
     requires passes { OnIts given.options.dialect (S.state store.old) (λ database. print_update given database ≡ None) }
     ensures answers { OnIts given.options.dialect (S.state store.old) (λ database. Answers (print_update given database) result) }
     ensures tells { OnIts given.options.dialect (S.state store.old) (λ database. TellsJob job.UpdateSql given database result) }
+    ensures room { IfOk result (λ done. OnIts given.options.dialect (S.state store.old) (λ database. TellsRoom given.options.dialect (printed_script command.Update given database) database (S.state store.old) done.status)) }
 {
     match free(alloc, &given, store, sql) {
         Ok(()) => update(alloc, given, store, sql, true),
@@ -160,6 +167,7 @@ pub fn print_rollback<S: Store, P: SqlText>(
     requires name { is_mark given.stamp.who ≡ false }
     ensures answers { OnIts given.options.dialect (S.state store.old) (λ database. Answers (print_rollback given target.now database) result) }
     ensures tells { OnIts given.options.dialect (S.state store.old) (λ database. TellsJob (job.RollbackSql target.now) given database result) }
+    ensures room { IfOk result (λ done. OnIts given.options.dialect (S.state store.old) (λ database. TellsRoom given.options.dialect (printed_script (command.Rollback target.now) given database) database (S.state store.old) done.status)) }
 {
     let rows = valid_rows(alloc, &given, store)?;
     check_back(alloc, &given, target, rows.as_slice())?;
@@ -192,6 +200,7 @@ fn free_and_rollback<S: Store, P: SqlText>(
     requires passes { OnIts given.options.dialect (S.state store.old) (λ database. print_rollback given target.now database ≡ None) }
     ensures answers { OnIts given.options.dialect (S.state store.old) (λ database. Answers (print_rollback given target.now database) result) }
     ensures tells { OnIts given.options.dialect (S.state store.old) (λ database. TellsJob (job.RollbackSql target.now) given database result) }
+    ensures room { IfOk result (λ done. OnIts given.options.dialect (S.state store.old) (λ database. TellsRoom given.options.dialect (printed_script (command.Rollback target.now) given database) database (S.state store.old) done.status)) }
 {
     match free(alloc, &given, store, sql) {
         Ok(()) => rollback(alloc, given, target, store, sql, true),

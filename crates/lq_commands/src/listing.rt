@@ -4,6 +4,7 @@ ghost use Rattle.lq_tell.specs.declared.status.Status.TheVariants.{DiskFault, Do
 ghost use Rattle.lq_commands.specs.Outputs.{TellsText};
 ghost use Rattle.lq_commands.specs.Refusals.{Answers, invalid};
 ghost use Rattle.lq_commands.specs.Scripts.{sets_in};
+ghost use Rattle.lq_commands.specs.Tells.{IsQuiet};
 ghost use Rattle.lq_commands.specs.Works.{IsReady, OnIts, Works};
 ghost use Rattle.lq_turns.specs.Pending.{pending};
 
@@ -32,6 +33,7 @@ pub fn validate<S: Store>(alloc: Global, given: &Given, store: &S) -> Result<Don
 fn validated(alloc: Global) -> Result<Done, Status>
     ensures out { IfOk result (λ done. done.out ≡ Some validated_text) }
     ensures done { IfOk result (λ done. done.status ≡ Whole) }
+    ensures quiet { IfOk result IsQuiet }
     ensures fault { IfErr result (λ s. s ≡ OutOfMemory) }
 {
     let text = Text::new(alloc, validated_text())?;
@@ -54,6 +56,7 @@ pub fn status<S: Store>(alloc: Global, given: &Given, store: &S) -> Result<Done,
 fn listed(alloc: Global, given: &Given, rows: &[Tracked]) -> Result<Done, Status>
     ensures out { IfOk result (λ done. done.out ≡ Some (status_text (pending (sets_in given.now) rows.now))) }
     ensures done { IfOk result (λ done. done.status ≡ Whole) }
+    ensures quiet { IfOk result IsQuiet }
     ensures fault { IfErr result (λ s. s ≡ OutOfMemory) }
 {
     let found = pending_of(alloc, &given.options, &given.changelog, rows)?;

@@ -10,7 +10,7 @@ ghost use Rattle.lq_commands.specs.Refusals.{Answers, IsFault, ends, no_way_back
 ghost use Rattle.lq_commands.specs.Scripts.{rollback_script, rolled_back, rolled_to, taking_back};
 ghost use Rattle.lq_seen.specs.Printing.{Account, of_turns};
 ghost use Rattle.lq_commands.specs.Stopping.{NamesStop};
-ghost use Rattle.lq_commands.specs.Tells.{HasTold, IfFinished, TellsRollback, rollback_output};
+ghost use Rattle.lq_commands.specs.Tells.{HasTold, IfFinished, IsQuiet, TellsRollback, rollback_output};
 ghost use Rattle.lq_commands.specs.Works.{CrashesIn, IsKept, IsReady, KeptLock, OnIts, TellsFull, Works, is_finished, is_whole};
 ghost use Rattle.lq_base.specs.declared.command.Command.TheVariants as command;
 ghost use Rattle.lq_turns.specs.Rollback.{rollback_of, rows_kept};
@@ -133,6 +133,7 @@ fn take_back<S: Store, P: SqlText>(
 fn no_turns(alloc: Global, prints: bool) -> Result<Done, Status>
     ensures out { IfOk result (λ done. done.out ≡ Some (rollback_output prints [] [])) }
     ensures done { IfOk result (λ done. done.status ≡ status.Done) }
+    ensures quiet { IfOk result IsQuiet }
     ensures fault { IfErr result (λ s. s ≡ status.OutOfMemory) }
 {
     let text = output(alloc, prints, &[], &[])?;

@@ -37,7 +37,7 @@ use lq_tell::{Done, Status};
 use lq_turns::{Refusal, Stamp};
 use std::alloc::Global;
 
-/// The status of a fault of the store, which has done nothing.
+/// The status of a fault of the store.
 pub fn fault_status(fault: StoreFault) -> Status
     ensures { result ≡ fault_status fault }
 {

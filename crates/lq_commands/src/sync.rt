@@ -15,7 +15,7 @@ ghost use Rattle.lq_commands.specs.Inserts.{EndsWithRows, TellsSync, goes_in, sy
 ghost use Rattle.lq_commands.specs.Refusals.{Answers, IsFault, ends, refusal};
 ghost use Rattle.lq_commands.specs.Scripts.{sets_in, sync_script};
 ghost use Rattle.lq_commands.specs.Stopping.{NamesStop, refused_at};
-ghost use Rattle.lq_commands.specs.Tells.{IfFinished, status_by, stop_by};
+ghost use Rattle.lq_commands.specs.Tells.{IfFinished, IsQuiet, status_by, stop_by};
 ghost use Rattle.lq_commands.specs.Works.{CrashesIn, FullAs, IsKept, IsReady, KeptLock, OnIts, TellsFull, Works, is_finished, is_whole};
 ghost use Rattle.lq_track.specs.Log.{identity_of};
 ghost use Rattle.lq_turns.specs.Script.{rows_to_sync};
@@ -115,6 +115,7 @@ fn insert<S: Store, P: SqlText>(
 fn no_rows(alloc: Global) -> Result<Done, Status>
     ensures out { IfOk result (λ done. done.out ≡ Some (sync_text [])) }
     ensures done { IfOk result (λ done. done.status ≡ status.Done) }
+    ensures quiet { IfOk result IsQuiet }
     ensures fault { IfErr result (λ s. s ≡ status.OutOfMemory) }
 {
     let text = sync_text(alloc, &[])?;
@@ -202,6 +203,7 @@ fn ended(
     ensures full { IfOk result (λ done. TellsFull end done.status) }
     ensures tells { IfOk result (λ done. is_finished done.status ≡ true → done.status ≡ status_by (stop_by None of end)) }
     ensures out { IfOk result (λ done. done.out ≡ sync_out done.status happened.now) }
+    ensures quiet { IfOk result IsQuiet }
     ensures disk { result ≡ Err status.DiskFault → is_disk_end end ≡ true }
 {
     let status = run_status(end, None, of)?;

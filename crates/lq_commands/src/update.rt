@@ -83,6 +83,7 @@ fn update_on<S: Store, P: SqlText>(
     requires goes { OnIts given.options.dialect (S.state store.old) (λ database. is_halt (own_choice (log_in given) (contents_of database)) ≡ false) }
     ensures valid { S.valid store.new }
     ensures tells { IfOk result (λ done. OnIts given.options.dialect (S.state store.old) (λ database. IfFinished done (TellsUpdate prints (settled_in prints given database) done))) }
+    ensures own { IfOk result (λ done. done.own ≡ None) }
     ensures answers { Answers None result }
     ensures works { OnIts given.options.dialect (S.state store.old) (λ database. Works given.options.dialect (update_script given database) database (S.state store.old) result (S.state store.new)) }
     ensures any_moment { OnIts given.options.dialect (S.state store.old) (λ database. CrashesIn given.options.dialect (update_script given database) database (S.state store.old) (S.crashes store.old) (S.crashes store.new)) }
@@ -100,6 +101,8 @@ fn update_on<S: Store, P: SqlText>(
 fn no_turns(alloc: Global, prints: bool) -> Result<Done, Status>
     ensures out { IfOk result (λ done. done.out ≡ Some (update_output prints [] 0 [])) }
     ensures done { IfOk result (λ done. done.status ≡ status.Done) }
+    ensures own { IfOk result (λ done. done.own ≡ None) }
+    ensures warned { IfOk result (λ done. done.warned ≡ []) }
     ensures fault { IfErr result (λ s. s ≡ status.OutOfMemory) }
 {
     let text = output(alloc, prints, &[], 0, &[])?;
@@ -127,6 +130,7 @@ fn run<S: Store, P: SqlText>(
     requires work { has_work (sets_in given) rows.now ≡ true }
     ensures valid { S.valid store.new }
     ensures tells { IfOk result (λ done. OnIts given.options.dialect (S.state store.old) (λ database. IfFinished done (TellsUpdate prints (settled_in prints given database) done))) }
+    ensures own { IfOk result (λ done. done.own ≡ None) }
     ensures answers { Answers None result }
     ensures works { OnIts given.options.dialect (S.state store.old) (λ database. Works given.options.dialect (update_script given database) database (S.state store.old) result (S.state store.new)) }
     ensures any_moment { OnIts given.options.dialect (S.state store.old) (λ database. CrashesIn given.options.dialect (update_script given database) database (S.state store.old) (S.crashes store.old) (S.crashes store.new)) }
@@ -149,6 +153,7 @@ fn ended(alloc: Global, outcome: Outcome, end: End, prints: bool) -> Result<Done
     requires lock { KeptLock end }
     requires stopped { NamesStop end outcome.stopped_at }
     ensures tells { (account : Account) → HasTold outcome account end → IfOk result (λ done. IfFinished done (TellsUpdate prints account done)) }
+    ensures own { IfOk result (λ done. done.own ≡ None) }
     ensures fault { IfErr result IsFault }
     ensures ends { IfOk result (λ done. ends done.status ≡ true) }
     ensures whole { IfOk result (λ done. is_finished done.status ≡ true → is_whole end ≡ true) }
@@ -214,6 +219,8 @@ fn output(
 fn with_own(done: Done, own: Option<Why>) -> Done
     ensures status { result.status ≡ done.status }
     ensures out { result.out ≡ done.out }
+    ensures own { result.own ≡ own }
+    ensures warned { result.warned ≡ done.warned }
 {
     let Done {
         status,

@@ -1,7 +1,7 @@
 -- A command by itself is the one runner of a machine.
 use Rattle.std.proofs.Common.{ap, append-nil, inl, inr, refl, subst, sym, ◌∙◌}
 use Rattle.std.specs.Option.{option_map}
-use Rattle.std.specs.Prelude.{List, None, Option, Some, [], false, is_some, true, ℕ, ◌++◌, ◌≡◌, ◌⊎◌}
+use Rattle.std.specs.Prelude.{IfSome, List, None, Option, Some, [], false, is_some, true, ℕ, ◌+◌, ◌++◌, ◌∷◌, ◌≡◌, ◌≤◌, ◌⊎◌}
 use Rattle.lq_base.specs.declared.command.Command.{Command}
 use Rattle.lq_base.specs.declared.dialect.Dialect.{Dialect}
 use Rattle.lq_cli.specs.declared.line.Job.{Job}
@@ -12,26 +12,32 @@ use Rattle.lq_commands.specs.Works.{is_finished}
 use Rattle.lq_commands.specs.declared.given.Given.{Given}
 use Rattle.lq_db.specs.Log.{entries_in}
 use Rattle.lq_drill.specs.Faults.{answer_of, freed}
+use Rattle.lq_drill.specs.Shows.{HadRoom, room_of_entry as room_in_drill}
 use Rattle.lq_kinds.specs.declared.any_change.AnyChange.{AnyChange}
+use Rattle.lq_model.specs.declared.caller.Room.{Room}
 use Rattle.lq_players.specs.Checked.{Work}
 use Rattle.lq_players.specs.Drilling.{works}
-use Rattle.lq_run.specs.Stands.{entries_of}
-use Rattle.lq_store.specs.Journal.{Entry}
+use Rattle.lq_run.specs.Stands.{HadRoom as HadRoomAlone, entries_of, room_of_entry}
+use Rattle.lq_store.specs.Journal.{Entry, end_of, size_of_all}
 use Rattle.lq_tell.specs.declared.status.Status.{Status}
 use Rattle.lq_tell.specs.declared.status.Status.TheVariants as status
 use Rattle.lq_track.specs.Database.{Database}
 use Rattle.lq_turns.specs.Jobs.{Task}
+use Rattle.lq_turns.specs.Session.{all_called, session_on}
 use Rattle.lq_turns.specs.Stops.{Journal}
 use Rattle.lq_turns.specs.declared.answer.Answer.{Answer}
 use Rattle.lq_turns.specs.declared.answer.Answer.TheVariants.{Busy, Locked}
 use Rattle.lq_turns.specs.declared.call.Call.{Call}
+use Rattle.lq_turns.specs.declared.deed.Deed.{Deed}
+use Rattle.lq_turns.specs.declared.deed.Deed.TheVariants.{Locks}
+use Rattle.lq_turns.specs.declared.deed.OnLock.TheVariants.{Freed}
 use Rattle.lq_turns.specs.declared.stamp.Stamp.{Stamp}
 use Rattle.lq_top.proofs.AsRunner.{calls_same, checked_of, last_answer, last_finished, refusal_told, status_said, task_of}
 use Rattle.lq_top.proofs.OneRunner.{Follows, follows, refused}
-use Rattle.lq_top.proofs.Unchanged.{becomes_same, left_same}
+use Rattle.lq_top.proofs.Unchanged.{becomes_same, left_same, no_room}
 use Rattle.lq_top.specs.Alone.{EndsWith, HasAnswered, IsCutShort, TakesSteps, WasCutShort, status_of}
 use Rattle.lq_top.specs.Asks.{Asks, Files}
-use Rattle.lq_top.specs.Bytes.{Becomes, Holds, IsLeftOn, Opens, most_bytes}
+use Rattle.lq_top.specs.Bytes.{Becomes, HadRoomOn, Holds, IsLeftOn, Opens, in_use, most_bytes}
 use Rattle.lq_top.specs.Jobs.{is_on_file}
 use Rattle.lq_top.specs.Run.{EndsBy, IsOutside, Runs, RunsJob, given_by, is_end, is_over}
 use Rattle.lq_top.specs.Says.{Said, SaysJob}
@@ -71,6 +77,15 @@ cut_of : {A : Type 0} (front written : Journal) → (written ≡ front) ⊎ ((wr
 cut_of front written (inl is) = ([], inl refl, is ∙ sym (append-nil front))
 cut_of front written (inr is) = (freed, inr refl, is.0)
 
+-- an entry may fill the journal as far in a drill as of a command by itself
+room_same : (entry : List Deed) → room_of_entry entry ≡ room_in_drill entry
+room_same (Locks Freed ∷ []) = refl
+room_same entry = refl
+
+room_there : (d : Dialect) (es : Journal) (o : Option (List Entry)) → IfSome o (λ (there : List Entry). HadRoomAlone d most_bytes (in_use there) es) → IfSome o (λ (there : List Entry). HadRoom d most_bytes (in_use there) es)
+room_there d es None room = tt
+room_there d es (Some there) room = λ front entry rest is. subst (λ (r : Room). in_use there + size_of_all (entries_of d (front ++ entry ∷ [])) ≤ end_of r most_bytes) (room_same entry) (room front entry rest is)
+
 module _ (d : Dialect) (task : Task AnyChange) (database : Database) (before : Option (List ℕ)) (s : Status) (after : Option (List ℕ)) where
   abbrev jobs : ℕ → Work
   jobs = works d (λ n. task)
@@ -78,8 +93,8 @@ module _ (d : Dialect) (task : Task AnyChange) (database : Database) (before : O
   abbrev Makes : List Call → Answer → Type 0
   Makes calls a = Follows Answer Locked Busy d jobs database calls a
 
-  answered : (calls : List Call) (a : Answer) → Makes calls a → EndsWith a s → Becomes d calls database before after → HasAnswered d task database before s after
-  answered calls a made ends becomes = record {
+  answered : (calls : List Call) (a : Answer) → Makes calls a → EndsWith a s → Becomes d calls database before after → HadRoomOn d calls database before → HasAnswered d task database before s after
+  answered calls a made ends becomes room = record {
     steps = made.steps;
     said = a;
     gave = ap (answer_of 1) made.answers;
@@ -88,6 +103,7 @@ module _ (d : Dialect) (task : Task AnyChange) (database : Database) (before : O
     file = record {
       holds = subst (Holds d after) (sym made.committed) becomes.holds;
       entries = becomes.entries ∙ ap (λ (es : Journal). option_map (λ (entries : List Entry). entries ++ entries_of d es) (entries_in d most_bytes before)) (sym made.entries);
+      room = subst (λ (es : Journal). IfSome (entries_in d most_bytes before) (λ (there : List Entry). HadRoom d most_bytes (in_use there) es)) (sym made.entries) (room_there d (all_called d calls (session_on database)).entries (entries_in d most_bytes before) room);
     };
   }
 
@@ -119,17 +135,17 @@ module _ (c : Command) (given : Given) (database : Database) (before : Option (L
   -- its checks refuse it, and the file is as it was
 
   refused_goes : (a : Answer) → MakesIts [] a → after ≡ before → (s ≡ status_of a) ⊎ IsOutside s → Goes
-  refused_goes a made same (inl is) = inl (answered given.options.dialect (task_of given c) database before s after [] a made (inl is) (becomes_same given.options.dialect database before after opens same))
+  refused_goes a made same (inl is) = inl (answered given.options.dialect (task_of given c) database before s after [] a made (inl is) (becomes_same given.options.dialect database before after opens same) (no_room given.options.dialect database before))
   refused_goes a made same (inr out) = inr (cut_short given.options.dialect (task_of given c) database before s after [] a made (inl out) (left_same given.options.dialect [] database before after opens same))
 
   -- or it makes its calls
 
-  module _ (made : MakesIts (script c given database) (last_answer given database c)) where
+  module _ (passes : refusal c given database ≡ None) (made : MakesIts (script c given database) (last_answer given database c)) where
     cut_goes : IsCutShort s → is_over s ≡ false → Goes
     cut_goes cause stopped = inr (cut_short given.options.dialect (task_of given c) database before s after (script c given database) (last_answer given database c) made cause (ran.left stopped))
 
     over_goes : EndsWith (last_answer given database c) s → is_over s ≡ true → Goes
-    over_goes ends over = inl (answered given.options.dialect (task_of given c) database before s after (script c given database) (last_answer given database c) made ends (ran.works over))
+    over_goes ends over = inl (answered given.options.dialect (task_of given c) database before s after (script c given database) (last_answer given database c) made ends (ran.works over) (ran.room passes over))
 
     end_goes : ((is_finished s ≡ true) × (is_over s ≡ true)) ⊎ ((s ≡ status.WriteFault) ⊎ ((used : ℕ) × (next : ℕ) × (s ≡ status.Full used next))) → Goes
     end_goes (inl both) = over_goes (inl (status_said given database c s out written (says both.0))) both.1
@@ -146,7 +162,7 @@ module _ (c : Command) (given : Given) (database : Database) (before : Option (L
       refused_goes a (refused Answer Locked Busy given.options.dialect its_jobs database a is) (ran.refused (ap is_some refusal_is)) (subst (λ (o : Option Status). EndsBy o s) refusal_is ran.ends)
   by_checks None is =
       let refusal_is : refusal c given database ≡ None = refusal_told given database c ∙ ap (option_map status_of) is in
-      made_goes
+      made_goes refusal_is
       (subst (λ (calls : List Call). MakesIts calls (last_answer given database c)) (calls_same given database c) (follows Answer Locked Busy given.options.dialect its_jobs database is))
       (subst (λ (o : Option Status). EndsBy o s) refusal_is ran.ends)
 

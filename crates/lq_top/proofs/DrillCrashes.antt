@@ -159,7 +159,13 @@ module _ (told : Option (List ℕ)) (a : DiskCrashes) (sound : IsSound told a) (
     part_after (inl idle) = inl (idle_after idle)
     part_after (inr went) = inr (went_after went)
 
+    disk_after : Drills d who drill readings told b (Err status.DiskFault) now c → Drills d who drill readings told a (Err status.DiskFault) now c
+    disk_after (inl idle) = inl (idle_after idle)
+    disk_after (inr did) = inr (went_after did.0, did.1)
+
     pub drills_after : (r : Result Done Status) → Drills d who drill readings told b r now c → Drills d who drill readings told a r now c
-    drills_after (Ok done) drills = (drills.0, (went_after drills.1.0, drills.1.1))
+    drills_after (Ok done) drills = (drills.0, (went_after drills.1.0, drills.1.1, drills.1.2))
     drills_after (Err (status.Full used next)) drills = (went_after drills.0, drills.1)
-    drills_after (Err s) drills = part_after drills
+    drills_after (Err status.DiskFault) drills = disk_after drills
+    drills_after (Err status.OutOfMemory) drills = part_after drills
+    drills_after (Err s) drills = idle_after drills

@@ -16,7 +16,7 @@ use Rattle.lq_db.specs.declared.db.Db.{Db}
 use Rattle.lq_drill.specs.Drill.{Each, FailsBy, HasFaulted as PlayerFaulted, IsDrilled, IsDrilledUntil, IsFaultless as HasNoFault, IsSerialDrill, LeftAtEnd, LeftInDrill, MetAt}
 use Rattle.lq_drill.specs.Faults.{Meets}
 use Rattle.lq_drill.specs.Player.{MayAnswer}
-use Rattle.lq_drill.specs.Shows.{entries_of}
+use Rattle.lq_drill.specs.Shows.{HadRoom, entries_of}
 use Rattle.lq_drill.specs.declared.fault.DrillFault.TheVariants as fault
 use Rattle.lq_drill.specs.declared.fault.DrillFault.{DrillFault}
 use Rattle.lq_journal.specs.State.{dialect_of, limit_of}
@@ -43,18 +43,19 @@ use Rattle.lq_turns.specs.Held.{StandsFor}
 use Rattle.lq_turns.specs.Jobs.{Task}
 use Rattle.lq_turns.specs.declared.answer.Answer.{Answer}
 use Rattle.lq_turns.specs.declared.answer.Answer.TheVariants as answer
+use Rattle.lq_top.proofs.DamagedFiles.{load_spares, memory_spares, no_damage, spares_after}
+use Rattle.lq_top.proofs.DrillAnswers.{disk_failed, none_failed}
 use Rattle.lq_top.proofs.DrillCrashes.{LeftBy, came_to, crashes_on, crashes_read, drills_after, fault_shown, fault_there, left_there, mapped, placed}
 use Rattle.lq_top.proofs.DrillIdle.{IsUnfilled, idle, not_begun}
 use Rattle.lq_top.proofs.DrillPlayed.{of_drill, played_tells}
 use Rattle.lq_top.proofs.DrillPlayers.{have_tasks}
-use Rattle.lq_top.proofs.InUse.{used_in}
-use Rattle.lq_top.proofs.OnFiles.{entries_told, entries_were, fault_tells, journal_stays, rose_later}
+use Rattle.lq_top.proofs.OnFiles.{entries_told, entries_were, fault_tells, journal_stays, on_journal, rose_later}
 use Rattle.lq_top.proofs.Ready.{opened}
-use Rattle.lq_top.specs.Bytes.{Holds, Opens, TellsDamage, in_use, load_status, most_bytes}
+use Rattle.lq_top.specs.Bytes.{Holds, Opens, TellsDamage, load_status, most_bytes}
 use Rattle.lq_top.specs.Clock.{ReadInTurn, ReadUpTo}
 use Rattle.lq_top.specs.Drilled.{AnswerAs, AreTasks, CrashesTo, DoesDrill, Drills, EndsFull, GoesAs, GoesUntil, HasFaulted, HoldsMachine, IsFaultless, IsFull, IsLeftInDrill, IsOfDrill, IsSerial, IsSettled, MetFull, Went, WorkedDrill, drilled, machine_after}
 use Rattle.lq_top.specs.Kinds.{Refuses, is_of_drill}
-use Rattle.lq_top.specs.Players.{ArePlayers, PlayEnds, PlayIsFull, Plays, answers_in, faults_in}
+use Rattle.lq_top.specs.Players.{ArePlayers, PlayAnswers, PlayEnds, PlayIsFull, Plays, answers_in, faults_in, is_of_play}
 use Rattle.lq_top.specs.declared.drilling.Drilling.{Drilling}
 
 false_true : false ≡ true → ⊥
@@ -126,7 +127,11 @@ module _ {D P E : Type 0} (d p : Dialect) (told : Option (List ℕ)) (crashes : 
           let shows = ran.shows in
           let more = entries_of d (machine_after d tasks database steps).entries in
           let dialect = shows.dialect ∙ sym has.dialect in
-          record { holds = holds_now more shows.entries dialect shows.limit shows.live (machine_after d tasks database steps).committed shows.committed; entries = entries_behind more shows.entries dialect shows.limit }
+          record {
+            holds = holds_now more shows.entries dialect shows.limit shows.live (machine_after d tasks database steps).committed shows.committed;
+            entries = entries_behind more shows.entries dialect shows.limit;
+            room = on_journal d p told crashes h db is new.limit_is bytes told_is now later k left valid database has (λ limit used. HadRoom d limit used (machine_after d tasks database steps).entries) shows.room;
+          }
 
       answers_are : AnswerAs (machine_after d tasks database steps) (answers_in last)
       answers_are place a is =
@@ -177,19 +182,14 @@ module _ {D P E : Type 0} (d p : Dialect) (told : Option (List ℕ)) (crashes : 
     -- where the journal was full
     module _ (used next : ℕ) where
       met_full : (n : ℕ) → MetAt command_stands (works d tasks) (record x { dialect = d }) database failure_of steps last n (fault.Full used next) → MetFull d tasks steps database (faults_in last) told n used next
-      met_full n met =
-          let there = entries_told d p told crashes h db is new.limit_is bytes told_is now later k left valid database has in
-          let were = entries_were d p told crashes h db is new.limit_is bytes told_is now later k left valid database has in
-          record {
-            front = met.front;
-            rest = met.rest;
-            is = met.is;
-            now = met.now;
-            came = came_to d tasks steps database last x told met.front met.now met.came;
-            full = subst (λ o. IfSome o (λ there. Meets failure_of d (works d tasks) (in_use there) most_bytes n met.now (fault.Full used next))) (sym (sym were ∙ there.1))
-                (subst (λ filled. Meets failure_of d (works d tasks) filled most_bytes n met.now (fault.Full used next)) (used_in p told crashes h db is bytes told_is there.0 there.1)
-                (subst (λ limit. Meets failure_of d (works d tasks) x.used limit n met.now (fault.Full used next)) new.limit_is met.meets));
-          }
+      met_full n met = record {
+        front = met.front;
+        rest = met.rest;
+        is = met.is;
+        now = met.now;
+        came = came_to d tasks steps database last x told met.front met.now met.came;
+        full = on_journal d p told crashes h db is new.limit_is bytes told_is now later k left valid database has (λ limit filled. Meets failure_of d (works d tasks) filled limit n met.now (fault.Full used next)) met.meets;
+      }
 
       ends_full : FailsBy command_stands (works d tasks) (record x { dialect = d }) database failure_of steps last (fault.Full used next) → EndsFull d tasks steps database (faults_in last) told (answers_in last) used next
       ends_full fails = record {
@@ -331,15 +331,17 @@ module _ {D P E : Type 0} (d p : Dialect) (told : Option (List ℕ)) (crashes : 
     left = left_at;
   }
 
-  drills_by : (r : Result Done Status) → PlayEnds commands plays.last final r
+  drills_by : (r : Result Done Status) → Refuses is_of_play r → PlayEnds commands plays.last final r → PlayAnswers plays.last r
       → ((tasks : ℕ → Task AnyChange) (database : Database) → StandsFor origin.dialect origin.committed database → HaveTasks origin.dialect tasks players → PlayIsFull r (FailsBy command_stands (works origin.dialect tasks) origin database failure_of drill.steps plays.last))
       → Drills d who drill readings told crashes r now later
-  drills_by (Ok done) ends full = (ends.1, (went, ends.2 ∙ ap (λ (all : List Command). Some (drill_text (drilled all (answers_in plays.last)))) are.named))
-  drills_by (Err (status.Full used next)) ends full = (went, full_at used next full)
-  drills_by (Err s) ends full = inr went
+  drills_by (Ok done) kind ends none full = (ends.1, (went, ends.2 ∙ ap (λ (all : List Command). Some (drill_text (drilled all (answers_in plays.last)))) are.named, none_failed plays.last none))
+  drills_by (Err (status.Full used next)) kind ends answered full = (went, full_at used next full)
+  drills_by (Err status.DiskFault) kind ends failed full = inr (went, disk_failed plays.last failed)
+  drills_by (Err status.OutOfMemory) kind ends answered full = inr went
+  drills_by (Err s) kind ends answered full = absurd (false_true kind)
 
   pub does : (coming after : Option (List ℕ)) → ReadInTurn coming after readings → DoesDrill d who drill coming after told crashes result now later
-  does coming after in_turn = record { readings = readings; read = in_turn; few = same_count (length drill.entrants) (length readings) (sym are.as_many.0); kind = kind_is result (of_drill result plays.kind); drills = drills_by result plays.ends plays.cause } where
+  does coming after in_turn = record { readings = readings; read = in_turn; few = same_count (length drill.entrants) (length readings) (sym are.as_many.0); kind = kind_is result (of_drill result plays.kind); drills = drills_by result plays.kind plays.ends plays.answered plays.cause } where
     kind_is : (r : Result Done Status) → Refuses is_of_drill r → IsOfDrill r
     kind_is (Ok done) kind = tt
     kind_is (Err s) kind = inl kind
@@ -354,6 +356,7 @@ module _ {D : Type 0} (told : D → Option (List ℕ)) (faults : D → ℕ) (cra
   memory_drilled coming after up disk = record {
     used = record {
       damaged = tt;
+      spares = λ beside place damaged. memory_spares place (told disk) (Err status.OutOfMemory) (told disk) status.OutOfMemory refl refl refl;
       safe = λ command finished. absurd (false_true command);
       off = λ off. absurd (false_true off);
       later = same_count (faults disk) (faults disk) refl;
@@ -386,6 +389,7 @@ module _ {D : Type 0} (told : D → Option (List ℕ)) (faults : D → ℕ) (cra
     fault_drilled up f is = record {
       used = record {
         damaged = fault_tells d (told disk) (faults disk) (faults read) f is;
+        spares = λ beside place damaged. load_spares d (told disk) (told read) (faults disk) (faults read) f (load_status f) refl is same place damaged;
         safe = λ command finished. absurd (false_true command);
         off = λ off. absurd (false_true off);
         later = later;
@@ -401,6 +405,7 @@ module _ {D : Type 0} (told : D → Option (List ℕ)) (faults : D → ℕ) (cra
     drilled_after r last did = record {
       used = record {
         damaged = subst (λ o. TellsDamage d o r) same did.used.damaged;
+        spares = λ beside place damaged. spares_after d (told disk) (told read) same r (told last) place (did.used.spares beside place) damaged;
         safe = λ command finished. absurd (false_true command);
         off = λ off. absurd (false_true off);
         later = omega (arith, later, did.used.later);
@@ -432,6 +437,7 @@ module _ {D : Type 0} (told : D → Option (List ℕ)) (faults : D → ℕ) (cra
     played_drilled readings players commands are few coming after in_turn r plays later fault = record {
       used = record {
         damaged = played_tells d (told (disk_in db)) r plays.kind;
+        spares = λ beside place damaged. no_damage d (told (disk_in db)) (kept h) read place damaged;
         safe = λ command finished. absurd (false_true command);
         off = λ off. absurd (false_true off);
         later = later;

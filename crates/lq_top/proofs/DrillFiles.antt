@@ -3,7 +3,7 @@ use Rattle.std.proofs.Common.{ap, inl, inr, refl, subst, sym, ◌∙◌}
 use Rattle.std.proofs.lemmas.List.{append-nil, append_assoc}
 use Rattle.std.proofs.lemmas.List.Elements.{All-head, All-nil, All-tail}
 use Rattle.std.specs.List.{All, remove}
-use Rattle.std.specs.Prelude.{Err, List, None, Ok, Option, Result, Some, [], length, slice_get, suc, ℕ, ◌++◌, ◌∷◌, ◌≡◌, ◌⊎◌}
+use Rattle.std.specs.Prelude.{Err, List, Ok, Option, Result, Some, [], length, slice_get, suc, ◌++◌, ◌∷◌, ◌≡◌}
 use Rattle.lq_base.specs.declared.dialect.Dialect.{Dialect}
 use Rattle.lq_cli.specs.declared.line.Line.{Line}
 use Rattle.lq_sources.specs.Answers.{Finds, IsFree, IsTold, Source, map_ok}

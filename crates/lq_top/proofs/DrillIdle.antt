@@ -29,7 +29,9 @@ IsUnfilled s = Unit {0}
 module _ (d : Dialect) (who : List ℕ) (drill : Drilling) (coming left : Option (List ℕ)) (up : ReadUpTo (length drill.entrants) coming left) (before after : Option (List ℕ)) (c e : DiskCrashes) (nothing : IsIdle d before after c e) where
   drills_nothing : (s : Status) → IsUnfilled s → Drills d who drill up.0 before c (Err s) after e
   drills_nothing (status.Full used next) unfilled = absurd unfilled
-  drills_nothing s unfilled = inl nothing
+  drills_nothing status.DiskFault unfilled = inl nothing
+  drills_nothing status.OutOfMemory unfilled = inl nothing
+  drills_nothing s unfilled = nothing
 
   pub not_begun : (s : Status) → IsOfDrill (Err s) → IsUnfilled s → DoesDrill d who drill coming left before c (Err s) after e
   not_begun s kind unfilled = record { readings = up.0; read = up.2; few = up.1; kind = kind; drills = drills_nothing s unfilled }

@@ -1,6 +1,6 @@
 -- A drill with what its files give: a drill, no such form, or a fault.
 use Rattle.std.proofs.Common.{ap, inl, inr, refl, rules, subst, sym, ◌∙◌}
-use Rattle.std.specs.Prelude.{Bool, Err, List, None, Ok, Option, Result, Some, [], false, length, true, ℕ, ◌≡◌, ◌≤◌, ◌⊎◌}
+use Rattle.std.specs.Prelude.{Err, List, None, Ok, Option, Result, Some, [], false, length, true, ℕ, ◌≡◌, ◌≤◌}
 use Rattle.lq_base.specs.declared.dialect.Dialect.{Dialect}
 use Rattle.lq_cli.specs.declared.line.Job.TheVariants.{Drill}
 use Rattle.lq_outside.specs.Crash.{Crashes as DiskCrashes}
@@ -10,6 +10,7 @@ use Rattle.lq_sources.specs.declared.fault.LoadFault.{LoadFault}
 use Rattle.lq_tell.specs.declared.done.Done.{Done}
 use Rattle.lq_tell.specs.declared.status.Status.{Status}
 use Rattle.lq_tell.specs.declared.status.Status.TheVariants as status
+use Rattle.lq_top.proofs.DamagedFiles.{fails_so, memory_first, spares_by}
 use Rattle.lq_top.proofs.DrillIdle.{IsUnfilled, unused_drill}
 use Rattle.lq_top.proofs.Readings.{unread, up_to}
 use Rattle.lq_top.specs.Asks.{Files, file_status}
@@ -17,6 +18,7 @@ use Rattle.lq_top.specs.Bytes.{TellsDamage}
 use Rattle.lq_top.specs.Drilled.{DoesDrill, DrilledBy, FindsDrill, IsOfDrill, WorkedDrill}
 use Rattle.lq_top.specs.Drills.{drill_of}
 use Rattle.lq_top.specs.Kinds.{IsOfFiles, IsOfWords, Refuses, is_of_drill, is_unwritten}
+use Rattle.lq_top.specs.Run.{TellsPlace}
 use Rattle.lq_top.specs.Worked.{UsedDisk}
 use Rattle.lq_top.specs.declared.drilling.Drilling.{Drilling}
 
@@ -123,9 +125,10 @@ module _ {D : Type 0} (told : D → Option (List ℕ)) (faults : D → ℕ) (cra
   abbrev Did : Status → Type 0
   Did s = DrilledBy told faults crashes files d path runs who coming coming before (Err s) before
 
-  unused : (s : Status) → TellsDamage d (told before) (Err s) → (failing s ≡ Err status.DiskFault → ⊥) → UsedDisk told faults crashes (Drill []) d before (Err s) before
-  unused s whole not_disk = record {
+  unused : (s : Status) → TellsDamage d (told before) (Err s) → (failing s ≡ Err status.DiskFault → ⊥) → ((place : ℕ) → TellsPlace place s) → UsedDisk told faults crashes (Drill []) d before (Err s) before
+  unused s whole not_disk tells = record {
     damaged = whole;
+    spares = λ beside place damaged. spares_by place (told before) (Err s) (told before) (fails_so place s (tells place)) refl;
     safe = λ command finished. absurd (false_true command);
     off = λ off. refl;
     later = Prim.search rules;
@@ -135,7 +138,7 @@ module _ {D : Type 0} (told : D → Option (List ℕ)) (faults : D → ℕ) (cra
   -- its file has no such form
   formless_worked : ((source : Source) → IsTold files source → drill_of source d path runs ≡ Ok None) → Did status.Usage
   formless_worked none = record {
-    used = unused status.Usage tt (λ is. Prim.cc);
+    used = unused status.Usage tt (λ is. Prim.cc) (λ place. inr (inl tt));
     kind = refl;
     settled = tt;
     untouched = λ of. refl;
@@ -150,7 +153,7 @@ module _ {D : Type 0} (told : D → Option (List ℕ)) (faults : D → ℕ) (cra
   -- they have a fault
   faulty_worked : (fault : LoadFault) → file_status fault ≡ status.Changelog fault → ((source : Source) → IsTold files source → drill_of source d path runs ≡ Err fault) → Did (status.Changelog fault)
   faulty_worked fault own found = record {
-    used = unused (status.Changelog fault) tt (λ is. Prim.cc);
+    used = unused (status.Changelog fault) tt (λ is. Prim.cc) (λ place. inr (inl tt));
     kind = refl;
     settled = tt;
     untouched = λ of. refl;
@@ -168,7 +171,7 @@ module _ {D : Type 0} (told : D → Option (List ℕ)) (faults : D → ℕ) (cra
   -- they failed
   failed_worked : Did status.ReadFault
   failed_worked = record {
-    used = unused status.ReadFault tt (λ is. Prim.cc);
+    used = unused status.ReadFault tt (λ is. Prim.cc) (λ place. inr (inl tt));
     kind = refl;
     settled = tt;
     untouched = λ of. refl;
@@ -182,7 +185,7 @@ module _ {D : Type 0} (told : D → Option (List ℕ)) (faults : D → ℕ) (cra
 
   memory_worked : Did status.OutOfMemory
   memory_worked = record {
-    used = unused status.OutOfMemory tt (λ is. Prim.cc);
+    used = unused status.OutOfMemory tt (λ is. Prim.cc) (λ place. memory_first place status.OutOfMemory refl);
     kind = refl;
     settled = tt;
     untouched = λ of. refl;

@@ -1,7 +1,7 @@
 -- What a drill comes to, once its texts are written.
 use Rattle.std.proofs.Common.{ap, inl, inr, subst, sym, ◌∙◌}
 use Rattle.std.specs.Option.{option_map}
-use Rattle.std.specs.Prelude.{Bool, Err, List, Ok, Option, Result, Some, false, length, true, ℕ, ◌++◌, ◌≡◌, ◌≤◌, ◌⊎◌}
+use Rattle.std.specs.Prelude.{Err, List, Ok, Option, Result, Some, false, true, ℕ, ◌++◌, ◌≡◌, ◌⊎◌}
 use Rattle.lq_base.specs.declared.dialect.Dialect.{Dialect}
 use Rattle.lq_outside.specs.Sink.{IsPart}
 use Rattle.lq_outside.specs.Crash.{Crashes as DiskCrashes, Settled}
@@ -11,7 +11,7 @@ use Rattle.lq_tell.specs.declared.status.Status.{Status}
 use Rattle.lq_tell.specs.declared.status.Status.TheVariants as status
 use Rattle.lq_top.proofs.Written.{IsWritten, failed_ends}
 use Rattle.lq_top.specs.Asks.{Files}
-use Rattle.lq_top.specs.Drilled.{AsksDrill, DoesDrill, DrillEnds, Drills, IsFormless, IsIdle, IsOfDrill, IsSettled, RunsDrill, Went, has_drilled, told_text}
+use Rattle.lq_top.specs.Drilled.{AsksDrill, DoesDrill, DrillEnds, Drills, IsFormless, IsIdle, IsOfDrill, IsSettled, NoneFailed, RunsDrill, Went, has_drilled, told_text}
 use Rattle.lq_top.specs.Kinds.{is_of_drill}
 use Rattle.lq_top.specs.declared.drilling.Drilling.{Drilling}
 
@@ -44,13 +44,13 @@ settled_as told faults crashes (Err s) disk settled = tt
 module _ (d : Dialect) (who : List ℕ) (drill : Drilling) (readings : List ℕ) (before : Option (List ℕ)) (c : DiskCrashes) (after : Option (List ℕ)) (e : DiskCrashes) (out written : Option (List ℕ)) where
   -- it came to its end
 
-  ok_ends : (done : Done) (s : Status) → done.status ≡ status.Done → EndsAs done.status s → (went : Went d who drill readings before after c e) → done.out ≡ Some (told_text drill went.answers)
+  ok_ends : (done : Done) (s : Status) → done.status ≡ status.Done → EndsAs done.status s → (went : Went d who drill readings before after c e) → done.out ≡ Some (told_text drill went.answers) → NoneFailed went.answers
       → (has_output s ≡ true → written ≡ option_map (λ (o : List ℕ). o ++ text_or_none done.out) out) → IsPart (text_or_none done.out) out written → DrillEnds d who drill readings before c s after e out written
-  ok_ends done s is (inl same) went text whole part =
+  ok_ends done s is (inl same) went text none whole part =
       let at = same ∙ is in
-      subst (λ s. DrillEnds d who drill readings before c s after e out written) (sym at) (went, whole (ap has_output at) ∙ ap (λ t. option_map (λ (o : List ℕ). o ++ text_or_none t) out) text)
-  ok_ends done s is (inr (inl memory)) went text whole part = subst (λ s. DrillEnds d who drill readings before c s after e out written) (sym memory) (inr went)
-  ok_ends done s is (inr (inr write)) went text whole part = subst (λ s. DrillEnds d who drill readings before c s after e out written) (sym write) (went, subst (λ (t : Option (List ℕ)). IsPart (text_or_none t) out written) text part)
+      subst (λ s. DrillEnds d who drill readings before c s after e out written) (sym at) (went, whole (ap has_output at) ∙ ap (λ t. option_map (λ (o : List ℕ). o ++ text_or_none t) out) text, none)
+  ok_ends done s is (inr (inl memory)) went text none whole part = subst (λ s. DrillEnds d who drill readings before c s after e out written) (sym memory) (inr went)
+  ok_ends done s is (inr (inr write)) went text none whole part = subst (λ s. DrillEnds d who drill readings before c s after e out written) (sym write) (went, subst (λ (t : Option (List ℕ)). IsPart (text_or_none t) out written) text part, none)
 
   -- or it did not
 
@@ -60,9 +60,15 @@ module _ (d : Dialect) (who : List ℕ) (drill : Drilling) (readings : List ℕ)
   abbrev Did : Status → Type 0
   Did x = Drills d who drill readings before c (Err x) after e
 
+  disk_part : Did status.DiskFault → Part
+  disk_part (inl nothing) = inl nothing
+  disk_part (inr did) = inr did.0
+
   part_of : (x : Status) → Did x → Part
   part_of (status.Full used next) did = inr did.0
-  part_of s did = did
+  part_of status.DiskFault did = disk_part did
+  part_of status.OutOfMemory did = did
+  part_of s did = inl did
 
   part_ends : (x : Status) → is_of_drill x ≡ true → Did x → DrillEnds d who drill readings before c x after e out written
   part_ends status.DiskFault kind did = did
@@ -84,14 +90,14 @@ module _ (d : Dialect) (who : List ℕ) (drill : Drilling) (readings : List ℕ)
 
   kind_ends : (x : Status) → (is_of_drill x ≡ true) ⊎ (x ≡ status.ReadFault) → Did x → DrillEnds d who drill readings before c x after e out written
   kind_ends x (inl kind) did = part_ends x kind did
-  kind_ends x (inr read) did = subst (λ s. DrillEnds d who drill readings before c s after e out written) (sym read) (part_of x did)
+  kind_ends x (inr read) did = subst (λ s. DrillEnds d who drill readings before c s after e out written) (sym read) (subst Did read did)
 
   err_ends : (x s : Status) → (is_of_drill x ≡ true) ⊎ (x ≡ status.ReadFault) → (s ≡ x) ⊎ (s ≡ status.OutOfMemory) → Did x → DrillEnds d who drill readings before c s after e out written
   err_ends x s kind (inl same) did = subst (λ s. DrillEnds d who drill readings before c s after e out written) (sym same) (kind_ends x kind did)
   err_ends x s kind (inr memory) did = subst (λ s. DrillEnds d who drill readings before c s after e out written) (sym memory) (part_of x did)
 
   pub ends_as : (done : Result Done Status) (s : Status) → IsWritten done s → IsOfDrill done → Drills d who drill readings before c done after e → (has_output s ≡ true → written ≡ option_map (λ (o : List ℕ). o ++ out_text done) out) → IsPart (out_text done) out written → DrillEnds d who drill readings before c s after e out written
-  ends_as (Ok done) s by kind drills whole part = ok_ends done s drills.0 by.ended drills.1.0 drills.1.1 whole part
+  ends_as (Ok done) s by kind drills whole part = ok_ends done s drills.0 by.ended drills.1.0 drills.1.1 drills.1.2 whole part
   ends_as (Err x) s by kind drills whole part = err_ends x s kind (failed_ends (Err x) x s by Prim.cc) drills
 
 undrilled : (x : Status) → is_of_drill x ≡ true → has_drilled x ≡ true → ⊥

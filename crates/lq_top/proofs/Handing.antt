@@ -17,6 +17,7 @@ use Rattle.lq_sources.specs.declared.fault.LoadFault.TheVariants as load
 use Rattle.lq_tell.specs.declared.done.Done.{Done}
 use Rattle.lq_tell.specs.declared.status.Status.{Status}
 use Rattle.lq_turns.specs.declared.stamp.Stamp.{Stamp}
+use Rattle.lq_top.proofs.DamagedFiles.{fails_so, files_tell, spares_by}
 use Rattle.lq_top.proofs.LeftOnFile.{crashes_on, since_none}
 use Rattle.lq_top.proofs.Loading.{failing, false_true, fails_does, fault_given, files_damage, files_kind, is_loaded, line_kind, loaded_does, no_changelog_fault, no_disk_fault, no_files, not_less, not_loaded as fault_not_loaded, ok_same, some_line}
 use Rattle.lq_top.specs.Asks.{Asks, Files, asked_by, file_status, given_to}
@@ -52,6 +53,7 @@ module _ {D : Type 0} (told : D → Option (List ℕ)) (faults : D → ℕ) (cra
   unloaded_worked f finds = record {
     used = record {
       damaged = files_damage f options.dialect (told before);
+      spares = λ beside place damaged. spares_by place (told before) (failing (file_status f)) (told before) (fails_so place (file_status f) (files_tell f place)) refl;
       safe = λ command finished. absurd (files_unfinished f finished);
       off = λ off. refl;
       later = not_less refl;

@@ -9,7 +9,7 @@ use Rattle.lq_commands.proofs.PlainRefusals.{refusal_plain}
 use Rattle.lq_commands.specs.Outputs.{TellsJob}
 use Rattle.lq_commands.specs.Refusals.{Answers, refusal}
 use Rattle.lq_commands.specs.Scripts.{script}
-use Rattle.lq_commands.specs.Works.{CrashesIn, IsKept, IsReady, OnIts, Works, is_finished}
+use Rattle.lq_commands.specs.Works.{CrashesIn, IsKept, IsReady, OnIts, Works, is_finished, only_reads}
 use Rattle.lq_commands.specs.declared.given.Given.{Given}
 use Rattle.lq_db.specs.Db.{IsDb, IsNew, IsValid, crashes as crashes_of, disk_in, state}
 use Rattle.lq_db.specs.Load.{IsDbFault, catalogue_of}
@@ -22,12 +22,13 @@ use Rattle.lq_store.specs.State.{State}
 use Rattle.lq_tell.specs.declared.done.Done.{Done}
 use Rattle.lq_tell.specs.declared.status.Status.{Status}
 use Rattle.lq_tell.specs.declared.status.Status.TheVariants as status
+use Rattle.lq_top.proofs.DamagedFiles.{load_spares, memory_spares, no_damage, spares_after}
 use Rattle.lq_top.proofs.LeftOnFile.{since_after, since_none, since_read}
 use Rattle.lq_top.proofs.OnFiles.{does_nothing, does_there, fault_kind, fault_rises, fault_tells, load_unfinished, memory_kind, memory_no_disk, memory_tells, memory_unfinished, moments_there, refused_does, rose_later, settled_after}
 use Rattle.lq_top.proofs.OnReady.{ready_kind, ready_tells}
 use Rattle.lq_top.proofs.Ready.{opened}
 use Rattle.lq_top.specs.Bytes.{OnFile, TellsDamage, load_status, most_bytes}
-use Rattle.lq_top.specs.Jobs.{DoesJob, is_command, is_on_file}
+use Rattle.lq_top.specs.Jobs.{DoesJob, is_apart, is_command, is_on_file}
 use Rattle.lq_top.specs.Kinds.{IsOfDatabase}
 use Rattle.lq_top.specs.Worked.{CrashesJob, WorkedOn}
 
@@ -42,11 +43,12 @@ same_count a b is = omega arith
 
 module _ {D : Type 0} (told : D → Option (List ℕ)) (faults : D → ℕ) (crashes : D → DiskCrashes) where
   -- a job that is not on the file
-  pub aside_worked : (job : Job) (given : Given) (disk : D) (done : Result Done Status) → is_on_file job ≡ false → is_command job ≡ false → TellsDamage given.options.dialect (told disk) done → IsOfDatabase done → (done ≡ Err status.DiskFault → ⊥)
+  pub aside_worked : (job : Job) (given : Given) (disk : D) (done : Result Done Status) → is_on_file job ≡ false → is_apart job ≡ true → is_command job ≡ false → TellsDamage given.options.dialect (told disk) done → IsOfDatabase done → (done ≡ Err status.DiskFault → ⊥)
       → WorkedOn told faults crashes job given disk done disk
-  aside_worked job given disk done off none damaged kind no_fault = record {
+  aside_worked job given disk done off apart none damaged kind no_fault = record {
     used = record {
       damaged = damaged;
+      spares = λ beside. absurd (true_false (sym apart ∙ beside));
       safe = λ command finished. absurd (true_false (sym command ∙ none));
       off = λ is. refl;
       later = same_count (faults disk) (faults disk) refl;
@@ -73,13 +75,14 @@ module _ {D : Type 0} (told : D → Option (List ℕ)) (faults : D → ℕ) (cra
     settled_kept : left ≡ db → Settled (told (disk_in left)) (crashes (disk_in left))
     settled_kept same = subst (λ (db : Db D P E). Settled (told (disk_in db)) (crashes (disk_in db))) (sym same) is.whole.settled
 
-    pub worked : (c : Command) (r : Result Done Status) → OnIts d x (λ database. Answers (refusal c given database) r) → OnIts d x (λ database. IsKept (refusal c given database) db left)
+    pub worked : (c : Command) (r : Result Done Status) → OnIts d x (λ database. Answers (refusal c given database) r) → OnIts d x (λ database. IsKept (refusal c given database) db left) → (only_reads c ≡ true → left ≡ db)
         → OnIts d x (λ database. Works d (script c given database) database x r y) → OnIts d x (λ database. CrashesIn d (script c given database) database x (crashes_of (crashes (disk_in db)) db) (crashes_of (crashes (disk_in left)) left))
         → OnIts d x (λ database. TellsJob (job.Run c) given database r) → faults (disk_in db) ≤ faults (disk_in left) → (r ≡ Err status.DiskFault → Rose (faults (disk_in db)) (faults (disk_in left)))
         → WorkedOn told faults crashes (job.Run c) given (disk_in db) r (disk_in left)
-    worked c r answers refused works moments tells later fault = record {
+    worked c r answers refused reads works moments tells later fault = record {
       used = record {
         damaged = ready_tells d d refl x ready (refusal c given) (refusal_plain given c) r answers (told (disk_in db));
+        spares = λ beside place damaged. no_damage d (told (disk_in db)) (kept h) read place damaged;
         safe = λ command finished.
             settled_after d p (script c given ready.database) ready.database x (told (disk_in left)) (crashes (disk_in left)) k left valid (refusal c given ready.database) r (answers ready.database ready.has)
             (λ some. settled_kept (refused ready.database ready.has some)) (works ready.database ready.has) finished;
@@ -91,7 +94,7 @@ module _ {D : Type 0} (told : D → Option (List ℕ)) (faults : D → ℕ) (cra
       does = λ on database opens.
           let has = opened d p (told (disk_in db)) (crashes (disk_in db)) h db is new (told (disk_in db)) database refl read opens in
           does_there d p (told (disk_in db)) (crashes (disk_in db)) h db is new.limit_is opens.bytes opens.told_is (told (disk_in left)) (crashes (disk_in left)) k left valid database has c given r refl
-          (answers database has) (λ some. ap (λ (db : Db D P E). told (disk_in db)) (refused database has some)) (works database has) (tells database has);
+          (answers database has) (λ some. ap (λ (db : Db D P E). told (disk_in db)) (refused database has some)) (λ only. ap (λ (db : Db D P E). told (disk_in db)) (reads only)) (works database has) (tells database has);
       any_moment = λ on database opens.
           let has = opened d p (told (disk_in db)) (crashes (disk_in db)) h db is new (told (disk_in db)) database refl read opens in
           moments_there d p (told (disk_in db)) (crashes (disk_in db)) h db is new.limit_is opens.bytes opens.told_is (told (disk_in left)) (crashes (disk_in left)) k left valid database has
@@ -104,6 +107,7 @@ module _ {D : Type 0} (told : D → Option (List ℕ)) (faults : D → ℕ) (cra
     memory_worked c s memory = record {
       used = record {
         damaged = memory_tells given.options.dialect (told disk) s memory;
+        spares = λ beside place damaged. memory_spares place (told disk) (Err s) (told disk) s memory refl refl;
         safe = λ command finished. absurd (memory_unfinished s memory finished);
         off = λ off. refl;
         later = same_count (faults disk) (faults disk) refl;
@@ -120,6 +124,7 @@ module _ {D : Type 0} (told : D → Option (List ℕ)) (faults : D → ℕ) (cra
       worked_after c r last did = record {
         used = record {
           damaged = subst (λ o. TellsDamage given.options.dialect o r) same did.used.damaged;
+          spares = λ beside place damaged. spares_after given.options.dialect (told disk) (told after) same r (told last) place (did.used.spares beside place) damaged;
           safe = did.used.safe;
           off = λ off. absurd (false_true off);
           later = omega (arith, later, did.used.later);
@@ -137,6 +142,7 @@ module _ {D : Type 0} (told : D → Option (List ℕ)) (faults : D → ℕ) (cra
       fault_worked c f s is_status is = record {
         used = record {
           damaged = subst (λ s. TellsDamage given.options.dialect (told disk) (Err s)) (sym is_status) (fault_tells given.options.dialect (told disk) (faults disk) (faults after) f is);
+          spares = λ beside place damaged. load_spares given.options.dialect (told disk) (told after) (faults disk) (faults after) f s is_status is same place damaged;
           safe = λ command finished. absurd (load_unfinished f (subst (λ s. is_finished s ≡ true) is_status finished));
           off = λ off. absurd (false_true off);
           later = later;

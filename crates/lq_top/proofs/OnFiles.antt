@@ -7,7 +7,7 @@ use Rattle.lq_cli.specs.declared.line.Job.TheVariants as job
 use Rattle.lq_commands.specs.Outputs.{TellsJob}
 use Rattle.lq_commands.specs.Refusals.{Answers, IsFault, refusal}
 use Rattle.lq_commands.specs.Scripts.{script}
-use Rattle.lq_commands.specs.Works.{CrashesIn, Works, is_finished}
+use Rattle.lq_commands.specs.Works.{CrashesIn, TellsRoom, Works, is_finished, only_reads}
 use Rattle.lq_commands.specs.declared.given.Given.{Given}
 use Rattle.lq_db.specs.Db.{IsDb, IsValid, state}
 use Rattle.lq_db.specs.Load.{IsDbFault, catalogue_of}
@@ -24,7 +24,7 @@ use Rattle.lq_outside.specs.Crash.{Crashes, Settled}
 use Rattle.lq_run.specs.Commands.{HasDatabase, Leaves}
 use Rattle.lq_run.specs.Crashes.{LeftBehind, LeftInCommand, Since}
 use Rattle.lq_run.specs.Left.{IsFullIn}
-use Rattle.lq_run.specs.Stands.{entries_of}
+use Rattle.lq_run.specs.Stands.{HadRoom, entries_of}
 use Rattle.lq_store.specs.Executor.{Held, kept}
 use Rattle.lq_store.specs.Journal.{Entry, database as catalogue_by, end_of, is_full, size_of_all}
 use Rattle.lq_store.specs.State.{State}
@@ -33,13 +33,14 @@ use Rattle.lq_tell.specs.declared.done.Done.{Done}
 use Rattle.lq_tell.specs.declared.status.Status.{Status}
 use Rattle.lq_tell.specs.declared.status.Status.TheVariants as status
 use Rattle.lq_track.specs.Database.{Database}
+use Rattle.lq_turns.specs.Session.{all_called, session_on}
 use Rattle.lq_turns.specs.declared.call.Call.{Call}
 use Rattle.lq_top.proofs.InUse.{used_in}
 use Rattle.lq_top.proofs.LeftOnFile.{is_left_on, since_on}
 use Rattle.lq_top.proofs.Ready.{becomes}
 use Rattle.lq_top.proofs.RefusedKinds.{answers_disk, answers_memory}
-use Rattle.lq_top.proofs.Unchanged.{left_same}
-use Rattle.lq_top.specs.Bytes.{Becomes, IsFullOn, IsLeftOn, OnFile, Opens, SaysFullOn, TellsDamage, WorksOn, in_use, load_status, most_bytes}
+use Rattle.lq_top.proofs.Unchanged.{had_room, left_same, says_full}
+use Rattle.lq_top.specs.Bytes.{Becomes, IsFullOn, IsLeftOn, OnFile, Opens, TellsDamage, TellsRoomOn, WorksOn, in_use, load_status, most_bytes}
 use Rattle.lq_top.specs.Jobs.{DoesJob}
 use Rattle.lq_top.specs.Kinds.{IsOfDatabase}
 use Rattle.lq_top.specs.Worked.{CrashesSince}
@@ -109,6 +110,13 @@ module _ {D P E : Type 0} (d p : Dialect) (told : Option (List ℕ)) (crashes : 
   works_there calls (Ok done) works = (λ finished. becomes_there calls (works.0 finished), λ unfinished. left_there calls (works.1 unfinished))
   works_there calls (Err s) behind = left_there calls behind
 
+  -- what holds of the limit of the database's journal and of how much of it is in use holds of the file's
+  pub on_journal : (holds : ℕ → ℕ → Type 0) → holds x.limit x.used → IfSome (entries_in d most_bytes told) (λ there. holds most_bytes (in_use there))
+  on_journal holds it =
+      let there = entries_told in
+      let begins : used_of db.journal ≡ in_use there.0 = used_in p told crashes h db is bytes told_is there.0 there.1 in
+      subst (λ o. IfSome o (λ there. holds most_bytes (in_use there))) (sym (sym entries_were ∙ there.1)) (subst (λ n. holds n (in_use there.0)) limit (subst (λ n. holds x.limit n) begins it))
+
   -- where the journal of the database was full the file's was
   full_on : (calls : List Call) (used next : ℕ) → IsFullIn d calls database x used next → IsFullOn d calls database told used next
   full_on calls used next full =
@@ -126,20 +134,32 @@ module _ {D P E : Type 0} (d p : Dialect) (told : Option (List ℕ)) (crashes : 
         full = subst (λ n. is_full (end_of full.room n) used (entries_of d full.more) ≡ true) limit full.full;
       }
 
-  full_there : (calls : List Call) (r : Result Done Status) → Works d calls database x r y → IfOk r (λ (ended : Done). SaysFullOn d calls database told ended.status)
-  full_there calls (Ok done) works = λ used next same. full_on calls used next (works.2 used next same)
-  full_there calls (Err s) behind = tt
+  -- and where it had room the file's had
+  pub room_on : (calls : List Call) (s : Status) → TellsRoom d calls database x s → TellsRoomOn d calls database told s
+  room_on calls s room = (
+    λ finished. on_journal (λ n used. HadRoom d n used (all_called d calls (session_on database)).entries) (room.0 finished),
+    λ used next same. full_on calls used next (room.1 used next same),
+  )
+
+  room_there : (calls : List Call) (r : Result Done Status) → Works d calls database x r y → IfOk r (λ (ended : Done). TellsRoomOn d calls database told ended.status)
+  room_there calls (Ok done) works = room_on calls done.status (λ finished. (works.0 finished).room, works.2)
+  room_there calls (Err s) behind = tt
 
   -- what a command does on the database it does on the file
-  pub does_there : (c : Command) (given : Given) (r : Result Done Status) → given.options.dialect ≡ d → Answers (refusal c given database) r → (is_some (refusal c given database) ≡ true → now ≡ told)
+  pub does_there : (c : Command) (given : Given) (r : Result Done Status) → given.options.dialect ≡ d → Answers (refusal c given database) r → (is_some (refusal c given database) ≡ true → now ≡ told) → (only_reads c ≡ true → now ≡ told)
       → Works d (script c given database) database x r y → TellsJob (job.Run c) given database r → DoesJob (job.Run c) given database told r now
-  does_there c given r dialect answers kept works tells = record {
-    answers = answers;
-    refused = kept;
-    works = subst (λ e. WorksOn e (script c given database) database told r now) (sym dialect) (works_there (script c given database) r works);
-    tells = tells;
-    full = λ command. subst (λ e. IfOk r (λ (ended : Done). SaysFullOn e (script c given database) database told ended.status)) (sym dialect) (full_there (script c given database) r works);
-  }
+  does_there c given r dialect answers kept reads works tells =
+      let calls = script c given database in
+      let room = subst (λ e. IfOk r (λ (ended : Done). TellsRoomOn e calls database told ended.status)) (sym dialect) (room_there calls r works) in
+      record {
+        answers = answers;
+        refused = kept;
+        reads = reads;
+        works = subst (λ e. WorksOn e calls database told r now) (sym dialect) (works_there calls r works);
+        tells = tells;
+        room = had_room given.options.dialect calls database told r room;
+        full = says_full given.options.dialect calls database told r room;
+      }
 
   -- and what a crash may leave of the journal it may leave of the file
   pub moments_there : (calls : List Call) (r : Result Done Status) → Works d calls database x r y → CrashesIn d calls database x (crashes_in (dialect_of db.journal) (limit_of db.journal) crashes) (crashes_in (dialect_of left.journal) (limit_of left.journal) later)
@@ -172,7 +192,7 @@ module _ {D P E : Type 0} (d p : Dialect) (calls : List Call) (database : Databa
 pub does_nothing : (c : Command) (given : Given) (database : Database) (told now : Option (List ℕ)) (s : Status) → s ≡ status.OutOfMemory → Opens given.options.dialect told database → now ≡ told → DoesJob (job.Run c) given database told (Err s) now
 does_nothing c given database told now s memory opens same =
     subst (λ s. DoesJob (job.Run c) given database told (Err s) now) (sym memory)
-    (record { answers = answers_memory (refusal c given database); refused = λ some. same; works = left_same given.options.dialect (script c given database) database told now opens same; tells = tt; full = λ command. tt })
+    (record { answers = answers_memory (refusal c given database); refused = λ some. same; reads = λ only. same; works = left_same given.options.dialect (script c given database) database told now opens same; tells = tt; room = tt; full = tt })
 
 pub memory_kind : (s : Status) → s ≡ status.OutOfMemory → IsOfDatabase (Err s)
 memory_kind s memory = subst (λ s. IsOfDatabase (Err s)) (sym memory) refl
@@ -241,7 +261,9 @@ refused_does told now before later fault s is_status c given is same database op
     (record {
       answers = fault_answers given.options.dialect told before later fault (refusal c given database) database is opens;
       refused = λ some. same;
+      reads = λ only. same;
       works = left_same given.options.dialect (script c given database) database told now opens same;
       tells = tt;
-      full = λ command. tt;
+      room = tt;
+      full = tt;
     })

@@ -92,7 +92,7 @@ or_none (Some x) b is = absurd (some_none is)
 
 -- what is refused in such a way is refused by the changelog's own precondition
 
-halted_is : (o h : Option Status) (x : Status) → Quiet o → option_or o h ≡ Some x → is_finished x ≡ true → h ≡ Some x
+pub halted_is : (o h : Option Status) (x : Status) → Quiet o → option_or o h ≡ Some x → is_finished x ≡ true → h ≡ Some x
 halted_is None h x quiet is finished = is
 halted_is (Some refused) h x quiet is finished = absurd (quiet_not x (Some refused) quiet is finished)
 

@@ -8,10 +8,10 @@ use Rattle.lq_base.specs.declared.command.Command.TheVariants as command
 use Rattle.lq_base.specs.declared.command.Target.{Target}
 use Rattle.lq_cli.specs.Line.{by_count, drilling, job_of, line_after, line_of, line_with, only_target, rollback, soak, tagging, to_date, to_tag}
 use Rattle.lq_cli.specs.Options.{definitions, given_in, value}
-use Rattle.lq_cli.specs.Table.{changelog_file, context_filter, count, date, form_of, label_filter, number, runs, sets, tag, url, verb_of}
+use Rattle.lq_cli.specs.Table.{context_filter, count, date, form_of, label_filter, number, runs, sets, tag, url, verb_of}
 use Rattle.lq_cli.specs.Values.{contexts_of, labels_of, number_from, properties_of, tag_of, url_of}
 use Rattle.lq_cli.specs.declared.line.Job.{Job}
-use Rattle.lq_cli.specs.declared.line.Job.TheVariants.{Drill, RollbackSql, Run, Soak}
+use Rattle.lq_cli.specs.declared.line.Job.TheVariants.{Drill, RollbackSql, Run}
 use Rattle.lq_cli.specs.declared.line.Line.{Line}
 use Rattle.lq_cli.specs.declared.verb.Verb.{Verb}
 use Rattle.lq_cli.specs.declared.verb.Verb.TheVariants as verb

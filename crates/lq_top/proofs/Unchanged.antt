@@ -2,10 +2,11 @@
 use Rattle.std.proofs.Common.{ap, inl, refl, subst, sym, ◌∙◌}
 use Rattle.std.proofs.lemmas.List.{append-nil}
 use Rattle.std.specs.Option.{option_map}
-use Rattle.std.specs.Prelude.{Bool, Err, List, None, Ok, Option, Result, Some, [], cond, false, map, true, ℕ, ◌++◌, ◌≡◌}
+use Rattle.std.specs.Prelude.{Bool, Err, IfOk, IfSome, List, None, Ok, Option, Result, Some, [], cond, false, map, true, ℕ, ◌++◌, ◌∷◌, ◌≡◌}
 use Rattle.lq_base.specs.declared.dialect.Dialect.{Dialect}
 use Rattle.lq_commands.specs.Outputs.{TellsJob}
 use Rattle.lq_commands.specs.Refusals.{Answers}
+use Rattle.lq_commands.specs.Works.{is_finished}
 use Rattle.lq_commands.specs.declared.given.Given.{Given}
 use Rattle.lq_db.proofs.Loads.{folded_runs}
 use Rattle.lq_db.specs.Load.{folded, if_clean, is_clean, read_entries}
@@ -13,16 +14,19 @@ use Rattle.lq_db.specs.Log.{entries_in, texts_of}
 use Rattle.lq_journal.specs.Journal.{journal_of, used_by}
 use Rattle.lq_journal.specs.declared.entry.Entry.{Entry as Placed}
 use Rattle.lq_model.specs.Catalogue.{Catalogue, no_objects}
+use Rattle.lq_run.specs.Stands.{HadRoom}
 use Rattle.lq_store.specs.Journal.{Entry}
 use Rattle.lq_track.specs.Database.{Database}
 use Rattle.lq_tell.specs.declared.done.Done.{Done}
 use Rattle.lq_tell.specs.declared.status.Status.{Status}
 use Rattle.lq_turns.proofs.Journal.{journal_leads}
 use Rattle.lq_turns.specs.Session.{all_called, left_by, session_on}
+use Rattle.lq_turns.specs.Stops.{Journal}
 use Rattle.lq_turns.specs.declared.call.Call.{Call}
-use Rattle.lq_top.specs.Bytes.{Becomes, Holds, IsLeftOn, Opens, WorksOn, most_bytes}
+use Rattle.lq_turns.specs.declared.deed.Deed.{Deed}
+use Rattle.lq_top.specs.Bytes.{Becomes, HadRoomOn, Holds, IsLeftOn, OnFile, Opens, SaysFullOn, TellsRoomOn, WorksOn, in_use, most_bytes}
 use Rattle.lq_top.specs.Copies.{job_of}
-use Rattle.lq_top.specs.Jobs.{DoesJob, is_apart, is_command, job_refusal, job_script}
+use Rattle.lq_top.specs.Jobs.{DoesJob, is_apart, is_command, job_calls, job_refusal, job_script}
 use Rattle.lq_top.specs.declared.copying.Printing.{Printing}
 use Rattle.lq_top.specs.declared.copying.Printing.TheVariants as print
 
@@ -68,6 +72,22 @@ pub becomes_same : (d : Dialect) (database : Database) (before after : Option (L
 becomes_same d database before after opens same =
     subst (λ told. Becomes d [] database before told) (sym same) (record { holds = holds_it d before database opens; entries = no_more (entries_in d most_bytes before) })
 
+-- and asks for no room
+
+not_empty : {A : Type 0} {x : A} {xs : List A} → x ∷ xs ≡ [] → ⊥
+not_empty h = Prim.cc
+
+no_entry : (front : Journal) (entry : List Deed) (rest : Journal) → front ++ entry ∷ rest ≡ [] → ⊥
+no_entry [] entry rest is = not_empty is
+no_entry (first ∷ front) entry rest is = not_empty is
+
+none_asked : (d : Dialect) (o : Option (List Entry)) → IfSome o (λ (there : List Entry). HadRoom d most_bytes (in_use there) [])
+none_asked d None = tt
+none_asked d (Some there) = λ front entry rest is. absurd (no_entry front entry rest (sym is))
+
+pub no_room : (d : Dialect) (database : Database) (before : Option (List ℕ)) → HadRoomOn d [] database before
+no_room d database before = none_asked d (entries_in d most_bytes before)
+
 -- and it is what a stop before the first call leaves
 pub left_same : (d : Dialect) (calls : List Call) (database : Database) (before after : Option (List ℕ)) → Opens d before database → after ≡ before → IsLeftOn d calls database before after
 left_same d calls database before after opens same =
@@ -93,6 +113,17 @@ becomes_left d calls database before after becomes =
       holds = becomes.holds;
     }
 
+-- what a job tells of room in the file's journal
+
+module _ (d : Dialect) (calls : List Call) (database : Database) (before : Option (List ℕ)) where
+  pub had_room : (done : Result Done Status) → IfOk done (λ (ended : Done). TellsRoomOn d calls database before ended.status) → IfOk done (λ (ended : Done). is_finished ended.status ≡ true → HadRoomOn d calls database before)
+  had_room (Ok ended) room = room.0
+  had_room (Err s) room = tt
+
+  pub says_full : (done : Result Done Status) → IfOk done (λ (ended : Done). TellsRoomOn d calls database before ended.status) → IfOk done (λ (ended : Done). SaysFullOn d calls database before ended.status)
+  says_full (Ok ended) room = room.1
+  says_full (Err s) room = tt
+
 -- what is printed is written nowhere
 
 no_calls : (printing : Printing) (given : Given) (database : Database) → job_script (job_of printing) given database ≡ []
@@ -116,7 +147,25 @@ prints printing given database before (Ok done) after opens same = (
 )
 prints printing given database before (Err s) after opens same = left_same given.options.dialect (job_script (job_of printing) given database) database before after opens same
 
+-- for the database of a file
+on_database : (d : Dialect) (calls : Database → List Call) (before : Option (List ℕ)) (done : Result Done Status) (database : Database) → Opens d before database
+    → IfOk done (λ (ended : Done). OnFile d before (λ database. TellsRoomOn d (calls database) database before ended.status)) → IfOk done (λ (ended : Done). TellsRoomOn d (calls database) database before ended.status)
+on_database d calls before (Ok ended) database opens room = room database opens
+on_database d calls before (Err s) database opens room = tt
+
 pub printed_does : (printing : Printing) (given : Given) (database : Database) (before : Option (List ℕ)) (done : Result Done Status) (after : Option (List ℕ)) → Opens given.options.dialect before database
-    → Answers (job_refusal (job_of printing) given database) done → TellsJob (job_of printing) given database done → after ≡ before → DoesJob (job_of printing) given database before done after
-printed_does printing given database before done after opens answers tells same =
-    record { answers = answers; refused = λ some. same; works = prints printing given database before done after opens same; tells = tells; full = λ command. prints_no_command printing command }
+    → Answers (job_refusal (job_of printing) given database) done → TellsJob (job_of printing) given database done
+    → IfOk done (λ (ended : Done). OnFile given.options.dialect before (λ database. TellsRoomOn given.options.dialect (job_calls (job_of printing) given database) database before ended.status)) → after ≡ before
+    → DoesJob (job_of printing) given database before done after
+printed_does printing given database before done after opens answers tells told same =
+    let calls = job_calls (job_of printing) given database in
+    let room = on_database given.options.dialect (job_calls (job_of printing) given) before done database opens told in
+    record {
+      answers = answers;
+      refused = λ some. same;
+      reads = λ only. same;
+      works = prints printing given database before done after opens same;
+      tells = tells;
+      room = had_room given.options.dialect calls database before done room;
+      full = says_full given.options.dialect calls database before done room;
+    }

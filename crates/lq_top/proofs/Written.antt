@@ -12,9 +12,8 @@ use Rattle.lq_base.specs.declared.tracking.Tracked.{Tracked}
 use Rattle.lq_cli.specs.declared.line.Job.{Job}
 use Rattle.lq_cli.specs.declared.line.Job.TheVariants.{Drill, RollbackSql, Run, Soak, UpdateSql}
 use Rattle.lq_commands.proofs.PlainRefusals.{IsNotFull, refusal_not_full}
-use Rattle.lq_commands.specs.Refusals.{Answers, IsFault, ends, held, if_halts, if_not, if_some, invalid, irreversible, own_halt, unreachable_by, unready, untagged}
-use Rattle.lq_commands.specs.Scripts.{log_in, script, sets_in, update_script}
-use Rattle.lq_commands.specs.Turns.{turns_script}
+use Rattle.lq_commands.specs.Refusals.{Answers, IsFault, ends, held, if_halts, if_not, if_some, invalid, unreachable_by, unready, untagged}
+use Rattle.lq_commands.specs.Scripts.{log_in, script, sets_in}
 use Rattle.lq_commands.specs.Works.{is_finished}
 use Rattle.lq_commands.specs.declared.given.Given.{Given}
 use Rattle.lq_kinds.specs.Dialects.{AreFor}
@@ -40,16 +39,16 @@ use Rattle.lq_turns.specs.declared.choice.Choice.{Choice}
 use Rattle.lq_turns.specs.declared.choice.Choice.TheVariants as choice
 use Rattle.lq_turns.specs.declared.fault.Fault.{Fault}
 use Rattle.lq_turns.specs.declared.stamp.Stamp.{Stamp}
-use Rattle.lq_base.specs.declared.command.Target.{Target}
 use Rattle.lq_top.proofs.Kept.{restores, syncs, updates}
 use Rattle.lq_top.proofs.OnFiles.{by_end}
+use Rattle.lq_top.proofs.OpensAgain.{opens_after, opens_left, opens_same}
 use Rattle.lq_top.proofs.Unchanged.{becomes_left, becomes_same, left_same}
 use Rattle.lq_top.specs.Asks.{Asks, Files, file_status}
-use Rattle.lq_top.specs.Bytes.{Becomes, IsLeftOn, OnFile, Opens, SaysFullOn, TellsDamage}
+use Rattle.lq_top.specs.Bytes.{Becomes, HadRoomOn, IsLeftOn, OnFile, Opens, SaysFullOn, TellsDamage}
 use Rattle.lq_top.specs.Headline.{GoesBack, GoneBack, HasSynced, HasUpdated}
-use Rattle.lq_top.specs.Jobs.{DoesJob, DoesLine, is_command, is_on_file, job_refusal, job_script}
+use Rattle.lq_top.specs.Jobs.{DoesJob, DoesLine, is_on_file, job_calls, job_refusal, job_script}
 use Rattle.lq_top.specs.Kinds.{IsNotLoaded, IsOfFiles, IsOfWords, is_unwritten}
-use Rattle.lq_top.specs.Run.{EndsBy, EndsUnread, IsDamage, IsLogged, IsLoggedInPart, IsOutside, IsUnread, Runs, RunsJob, given_by, is_end, is_over}
+use Rattle.lq_top.specs.Run.{EndsBy, EndsUnread, IsDamage, IsLogged, IsLoggedInPart, IsOutside, IsUnread, MayWarn, Runs, RunsJob, given_by, is_end, is_over}
 
 pub false_true : false ≡ true → ⊥
 false_true h = Prim.cc
@@ -456,20 +455,27 @@ err_not_full None s never fault = fault_not_full s fault
 err_not_full (Some refused) s never (inl same) = λ used next is. never used next (sym same ∙ is)
 err_not_full (Some refused) s never (inr fault) = fault_not_full s fault
 
-command_not_full : (job : Job) (given : Given) (database : Database) → is_command job ≡ true → IfSome (job_refusal job given database) IsNotFull
-command_not_full (Run c) given database command = refusal_not_full given c database
-command_not_full UpdateSql given database command = absurd (false_true command)
-command_not_full (RollbackSql target) given database command = absurd (false_true command)
-command_not_full (Drill path) given database command = absurd (false_true command)
-command_not_full (Soak number sets) given database command = absurd (false_true command)
+-- what is printed is refused as its command is where the lock is free
+job_not_full : (job : Job) (given : Given) (database : Database) → IfSome (job_refusal job given database) IsNotFull
+job_not_full (Run c) given database = refusal_not_full given c database
+job_not_full UpdateSql given database = refusal_not_full given command.Update (record database { lock = free })
+job_not_full (RollbackSql target) given database = refusal_not_full given (command.Rollback target) (record database { lock = free })
+job_not_full (Drill path) given database = tt
+job_not_full (Soak number sets) given database = tt
 
 -- how full a full journal was is told by the status of the run
-full_by : (job : Job) (given : Given) (database : Database) (before : Option (List ℕ)) (done : Result Done Status) (after : Option (List ℕ)) (s : Status) → EndsAs (status_done done) s → is_command job ≡ true
-    → DoesJob job given database before done after → SaysFullOn given.options.dialect (job_script job given database) database before s
-full_by job given database before (Ok ended) after s (inl same) command does = λ used next is. does.full command used next (sym same ∙ is)
-full_by job given database before (Err x) after s (inl same) command does = λ used next is. absurd (err_not_full (job_refusal job given database) x (command_not_full job given database command) does.answers used next (sym same ∙ is))
-full_by job given database before done after s (inr (inl memory)) command does = λ used next is. absurd (memory_full (sym memory ∙ is))
-full_by job given database before done after s (inr (inr write)) command does = λ used next is. absurd (write_full (sym write ∙ is))
+full_by : (job : Job) (given : Given) (database : Database) (before : Option (List ℕ)) (done : Result Done Status) (after : Option (List ℕ)) (s : Status) → EndsAs (status_done done) s → DoesJob job given database before done after
+    → SaysFullOn given.options.dialect (job_calls job given database) database before s
+full_by job given database before (Ok ended) after s (inl same) does = λ used next is. does.full used next (sym same ∙ is)
+full_by job given database before (Err x) after s (inl same) does = λ used next is. absurd (err_not_full (job_refusal job given database) x (job_not_full job given database) does.answers used next (sym same ∙ is))
+full_by job given database before done after s (inr (inl memory)) does = λ used next is. absurd (memory_full (sym memory ∙ is))
+full_by job given database before done after s (inr (inr write)) does = λ used next is. absurd (write_full (sym write ∙ is))
+
+-- what no check refused had room for each entry where it came to its end
+room_by : (job : Job) (given : Given) (database : Database) (before : Option (List ℕ)) (done : Result Done Status) (after : Option (List ℕ)) → DoesJob job given database before done after → job_refusal job given database ≡ None
+    → is_finished (status_done done) ≡ true → HadRoomOn given.options.dialect (job_calls job given database) database before
+room_by job given database before (Ok ended) after does passes finished = does.room finished
+room_by job given database before (Err x) after does passes finished = absurd (none_some (sym passes ∙ refused_for (job_refusal job given database) x does.answers finished))
 
 abbrev pub Does : Job → Given → Database → Option (List ℕ) → Result Done Status → Option (List ℕ) → Type 0
 Does job given database before done after = (Failed done × (after ≡ before)) ⊎ (AreFor given.options.dialect given.changelog × DoesJob job given database before done after)
@@ -479,16 +485,24 @@ module _ (job : Job) (given : Given) (before : Option (List ℕ)) (done : Result
   runs_by database opens (inl (failed, same)) = record {
     ends = outside_ends (job_refusal job given database) s (failed_outside done s by failed);
     refused = λ some. same;
+    reads = λ only. same;
     works = λ over. absurd (failed_unfinished done failed (was_over done s by over));
     left = λ stopped. left_same given.options.dialect (job_script job given database) database before after opens same;
-    full = λ command used next is. absurd (outside_not_full s (failed_outside done s by failed) used next is);
+    opens = λ over. absurd (failed_unfinished done failed (was_over done s by over));
+    opens_cut = λ stopped cut. opens_same given.options.dialect before after database cut.now opens same cut.holds;
+    room = λ passes over. absurd (failed_unfinished done failed (was_over done s by over));
+    full = λ used next is. absurd (outside_not_full s (failed_outside done s by failed) used next is);
   }
   runs_by database opens (inr (read, does)) = record {
     ends = ends_by (job_refusal job given database) done s by does.answers;
     refused = does.refused;
+    reads = does.reads;
     works = λ over. becomes_by job given database before done after opens does (was_over done s by over);
     left = λ stopped. left_by job given database before done after does;
-    full = λ command. full_by job given database before done after s by.ended command does;
+    opens = λ over. opens_after given database before opens read job after (becomes_by job given database before done after opens does (was_over done s by over));
+    opens_cut = λ stopped cut. opens_left given database before opens read job after cut;
+    room = λ passes over. room_by job given database before done after does passes (was_over done s by over);
+    full = full_by job given database before done after s by.ended does;
   }
 
   pub runs : DoesLine job given before done after → is_on_file job ≡ true → OnFile given.options.dialect before (λ database. RunsJob job given database before s after)
@@ -531,37 +545,45 @@ module _ {words : List (List ℕ)} {files : Files} (stamp : Stamp) (before : Opt
 
 -- the log
 
-log_parts : (done : Result Done Status) (alone : Bool) → (own : Option Why) × (warned : List (Option Identity × Why)) × ((if alone then [] else warnings_of done) ≡ warning_lines own warned)
-log_parts done true = (None, [], refl)
-log_parts (Ok done) false = (done.own, done.warned, refl)
-log_parts (Err x) false = (None, [], refl)
+ended_in_run : (x s : Status) → ends x ≡ true → EndsAs x s → stands_alone s ≡ false → is_end s ≡ true
+ended_in_run x s end (inl is) beside = ap is_end is ∙ ends_so x end
+ended_in_run x s end (inr (inl memory)) beside = absurd (true_false (sym (ap stands_alone memory) ∙ beside))
+ended_in_run x s end (inr (inr write)) beside = ap is_end write
+
+log_parts : (done : Result Done Status) (s : Status) → IsWritten done s → (alone : Bool) → stands_alone s ≡ alone
+    → (own : Option Why) × (warned : List (Option Identity × Why)) × MayWarn s (warning_lines own warned) × ((if alone then [] else warnings_of done) ≡ warning_lines own warned)
+log_parts done s by true is = (None, [], (λ before. refl), refl)
+log_parts (Ok done) s by false is = (done.own, done.warned, (λ before. absurd (false_true (sym before ∙ ended_in_run done.status s by.kind by.ended is))), refl)
+log_parts (Err x) s by false is = (None, [], (λ before. refl), refl)
 
 lines_by : (tag asked : Option (List ℕ)) (s : Status) → EndsAs status.OutOfMemory s → status_lines tag s ≡ status_lines asked s
 lines_by tag asked s (inl is) = ap (status_lines tag) is ∙ sym (ap (status_lines asked) is)
 lines_by tag asked s (inr (inl is)) = ap (status_lines tag) is ∙ sym (ap (status_lines asked) is)
 lines_by tag asked s (inr (inr is)) = ap (status_lines tag) is ∙ sym (ap (status_lines asked) is)
 
-lines_same : (tag asked : Option (List ℕ)) (done : Result Done Status) (s : Status) → EndsAs (status_done done) s → (tag ≡ asked) ⊎ (done ≡ Err status.OutOfMemory) → status_lines tag s ≡ status_lines asked s
+pub lines_same : (tag asked : Option (List ℕ)) (done : Result Done Status) (s : Status) → EndsAs (status_done done) s → (tag ≡ asked) ⊎ (done ≡ Err status.OutOfMemory) → status_lines tag s ≡ status_lines asked s
 lines_same tag asked done s ended (inl is) = ap (λ t. status_lines t s) is
 lines_same tag asked done s ended (inr is) = lines_by tag asked s (subst (λ r. EndsAs (status_done r) s) is ended)
 
 pub is_logged : (tag asked : Option (List ℕ)) (done : Result Done Status) (s : Status) (before after : Option (List ℕ)) → IsWritten done s → (tag ≡ asked) ⊎ (done ≡ Err status.OutOfMemory)
     → after ≡ option_map (λ (log : List ℕ). log ++ log_text tag done s) before → IsLogged asked s before after
 is_logged tag asked done s before after by tagged is =
-    let it = log_parts done (stands_alone s) in (
+    let it = log_parts done s by (stands_alone s) refl in (
       it.0,
       it.1,
+      it.2,
       is ∙ ap (λ (lines : List ℕ). option_map (λ (log : List ℕ). log ++ lines) before)
-          (ap (λ (warned : List ℕ). warned ++ status_lines tag s) it.2 ∙ ap (λ (lines : List ℕ). warning_lines it.0 it.1 ++ lines) (lines_same tag asked done s by.ended tagged)),
+          (ap (λ (warned : List ℕ). warned ++ status_lines tag s) it.3 ∙ ap (λ (lines : List ℕ). warning_lines it.0 it.1 ++ lines) (lines_same tag asked done s by.ended tagged)),
     )
 
 pub is_logged_part : (tag asked : Option (List ℕ)) (done : Result Done Status) (s : Status) (before after : Option (List ℕ)) → IsWritten done s → (tag ≡ asked) ⊎ (done ≡ Err status.OutOfMemory)
     → IsPart (log_text tag done s) before after → IsLoggedInPart asked s before after
 is_logged_part tag asked done s before after by tagged part =
-    let it = log_parts done (stands_alone s) in (
+    let it = log_parts done s by (stands_alone s) refl in (
       it.0,
       it.1,
-      subst (λ (lines : List ℕ). IsPart lines before after) (ap (λ (warned : List ℕ). warned ++ status_lines tag s) it.2 ∙ ap (λ (lines : List ℕ). warning_lines it.0 it.1 ++ lines) (lines_same tag asked done s by.ended tagged)) part,
+      it.2,
+      subst (λ (lines : List ℕ). IsPart lines before after) (ap (λ (warned : List ℕ). warned ++ status_lines tag s) it.3 ∙ ap (λ (lines : List ℕ). warning_lines it.0 it.1 ++ lines) (lines_same tag asked done s by.ended tagged)) part,
     )
 
 -- the tag as it was passed on

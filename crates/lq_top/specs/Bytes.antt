@@ -1,6 +1,6 @@
 -- The database that the bytes of a file hold.
 use Rattle.std.specs.Option.{option_map}
-use Rattle.std.specs.Prelude.{Err, IfSome, IsTrue, List, None, Ok, Option, Result, Some, [], false, true, ℕ, ◌+◌, ◌++◌, ◌∷◌, ◌≡◌, ◌⊎◌}
+use Rattle.std.specs.Prelude.{Err, IfSome, IsTrue, List, Ok, Option, Result, Some, [], false, true, ℕ, ◌+◌, ◌++◌, ◌∷◌, ◌≡◌, ◌⊎◌}
 use Rattle.lq_base.specs.declared.dialect.Dialect.{Dialect}
 use Rattle.lq_commands.specs.Works.{is_finished}
 use Rattle.lq_commands.specs.declared.given.Asked.{Asked}
@@ -13,7 +13,7 @@ use Rattle.lq_model.specs.Catalogue.{Catalogue}
 use Rattle.lq_model.specs.declared.caller.Room.{Room}
 use Rattle.lq_model.specs.declared.caller.Room.TheVariants.{Ordinary}
 use Rattle.lq_outside.specs.Crash.{Crashes as DiskCrashes}
-use Rattle.lq_run.specs.Stands.{entries_of}
+use Rattle.lq_run.specs.Stands.{HadRoom, entries_of}
 use Rattle.lq_store.specs.Journal.{Entry, database as catalogue_by, end_of, is_full, size_of_all}
 use Rattle.lq_tell.specs.declared.done.Done.{Done}
 use Rattle.lq_tell.specs.declared.status.Status.{Status}
@@ -91,6 +91,14 @@ pub record IsFullOn (d : Dialect) (calls : List Call) (database : Database) (bef
 abbrev pub SaysFullOn : Dialect → List Call → Database → Option (List ℕ) → Status → Type 0
 SaysFullOn d calls database before s = (used next : ℕ) → s ≡ status.Full used next → IsFullOn d calls database before used next
 
+-- each entry of these calls had room in the file's journal
+abbrev pub HadRoomOn : Dialect → List Call → Database → Option (List ℕ) → Type 0
+HadRoomOn d calls database before = IfSome (entries_in d most_bytes before) (λ there. HadRoom d most_bytes (in_use there) (all_called d calls (session_on database)).entries)
+
+-- so each had whose calls came to their end, and a full journal is told as full as it was
+abbrev pub TellsRoomOn : Dialect → List Call → Database → Option (List ℕ) → Status → Type 0
+TellsRoomOn d calls database before s = (is_finished s ≡ true → HadRoomOn d calls database before) × SaysFullOn d calls database before s
+
 -- these bytes have the entries of some that a crash might leave
 abbrev pub WasLeft : Dialect → (List ℕ → Type 0) → List ℕ → Type 0
 WasLeft d leaves bytes = (those : List ℕ) × leaves those × (entries_in d most_bytes (Some bytes) ≡ entries_in d most_bytes (Some those))
@@ -103,6 +111,10 @@ CrashesOn d calls database told before now = IsTrue before.is_honest → (bytes 
 abbrev pub TellsDamage : Dialect → Option (List ℕ) → Result Done Status → Type 0
 TellsDamage d told (Err (status.Damaged at)) = IfSome told (λ bytes. catalogue_of d most_bytes bytes ≡ Err at)
 TellsDamage d told _ = Unit {0}
+
+-- what the file tells is damaged there
+abbrev pub IsDamagedAt : Dialect → Option (List ℕ) → ℕ → Type 0
+IsDamagedAt d told at = (bytes : List ℕ) × (told ≡ Some bytes) × (catalogue_of d most_bytes bytes ≡ Err at)
 
 -- the status of a fault of loading
 abbrev pub load_status : LoadFault → Status

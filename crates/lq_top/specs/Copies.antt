@@ -1,5 +1,5 @@
 -- Commands whose statements are printed: they run on a copy of the file in memory.
-use Rattle.std.specs.Prelude.{Bool, IfSome, List, Option, true, length, ℕ, ◌<◌, ◌≡◌}
+use Rattle.std.specs.Prelude.{IfSome, List, Option, length, ℕ, ◌<◌, ◌≡◌}
 use Rattle.lq_cli.specs.declared.line.Job.{Job}
 use Rattle.lq_cli.specs.declared.line.Job.TheVariants.{RollbackSql, UpdateSql}
 use Rattle.lq_tell.specs.declared.status.Status.{Status}

@@ -14,8 +14,9 @@ use Rattle.lq_commands.specs.Who.{clean}
 use Rattle.lq_db.specs.Log.{entries_in}
 use Rattle.lq_drill.specs.Faults.{Comes, FreesAtMostOnce, FreesEarly, Meets}
 use Rattle.lq_drill.specs.Player.{MayAnswer, answer_of}
-use Rattle.lq_drill.specs.Shows.{entries_of}
+use Rattle.lq_drill.specs.Shows.{HadRoom, entries_of}
 use Rattle.lq_drill.specs.declared.fault.DrillFault.TheVariants as fault
+use Rattle.lq_drill.specs.declared.fault.DrillFault.{DrillFault}
 use Rattle.lq_kinds.specs.Dialects.{AreFor}
 use Rattle.lq_kinds.specs.declared.any_change.AnyChange.{AnyChange}
 use Rattle.lq_outside.specs.Crash.{Crashes as DiskCrashes, Settled}
@@ -98,10 +99,11 @@ Commands = Machine Answer answer.Locked answer.Busy
 abbrev pub machine_after : Dialect → (ℕ → Task AnyChange) → Database → List ℕ → Commands
 machine_after d tasks database steps = all_moved Answer answer.Locked answer.Busy d (works d tasks) steps (start Answer answer.Locked answer.Busy database)
 
--- the file holds what the machine has committed, and its entries stand behind those before
+-- the file holds what the machine has committed, and its entries stand behind those before, each of which had room
 pub record HoldsMachine (d : Dialect) (x : Commands) (before after : Option (List ℕ)) : Type 0 where
   pub holds : Holds d after x.committed
   pub entries : entries_in d most_bytes after ≡ option_map (λ entries. entries ++ entries_of d x.entries) (entries_in d most_bytes before)
+  pub room : IfSome (entries_in d most_bytes before) (λ there. HadRoom d most_bytes (in_use there) x.entries)
 
 -- the answers are the machine's
 abbrev pub AnswerAs : Commands → List (Option Answer) → Type 0
@@ -208,6 +210,14 @@ pub record Went (d : Dialect) (who : List ℕ) (drill : Drilling) (readings : Li
   pub crash : (tasks : ℕ → Task AnyChange) → AreTasks who drill.entrants readings tasks → OnFile d before (λ database. CrashesTo d (IsLeftInDrill d tasks drill.steps database faulted before) c e)
   pub left : (tasks : ℕ → Task AnyChange) → AreTasks who drill.entrants readings tasks → OnFile d before (λ database. IsLeftInDrill d tasks drill.steps database faulted before after)
 
+-- no command answered a fault of the store
+abbrev pub NoneFailed : List (Option Answer) → Type 0
+NoneFailed answers = (place : ℕ) (why : DrillFault) → slice_get answers place ≡ Some (Some (failure_of why)) → ⊥
+
+-- one answered that the disk failed
+abbrev pub DiskFailed : List (Option Answer) → Type 0
+DiskFailed answers = (place : ℕ) × (slice_get answers place ≡ Some (Some answer.Disk))
+
 -- so it did in a drill with these readings
 abbrev pub IsFull : Dialect → List ℕ → Drilling → List ℕ → List Bool → Option (List ℕ) → List (Option Answer) → ℕ → ℕ → Type 0
 IsFull d who drill readings faulted before answers used next = (tasks : ℕ → Task AnyChange) → AreTasks who drill.entrants readings tasks → OnFile d before (λ database. EndsFull d tasks drill.steps database faulted before answers used next)
@@ -220,11 +230,13 @@ pub record IsIdle (d : Dialect) (before after : Option (List ℕ)) (c e : DiskCr
 abbrev pub told_text : Drilling → List (Option Answer) → List ℕ
 told_text drill answers = drill_text (drilled (commands_of drill.entrants) answers)
 
--- it came to its end and tells of each command; or it did not: no step was taken, or a command answered a fault of the store
+-- it came to its end, where no command answered a fault of the store, and tells of each; or it did not: a command answered such a fault, or there was no memory for the text, or no step was taken
 abbrev pub Drills : Dialect → List ℕ → Drilling → List ℕ → Option (List ℕ) → DiskCrashes → Result Done Status → Option (List ℕ) → DiskCrashes → Type 0
-Drills d who drill readings before c (Ok done) after e = (done.status ≡ status.Done) × ((went : Went d who drill readings before after c e) × (done.out ≡ Some (told_text drill went.answers)))
+Drills d who drill readings before c (Ok done) after e = (done.status ≡ status.Done) × ((went : Went d who drill readings before after c e) × (done.out ≡ Some (told_text drill went.answers)) × NoneFailed went.answers)
 Drills d who drill readings before c (Err (status.Full used next)) after e = (went : Went d who drill readings before after c e) × IsFull d who drill readings went.faulted before went.answers used next
-Drills d who drill readings before c (Err s) after e = IsIdle d before after c e ⊎ Went d who drill readings before after c e
+Drills d who drill readings before c (Err status.DiskFault) after e = IsIdle d before after c e ⊎ ((went : Went d who drill readings before after c e) × DiskFailed went.answers)
+Drills d who drill readings before c (Err status.OutOfMemory) after e = IsIdle d before after c e ⊎ Went d who drill readings before after c e
+Drills d who drill readings before c (Err s) after e = IsIdle d before after c e
 
 -- so a drill ends that its files give
 abbrev pub IsOfDrill : Result Done Status → Type 0
@@ -291,15 +303,15 @@ pub record AsksDrill (words : List (List ℕ)) (files : Files) : Type 0 where
   pub drill : Drilling
   pub gives : drill_of source line.options.dialect line.path runs ≡ Ok (Some drill)
 
--- what a drill comes to: its text is written behind what stood in the output, or a front of it where that fails
+-- what a drill comes to: where no command answered a fault of the store its text is written behind what stood in the output, or a front of it where that fails; and damage and a fault of the files are met before the first step
 abbrev pub DrillEnds : Dialect → List ℕ → Drilling → List ℕ → Option (List ℕ) → DiskCrashes → Status → Option (List ℕ) → DiskCrashes → Option (List ℕ) → Option (List ℕ) → Type 0
-DrillEnds d who drill readings before c status.Done after e out written = (went : Went d who drill readings before after c e) × (written ≡ option_map (λ out. out ++ told_text drill went.answers) out)
-DrillEnds d who drill readings before c status.WriteFault after e out written = (went : Went d who drill readings before after c e) × IsPart (told_text drill went.answers) out written
+DrillEnds d who drill readings before c status.Done after e out written = (went : Went d who drill readings before after c e) × (written ≡ option_map (λ out. out ++ told_text drill went.answers) out) × NoneFailed went.answers
+DrillEnds d who drill readings before c status.WriteFault after e out written = (went : Went d who drill readings before after c e) × IsPart (told_text drill went.answers) out written × NoneFailed went.answers
 DrillEnds d who drill readings before c (status.Full used next) after e out written = (went : Went d who drill readings before after c e) × IsFull d who drill readings went.faulted before went.answers used next
-DrillEnds d who drill readings before c status.DiskFault after e out written = IsIdle d before after c e ⊎ Went d who drill readings before after c e
+DrillEnds d who drill readings before c status.DiskFault after e out written = IsIdle d before after c e ⊎ ((went : Went d who drill readings before after c e) × DiskFailed went.answers)
 DrillEnds d who drill readings before c status.OutOfMemory after e out written = IsIdle d before after c e ⊎ Went d who drill readings before after c e
-DrillEnds d who drill readings before c (status.Damaged at) after e out written = IsIdle d before after c e ⊎ Went d who drill readings before after c e
-DrillEnds d who drill readings before c status.ReadFault after e out written = IsIdle d before after c e ⊎ Went d who drill readings before after c e
+DrillEnds d who drill readings before c (status.Damaged at) after e out written = IsIdle d before after c e
+DrillEnds d who drill readings before c status.ReadFault after e out written = IsIdle d before after c e
 DrillEnds d who drill readings before c s after e out written = ⊥
 
 abbrev pub has_drilled : Status → Bool

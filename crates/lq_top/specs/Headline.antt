@@ -14,7 +14,7 @@ use Rattle.lq_turns.specs.Faults.{faults}
 use Rattle.lq_turns.specs.Laws.{AreKnown, at_rest}
 use Rattle.lq_turns.specs.Ran.{RanSince, Run, are_reversible}
 use Rattle.lq_turns.specs.Rollback.{rows_kept}
-use Rattle.lq_turns.specs.Set.{Changelog, Set}
+use Rattle.lq_turns.specs.Set.{Changelog}
 use Rattle.lq_turns.specs.Settle.{updated}
 use Rattle.lq_turns.specs.Synced.{synced}
 use Rattle.lq_turns.specs.declared.stamp.Stamp.{Stamp}

@@ -13,4 +13,5 @@ pub mod Players
 pub mod Resumed
 pub mod Run
 pub mod Says
+pub mod Soaked
 pub mod Worked

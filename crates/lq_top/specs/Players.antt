@@ -1,10 +1,10 @@
 -- The commands of a drill as players over one store.
-use Rattle.std.specs.Prelude.{Bool, Err, List, None, Ok, Option, Result, Some, [], false, length, map, slice_get, suc, true, ℕ, ◌++◌, ◌∷◌, ◌≡◌}
+use Rattle.std.specs.Prelude.{Bool, Err, List, Ok, Option, Result, Some, [], false, length, map, slice_get, suc, true, ℕ, ◌++◌, ◌∷◌, ◌≡◌}
 use Rattle.lq_base.specs.declared.command.Command.{Command}
 use Rattle.lq_base.specs.declared.dialect.Dialect.{Dialect}
 use Rattle.lq_base.specs.declared.memory.NoMemory.{NoMemory}
 use Rattle.lq_commands.specs.Stamp.{numbered_stamp}
-use Rattle.lq_drill.specs.Drill.{Each, FailsBy, HasFaulted, IsDrilled, IsDrilledUntil, IsFaultless, IsSerialDrill, LeftAtEnd, LeftInDrill}
+use Rattle.lq_drill.specs.Drill.{Each, FailsBy, HasFailed, HasFaulted, HasNotFailed, IsDrilled, IsDrilledUntil, IsFaultless, IsSerialDrill, LeftAtEnd, LeftInDrill}
 use Rattle.lq_drill.specs.Player.{HasMet}
 use Rattle.lq_drill.specs.declared.fault.DrillFault.{DrillFault}
 use Rattle.lq_drill.specs.declared.fault.DrillFault.TheVariants as fault
@@ -83,6 +83,12 @@ PlayIsFull (Ok done) by = Unit {0}
 PlayIsFull (Err (status.Full used next)) by = by (fault.Full used next)
 PlayIsFull (Err s) by = Unit {0}
 
+-- they answered no fault of the store where they came to their end, and one that the disk failed where that ended them
+abbrev pub PlayAnswers : List AnyCommand → Result Done Status → Type 0
+PlayAnswers last (Ok done) = Each command_stands (HasNotFailed failure_of) last
+PlayAnswers last (Err status.DiskFault) = HasFailed command_stands failure_of last fault.Disk
+PlayAnswers last (Err s) = Unit {0}
+
 -- players took the steps, and stand so at the end
 pub record Plays (players : List AnyCommand) (commands : List Command) (steps : List ℕ) (x y : State) (c e : Crashes) (result : Result Done Status) : Type 0 where
   pub last : List AnyCommand
@@ -90,6 +96,7 @@ pub record Plays (players : List AnyCommand) (commands : List Command) (steps : 
   pub kind : Refuses is_of_play result
   pub met : Each command_stands (HasMet failure_of) last
   pub ends : PlayEnds commands last y result
+  pub answered : PlayAnswers last result
   pub clean : (tasks : ℕ → Task AnyChange) (database : Database) → StandsFor x.dialect x.committed database → HaveTasks x.dialect tasks players → Each command_stands IsFaultless last
       → IsDrilled command_stands (works x.dialect tasks) x database steps last y
   pub until : (tasks : ℕ → Task AnyChange) (database : Database) → StandsFor x.dialect x.committed database → HaveTasks x.dialect tasks players → (number : ℕ) → HasFaulted command_stands last number

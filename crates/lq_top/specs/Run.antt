@@ -1,5 +1,5 @@
 -- What a run of the program does.
-use Rattle.std.specs.Prelude.{Bool, Err, IfSome, List, None, Option, Some, false, option_map, true, ℕ, ◌++◌, ◌≡◌, ◌⊎◌}
+use Rattle.std.specs.Prelude.{Bool, Err, IfSome, List, None, Option, Some, [], false, option_map, true, ℕ, ◌++◌, ◌≡◌, ◌⊎◌}
 use Rattle.lq_base.specs.declared.dialect.Dialect.{Dialect}
 use Rattle.lq_cli.specs.declared.line.Job.{Job}
 use Rattle.lq_base.specs.declared.identity.Identity.{Identity}
@@ -14,11 +14,11 @@ use Rattle.lq_tell.specs.Lines.{status_lines, warning_lines}
 use Rattle.lq_tell.specs.declared.status.Status.{Status}
 use Rattle.lq_tell.specs.declared.status.Status.TheVariants as status
 use Rattle.lq_track.specs.Database.{Database, SameDatabase}
-use Rattle.lq_turns.specs.declared.call.Call.{Call}
+use Rattle.lq_turns.specs.Session.{left_by}
 use Rattle.lq_turns.specs.declared.stamp.Stamp.{Stamp}
 use Rattle.lq_top.specs.Asks.{Asks, Files, asked_by, file_status}
-use Rattle.lq_top.specs.Bytes.{Becomes, CrashesOn, Holds, IsLeftOn, OnFile, SaysFullOn, given_at, most_bytes}
-use Rattle.lq_top.specs.Jobs.{is_command, is_on_file, job_refusal, job_script}
+use Rattle.lq_top.specs.Bytes.{Becomes, CrashesOn, HadRoomOn, Holds, IsLeftOn, OnFile, Opens, SaysFullOn, given_at, most_bytes}
+use Rattle.lq_top.specs.Jobs.{is_command, is_on_file, job_calls, job_reads, job_refusal, job_script}
 
 -- it came to its end, and then perhaps its text could not be written
 abbrev pub is_over : Status → Bool
@@ -40,13 +40,18 @@ abbrev pub EndsBy : Option Status → Status → Type 0
 EndsBy None s = (is_end s ≡ true) ⊎ IsOutside s
 EndsBy (Some refused) s = (s ≡ refused) ⊎ IsOutside s
 
--- on a file that holds the database: the status has its cause; a refusal changes nothing; where it came to its end its calls are done, and otherwise it leaves what a stop of them may leave; and a command tells how full a full journal was
+-- on a file that holds the database: the status has its cause; a refusal changes nothing, nor does one that only reads; where it came to its end its calls are done, and otherwise it leaves what a stop of them may leave; each entry of one that no check refused and that came to its end had room, and a full journal is told as full as it was
 pub record RunsJob (job : Job) (given : Given) (database : Database) (before : Option (List ℕ)) (s : Status) (after : Option (List ℕ)) : Type 0 where
   pub ends : EndsBy (job_refusal job given database) s
   pub refused : IsKept (job_refusal job given database) before after
+  pub reads : job_reads job ≡ true → after ≡ before
   pub works : is_over s ≡ true → Becomes given.options.dialect (job_script job given database) database before after
   pub left : is_over s ≡ false → IsLeftOn given.options.dialect (job_script job given database) database before after
-  pub full : is_command job ≡ true → SaysFullOn given.options.dialect (job_script job given database) database before s
+  -- so it is opened again: with that database, or with the one that a stop left
+  pub opens : is_over s ≡ true → Opens given.options.dialect after (left_by given.options.dialect (job_script job given database) database)
+  pub opens_cut : is_over s ≡ false → (cut : IsLeftOn given.options.dialect (job_script job given database) database before after) → Opens given.options.dialect after cut.now
+  pub room : job_refusal job given database ≡ None → is_over s ≡ true → HadRoomOn given.options.dialect (job_calls job given database) database before
+  pub full : SaysFullOn given.options.dialect (job_calls job given database) database before s
 
 -- what the words, the files, who runs it and the clock's reading give to a command
 abbrev pub given_by : {words : List (List ℕ)} {files : Files} → Asks words files → Stamp → Given
@@ -59,6 +64,11 @@ Runs asks stamp before s after = is_on_file asks.line.job ≡ true → OnFile as
 -- and a crash of the machine, at each moment of it
 abbrev pub Crashes : {words : List (List ℕ)} {files : Files} → Asks words files → Stamp → Option (List ℕ) → DiskCrashes → DiskCrashes → Type 0
 Crashes asks stamp told before now = is_on_file asks.line.job ≡ true → OnFile asks.line.options.dialect told (λ database. CrashesOn asks.line.options.dialect (job_script asks.line.job (given_by asks stamp) database) database told before now)
+
+-- what a crash left of its calls is opened again
+abbrev pub OpensAtCrash : {words : List (List ℕ)} {files : Files} → Asks words files → Stamp → Option (List ℕ) → List ℕ → Type 0
+OpensAtCrash asks stamp before bytes = OnFile asks.line.options.dialect before
+    (λ database. (cut : IsLeftOn asks.line.options.dialect (job_script asks.line.job (given_by asks stamp) database) database before (Some bytes)) → Opens asks.line.options.dialect (Some bytes) cut.now)
 
 -- after a command that came to its end a crash leaves what is there
 abbrev pub IsSafe : {words : List (List ℕ)} {files : Files} → Asks words files → Status → Option (List ℕ) → DiskCrashes → Type 0
@@ -80,14 +90,26 @@ IsUnread status.ReadFault = Unit {0}
 IsUnread (status.Changelog fault) = Unit {0}
 IsUnread s = ⊥
 
+-- a damaged file is told with its place, unless the words, the files or a fault of the outside come first
+abbrev pub TellsPlace : ℕ → Status → Type 0
+TellsPlace at s = (s ≡ status.Damaged at) ⊎ IsUnread s ⊎ IsOutside s
+
+-- and it stays as it is
+abbrev pub SparesDamage : ℕ → Status → Option (List ℕ) → Option (List ℕ) → Type 0
+SparesDamage at s before after = TellsPlace at s × (after ≡ before)
+
 -- so a command ends whose files give a fault in place of a changelog
 abbrev pub EndsUnread : LoadFault → Status → Type 0
 EndsUnread fault s = (s ≡ file_status fault) ⊎ (s ≡ status.ReadFault) ⊎ (s ≡ status.OutOfMemory)
 
+-- only what ended in its run has lines of warnings
+abbrev pub MayWarn : Status → List ℕ → Type 0
+MayWarn s lines = is_end s ≡ false → lines ≡ []
+
 -- the log has the lines of the status behind those of warnings
 abbrev pub IsLogged : Option (List ℕ) → Status → Option (List ℕ) → Option (List ℕ) → Type 0
-IsLogged tag s before after = (own : Option Why) × (warned : List (Option Identity × Why)) × (after ≡ option_map (λ log. log ++ (warning_lines own warned ++ status_lines tag s)) before)
+IsLogged tag s before after = (own : Option Why) × (warned : List (Option Identity × Why)) × MayWarn s (warning_lines own warned) × (after ≡ option_map (λ log. log ++ (warning_lines own warned ++ status_lines tag s)) before)
 
 -- the log got a front of them, all or none included
 abbrev pub IsLoggedInPart : Option (List ℕ) → Status → Option (List ℕ) → Option (List ℕ) → Type 0
-IsLoggedInPart tag s before after = (own : Option Why) × (warned : List (Option Identity × Why)) × IsPart (warning_lines own warned ++ status_lines tag s) before after
+IsLoggedInPart tag s before after = (own : Option Why) × (warned : List (Option Identity × Why)) × MayWarn s (warning_lines own warned) × IsPart (warning_lines own warned ++ status_lines tag s) before after

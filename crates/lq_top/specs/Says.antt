@@ -1,4 +1,5 @@
--- What a run of the program says.
+-- What a run of the program says, and what it warns of.
+use Rattle.std.specs.List.{flat_map}
 use Rattle.std.specs.Prelude.{Bool, List, None, Option, Some, [], false, option_map, true, ℕ, ◌++◌, ◌≡◌}
 use Rattle.lq_base.specs.declared.command.Command.TheVariants as command
 use Rattle.lq_base.specs.declared.command.Target.{Target}
@@ -13,13 +14,15 @@ use Rattle.lq_commands.specs.Works.{is_finished}
 use Rattle.lq_commands.specs.declared.given.Given.{Given}
 use Rattle.lq_outside.specs.Sink.{IsPart}
 use Rattle.lq_report.specs.Output.{sync_text}
+use Rattle.lq_tell.specs.Lines.{status_lines, warning_line}
 use Rattle.lq_tell.specs.declared.status.Status.{Status}
 use Rattle.lq_track.specs.Database.{Database}
 use Rattle.lq_turns.specs.declared.stamp.Stamp.{Stamp}
 use Rattle.lq_turns.specs.declared.stop.Stop.{Stop}
-use Rattle.lq_top.specs.Asks.{Asks, Files}
+use Rattle.lq_top.specs.Asks.{Asks, Files, back_tag}
 use Rattle.lq_top.specs.Bytes.{OnFile}
-use Rattle.lq_top.specs.Run.{given_by}
+use Rattle.lq_top.specs.Jobs.{is_on_file}
+use Rattle.lq_top.specs.Run.{given_by, is_over}
 
 -- the status is by what stopped its turns, and this text was written behind what stood in the output
 pub record Says (stop : Option Stop) (text : List ℕ) (s : Status) (before after : Option (List ℕ)) : Type 0 where
@@ -60,3 +63,14 @@ pub record SaidInPart {words : List (List ℕ)} {files : Files} (asks : Asks wor
   pub text : List ℕ
   pub said : Said asks stamp told wanted before (option_map (λ (out : List ℕ). out ++ text) before)
   pub part : IsPart text before after
+
+-- the lines of a job's warnings: of an update those of its turns in order, the changelog's own first; of another there are none
+abbrev pub job_warnings : Job → Given → Database → List ℕ
+job_warnings (Run command.Update) given database = flat_map warning_line (updated_in false given database).settled.warned
+job_warnings UpdateSql given database = flat_map warning_line (updated_in true given database).settled.warned
+job_warnings _ given database = []
+
+-- on each file that holds a database, where the command came to its end: the log got these lines, and behind them those of the status
+abbrev pub Warns : {words : List (List ℕ)} {files : Files} → Asks words files → Stamp → Option (List ℕ) → Status → Option (List ℕ) → Option (List ℕ) → Type 0
+Warns asks stamp told s before after = is_on_file asks.line.job ≡ true → OnFile asks.line.options.dialect told
+    (λ database. is_over s ≡ true → after ≡ option_map (λ log. log ++ (job_warnings asks.line.job (given_by asks stamp) database ++ status_lines (back_tag asks.line.job) s)) before)

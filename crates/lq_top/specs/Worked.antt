@@ -19,9 +19,10 @@ use Rattle.lq_track.specs.Database.{Database}
 use Rattle.lq_turns.specs.declared.call.Call.{Call}
 use Rattle.lq_turns.specs.declared.stamp.Stamp.{Stamp}
 use Rattle.lq_top.specs.Asks.{Files, asked_by}
-use Rattle.lq_top.specs.Bytes.{IsLeftOn, OnFile, TellsDamage, WasLeft, given_at}
+use Rattle.lq_top.specs.Bytes.{IsDamagedAt, IsLeftOn, OnFile, TellsDamage, WasLeft, given_at}
 use Rattle.lq_top.specs.Jobs.{DoesJob, DoesLine, is_apart, is_command, is_on_file, job_script}
 use Rattle.lq_top.specs.Kinds.{IsNotLoaded, IsOfDatabase, IsOfFiles, IsOfLine}
+use Rattle.lq_top.specs.Run.{SparesDamage, TellsPlace}
 
 -- A crash at any moment of these calls leaves what a stop of them may leave; or, since an earlier moment, the entries of what one before them might have left.
 pub record CrashesSince (d : Dialect) (calls : List Call) (database : Database) (told : Option (List ℕ)) (before now : DiskCrashes) : Type 0 where
@@ -33,11 +34,20 @@ pub record CrashesSince (d : Dialect) (calls : List Call) (database : Database) 
 abbrev pub CrashesJob : Job → Given → Option (List ℕ) → DiskCrashes → DiskCrashes → Type 0
 CrashesJob job given told before now = is_on_file job ≡ true → OnFile given.options.dialect told (λ database. CrashesSince given.options.dialect (job_script job given database) database told before now)
 
+-- it failed so on a file that is damaged at this place
+abbrev pub FailsAt : ℕ → Result Done Status → Type 0
+FailsAt at done = (s : Status) × (done ≡ Err s) × TellsPlace at s
+
+-- and left the file as it is
+abbrev pub Spares : ℕ → Option (List ℕ) → Result Done Status → Option (List ℕ) → Type 0
+Spares at before done after = (s : Status) × (done ≡ Err s) × SparesDamage at s before after
+
 -- for disks, by what they tell, by how many of their calls have failed, and by what a crash leaves of them
 module _ {D : Type 0} (told : D → Option (List ℕ)) (faults : D → ℕ) (crashes : D → DiskCrashes) where
   -- how a job left its disk
   pub record UsedDisk (job : Job) (d : Dialect) (before : D) (done : Result Done Status) (after : D) : Type 0 where
     pub damaged : TellsDamage d (told before) done
+    pub spares : is_apart job ≡ false → (at : ℕ) → IsDamagedAt d (told before) at → Spares at (told before) done (told after)
     -- after a command that came to its end a crash leaves what is there
     pub safe : is_command job ≡ true → is_finished (status_done done) ≡ true → Settled (told after) (crashes after)
     pub off : is_apart job ≡ true → after ≡ before

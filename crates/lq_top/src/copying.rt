@@ -1,11 +1,11 @@
 ghost use Rattle.std.specs.List.{All};
-ghost use Rattle.std.specs.Prelude.{◌≡◌, ◌≤◌, Err, IfErr, IfOk, IfSome, List, Option, Some, false, length, ℕ};
+ghost use Rattle.std.specs.Prelude.{◌≡◌, ◌≤◌, Err, IfErr, IfOk, IfSome, List, Ok, Option, Some, false, length, ℕ};
 ghost use Rattle.lq_changelog.specs.ShortTexts.{HasShortTexts};
 ghost use Rattle.lq_commands.specs.Outputs.{TellsJob};
 ghost use Rattle.lq_commands.specs.Reading.{ReadOnce};
 ghost use Rattle.lq_commands.specs.Refusals.{Answers};
 ghost use Rattle.lq_commands.specs.Stamp.{stamp_of};
-ghost use Rattle.lq_commands.specs.Works.{IsReady, OnIts};
+ghost use Rattle.lq_commands.specs.Works.{IsReady, OnIts, TellsRoom};
 ghost use Rattle.lq_commands.specs.declared.given.Given.{Given};
 ghost use Rattle.lq_kinds.specs.Dialects.{AreFor};
 ghost use Rattle.lq_outside.specs.Count.{Rose};
@@ -14,13 +14,15 @@ ghost use Rattle.lq_tell.specs.declared.status.Status.TheVariants as status;
 ghost use Rattle.lq_base.specs.declared.dialect.Dialect.{Dialect};
 ghost use Rattle.lq_cli.specs.declared.line.Job.{Job};
 ghost use Rattle.lq_db.specs.Db.{IsDb, disk_in, engine_in, state};
+ghost use Rattle.lq_tell.specs.declared.done.Done.{Done};
 ghost use Rattle.lq_tell.specs.declared.status.Status.{Status};
 ghost use Rattle.lq_track.specs.Database.{Database};
-ghost use Rattle.lq_top.specs.Bytes.{OnFile, TellsDamage, given_at};
+ghost use Rattle.lq_top.specs.Bytes.{IsDamagedAt, OnFile, TellsDamage, TellsRoomOn, given_at};
 ghost use Rattle.lq_top.specs.Copies.{IsNoCopy, copy_status, job_of};
 ghost use Rattle.lq_top.specs.Clock.{ReadAtMostOnce};
-ghost use Rattle.lq_top.specs.Jobs.{job_refusal};
+ghost use Rattle.lq_top.specs.Jobs.{job_calls, job_refusal};
 ghost use Rattle.lq_top.specs.Kinds.{IsOfDatabase};
+ghost use Rattle.lq_top.specs.Worked.{FailsAt};
 ghost use Rattle.lq_turns.specs.Stops.{is_mark};
 
 use crate::opening::{LIMIT, load_status};
@@ -59,9 +61,11 @@ pub fn on_copy<D: Disk, C: Clock, P: SqlText + Drop + Copy>(
     requires short { All HasShortTexts asked.changelog.sets }
     ensures answers { OnFile asked.options.dialect (D.told disk.old) (λ database. Answers (job_refusal (job_of printing.entry) (given_at asked (stamp_of who.now (C.last clock.new))) database) result) }
     ensures tells { OnFile asked.options.dialect (D.told disk.old) (λ database. TellsJob (job_of printing.entry) (given_at asked (stamp_of who.now (C.last clock.new))) database result) }
+    ensures room { IfOk result (λ done. OnFile asked.options.dialect (D.told disk.old) (λ database. TellsRoomOn asked.options.dialect (job_calls (job_of printing.entry) (given_at asked (stamp_of who.now (C.last clock.new))) database) database (D.told disk.old) done.status)) }
     ensures told { D.told disk.new ≡ D.told disk.old }
     ensures any_moment { LeavesOnly (D.crashes disk.old) (D.crashes disk.new) (D.crashes disk.old).leaves }
     ensures damaged { TellsDamage asked.options.dialect (D.told disk.old) result }
+    ensures fails { (at : ℕ) → IsDamagedAt asked.options.dialect (D.told disk.old) at → FailsAt at result }
     ensures kind { IsOfDatabase result }
     ensures later { D.faults disk.old ≤ D.faults disk.new }
     ensures fault { result ≡ Err status.DiskFault → Rose (D.faults disk.old) (D.faults disk.new) }
@@ -88,7 +92,9 @@ fn on_bytes<D: Disk + Drop, C: Clock, P: SqlText + Drop + Copy>(
     requires short { All HasShortTexts asked.changelog.sets }
     ensures answers { OnFile asked.options.dialect (D.told copy) (λ database. Answers (job_refusal (job_of printing.entry) (given_at asked (stamp_of who.now (C.last clock.new))) database) result) }
     ensures tells { OnFile asked.options.dialect (D.told copy) (λ database. TellsJob (job_of printing.entry) (given_at asked (stamp_of who.now (C.last clock.new))) database result) }
+    ensures room { IfOk result (λ done. OnFile asked.options.dialect (D.told copy) (λ database. TellsRoomOn asked.options.dialect (job_calls (job_of printing.entry) (given_at asked (stamp_of who.now (C.last clock.new))) database) database (D.told copy) done.status)) }
     ensures damaged { TellsDamage asked.options.dialect (D.told copy) result }
+    ensures fails { (at : ℕ) → IsDamagedAt asked.options.dialect (D.told copy) at → FailsAt at result }
     ensures kind { IsOfDatabase result }
     ensures sure { result ≡ Err status.DiskFault → ⊥ }
     ensures once { ReadAtMostOnce (C.to_come clock.old) (C.to_come clock.new) (C.last clock.new) }
@@ -115,6 +121,7 @@ fn on_loaded<D: Disk + Drop, C: Clock, P: SqlText + Drop + Copy, E: Executor + D
     requires short { All HasShortTexts asked.changelog.sets }
     ensures answers { OnIts asked.options.dialect (state (D.told (disk_in db)) (E.held (engine_in db)) db) (λ database. Answers (job_refusal (job_of printing.entry) (given_at asked (stamp_of who.now (C.last clock.new))) database) result) }
     ensures tells { OnIts asked.options.dialect (state (D.told (disk_in db)) (E.held (engine_in db)) db) (λ database. TellsJob (job_of printing.entry) (given_at asked (stamp_of who.now (C.last clock.new))) database result) }
+    ensures room { IfOk result (λ done. OnIts asked.options.dialect (state (D.told (disk_in db)) (E.held (engine_in db)) db) (λ database. TellsRoom asked.options.dialect (job_calls (job_of printing.entry) (given_at asked (stamp_of who.now (C.last clock.new))) database) database (state (D.told (disk_in db)) (E.held (engine_in db)) db) done.status)) }
     ensures whole { (told : Option (List ℕ)) → TellsDamage asked.options.dialect told result }
     ensures kind { IsOfDatabase result }
     ensures sure { result ≡ Err status.DiskFault → ⊥ }
@@ -143,6 +150,7 @@ fn print_on<S: Store, P: SqlText>(
     requires name { is_mark given.stamp.who ≡ false }
     ensures answers { OnIts given.options.dialect (S.state store.old) (λ database. Answers (job_refusal (job_of printing.entry) given database) result) }
     ensures tells { OnIts given.options.dialect (S.state store.old) (λ database. TellsJob (job_of printing.entry) given database result) }
+    ensures room { IfOk result (λ done. OnIts given.options.dialect (S.state store.old) (λ database. TellsRoom given.options.dialect (job_calls (job_of printing.entry) given database) database (S.state store.old) done.status)) }
 {
     match printing {
         Printing::Update => print_update(alloc, given, store, sql),
@@ -153,6 +161,7 @@ fn print_on<S: Store, P: SqlText>(
 fn in_memory(done: Result<Done, Status>) -> Result<Done, Status>
     ensures refused { (refused : Option Status) → Answers refused done → Answers refused result }
     ensures tells { (job : Job) (given : Given) (database : Database) → TellsJob job given database done → TellsJob job given database result }
+    ensures ended { (ended : Done) → result ≡ Ok ended → done ≡ Ok ended }
     ensures sure { result ≡ Err status.DiskFault → ⊥ }
     ensures kind { IsOfDatabase done → IsOfDatabase result }
     ensures whole { (dialect : Dialect) (told : Option (List ℕ)) → TellsDamage dialect told done → TellsDamage dialect told result }

@@ -1,14 +1,25 @@
 ghost use Rattle.std.specs.List.{All};
-ghost use Rattle.std.specs.Prelude.{◌≡◌, ◌≤◌, IfErr, IfOk, IfSome, IsTrue, OnOk, false, true};
+ghost use Rattle.std.specs.Prelude.{◌≡◌, ◌≤◌, IfErr, IfOk, IfSome, IsTrue, List, OnOk, Some, [], ◌∷◌, false, if◌then◌else◌, is_some, length, take, true, ℕ};
+ghost use Rattle.hex.specs.Hex.{encode_lower};
+ghost use Rattle.md5.specs.Md5.{md5};
 ghost use Rattle.lq_base.specs.Character.{char_count};
 ghost use Rattle.lq_changelog.specs.ShortTexts.{HasShortTexts};
 ghost use Rattle.lq_commands.specs.Kinds.{is_diskless};
 ghost use Rattle.lq_commands.specs.Reading.{ReadOnce};
-ghost use Rattle.lq_commands.specs.Scripts.{tag_in};
-ghost use Rattle.lq_commands.specs.Works.{IsReady};
-ghost use Rattle.lq_db.specs.Db.{IsDb, disk_in, engine_in, state};
+ghost use Rattle.lq_commands.specs.Scripts.{script, tag_in};
+ghost use Rattle.lq_commands.specs.Stamp.{stamp_of};
+ghost use Rattle.lq_commands.specs.Works.{IsReady, OnIts};
+ghost use Rattle.lq_db.specs.Db.{IsDb, IsNew, disk_in, engine_in, state};
 ghost use Rattle.lq_kinds.specs.Dialects.{AreFor};
+ghost use Rattle.lq_model.specs.Catalogue.{table_of};
+ghost use Rattle.lq_outside.specs.Folder.{held_in};
+ghost use Rattle.lq_run.specs.Commands.{HasDatabase, Leaves};
+ghost use Rattle.lq_tell.specs.SoakLog.{soak_changelog, soak_path, table_name};
+ghost use Rattle.lq_top.specs.Bytes.{most_bytes};
 ghost use Rattle.lq_top.specs.Kinds.{Refuses};
+ghost use Rattle.lq_top.specs.Soaked.{Did, DidOnEach, IsLeft, IsMade, IsMeasured, Soaks, TakenBack, TellsSoak, is_done, soak_given, tables_there, take_back};
+ghost use Rattle.lq_track.specs.Database.{Database, rows_of};
+ghost use Rattle.lq_base.specs.declared.tracking.Tracked.{Tracked};
 ghost use Rattle.lq_turns.specs.Stops.{is_mark};
 
 use crate::copying::copy_status;
@@ -22,7 +33,7 @@ use lq_expr::Options;
 use lq_journal::Journal;
 use lq_kinds::Changelog;
 use lq_model::{Look, SqlText};
-use lq_outside::{Clock, Disk, SureDisk, SureFiles};
+use lq_outside::{Clock, Disk, Files, SureDisk, SureFiles};
 use lq_report::{Soaked, soak_text};
 use lq_store::{Executor, Store};
 use lq_tell::{Done, SOAK_PATH, Status, soak_changelog, table_name};
@@ -58,6 +69,7 @@ pub fn soak<C: Clock, P: SqlText + Drop + Copy>(
 ) -> Result<Done, Status>
     requires sql { P.dialect ≡ dialect }
     ensures refuses { Refuses is_diskless result }
+    ensures tells { TellsSoak dialect seed.number seed.sets (stamp_of who.now (C.last clock.new)) result }
     ensures once { ReadOnce (C.to_come clock.old) (C.to_come clock.new) (C.last clock.new) }
 {
     let reading = clock.now();
@@ -78,11 +90,14 @@ fn there_and_back<P: SqlText + Drop + Copy>(
     soaker: Soaker<'_>,
 ) -> Result<Text, Status>
     requires { P.dialect ≡ soaker.dialect }
-    ensures { IfErr result (λ s. is_diskless s ≡ true) }
+    ensures stops { IfErr result (λ s. is_diskless s ≡ true) }
+    ensures undone { IfErr result (λ s. is_done s ≡ false) }
+    ensures soaks { IfOk result (λ text. Soaks soaker.entry.dialect soaker.entry.seed.number soaker.entry.seed.sets (stamp_of soaker.entry.who.now soaker.entry.reading) text) }
 {
     let empty = SureDisk::new(Vec::new(alloc));
     let update = Command::Update;
-    let After { disk, .. } = disk_after(alloc, sql, soaker, &update, empty)?;
+    let after = disk_after(alloc, sql, soaker, &update, empty)?;
+    let After { disk, .. } = after;
     let there = measure(alloc, soaker.dialect, disk)?;
     let sum = sum_of(alloc, there.disk.bytes(), there.used)?;
     back_text(alloc, sql, soaker, there, sum)
@@ -97,7 +112,9 @@ fn back_text<P: SqlText + Drop + Copy>(
     sum: Text,
 ) -> Result<Text, Status>
     requires { P.dialect ≡ soaker.dialect }
-    ensures { IfErr result (λ s. is_diskless s ≡ true) }
+    ensures stops { IfErr result (λ s. is_diskless s ≡ true) }
+    ensures undone { IfErr result (λ s. is_done s ≡ false) }
+    ensures back { IfOk result (λ text. TakenBack soaker.entry.dialect soaker.entry.seed.number soaker.entry.seed.sets (stamp_of soaker.entry.who.now soaker.entry.reading) (⟦<SureDisk as Disk>⟧.told there.disk) there.entries there.used sum text) }
 {
     let Measured {
         entries,
@@ -105,8 +122,9 @@ fn back_text<P: SqlText + Drop + Copy>(
         disk,
     } = there;
     let sets = soaker.seed.sets;
-    let rollback = Command::Rollback(Target::Count(sets.min(u32::MAX as u64) as u32));
-    let After { disk, left } = disk_after(alloc, sql, soaker, &rollback, disk)?;
+    let rollback = take_back(sets);
+    let after = disk_after(alloc, sql, soaker, &rollback, disk)?;
+    let After { disk, left } = after;
     let back = measure(alloc, soaker.dialect, disk)?;
     let told = Soaked {
         sets,
@@ -119,6 +137,13 @@ fn back_text<P: SqlText + Drop + Copy>(
     };
     let text = soak_text(alloc, &told)?;
     Ok(text)
+}
+
+// The command that takes so many changesets back.
+fn take_back(sets: u64) -> Command
+    ensures { result ≡ take_back sets }
+{
+    Command::Rollback(Target::Count(sets.min(u32::MAX as u64) as u32))
 }
 
 /// A disk on which a command was done, and what its database then has of the changelog.
@@ -148,7 +173,9 @@ fn disk_after<P: SqlText + Drop + Copy>(
 ) -> Result<After<SureDisk>, Status>
     requires sql { P.dialect ≡ soaker.dialect }
     requires tag { IfSome (tag_in command.now) (λ tag. char_count tag ≤ 255) }
-    ensures { IfErr result (λ s. is_diskless s ≡ true) }
+    ensures stops { IfErr result (λ s. is_diskless s ≡ true) }
+    ensures undone { IfErr result (λ s. is_done s ≡ false) }
+    ensures did { IfOk result (λ after. Did soaker.entry.dialect soaker.entry.seed.number soaker.entry.seed.sets (stamp_of soaker.entry.who.now soaker.entry.reading) command.now (⟦<SureDisk as Disk>⟧.told disk) (⟦<SureDisk as Disk>⟧.told after.disk) after.left.rows after.left.tables) }
 {
     let given = given_by(alloc, &sql, soaker)?;
     match Db::<SureDisk, P, Engine>::load(alloc, disk, given.options.dialect, sql, LIMIT) {
@@ -167,13 +194,16 @@ fn on_loaded<D: Disk + Drop, P: SqlText + Drop + Copy, E: Executor + Drop>(
 ) -> Result<After<D>, Status>
     requires valid { IsDb P.dialect (D.told (disk_in db)) (D.crashes (disk_in db)) (E.held (engine_in db)) db }
     requires ready { IsReady given.options.dialect (state (D.told (disk_in db)) (E.held (engine_in db)) db) }
+    requires new { IsNew given.options.dialect most_bytes db }
     requires sql { P.dialect ≡ given.options.dialect }
     requires read { AreFor given.options.dialect given.changelog }
     requires short { All HasShortTexts given.changelog.sets }
     requires tag { IfSome (tag_in command.now) (λ tag. char_count tag ≤ 255) }
     requires moment { given.stamp.reading ≤ 253402300799999 }
     requires name { is_mark given.stamp.who ≡ false }
-    ensures { IfErr result (λ s. is_diskless s ≡ true) }
+    ensures stops { IfErr result (λ s. is_diskless s ≡ true) }
+    ensures undone { IfErr result (λ s. is_done s ≡ false) }
+    ensures did { IfOk result (λ after. DidOnEach given command.now sets (D.told (disk_in db)) (D.told after.disk) after.left.rows after.left.tables) }
 {
     let mut db = db;
     let dialect = given.options.dialect;
@@ -202,8 +232,10 @@ fn done_on<S: Store, P: SqlText>(
     requires moment { given.stamp.reading ≤ 253402300799999 }
     requires name { is_mark given.stamp.who ≡ false }
     ensures valid { S.valid store.new }
+    ensures leaves { OnOk result (OnIts given.options.dialect (S.state store.old) (λ database. Leaves given.options.dialect (script command.now given database) database (S.state store.old) (S.state store.new))) }
     ensures live { OnOk result (IsTrue (S.state store.new).live) }
     ensures stops { IfErr result (λ s. is_diskless s ≡ true) }
+    ensures undone { IfErr result (λ s. is_done s ≡ false) }
 {
     match run_command(alloc, command, given, store, sql) {
         Ok(done) => unless_done(done),
@@ -214,6 +246,7 @@ fn done_on<S: Store, P: SqlText>(
 fn unless_done(done: Done) -> Result<(), Status>
     ensures ok { OnOk result (done.status ≡ Status.Done) }
     ensures stops { IfErr result (λ s. s ≡ done.status) }
+    ensures undone { IfErr result (λ s. is_done s ≡ false) }
 {
     let Done { status, .. } = done;
     match status {
@@ -229,6 +262,8 @@ fn given_by<P: SqlText>(alloc: Global, sql: &P, soaker: Soaker<'_>) -> Result<Gi
     ensures short { IfOk result (λ given. All HasShortTexts given.changelog.sets) }
     ensures moment { IfOk result (λ given. given.stamp.reading ≤ 253402300799999) }
     ensures name { IfOk result (λ given. is_mark given.stamp.who ≡ false) }
+    ensures given { IfOk result (λ given. given ≡ soak_given soaker.entry.dialect given.changelog (stamp_of soaker.entry.who.now soaker.entry.reading)) }
+    ensures made { IfOk result (λ given. IsMade soaker.entry.dialect soaker.entry.seed.number soaker.entry.seed.sets given.changelog) }
 {
     let stamp = stamp_of(alloc, soaker.who, soaker.reading)?;
     let changelog = made_changelog(alloc, sql, soaker.dialect, soaker.seed)?;
@@ -254,6 +289,7 @@ fn made_changelog<P: SqlText>(
     requires { P.dialect ≡ dialect }
     ensures read { IfOk result (λ g. AreFor dialect g) }
     ensures short { IfOk result (λ g. All HasShortTexts g.sets) }
+    ensures made { IfOk result (λ g. IsMade dialect seed.number seed.sets g) }
 {
     let mut files = made_files(alloc, seed)?;
     match load(alloc, &mut files, SOAK_PATH, dialect, sql, &[]) {
@@ -262,7 +298,9 @@ fn made_changelog<P: SqlText>(
     }
 }
 
-fn made_files(alloc: Global, seed: Seed) -> Result<SureFiles, NoMemory> {
+fn made_files(alloc: Global, seed: Seed) -> Result<SureFiles, NoMemory>
+    ensures { IfOk result (λ files. ⟦<SureFiles as Files>⟧.told files ≡ Some (held_in ((soak_path, soak_changelog seed.number seed.sets) ∷ []))) }
+{
     let text = soak_changelog(alloc, seed.number, seed.sets)?;
     let bytes = Items::from_slice(alloc, text.as_str().as_bytes())?;
     let path = Text::new(alloc, SOAK_PATH)?;
@@ -280,7 +318,10 @@ struct Measured {
     disk: SureDisk,
 }
 
-fn measure(alloc: Global, dialect: Dialect, disk: SureDisk) -> Result<Measured, NoMemory> {
+fn measure(alloc: Global, dialect: Dialect, disk: SureDisk) -> Result<Measured, NoMemory>
+    ensures told { IfOk result (λ there. ⟦<SureDisk as Disk>⟧.told there.disk ≡ ⟦<SureDisk as Disk>⟧.told disk) }
+    ensures measured { IfOk result (λ there. IsMeasured dialect (⟦<SureDisk as Disk>⟧.told disk) there.entries there.used) }
+{
     match Journal::load(alloc, disk, dialect, LIMIT) {
         Ok((journal, entries)) => Ok(Measured {
             entries: entries.len() as u64,
@@ -292,8 +333,11 @@ fn measure(alloc: Global, dialect: Dialect, disk: SureDisk) -> Result<Measured, 
 }
 
 // The MD5 of the bytes that are used, in hexadecimal digits.
-fn sum_of(alloc: Global, bytes: &[u8], used: u64) -> Result<Text, NoMemory> {
-    let len = bytes.len().min(used as usize);
+#[tactic(auto, using(std::proofs::lemmas::List::take_min))]
+fn sum_of(alloc: Global, bytes: &[u8], used: u64) -> Result<Text, NoMemory>
+    ensures { IfOk result (λ sum. sum ≡ encode_lower (md5 (take used bytes.now))) }
+{
+    let len = (used as usize).min(bytes.len());
     let digest = <Md5 as Digest>::digest(&bytes[..len]);
     let digits = hex::encode(alloc, digest.as_slice())?;
     Text::new(alloc, digits.as_str())
@@ -308,6 +352,7 @@ fn left_on<S: Store>(
 ) -> Result<Left, NoMemory>
     requires valid { S.valid store.now }
     requires live { IsTrue (S.state store.now).live }
+    ensures { IfOk result (λ left. (database : Database) → HasDatabase dialect (S.state store.now) database → IsLeft sets database left.rows left.tables) }
 {
     match store.look(SESSION) {
         Ok(view) => counted(alloc, dialect, sets, view),
@@ -315,12 +360,10 @@ fn left_on<S: Store>(
     }
 }
 
-fn counted<K: Look>(
-    alloc: Global,
-    dialect: Dialect,
-    sets: u64,
-    look: &K,
-) -> Result<Left, NoMemory> {
+fn counted<K: Look>(alloc: Global, dialect: Dialect, sets: u64, look: &K) -> Result<Left, NoMemory>
+    ensures rows { IfOk result (λ left. (rows : List Tracked) → rows_of (K.catalogue look.now) ≡ Some rows → left.rows ≡ length rows) }
+    ensures tables { IfOk result (λ left. left.tables ≡ tables_there (K.catalogue look.now) sets) }
+{
     let Ok(rows) = read_rows(alloc, dialect, look) else {
         return Err(NoMemory);
     };
@@ -331,17 +374,26 @@ fn counted<K: Look>(
     })
 }
 
-fn tables_in<K: Look>(alloc: Global, sets: u64, look: &K) -> Result<u64, NoMemory> {
+fn tables_in<K: Look>(alloc: Global, sets: u64, look: &K) -> Result<u64, NoMemory>
+    ensures { IfOk result (λ count. count ≡ tables_there (K.catalogue look.now) sets) }
+{
     let mut count = 0;
     for place in 0..sets {
-        if is_there(alloc, place + 1, look)? {
-            count += 1;
-        }
+        count += one_if(is_there(alloc, place + 1, look)?);
     }
     Ok(count)
 }
 
-fn is_there<K: Look>(alloc: Global, place: u64, look: &K) -> Result<bool, NoMemory> {
+fn one_if(is: bool) -> u64
+    ensures one { result ≡ (if is then 1 else 0) }
+    ensures most { result ≤ 1 }
+{
+    if is { 1 } else { 0 }
+}
+
+fn is_there<K: Look>(alloc: Global, place: u64, look: &K) -> Result<bool, NoMemory>
+    ensures { IfOk result (λ is. is ≡ is_some (table_of (K.catalogue look.now) (table_name place))) }
+{
     let text = table_name(alloc, place)?;
     match Name::new(alloc, text.as_str()) {
         Ok(name) => Ok(look.is_table(&name)),

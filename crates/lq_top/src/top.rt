@@ -3,6 +3,7 @@ ghost use Rattle.std.specs.Option.{option_copied};
 ghost use Rattle.lq_base.specs.declared.identity.Identity.{Identity};
 ghost use Rattle.lq_base.specs.declared.run.Why.{Why};
 ghost use Rattle.lq_cli.specs.Line.{line_of};
+ghost use Rattle.lq_cli.specs.declared.line.Job.TheVariants as job;
 ghost use Rattle.lq_cli.specs.declared.line.Line.{Line};
 ghost use Rattle.lq_commands.specs.Stamp.{stamp_of};
 ghost use Rattle.lq_kinds.specs.Dialects.{AreFor};
@@ -13,13 +14,15 @@ ghost use Rattle.lq_tell.specs.Texts.{IsSilent};
 ghost use Rattle.lq_tell.specs.declared.status.Status.TheVariants as status;
 ghost use Rattle.lq_top.specs.Alone.{TakesSteps};
 ghost use Rattle.lq_top.specs.Asks.{Asks, HasFault, HasNoForm, IsFaultOf, IsUsage, asked_tag, asks_drill};
+ghost use Rattle.lq_top.specs.Bytes.{IsDamagedAt};
 ghost use Rattle.lq_top.specs.Clock.{ReadAtMostOnce, ReadUpTo};
 ghost use Rattle.lq_top.specs.Drilled.{AsksDrill, RunsDrill};
 ghost use Rattle.lq_top.specs.Headline.{GoesBack, GoneBack, HasSynced, HasUpdated, IsTaken};
 ghost use Rattle.lq_top.specs.Jobs.{is_apart};
 ghost use Rattle.lq_top.specs.Resumed.{LeavesMarked, RollbackResumes, UpdateResumes};
-ghost use Rattle.lq_top.specs.Run.{Crashes, EndsUnread, IsDamage, IsLogged, IsLoggedInPart, IsSafe, IsUnread, Runs};
-ghost use Rattle.lq_top.specs.Says.{Said, SaidInPart};
+ghost use Rattle.lq_top.specs.Run.{Crashes, EndsUnread, IsDamage, IsLogged, IsLoggedInPart, IsSafe, IsUnread, OpensAtCrash, Runs, SparesDamage};
+ghost use Rattle.lq_top.specs.Says.{Said, SaidInPart, Warns};
+ghost use Rattle.lq_top.specs.Soaked.{SaysSoak};
 
 use crate::work::{Ending, work};
 use lq_base::Text;
@@ -60,14 +63,16 @@ pub fn run<F: Files, D: Disk, C: Clock, O: Sink, L: Sink>(
     ensures changelog { (fault : LoadFault) → result.status ≡ status.Changelog fault → IsFaultOf (map (λ word. string_bytes word) words.now) (F.told files.old) fault }
     ensures changelog_only { (fault : LoadFault) → HasFault (map (λ word. string_bytes word) words.now) (F.told files.old) fault → EndsUnread fault result.status }
     ensures damaged { (line : Line) → line_of (map (λ word. string_bytes word) words.now) ≡ Some line → IsDamage line.options.dialect (D.told disk) result.status }
+    ensures damaged_only { (line : Line) (at : ℕ) → line_of (map (λ word. string_bytes word) words.now) ≡ Some line → is_apart line.job ≡ false → IsDamagedAt line.options.dialect (D.told disk) at → SparesDamage at result.status (D.told disk) (D.told result.disk) }
     ensures disk { result.status ≡ status.DiskFault → Rose (D.faults disk) (D.faults result.disk) }
     ensures write { result.status ≡ status.WriteFault → Rose (O.faults out.old) (O.faults out.new) }
 
     // What a command is refused for, in the order of its checks, and what its calls leave; a refusal writes nothing.
     ensures runs { (asks : Asks (map (λ word. string_bytes word) words.now) (F.told files.old)) → Runs asks (stamp_of who.now (C.last clock.new)) (D.told disk) result.status (D.told result.disk) }
     ensures untouched { IsUnread result.status → result.disk ≡ disk }
-    // A crash of the machine at any moment, and after the end.
+    // A crash of the machine at any moment, how what it left is opened, and after the end.
     ensures any_moment { (asks : Asks (map (λ word. string_bytes word) words.now) (F.told files.old)) → Crashes asks (stamp_of who.now (C.last clock.new)) (D.told disk) (D.crashes disk) (D.crashes result.disk) }
+    ensures opens_at_crash { (asks : Asks (map (λ word. string_bytes word) words.now) (F.told files.old)) → AreFor asks.line.options.dialect asks.changelog → (bytes : List ℕ) → OpensAtCrash asks (stamp_of who.now (C.last clock.new)) (D.told disk) bytes }
     ensures safe { (asks : Asks (map (λ word. string_bytes word) words.now) (F.told files.old)) → IsSafe asks result.status (D.told result.disk) (D.crashes result.disk) }
     ensures soak { (line : Line) → line_of (map (λ word. string_bytes word) words.now) ≡ Some line → is_apart line.job ≡ true → result.disk ≡ disk }
 
@@ -76,6 +81,9 @@ pub fn run<F: Files, D: Disk, C: Clock, O: Sink, L: Sink>(
 
     // Where the output failed it got a front of that text.
     ensures says_part { (asks : Asks (map (λ word. string_bytes word) words.now) (F.told files.old)) → result.status ≡ status.WriteFault → SaidInPart asks (stamp_of who.now (C.last clock.new)) (D.told disk) (O.told out.old) (O.told out.new) }
+
+    // What a soak says: the function of its number, its changesets, who runs it and the reading that its definition states.
+    ensures soaks { (line : Line) → line_of (map (λ word. string_bytes word) words.now) ≡ Some line → (number sets : ℕ) → line.job ≡ job.Soak number sets → SaysSoak line.options.dialect number sets (stamp_of who.now (C.last clock.new)) result.status (O.told out.old) (O.told out.new) }
 
     // The headline.
     ensures success { GoesBack (map (λ word. string_bytes word) words.now) (F.told files.old) (D.told disk) → IsTaken result.status }
@@ -101,9 +109,10 @@ pub fn run<F: Files, D: Disk, C: Clock, O: Sink, L: Sink>(
     ensures once { asks_drill (line_of (map (λ word. string_bytes word) words.now)) ≡ false → ReadAtMostOnce (C.to_come clock.old) (C.to_come clock.new) (C.last clock.new) }
     ensures reads { ReadUpTo 64 (C.to_come clock.old) (C.to_come clock.new) }
 
-    // Without an end in the run there is no output. The log gets the lines of the status, behind those of warnings.
+    // Without an end in the run there is no output. The log gets the lines of the status, behind those of warnings, of which there are none without an end in the run. Of a command that came to its end it is known which: those of an update's turns, the changelog's own first.
     ensures silent { IsSilent result.status → O.told out.new ≡ O.told out.old }
     ensures logged { (Rose (L.faults log.old) (L.faults log.new) → ⊥) → IsLogged (asked_tag (line_of (map (λ word. string_bytes word) words.now))) result.status (L.told log.old) (L.told log.new) }
+    ensures warns { (asks : Asks (map (λ word. string_bytes word) words.now) (F.told files.old)) → (Rose (L.faults log.old) (L.faults log.new) → ⊥) → Warns asks (stamp_of who.now (C.last clock.new)) (D.told disk) result.status (L.told log.old) (L.told log.new) }
     ensures log_part { IsLoggedInPart (asked_tag (line_of (map (λ word. string_bytes word) words.now))) result.status (L.told log.old) (L.told log.new) }
 {
     let Ending { disk, done, tag } = work(alloc, words, who, files, disk, clock);

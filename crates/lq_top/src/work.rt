@@ -14,14 +14,15 @@ ghost use Rattle.lq_sources.specs.declared.fault.LoadFault.{LoadFault as Fault};
 ghost use Rattle.lq_tell.specs.Texts.{status_done};
 ghost use Rattle.lq_tell.specs.declared.status.Status.TheVariants as status;
 ghost use Rattle.lq_top.specs.Asks.{Asks, HasFault, HasNoForm, IsFaultOf, IsUsage, asked_by, asked_tag, asks_drill, back_tag, given_to, is_drill, loaded};
-ghost use Rattle.lq_top.specs.Bytes.{TellsDamage, given_at};
+ghost use Rattle.lq_top.specs.Bytes.{IsDamagedAt, TellsDamage, given_at};
 ghost use Rattle.lq_top.specs.Clock.{ReadAtMostOnce, ReadUpTo};
 ghost use Rattle.lq_top.specs.Copies.{job_of};
 ghost use Rattle.lq_top.specs.Drilled.{AsksDrill, DoesDrill, DrilledBy, IsFormless, IsSettled};
 ghost use Rattle.lq_top.specs.Jobs.{DoesLine, is_apart, is_command, job_tag};
 ghost use Rattle.lq_top.specs.Kinds.{IsNotLoaded, IsOfFiles, IsOfWords};
 ghost use Rattle.lq_top.specs.Run.{Crashes};
-ghost use Rattle.lq_top.specs.Worked.{WorkedBy, WorkedOn};
+ghost use Rattle.lq_top.specs.Soaked.{TellsSoakOf};
+ghost use Rattle.lq_top.specs.Worked.{Spares, WorkedBy, WorkedOn};
 
 use crate::changelogs::{changelog_of, file_status};
 use crate::copying::{Printing, on_copy};
@@ -69,6 +70,8 @@ pub fn work<F: Files, D: Disk, C: Clock>(
     ensures any_moment { (asks : Asks (map (λ word. string_bytes word) words.now) (F.told files.old)) → Crashes asks (stamp_of who.now (C.last clock.new)) (D.told disk) (D.crashes disk) (D.crashes result.disk) }
     ensures safe { (asks : Asks (map (λ word. string_bytes word) words.now) (F.told files.old)) → is_command asks.line.job ≡ true → is_finished (status_done result.done) ≡ true → Settled (D.told result.disk) (D.crashes result.disk) }
     ensures damaged { (line : Line) → line_of (map (λ word. string_bytes word) words.now) ≡ Some line → TellsDamage line.options.dialect (D.told disk) result.done }
+    ensures damaged_only { (line : Line) (at : ℕ) → line_of (map (λ word. string_bytes word) words.now) ≡ Some line → is_apart line.job ≡ false → IsDamagedAt line.options.dialect (D.told disk) at → Spares at (D.told disk) result.done (D.told result.disk) }
+    ensures soaks { (line : Line) → line_of (map (λ word. string_bytes word) words.now) ≡ Some line → TellsSoakOf line.job line.options.dialect (stamp_of who.now (C.last clock.new)) result.done }
     ensures off { (line : Line) → line_of (map (λ word. string_bytes word) words.now) ≡ Some line → is_apart line.job ≡ true → result.disk ≡ disk }
     ensures tag { (result.tag ≡ asked_tag (line_of (map (λ word. string_bytes word) words.now))) ⊎ (result.done ≡ Err status.OutOfMemory) }
     ensures later { D.faults disk ≤ D.faults result.disk }
@@ -109,6 +112,7 @@ fn on_line<F: Files, D: Disk, C: Clock>(
     ensures read { result.done ≡ Err status.ReadFault → Rose (F.faults files.old) (F.faults files.new) }
     ensures worked { is_drill line.job ≡ false → WorkedBy D.told D.faults D.crashes (F.told files.old) (λ source. given_to source line) line.job line.options (stamp_of who.now (C.last clock.new)) disk result.done result.disk }
     ensures drilled { (runs : List ℕ) → line.job ≡ job.Drill runs → DrilledBy D.told D.faults D.crashes (F.told files.old) line.options.dialect line.path runs who.now (C.to_come clock.old) (C.to_come clock.new) disk result.done result.disk }
+    ensures soaks { TellsSoakOf line.job line.options.dialect (stamp_of who.now (C.last clock.new)) result.done }
     ensures tag { result.tag ≡ back_tag line.job }
     ensures once { is_drill line.job ≡ false → ReadAtMostOnce (C.to_come clock.old) (C.to_come clock.new) (C.last clock.new) }
 {
@@ -168,6 +172,7 @@ fn on_command<F: Files, D: Disk, C: Clock>(
     requires no_drill { is_drill job ≡ false }
     ensures read { result.done ≡ Err status.ReadFault → Rose (F.faults files.old) (F.faults files.new) }
     ensures worked { WorkedBy D.told D.faults D.crashes (F.told files.old) (λ source. loaded source options.dialect given.now root.now) job options (stamp_of who.now (C.last clock.new)) disk result.done result.disk }
+    ensures soaks { TellsSoakOf job options.dialect (stamp_of who.now (C.last clock.new)) result.done }
     ensures tag { result.tag ≡ back_tag job }
     ensures once { ReadAtMostOnce (C.to_come clock.old) (C.to_come clock.new) (C.last clock.new) }
 {
@@ -207,6 +212,7 @@ fn in_dialect<F: Files, D: Disk, C: Clock>(
     requires no_drill { is_drill job.now ≡ false }
     ensures read { result.done ≡ Err status.ReadFault → Rose (F.faults files.old) (F.faults files.new) }
     ensures worked { WorkedBy D.told D.faults D.crashes (F.told files.old) (λ source. loaded source options.dialect given.now root.now) job.now options (stamp_of who.now (C.last clock.new)) disk result.done result.disk }
+    ensures soaks { TellsSoakOf job.now options.dialect (stamp_of who.now (C.last clock.new)) result.done }
     ensures once { ReadAtMostOnce (C.to_come clock.old) (C.to_come clock.new) (C.last clock.new) }
 {
     match options.dialect {
@@ -236,6 +242,7 @@ fn with_sql<F: Files, D: Disk, C: Clock, P: SqlText + Drop + Copy>(
     requires no_drill { is_drill job.now ≡ false }
     ensures read { result.done ≡ Err status.ReadFault → Rose (F.faults files.old) (F.faults files.new) }
     ensures worked { WorkedBy D.told D.faults D.crashes (F.told files.old) (λ source. loaded source options.dialect given.now root.now) job.now options (stamp_of who.now (C.last clock.new)) disk result.done result.disk }
+    ensures soaks { TellsSoakOf job.now options.dialect (stamp_of who.now (C.last clock.new)) result.done }
     ensures once { ReadAtMostOnce (C.to_come clock.old) (C.to_come clock.new) (C.last clock.new) }
 {
     match changelog_of(alloc, files, root, options.dialect, &sql, given) {
@@ -265,6 +272,7 @@ fn on_job<D: Disk, C: Clock, P: SqlText + Drop + Copy>(
     requires tag { IfSome (job_tag job.now) (λ tag. char_count tag ≤ 255) }
     requires no_drill { is_drill job.now ≡ false }
     ensures worked { WorkedOn D.told D.faults D.crashes job.now (given_at asked (stamp_of who.now (C.last clock.new))) disk result.done result.disk }
+    ensures soaks { TellsSoakOf job.now asked.options.dialect (stamp_of who.now (C.last clock.new)) result.done }
     ensures once { ReadAtMostOnce (C.to_come clock.old) (C.to_come clock.new) (C.last clock.new) }
 {
     match job {

@@ -4,9 +4,11 @@ use Rattle.lq_cli.specs.declared.line.Job.TheVariants.{RollbackSql}
 use Rattle.lq_tell.specs.declared.status.Status.{Status}
 use Rattle.lq_commands.proofs.Freed.{freed, freed_ready, rollback_freed, rollback_tells}
 use Rattle.lq_commands.proofs.Commanded.{answers_end, answers_so}
+use Rattle.lq_commands.proofs.Printed.{freed_room, ran_room}
 use Rattle.lq_commands.proofs.Telling.{on_its_tells, unfinished_tells}
 use Rattle.lq_commands.specs.Outputs.{back_in}
 use Rattle.lq_commands.specs.Refusals.{Answers, print_rollback}
+use Rattle.lq_commands.specs.Scripts.{rollback_script}
 use Rattle.lq_commands.specs.Tells.{IfFinished, TellsRollback}
 use Rattle.lq_commands.proofs.command.free_and_rollback.Goals as goal
 
@@ -32,3 +34,13 @@ returns-in-Err-clause-answers g c = λ database has.
 
 pub returns-in-Err-clause-tells : goal.returns-in-Err-clause-tells
 returns-in-Err-clause-tells g c = λ database has. unfinished_tells (RollbackSql c.args.target.now) c.args.given database c.fault_answer.result c.fault_answer.ensures.unfinished
+
+-- the room of the calls
+
+pub returns-in-Ok-clause-room : goal.returns-in-Ok-clause-room
+returns-in-Ok-clause-room g c =
+    ran_room c.args.given.options.dialect (rollback_script c.args.given c.args.target.now) (g.S.Store.state c.args.store.now) (g.S.Store.state c.free.new.store) (g.S.Store.state c.rollback.new.store) c.rollback.result c.in-Ok.ensures.leaves c.rollback.ensures.works
+
+pub returns-in-Err-clause-room : goal.returns-in-Err-clause-room
+returns-in-Err-clause-room g c =
+    freed_room c.args.given.options.dialect (rollback_script c.args.given c.args.target.now) (g.S.Store.state c.args.store.now) c.in-Err.fault c.fault_answer.result c.fault_answer.ensures.unfinished c.fault_answer.ensures.same c.in-Err.ensures.full

@@ -4,9 +4,10 @@ use Rattle.lq_cli.specs.declared.line.Job.TheVariants.{UpdateSql}
 use Rattle.lq_tell.specs.declared.status.Status.{Status}
 use Rattle.lq_commands.proofs.Freed.{freed, freed_ready, update_freed, update_tells}
 use Rattle.lq_commands.proofs.Commanded.{answers_end, answers_so}
+use Rattle.lq_commands.proofs.Printed.{freed_room, ran_room}
 use Rattle.lq_commands.proofs.Telling.{on_its_tells, unfinished_tells}
 use Rattle.lq_commands.specs.Refusals.{Answers, print_update}
-use Rattle.lq_commands.specs.Scripts.{updated_in}
+use Rattle.lq_commands.specs.Scripts.{update_script, updated_in}
 use Rattle.lq_commands.specs.Tells.{IfFinished, TellsUpdate}
 use Rattle.lq_commands.proofs.command.free_and_update.Goals as goal
 
@@ -31,3 +32,13 @@ returns-in-Err-clause-answers g c = λ database has.
 
 pub returns-in-Err-clause-tells : goal.returns-in-Err-clause-tells
 returns-in-Err-clause-tells g c = λ database has. unfinished_tells UpdateSql c.args.given database c.fault_answer.result c.fault_answer.ensures.unfinished
+
+-- the room of the calls
+
+pub returns-in-Ok-clause-room : goal.returns-in-Ok-clause-room
+returns-in-Ok-clause-room g c =
+    ran_room c.args.given.options.dialect (update_script c.args.given) (g.S.Store.state c.args.store.now) (g.S.Store.state c.free.new.store) (g.S.Store.state c.update.new.store) c.update.result c.in-Ok.ensures.leaves c.update.ensures.works
+
+pub returns-in-Err-clause-room : goal.returns-in-Err-clause-room
+returns-in-Err-clause-room g c =
+    freed_room c.args.given.options.dialect (update_script c.args.given) (g.S.Store.state c.args.store.now) c.in-Err.fault c.fault_answer.result c.fault_answer.ensures.unfinished c.fault_answer.ensures.same c.in-Err.ensures.full

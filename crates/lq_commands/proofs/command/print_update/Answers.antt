@@ -17,12 +17,12 @@ check_own-requires-clause-rows g c = λ database has. c.in_ok-rows.ensures.rows 
 pub returns-in_err-check_own-clause-answers : goal.returns-in_err-check_own-clause-answers
 returns-in_err-check_own-clause-answers g c = λ database has.
     second_refuses (invalid c.args.given database.rows) (λ (rows : List Tracked). own_halt c.args.given database) c.in_ok-rows.rows database.rows database.rows (c.in_ok-rows.ensures.passes database has) refl _ c.in_err-check_own.field-0.0 _
-    (c.in_err-check_own.ensures database has) (search rules)
+    (c.in_err-check_own.ensures.passes database has) (search rules)
 
 pub free_and_update-requires-clause-passes : goal.free_and_update-requires-clause-passes
 free_and_update-requires-clause-passes g c = λ database has.
     both_pass (invalid c.args.given database.rows) (λ (rows : List Tracked). own_halt c.args.given database) c.in_ok-rows.rows database.rows database.rows (c.in_ok-rows.ensures.passes database has) refl c.in_ok-check_own.field-0
-    (c.in_ok-check_own.ensures database has)
+    (c.in_ok-check_own.ensures.passes database has)
 
 -- a check that refuses tells nothing
 

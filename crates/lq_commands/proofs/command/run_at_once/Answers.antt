@@ -1,4 +1,4 @@
-use Rattle.std.proofs.Common.{subst}
+use Rattle.std.proofs.Common.{refl, subst}
 use Rattle.std.specs.Prelude.{IfSome, ◌≤◌}
 use Rattle.lq_base.specs.Character.{char_count}
 use Rattle.lq_base.specs.declared.command.Command.{Command}
@@ -8,6 +8,7 @@ use Rattle.lq_track.specs.Database.{Database}
 use Rattle.lq_turns.specs.Pending.{pending}
 use Rattle.lq_commands.proofs.Commanded.{answers_as, crashes_as, kept_as, works_as}
 use Rattle.lq_commands.proofs.Endings.{untouched_crashes}
+use Rattle.lq_commands.proofs.MayWrite.{writes}
 use Rattle.lq_commands.proofs.Telling.{finished_tells, on_its_tells, tells_as}
 use Rattle.lq_commands.specs.Outputs.{TellsText, released_text}
 use Rattle.lq_commands.specs.Scripts.{script, sets_in, tag_in}
@@ -56,6 +57,14 @@ returns-in-Release-clause-refused g c = λ database has. kept_as c.args.command.
 pub returns-in-Release-clause-works : goal.returns-in-Release-clause-works
 returns-in-Release-clause-works g c = λ database has.
     works_as c.args.command.now command.Release c.in-Release.is c.args.given.now database (g.S.Store.state c.args.store.now) (g.S.Store.state c.release.new.store) c.release.result (c.release.ensures.works database has)
+
+-- these may write
+
+pub returns-in-Tag-clause-reads : goal.returns-in-Tag-clause-reads
+returns-in-Tag-clause-reads g c = λ reads. writes c.args.command.now (command.Tag c.in-Tag.name) c.in-Tag.is refl reads
+
+pub returns-in-Release-clause-reads : goal.returns-in-Release-clause-reads
+returns-in-Release-clause-reads g c = λ reads. writes c.args.command.now command.Release c.in-Release.is refl reads
 
 -- at any moment
 

@@ -1,6 +1,8 @@
 use Rattle.lq_base.specs.declared.command.Command.TheVariants as command
+use Rattle.std.proofs.Common.{refl}
 use Rattle.std.specs.Prelude.{false}
 use Rattle.lq_commands.proofs.Commanded.{answers_as, crashes_as, kept_as, works_as}
+use Rattle.lq_commands.proofs.MayWrite.{writes}
 use Rattle.lq_commands.proofs.Telling.{on_its_tells, tells_as}
 use Rattle.lq_commands.specs.Inserts.{TellsSync, synced_in}
 use Rattle.lq_commands.specs.Outputs.{back_in}
@@ -37,6 +39,17 @@ returns-in-Sync-clause-refused g c = λ database has. kept_as c.args.command.now
 pub returns-in-Sync-clause-works : goal.returns-in-Sync-clause-works
 returns-in-Sync-clause-works g c = λ database has.
     works_as c.args.command.now command.Sync c.in-Sync.is c.args.given database (g.S.Store.state c.args.store.now) (g.S.Store.state c.sync.new.store) c.sync.result (c.sync.ensures.works database has)
+
+-- these may write
+
+pub returns-in-Update-clause-reads : goal.returns-in-Update-clause-reads
+returns-in-Update-clause-reads g c = λ reads. writes c.args.command.now command.Update c.in-Update.is refl reads
+
+pub returns-in-Rollback-clause-reads : goal.returns-in-Rollback-clause-reads
+returns-in-Rollback-clause-reads g c = λ reads. writes c.args.command.now (command.Rollback c.in-Rollback.target) c.in-Rollback.is refl reads
+
+pub returns-in-Sync-clause-reads : goal.returns-in-Sync-clause-reads
+returns-in-Sync-clause-reads g c = λ reads. writes c.args.command.now command.Sync c.in-Sync.is refl reads
 
 -- at any moment
 

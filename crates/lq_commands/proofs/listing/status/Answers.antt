@@ -30,4 +30,4 @@ returns-clause-sure g c = no_disk c.listed.result c.listed.ensures.fault
 
 pub returns-clause-tells : goal.returns-clause-tells
 returns-clause-tells g c =
-    pending_told c.args.given.now (g.S.Store.state c.args.store.now) c.as_slice.result.now c.listed.result (λ database has. c.in_ok-rows.ensures.rows database has ∙ sym c.as_slice.ensures) c.listed.ensures.done c.listed.ensures.out
+    pending_told c.args.given.now (g.S.Store.state c.args.store.now) c.as_slice.result.now c.listed.result (λ database has. c.in_ok-rows.ensures.rows database has ∙ sym c.as_slice.ensures) c.listed.ensures.done c.listed.ensures.out c.listed.ensures.quiet

@@ -32,4 +32,4 @@ pub returns-clause-sure : goal.returns-clause-sure
 returns-clause-sure g c = no_disk c.validated.result c.validated.ensures.fault
 
 pub returns-clause-tells : goal.returns-clause-tells
-returns-clause-tells g c = text_tells validated_text c.validated.result c.validated.ensures.done c.validated.ensures.out
+returns-clause-tells g c = text_tells validated_text c.validated.result c.validated.ensures.done c.validated.ensures.out c.validated.ensures.quiet

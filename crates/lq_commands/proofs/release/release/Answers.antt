@@ -5,6 +5,7 @@ use Rattle.lq_commands.proofs.Commanded.{answers_end, fault_rose, kept_none, lac
 use Rattle.lq_commands.proofs.Endings.{done_works, untouched_crashes, untouched_works}
 use Rattle.lq_commands.proofs.Seen.{lock_is}
 use Rattle.lq_commands.proofs.Telling.{unended_on_its}
+use Rattle.lq_commands.proofs.Warned.{quiet_lines}
 use Rattle.lq_commands.specs.Outputs.{TellsText, released_text}
 use Rattle.lq_commands.specs.Refusals.{ends}
 use Rattle.lq_turns.specs.Script.{release_calls}
@@ -30,7 +31,7 @@ returns-in_err-text-clause-any_moment g c = λ database has.
 pub returns-in-Ok-clause-tells : goal.returns-in-Ok-clause-tells
 returns-in-Ok-clause-tells g c = λ database has finished.
     let same = lock_is c.args.given.now.options.dialect (g.S.Store.state c.args.store.now) database has c.lock.result.now (c.lock.ensures c.requires.ready.has.live) in
-    record { status = c.with.ensures.status; out = c.with.ensures.out ∙ ap Some (c.in_ok-text.ensures ∙ ap released_text same) }
+    record { status = c.with.ensures.status; out = c.with.ensures.out ∙ ap Some (c.in_ok-text.ensures ∙ ap released_text same); warned = quiet_lines c.with.result (c.with.ensures.own, c.with.ensures.warned) }
 
 pub returns-in-Ok-clause-answers : goal.returns-in-Ok-clause-answers
 returns-in-Ok-clause-answers g c = λ database has. ap ends c.with.ensures.status

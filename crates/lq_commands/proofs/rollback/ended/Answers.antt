@@ -44,4 +44,4 @@ pub returns-clause-tells : goal.returns-clause-tells
 returns-clause-tells c =
     let done : Done = record { status = c.in_ok-status.status; out = c.in_ok-out.out; own = None; warned = c.args.outcome.warned } in
     λ account told. tells_rollback c.args.prints c.args.outcome account c.args.end done c.as_slice-lines.result.now c.as_slice-texts.result.now c.as_slice-lines.ensures c.as_slice-texts.ensures
-    c.in_ok-status.ensures.whole c.in_ok-status.ensures.tells c.in_ok-out.ensures told
+    c.in_ok-status.ensures.whole c.in_ok-status.ensures.tells c.in_ok-out.ensures refl told

@@ -16,7 +16,7 @@ returns-then-is_empty-clause-tells g c =
     let given = c.args.given in
     let none = no_rows c.args.undone.now c.is_empty.result c.is_empty.ensures c.if-is_empty.true in
     ok_on_its given.options.dialect (g.S.Store.state c.args.store.now) c.no_turns.result (λ done database. IfFinished done (TellsRollback c.args.prints (rolled_back c.args.prints given (reverse c.args.undone.now) database) done))
-    (λ database has. idle_tells given database c.args.prints c.no_turns.result c.args.undone.now none c.no_turns.ensures.done c.no_turns.ensures.out)
+    (λ database has. idle_tells given database c.args.prints c.no_turns.result c.args.undone.now none c.no_turns.ensures.done c.no_turns.ensures.out c.no_turns.ensures.quiet)
 
 pub returns-then-is_empty-clause-answers : goal.returns-then-is_empty-clause-answers
 returns-then-is_empty-clause-answers g c = answers_done c.no_turns.result c.no_turns.ensures.fault c.no_turns.ensures.done

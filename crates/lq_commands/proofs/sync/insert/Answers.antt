@@ -10,7 +10,7 @@ returns-then-is_empty-clause-answers g c = answers_done c.no_rows.result c.no_ro
 
 pub returns-then-is_empty-clause-tells : goal.returns-then-is_empty-clause-tells
 returns-then-is_empty-clause-tells g c =
-    idle_sync_tells c.args.given c.args.before.now c.args.made c.requires.rows (g.S.Store.state c.args.store.now) c.no_rows.result c.requires.before (c.is_empty.ensures.0 c.if-is_empty.true) c.no_rows.ensures.done c.no_rows.ensures.out
+    idle_sync_tells c.args.given c.args.before.now c.args.made c.requires.rows (g.S.Store.state c.args.store.now) c.no_rows.result c.requires.before (c.is_empty.ensures.0 c.if-is_empty.true) c.no_rows.ensures.done c.no_rows.ensures.out c.no_rows.ensures.quiet
 
 pub returns-then-is_empty-clause-works : goal.returns-then-is_empty-clause-works
 returns-then-is_empty-clause-works g c = λ database has.

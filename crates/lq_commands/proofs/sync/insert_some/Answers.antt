@@ -47,7 +47,7 @@ pub returns-clause-tells : goal.returns-clause-tells
 returns-clause-tells g c =
     sync_tells c.args.given c.args.before.now c.args.made c.requires.rows (g.S.Store.state c.args.store.now) c.ended.result c.in_ok-of.of c.as_slice.result.now c.in_ok-end.end c.requires.before
     (c.in_ok-of.ensures ∙ ap (λ rows. refused_at (insert_stop rows c.args.before.now)) c.as_slice-rows.ensures)
-    (c.as_slice.ensures ∙ c.in_ok-happened.ensures ∙ ap (marked_by None) c.as_slice-rows.ensures) c.in_ok-end.ensures.tells c.ended.ensures.whole c.ended.ensures.tells c.ended.ensures.out
+    (c.as_slice.ensures ∙ c.in_ok-happened.ensures ∙ ap (marked_by None) c.as_slice-rows.ensures) c.in_ok-end.ensures.tells c.ended.ensures.whole c.ended.ensures.tells c.ended.ensures.out c.ended.ensures.quiet
 
 pub returns-clause-works : goal.returns-clause-works
 returns-clause-works g c = λ database has.

@@ -5,6 +5,7 @@ use Rattle.lq_tell.specs.declared.status.Status.TheVariants.{OutOfMemory}
 use Rattle.lq_commands.proofs.Commanded.{answers_end, fault_rose, lacking, tag_behind, tag_crashes, tag_leaves, unfinished_works}
 use Rattle.lq_commands.proofs.Endings.{done_works, full_once, untouched_crashes, untouched_works}
 use Rattle.lq_commands.proofs.Telling.{unended_tells}
+use Rattle.lq_commands.proofs.Warned.{quiet_lines}
 use Rattle.lq_commands.specs.Outputs.{TellsText}
 use Rattle.lq_commands.specs.Refusals.{ends}
 use Rattle.lq_turns.specs.Script.{tag_calls}
@@ -45,7 +46,7 @@ returns-in_err-name-clause-any_moment g c = λ database has.
 -- the row is tagged
 
 pub returns-in-Ok-clause-tells : goal.returns-in-Ok-clause-tells
-returns-in-Ok-clause-tells g c = λ finished. record { status = c.with.ensures.status; out = c.with.ensures.out ∙ ap Some (c.in_ok-text.ensures ∙ ap tagged_text c.as_str.ensures) }
+returns-in-Ok-clause-tells g c = λ finished. record { status = c.with.ensures.status; out = c.with.ensures.out ∙ ap Some (c.in_ok-text.ensures ∙ ap tagged_text c.as_str.ensures); warned = quiet_lines c.with.result (c.with.ensures.own, c.with.ensures.warned) }
 
 pub returns-in-Ok-clause-answers : goal.returns-in-Ok-clause-answers
 returns-in-Ok-clause-answers g c = ap ends c.with.ensures.status

@@ -1,4 +1,4 @@
-use Rattle.std.proofs.Common.{rules}
+use Rattle.std.proofs.Common.{rules, ◌∙◌}
 use Rattle.std.specs.Prelude.{Err, ◌≡◌}
 use Rattle.lq_turns.specs.Contents.{contents_of}
 use Rattle.lq_turns.specs.Settle.{own_choice}
@@ -16,7 +16,7 @@ returns-in_err-rows-clause-answers g c = λ database has.
 pub returns-in_err-own-clause-answers : goal.returns-in_err-own-clause-answers
 returns-in_err-own-clause-answers g c = λ database has.
     let is : c.from_residual-in_err-own.result ≡ Err c.in_err-own.field-0.0 = search rules in
-    own_answers c.args.given database c.from_residual-in_err-own.result c.in_err-own.field-0.0 is (passed (unready c.args.given database) c.in_ok-rows.rows (c.in_ok-rows.ensures.passes database has)) (c.in_err-own.ensures database has)
+    own_answers c.args.given database c.from_residual-in_err-own.result c.in_err-own.field-0.0 is (passed (unready c.args.given database) c.in_ok-rows.rows (c.in_ok-rows.ensures.passes database has)) (c.in_err-own.ensures.passes database has)
 
 pub returns-in_err-rows-clause-works : goal.returns-in_err-rows-clause-works
 returns-in_err-rows-clause-works g c = λ database has.
@@ -35,13 +35,13 @@ pub returns-in_err-own-clause-any_moment : goal.returns-in_err-own-clause-any_mo
 returns-in_err-own-clause-any_moment g c = λ database has. untouched_crashes c.args.given.options.dialect (update_script c.args.given database) database (g.S.Store.state c.args.store.now) (g.S.Store.crashes c.args.store.now)
 
 pub update_on-requires-clause-goes : goal.update_on-requires-clause-goes
-update_on-requires-clause-goes g c = λ database has. not_halt (own_choice (log_in c.args.given) (contents_of database)) c.in_ok-own.own (c.in_ok-own.ensures database has)
+update_on-requires-clause-goes g c = λ database has. not_halt (own_choice (log_in c.args.given) (contents_of database)) c.in_ok-own.own (c.in_ok-own.ensures.passes database has)
 
 pub returns-clause-tells : goal.returns-clause-tells
 returns-clause-tells g c = λ database has.
     let by = own_choice (log_in c.args.given) (contents_of database) in
-    updated_tells c.args.prints (contents_of database) (settled_in c.args.prints c.args.given database) c.in_ok-done.done c.with_own.result c.with_own.ensures.status c.with_own.ensures.out by
-    (not_halt by c.in_ok-own.own (c.in_ok-own.ensures database has)) (c.in_ok-done.ensures.tells database has)
+    updated_tells c.args.prints (contents_of database) (settled_in c.args.prints c.args.given database) c.in_ok-done.done c.with_own.result c.with_own.ensures.status c.with_own.ensures.out c.in_ok-done.ensures.own
+    c.with_own.ensures.warned by (not_halt by c.in_ok-own.own (c.in_ok-own.ensures.passes database has)) (c.with_own.ensures.own ∙ c.in_ok-own.ensures.own database has) (c.in_ok-done.ensures.tells database has)
 
 pub returns-in_err-done-clause-works : goal.returns-in_err-done-clause-works
 returns-in_err-done-clause-works g c = λ database has.

@@ -21,7 +21,7 @@ returns-then-is_empty-clause-tells g c =
     let given = c.args.given in
     ok_on_its given.options.dialect (g.S.Store.state c.args.store.now) c.no_turns.result (λ done database. IfFinished done (TellsUpdate c.args.prints (settled_in c.args.prints given database) done))
     (λ database has. idle_tells given c.args.rows.now database (c.requires.rows database has) c.in_ok-work.work c.in_ok-work.ensures (c.is_empty.ensures.0 c.if-is_empty.true)
-    c.args.prints c.no_turns.result c.no_turns.ensures.done c.no_turns.ensures.out)
+    c.args.prints c.no_turns.result c.no_turns.ensures.done c.no_turns.ensures.out c.no_turns.ensures.own c.no_turns.ensures.warned)
 
 pub returns-then-is_empty-clause-works : goal.returns-then-is_empty-clause-works
 returns-then-is_empty-clause-works g c = λ database has.

@@ -1,13 +1,14 @@
 use Rattle.lq_commands.specs.Stamp.{stamp_of}
 use Rattle.lq_db.specs.Db.{disk_in, engine_in, state}
 use Rattle.lq_top.proofs.Copied.{memory_answers}
+use Rattle.lq_top.proofs.CopyRoom.{ended_room, room_so}
 use Rattle.lq_top.proofs.OnFiles.{memory_kind, memory_no_disk, memory_tells}
 use Rattle.lq_top.proofs.OnReady.{answers_so, printing_plain, ready_kind, ready_tells, tells_so}
 use Rattle.lq_top.proofs.WithClock.{given_dialect, given_is, given_read, given_ready, given_short, given_sql}
 use Rattle.lq_top.proofs.copying.on_loaded.Goals as goal
 use Rattle.lq_top.specs.Bytes.{given_at}
 use Rattle.lq_top.specs.Copies.{job_of}
-use Rattle.lq_top.specs.Jobs.{job_refusal}
+use Rattle.lq_top.specs.Jobs.{job_calls, job_refusal}
 
 pub returns-clause-answers : goal.returns-clause-answers
 returns-clause-answers g c = λ database has.
@@ -15,6 +16,9 @@ returns-clause-answers g c = λ database has.
 
 pub returns-clause-tells : goal.returns-clause-tells
 returns-clause-tells g c = λ database has. tt
+
+pub returns-clause-room : goal.returns-clause-room
+returns-clause-room g c = tt
 
 pub returns-clause-whole : goal.returns-clause-whole
 returns-clause-whole g c = λ told. memory_tells c.args.asked.options.dialect told c.in-Err.status c.in-Err.ensures.no_memory
@@ -61,6 +65,17 @@ returns-in-Ok-clause-tells g c = λ database has.
     c.in_memory.ensures.tells (job_of c.args.printing) (given_at c.args.asked stamp) database
     (tells_so (job_of c.args.printing) c.args.asked stamp given (given_is given c.args.asked stamp made.given.0 made.given.1 made.stamp) (state (g.D.Disk.told (disk_in db)) (g.E.Executor.held (engine_in db)) db)
     c.print_on.result c.print_on.ensures.tells database has)
+
+pub returns-in-Ok-clause-room : goal.returns-in-Ok-clause-room
+returns-in-Ok-clause-room g c =
+    let db = c.args.db in
+    let made = c.in-Ok.ensures in
+    let given = c.in-Ok.given in
+    let stamp = stamp_of c.args.who.now (g.C.Clock.last c.stamped.new.clock) in
+    let x = state (g.D.Disk.told (disk_in db)) (g.E.Executor.held (engine_in db)) db in
+    let job = job_of c.args.printing in
+    ended_room c.args.asked.options.dialect (job_calls job (given_at c.args.asked stamp)) x c.in_memory.result c.print_on.result c.in_memory.ensures.ended
+    (room_so job c.args.asked stamp given (given_is given c.args.asked stamp made.given.0 made.given.1 made.stamp) x c.print_on.result c.print_on.ensures.room)
 
 pub returns-in-Ok-clause-whole : goal.returns-in-Ok-clause-whole
 returns-in-Ok-clause-whole g c = λ told.

@@ -4,6 +4,7 @@ use Rattle.lq_drill.specs.Drill.{FailsBy}
 use Rattle.lq_players.specs.AnyCommand.{command_stands}
 use Rattle.lq_players.specs.Answers.{failure_of}
 use Rattle.lq_players.specs.Drilling.{works}
+use Rattle.lq_top.proofs.DrillAnswers.{fault_answers, told_answers}
 use Rattle.lq_top.proofs.DrillPlayed.{disk_fault, fault_full, fault_kind, played_ends, played_kind, tells_no_disk, tells_not_full}
 use Rattle.lq_top.proofs.drilling.play.Goals as goal
 use Rattle.lq_top.specs.Players.{PlayEnds}
@@ -18,6 +19,7 @@ returns-in-Ok-clause-plays g c =
       kind = played_kind c.args.cast.commands c.deref.result.now c.tell.result c.tell.ensures.done c.tell.ensures.no_memory;
       met = ran.ensures.met;
       ends = subst (λ last. PlayEnds c.args.cast.commands last (g.S.Store.state ran.new.store) c.tell.result) c.deref.ensures.value (played_ends c.args.cast.commands c.deref.result.now (g.S.Store.state ran.new.store) c.tell.result (c.in-Ok.ensures.live refl) c.tell.ensures.done);
+      answered = told_answers ran.new.players.items c.tell.result c.tell.ensures.no_memory c.in-Ok.ensures.ends;
       clean = ran.ensures.clean;
       until = ran.ensures.until;
       crash = ran.ensures.crash;
@@ -40,6 +42,7 @@ returns-in-Err-clause-plays g c =
       kind = fault_kind c.in-Err.fault c.drill_status.result c.drill_status.ensures;
       met = ran.ensures.met;
       ends = tt;
+      answered = fault_answers ran.new.players.items c.in-Err.fault c.drill_status.result c.drill_status.ensures c.in-Err.ensures.ends;
       clean = ran.ensures.clean;
       until = ran.ensures.until;
       crash = ran.ensures.crash;

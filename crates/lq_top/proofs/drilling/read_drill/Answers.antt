@@ -1,4 +1,4 @@
-use Rattle.std.proofs.Common.{ap, subst, sym, ◌∙◌}
+use Rattle.std.proofs.Common.{subst, sym}
 use Rattle.std.specs.Prelude.{Err}
 use Rattle.lq_lines.specs.File.{lines_of}
 use Rattle.lq_top.proofs.DrillFiles.{finds_fault, finds_same, then_fault, then_ok}

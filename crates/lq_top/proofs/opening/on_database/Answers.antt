@@ -43,7 +43,7 @@ returns-in-Ok-clause-worked g c =
     (subst (λ d. IsNew d most_bytes db) same c.requires.new)
     (given_ready given c.args.asked made.given.0 made.given.1 (state (g.D.Disk.told (disk_in db)) (g.E.Executor.held (engine_in db)) db) c.requires.ready)
     (subst (λ d. IfSome (g.D.Disk.told (disk_in db)) (λ bytes. catalogue_of d most_bytes bytes ≡ Ok (kept (g.E.Executor.held (engine_in db))))) same c.requires.catalogue)
-    c.args.command.now ran.result ran.ensures.answers ran.ensures.refused ran.ensures.works ran.ensures.any_moment ran.ensures.tells ran.ensures.later ran.ensures.disk))
+    c.args.command.now ran.result ran.ensures.answers ran.ensures.refused ran.ensures.reads ran.ensures.works ran.ensures.any_moment ran.ensures.tells ran.ensures.later ran.ensures.disk))
 
 pub returns-in-Err-clause-worked : goal.returns-in-Err-clause-worked
 returns-in-Err-clause-worked g c =

@@ -2,6 +2,8 @@ use Rattle.lq_commands.proofs.PlainRefusals.{refusal_plain}
 use Rattle.lq_commands.specs.Refusals.{refusal}
 use Rattle.lq_commands.specs.Scripts.{script}
 use Rattle.lq_top.proofs.RefusedKinds.{answers_ends}
+use Rattle.lq_top.proofs.SoakEnds.{fails_undone}
+use Rattle.lq_top.proofs.SoakRuns.{done_leaves}
 use Rattle.lq_top.proofs.Soaked.{done_lives, end_passes, refusal_passes}
 use Rattle.lq_top.proofs.soak.done_on.Goals as goal
 
@@ -10,6 +12,11 @@ returns-in-Ok-clause-live g c =
     let on = c.requires.ready in
     done_lives c.args.given.options.dialect (script c.args.command.now c.args.given on.database) on.database (g.S.Store.state c.args.store.now) (g.S.Store.state c.run_command.new.store) c.in-Ok.done c.unless_done.result
     (c.in-Ok.ensures.works on.database on.has) c.unless_done.ensures.ok
+
+pub returns-in-Ok-clause-leaves : goal.returns-in-Ok-clause-leaves
+returns-in-Ok-clause-leaves g c =
+    done_leaves c.args.given.options.dialect (λ database. script c.args.command.now c.args.given database) (g.S.Store.state c.args.store.now) (g.S.Store.state c.run_command.new.store) c.in-Ok.done c.unless_done.result
+    c.in-Ok.ensures.works c.unless_done.ensures.ok
 
 pub returns-in-Ok-clause-stops : goal.returns-in-Ok-clause-stops
 returns-in-Ok-clause-stops g c =
@@ -20,3 +27,8 @@ pub returns-in-Err-clause-stops : goal.returns-in-Err-clause-stops
 returns-in-Err-clause-stops g c =
     let on = c.requires.ready in
     refusal_passes (refusal c.args.command.now c.args.given on.database) c.in-Err.status c.copy_status.result (refusal_plain c.args.given c.args.command.now on.database) (c.in-Err.ensures.answers on.database on.has) c.copy_status.ensures
+
+pub returns-in-Err-clause-undone : goal.returns-in-Err-clause-undone
+returns-in-Err-clause-undone g c =
+    let on = c.requires.ready in
+    fails_undone c.args.command.now c.args.given on.database c.in-Err.status c.copy_status.result (c.in-Err.ensures.answers on.database on.has) c.copy_status.ensures

@@ -5,9 +5,13 @@ use Rattle.lq_cli.specs.Line.{line_of}
 use Rattle.lq_commands.specs.Stamp.{stamp_of}
 use Rattle.lq_tell.specs.declared.status.Status.TheVariants as status
 use Rattle.lq_top.proofs.Alone.{takes_steps}
+use Rattle.lq_top.proofs.DamagedFiles.{spares_damage}
 use Rattle.lq_top.proofs.DrillRuns.{ends_formless, runs_drill, settled_as}
+use Rattle.lq_top.proofs.Logged.{has_warned}
+use Rattle.lq_top.proofs.OpensAgain.{crash_opens}
 use Rattle.lq_top.proofs.Resumed.{crash_marked, has_gone_on_back, has_resumed, leaves_marked}
 use Rattle.lq_top.proofs.Said.{has_said, said_in_part, succeeds}
+use Rattle.lq_top.proofs.SoakSays.{says_soak}
 use Rattle.lq_top.proofs.Written.{IsWritten, cause, ends_unread, gone_back, has_run, has_synced, has_updated, is_logged, is_logged_part, no_files_left, no_words, tag_so, tells_damage, was_over, written_fault}
 use Rattle.lq_top.proofs.top.run.Goals as goal
 use Rattle.lq_top.specs.Asks.{asked_tag}
@@ -43,6 +47,11 @@ returns-clause-damaged g c =
     let by : IsWritten c.work-disk.result.done c.tell-status.result = record { kind = c.work-disk.ensures.kind; ended = c.tell-status.ensures.status; cut = c.tell-status.ensures.cut; had = c.tell-status.ensures.had } in
     λ line is. tells_damage line.options.dialect (g.D.Disk.told c.args.disk) c.work-disk.result.done c.tell-status.result by (c.work-disk.ensures.damaged line is)
 
+pub returns-clause-damaged_only : goal.returns-clause-damaged_only
+returns-clause-damaged_only g c =
+    let by : IsWritten c.work-disk.result.done c.tell-status.result = record { kind = c.work-disk.ensures.kind; ended = c.tell-status.ensures.status; cut = c.tell-status.ensures.cut; had = c.tell-status.ensures.had } in
+    λ line place is beside damaged. spares_damage place (g.D.Disk.told c.args.disk) c.work-disk.result.done (g.D.Disk.told c.work-disk.result.disk) c.tell-status.result by (c.work-disk.ensures.damaged_only line place is beside damaged)
+
 pub returns-clause-disk : goal.returns-clause-disk
 returns-clause-disk g c =
     let by : IsWritten c.work-disk.result.done c.tell-status.result = record { kind = c.work-disk.ensures.kind; ended = c.tell-status.ensures.status; cut = c.tell-status.ensures.cut; had = c.tell-status.ensures.had } in
@@ -64,6 +73,9 @@ returns-clause-untouched g c =
 
 pub returns-clause-any_moment : goal.returns-clause-any_moment
 returns-clause-any_moment g c = λ asks. c.work-disk.ensures.any_moment asks
+
+pub returns-clause-opens_at_crash : goal.returns-clause-opens_at_crash
+returns-clause-opens_at_crash g c = λ asks read bytes. crash_opens asks (stamp_of c.args.who.now (g.C.Clock.last c.work-disk.new.clock)) (g.D.Disk.told c.args.disk) read bytes
 
 pub returns-clause-safe : goal.returns-clause-safe
 returns-clause-safe g c =
@@ -89,6 +101,13 @@ pub returns-clause-logged : goal.returns-clause-logged
 returns-clause-logged g c =
     let by : IsWritten c.work-disk.result.done c.tell-status.result = record { kind = c.work-disk.ensures.kind; ended = c.tell-status.ensures.status; cut = c.tell-status.ensures.cut; had = c.tell-status.ensures.had } in
     λ sound. is_logged (option_copied c.text_of.result) (asked_tag (line_of (map (λ word. string_bytes word) c.args.words.now))) c.work-disk.result.done c.tell-status.result (g.L.Sink.told c.args.log.now) (g.L.Sink.told c.tell-status.new.log) by
+    (tag_so (option_copied c.text_of.result) c.work-disk.result.tag _ c.text_of.ensures c.work-disk.ensures.tag) (c.tell-status.ensures.logged sound)
+
+pub returns-clause-warns : goal.returns-clause-warns
+returns-clause-warns g c =
+    let by : IsWritten c.work-disk.result.done c.tell-status.result = record { kind = c.work-disk.ensures.kind; ended = c.tell-status.ensures.status; cut = c.tell-status.ensures.cut; had = c.tell-status.ensures.had } in
+    λ asks sound. has_warned asks (stamp_of c.args.who.now (g.C.Clock.last c.work-disk.new.clock)) (g.D.Disk.told c.args.disk) (g.D.Disk.told c.work-disk.result.disk) c.work-disk.result.done c.tell-status.result
+    (option_copied c.text_of.result) (g.L.Sink.told c.args.log.now) (g.L.Sink.told c.tell-status.new.log) by (c.work-disk.ensures.does asks)
     (tag_so (option_copied c.text_of.result) c.work-disk.result.tag _ c.text_of.ensures c.work-disk.ensures.tag) (c.tell-status.ensures.logged sound)
 
 pub returns-clause-says : goal.returns-clause-says
@@ -165,3 +184,9 @@ returns-clause-log_part g c =
     let by : IsWritten c.work-disk.result.done c.tell-status.result = record { kind = c.work-disk.ensures.kind; ended = c.tell-status.ensures.status; cut = c.tell-status.ensures.cut; had = c.tell-status.ensures.had } in
     is_logged_part (option_copied c.text_of.result) (asked_tag (line_of (map (λ word. string_bytes word) c.args.words.now))) c.work-disk.result.done c.tell-status.result (g.L.Sink.told c.args.log.now) (g.L.Sink.told c.tell-status.new.log) by
     (tag_so (option_copied c.text_of.result) c.work-disk.result.tag _ c.text_of.ensures c.work-disk.ensures.tag) c.tell-status.ensures.log_part
+
+pub returns-clause-soaks : goal.returns-clause-soaks
+returns-clause-soaks g c =
+    let by : IsWritten c.work-disk.result.done c.tell-status.result = record { kind = c.work-disk.ensures.kind; ended = c.tell-status.ensures.status; cut = c.tell-status.ensures.cut; had = c.tell-status.ensures.had } in
+    λ line is number sets soak. says_soak line.options.dialect number sets (stamp_of c.args.who.now (g.C.Clock.last c.work-disk.new.clock)) c.work-disk.result.done c.tell-status.result (g.O.Sink.told c.args.out.now) (g.O.Sink.told c.tell-status.new.out) by
+    (c.work-disk.ensures.soaks line is number sets soak) c.tell-status.ensures.whole c.tell-status.ensures.part

@@ -4,9 +4,10 @@ use Rattle.lq_base.specs.Character.{char_count}
 use Rattle.lq_commands.specs.Stamp.{stamp_of}
 use Rattle.lq_top.proofs.Loading.{soak_damage, soak_disk, soak_kind}
 use Rattle.lq_top.proofs.OnDatabases.{aside_worked}
+use Rattle.lq_top.proofs.SoakSays.{no_soak, soak_tells}
 use Rattle.lq_top.proofs.work.on_job.Goals as goal
 use Rattle.lq_top.specs.Bytes.{given_at}
-use Rattle.lq_top.specs.Jobs.{is_command, is_on_file, job_tag}
+use Rattle.lq_top.specs.Jobs.{is_apart, is_command, is_on_file, job_tag}
 use Rattle.lq_top.specs.Worked.{WorkedOn}
 
 pub on_disk-requires-clause-tag : goal.on_disk-requires-clause-tag
@@ -36,8 +37,21 @@ pub returns-in-Soak-clause-worked : goal.returns-in-Soak-clause-worked
 returns-in-Soak-clause-worked g c =
     let done = c.soak-done.result in
     let refuses = c.soak-done.ensures.refuses in
-    aside_worked g.D.Disk.told g.D.Disk.faults g.D.Disk.crashes c.args.job.now (given_at c.args.asked (stamp_of c.args.who.now (g.C.Clock.last c.soak-done.new.clock))) c.args.disk done (ap is_on_file c.in-Soak.is) (ap is_command c.in-Soak.is)
+    aside_worked g.D.Disk.told g.D.Disk.faults g.D.Disk.crashes c.args.job.now (given_at c.args.asked (stamp_of c.args.who.now (g.C.Clock.last c.soak-done.new.clock))) c.args.disk done (ap is_on_file c.in-Soak.is) (ap is_apart c.in-Soak.is) (ap is_command c.in-Soak.is)
     (soak_damage c.args.asked.options.dialect (g.D.Disk.told c.args.disk) done refuses) (soak_kind done refuses) (soak_disk done refuses)
 
 pub returns-in-Soak-clause-once : goal.returns-in-Soak-clause-once
 returns-in-Soak-clause-once g c = inr c.soak-done.ensures.once
+
+pub returns-in-Run-clause-soaks : goal.returns-in-Run-clause-soaks
+returns-in-Run-clause-soaks g c = no_soak c.args.job.now c.args.asked.options.dialect (stamp_of c.args.who.now (g.C.Clock.last c.on_disk.new.clock)) c.on_disk.result.done (ap is_apart c.in-Run.is)
+
+pub returns-in-UpdateSql-clause-soaks : goal.returns-in-UpdateSql-clause-soaks
+returns-in-UpdateSql-clause-soaks g c = no_soak c.args.job.now c.args.asked.options.dialect (stamp_of c.args.who.now (g.C.Clock.last c.printed.new.clock)) c.printed.result.done (ap is_apart c.in-UpdateSql.is)
+
+pub returns-in-RollbackSql-clause-soaks : goal.returns-in-RollbackSql-clause-soaks
+returns-in-RollbackSql-clause-soaks g c = no_soak c.args.job.now c.args.asked.options.dialect (stamp_of c.args.who.now (g.C.Clock.last c.printed-in-RollbackSql.new.clock)) c.printed-in-RollbackSql.result.done (ap is_apart c.in-RollbackSql.is)
+
+pub returns-in-Soak-clause-soaks : goal.returns-in-Soak-clause-soaks
+returns-in-Soak-clause-soaks g c =
+    soak_tells c.args.job.now c.in-Soak.number c.in-Soak.sets c.args.asked.options.dialect (stamp_of c.args.who.now (g.C.Clock.last c.soak-done.new.clock)) c.soak-done.result c.in-Soak.is c.soak-done.ensures.tells

@@ -16,6 +16,7 @@ returns g c =
           (λ source. ap (λ (given : List (List ℕ × List ℕ)). loaded source line.options.dialect given line.root) c.as_slice.ensures ∙ sym (other_given line.job source line plain)) line.job line.options
           (stamp_of c.args.who.now (g.C.Clock.last ran.new.clock)) c.args.disk ran.result.done ran.result.disk ran.ensures.worked;
       drilled = λ runs is. absurd (c.in_default.not-Drill runs is);
+      soaks = ran.ensures.soaks;
       tag = ran.ensures.tag;
       once = λ plain. ran.ensures.once;
     }

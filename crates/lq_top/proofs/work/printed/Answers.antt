@@ -1,4 +1,5 @@
 use Rattle.lq_commands.specs.Stamp.{stamp_of}
+use Rattle.lq_top.proofs.DamagedFiles.{spares_by}
 use Rattle.lq_top.proofs.LeftOnFile.{since_read}
 use Rattle.lq_top.proofs.Unchanged.{printed_does, prints_no_command, prints_on_file}
 use Rattle.lq_top.proofs.work.printed.Goals as goal
@@ -14,6 +15,7 @@ returns-clause-worked g c =
     record {
       used = record {
         damaged = ran.ensures.damaged;
+        spares = λ beside place damaged. spares_by place told ran.result (g.D.Disk.told ran.new.disk) (ran.ensures.fails place damaged) ran.ensures.told;
         safe = λ command finished. prints_no_command c.args.printing command;
         off = λ off. prints_on_file c.args.printing off;
         later = ran.ensures.later;
@@ -21,7 +23,7 @@ returns-clause-worked g c =
       };
       kind = ran.ensures.kind;
       does = λ on database opens.
-          printed_does c.args.printing given database told ran.result (g.D.Disk.told ran.new.disk) opens (ran.ensures.answers database opens) (ran.ensures.tells database opens) ran.ensures.told;
+          printed_does c.args.printing given database told ran.result (g.D.Disk.told ran.new.disk) opens (ran.ensures.answers database opens) (ran.ensures.tells database opens) ran.ensures.room ran.ensures.told;
       any_moment = λ on database opens.
           since_read given.options.dialect (job_script (job_of c.args.printing) given database) database told (g.D.Disk.crashes c.args.disk) (g.met.D.Disk.sound c.args.disk) (g.D.Disk.crashes ran.new.disk) ran.ensures.any_moment;
     }

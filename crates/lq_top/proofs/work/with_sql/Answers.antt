@@ -6,6 +6,7 @@ use Rattle.lq_sources.specs.declared.fault.LoadFault.{LoadFault}
 use Rattle.lq_kinds.specs.declared.change_set.Changelog.{Changelog}
 use Rattle.lq_top.proofs.Handing.{loaded_worked, unloaded_worked}
 use Rattle.lq_top.proofs.Loading.{failing, is_read_fault, no_read_fault}
+use Rattle.lq_top.proofs.SoakSays.{failed_tells}
 use Rattle.lq_top.proofs.work.with_sql.Goals as goal
 use Rattle.lq_top.specs.Asks.{loaded}
 use Rattle.lq_top.specs.Worked.{WorkedBy}
@@ -28,3 +29,6 @@ returns-in-Err-clause-worked g c =
     let stamp = stamp_of c.args.who.now (g.C.Clock.last c.args.clock.now) in
     subst (λ s. WorkedBy g.D.Disk.told g.D.Disk.faults g.D.Disk.crashes files (λ source. loaded source c.args.options.dialect c.args.given.now c.args.root.now) c.args.job.now c.args.options stamp c.args.disk (failing s) c.args.disk) (sym c.file_status.ensures)
     (unloaded_worked g.D.Disk.told g.D.Disk.faults g.D.Disk.crashes files (λ source. loaded source c.args.options.dialect c.args.given.now c.args.root.now) c.args.job.now c.args.options stamp c.args.disk c.in-Err.fault c.in-Err.ensures.loaded)
+
+pub returns-in-Err-clause-soaks : goal.returns-in-Err-clause-soaks
+returns-in-Err-clause-soaks g c = failed_tells c.args.job.now c.args.options.dialect (stamp_of c.args.who.now (g.C.Clock.last c.args.clock.now)) c.in-Err.fault c.file_status.result c.file_status.ensures

@@ -1,5 +1,5 @@
 use Rattle.std.proofs.Common.{ap, inl, inr, refl, subst, sym, ◌∙◌}
-use Rattle.std.specs.Prelude.{Err, List, None, Ok, Result, Some, false, length, map, string_bytes, true, ℕ, ◌≡◌}
+use Rattle.std.specs.Prelude.{Err, List, None, Ok, Result, Some, false, map, string_bytes, true, ℕ, ◌≡◌}
 use Rattle.lq_cli.specs.declared.line.Job.TheVariants.{Drill}
 use Rattle.lq_cli.specs.declared.line.Line.{Line}
 use Rattle.lq_commands.specs.Stamp.{stamp_of}
@@ -10,18 +10,22 @@ use Rattle.lq_tell.specs.Texts.{status_done}
 use Rattle.lq_tell.specs.declared.done.Done.{Done}
 use Rattle.lq_tell.specs.declared.status.Status.{Status}
 use Rattle.lq_tell.specs.declared.status.Status.TheVariants as status
+use Rattle.lq_top.proofs.DamagedFiles.{memory_spares}
 use Rattle.lq_top.proofs.DrillIdle.{unused_drill}
 use Rattle.lq_top.proofs.DrillLines.{by_job, drill_given, fault_given, fault_there}
 use Rattle.lq_top.proofs.Handing.{line_crashes, unused_crashes}
 use Rattle.lq_top.proofs.Loading.{false_true, is_failed, is_usage, line_does, line_fails, memory_no_changelog, no_line, no_usage, not_less, of_line_is, other, refused_kind, refused_whole, words_kind}
 use Rattle.lq_top.proofs.Readings.{at_most_once, unread}
 use Rattle.lq_top.proofs.ShortTag.{short_tag}
+use Rattle.lq_top.proofs.SoakSays.{refused_tells}
 use Rattle.lq_top.proofs.work.work.Goals as goal
 use Rattle.lq_top.specs.Asks.{asked_tag, asks_drill, given_to}
-use Rattle.lq_top.specs.Bytes.{TellsDamage}
+use Rattle.lq_top.specs.Bytes.{IsDamagedAt, TellsDamage}
 use Rattle.lq_top.specs.Drilled.{DoesDrill, IsFormless, IsSettled}
 use Rattle.lq_top.specs.Drills.{drill_of}
 use Rattle.lq_top.specs.Jobs.{is_apart, is_command, is_on_file}
+use Rattle.lq_top.specs.Worked.{Spares}
+use Rattle.lq_top.specs.Soaked.{TellsSoakOf}
 use Rattle.lq_top.specs.declared.drilling.Drilling.{Drilling}
 
 pub on_line-requires : goal.on_line-requires
@@ -78,6 +82,11 @@ pub returns-in-Ok-clause-damaged : goal.returns-in-Ok-clause-damaged
 returns-in-Ok-clause-damaged g c = λ line is_line. of_line_is (map (λ word. string_bytes word) c.args.words.now) (g.F.Files.told c.args.files.now) c.in-Ok.line c.in-Ok.ensures.line (λ (l : Line). TellsDamage l.options.dialect (g.D.Disk.told c.args.disk) c.on_line.result.done)
     (by_job c.in-Ok.line.job (λ no. (c.on_line.ensures.worked no).used.damaged) (λ runs drill. (c.on_line.ensures.drilled runs drill).used.damaged)) line is_line
 
+pub returns-in-Ok-clause-damaged_only : goal.returns-in-Ok-clause-damaged_only
+returns-in-Ok-clause-damaged_only g c = λ line place is_line. of_line_is (map (λ word. string_bytes word) c.args.words.now) (g.F.Files.told c.args.files.now) c.in-Ok.line c.in-Ok.ensures.line
+    (λ (l : Line). is_apart l.job ≡ false → IsDamagedAt l.options.dialect (g.D.Disk.told c.args.disk) place → Spares place (g.D.Disk.told c.args.disk) c.on_line.result.done (g.D.Disk.told c.on_line.result.disk))
+    (by_job c.in-Ok.line.job (λ no beside. (c.on_line.ensures.worked no).used.spares beside place) (λ runs drill beside. (c.on_line.ensures.drilled runs drill).used.spares refl place)) line is_line
+
 pub returns-in-Ok-clause-off : goal.returns-in-Ok-clause-off
 returns-in-Ok-clause-off g c = λ line is_line. of_line_is (map (λ word. string_bytes word) c.args.words.now) (g.F.Files.told c.args.files.now) c.in-Ok.line c.in-Ok.ensures.line (λ (l : Line). is_apart l.job ≡ true → c.on_line.result.disk ≡ c.args.disk)
     (by_job c.in-Ok.line.job (λ no. (c.on_line.ensures.worked no).used.off) (λ runs drill off. absurd (false_true (sym (ap is_apart drill) ∙ off)))) line is_line
@@ -114,6 +123,9 @@ returns-in-Err-Usage-clause-safe g c = λ asks. no_line (map (λ word. string_by
 
 pub returns-in-Err-Usage-clause-damaged : goal.returns-in-Err-Usage-clause-damaged
 returns-in-Err-Usage-clause-damaged g c = λ line is_line. refused_whole line.options.dialect (g.D.Disk.told c.args.disk) c.refused.result.done status.Usage c.refused.ensures.done tt
+
+pub returns-in-Err-Usage-clause-damaged_only : goal.returns-in-Err-Usage-clause-damaged_only
+returns-in-Err-Usage-clause-damaged_only g c = λ line place is_line. no_line (map (λ word. string_bytes word) c.args.words.now) line (c.in-Err-Usage.ensures.usage c.in-Err-Usage.field-0-is) is_line
 
 pub returns-in-Err-Usage-clause-tag : goal.returns-in-Err-Usage-clause-tag
 returns-in-Err-Usage-clause-tag g c = inl (c.refused.ensures.tag ∙ sym (ap asked_tag (c.in-Err-Usage.ensures.usage c.in-Err-Usage.field-0-is)))
@@ -154,6 +166,11 @@ returns-in-Err-OutOfMemory-clause-safe g c = λ asks command finished. absurd (f
 
 pub returns-in-Err-OutOfMemory-clause-damaged : goal.returns-in-Err-OutOfMemory-clause-damaged
 returns-in-Err-OutOfMemory-clause-damaged g c = λ line is_line. refused_whole line.options.dialect (g.D.Disk.told c.args.disk) c.refused-in-Err-OutOfMemory.result.done status.OutOfMemory c.refused-in-Err-OutOfMemory.ensures.done tt
+
+pub returns-in-Err-OutOfMemory-clause-damaged_only : goal.returns-in-Err-OutOfMemory-clause-damaged_only
+returns-in-Err-OutOfMemory-clause-damaged_only g c = λ line place is_line beside damaged.
+    let ran = c.refused-in-Err-OutOfMemory in
+    memory_spares place (g.D.Disk.told c.args.disk) ran.result.done (g.D.Disk.told ran.result.disk) status.OutOfMemory refl ran.ensures.done (ap g.D.Disk.told ran.ensures.disk)
 
 pub returns-in-Err-OutOfMemory-clause-tag : goal.returns-in-Err-OutOfMemory-clause-tag
 returns-in-Err-OutOfMemory-clause-tag g c = inr c.refused-in-Err-OutOfMemory.ensures.done
@@ -217,3 +234,14 @@ returns-in-Err-OutOfMemory-clause-drills g c = λ asks.
 
 pub returns-in-Err-OutOfMemory-clause-settled : goal.returns-in-Err-OutOfMemory-clause-settled
 returns-in-Err-OutOfMemory-clause-settled g c = λ asks. subst (λ r. IsSettled g.D.Disk.told g.D.Disk.faults g.D.Disk.crashes r c.refused-in-Err-OutOfMemory.result.disk) (sym c.refused-in-Err-OutOfMemory.ensures.done) tt
+
+pub returns-in-Ok-clause-soaks : goal.returns-in-Ok-clause-soaks
+returns-in-Ok-clause-soaks g c = λ line is_line. of_line_is (map (λ word. string_bytes word) c.args.words.now) (g.F.Files.told c.args.files.now) c.in-Ok.line c.in-Ok.ensures.line
+    (λ (l : Line). TellsSoakOf l.job l.options.dialect (stamp_of c.args.who.now (g.C.Clock.last c.on_line.new.clock)) c.on_line.result.done) c.on_line.ensures.soaks line is_line
+
+pub returns-in-Err-Usage-clause-soaks : goal.returns-in-Err-Usage-clause-soaks
+returns-in-Err-Usage-clause-soaks g c = λ line is_line. no_line (map (λ word. string_bytes word) c.args.words.now) line (c.in-Err-Usage.ensures.usage c.in-Err-Usage.field-0-is) is_line
+
+pub returns-in-Err-OutOfMemory-clause-soaks : goal.returns-in-Err-OutOfMemory-clause-soaks
+returns-in-Err-OutOfMemory-clause-soaks g c = λ line is_line.
+    refused_tells line.job line.options.dialect (stamp_of c.args.who.now (g.C.Clock.last c.args.clock.now)) c.refused-in-Err-OutOfMemory.result.done c.refused-in-Err-OutOfMemory.ensures.done

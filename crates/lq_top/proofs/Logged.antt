@@ -1,0 +1,145 @@
+-- Which warnings stand in the log of a command that came to its end.
+use Rattle.std.proofs.Common.{ap, inl, inr, refl, sym, ◌∙◌}
+use Rattle.std.specs.List.{flat_map}
+use Rattle.std.specs.Option.{option_map}
+use Rattle.std.specs.Prelude.{Bool, Err, List, Ok, Option, Result, Some, [], false, if◌then◌else◌, true, ℕ, ◌++◌, ◌≡◌, ◌⊎◌}
+use Rattle.lq_base.specs.declared.command.Command.TheVariants as command
+use Rattle.lq_base.specs.declared.command.Target.{Target}
+use Rattle.lq_cli.specs.Line.{line_of}
+use Rattle.lq_cli.specs.declared.line.Job.{Job}
+use Rattle.lq_cli.specs.declared.line.Job.TheVariants.{Drill, RollbackSql, Run, Soak, UpdateSql}
+use Rattle.lq_commands.proofs.Warned.{back_quiet}
+use Rattle.lq_commands.specs.Inserts.{TellsSync, synced_in}
+use Rattle.lq_commands.specs.Outputs.{TellsJob, TellsText, at_once_text, back_in, released_text}
+use Rattle.lq_commands.specs.Refusals.{if_halts, invalid, own_halt, unready}
+use Rattle.lq_commands.specs.Scripts.{log_in, sets_in, updated_in}
+use Rattle.lq_commands.specs.Tells.{TellsRollback, TellsUpdate}
+use Rattle.lq_commands.specs.Works.{is_finished}
+use Rattle.lq_commands.specs.declared.given.Given.{Given}
+use Rattle.lq_report.specs.Output.{tagged_text, validated_text}
+use Rattle.lq_seen.specs.View.{any_meaning}
+use Rattle.lq_tell.specs.Lines.{status_lines, warning_line, warning_lines}
+use Rattle.lq_tell.specs.Log.{log_text, stands_alone, warnings_of}
+use Rattle.lq_tell.specs.Texts.{status_done}
+use Rattle.lq_tell.specs.declared.done.Done.{Done}
+use Rattle.lq_tell.specs.declared.status.Status.{Status}
+use Rattle.lq_tell.specs.declared.status.Status.TheVariants as status
+use Rattle.lq_track.specs.Database.{Database}
+use Rattle.lq_turns.specs.Contents.{Contents, contents_of}
+use Rattle.lq_turns.specs.Settle.{Settled, all_settled, by_own, own_choice}
+use Rattle.lq_turns.specs.declared.choice.Choice.{Choice}
+use Rattle.lq_turns.specs.declared.choice.Choice.TheVariants as choice
+use Rattle.lq_turns.specs.declared.stamp.Stamp.{Stamp}
+use Rattle.lq_top.proofs.Said.{halted_is}
+use Rattle.lq_top.proofs.Written.{Does, IsWritten, failed_unfinished, false_true, lines_same, none_some, quiet_invalid, quiet_unready, refused_for, was_over}
+use Rattle.lq_top.specs.Asks.{Asks, Files, asked_tag, back_tag}
+use Rattle.lq_top.specs.Jobs.{DoesJob, DoesLine, is_on_file, job_refusal}
+use Rattle.lq_top.specs.Run.{given_by, is_over}
+use Rattle.lq_top.specs.Says.{Warns, job_warnings}
+
+-- warnings stand before the lines of each status of a command that came to its end
+beside_over : (s : Status) → is_over s ≡ true → stands_alone s ≡ false
+beside_over status.Done over = refl
+beside_over status.Usage over = absurd (false_true over)
+beside_over status.ReadFault over = absurd (false_true over)
+beside_over (status.Changelog fault) over = refl
+beside_over (status.Invalid faults) over = refl
+beside_over (status.Locked lock) over = refl
+beside_over (status.Halted place why) over = refl
+beside_over (status.Refused identity statement kept reason) over = refl
+beside_over status.NoTarget over = refl
+beside_over (status.NotReversible identity) over = refl
+beside_over status.DiskFault over = absurd (false_true over)
+beside_over (status.Damaged at) over = refl
+beside_over (status.Full used next) over = refl
+beside_over status.WriteFault over = refl
+beside_over status.OutOfMemory over = absurd (false_true over)
+beside_over (status.Busy session) over = refl
+
+-- an update that the changelog's own precondition halts has none
+
+halted_quiet : (by : Choice) (x : Status) → if_halts by ≡ Some x → (c : Contents) (t : Settled) → (by_own by c t).warned ≡ []
+halted_quiet (choice.Halts why) x is c t = refl
+halted_quiet choice.Passes x is c t = absurd (none_some is)
+halted_quiet choice.Fills x is c t = absurd (none_some is)
+halted_quiet choice.Skips x is c t = absurd (none_some is)
+halted_quiet (choice.Marks what) x is c t = absurd (none_some is)
+halted_quiet (choice.Runs what why) x is c t = absurd (none_some is)
+
+own_quiet : (prints : Bool) (given : Given) (database : Database) (x : Status) → own_halt given database ≡ Some x → [] ≡ flat_map warning_line (updated_in prints given database).settled.warned
+own_quiet prints given database x is =
+    let c = contents_of database in
+    sym (ap (flat_map warning_line) (halted_quiet (own_choice (log_in given) c) x is c (all_settled given.options.dialect any_meaning given.stamp.reading (sets_in given) c)))
+
+-- of each kind of job
+
+module _ (given : Given) (database : Database) (done : Done) where
+  abbrev lines : List ℕ
+  lines = warning_lines done.own done.warned
+
+  update_warned : (prints : Bool) → TellsUpdate prints (updated_in prints given database) done → lines ≡ flat_map warning_line (updated_in prints given database).settled.warned
+  update_warned prints tells = tells.warned
+
+  rollback_warned : (prints : Bool) (target : Target) → TellsRollback prints (back_in prints given target database) done → lines ≡ []
+  rollback_warned prints target tells = tells.warned ∙ ap (flat_map warning_line) (back_quiet prints given database target)
+
+  sync_warned : TellsSync (synced_in given database) done → lines ≡ []
+  sync_warned tells = tells.warned
+
+  text_warned : (text : List ℕ) → TellsText text done → lines ≡ []
+  text_warned text tells = tells.warned
+
+ok_warned : (job : Job) (given : Given) (database : Database) (done : Done) → is_on_file job ≡ true → TellsJob job given database (Ok done) → is_finished done.status ≡ true → warning_lines done.own done.warned ≡ job_warnings job given database
+ok_warned (Run command.Validate) given database done on tells finished = text_warned given database done validated_text (tells finished)
+ok_warned (Run command.Status) given database done on tells finished = text_warned given database done (at_once_text command.Status given database) (tells finished)
+ok_warned (Run command.Update) given database done on tells finished = update_warned given database done false (tells finished)
+ok_warned (Run (command.Tag name)) given database done on tells finished = text_warned given database done (tagged_text name) (tells finished)
+ok_warned (Run (command.Rollback target)) given database done on tells finished = rollback_warned given database done false target (tells finished)
+ok_warned (Run command.Sync) given database done on tells finished = sync_warned given database done (tells finished)
+ok_warned (Run command.Release) given database done on tells finished = text_warned given database done (released_text database.lock) (tells finished)
+ok_warned UpdateSql given database done on tells finished = update_warned given database done true (tells finished)
+ok_warned (RollbackSql target) given database done on tells finished = rollback_warned given database done true target (tells finished)
+ok_warned (Drill path) given database done on tells finished = absurd (false_true on)
+ok_warned (Soak number sets) given database done on tells finished = absurd (false_true on)
+
+err_warned : (job : Job) (given : Given) (database : Database) (x : Status) → job_refusal job given database ≡ Some x → is_finished x ≡ true → [] ≡ job_warnings job given database
+err_warned (Run command.Validate) given database x refused finished = refl
+err_warned (Run command.Status) given database x refused finished = refl
+err_warned (Run command.Update) given database x refused finished =
+    own_quiet false given database x (halted_is (unready given database) (own_halt given database) x (quiet_unready given database) refused finished)
+err_warned (Run (command.Tag name)) given database x refused finished = refl
+err_warned (Run (command.Rollback target)) given database x refused finished = refl
+err_warned (Run command.Sync) given database x refused finished = refl
+err_warned (Run command.Release) given database x refused finished = refl
+err_warned UpdateSql given database x refused finished =
+    own_quiet true given database x (halted_is (invalid given database.rows) (own_halt given database) x (quiet_invalid given database.rows) refused finished)
+err_warned (RollbackSql target) given database x refused finished = refl
+err_warned (Drill path) given database x refused finished = refl
+err_warned (Soak number sets) given database x refused finished = refl
+
+job_warned : (job : Job) (given : Given) (database : Database) (file left : Option (List ℕ)) (done : Result Done Status) → is_on_file job ≡ true → DoesJob job given database file done left → is_finished (status_done done) ≡ true
+    → warnings_of done ≡ job_warnings job given database
+job_warned job given database file left (Ok done) on does finished = ok_warned job given database done on does.tells finished
+job_warned job given database file left (Err x) on does finished = err_warned job given database x (refused_for (job_refusal job given database) x does.answers finished) finished
+
+does_warned : (job : Job) (given : Given) (database : Database) (file left : Option (List ℕ)) (done : Result Done Status) → is_on_file job ≡ true → Does job given database file done left → is_finished (status_done done) ≡ true
+    → warnings_of done ≡ job_warnings job given database
+does_warned job given database file left done on (inl (failed, same)) finished = absurd (failed_unfinished done failed finished)
+does_warned job given database file left done on (inr (read, does)) finished = job_warned job given database file left done on does finished
+
+tag_is : {X : Type 0} (t u a : Option (List ℕ)) → u ≡ a → (t ≡ u) ⊎ X → (t ≡ a) ⊎ X
+tag_is t u a same (inl is) = inl (is ∙ same)
+tag_is t u a same (inr x) = inr x
+
+pub has_warned : {words : List (List ℕ)} {files : Files} (asks : Asks words files) (stamp : Stamp) (file left : Option (List ℕ)) (done : Result Done Status) (s : Status) (tag before after : Option (List ℕ)) → IsWritten done s
+    → DoesLine asks.line.job (given_by asks stamp) file done left → (tag ≡ asked_tag (line_of words)) ⊎ (done ≡ Err status.OutOfMemory) → after ≡ option_map (λ (log : List ℕ). log ++ log_text tag done s) before
+    → Warns asks stamp file s before after
+has_warned {words} asks stamp file left done s tag before after by does tagged is = λ on database opens over.
+    let job = asks.line.job in
+    let given = given_by asks stamp in
+    let warned : warnings_of done ≡ job_warnings job given database = does_warned job given database file left done on (does on database opens) (was_over done s by over) in
+    is
+    ∙ ap (λ (lines : List ℕ). option_map (λ (log : List ℕ). log ++ lines) before)
+    (ap (λ (alone : Bool). (if alone then [] else warnings_of done) ++ status_lines tag s) (beside_over s over)
+    ∙ (ap (λ (lines : List ℕ). lines ++ status_lines tag s) warned
+    ∙ ap (λ (lines : List ℕ). job_warnings job given database ++ lines) (lines_same tag (back_tag job) done s by.ended (tag_is tag (asked_tag (line_of words)) (back_tag job) (ap asked_tag asks.is_line) tagged))))
