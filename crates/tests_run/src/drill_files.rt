@@ -79,6 +79,8 @@ fn a_file_has_at_most_16_mebibytes(rt: HostRuntime) {
     let bytes = vec![in rt.alloc(); b'1'; 16_777_217].expect(&rt, "memory");
     let ran = drilled(&rt, rt.alloc(), &bytes);
     assert_step(&rt, TOO_LONG, &ran);
+    let most = drilled(&rt, rt.alloc(), &bytes[1..]);
+    assert_step(&rt, FORMLESS, &most);
 }
 
 // So many command lines that free the lock, and one step of the last.

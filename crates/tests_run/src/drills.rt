@@ -412,7 +412,7 @@ fn one_after_the_other_is_as_alone(rt: HostRuntime) {
 const ONE_STEP: FileText = ("runs", "update --changelog-file=db/a.json\nsteps\n1\n");
 
 const BAR: By = By {
-    who: "c|i",
+    who: "c|i\n",
     reading: 1000,
 };
 
@@ -422,10 +422,10 @@ fn begun(rt: &impl Abort, alloc: Global) -> Ran {
 }
 
 #[test]
-fn a_name_has_no_bar(rt: HostRuntime) {
+fn a_name_has_no_bar_and_no_control_character(rt: HostRuntime) {
     let ran = begun(&rt, rt.alloc());
     assert_step(&rt, done(DRILL, "1 update: unfinished\n"), &ran);
     let held = run_over(&rt, rt.alloc(), RELEASE, &[], &ran.bytes, NONE);
-    let lock = "lock released: held by c_i#1 since 1970-01-01 00:00:01.000\n";
+    let lock = "lock released: held by c_i_#1 since 1970-01-01 00:00:01.000\n";
     assert_step(&rt, done(RELEASE, lock), &held);
 }

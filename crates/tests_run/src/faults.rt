@@ -1,5 +1,5 @@
 use crate::running::{Failing, FileText, NONE, Step, play, run_over};
-use crate::shop::{BACK_THREE, DRILL, RELEASE, SHOP, UPDATE, UPDATE_MYSQL};
+use crate::shop::{BACK_THREE, DRILL, RELEASE, SHOP, UPDATE};
 use std::alloc::Global;
 use std::process::Abort;
 
@@ -89,7 +89,11 @@ fn a_disk_that_fails_ends_a_drill(rt: HostRuntime) {
 #[test]
 fn printing_reads_the_disk_alone(rt: HostRuntime) {
     let words = "update-sql --url=postgresql:db --changelog-file=db/a.json";
-    assert_eq!(rt; calls_of(&rt, rt.alloc(), words, b""), 2);
-    let ran = run_over(&rt, rt.alloc(), UPDATE_MYSQL, &FILES, b"", NONE);
-    assert_eq!(rt; ran.code, 0);
+    let first = run_over(&rt, rt.alloc(), UPDATE, &FILES, b"", NONE);
+    assert_eq!(rt; calls_of(&rt, rt.alloc(), words, &first.bytes), 2);
+    for disk in 1..4 {
+        let failing = Failing { disk, ..NONE };
+        let ran = run_over(&rt, rt.alloc(), words, &FILES, &first.bytes, failing);
+        assert!(rt; ran.bytes == first.bytes);
+    }
 }

@@ -66,7 +66,7 @@ const ONE_BACK: End = (
 
 const NONE_BACK: End = (0, "rollback: 0 rolled back\n", "");
 
-// The entries: the lock, one for each row that is unand the lock freed.
+// The entries: the lock, one for each row that is undone, and the lock freed.
 const BACK_LEFT: &[Left] = &[
     (FREE, BOTH_BACK),
     (HELD, BOTH_BACK),

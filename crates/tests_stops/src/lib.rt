@@ -12,7 +12,6 @@ mod journal;
 #[cfg(test)]
 mod places;
 #[cfg(test)]
-#[cfg(test)]
 mod running;
 #[cfg(test)]
 mod shop;
