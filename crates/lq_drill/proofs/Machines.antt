@@ -1,7 +1,6 @@
 -- What a runner's step makes of the machine, and what it leaves to the others.
 use Rattle.std.proofs.Common.{ap, arith, inl, inr, subst, sym, ◌∙◌}
 use Rattle.std.proofs.lemmas.Bool.Decides.{nat_tests}
-use Rattle.std.proofs.lemmas.List.{append-nil}
 use Rattle.std.specs.List.{list_any}
 use Rattle.std.specs.Prelude.{Bool, List, None, Option, Some, [], false, if◌then◌else◌, is_some, nat_eq, refl, true, ℕ, ◌&&◌, ◌++◌, ◌||◌, ◌∷◌, ◌≡◌, ◌⊎◌}
 use Rattle.lq_base.specs.declared.dialect.Dialect.{Dialect}
@@ -9,10 +8,9 @@ use Rattle.lq_base.specs.declared.tracking.Lock.{Lock}
 use Rattle.lq_drill.specs.Faults.{Falls, Steps, answer_of, gives_up, held_by, last_calls}
 use Rattle.lq_drill.specs.declared.fault.DrillFault.{DrillFault}
 use Rattle.lq_track.specs.Database.{Database}
-use Rattle.lq_turns.specs.Schedule.{Holder, Job, Machine, all_moved, answers_with, appended, begins, first_step, has_answered, has_begun, later_step, makes, moved}
+use Rattle.lq_turns.specs.Schedule.{Holder, Job, Machine, all_moved, answers_with, begins, first_step, has_answered, has_begun, later_step, makes, moved}
 use Rattle.lq_turns.specs.Session.{Session, called, session_on}
 use Rattle.lq_turns.specs.declared.call.Call.{Call}
-use Rattle.lq_turns.specs.declared.deed.Deed.{Deed}
 
 same_number : (a b : ℕ) → nat_eq a b ≡ true → a ≡ b
 same_number a b is = grind (arith, nat_tests, is)
@@ -210,18 +208,6 @@ module _ (Answer : Type 0) (locked : Lock → Answer) (busy : ℕ → Answer) wh
       by_moved : P (moved Answer locked busy d jobs n x)
       by_moved = by_moves (has_answered Answer locked busy n x)
 
-    -- entries are only appended
-
-    abbrev pub GrowsTo : Runs → Runs → Type 0
-    GrowsTo x y = (more : List (List Deed)) × (y.entries ≡ x.entries ++ more)
-
-    grows_made : (n : ℕ) (x : Runs) (session : Session) (call : Call) (rest : List Call) (a : Answer) → GrowsTo x (makes Answer locked busy d jobs n session (call ∷ rest) a x)
-    grows_made n x session call [] a = (appended d call session, refl)
-    grows_made n x session call (next ∷ rest) a = (appended d call session, refl)
-
-    pub moved_grows : (n : ℕ) (x : Runs) → GrowsTo x (moved Answer locked busy d jobs n x)
-    moved_grows n x = by_moved n x (GrowsTo x) ([], sym (append-nil x.entries)) (λ a. ([], sym (append-nil x.entries))) (grows_made n x)
-
     -- the holder has begun, and its session stands on what is committed
 
     abbrev IsSoundWith : Option (Holder Answer locked busy) → Database → List ℕ → Type 0
@@ -241,25 +227,9 @@ module _ (Answer : Type 0) (locked : Lock → Answer) (busy : ℕ → Answer) wh
     pub moved_sound : (n : ℕ) (x : Runs) → IsSound x → IsSound (moved Answer locked busy d jobs n x)
     moved_sound n x sound = by_moved n x IsSound sound (λ a. sound) (sound_made n x)
 
-    -- an answer stays
-    pub moved_keeps : (n m : ℕ) (a : Answer) (x : Runs) → answer_of m x.answers ≡ Some a → answer_of m (moved Answer locked busy d jobs n x).answers ≡ Some a
-    moved_keeps n m a x there = by (nat_eq n m) refl where
-      by : (b : Bool) → nat_eq n m ≡ b → answer_of m (moved Answer locked busy d jobs n x).answers ≡ Some a
-      by true same =
-          let here : answer_of n x.answers ≡ Some a = ap (λ k. answer_of k x.answers) (same_number n m same) ∙ there in
-          ap (λ (y : Runs). answer_of m y.answers) (stays n x (ap is_some here)) ∙ there
-      by false differ = (other_moved m n differ (grind (arith, nat_tests, differ)) d jobs x).answers ∙ there
-
     -- the same of a step in which its runner may have met a fault
 
     module _ (failed : DrillFault → Answer) (met : Type 0) (n : ℕ) (x z : Runs) where
-      pub steps_grow : Steps failed d jobs met n x z → GrowsTo x z
-      steps_grow (inl is) = subst (GrowsTo x) (sym is) (moved_grows n x)
-      steps_grow (inr falls) = elim falls.1.is [
-        | inl is ↦ subst (GrowsTo x) (sym is) ([], sym (append-nil x.entries))
-        | inr is ↦ subst (GrowsTo x) (sym is) (moved_grows n (gives_up failed falls.1.why falls.1.holder x))
-      ]
-
       pub gives_up_sound : (why : DrillFault) (h : Holder Answer locked busy) → x.holder ≡ Some h → IsSound x → IsSound (gives_up failed why h x)
       gives_up_sound why h held sound = sound_of x h held sound
 
@@ -272,10 +242,3 @@ module _ (Answer : Type 0) (locked : Lock → Answer) (busy : ℕ → Answer) wh
             | inl is ↦ subst IsSound (sym is) given
             | inr is ↦ subst IsSound (sym is) (moved_sound n (gives_up failed falls.1.why h x) given)
           ]
-
-      pub steps_keep : (m : ℕ) (a : Answer) → Steps failed d jobs met n x z → answer_of m x.answers ≡ Some a → answer_of m z.answers ≡ Some a
-      steps_keep m a (inl is) there = subst (λ (y : Runs). answer_of m y.answers ≡ Some a) (sym is) (moved_keeps n m a x there)
-      steps_keep m a (inr falls) there = elim falls.1.is [
-        | inl is ↦ subst (λ (y : Runs). answer_of m y.answers ≡ Some a) (sym is) there
-        | inr is ↦ subst (λ (y : Runs). answer_of m y.answers ≡ Some a) (sym is) (moved_keeps n m a (gives_up failed falls.1.why falls.1.holder x) there)
-      ]

@@ -64,6 +64,17 @@ module _ {Answer : Type 0} {as_locked : Lock → Answer} {busy : ℕ → Answer}
       Comes met [] x z = x ≡ z
       Comes met (n ∷ ns) x z = IsGoing x × ((y : Machine Answer as_locked busy) × Steps (met n) n x y × Comes met ns y z)
 
+      -- The steps up to that of a runner that met a fault, and gave up, are those of the machine without faults.
+      pub record FallsFirst (met : ℕ → Type 0) (steps : List ℕ) (x z : Machine Answer as_locked busy) : Type 0 where
+        pub front : List ℕ
+        pub next : ℕ
+        pub later : List ℕ
+        pub is : steps ≡ front ++ next ∷ later
+        pub has_met : met next
+        pub given_up : Machine Answer as_locked busy
+        pub falls : Falls next (all_moved Answer as_locked busy d jobs front x) given_up
+        pub goes_on : Comes met later given_up z
+
       -- On the way a runner that does not need the lock made its first call, while one that had met a fault still had it.
       pub record FreesEarly (met : ℕ → Type 0) (steps : List ℕ) (x z : Machine Answer as_locked busy) : Type 0 where
         pub before : List ℕ

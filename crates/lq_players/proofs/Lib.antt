@@ -25,5 +25,5 @@ mod UpdateMakes
 mod OneStepChecked
 mod SyncPlanned
 mod Synced
-mod LoadedTexts
+pub mod LoadedTexts
 mod Drilled

@@ -1,7 +1,7 @@
 ghost use Rattle.std.specs.Prelude.{◌≡◌, ◌≤◌, All, Err, IfErr, IsTrue, None, Ok, length, true, ℕ};
 ghost use Rattle.lq_players.specs.AnyCommand.{IsUnstarted, command_stands};
 ghost use Rattle.lq_players.specs.Drilling.{BeginInTurn, HaveTasks, NoneReleases, works};
-ghost use Rattle.lq_drill.specs.Drill.{Each, EndsAs, FailsBy, HasFaulted, IsDrilled, IsDrilledUntil, IsFaultless, IsSerialDrill, LeftAtEnd, LeftInDrill};
+ghost use Rattle.lq_drill.specs.Drill.{Each, EndsAs, FailsBy, IsDrilled, IsDrilledUntil, IsFaultless, IsSerialDrill, LeftAtEnd, LeftInDrill};
 ghost use Rattle.lq_drill.specs.Player.{HasMet};
 ghost use Rattle.lq_drill.specs.declared.fault.DrillFault.TheVariants as fault;
 ghost use Rattle.lq_kinds.specs.declared.any_change.AnyChange.{AnyChange};
@@ -42,7 +42,7 @@ pub fn drill_commands<S: Store, P: SqlText>(
     ensures clean { (tasks : ℕ → Task AnyChange) (database : Database) → StandsFor (S.state store.old).dialect (S.state store.old).committed database → HaveTasks (S.state store.old).dialect tasks players.old.items
         → Each command_stands IsFaultless players.new.items → IsDrilled command_stands (works (S.state store.old).dialect tasks) (S.state store.old) database steps.now players.new.items (S.state store.new) }
     ensures until { (tasks : ℕ → Task AnyChange) (database : Database) → StandsFor (S.state store.old).dialect (S.state store.old).committed database → HaveTasks (S.state store.old).dialect tasks players.old.items
-        → (number : ℕ) → HasFaulted command_stands players.new.items number → IsDrilledUntil command_stands (works (S.state store.old).dialect tasks) (S.state store.old) database steps.now players.new.items (S.state store.new) }
+        → IsDrilledUntil command_stands (works (S.state store.old).dialect tasks) (S.state store.old) database failure_of steps.now players.new.items (S.state store.new) }
     ensures serial { (tasks : ℕ → Task AnyChange) (database : Database) → StandsFor (S.state store.old).dialect (S.state store.old).committed database → HaveTasks (S.state store.old).dialect tasks players.old.items
         → Each command_stands IsFaultless players.new.items → NoneReleases tasks steps.now → IsSerialDrill command_stands (works (S.state store.old).dialect tasks) (S.state store.old) database steps.now players.new.items (S.state store.new) }
     ensures in_turn { (tasks : ℕ → Task AnyChange) (database : Database) → StandsFor (S.state store.old).dialect (S.state store.old).committed database → HaveTasks (S.state store.old).dialect tasks players.old.items

@@ -5,4 +5,5 @@ pub mod FirstRows
 pub mod Places
 pub mod StaysApart
 pub mod StaysClean
+pub mod StaysGood
 pub mod Unnamed

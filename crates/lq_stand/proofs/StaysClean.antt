@@ -46,9 +46,9 @@ pub clean_is_found : CleanIsFound
 clean_is_found d c database stands clean = ap (is_clean_database d) stands.is ∙ clean
 
 -- a database whose users' objects name no tracking table, and whose rows differ
-record IsFine (x : Database) : Type 0 where
-  unnamed : names_tracking x.users ≡ false
-  differ : has_twin_rows x.rows ≡ false
+pub record IsFine (x : Database) : Type 0 where
+  pub unnamed : names_tracking x.users ≡ false
+  pub differ : has_twin_rows x.rows ≡ false
 
 users_fine : (d : Dialect) (s : Statement) (x now : Database) → done d (Users s) x ≡ Ok now → IsFine x → IsFine now
 users_fine d s x now is fine = by (step User d s x.users) refl is where
@@ -68,7 +68,7 @@ adds_of (Deleted of) rows first = tt
 adds_of (Filled of sum) rows first = tt
 adds_of (Tagged of tag) rows first = tt
 
-deed_fine : (d : Dialect) (deed : Deed) (x now : Database) → deed_is_first deed x ≡ true → done d deed x ≡ Ok now → IsFine x → IsFine now
+pub deed_fine : (d : Dialect) (deed : Deed) (x now : Database) → deed_is_first deed x ≡ true → done d deed x ≡ Ok now → IsFine x → IsFine now
 deed_fine d (Users s) x now first is fine = users_fine d s x now is fine
 deed_fine d (Rows w) x now first is fine = by (rows_after w x.rows) refl is where
   by : (q : Result (List Tracked) Reason) → rows_after w x.rows ≡ q → if_accepted (with_contents x) (if_accepted (λ (rows : List Tracked). record (contents_of x) { rows = rows }) q) ≡ Ok now → IsFine now
@@ -80,13 +80,13 @@ deed_fine d (Locks w) x now first is fine =
     let it : IsFine (with_contents (lock_after w x) (contents_of x)) = record { unnamed = fine.unnamed; differ = fine.differ } in
     subst IsFine (ok_same is) it
 
-fine_of : (d : Dialect) (x : Database) → IsClean d x → IsFine x
+pub fine_of : (d : Dialect) (x : Database) → IsClean d x → IsFine x
 fine_of d x clean = record {
   unnamed = not_is (names_tracking x.users) (and_left (not (names_tracking x.users)) _ (and_right (not (has_twin_rows x.rows)) _ clean));
   differ = not_is (has_twin_rows x.rows) (and_left (not (has_twin_rows x.rows)) _ clean);
 }
 
-clean_of : (d : Dialect) (c : Catalogue) (x : Database) → StandsFor d c x → IsFine x → IsClean d x
+pub clean_of : (d : Dialect) (c : Catalogue) (x : Database) → StandsFor d c x → IsFine x → IsClean d x
 clean_of d c x stands fine = and_true _ _ (ap not fine.differ) (and_true _ _ (ap not fine.unnamed) (ap not (key_free d x.users stands.names)))
 
 module _ (d : Dialect) where

@@ -4,7 +4,7 @@ use Rattle.std.specs.Prelude.{List, None, Option, Some, [], false, if◌then◌e
 use Rattle.lq_base.specs.declared.command.Command.TheVariants.{Release, Rollback, Status, Sync, Tag, Update, Validate}
 use Rattle.lq_base.specs.declared.command.Command.{Command}
 use Rattle.lq_base.specs.declared.dialect.Dialect.{Dialect}
-use Rattle.lq_drill.specs.Faults.{Comes, Steps}
+use Rattle.lq_drill.specs.Faults.{Comes, FallsFirst, Steps}
 use Rattle.lq_kinds.specs.declared.any_change.AnyChange.{AnyChange}
 use Rattle.lq_model.proofs.Lists.{and_left, and_right}
 use Rattle.lq_players.specs.Answers.{failure_of}
@@ -29,6 +29,18 @@ module _ (d : Dialect) (tasks : ℕ → Task AnyChange) where
   pub comes_met : (met said : ℕ → Type 0) → ((n : ℕ) → met n → said n) → (steps : List ℕ) (x z : Commands) → Comes failure_of d (works d tasks) met steps x z → Comes failure_of d (works d tasks) said steps x z
   comes_met met said tell [] x z is = is
   comes_met met said tell (n ∷ steps) x z came = (came.0, (came.1.0, steps_met (met n) (said n) (tell n) n x came.1.0 came.1.1, comes_met met said tell steps came.1.0 z came.1.2))
+
+  pub falls_met : (met said : ℕ → Type 0) → ((n : ℕ) → met n → said n) → (steps : List ℕ) (x z : Commands) → FallsFirst failure_of d (works d tasks) met steps x z → FallsFirst failure_of d (works d tasks) said steps x z
+  falls_met met said tell steps x z it = record {
+    front = it.front;
+    next = it.next;
+    later = it.later;
+    is = it.is;
+    has_met = tell it.next it.has_met;
+    given_up = it.given_up;
+    falls = it.falls;
+    goes_on = comes_met met said tell it.later it.given_up z it.goes_on;
+  }
 
 -- One that makes its first call while another still runs, and does not need the lock, is a release-locks.
 module _ (d : Dialect) (tasks : ℕ → Task AnyChange) (n : ℕ) (x : Commands) where

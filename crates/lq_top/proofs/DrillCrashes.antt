@@ -50,11 +50,6 @@ placed f (y ∷ xs) (suc place) x is = placed f xs place x is
 
 -- a player that met a fault, and its place among those that did
 
-pub fault_there : (players : List AnyCommand) (n : ℕ) → HasFaulted (faults_in players) n → PlayerFaulted command_stands players n
-fault_there players n met =
-    let it = mapped (λ (p : AnyCommand). (command_stands p).faulted) players met.0 true met.2 in
-    record { place = met.0; player = it.0; there = it.1; number = met.1; faulted = sym it.2 }
-
 pub fault_shown : (players : List AnyCommand) (n : ℕ) → PlayerFaulted command_stands players n → HasFaulted (faults_in players) n
 fault_shown players n met = (met.place, met.number, placed (λ (p : AnyCommand). (command_stands p).faulted) players met.place met.player met.there ∙ ap (λ (b : Bool). Some b) met.faulted)
 

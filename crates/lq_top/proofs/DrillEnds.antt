@@ -1,10 +1,11 @@
 -- What a drill did on a database that was loaded, and on the disk that it was loaded from.
 use Rattle.std.proofs.Common.{ap, arith, inl, inr, refl, subst, sym, ◌∙◌}
 use Rattle.std.proofs.lemmas.List.{length-map}
-use Rattle.std.proofs.lemmas.List.Elements.{All-cons, All-head, All-nil, All-tail}
+use Rattle.std.proofs.lemmas.List.Elements.{All-head, All-tail}
 use Rattle.std.specs.List.{All}
 use Rattle.std.specs.Option.{option_map}
 use Rattle.std.specs.Prelude.{Bool, Err, IfSome, List, Ok, Option, Result, Some, [], false, length, slice_get, suc, true, zero, ℕ, ◌++◌, ◌∷◌, ◌≡◌, ◌≤◌, ◌⊎◌}
+use Rattle.lq_back.specs.Laws.{TurnsBackAreSpelled}
 use Rattle.lq_base.specs.declared.command.Command.{Command}
 use Rattle.lq_base.specs.declared.dialect.Dialect.{Dialect}
 use Rattle.lq_commands.proofs.BareName.{clean_no_bar}
@@ -13,10 +14,10 @@ use Rattle.lq_db.specs.Db.{IsDb, IsNew, IsValid, crashes as crashes_of, disk_in,
 use Rattle.lq_db.specs.Load.{IsDbFault, catalogue_of}
 use Rattle.lq_db.specs.Log.{crashes_in, entries_in}
 use Rattle.lq_db.specs.declared.db.Db.{Db}
-use Rattle.lq_drill.specs.Drill.{Each, FailsBy, HasFaulted as PlayerFaulted, IsDrilled, IsDrilledUntil, IsFaultless as HasNoFault, IsSerialDrill, LeftAtEnd, LeftInDrill, MetAt}
-use Rattle.lq_drill.specs.Faults.{Meets}
+use Rattle.lq_drill.specs.Drill.{Each, FailsBy, HasFaulted as PlayerFaulted, IsDrilled, IsDrilledUntil, IsFaultless as HasNoFault, IsSerialDrill, LeftAtEnd, LeftInDrill, MetAt, shut}
+use Rattle.lq_drill.specs.Faults.{FallsFirst, Meets}
 use Rattle.lq_drill.specs.Player.{MayAnswer}
-use Rattle.lq_drill.specs.Shows.{HadRoom, entries_of}
+use Rattle.lq_drill.specs.Shows.{HadRoom, Shows, entries_of}
 use Rattle.lq_drill.specs.declared.fault.DrillFault.TheVariants as fault
 use Rattle.lq_drill.specs.declared.fault.DrillFault.{DrillFault}
 use Rattle.lq_journal.specs.State.{dialect_of, limit_of}
@@ -31,6 +32,8 @@ use Rattle.lq_players.specs.Drilling.{BeginInTurn, HaveTasks, works}
 use Rattle.lq_players.specs.declared.any_command.AnyCommand.{AnyCommand}
 use Rattle.lq_report.specs.Output.{drill_text}
 use Rattle.lq_run.specs.Commands.{HasDatabase}
+use Rattle.lq_stand.proofs.StaysClean.{clean_of, fine_of}
+use Rattle.lq_stand.proofs.StaysGood.{IsGood}
 use Rattle.lq_store.specs.Crashes.{CrashesLeave, Since}
 use Rattle.lq_store.specs.Executor.{Held, kept}
 use Rattle.lq_store.specs.Journal.{Entry, database as catalogue_by}
@@ -41,19 +44,24 @@ use Rattle.lq_tell.specs.declared.status.Status.TheVariants as status
 use Rattle.lq_track.specs.Database.{Database}
 use Rattle.lq_turns.specs.Held.{StandsFor}
 use Rattle.lq_turns.specs.Jobs.{Task}
+use Rattle.lq_turns.specs.Schedule.{start}
 use Rattle.lq_turns.specs.declared.answer.Answer.{Answer}
 use Rattle.lq_turns.specs.declared.answer.Answer.TheVariants as answer
 use Rattle.lq_top.proofs.DamagedFiles.{load_spares, memory_spares, no_damage, spares_after}
 use Rattle.lq_top.proofs.DrillAnswers.{disk_failed, none_failed}
-use Rattle.lq_top.proofs.DrillCrashes.{LeftBy, came_to, crashes_on, crashes_read, drills_after, fault_shown, fault_there, left_there, mapped, placed}
+use Rattle.lq_top.proofs.DrillCame.{falls_met}
+use Rattle.lq_top.proofs.DrillCrashes.{LeftBy, came_to, crashes_on, crashes_read, drills_after, fault_shown, left_there, mapped, placed}
 use Rattle.lq_top.proofs.DrillIdle.{IsUnfilled, idle, not_begun}
 use Rattle.lq_top.proofs.DrillPlayed.{of_drill, played_tells}
 use Rattle.lq_top.proofs.DrillPlayers.{have_tasks}
+use Rattle.lq_top.proofs.DrillScripts.{drill_good}
+use Rattle.lq_top.proofs.DrillStays.{AreGood, all_moved_well, came_well, starts_well}
 use Rattle.lq_top.proofs.OnFiles.{entries_told, entries_were, fault_tells, journal_stays, on_journal, rose_later}
+use Rattle.lq_top.proofs.OpensAgain.{holds_opens, was_clean}
 use Rattle.lq_top.proofs.Ready.{opened}
 use Rattle.lq_top.specs.Bytes.{Holds, Opens, TellsDamage, load_status, most_bytes}
 use Rattle.lq_top.specs.Clock.{ReadInTurn, ReadUpTo}
-use Rattle.lq_top.specs.Drilled.{AnswerAs, AreTasks, CrashesTo, DoesDrill, Drills, EndsFull, GoesAs, GoesUntil, HasFaulted, HoldsMachine, IsFaultless, IsFull, IsLeftInDrill, IsOfDrill, IsSerial, IsSettled, MetFull, Went, WorkedDrill, drilled, machine_after}
+use Rattle.lq_top.specs.Drilled.{AnswerAs, AnswerBefore, AreTasks, Commands, CrashesTo, DoesDrill, Drills, EndsFull, GoesAs, GoesUntil, HasFaulted, HoldsMachine, IsDrill, IsEnding, IsFaultless, IsFull, IsLeftInDrill, IsOfDrill, IsSerial, IsSettled, MetFull, Went, WorkedDrill, drilled, machine_after}
 use Rattle.lq_top.specs.Kinds.{Refuses, is_of_drill}
 use Rattle.lq_top.specs.Players.{ArePlayers, PlayAnswers, PlayEnds, PlayIsFull, Plays, answers_in, faults_in, is_of_play}
 use Rattle.lq_top.specs.declared.drilling.Drilling.{Drilling}
@@ -72,16 +80,6 @@ none_faulted (first ∷ players) all zero player is = subst (λ p. (command_stan
   some_is : Some first ≡ Some player → first ≡ player
   some_is h = Prim.cc
 none_faulted (first ∷ players) all (suc place) player is = none_faulted players (All-tail IsFaultless (command_stands first).faulted (faults_in players) all) place player is
-
--- all are without a fault, or one met one
-none_or_one : (faulted : List Bool) → All IsFaultless faulted ⊎ ((n : ℕ) × HasFaulted faulted n)
-none_or_one [] = inl (All-nil IsFaultless)
-none_or_one (true ∷ faulted) = inr (1, (0, refl, refl))
-none_or_one (false ∷ faulted) =
-    elim (none_or_one faulted) [
-      | inl none ↦ inl (All-cons IsFaultless false faulted refl none)
-      | inr one ↦ inr (suc one.0, (suc one.1.0, ap suc one.1.1, one.1.2))
-    ]
 
 -- a drill on a database that was loaded
 module _ {D P E : Type 0} (d p : Dialect) (told : Option (List ℕ)) (crashes : DiskCrashes) (h : Held) (db : Db D P E) (is : IsDb p told crashes h db) (new : IsNew d most_bytes db)
@@ -120,18 +118,29 @@ module _ {D P E : Type 0} (d p : Dialect) (told : Option (List ℕ)) (crashes : 
         }
 
   module _ (tasks : ℕ → Task AnyChange) (steps : List ℕ) (last : List AnyCommand) where
+    -- the machine that the store shows
+    holds_machine : (to : Commands) → Shows (record x { dialect = d }) y (shut to) → HoldsMachine d to told now
+    holds_machine to shows =
+        let more = entries_of d to.entries in
+        let dialect = shows.dialect ∙ sym has.dialect in
+        record {
+          holds = holds_now more shows.entries dialect shows.limit shows.live to.committed shows.committed;
+          entries = entries_behind more shows.entries dialect shows.limit;
+          room = on_journal d p told crashes h db is new.limit_is bytes told_is now later k left valid database has (λ limit used. HadRoom d limit used to.entries) shows.room;
+        }
+
+    opens_machine : (to : Commands) → Shows (record x { dialect = d }) y (shut to) → IsGood d to.committed → Opens d now to.committed
+    opens_machine to shows good =
+        let holds = (holds_machine to shows).holds in
+        holds_opens d now to.committed holds (clean_of d holds.catalogue to.committed holds.stands good.fine)
+
     -- for commands that met no fault
     module _ (ran : IsDrilled command_stands (works d tasks) (record x { dialect = d }) database steps last y) where
       file_holds : HoldsMachine d (machine_after d tasks database steps) told now
-      file_holds =
-          let shows = ran.shows in
-          let more = entries_of d (machine_after d tasks database steps).entries in
-          let dialect = shows.dialect ∙ sym has.dialect in
-          record {
-            holds = holds_now more shows.entries dialect shows.limit shows.live (machine_after d tasks database steps).committed shows.committed;
-            entries = entries_behind more shows.entries dialect shows.limit;
-            room = on_journal d p told crashes h db is new.limit_is bytes told_is now later k left valid database has (λ limit used. HadRoom d limit used (machine_after d tasks database steps).entries) shows.room;
-          }
+      file_holds = holds_machine (machine_after d tasks database steps) ran.shows
+
+      file_opens : IsGood d (machine_after d tasks database steps).committed → Opens d now (machine_after d tasks database steps).committed
+      file_opens good = opens_machine (machine_after d tasks database steps) ran.shows good
 
       answers_are : AnswerAs (machine_after d tasks database steps) (answers_in last)
       answers_are place a is =
@@ -150,22 +159,49 @@ module _ {D P E : Type 0} (d p : Dialect) (told : Option (List ℕ)) (crashes : 
             serial.answers place it.0 a it.1 (sym it.2);
       }
 
-    -- up to a fault
-    goes_until : IsDrilledUntil command_stands (works d tasks) (record x { dialect = d }) database steps last y → GoesUntil d tasks steps database (faults_in last) told (answers_in last) now
-    goes_until ran = record {
-      until = record {
-        front = ran.front;
-        next = ran.next;
-        rest = ran.rest;
+    -- up to a fault, and behind it
+    module _ (ran : IsDrilledUntil command_stands (works d tasks) (record x { dialect = d }) database failure_of steps last y) (good : IsGood d ran.now.committed) where
+      abbrev begin : Commands
+      begin = start Answer answer.Locked answer.Busy database
+
+      came_first : (ran.now ≡ machine_after d tasks database ran.taken) ⊎ FallsFirst failure_of d (works d tasks) (HasFaulted (faults_in last)) ran.taken begin ran.now
+      came_first = elim ran.came [
+        | inl all ↦ inl all
+        | inr fell ↦ inr (falls_met d tasks (PlayerFaulted command_stands last) (HasFaulted (faults_in last)) (fault_shown last) ran.taken begin ran.now fell)
+      ]
+
+      answers_before : AnswerBefore ran.others ran.now (answers_in last)
+      answers_before place a is =
+          let it = mapped (λ (p : AnyCommand). (command_stands p).answer) last place a is in
+          elim (ran.answers place it.0 it.1) [
+            | inl same ↦ inl (it.2 ∙ same)
+            | inr before ↦ inr before
+          ]
+
+      ends_at : ((ran.others ≡ []) × HoldsMachine d ran.now told now × Opens d now ran.now.committed) ⊎ IsEnding (faults_in last) (answers_in last) ran.others
+      ends_at = elim ran.ends [
+        | inl whole ↦ inl (whole.0, holds_machine ran.now whole.1, opens_machine ran.now whole.1 good)
+        | inr stops ↦ (let one = stops.1 in inr (
+          one.place,
+          stops.0,
+          stops.2,
+          placed (λ (p : AnyCommand). (command_stands p).answer) last one.place one.player one.there ∙ ap (λ (o : Option Answer). Some o) one.answer,
+          placed (λ (p : AnyCommand). (command_stands p).faulted) last one.place one.player one.there ∙ ap (λ (b : Bool). Some b) one.faulted,
+        ))
+      ]
+
+      goes_until : GoesUntil d tasks steps database (faults_in last) told (answers_in last) now
+      goes_until = record {
+        taken = ran.taken;
+        others = ran.others;
         is = ran.is;
-        met = fault_shown last ran.next ran.faulted;
+        now = ran.now;
+        came = came_first;
+        gave = answers_before;
+        ends = ends_at;
         more = ran.more;
-        entries = entries_behind (entries_of d (machine_after d tasks database ran.front).entries ++ ran.more) ran.entries (ran.dialect ∙ sym has.dialect) ran.limit;
-      };
-      gave = λ place said a is gave.
-          let it = mapped (λ (p : AnyCommand). (command_stands p).answer) last place said is in
-          it.2 ∙ ran.answers place it.0 it.1 a gave;
-    }
+        entries = entries_behind (entries_of d ran.now.entries ++ ran.more) ran.entries (ran.dialect ∙ sym has.dialect) ran.limit;
+      }
 
     abbrev Left : List Entry → List Entry → Type 0
     Left = LeftBy d tasks steps database last x told
@@ -212,11 +248,11 @@ module _ {D P E : Type 0} (d p : Dialect) (told : Option (List ℕ)) (crashes : 
         (subst (λ o. IfSome o (λ there. Since (Left there) (crashes_of crashes db) (crashes_of later left))) there.1 leaves)))))
 
 -- what the players did, they did on the file
-module _ {D P E : Type 0} (d p : Dialect) (told : Option (List ℕ)) (crashes : DiskCrashes) (h : Held) (db : Db D P E) (is : IsDb p told crashes h db) (new : IsNew d most_bytes db)
+module _ {D P E : Type 0} (spelled : TurnsBackAreSpelled) (d p : Dialect) (told : Option (List ℕ)) (crashes : DiskCrashes) (h : Held) (db : Db D P E) (is : IsDb p told crashes h db) (new : IsNew d most_bytes db)
     (read : IfSome told (λ bytes. catalogue_of d most_bytes bytes ≡ Ok (kept h)))
     (now : Option (List ℕ)) (later : DiskCrashes) (k : Held) (left : Db D P E) (valid : IsValid p now later k left)
     (who : List ℕ) (drill : Drilling) (readings : List ℕ) (players : List AnyCommand) (commands : List Command) (are : ArePlayers d (clean who) drill.entrants readings players commands)
-    (few : length drill.entrants ≤ 64) (result : Result Done Status) (plays : Plays players commands drill.steps (state told h db) (state now k left) (crashes_of crashes db) (crashes_of later left) result) where
+    (is_drill : IsDrill d drill) (result : Result Done Status) (plays : Plays players commands drill.steps (state told h db) (state now k left) (crashes_of crashes db) (crashes_of later left) result) where
   abbrev origin : State
   origin = state told h db
 
@@ -232,7 +268,7 @@ module _ {D P E : Type 0} (d p : Dialect) (told : Option (List ℕ)) (crashes : 
     moved = record origin { dialect = d }
 
     have_there : HaveTasks origin.dialect tasks players
-    have_there = subst (λ e. HaveTasks e tasks players) (sym has.dialect) (have_tasks d (clean who) drill.entrants readings players commands are tasks own (clean_no_bar who) few)
+    have_there = subst (λ e. HaveTasks e tasks players) (sym has.dialect) (have_tasks d (clean who) drill.entrants readings players commands are tasks own (clean_no_bar who) is_drill.few.1)
 
     stands_there : StandsFor origin.dialect origin.committed database
     stands_there = subst (λ e. StandsFor e origin.committed database) (sym has.dialect) has.committed
@@ -240,8 +276,8 @@ module _ {D P E : Type 0} (d p : Dialect) (told : Option (List ℕ)) (crashes : 
     ran_clean : Each command_stands HasNoFault plays.last → IsDrilled command_stands (works d tasks) moved database drill.steps plays.last final
     ran_clean none = subst (λ e. IsDrilled command_stands (works e tasks) (record origin { dialect = e }) database drill.steps plays.last final) has.dialect (plays.clean tasks database stands_there have_there none)
 
-    ran_until : (n : ℕ) → PlayerFaulted command_stands plays.last n → IsDrilledUntil command_stands (works d tasks) moved database drill.steps plays.last final
-    ran_until n met = subst (λ e. IsDrilledUntil command_stands (works e tasks) (record origin { dialect = e }) database drill.steps plays.last final) has.dialect (plays.until tasks database stands_there have_there n met)
+    ran_until : IsDrilledUntil command_stands (works d tasks) moved database failure_of drill.steps plays.last final
+    ran_until = subst (λ e. IsDrilledUntil command_stands (works e tasks) (record origin { dialect = e }) database failure_of drill.steps plays.last final) has.dialect (plays.until tasks database stands_there have_there)
 
     left_in : CrashesLeave origin.entries (LeftInDrill command_stands (works d tasks) moved database failure_of drill.steps plays.last) (crashes_of crashes db) (crashes_of later left)
     left_in = subst (λ e. CrashesLeave origin.entries (LeftInDrill command_stands (works e tasks) (record origin { dialect = e }) database failure_of drill.steps plays.last) (crashes_of crashes db) (crashes_of later left)) has.dialect
@@ -255,11 +291,7 @@ module _ {D P E : Type 0} (d p : Dialect) (told : Option (List ℕ)) (crashes : 
 
     -- dialect and limit stay
     stays : (final.dialect ≡ d) × (final.limit ≡ origin.limit)
-    stays =
-        elim (none_or_one (faults_in plays.last)) [
-          | inl none ↦ (let shows = (ran_clean (none_faulted plays.last none)).shows in (shows.dialect, shows.limit))
-          | inr one ↦ (let ran = ran_until one.0 (fault_there plays.last one.0 one.1) in (ran.dialect, ran.limit))
-        ]
+    stays = (ran_until.dialect, ran_until.limit)
 
     module _ (none : Each command_stands HasNoFault plays.last) where
       in_serial : IsSerialDrill command_stands (works origin.dialect tasks) origin database drill.steps plays.last final → IsSerialDrill command_stands (works d tasks) moved database drill.steps plays.last final
@@ -268,6 +300,26 @@ module _ {D P E : Type 0} (d p : Dialect) (told : Option (List ℕ)) (crashes : 
       early_at : BeginInTurn d tasks database drill.steps → BeginInTurn origin.dialect tasks database drill.steps
       early_at begin = subst (λ e. BeginInTurn e tasks database drill.steps) (sym has.dialect) begin
 
+  -- what its commands have committed is sound and clean
+
+  begins_good : (database : Database) → Opens d told database → IsGood d database
+  begins_good database opens = record { fine = fine_of d database (was_clean d told database opens); sound = opens.stands.sound }
+
+  are_good : (tasks : ℕ → Task AnyChange) → AreTasks who drill.entrants readings tasks → AreGood Answer answer.Locked answer.Busy failure_of d (works d tasks) drill.steps
+  are_good tasks own = drill_good spelled d who drill readings tasks own are.as_many.0 is_drill
+
+  moved_good : (tasks : ℕ → Task AnyChange) → AreTasks who drill.entrants readings tasks → (database : Database) → Opens d told database → IsGood d (machine_after d tasks database drill.steps).committed
+  moved_good tasks own database opens =
+      (all_moved_well Answer answer.Locked answer.Busy failure_of d (works d tasks) drill.steps (start Answer answer.Locked answer.Busy database) (are_good tasks own)
+      (starts_well Answer answer.Locked answer.Busy failure_of d (works d tasks) database (begins_good database opens))).committed
+
+  came_good : (tasks : ℕ → Task AnyChange) → AreTasks who drill.entrants readings tasks → (database : Database) → Opens d told database
+      → (ran : IsDrilledUntil command_stands (works d tasks) (record origin { dialect = d }) database failure_of drill.steps plays.last final) → IsGood d ran.now.committed
+  came_good tasks own database opens ran =
+      (came_well Answer answer.Locked answer.Busy failure_of d (works d tasks) (PlayerFaulted command_stands plays.last) ran.taken ran.others (start Answer answer.Locked answer.Busy database) ran.now
+      (subst (AreGood Answer answer.Locked answer.Busy failure_of d (works d tasks)) ran.is (are_good tasks own)) ran.came
+      (starts_well Answer answer.Locked answer.Busy failure_of d (works d tasks) database (begins_good database opens))).committed
+
   went_as : All IsFaultless (faults_in plays.last) → (tasks : ℕ → Task AnyChange) → AreTasks who drill.entrants readings tasks → (database : Database) → Opens d told database → GoesAs d tasks drill.steps database (answers_in plays.last) told now
   went_as faultless tasks own database opens =
       let has = has_there database opens in
@@ -275,6 +327,7 @@ module _ {D P E : Type 0} (d p : Dialect) (told : Option (List ℕ)) (crashes : 
       let ran = ran_clean tasks own database has none in
       record {
         file = file_holds d p told crashes h db is new opens.bytes opens.told_is now later k left valid database has tasks drill.steps plays.last ran;
+        opens = file_opens d p told crashes h db is new opens.bytes opens.told_is now later k left valid database has tasks drill.steps plays.last ran (moved_good tasks own database opens);
         gave = answers_are d p told crashes h db is new opens.bytes opens.told_is now later k left valid database has tasks drill.steps plays.last ran;
         serial = λ none_releases.
             is_serial d p told crashes h db is new opens.bytes opens.told_is now later k left valid database has tasks drill.steps plays.last ran
@@ -284,11 +337,11 @@ module _ {D P E : Type 0} (d p : Dialect) (told : Option (List ℕ)) (crashes : 
             (in_serial tasks own database has none (plays.in_turn tasks database (stands_there tasks own database has) (have_there tasks own database has) none (early_at tasks own database has none begin)));
       }
 
-  went_until : (tasks : ℕ → Task AnyChange) → AreTasks who drill.entrants readings tasks → (database : Database) → Opens d told database → (n : ℕ) → HasFaulted (faults_in plays.last) n
-      → GoesUntil d tasks drill.steps database (faults_in plays.last) told (answers_in plays.last) now
-  went_until tasks own database opens n met =
+  went_until : (tasks : ℕ → Task AnyChange) → AreTasks who drill.entrants readings tasks → (database : Database) → Opens d told database → GoesUntil d tasks drill.steps database (faults_in plays.last) told (answers_in plays.last) now
+  went_until tasks own database opens =
       let has = has_there database opens in
-      goes_until d p told crashes h db is new opens.bytes opens.told_is now later k left valid database has tasks drill.steps plays.last (ran_until tasks own database has n (fault_there plays.last n met))
+      let ran = ran_until tasks own database has in
+      goes_until d p told crashes h db is new opens.bytes opens.told_is now later k left valid database has tasks drill.steps plays.last ran (came_good tasks own database opens ran)
 
   met_at : (place : ℕ) (said : Option Answer) → slice_get (faults_in plays.last) place ≡ Some true → slice_get (answers_in plays.last) place ≡ Some said → MayAnswer answer.Locked failure_of said
   met_at place said faulted answered =
@@ -431,10 +484,10 @@ module _ {D : Type 0} (told : D → Option (List ℕ)) (faults : D → ℕ) (cra
     settled_after commands last (Ok done) ends = (valid.lives ends.0).whole.settled
     settled_after commands last (Err s) ends = tt
 
-    pub played_drilled : (readings : List ℕ) (players : List AnyCommand) (commands : List Command) → ArePlayers d (clean who) drill.entrants readings players commands → length drill.entrants ≤ 64 → (coming after : Option (List ℕ)) → ReadInTurn coming after readings
+    pub played_drilled : TurnsBackAreSpelled → (readings : List ℕ) (players : List AnyCommand) (commands : List Command) → ArePlayers d (clean who) drill.entrants readings players commands → IsDrill d drill → (coming after : Option (List ℕ)) → ReadInTurn coming after readings
         → (r : Result Done Status) → Plays players commands drill.steps loaded played (crashes_of (crashes (disk_in db)) db) (crashes_of (crashes (disk_in left)) left) r → faults (disk_in db) ≤ faults (disk_in left) → (r ≡ Err status.DiskFault → Rose (faults (disk_in db)) (faults (disk_in left)))
         → WorkedDrill told faults crashes d who drill coming after (disk_in db) r (disk_in left)
-    played_drilled readings players commands are few coming after in_turn r plays later fault = record {
+    played_drilled spelled readings players commands are is_drill coming after in_turn r plays later fault = record {
       used = record {
         damaged = played_tells d (told (disk_in db)) r plays.kind;
         spares = λ beside place damaged. no_damage d (told (disk_in db)) (kept h) read place damaged;
@@ -445,5 +498,5 @@ module _ {D : Type 0} (told : D → Option (List ℕ)) (faults : D → ℕ) (cra
       };
       kind = of_drill r plays.kind;
       settled = settled_after commands plays.last r plays.ends;
-      does = does d p (told (disk_in db)) (crashes (disk_in db)) h db is new read (told (disk_in left)) (crashes (disk_in left)) k left valid who drill readings players commands are few r plays coming after in_turn;
+      does = does spelled d p (told (disk_in db)) (crashes (disk_in db)) h db is new read (told (disk_in left)) (crashes (disk_in left)) k left valid who drill readings players commands are is_drill r plays coming after in_turn;
     }

@@ -14,6 +14,8 @@ pub mod DrillPlayed
 pub mod DrillPlayers
 pub mod DrillRead
 pub mod DrillRuns
+pub mod DrillScripts
+pub mod DrillStays
 pub mod Handing
 pub mod InUse
 pub mod Kept
@@ -32,6 +34,7 @@ pub mod RefusedKinds
 pub mod Results
 pub mod Resumed
 pub mod Said
+pub mod ScriptsStay
 pub mod ShortLines
 pub mod ShortTag
 pub mod SoakEnds

@@ -72,7 +72,7 @@ module _ (d : Dialect) where
   read_clean (Err at) e is = absurd (err_ok is)
   read_clean (Ok entries) e is = if_read (used_by entries) (folded d entries no_objects) e is
 
-  was_clean : (told : Option (List ℕ)) (database : Database) → Opens d told database → IsClean d database
+  pub was_clean : (told : Option (List ℕ)) (database : Database) → Opens d told database → IsClean d database
   was_clean told database opens = ap (is_clean_database d) (sym opens.stands.is) ∙ read_clean (journal_of d most_bytes opens.bytes) opens.catalogue opens.read
 
   -- and what entries lead to is read where it is clean

@@ -1,6 +1,6 @@
 -- What a drill does.
 use Rattle.std.specs.List.{All}
-use Rattle.std.specs.Prelude.{Bool, Err, IfSome, IsTrue, List, None, Ok, Option, Result, Some, [], false, true, length, map, option_map, slice_get, suc, ℕ, ◌++◌, ◌∷◌, ◌≡◌, ◌≤◌, ◌⊎◌}
+use Rattle.std.specs.Prelude.{Bool, Err, IfSome, IsTrue, List, None, Ok, Option, Result, Some, [], false, true, length, map, option_map, slice_get, suc, zero, ℕ, ◌++◌, ◌∷◌, ◌≡◌, ◌≤◌, ◌⊎◌}
 use Rattle.std.specs.Int.{IsInRange}
 use Rattle.lq_base.specs.declared.command.Command.{Command}
 use Rattle.lq_base.specs.declared.command.Command.TheVariants.{Release}
@@ -12,7 +12,7 @@ use Rattle.lq_cli.specs.declared.line.Line.{Line}
 use Rattle.lq_commands.specs.Stamp.{numbered_stamp}
 use Rattle.lq_commands.specs.Who.{clean}
 use Rattle.lq_db.specs.Log.{entries_in}
-use Rattle.lq_drill.specs.Faults.{Comes, FreesAtMostOnce, FreesEarly, Meets}
+use Rattle.lq_drill.specs.Faults.{Comes, FallsFirst, FreesAtMostOnce, FreesEarly, Meets}
 use Rattle.lq_drill.specs.Player.{MayAnswer, answer_of}
 use Rattle.lq_drill.specs.Shows.{HadRoom, entries_of}
 use Rattle.lq_drill.specs.declared.fault.DrillFault.TheVariants as fault
@@ -42,7 +42,7 @@ use Rattle.lq_turns.specs.declared.answer.Answer.{Answer}
 use Rattle.lq_turns.specs.declared.answer.Answer.TheVariants as answer
 use Rattle.lq_turns.specs.declared.deed.Deed.{Deed}
 use Rattle.lq_top.specs.Asks.{Files}
-use Rattle.lq_top.specs.Bytes.{Holds, OnFile, WasLeft, in_use, most_bytes}
+use Rattle.lq_top.specs.Bytes.{Holds, OnFile, Opens, WasLeft, in_use, most_bytes}
 use Rattle.lq_top.specs.Clock.{ReadInTurn, ReadUpTo}
 use Rattle.lq_top.specs.Drills.{drill_of}
 use Rattle.lq_top.specs.Kinds.{IsNotLoaded, IsOfFiles, IsOfWords, Refuses, is_of_drill}
@@ -109,6 +109,10 @@ pub record HoldsMachine (d : Dialect) (x : Commands) (before after : Option (Lis
 abbrev pub AnswerAs : Commands → List (Option Answer) → Type 0
 AnswerAs x answers = (place : ℕ) (a : Option Answer) → slice_get answers place ≡ Some a → a ≡ answer_of (suc place) x.answers
 
+-- so they are; but the machine has none of the command whose step is the first of the others
+abbrev pub AnswerBefore : List ℕ → Commands → List (Option Answer) → Type 0
+AnswerBefore others x answers = (place : ℕ) (a : Option Answer) → slice_get answers place ≡ Some a → (a ≡ answer_of (suc place) x.answers) ⊎ ((answer_of (suc place) x.answers ≡ None) × (slice_get others zero ≡ Some (suc place)))
+
 module _ (d : Dialect) (tasks : ℕ → Task AnyChange) (steps : List ℕ) (database : Database) (answers : List (Option Answer)) (before after : Option (List ℕ)) where
   -- The file holds the database that the commands give one after another, and each answer is that of this serial run, or one that was given at once.
   pub record IsSerial : Type 0 where
@@ -121,9 +125,10 @@ module _ (d : Dialect) (tasks : ℕ → Task AnyChange) (steps : List ℕ) (data
     pub serial : Stands Answer answer.Locked answer.Busy d (works d tasks) database order (machine_after d tasks database steps).holder now
     pub gave : (place : ℕ) (a : Answer) → slice_get answers place ≡ Some (Some a) → Gave Answer answer.Locked answer.Busy d (works d tasks) database order steps (suc place) a
 
-  -- Answers and journal are the machine's; and the order is a serial one, where no step is of a release-locks, or no command makes its first call while another still runs.
+  -- Answers and journal are the machine's, and the file opens again; and the order is a serial one, where no step is of a release-locks, or no command makes its first call while another still runs.
   pub record GoesAs : Type 0 where
     pub file : HoldsMachine d (machine_after d tasks database steps) before after
+    pub opens : Opens d after (machine_after d tasks database steps).committed
     pub gave : AnswerAs (machine_after d tasks database steps) answers
     pub serial : NoneReleases tasks steps → IsSerial
     pub in_turn : BeginInTurn d tasks database steps → IsSerial
@@ -137,21 +142,22 @@ IsFaultless faulted = faulted ≡ false
 abbrev pub HasFaulted : List Bool → ℕ → Type 0
 HasFaulted faulted n = (place : ℕ) × (n ≡ suc place) × (slice_get faulted place ≡ Some true)
 
-module _ (d : Dialect) (tasks : ℕ → Task AnyChange) (steps : List ℕ) (database : Database) (faulted : List Bool) (before : Option (List ℕ)) where
-  -- Up to a step of a command that met a fault all are the machine's, and what these brought stands in the file, with others behind it.
-  pub record IsUntilFault (file : Option (List ℕ)) : Type 0 where
-    pub front : List ℕ
-    pub next : ℕ
-    pub rest : List ℕ
-    pub is : steps ≡ front ++ next ∷ rest
-    pub met : HasFaulted faulted next
-    pub more : List Entry
-    pub entries : entries_in d most_bytes file ≡ option_map (λ entries. entries ++ (entries_of d (machine_after d tasks database front).entries ++ more)) (entries_in d most_bytes before)
+-- the first of these steps is that of a command that answered a fault of the store, which ends a drill
+abbrev pub IsEnding : List Bool → List (Option Answer) → List ℕ → Type 0
+IsEnding faulted answers others = (place : ℕ) × (why : DrillFault) × (slice_get others zero ≡ Some (suc place)) × (slice_get answers place ≡ Some (Some (failure_of why))) × (slice_get faulted place ≡ Some true)
 
-  -- and their answers stay
+module _ (d : Dialect) (tasks : ℕ → Task AnyChange) (steps : List ℕ) (database : Database) (faulted : List Bool) (before : Option (List ℕ)) where
+  -- The steps that were taken are the machine's, or up to the first fault they are. The answers are those of the machine to which they led; and the file holds it where all were taken, and opens again; and else it has its entries, and then what the step brought that ended the drill.
   pub record GoesUntil (answers : List (Option Answer)) (after : Option (List ℕ)) : Type 0 where
-    pub until : IsUntilFault after
-    pub gave : (place : ℕ) (said : Option Answer) (a : Answer) → slice_get answers place ≡ Some said → answer_of (suc place) (machine_after d tasks database until.front).answers ≡ Some a → said ≡ Some a
+    pub taken : List ℕ
+    pub others : List ℕ
+    pub is : steps ≡ taken ++ others
+    pub now : Commands
+    pub came : (now ≡ machine_after d tasks database taken) ⊎ FallsFirst failure_of d (works d tasks) (HasFaulted faulted) taken (start Answer answer.Locked answer.Busy database) now
+    pub gave : AnswerBefore others now answers
+    pub ends : ((others ≡ []) × HoldsMachine d now before after × Opens d after now.committed) ⊎ IsEnding faulted answers others
+    pub more : List Entry
+    pub entries : entries_in d most_bytes after ≡ option_map (λ entries. entries ++ (entries_of d now.entries ++ more)) (entries_in d most_bytes before)
 
   -- these steps lead to a machine, where commands met faults of the store
   abbrev pub CameTo : List ℕ → Commands → Type 0
@@ -196,7 +202,7 @@ pub record CrashesTo (d : Dialect) (Left : Option (List ℕ) → Type 0) (before
   pub later : before.moment ≤ now.moment
   pub each : IsTrue before.is_honest → (t : ℕ) (bytes : List ℕ) → t ≤ before.moment → now.left_since t bytes → WasLeft d (before.left_since t) bytes ⊎ Left (Some bytes)
 
--- A drill whose commands have taken their steps, with these readings. Where none met a fault of the store they went as the machine does, and else up to the first fault.
+-- A drill whose commands have taken their steps, with these readings. Where none met a fault of the store they went as the machine does, and else up to the first fault, and then as the machine whose runners meet faults.
 pub record Went (d : Dialect) (who : List ℕ) (drill : Drilling) (readings : List ℕ) (before after : Option (List ℕ)) (c e : DiskCrashes) : Type 0 where
   pub one_each : length readings ≡ length drill.entrants
   -- of each command what it answered, if it did, and whether it met a fault
@@ -204,7 +210,7 @@ pub record Went (d : Dialect) (who : List ℕ) (drill : Drilling) (readings : Li
   pub faulted : List Bool
   pub as_many : (length answers ≡ length drill.entrants) × (length faulted ≡ length drill.entrants)
   pub goes : All IsFaultless faulted → (tasks : ℕ → Task AnyChange) → AreTasks who drill.entrants readings tasks → OnFile d before (λ database. GoesAs d tasks drill.steps database answers before after)
-  pub until : (tasks : ℕ → Task AnyChange) → AreTasks who drill.entrants readings tasks → OnFile d before (λ database. (n : ℕ) → HasFaulted faulted n → GoesUntil d tasks drill.steps database faulted before answers after)
+  pub until : (tasks : ℕ → Task AnyChange) → AreTasks who drill.entrants readings tasks → OnFile d before (λ database. GoesUntil d tasks drill.steps database faulted before answers after)
   -- one that met a fault has not answered, or answers that fault, or that its lock is gone
   pub met : (place : ℕ) (said : Option Answer) → slice_get faulted place ≡ Some true → slice_get answers place ≡ Some said → MayAnswer answer.Locked failure_of said
   pub crash : (tasks : ℕ → Task AnyChange) → AreTasks who drill.entrants readings tasks → OnFile d before (λ database. CrashesTo d (IsLeftInDrill d tasks drill.steps database faulted before) c e)

@@ -4,7 +4,7 @@ use Rattle.lq_base.specs.declared.command.Command.{Command}
 use Rattle.lq_base.specs.declared.dialect.Dialect.{Dialect}
 use Rattle.lq_base.specs.declared.memory.NoMemory.{NoMemory}
 use Rattle.lq_commands.specs.Stamp.{numbered_stamp}
-use Rattle.lq_drill.specs.Drill.{Each, FailsBy, HasFailed, HasFaulted, HasNotFailed, IsDrilled, IsDrilledUntil, IsFaultless, IsSerialDrill, LeftAtEnd, LeftInDrill}
+use Rattle.lq_drill.specs.Drill.{Each, FailsBy, HasFailed, HasNotFailed, IsDrilled, IsDrilledUntil, IsFaultless, IsSerialDrill, LeftAtEnd, LeftInDrill}
 use Rattle.lq_drill.specs.Player.{HasMet}
 use Rattle.lq_drill.specs.declared.fault.DrillFault.{DrillFault}
 use Rattle.lq_drill.specs.declared.fault.DrillFault.TheVariants as fault
@@ -99,8 +99,7 @@ pub record Plays (players : List AnyCommand) (commands : List Command) (steps : 
   pub answered : PlayAnswers last result
   pub clean : (tasks : ℕ → Task AnyChange) (database : Database) → StandsFor x.dialect x.committed database → HaveTasks x.dialect tasks players → Each command_stands IsFaultless last
       → IsDrilled command_stands (works x.dialect tasks) x database steps last y
-  pub until : (tasks : ℕ → Task AnyChange) (database : Database) → StandsFor x.dialect x.committed database → HaveTasks x.dialect tasks players → (number : ℕ) → HasFaulted command_stands last number
-      → IsDrilledUntil command_stands (works x.dialect tasks) x database steps last y
+  pub until : (tasks : ℕ → Task AnyChange) (database : Database) → StandsFor x.dialect x.committed database → HaveTasks x.dialect tasks players → IsDrilledUntil command_stands (works x.dialect tasks) x database failure_of steps last y
   pub crash : (tasks : ℕ → Task AnyChange) (database : Database) → StandsFor x.dialect x.committed database → HaveTasks x.dialect tasks players → CrashesLeave x.entries (LeftInDrill command_stands (works x.dialect tasks) x database failure_of steps last) c e
   pub left : (tasks : ℕ → Task AnyChange) (database : Database) → StandsFor x.dialect x.committed database → HaveTasks x.dialect tasks players → LeftAtEnd command_stands (works x.dialect tasks) x database failure_of steps last y
   pub cause : (tasks : ℕ → Task AnyChange) (database : Database) → StandsFor x.dialect x.committed database → HaveTasks x.dialect tasks players → PlayIsFull result (FailsBy command_stands (works x.dialect tasks) x database failure_of steps last)

@@ -23,6 +23,7 @@ ghost use Rattle.lq_top.specs.Players.{Begun, Joins, Plays, answers_in, drill_st
 
 use crate::changelogs::{changelog_of, file_status};
 use crate::opening::{LIMIT, Worked, load_status};
+use lq_back::turns_back_are_spelled;
 use lq_base::{Command, Dialect, Items, NoMemory, Target, Text};
 use lq_cli::{Job, Line};
 use lq_commands::{Asked, clean, numbered_stamp};
@@ -320,6 +321,7 @@ fn on_database<D: Disk, C: Clock, P: SqlText + Drop + Copy, E: Executor + Drop>(
     requires is { IsDrill dialect drilling }
     ensures worked { WorkedDrill D.told D.faults D.crashes dialect who.now drilling (C.to_come clock.old) (C.to_come clock.new) (disk_in db) result.done result.disk }
 {
+    turns_back_are_spelled();
     let mut db = db;
     let Drilling { entrants, steps } = drilling;
     match cast_of(alloc, dialect, entrants, who, clock) {

@@ -14,9 +14,9 @@ returns-clause-clean g c = λ tasks database stands have faultless.
     c.drill.ensures.clean (works origin.dialect tasks) database (begins_with c.names_are_apart.ensures origin tasks database c.args.players.now.items stands have) faultless
 
 pub returns-clause-until : goal.returns-clause-until
-returns-clause-until g c = λ tasks database stands have number faulted.
+returns-clause-until g c = λ tasks database stands have.
     let origin = g.S.Store.state c.args.store.now in
-    c.drill.ensures.until (works origin.dialect tasks) database (begins_with c.names_are_apart.ensures origin tasks database c.args.players.now.items stands have) number faulted
+    c.drill.ensures.until (works origin.dialect tasks) database (begins_with c.names_are_apart.ensures origin tasks database c.args.players.now.items stands have)
 
 pub returns-clause-serial : goal.returns-clause-serial
 returns-clause-serial g c = λ tasks database stands have faultless none.
