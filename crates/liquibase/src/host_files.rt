@@ -31,7 +31,10 @@ fn open(rt: &HostRuntime, path: &str) -> io::Result<Option<File>> {
     let file = match File::open(rt, path) {
         Ok(file) => file,
         Err(error) => match error.kind() {
-            ErrorKind::NotFound | ErrorKind::NotADirectory => return Ok(None),
+            // No file has a name that is longer than the system's files may have.
+            ErrorKind::NotFound | ErrorKind::NotADirectory | ErrorKind::InvalidFilename => {
+                return Ok(None);
+            }
             _ => return Err(error),
         },
     };
@@ -136,6 +139,12 @@ mod tests {
         ] {
             assert_eq!(rt; shown(&mut files, path), want, "{path}");
         }
+        let mut unnameable = String::from_str(rt.alloc(), "host_files_test/")?;
+        for _ in 0..256 {
+            unnameable.push_str("n")?;
+        }
+        assert_eq!(rt; shown(&mut files, unnameable.as_str()), "absent");
+        assert!(rt; lists(&mut files, unnameable.as_str(), &[]));
         assert!(rt;
             lists(
                 &mut files,

@@ -72,7 +72,9 @@ fn node_at(rt: &HostRuntime, path: &str) -> io::Result<Node> {
         Ok(_) => Ok(Node::Other),
         // A link may lead nowhere.
         Err(error) => match error.kind() {
-            ErrorKind::NotFound | ErrorKind::NotADirectory => Ok(Node::Other),
+            ErrorKind::NotFound | ErrorKind::NotADirectory | ErrorKind::InvalidFilename => {
+                Ok(Node::Other)
+            }
             _ => Err(error),
         },
     }
