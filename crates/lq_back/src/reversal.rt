@@ -16,7 +16,7 @@ use lq_kinds::{AnyChange, ChangeSet, Changelog};
 use std::alloc::Global;
 
 /// How a row is taken back.
-#[derive(Clone, Copy, Debug, PartialEq, Eq)]
+#[derive(Clone, Copy, PartialEq, Eq)]
 pub enum TakenBack {
     /// The row goes alone, since its changeset was marked and did not run.
     Alone,

@@ -24,7 +24,7 @@ use std::alloc::Global;
 
 /// The turns of a rollback, row after row from the last on (Liquibase's documentation, "rollback").
 /// Where memory ran out the outcome may tell one row more than was taken back.
-#[derive(Debug, Drop)]
+#[derive(Drop)]
 pub struct RowTurns {
     /// The next one last.
     turns: Items<Turn>,

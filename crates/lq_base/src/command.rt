@@ -1,7 +1,7 @@
 use crate::text::Text;
 
 /// The point to which a rollback goes back.
-#[derive(Debug, Drop)]
+#[derive(Drop)]
 pub enum Target {
     /// The newest row with this tag stays.
     Tag(Text),
@@ -12,7 +12,7 @@ pub enum Target {
 }
 
 /// What a runner is asked to do.
-#[derive(Debug, Drop)]
+#[derive(Drop)]
 pub enum Command {
     Validate,
     Status,

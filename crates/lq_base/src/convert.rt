@@ -190,9 +190,9 @@ fn truth_of_text(text: &str) -> Result<Value, IntoFault>
 fn spelled_into(number: Option<Literal>, kind: Kind) -> Result<Value, IntoFault>
     ensures { Goes (within_width kind (option_and_then (said_by_number kind) number)) result }
 {
-    match number {
-        Some(Literal::Int(number)) => int_into(number, kind),
-        Some(Literal::Fixed { units, scale }) => fixed_into(units, scale, kind),
+    match &number {
+        Some(Literal::Int(number)) => int_into(*number, kind),
+        Some(Literal::Fixed { units, scale }) => fixed_into(*units, *scale, kind),
         _ => Err(IntoFault::WrongKind),
     }
 }

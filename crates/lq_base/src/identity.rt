@@ -7,11 +7,21 @@ use crate::text::Text;
 use std::alloc::Global;
 
 /// What names a changeset: the file by which it was reached, its id and its author.
-#[derive(Debug, Drop)]
+#[derive(Debug)]
 pub struct Identity {
     pub file: Text,
     pub id: Text,
     pub author: Text,
+}
+
+// Written out, so that each place that lets one go is one call.
+impl Drop for Identity {
+    fn drop(self) {
+        let Identity { file, id, author } = self;
+        drop(file);
+        drop(id);
+        drop(author);
+    }
 }
 
 impl Identity {

@@ -12,7 +12,7 @@ use crate::text::Text;
 use itoa::Buffer;
 
 /// The type of a column.
-#[derive(Clone, Copy, Debug, PartialEq, Eq)]
+#[derive(Clone, Copy, PartialEq, Eq)]
 pub enum Kind {
     /// A whole number of 32 bits.
     Int,

@@ -1,5 +1,5 @@
 /// What a lexeme of SQL is (`specs/SqlLexeme.antt`; PostgreSQL's manual, 4.1; MySQL's, 9.1, 9.2 and 9.7).
-#[derive(Clone, Copy, Debug, PartialEq, Eq)]
+#[derive(Clone, Copy, PartialEq, Eq)]
 pub enum LexemeSort {
     /// A run of spaces, tabs, carriage returns and line feeds.
     Blank,

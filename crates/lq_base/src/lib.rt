@@ -17,6 +17,7 @@ mod memory;
 mod moment;
 mod name;
 mod number;
+mod parts;
 mod reason;
 mod run;
 mod text;
@@ -40,6 +41,7 @@ pub use number::{
     all_digits, append_fixed, append_whole, has_digits, is_digits, number_of, place_of,
     read_number, value_after,
 };
+pub use parts::{both, cut};
 pub use reason::Reason;
 pub use run::{Did, Happened, OnFail, Printed, Why};
 pub use sqlite_items::{Boxed, Items};

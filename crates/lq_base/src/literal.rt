@@ -4,7 +4,6 @@ use crate::text::Text;
 use std::alloc::Global;
 
 /// What a statement states as a value, before a column gives it a kind.
-#[derive(Debug, Drop)]
 pub enum Literal {
     Null,
     Int(i128),
@@ -12,6 +11,19 @@ pub enum Literal {
     Fixed { units: i128, scale: u8 },
     Text(Text),
     Bool(bool),
+}
+
+// Written out, so that each place that lets one go is one call.
+impl Drop for Literal {
+    fn drop(self) {
+        match self {
+            Literal::Null => (),
+            Literal::Int(_) => (),
+            Literal::Fixed { units: _, scale: _ } => (),
+            Literal::Text(it) => drop(it),
+            Literal::Bool(_) => (),
+        }
+    }
 }
 
 impl Duplicate for Literal {

@@ -32,7 +32,7 @@ impl From<AllocError> for NameFault {
 /// The name of an object or of a part of one: 1 to 63 bytes, none of them a control character
 /// (63 is PostgreSQL's limit). Contracts see the bytes of its key, by which names are equal and
 /// ordered.
-#[derive(Debug, Drop)]
+#[derive(Drop)]
 pub struct Name {
     text: String,
 }

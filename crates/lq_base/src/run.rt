@@ -7,7 +7,7 @@ use sqlite_items::Items;
 use std::alloc::Global;
 
 /// Why a run halted at a precondition.
-#[derive(Clone, Copy, Debug, PartialEq, Eq)]
+#[derive(Clone, Copy, PartialEq, Eq)]
 pub enum Why {
     /// The condition does not hold.
     Failed,
@@ -16,7 +16,7 @@ pub enum Why {
 }
 
 /// The reaction to a condition that does not hold, or that cannot be told.
-#[derive(Clone, Copy, Debug, PartialEq, Eq)]
+#[derive(Clone, Copy, PartialEq, Eq)]
 pub enum OnFail {
     /// The command stops.
     Halt,
@@ -29,14 +29,22 @@ pub enum OnFail {
 }
 
 /// The statements that were run for a changeset, or to take it back.
-#[derive(Debug, Drop)]
 pub struct Printed {
     pub identity: Identity,
     pub texts: Items<Text>,
 }
 
+// Written out, so that each place that lets one go is one call.
+impl Drop for Printed {
+    fn drop(self) {
+        let Printed { identity, texts } = self;
+        drop(identity);
+        drop(texts);
+    }
+}
+
 /// What a command did with a changeset.
-#[derive(Clone, Copy, Debug, PartialEq, Eq)]
+#[derive(Clone, Copy, PartialEq, Eq)]
 pub enum Did {
     Ran,
     RanAgain,
@@ -46,7 +54,7 @@ pub enum Did {
 }
 
 /// One line of what a command tells.
-#[derive(Debug, Drop)]
+#[derive(Drop)]
 pub struct Happened {
     pub what: Did,
     pub identity: Identity,

@@ -3,11 +3,11 @@ ghost use Rattle.lq_base.specs.Tracking.{exec_text};
 
 use crate::duplicate::{Duplicate, Same};
 use crate::memory::NoMemory;
+use crate::parts::both;
 use crate::text::Text;
 use std::alloc::Global;
 
 /// The row of the table DATABASECHANGELOGLOCK.
-#[derive(Debug, Drop)]
 pub struct Lock {
     pub locked: bool,
     /// When it was taken, in milliseconds since 1970-01-01 UTC.
@@ -15,8 +15,20 @@ pub struct Lock {
     pub by: Option<Text>,
 }
 
+// Written out, so that each place that lets one go is one call.
+impl Drop for Lock {
+    fn drop(self) {
+        let Lock {
+            locked: _,
+            granted: _,
+            by,
+        } = self;
+        drop(by);
+    }
+}
+
 /// How a changeset came to its row.
-#[derive(Clone, Copy, Debug, PartialEq, Eq)]
+#[derive(Clone, Copy, PartialEq, Eq)]
 pub enum Exec {
     Executed,
     Reran,
@@ -37,7 +49,6 @@ impl Exec {
 }
 
 /// A row of the table DATABASECHANGELOG.
-#[derive(Debug, Drop)]
 pub struct Tracked {
     pub id: Text,
     pub author: Text,
@@ -60,6 +71,39 @@ pub struct Tracked {
     pub deployment: Text,
 }
 
+// Written out, so that each place that lets one go is one call.
+impl Drop for Tracked {
+    fn drop(self) {
+        let Tracked {
+            id,
+            author,
+            filename,
+            date: _,
+            order: _,
+            exec: _,
+            md5sum,
+            description,
+            comments,
+            tag,
+            tool,
+            contexts,
+            labels,
+            deployment,
+        } = self;
+        drop(id);
+        drop(author);
+        drop(filename);
+        drop(md5sum);
+        drop(description);
+        drop(comments);
+        drop(tag);
+        drop(tool);
+        drop(contexts);
+        drop(labels);
+        drop(deployment);
+    }
+}
+
 impl Duplicate for Lock {
     fn duplicate(&self, alloc: Global) -> Result<Lock, NoMemory> {
         Ok(Lock {
@@ -78,21 +122,34 @@ impl Same for Lock {
 
 impl Duplicate for Tracked {
     fn duplicate(&self, alloc: Global) -> Result<Tracked, NoMemory> {
+        let who = both(self.id.duplicate(alloc), self.author.duplicate(alloc));
+        let from = both(self.filename.duplicate(alloc), self.md5sum.duplicate(alloc));
+        let told = both(
+            self.description.duplicate(alloc),
+            self.comments.duplicate(alloc),
+        );
+        let by = both(self.tag.duplicate(alloc), self.tool.duplicate(alloc));
+        let for_whom = both(self.contexts.duplicate(alloc), self.labels.duplicate(alloc));
+        let last = both(for_whom, self.deployment.duplicate(alloc));
+        let all = both(both(both(who, from), both(told, by)), last);
+        let ((((id, author), (filename, md5sum)), ((description, comments), (tag, tool))), last) =
+            all?;
+        let ((contexts, labels), deployment) = last;
         Ok(Tracked {
-            id: self.id.duplicate(alloc)?,
-            author: self.author.duplicate(alloc)?,
-            filename: self.filename.duplicate(alloc)?,
+            id,
+            author,
+            filename,
             date: self.date,
             order: self.order,
             exec: self.exec,
-            md5sum: self.md5sum.duplicate(alloc)?,
-            description: self.description.duplicate(alloc)?,
-            comments: self.comments.duplicate(alloc)?,
-            tag: self.tag.duplicate(alloc)?,
-            tool: self.tool.duplicate(alloc)?,
-            contexts: self.contexts.duplicate(alloc)?,
-            labels: self.labels.duplicate(alloc)?,
-            deployment: self.deployment.duplicate(alloc)?,
+            md5sum,
+            description,
+            comments,
+            tag,
+            tool,
+            contexts,
+            labels,
+            deployment,
         })
     }
 }

@@ -12,7 +12,6 @@ use crate::text::Text;
 use std::alloc::Global;
 
 /// What a row holds in one column.
-#[derive(Debug, Drop)]
 pub enum Value {
     Null,
     Int(i64),
@@ -22,6 +21,20 @@ pub enum Value {
     Moment(i64),
     /// A decimal number: `units` divided by ten to the power `scale`.
     Fixed { units: i128, scale: u8 },
+}
+
+// Written out, so that each place that lets one go is one call.
+impl Drop for Value {
+    fn drop(self) {
+        match self {
+            Value::Null => (),
+            Value::Int(_) => (),
+            Value::Text(it) => drop(it),
+            Value::Bool(_) => (),
+            Value::Moment(_) => (),
+            Value::Fixed { units: _, scale: _ } => (),
+        }
+    }
 }
 
 impl Value {

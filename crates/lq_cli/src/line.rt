@@ -2,7 +2,7 @@ use lq_base::{Command, Items, Target, Text};
 use lq_expr::Options;
 
 /// What a command is to do.
-#[derive(Debug, Drop)]
+#[derive(Drop)]
 pub enum Job {
     /// To run a command on the database.
     Run(Command),
@@ -17,7 +17,7 @@ pub enum Job {
 }
 
 /// What the words of a command line ask for.
-#[derive(Debug, Drop)]
+#[derive(Drop)]
 pub struct Line {
     pub job: Job,
     /// The path of the database file.

@@ -14,7 +14,6 @@ use lq_rows::Shape;
 use std::alloc::Global;
 
 /// What a statement changes of a column in its place.
-#[derive(Drop)]
 pub enum Change {
     /// Whether null is allowed.
     Nullable(bool),
@@ -23,28 +22,38 @@ pub enum Change {
     Default(Option<Value>),
 }
 
+// Written out, so that each place that lets one go is one call.
+impl Drop for Change {
+    fn drop(self) {
+        match self {
+            Change::Nullable(_) => (),
+            Change::Modified(_, _) => (),
+            Change::Default(it) => drop(it),
+        }
+    }
+}
+
 impl Change {
     /// The column with the change.
     fn apply(&self, column: Column, alloc: Global) -> Result<Column, NoMemory>
         ensures { IfOk result (λ changed. changed ≡ applied self.now column) }
     {
+        let mut changed = column;
         match self {
-            Change::Nullable(nullable) => Ok(Column {
-                nullable: *nullable,
-                ..column
-            }),
-            Change::Modified(kind, nullable) => Ok(Column {
-                kind: *kind,
-                nullable: *nullable,
-                default: None,
-                numbered: false,
-                ..column
-            }),
+            Change::Nullable(nullable) => {
+                changed.nullable = *nullable;
+            }
+            Change::Modified(kind, nullable) => {
+                changed.kind = *kind;
+                changed.nullable = *nullable;
+                changed.default = None;
+                changed.numbered = false;
+            }
             Change::Default(value) => {
-                let default = value.duplicate(alloc)?;
-                Ok(Column { default, ..column })
+                changed.default = value.duplicate(alloc)?;
             }
         }
+        Ok(changed)
     }
 }
 

@@ -11,13 +11,27 @@ use lq_tree::{GivenValue, Node, known, missing, optional, public, required};
 use std::alloc::Global;
 
 /// A column gets a default (Liquibase's documentation, "addDefaultValue").
-#[derive(Debug, Drop)]
 pub struct AddDefaultValue {
     pub table_name: Name,
     pub column_name: Name,
     /// Without effect.
     pub column_data_type: Option<Kind>,
     pub default_value: GivenValue,
+}
+
+// Written out, so that each place that lets one go is one call.
+impl Drop for AddDefaultValue {
+    fn drop(self) {
+        let AddDefaultValue {
+            table_name,
+            column_name,
+            column_data_type: _,
+            default_value,
+        } = self;
+        drop(table_name);
+        drop(column_name);
+        drop(default_value);
+    }
 }
 
 const KEYS: [&str; 10] = [

@@ -12,7 +12,6 @@ use lq_tree::{Node, known, optional, public, required, required_unless};
 use std::alloc::Global;
 
 /// A column takes null no more (Liquibase's documentation, "addNotNullConstraint").
-#[derive(Debug, Drop)]
 pub struct AddNotNullConstraint {
     pub table_name: Name,
     pub column_name: Name,
@@ -20,6 +19,21 @@ pub struct AddNotNullConstraint {
     pub column_data_type: Option<Kind>,
     /// What stands in the place of the column's nulls.
     pub default_null_value: Option<Text>,
+}
+
+// Written out, so that each place that lets one go is one call.
+impl Drop for AddNotNullConstraint {
+    fn drop(self) {
+        let AddNotNullConstraint {
+            table_name,
+            column_name,
+            column_data_type: _,
+            default_null_value,
+        } = self;
+        drop(table_name);
+        drop(column_name);
+        drop(default_null_value);
+    }
 }
 
 const KEYS: [&str; 7] = [

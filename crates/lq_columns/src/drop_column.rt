@@ -8,7 +8,7 @@ use lq_tree::{Node, known, public, required};
 use std::alloc::Global;
 
 /// A column of a table is dropped (Liquibase's documentation, "dropColumn").
-#[derive(Debug, Drop)]
+#[derive(Drop)]
 pub struct DropColumn {
     pub table_name: Name,
     pub column_name: Name,

@@ -8,7 +8,7 @@ use lq_tree::{Node, known, optional, public, required};
 use std::alloc::Global;
 
 /// A column has no default any more (Liquibase's documentation, "dropDefaultValue").
-#[derive(Debug, Drop)]
+#[derive(Drop)]
 pub struct DropDefaultValue {
     pub table_name: Name,
     pub column_name: Name,

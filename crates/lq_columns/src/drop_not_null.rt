@@ -9,7 +9,7 @@ use lq_tree::{Node, known, public, required, required_unless};
 use std::alloc::Global;
 
 /// A column takes null (Liquibase's documentation, "dropNotNullConstraint").
-#[derive(Debug, Drop)]
+#[derive(Drop)]
 pub struct DropNotNullConstraint {
     pub table_name: Name,
     pub column_name: Name,

@@ -8,13 +8,27 @@ use lq_tree::{Node, known, optional, public, required};
 use std::alloc::Global;
 
 /// A column gets another name (Liquibase's documentation, "renameColumn").
-#[derive(Debug, Drop)]
 pub struct RenameColumn {
     pub table_name: Name,
     pub old_column_name: Name,
     pub new_column_name: Name,
     /// Without effect.
     pub column_data_type: Option<Kind>,
+}
+
+// Written out, so that each place that lets one go is one call.
+impl Drop for RenameColumn {
+    fn drop(self) {
+        let RenameColumn {
+            table_name,
+            old_column_name,
+            new_column_name,
+            column_data_type: _,
+        } = self;
+        drop(table_name);
+        drop(old_column_name);
+        drop(new_column_name);
+    }
 }
 
 const KEYS: [&str; 7] = [

@@ -3,7 +3,6 @@ use lq_model::Query;
 
 /// A condition of one of the thirteen kinds (Liquibase's documentation, "Preconditions"). No kind
 /// sees the tracking tables as tables.
-#[derive(Debug, Drop)]
 pub enum Condition {
     /// The dialect is one of those that the names mean: `postgresql`, `mysql`, `all`, each also with
     /// `!`, which excludes it.
@@ -58,4 +57,72 @@ pub enum Condition {
     TableIsEmpty {
         table_name: Name,
     },
+}
+
+// Written out, so that each place that lets one go is one call.
+impl Drop for Condition {
+    fn drop(self) {
+        match self {
+            Condition::Dbms { names } => drop(names),
+            Condition::TableExists { table_name } => drop(table_name),
+            Condition::ViewExists { view_name } => drop(view_name),
+            Condition::ColumnExists {
+                table_name,
+                column_name,
+            } => {
+                drop(table_name);
+                drop(column_name);
+            }
+            Condition::SequenceExists { sequence_name } => drop(sequence_name),
+            Condition::IndexExists {
+                table_name,
+                index_name,
+            } => {
+                drop(table_name);
+                drop(index_name);
+            }
+            Condition::UniqueConstraintExists {
+                table_name,
+                constraint_name,
+            } => {
+                drop(table_name);
+                drop(constraint_name);
+            }
+            Condition::ForeignKeyConstraintExists {
+                foreign_key_table_name,
+                foreign_key_name,
+            } => {
+                drop(foreign_key_table_name);
+                drop(foreign_key_name);
+            }
+            Condition::PrimaryKeyExists {
+                table_name,
+                primary_key_name,
+            } => {
+                drop(table_name);
+                drop(primary_key_name);
+            }
+            Condition::ChangeSetExecuted {
+                id,
+                author,
+                change_log_file,
+            } => {
+                drop(id);
+                drop(author);
+                drop(change_log_file);
+            }
+            Condition::SqlCheck {
+                expected_result,
+                sql,
+            } => {
+                drop(expected_result);
+                drop(sql);
+            }
+            Condition::RowCount {
+                table_name,
+                expected_rows: _,
+            } => drop(table_name),
+            Condition::TableIsEmpty { table_name } => drop(table_name),
+        }
+    }
 }

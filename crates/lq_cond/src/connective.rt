@@ -5,7 +5,7 @@ use crate::cond::Cond;
 use lq_base::Items;
 
 /// What a list of conditions is read as, by the key that holds it.
-#[derive(Clone, Copy, Debug, PartialEq, Eq)]
+#[derive(Clone, Copy, PartialEq, Eq)]
 pub(crate) enum Connective {
     And,
     Or,

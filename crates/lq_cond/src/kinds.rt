@@ -12,7 +12,7 @@ use lq_tree::{
 use std::alloc::Global;
 
 /// The kinds of conditions.
-#[derive(Clone, Copy, Debug, PartialEq, Eq)]
+#[derive(Clone, Copy, PartialEq, Eq)]
 pub(crate) enum ConditionKind {
     Dbms,
     TableExists,

@@ -11,7 +11,7 @@ use lq_tree::{Node, bad, placed};
 use std::alloc::Global;
 
 /// What a key of an item of `preConditions` says.
-#[derive(Debug, Drop)]
+#[derive(Drop)]
 pub(crate) enum Setting {
     Condition(Cond),
     OnFail(OnFail),
@@ -21,7 +21,7 @@ pub(crate) enum Setting {
 }
 
 /// What the items of `preConditions` have said so far.
-#[derive(Debug, Drop)]
+#[derive(Drop)]
 pub(crate) struct Stated {
     conds: Items<Cond>,
     on_fail: OnFail,

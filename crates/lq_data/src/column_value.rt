@@ -9,7 +9,7 @@ use lq_tree::{Given, GivenValue, Node, known, required};
 use std::alloc::Global;
 
 /// A column with the value that it takes in a row.
-#[derive(Debug, Drop)]
+#[derive(Drop)]
 pub struct ColumnValue {
     pub name: Name,
     /// Null where none is stated.

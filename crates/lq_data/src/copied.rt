@@ -1,9 +1,9 @@
 //! Statements copied.
-ghost use Rattle.std.specs.Prelude.{◌≡◌, ◌++◌, ◌∷◌, [], ◌≤◌, IfOk, OnErr, OnOk, length, take, true};
+ghost use Rattle.std.specs.Prelude.{◌≡◌, ◌++◌, ◌∷◌, [], IfOk, OnErr, OnOk, true};
 ghost use Rattle.lq_model.specs.declared.statement.Statement.TheVariants as statement;
 ghost use Rattle.lq_data.specs.Copied.{is_of_object};
 
-use lq_base::{Duplicate, Items, Kind, Name, NoMemory};
+use lq_base::{Duplicate, Items, Kind, Name, NoMemory, cut};
 use lq_model::{ColumnDef, ForeignKey, Key, Query, Statement, Unique};
 use std::alloc::Global;
 
@@ -204,16 +204,6 @@ fn copy_of(alloc: Global, statement: &Statement) -> Result<Statement, NoMemory>
         Statement::Update { table, sets, test } => copied!(alloc, Update { table, sets, test }),
         Statement::Delete { table, test } => copied!(alloc, Delete { table, test }),
         _ => copy_of_object(alloc, statement),
-    }
-}
-
-// Drops the statements from place `count` on.
-fn cut(to: &mut Items<Statement>, count: usize)
-    requires { count ≤ length to.old }
-    ensures { to.new ≡ take count to.old }
-{
-    while to.len() > count {
-        let _ = to.pop();
     }
 }
 

@@ -9,7 +9,7 @@ use lq_tree::{Node, known, public, required};
 use std::alloc::Global;
 
 /// Rows are deleted: all of a table, or those that a test takes (Liquibase's documentation, "delete").
-#[derive(Debug, Drop)]
+#[derive(Drop)]
 pub struct Delete {
     pub table_name: Name,
     /// The key `where`.

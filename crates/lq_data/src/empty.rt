@@ -8,7 +8,7 @@ use lq_tree::{Node, known, public};
 use std::alloc::Global;
 
 /// Nothing is done (Liquibase's documentation, "empty").
-#[derive(Debug, Drop)]
+#[derive(Drop)]
 pub struct Empty;
 
 const KEYS: [&str; 3] = ["schemaName", "catalogName", "remarks"];

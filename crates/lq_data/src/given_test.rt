@@ -15,7 +15,7 @@ use std::marker::Model;
 
 /// What a row is asked, as its SQL text was given, and the test that the text spells in the dialect
 /// for which it was read.
-#[derive(Debug, Drop)]
+#[derive(Drop)]
 pub struct GivenTest {
     dialect: Dialect,
     text: Text,

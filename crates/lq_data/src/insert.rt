@@ -11,7 +11,7 @@ use lq_tree::{Node, known, public, required, required_columns};
 use std::alloc::Global;
 
 /// A row is put into a table (Liquibase's documentation, "insert").
-#[derive(Debug, Drop)]
+#[derive(Drop)]
 pub struct Insert {
     pub table_name: Name,
     pub columns: Items<ColumnValue>,

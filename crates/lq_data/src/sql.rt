@@ -12,7 +12,6 @@ use std::alloc::Global;
 use std::marker::Model;
 
 /// The statements that a text spells are run (Liquibase's documentation, "sql").
-#[derive(Debug, Drop)]
 pub struct Sql {
     /// The dialect for which the text was read.
     dialect: Dialect,
@@ -21,6 +20,22 @@ pub struct Sql {
     end_delimiter: Text,
     /// What the text spells.
     statements: Items<Statement>,
+}
+
+// Written out, so that each place that lets one go is one call.
+impl Drop for Sql {
+    fn drop(self) {
+        let Sql {
+            dialect: _,
+            sql,
+            split_statements: _,
+            end_delimiter,
+            statements,
+        } = self;
+        drop(sql);
+        drop(end_delimiter);
+        drop(statements);
+    }
 }
 
 impl Model for Sql {

@@ -9,7 +9,7 @@ use std::alloc::Global;
 
 /// The changeset's row gets a tag, and nothing else is done (Liquibase's documentation,
 /// "tagDatabase").
-#[derive(Debug, Drop)]
+#[derive(Drop)]
 pub struct TagDatabase {
     pub tag: Text,
 }

@@ -12,12 +12,25 @@ use lq_tree::{Node, known, public, required, required_columns};
 use std::alloc::Global;
 
 /// Rows get other values: all of a table, or those that a test takes (Liquibase's documentation, "update").
-#[derive(Debug, Drop)]
 pub struct Update {
     pub table_name: Name,
     pub columns: Items<ColumnValue>,
     /// The key `where`.
     pub test: Option<GivenTest>,
+}
+
+// Written out, so that each place that lets one go is one call.
+impl Drop for Update {
+    fn drop(self) {
+        let Update {
+            table_name,
+            columns,
+            test,
+        } = self;
+        drop(table_name);
+        drop(columns);
+        drop(test);
+    }
 }
 
 const KEYS: [&str; 6] = [

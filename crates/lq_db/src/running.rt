@@ -19,7 +19,7 @@ pub struct Running {
 }
 
 /// How such texts end.
-#[derive(Clone, Copy, Debug, PartialEq, Eq)]
+#[derive(Clone, Copy, PartialEq, Eq)]
 pub enum Ended {
     Ran,
     Stopped(Reason),

@@ -8,13 +8,24 @@ use std::alloc::{AllocError, AllocFailed};
 use thiserror::Error;
 
 /// An expression over names, as `!test and (dev or qa), prod`.
-#[derive(Debug, Drop)]
 pub enum Expr {
     /// The name is among those given, whatever the case of its ASCII letters is.
     Name(Text),
     Not(Boxed<Expr>),
     All(Items<Expr>),
     Any(Items<Expr>),
+}
+
+// Written out, so that each place that lets one go is one call.
+impl Drop for Expr {
+    fn drop(self) {
+        match self {
+            Expr::Name(it) => drop(it),
+            Expr::Not(it) => drop(it),
+            Expr::All(it) => drop(it),
+            Expr::Any(it) => drop(it),
+        }
+    }
 }
 
 /// Why a text is no expression.

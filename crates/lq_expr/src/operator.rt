@@ -4,7 +4,7 @@ ghost use Rattle.lq_expr.specs.Grammar.{is_operator};
 use crate::word::Word;
 
 /// What joins the parts of an expression, from the loosest to the tightest.
-#[derive(Clone, Copy, Debug, PartialEq, Eq)]
+#[derive(Clone, Copy, PartialEq, Eq)]
 pub enum Operator {
     Comma,
     Or,

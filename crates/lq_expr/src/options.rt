@@ -2,7 +2,7 @@ use crate::expr::Expr;
 use lq_base::{Dialect, Items, Text};
 
 /// What a run is asked for besides its command.
-#[derive(Debug, Drop)]
+#[derive(Drop)]
 pub struct Options {
     /// The profile of the engine that the database is of.
     pub dialect: Dialect,

@@ -5,7 +5,7 @@ use lq_base::{NoMemory, Text};
 use std::alloc::Global;
 
 /// A word of an expression.
-#[derive(Debug, Drop)]
+#[derive(Drop)]
 pub enum Word {
     Open,
     Close,

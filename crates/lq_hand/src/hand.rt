@@ -16,7 +16,7 @@ use lq_turns::{Call, Turn};
 use std::alloc::Global;
 
 /// Where a command stands that has begun.
-#[derive(Clone, Copy, Debug)]
+#[derive(Clone, Copy)]
 pub enum Phase {
     Inside,
     /// A statement of the turn was refused.
@@ -26,7 +26,7 @@ pub enum Phase {
 }
 
 /// The turn in hand.
-#[derive(Debug, Drop)]
+#[derive(Drop)]
 pub struct Hand {
     pub phase: Phase,
     /// Its calls that are still to be made, the next of them last.

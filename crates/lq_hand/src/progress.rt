@@ -9,7 +9,7 @@ use lq_base::{Dialect, Reason};
 use lq_turns::{Call, Deed, Refusal};
 
 /// How far the turn in hand has come.
-#[derive(Clone, Copy, Debug)]
+#[derive(Clone, Copy)]
 pub struct Progress {
     /// How many of its user's statements were accepted.
     pub statement: u64,
@@ -18,7 +18,7 @@ pub struct Progress {
 }
 
 /// What a call is to the count of a turn's statements.
-#[derive(Clone, Copy, Debug)]
+#[derive(Clone, Copy)]
 pub enum Coming {
     /// A user's statement, and whether it commits by itself.
     Statement(bool),

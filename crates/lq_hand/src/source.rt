@@ -12,7 +12,7 @@ use lq_turns::Stamp;
 use std::alloc::Global;
 
 /// What comes where no turn is in hand.
-#[derive(Debug, Drop)]
+#[derive(Drop)]
 pub enum Entered {
     Turn(Hand),
     NoTurn,

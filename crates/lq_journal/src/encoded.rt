@@ -7,7 +7,7 @@ use std::marker::Model;
 
 /// An entry that is ready to be written: its bytes, with the closed gate that is written behind it.
 /// Contracts see it as its texts.
-#[derive(Debug, Drop)]
+#[derive(Drop)]
 pub struct EncodedEntry {
     bytes: Vec<u8>,
     /// The length of each text.

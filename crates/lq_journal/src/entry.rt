@@ -1,7 +1,7 @@
 use lq_base::{Items, Text};
 
 /// A committed transaction.
-#[derive(Debug, Drop)]
+#[derive(Drop)]
 pub struct Entry {
     /// The place of its first byte in the file.
     pub at: u64,

@@ -13,7 +13,6 @@ use lq_tree::{Node, known, optional, public, required};
 use std::alloc::Global;
 
 /// A table gets a foreign key (Liquibase's documentation, "addForeignKeyConstraint").
-#[derive(Debug, Drop)]
 pub struct AddForeignKeyConstraint {
     pub constraint_name: Name,
     pub base_table_name: Name,
@@ -21,6 +20,26 @@ pub struct AddForeignKeyConstraint {
     pub referenced_table_name: Name,
     pub referenced_column_names: Items<Name>,
     pub on_delete: Option<OnDelete>,
+}
+
+// Written out, so that each place that lets one go is one call.
+impl Drop for AddForeignKeyConstraint {
+    fn drop(self) {
+        let AddForeignKeyConstraint {
+            constraint_name,
+            base_table_name,
+            base_column_names,
+            referenced_table_name,
+            referenced_column_names,
+            on_delete,
+        } = self;
+        drop(constraint_name);
+        drop(base_table_name);
+        drop(base_column_names);
+        drop(referenced_table_name);
+        drop(referenced_column_names);
+        drop(on_delete);
+    }
 }
 
 // Whether a key has the truth value false, where it is there.

@@ -14,12 +14,25 @@ use lq_tree::{Node, known, optional, public, required};
 use std::alloc::Global;
 
 /// A table gets a primary key (Liquibase's documentation, "addPrimaryKey").
-#[derive(Debug, Drop)]
 pub struct AddPrimaryKey {
     pub table_name: Name,
     pub column_names: Items<Name>,
     /// Without effect under MySQL.
     pub constraint_name: Option<Name>,
+}
+
+// Written out, so that each place that lets one go is one call.
+impl Drop for AddPrimaryKey {
+    fn drop(self) {
+        let AddPrimaryKey {
+            table_name,
+            column_names,
+            constraint_name,
+        } = self;
+        drop(table_name);
+        drop(column_names);
+        drop(constraint_name);
+    }
 }
 
 const KEYS: [&str; 6] = [

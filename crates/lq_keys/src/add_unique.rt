@@ -12,11 +12,24 @@ use lq_tree::{Node, known, optional, public, required};
 use std::alloc::Global;
 
 /// A table gets a unique constraint (Liquibase's documentation, "addUniqueConstraint").
-#[derive(Debug, Drop)]
 pub struct AddUniqueConstraint {
     pub table_name: Name,
     pub column_names: Items<Name>,
     pub constraint_name: Option<Name>,
+}
+
+// Written out, so that each place that lets one go is one call.
+impl Drop for AddUniqueConstraint {
+    fn drop(self) {
+        let AddUniqueConstraint {
+            table_name,
+            column_names,
+            constraint_name,
+        } = self;
+        drop(table_name);
+        drop(column_names);
+        drop(constraint_name);
+    }
 }
 
 const KEYS: [&str; 6] = [

@@ -13,12 +13,26 @@ use lq_tree::{Node, known, optional, public, required, required_columns};
 use std::alloc::Global;
 
 /// An index is made (Liquibase's documentation, "createIndex").
-#[derive(Debug, Drop)]
 pub struct CreateIndex {
     pub index_name: Option<Name>,
     pub table_name: Name,
     pub columns: Items<IndexColumn>,
     pub unique: Option<bool>,
+}
+
+// Written out, so that each place that lets one go is one call.
+impl Drop for CreateIndex {
+    fn drop(self) {
+        let CreateIndex {
+            index_name,
+            table_name,
+            columns,
+            unique: _,
+        } = self;
+        drop(index_name);
+        drop(table_name);
+        drop(columns);
+    }
 }
 
 const KEYS: [&str; 7] = [

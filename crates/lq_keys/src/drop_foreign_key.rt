@@ -9,7 +9,7 @@ use lq_tree::{Node, known, public, required};
 use std::alloc::Global;
 
 /// A foreign key of a table is dropped (Liquibase's documentation, "dropForeignKeyConstraint").
-#[derive(Debug, Drop)]
+#[derive(Drop)]
 pub struct DropForeignKeyConstraint {
     pub base_table_name: Name,
     pub constraint_name: Name,

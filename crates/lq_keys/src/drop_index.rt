@@ -9,7 +9,7 @@ use lq_tree::{Node, known, public, required};
 use std::alloc::Global;
 
 /// An index is dropped (Liquibase's documentation, "dropIndex").
-#[derive(Debug, Drop)]
+#[derive(Drop)]
 pub struct DropIndex {
     pub index_name: Name,
     /// Without effect under PostgreSQL, where an index is found by its name.

@@ -11,7 +11,7 @@ use lq_tree::{Node, known, optional, public, required};
 use std::alloc::Global;
 
 /// The primary key of a table is dropped (Liquibase's documentation, "dropPrimaryKey").
-#[derive(Debug, Drop)]
+#[derive(Drop)]
 pub struct DropPrimaryKey {
     pub table_name: Name,
     /// Without effect under MySQL.

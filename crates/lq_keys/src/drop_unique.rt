@@ -9,7 +9,7 @@ use lq_tree::{Node, known, public, required};
 use std::alloc::Global;
 
 /// A unique constraint of a table is dropped (Liquibase's documentation, "dropUniqueConstraint").
-#[derive(Debug, Drop)]
+#[derive(Drop)]
 pub struct DropUniqueConstraint {
     pub table_name: Name,
     pub constraint_name: Name,

@@ -6,7 +6,7 @@ use lq_tree::{Given, Node, known, required};
 use std::alloc::Global;
 
 /// A column of an index.
-#[derive(Debug, Drop)]
+#[derive(Drop)]
 pub struct IndexColumn {
     pub name: Name,
 }

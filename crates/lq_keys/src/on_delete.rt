@@ -9,7 +9,7 @@ use lq_tree::{Given, Node, bad};
 use std::alloc::Global;
 
 /// What a foreign key states of the deletion of the row that a row targets.
-#[derive(Clone, Copy, Debug)]
+#[derive(Clone, Copy)]
 pub enum OnDelete {
     NoAction,
     Restrict,

@@ -20,7 +20,6 @@ use lq_views::{CreateSequence, CreateView, DropSequence, DropView, RenameSequenc
 use std::alloc::Global;
 
 /// A change of any type (Liquibase's documentation, "Change Types").
-#[derive(Debug)]
 pub enum AnyChange {
     CreateTable(CreateTable),
     DropTable(DropTable),

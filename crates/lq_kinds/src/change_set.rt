@@ -4,7 +4,6 @@ use lq_cond::Cond;
 use lq_expr::Expr;
 
 /// A changeset, as it is read for one dialect (Liquibase's documentation, "Changeset").
-#[derive(Debug)]
 pub struct ChangeSet {
     pub identity: Identity,
     /// Whether its `dbms` means the dialect. Otherwise its changes and its rollback are not read.
@@ -59,7 +58,6 @@ impl Drop for ChangeSet {
 }
 
 /// The changesets of a changelog in order, with its own precondition.
-#[derive(Debug)]
 pub struct Changelog {
     pub cond: Cond,
     pub on_fail: OnFail,

@@ -8,14 +8,14 @@ use lq_tree::{Given, Node, Reader, bad, bad_key, optional_by};
 use std::alloc::Global;
 
 /// A context as it is written, with its expression. A text of blanks alone has none.
-#[derive(Debug, Drop)]
+#[derive(Drop)]
 pub struct Context {
     pub text: Text,
     pub expression: Option<Expr>,
 }
 
 /// Labels as they are written, and one by one.
-#[derive(Debug, Drop)]
+#[derive(Drop)]
 pub struct LabelNames {
     pub text: Text,
     pub names: Items<Text>,

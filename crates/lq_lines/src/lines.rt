@@ -2,7 +2,7 @@ use lq_base::Items;
 use lq_cli::Line;
 
 /// What the file of a drill gives.
-#[derive(Debug, Drop)]
+#[derive(Drop)]
 pub struct Lines {
     /// What the command lines ask for, 1 to 64 of them.
     pub lines: Items<Line>,

@@ -7,14 +7,14 @@ use std::alloc::Global;
 use std::marker::Model;
 
 /// What a writer of canonical text can have begun and not yet ended.
-#[derive(Clone, Copy, Debug, PartialEq, Eq)]
+#[derive(Clone, Copy, PartialEq, Eq)]
 pub enum Begun {
     List,
     Map,
 }
 
 /// A place in what a writer writes, to which it can go back.
-#[derive(Clone, Copy, Debug)]
+#[derive(Clone, Copy)]
 pub struct Mark {
     /// How many bytes were written.
     pub written: usize,
@@ -30,7 +30,7 @@ pub struct Mark {
 /// changeset the list of its changes: `[9:dropTable{9:tableNamet1:t}]`.
 ///
 /// Each call appends one part, or changes nothing where there is no memory.
-#[derive(Debug, Drop)]
+#[derive(Drop)]
 pub struct Canon {
     written: Vec<u8>,
     /// The last one begun stands last.

@@ -13,7 +13,7 @@ use lq_base::{Dialect, Items, NoMemory};
 use std::alloc::Global;
 
 /// How a change is taken back.
-#[derive(Debug, Drop)]
+#[derive(Drop)]
 pub enum Undo {
     /// By these statements, of which there may be none.
     Generated(Items<Statement>),

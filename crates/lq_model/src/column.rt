@@ -2,7 +2,6 @@ use lq_base::{Duplicate, Kind, Literal, Name, NoMemory, Value};
 use std::alloc::Global;
 
 /// A column of a table that is there.
-#[derive(Debug, Drop)]
 pub struct Column {
     pub name: Name,
     pub kind: Kind,
@@ -12,14 +11,43 @@ pub struct Column {
     pub numbered: bool,
 }
 
+// Written out, so that each place that lets one go is one call.
+impl Drop for Column {
+    fn drop(self) {
+        let Column {
+            name,
+            kind: _,
+            nullable: _,
+            default,
+            numbered: _,
+        } = self;
+        drop(name);
+        drop(default);
+    }
+}
+
 /// A column as a statement describes it.
-#[derive(Debug, Drop)]
 pub struct ColumnDef {
     pub name: Name,
     pub kind: Kind,
     pub nullable: bool,
     pub default: Option<Literal>,
     pub numbered: bool,
+}
+
+// Written out, so that each place that lets one go is one call.
+impl Drop for ColumnDef {
+    fn drop(self) {
+        let ColumnDef {
+            name,
+            kind: _,
+            nullable: _,
+            default,
+            numbered: _,
+        } = self;
+        drop(name);
+        drop(default);
+    }
 }
 
 impl Duplicate for Column {

@@ -7,7 +7,7 @@ use lq_base::{Items, Kind, Name, Text};
 
 /// What a key has in canonical text. `Name` and `NamesOf` say it of the name and the list themselves, so
 /// that a contract needs no step from what `as_key` and `as_slice` answer.
-#[derive(Clone, Copy, Debug)]
+#[derive(Clone, Copy)]
 pub enum Field<'a> {
     Text(&'a str),
     Name(&'a Name),

@@ -3,23 +3,46 @@ use lq_base::{Duplicate, Items, Name, NoMemory, Value};
 use std::alloc::Global;
 
 /// What a query selects of each row, or of all rows.
-#[derive(Debug, Drop)]
 pub enum Wanted {
     All,
     Count,
     Columns(Items<Name>),
 }
 
+// Written out, so that each place that lets one go is one call.
+impl Drop for Wanted {
+    fn drop(self) {
+        match self {
+            Wanted::All => (),
+            Wanted::Count => (),
+            Wanted::Columns(it) => drop(it),
+        }
+    }
+}
+
 /// A query of one table or view.
-#[derive(Debug, Drop)]
 pub struct Query {
     pub wanted: Wanted,
     pub table: Name,
     pub test: Option<Test>,
 }
 
+// Written out, so that each place that lets one go is one call.
+impl Drop for Query {
+    fn drop(self) {
+        let Query {
+            wanted,
+            table,
+            test,
+        } = self;
+        drop(wanted);
+        drop(table);
+        drop(test);
+    }
+}
+
 /// The answer to a query.
-#[derive(Debug, Drop)]
+#[derive(Drop)]
 pub struct Answered {
     /// How many values each row has.
     pub columns: u64,

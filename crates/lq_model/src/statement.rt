@@ -9,7 +9,6 @@ use crate::test::Test;
 use lq_base::{Dialect, Items, Kind, Literal, Name};
 
 /// What the engine runs. Which of these a dialect has, and how they are spelled, the spellings say.
-#[derive(Debug, Drop)]
 pub enum Statement {
     CreateTable {
         table: Name,
@@ -147,6 +146,149 @@ pub enum Statement {
         table: Name,
         test: Option<Test>,
     },
+}
+
+// Written out, so that each place that lets one go is one call.
+impl Drop for Statement {
+    fn drop(self) {
+        match self {
+            Statement::CreateTable {
+                table,
+                columns,
+                key,
+                uniques,
+                foreign,
+            } => {
+                drop(table);
+                drop(columns);
+                drop(key);
+                drop(uniques);
+                drop(foreign);
+            }
+            Statement::DropTable { table } => drop(table),
+            Statement::RenameTable { table, to } => {
+                drop(table);
+                drop(to);
+            }
+            Statement::AddColumn { table, column } => {
+                drop(table);
+                drop(column);
+            }
+            Statement::DropColumn { table, column } => {
+                drop(table);
+                drop(column);
+            }
+            Statement::RenameColumn { table, column, to } => {
+                drop(table);
+                drop(column);
+                drop(to);
+            }
+            Statement::SetNotNull { table, column } => {
+                drop(table);
+                drop(column);
+            }
+            Statement::DropNotNull { table, column } => {
+                drop(table);
+                drop(column);
+            }
+            Statement::Modify {
+                table,
+                column,
+                kind: _,
+                nullable: _,
+            } => {
+                drop(table);
+                drop(column);
+            }
+            Statement::SetDefault {
+                table,
+                column,
+                value,
+            } => {
+                drop(table);
+                drop(column);
+                drop(value);
+            }
+            Statement::DropDefault { table, column } => {
+                drop(table);
+                drop(column);
+            }
+            Statement::AddPrimaryKey { table, key } => {
+                drop(table);
+                drop(key);
+            }
+            Statement::AddUnique { table, unique } => {
+                drop(table);
+                drop(unique);
+            }
+            Statement::AddForeignKey { table, foreign } => {
+                drop(table);
+                drop(foreign);
+            }
+            Statement::DropConstraint { table, name } => {
+                drop(table);
+                drop(name);
+            }
+            Statement::DropPrimaryKey { table } => drop(table),
+            Statement::DropUnique { table, name } => {
+                drop(table);
+                drop(name);
+            }
+            Statement::DropForeignKey { table, name } => {
+                drop(table);
+                drop(name);
+            }
+            Statement::CreateIndex { table, index } => {
+                drop(table);
+                drop(index);
+            }
+            Statement::DropIndex { name, table } => {
+                drop(name);
+                drop(table);
+            }
+            Statement::CreateView {
+                view,
+                query,
+                replace: _,
+            } => {
+                drop(view);
+                drop(query);
+            }
+            Statement::DropView { view } => drop(view),
+            Statement::RenameView { view, to } => {
+                drop(view);
+                drop(to);
+            }
+            Statement::CreateSequence {
+                name,
+                start: _,
+                step: _,
+            } => drop(name),
+            Statement::DropSequence { name } => drop(name),
+            Statement::RenameSequence { name, to } => {
+                drop(name);
+                drop(to);
+            }
+            Statement::Insert {
+                table,
+                columns,
+                values,
+            } => {
+                drop(table);
+                drop(columns);
+                drop(values);
+            }
+            Statement::Update { table, sets, test } => {
+                drop(table);
+                drop(sets);
+                drop(test);
+            }
+            Statement::Delete { table, test } => {
+                drop(table);
+                drop(test);
+            }
+        }
+    }
 }
 
 impl Statement {

@@ -3,7 +3,7 @@ use crate::constraint::{ForeignKey, Key, Unique};
 use lq_base::{Kind, Literal, Name};
 
 /// A constraint that an SQL text states apart from its columns.
-#[derive(Debug, Drop)]
+#[derive(Drop)]
 pub enum TableConstraint {
     Key(Key),
     Unique(Unique),
@@ -11,7 +11,6 @@ pub enum TableConstraint {
 }
 
 /// What stands between two commas of CREATE TABLE. A column has the constraints that its clauses state.
-#[derive(Debug, Drop)]
 pub enum TableItem {
     Column {
         column: ColumnDef,
@@ -22,15 +21,35 @@ pub enum TableItem {
     Constraint(TableConstraint),
 }
 
+// Written out, so that each place that lets one go is one call.
+impl Drop for TableItem {
+    fn drop(self) {
+        match self {
+            TableItem::Column {
+                column,
+                key,
+                unique,
+                foreign,
+            } => {
+                drop(column);
+                drop(key);
+                drop(unique);
+                drop(foreign);
+            }
+            TableItem::Constraint(it) => drop(it),
+        }
+    }
+}
+
 /// The table and column that a column's REFERENCES names.
-#[derive(Debug, Drop)]
+#[derive(Drop)]
 pub struct Target {
     pub table: Name,
     pub column: Name,
 }
 
 /// What one clause of a column states.
-#[derive(Debug, Drop)]
+#[derive(Drop)]
 pub enum ColumnClause {
     /// True for NULL, false for NOT NULL.
     Nullable(bool),
@@ -43,7 +62,7 @@ pub enum ColumnClause {
 }
 
 /// A column with what its clauses in an SQL text state of it.
-#[derive(Debug, Drop)]
+#[derive(Drop)]
 pub struct StatedColumn {
     pub name: Name,
     pub kind: Kind,

@@ -2,7 +2,7 @@ use lq_base::{Boxed, Duplicate, Literal, Name, NoMemory};
 use std::alloc::Global;
 
 /// A comparison's operator.
-#[derive(Clone, Copy, Debug, PartialEq, Eq)]
+#[derive(Clone, Copy, PartialEq, Eq)]
 pub enum Op {
     Eq,
     Ne,
@@ -13,14 +13,22 @@ pub enum Op {
 }
 
 /// One side of a comparison.
-#[derive(Debug, Drop)]
 pub enum Operand {
     Column(Name),
     Literal(Literal),
 }
 
+// Written out, so that each place that lets one go is one call.
+impl Drop for Operand {
+    fn drop(self) {
+        match self {
+            Operand::Column(it) => drop(it),
+            Operand::Literal(it) => drop(it),
+        }
+    }
+}
+
 /// What a WHERE clause asks of a row.
-#[derive(Debug, Drop)]
 pub enum Test {
     Compare { op: Op, x: Operand, y: Operand },
     IsNull(Operand),
@@ -28,6 +36,29 @@ pub enum Test {
     And(Boxed<Test>, Boxed<Test>),
     Or(Boxed<Test>, Boxed<Test>),
     Not(Boxed<Test>),
+}
+
+// Written out, so that each place that lets one go is one call.
+impl Drop for Test {
+    fn drop(self) {
+        match self {
+            Test::Compare { op: _, x, y } => {
+                drop(x);
+                drop(y);
+            }
+            Test::IsNull(it) => drop(it),
+            Test::NotNull(it) => drop(it),
+            Test::And(a, b) => {
+                drop(a);
+                drop(b);
+            }
+            Test::Or(a, b) => {
+                drop(a);
+                drop(b);
+            }
+            Test::Not(it) => drop(it),
+        }
+    }
 }
 
 impl Duplicate for Operand {

@@ -1,7 +1,7 @@
 use lq_base::Text;
 
 /// What a word of an SQL text is: a name or a literal, a mark, or one of the words of the statements.
-#[derive(Clone, Copy, Debug, PartialEq, Eq)]
+#[derive(Clone, Copy, PartialEq, Eq)]
 pub enum WordKind {
     /// The end of the text.
     End,
@@ -144,7 +144,7 @@ pub const SPELLINGS: [(&[u8], WordKind); 62] = [
 
 /// A word of an SQL text. `text` is what stands in the quotes of a string or a name, a number as it
 /// is written, and a word that may be a name as that name; of other words and of marks it is empty.
-#[derive(Debug, Drop)]
+#[derive(Drop)]
 pub struct Word {
     pub kind: WordKind,
     pub text: Text,

@@ -6,7 +6,7 @@ use lq_statement::parse;
 use std::alloc::Global;
 
 /// SQL text of MySQL.
-#[derive(Clone, Copy, Debug)]
+#[derive(Clone, Copy)]
 pub struct My;
 
 impl SqlText for My {

@@ -16,7 +16,7 @@ pub enum FilesFault {
 }
 
 /// What a path leads to.
-#[derive(Debug, Drop)]
+#[derive(Drop)]
 pub enum Found {
     /// The file's bytes, at most 16,777,216.
     Bytes(Items<u8>),

@@ -14,7 +14,7 @@ pub struct Plan {
 }
 
 /// A call was to fail.
-#[derive(Clone, Copy, Debug, PartialEq, Eq)]
+#[derive(Clone, Copy, PartialEq, Eq)]
 pub struct Refused;
 
 impl Plan {

@@ -1,5 +1,5 @@
 /// A disk that could not be opened as what it was to be: the disk itself, and why.
-#[derive(Debug, Drop)]
+#[derive(Drop)]
 pub struct LoadRefused<D, E> {
     pub disk: D,
     pub fault: E,

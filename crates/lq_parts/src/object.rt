@@ -6,7 +6,7 @@ use std::alloc::Global;
 use std::marker::Model;
 
 /// A view: its query, and the columns that it has.
-#[derive(Debug, Drop)]
+#[derive(Drop)]
 pub struct View {
     query: Query,
     columns: Items<Name>,
@@ -55,7 +55,7 @@ impl Duplicate for View {
 }
 
 /// A sequence: where it starts, and by how much each number is above the one before.
-#[derive(Debug, Drop)]
+#[derive(Drop)]
 pub struct Sequence {
     start: i128,
     step: i128,

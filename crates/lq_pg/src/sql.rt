@@ -6,7 +6,7 @@ use lq_statement::parse;
 use std::alloc::Global;
 
 /// SQL text of PostgreSQL.
-#[derive(Clone, Copy, Debug)]
+#[derive(Clone, Copy)]
 pub struct Pg;
 
 impl SqlText for Pg {

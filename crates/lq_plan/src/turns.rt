@@ -17,7 +17,7 @@ use lq_turns::What;
 use std::alloc::Global;
 
 /// A changeset that has a turn: its place in the changelog, from 0, and what that turn is by its row.
-#[derive(Clone, Copy, Debug, PartialEq, Eq)]
+#[derive(Clone, Copy, PartialEq, Eq)]
 pub struct Item {
     pub index: usize,
     pub what: What,

@@ -11,7 +11,7 @@ use lq_turns::{Answer, Deed, Refusal, Stamp};
 use std::alloc::Global;
 
 /// The only call of a command: these deeds, in a transaction of their own.
-#[derive(Debug, Drop)]
+#[derive(Drop)]
 pub struct OneCall {
     pub deeds: Items<Deed>,
     /// How much of the journal it may fill.
@@ -21,7 +21,7 @@ pub struct OneCall {
 }
 
 /// What the checks of a command come to.
-#[derive(Debug, Drop)]
+#[derive(Drop)]
 pub enum Verdict {
     /// It makes no call, and answers so.
     Answer(Answer),

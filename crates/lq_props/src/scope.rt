@@ -1,7 +1,7 @@
 use lq_base::Text;
 
 /// Where a property has been defined.
-#[derive(Debug, Drop)]
+#[derive(Drop)]
 pub enum Scope {
     /// On the command line.
     Command,

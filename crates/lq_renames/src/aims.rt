@@ -8,7 +8,7 @@ ghost use Rattle.lq_parts.specs.Steps.{edit_at};
 ghost use Rattle.lq_rows.specs.Answers.{Continues};
 ghost use Rattle.lq_rows.specs.Stored.{with_shape};
 
-use lq_base::{Duplicate, Items, Name, NoMemory};
+use lq_base::{Duplicate, Items, Name, NoMemory, both};
 use lq_model::ForeignKey;
 use lq_parts::Parts;
 use lq_rows::{Held, Shape};
@@ -28,10 +28,10 @@ fn renamed(alloc: Global, from: &Name, to: &Name, name: &Name) -> Result<Name, N
 fn retarget(alloc: Global, from: &Name, to: &Name, key: &ForeignKey) -> Result<ForeignKey, NoMemory>
     ensures { IfOk result (λ new. new ≡ retarget from.now to.now key.now) }
 {
-    Ok(ForeignKey {
-        table: renamed(alloc, from, to, &key.table)?,
-        ..key.duplicate(alloc)?
-    })
+    let (table, copy) = both(renamed(alloc, from, to, &key.table), key.duplicate(alloc))?;
+    let mut new = copy;
+    new.table = table;
+    Ok(new)
 }
 
 fn retarget_each(

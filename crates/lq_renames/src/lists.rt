@@ -3,7 +3,7 @@ ghost use Rattle.std.specs.Prelude.{◌≡◌, IfOk, map};
 ghost use Rattle.lq_model.specs.RenameColumn.{name_at, names_at};
 ghost use Rattle.lq_renames.specs.Listed.{column_at, foreign_at, index_at, key_at, unique_at};
 
-use lq_base::{Duplicate, Items, Name, NoMemory};
+use lq_base::{Duplicate, Items, Name, NoMemory, both};
 use lq_model::{Column, ForeignKey, Index, Key, Unique};
 use std::alloc::Global;
 
@@ -42,10 +42,13 @@ fn column(
 ) -> Result<Column, NoMemory>
     ensures { IfOk result (λ new. new ≡ column_at own from.now to.now column.now) }
 {
-    Ok(Column {
-        name: name_at(alloc, own, from, to, &column.name)?,
-        ..column.duplicate(alloc)?
-    })
+    let (name, copy) = both(
+        name_at(alloc, own, from, to, &column.name),
+        column.duplicate(alloc),
+    )?;
+    let mut new = copy;
+    new.name = name;
+    Ok(new)
 }
 
 /// The columns with the new name.

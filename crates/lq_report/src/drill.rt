@@ -7,7 +7,7 @@ use lq_base::{Command, NoMemory, Target, Text};
 use std::alloc::Global;
 
 /// How far a command line of a drill came.
-#[derive(Debug, Drop)]
+#[derive(Drop)]
 pub struct Drilled {
     pub command: Command,
     /// The status that the command ended with, if it ended.

@@ -4,7 +4,7 @@ ghost use Rattle.lq_report.specs.Mark.{at_last_bar, is_count, statement_of, mark
 use lq_base::{NoMemory, Text, is_digits};
 
 /// What LOCKEDBY tells of a changeset that is not one transaction: the statement that it was at.
-#[derive(Clone, Copy, Debug)]
+#[derive(Clone, Copy)]
 pub struct Mark<'a> {
     /// The changeset's identity, as `FILE::ID::AUTHOR`.
     pub identity: &'a str,

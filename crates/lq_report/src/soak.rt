@@ -6,7 +6,7 @@ use lq_base::{NoMemory, Text};
 use std::alloc::Global;
 
 /// What `soak` counted.
-#[derive(Debug, Drop)]
+#[derive(Drop)]
 pub struct Soaked {
     /// The changesets of its changelog.
     pub sets: u64,

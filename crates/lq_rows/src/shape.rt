@@ -3,7 +3,7 @@ use lq_model::{Column, ForeignKey, Index, Key, Unique};
 use std::alloc::Global;
 
 /// What a table is but for its rows and its next number.
-#[derive(Debug, Drop)]
+#[derive(Drop)]
 pub struct Shape {
     pub columns: Items<Column>,
     pub key: Option<Key>,

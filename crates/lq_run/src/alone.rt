@@ -29,7 +29,7 @@ use lq_turns::{Deed, OnLock, OnRows, Stamp};
 use std::alloc::Global;
 
 /// What of the tracking tables is there.
-#[derive(Clone, Copy, Debug)]
+#[derive(Clone, Copy)]
 pub struct Tables {
     pub log: bool,
     pub lock: bool,

@@ -22,7 +22,7 @@ use lq_turns::{Call, Deed};
 use std::alloc::Global;
 
 /// What became of a call.
-#[derive(Clone, Copy, Debug)]
+#[derive(Clone, Copy)]
 pub enum Moved {
     On,
     Refused(Reason),

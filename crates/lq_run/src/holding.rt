@@ -5,7 +5,7 @@ use lq_base::{Lock, Text};
 use lq_turns::Stamp;
 
 /// How the lock stands for a command that took it.
-#[derive(Clone, Copy, Debug)]
+#[derive(Clone, Copy)]
 pub enum Holding {
     /// Held with the command's bare name.
     Bare,

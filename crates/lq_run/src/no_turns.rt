@@ -5,7 +5,7 @@ use lq_turns::Stamp;
 use std::alloc::Global;
 
 /// The turns to come of a command that has none but the one in hand.
-#[derive(Clone, Copy, Debug)]
+#[derive(Clone, Copy)]
 pub struct NoTurns;
 
 impl Source for NoTurns {

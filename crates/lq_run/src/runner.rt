@@ -35,7 +35,7 @@ use lq_turns::{Deed, OnLock, Refusal, Stamp};
 use std::alloc::Global;
 
 /// How a command ends whose checks are passed.
-#[derive(Debug, Drop)]
+#[derive(Drop)]
 pub enum End {
     Done,
     /// A statement of a turn was refused.
@@ -49,7 +49,7 @@ pub enum End {
 }
 
 /// What a step of a command that has begun came to.
-#[derive(Debug, Drop)]
+#[derive(Drop)]
 pub enum Step {
     /// It made a call, and one is still to be made.
     Going,

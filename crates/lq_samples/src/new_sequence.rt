@@ -3,7 +3,7 @@ use lq_model::{Canon, Change, Field, Look, Statement, Undo, write_change};
 use std::alloc::Global;
 
 /// A change that makes a sequence which counts from 1 by 1 (Liquibase's documentation, "createSequence").
-#[derive(Debug, Drop)]
+#[derive(Drop)]
 pub struct NewSequence {
     pub name: Name,
 }

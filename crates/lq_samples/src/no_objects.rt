@@ -7,7 +7,7 @@ use lq_model::{Answered, AskFault, By, Column, ForeignKey, Index, Key, Look, Que
 use std::alloc::Global;
 
 /// A look at a catalogue in which nothing was made.
-#[derive(Clone, Copy, Debug)]
+#[derive(Clone, Copy)]
 pub struct NoObjects;
 
 fn is_word(name: &str, word: &str) -> bool

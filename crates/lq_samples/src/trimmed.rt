@@ -8,7 +8,7 @@ use lq_sqllex::laws::lexemes_go_on;
 use std::alloc::Global;
 
 /// SQL text of a reader's dialect, handed to that reader without the spaces at its front.
-#[derive(Clone, Copy, Debug)]
+#[derive(Clone, Copy)]
 pub struct Trimmed<P> {
     pub reader: P,
 }

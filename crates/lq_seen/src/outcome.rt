@@ -4,7 +4,7 @@ use lq_base::{Happened, Identity, Items, Printed, Why};
 use std::alloc::Global;
 
 /// What a command did, as far as it came.
-#[derive(Debug, Drop)]
+#[derive(Drop)]
 pub struct Outcome {
     pub happened: Items<Happened>,
     /// How many changes, of changesets that ran, were not fresh at their place.
@@ -21,7 +21,7 @@ pub struct Outcome {
 }
 
 /// A precondition that halted a command, with its changeset. The changelog's own has no identity.
-#[derive(Debug, Drop)]
+#[derive(Drop)]
 pub struct Halt {
     pub identity: Option<Identity>,
     pub why: Why,

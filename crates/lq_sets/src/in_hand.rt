@@ -13,7 +13,7 @@ use lq_turns::Choice;
 use std::alloc::Global;
 
 /// The turn of a changeset that is in hand.
-#[derive(Debug, Drop)]
+#[derive(Drop)]
 pub struct InHand {
     pub identity: Identity,
     /// What the changeset does.

@@ -36,7 +36,7 @@ use std::alloc::Global;
 const LAST_PLACE: u32 = 2147483647;
 
 /// The turns of an update, changeset after changeset (Liquibase's documentation, "update").
-#[derive(Debug, Drop)]
+#[derive(Drop)]
 pub struct SetTurns {
     changelog: Changelog,
     options: Options,

@@ -44,13 +44,11 @@ fn names_of_key<'a>(alloc: Global, key: &'a Option<Key>) -> Result<Names<'a>, No
 fn keyed(names: &Names<'_>, column: Column) -> Column
     ensures { result ≡ cond (is_in column.name names.now) (record column { nullable = false }) column }
 {
-    if names.has(&column.name) {
-        return Column {
-            nullable: false,
-            ..column
-        };
+    let mut made = column;
+    if names.has(&made.name) {
+        made.nullable = false;
     }
-    column
+    made
 }
 
 /// The column that is made of what the statement says of it.

@@ -9,7 +9,7 @@ use lq_outside::FilesFault;
 use std::alloc::{AllocError, AllocFailed};
 
 /// What is wrong in a file.
-#[derive(Debug, Drop)]
+#[derive(Drop)]
 pub enum What {
     NotJson,
     FloatNumber,
@@ -27,7 +27,7 @@ pub enum What {
 }
 
 /// Why no changelog was loaded.
-#[derive(Debug, Drop)]
+#[derive(Drop)]
 pub enum LoadFault {
     /// The files failed.
     Read,

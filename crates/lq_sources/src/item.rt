@@ -9,7 +9,7 @@ use lq_tree::{Node, bad_key, known, missing, optional, placed, required};
 use std::alloc::Global;
 
 /// What an include says of a file, or an includeAll of a folder.
-#[derive(Debug, Drop)]
+#[derive(Drop)]
 pub struct Included {
     pub path: Text,
     /// Whether the path is from the including file's folder.
@@ -17,7 +17,7 @@ pub struct Included {
 }
 
 /// A property, and whether it is for the dialect.
-#[derive(Debug, Drop)]
+#[derive(Drop)]
 pub struct Property {
     pub name: Text,
     pub value: Text,
@@ -26,7 +26,7 @@ pub struct Property {
 }
 
 /// An item of a changelog's list.
-#[derive(Debug, Drop)]
+#[derive(Drop)]
 pub enum Item {
     Include(Included),
     IncludeAll(Included),

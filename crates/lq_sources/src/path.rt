@@ -6,7 +6,7 @@ use lq_base::{Items, NoMemory, Text};
 use std::alloc::{AllocError, Global};
 
 /// What a file is written in.
-#[derive(Clone, Copy, Debug, PartialEq, Eq)]
+#[derive(Clone, Copy, PartialEq, Eq)]
 pub enum Format {
     Json,
     Yaml,

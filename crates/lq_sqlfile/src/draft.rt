@@ -7,11 +7,10 @@ ghost use Rattle.lq_sqlfile.specs.Machine.{begun, conditions_value, joined_with,
 use crate::cuts::without_blanks;
 use crate::file::SqlSet;
 use crate::part::{Heading, Part};
-use lq_base::{Items, NoMemory, Text};
+use lq_base::{Items, NoMemory, Text, both};
 use std::alloc::Global;
 
 /// A changeset with its lines so far.
-#[derive(Debug, Drop)]
 pub struct Draft {
     pub line: u32,
     pub heading: Heading,
@@ -23,6 +22,29 @@ pub struct Draft {
     /// What stands between that line and the next one.
     pub gap: Text,
     pub rollback: Option<Text>,
+}
+
+// Written out, so that each place that lets one go is one call.
+impl Drop for Draft {
+    fn drop(self) {
+        let Draft {
+            line: _,
+            heading,
+            comment,
+            conditions,
+            checks,
+            body,
+            gap,
+            rollback,
+        } = self;
+        drop(heading);
+        drop(comment);
+        drop(conditions);
+        drop(checks);
+        drop(body);
+        drop(gap);
+        drop(rollback);
+    }
 }
 
 /// Whether the text is of blanks alone.
@@ -97,14 +119,15 @@ impl Draft {
     pub fn new(alloc: Global, line: u32, heading: Heading) -> Result<Draft, NoMemory>
         ensures { IfOk result (λ draft. draft ≡ begun line heading) }
     {
+        let (body, gap) = both(Text::new(alloc, ""), Text::new(alloc, ""))?;
         Ok(Draft {
             line,
             heading,
             comment: None,
             conditions: None,
             checks: Items::new(alloc),
-            body: Text::new(alloc, "")?,
-            gap: Text::new(alloc, "")?,
+            body,
+            gap,
             rollback: None,
         })
     }
@@ -163,20 +186,33 @@ impl Draft {
     pub fn close(self, alloc: Global) -> Result<SqlSet, NoMemory>
         ensures { IfOk result (λ set. set ≡ closed self) }
     {
-        let on_fail = conditions_value(alloc, "onFail", &self.conditions)?;
-        let on_error = conditions_value(alloc, "onError", &self.conditions)?;
-        let comment = text_or_empty(alloc, self.comment)?;
+        let on_fail = conditions_value(alloc, "onFail", &self.conditions);
+        let on_error = conditions_value(alloc, "onError", &self.conditions);
+        let (on_fail, on_error) = both(on_fail, on_error)?;
+        let Draft {
+            line,
+            heading,
+            comment,
+            conditions,
+            checks,
+            body,
+            gap,
+            rollback,
+        } = self;
+        drop(conditions);
+        drop(gap);
+        let comment = text_or_empty(alloc, comment)?;
         Ok(SqlSet {
-            line: self.line,
-            author: self.heading.author,
-            id: self.heading.id,
-            attributes: self.heading.attributes,
+            line,
+            author: heading.author,
+            id: heading.id,
+            attributes: heading.attributes,
             comment,
             on_fail,
             on_error,
-            checks: self.checks,
-            body: self.body,
-            rollback: self.rollback,
+            checks,
+            body,
+            rollback,
         })
     }
 }

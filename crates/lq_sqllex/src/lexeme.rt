@@ -6,7 +6,7 @@ use crate::sort::sort_at;
 use lq_base::{Dialect, LexemeSort};
 
 /// A lexeme at the front of a text, and what follows it there.
-#[derive(Clone, Copy, Debug)]
+#[derive(Clone, Copy)]
 pub struct Lexeme<'a> {
     pub sort: LexemeSort,
     pub bytes: &'a [u8],

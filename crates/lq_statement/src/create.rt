@@ -51,7 +51,7 @@ fn whole(alloc: Global, words: &mut Words<'_>) -> Result<i128, ParseFault>
     ensures { Reads (spec.whole words.old) result words.new }
 {
     match literal(alloc, words)? {
-        Literal::Int(number) => Ok(number),
+        Literal::Int(number, ..) => Ok(number),
         _ => Err(ParseFault::NotSql),
     }
 }

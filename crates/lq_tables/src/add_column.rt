@@ -19,7 +19,6 @@ use lq_tree::{
 use std::alloc::Global;
 
 /// What is stated of a new column's values.
-#[derive(Debug, Drop)]
 pub struct AddedConstraints {
     /// Without effect.
     pub primary_key_name: Option<Name>,
@@ -31,8 +30,25 @@ pub struct AddedConstraints {
     pub foreign_key_name: Option<Name>,
 }
 
+// Written out, so that each place that lets one go is one call.
+impl Drop for AddedConstraints {
+    fn drop(self) {
+        let AddedConstraints {
+            primary_key_name,
+            nullable: _,
+            unique: _,
+            unique_constraint_name,
+            references,
+            foreign_key_name,
+        } = self;
+        drop(primary_key_name);
+        drop(unique_constraint_name);
+        drop(references);
+        drop(foreign_key_name);
+    }
+}
+
 /// A column of an addColumn.
-#[derive(Debug, Drop)]
 pub struct AddedColumn {
     pub name: Name,
     pub kind: Kind,
@@ -42,8 +58,25 @@ pub struct AddedColumn {
     pub value: Option<GivenValue>,
 }
 
+// Written out, so that each place that lets one go is one call.
+impl Drop for AddedColumn {
+    fn drop(self) {
+        let AddedColumn {
+            name,
+            kind: _,
+            default_value,
+            constraints,
+            value,
+        } = self;
+        drop(name);
+        drop(default_value);
+        drop(constraints);
+        drop(value);
+    }
+}
+
 /// A table gets more columns (Liquibase's documentation, "addColumn").
-#[derive(Debug, Drop)]
+#[derive(Drop)]
 pub struct AddColumn {
     pub table_name: Name,
     pub columns: Items<AddedColumn>,
@@ -344,7 +377,7 @@ impl AddedColumn {
             return Ok(());
         };
         let table = table.duplicate(alloc)?;
-        let name = unique.name;
+        let name = unique.into_name();
         match dialect {
             Dialect::Postgresql => to.push(Statement::DropConstraint { table, name })?,
             Dialect::Mysql => to.push(Statement::DropUnique { table, name })?,
@@ -365,7 +398,7 @@ impl AddedColumn {
             return Ok(());
         };
         let table = table.duplicate(alloc)?;
-        let name = foreign.name;
+        let name = foreign.into_name();
         match dialect {
             Dialect::Postgresql => to.push(Statement::DropConstraint { table, name })?,
             Dialect::Mysql => to.push(Statement::DropForeignKey { table, name })?,

@@ -15,7 +15,7 @@ use lq_tree::{Given, Node, bad};
 use std::alloc::Global;
 
 /// The column that a foreign key targets, as `TABLE(COLUMN)`.
-#[derive(Debug, Drop)]
+#[derive(Drop)]
 pub struct Reference {
     /// As it was given.
     pub text: Text,

@@ -18,7 +18,6 @@ use lq_tree::{
 use std::alloc::Global;
 
 /// What is stated of a column of a new table.
-#[derive(Debug, Drop)]
 pub struct CreatedConstraints {
     pub primary_key: Option<bool>,
     pub primary_key_name: Option<Name>,
@@ -30,8 +29,26 @@ pub struct CreatedConstraints {
     pub foreign_key_name: Option<Name>,
 }
 
+// Written out, so that each place that lets one go is one call.
+impl Drop for CreatedConstraints {
+    fn drop(self) {
+        let CreatedConstraints {
+            primary_key: _,
+            primary_key_name,
+            nullable: _,
+            unique: _,
+            unique_constraint_name,
+            references,
+            foreign_key_name,
+        } = self;
+        drop(primary_key_name);
+        drop(unique_constraint_name);
+        drop(references);
+        drop(foreign_key_name);
+    }
+}
+
 /// A column of a createTable.
-#[derive(Debug, Drop)]
 pub struct CreatedColumn {
     pub name: Name,
     pub kind: Kind,
@@ -40,8 +57,24 @@ pub struct CreatedColumn {
     pub constraints: Option<CreatedConstraints>,
 }
 
+// Written out, so that each place that lets one go is one call.
+impl Drop for CreatedColumn {
+    fn drop(self) {
+        let CreatedColumn {
+            name,
+            kind: _,
+            auto_increment: _,
+            default_value,
+            constraints,
+        } = self;
+        drop(name);
+        drop(default_value);
+        drop(constraints);
+    }
+}
+
 /// A table is made (Liquibase's documentation, "createTable").
-#[derive(Debug, Drop)]
+#[derive(Drop)]
 pub struct CreateTable {
     pub table_name: Name,
     pub columns: Items<CreatedColumn>,

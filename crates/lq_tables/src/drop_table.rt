@@ -8,7 +8,7 @@ use lq_tree::{Node, known, public, required};
 use std::alloc::Global;
 
 /// A table is dropped (Liquibase's documentation, "dropTable").
-#[derive(Debug, Drop)]
+#[derive(Drop)]
 pub struct DropTable {
     pub table_name: Name,
 }

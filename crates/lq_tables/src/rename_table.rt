@@ -8,7 +8,7 @@ use lq_tree::{Node, known, public, required};
 use std::alloc::Global;
 
 /// A table gets another name (Liquibase's documentation, "renameTable").
-#[derive(Debug, Drop)]
+#[derive(Drop)]
 pub struct RenameTable {
     pub old_table_name: Name,
     pub new_table_name: Name,

@@ -3,7 +3,7 @@ use lq_base::{Identity, Items, Text, Why};
 use std::alloc::Global;
 
 /// What a command did, as far as it came.
-#[derive(Debug, Drop)]
+#[derive(Drop)]
 pub struct Done {
     pub status: Status,
     /// Its text for the output.

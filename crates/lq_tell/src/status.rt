@@ -3,7 +3,7 @@ use lq_sources::LoadFault;
 use lq_turns::Fault;
 
 /// How a command ended.
-#[derive(Debug, Drop)]
+#[derive(Drop)]
 pub enum Status {
     /// The command did its work.
     Done,

@@ -7,7 +7,7 @@ use lq_model::ColumnDef;
 use std::alloc::Global;
 
 /// A column of the table DATABASECHANGELOG.
-#[derive(Clone, Copy, Debug, PartialEq, Eq)]
+#[derive(Clone, Copy, PartialEq, Eq)]
 pub enum LogColumn {
     Id,
     Author,

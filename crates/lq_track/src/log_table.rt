@@ -2,11 +2,12 @@ ghost use Rattle.std.specs.Prelude.{◌≡◌, map, IfOk, Some};
 ghost use Rattle.lq_track.specs.Log.{log_column, log_name, log_table, log_value, log_set};
 ghost use Rattle.lq_base.specs.Moment.{IsMoment};
 ghost use Rattle.lq_track.specs.Statements.{log_holds, row_test, row_inserted, row_again, row_deleted, row_set, tag_set, sum_filled};
+ghost use Rattle.lq_model.specs.declared.test.Test.TheVariants.{And};
 
 use crate::literals::{holds, moment_literal, text_literal, text_or_null};
 use crate::log_column::LogColumn;
 use crate::name::fixed_name;
-use lq_base::{Boxed, Identity, Items, Literal, Name, NoMemory, Text, Tracked};
+use lq_base::{Boxed, Identity, Items, Literal, Name, NoMemory, Text, Tracked, both};
 use lq_model::{ColumnDef, Statement, Test};
 use std::alloc::Global;
 
@@ -16,10 +17,15 @@ pub fn insert_row(alloc: Global, row: &Tracked) -> Result<Statement, NoMemory>
     requires { IsMoment row.now.date }
     ensures { IfOk result (λ s. s ≡ row_inserted row.now) }
 {
+    let said = both(
+        log_names(alloc, &LogColumn::ALL),
+        log_values(alloc, row, &LogColumn::ALL),
+    );
+    let (table, (columns, values)) = both(log_table(alloc), said)?;
     Ok(Statement::Insert {
-        table: log_table(alloc)?,
-        columns: log_names(alloc, &LogColumn::ALL)?,
-        values: log_values(alloc, row, &LogColumn::ALL)?,
+        table,
+        columns,
+        values,
     })
 }
 
@@ -29,10 +35,13 @@ pub fn again_row(alloc: Global, row: &Tracked) -> Result<Statement, NoMemory>
     requires { IsMoment row.now.date }
     ensures { IfOk result (λ s. s ≡ row_again row.now) }
 {
+    let test = row_test(alloc, &row.id, &row.author, &row.filename);
+    let made = both(log_sets(alloc, row, &LogColumn::AGAIN), test);
+    let (table, (sets, test)) = both(log_table(alloc), made)?;
     Ok(Statement::Update {
-        table: log_table(alloc)?,
-        sets: log_sets(alloc, row, &LogColumn::AGAIN)?,
-        test: Some(row_test(alloc, &row.id, &row.author, &row.filename)?),
+        table,
+        sets,
+        test: Some(test),
     })
 }
 
@@ -68,13 +77,17 @@ fn set_text(
 ) -> Result<Statement, NoMemory>
     ensures { IfOk result (λ s. s ≡ row_set column text.now of.now) }
 {
-    let value = text_literal(alloc, text)?;
+    let set = both(column.name(alloc), text_literal(alloc, text))?;
     let mut sets = Items::new(alloc);
-    sets.push((column.name(alloc)?, value))?;
+    sets.push(set)?;
+    let (table, test) = both(
+        log_table(alloc),
+        row_test(alloc, &of.id, &of.author, &of.file),
+    )?;
     Ok(Statement::Update {
-        table: log_table(alloc)?,
+        table,
         sets,
-        test: Some(row_test(alloc, &of.id, &of.author, &of.file)?),
+        test: Some(test),
     })
 }
 
@@ -82,11 +95,20 @@ fn set_text(
 fn row_test(alloc: Global, id: &Text, author: &Text, file: &Text) -> Result<Test, NoMemory>
     ensures { IfOk result (λ test. test ≡ row_test (record { file = file.now; id = id.now; author = author.now })) }
 {
-    let id = log_holds(alloc, LogColumn::Id, id)?;
-    let author = log_holds(alloc, LogColumn::Author, author)?;
-    let file = log_holds(alloc, LogColumn::Filename, file)?;
-    let both = Test::And(Boxed::new(alloc, id)?, Boxed::new(alloc, author)?);
-    Ok(Test::And(Boxed::new(alloc, both)?, Boxed::new(alloc, file)?))
+    let id = log_holds(alloc, LogColumn::Id, id);
+    let author = log_holds(alloc, LogColumn::Author, author);
+    let file = log_holds(alloc, LogColumn::Filename, file);
+    let ((id, author), file) = both(both(id, author), file)?;
+    let of_author = and(alloc, id, author)?;
+    and(alloc, of_author, file)
+}
+
+fn and(alloc: Global, one: Test, other: Test) -> Result<Test, NoMemory>
+    ensures { IfOk result (λ test. test ≡ And one other) }
+{
+    let one = Boxed::new(alloc, one)?;
+    let other = Boxed::new(alloc, other)?;
+    Ok(Test::And(one, other))
 }
 
 fn log_holds(alloc: Global, column: LogColumn, text: &Text) -> Result<Test, NoMemory>

@@ -2,11 +2,11 @@ ghost use Rattle.std.specs.Prelude.{◌≡◌, ◌≤◌, ◌++◌, IfOk, OnOk, 
 ghost use Rattle.lq_base.specs.Number.{last_digits};
 ghost use Rattle.lq_track.specs.Row.{cut, row_of};
 
-use lq_base::{Duplicate, Exec, Identity, NoMemory, Text, Tracked};
+use lq_base::{Duplicate, Exec, Identity, NoMemory, Text, Tracked, both};
 use std::alloc::{AllocError, Global};
 
 /// What a changeset's row is made from.
-#[derive(Debug, Drop)]
+#[derive(Drop)]
 pub struct Ran<'a> {
     pub identity: &'a Identity,
     /// The command's reading of the clock, in milliseconds since 1970-01-01 UTC.
@@ -29,21 +29,30 @@ pub fn row_of(alloc: Global, ran: Ran<'_>) -> Result<Tracked, NoMemory>
     requires { ran.reading ≤ 253402300799999 }
     ensures { IfOk result (λ row. row ≡ row_of ran.entry) }
 {
+    let who = both(ran.identity.id.copy(alloc), ran.identity.author.copy(alloc));
+    let from = both(ran.identity.file.copy(alloc), ran.checksum.copy(alloc));
+    let told = both(cut(alloc, ran.description), cut(alloc, ran.comments));
+    let by = both(ran.tag.duplicate(alloc), Text::new(alloc, "profile-1"));
+    let for_whom = both(cut(alloc, ran.contexts), cut(alloc, ran.labels));
+    let last = both(for_whom, deployment_of(alloc, ran.reading));
+    let all = both(both(both(who, from), both(told, by)), last);
+    let ((((id, author), (filename, sum)), ((description, comments), (tag, tool))), last) = all?;
+    let ((contexts, labels), deployment) = last;
     Ok(Tracked {
-        id: ran.identity.id.copy(alloc)?,
-        author: ran.identity.author.copy(alloc)?,
-        filename: ran.identity.file.copy(alloc)?,
+        id,
+        author,
+        filename,
         date: ran.reading as i64,
         order: ran.order,
         exec: ran.exec,
-        md5sum: Some(ran.checksum.copy(alloc)?),
-        description: cut(alloc, ran.description)?,
-        comments: cut(alloc, ran.comments)?,
-        tag: ran.tag.duplicate(alloc)?,
-        tool: Text::new(alloc, "profile-1")?,
-        contexts: cut(alloc, ran.contexts)?,
-        labels: cut(alloc, ran.labels)?,
-        deployment: deployment_of(alloc, ran.reading)?,
+        md5sum: Some(sum),
+        description,
+        comments,
+        tag,
+        tool,
+        contexts,
+        labels,
+        deployment,
     })
 }
 

@@ -1,10 +1,10 @@
 ghost use Rattle.lq_base.specs.Name.{is_named};
-ghost use Rattle.std.specs.Prelude.{◌≡◌, IfOk, drop, take};
-ghost use Rattle.lq_track.specs.Database.{exec_in, order_in, row_in};
+ghost use Rattle.std.specs.Prelude.{◌≡◌, IfOk, drop, option_and_then, option_map, take};
+ghost use Rattle.lq_track.specs.Database.{exec_in, order_in, row_in, text_in};
 ghost use Rattle.lq_track.specs.RowParts.{details_in, joined, run_in};
 
 use crate::stored::text_in;
-use lq_base::{Duplicate, Exec, NoMemory, Text, Tracked, Value};
+use lq_base::{Duplicate, Exec, NoMemory, Text, Tracked, Value, both};
 use std::alloc::Global;
 
 /// A row's first six values: whose it is, and how it ran.
@@ -127,21 +127,54 @@ fn details_in(alloc: Global, values: &[Value]) -> Result<Option<Details>, NoMemo
     else {
         return Ok(None);
     };
+    details_of(
+        alloc,
+        md5sum,
+        description,
+        comments,
+        tag,
+        tool,
+        contexts,
+        labels,
+        deployment,
+    )
+}
+
+fn details_of(
+    alloc: Global,
+    md5sum: &Value,
+    description: &Text,
+    comments: &Text,
+    tag: &Value,
+    tool: &Text,
+    contexts: &Text,
+    labels: &Text,
+    deployment: &Text,
+) -> Result<Option<Details>, NoMemory>
+    ensures { IfOk result (λ d. d ≡ option_and_then (λ m. option_map (λ t. record { md5sum = m; description = description.now; comments = comments.now; tag = t; tool = tool.now; contexts = contexts.now; labels = labels.now; deployment = deployment.now }) (text_in tag.now)) (text_in md5sum.now)) }
+{
     let Some(md5sum) = text_in(alloc, md5sum)? else {
         return Ok(None);
     };
     let Some(tag) = text_in(alloc, tag)? else {
         return Ok(None);
     };
+    let told = both(description.duplicate(alloc), comments.duplicate(alloc));
+    let by = both(tool.duplicate(alloc), deployment.duplicate(alloc));
+    let for_whom = both(contexts.duplicate(alloc), labels.duplicate(alloc));
+    let (((description, comments), (tool, deployment)), (contexts, labels)) = both(
+        both(told, by),
+        for_whom,
+    )?;
     Ok(Some(Details {
         md5sum,
-        description: description.duplicate(alloc)?,
-        comments: comments.duplicate(alloc)?,
+        description,
+        comments,
         tag,
-        tool: tool.duplicate(alloc)?,
-        contexts: contexts.duplicate(alloc)?,
-        labels: labels.duplicate(alloc)?,
-        deployment: deployment.duplicate(alloc)?,
+        tool,
+        contexts,
+        labels,
+        deployment,
     }))
 }
 

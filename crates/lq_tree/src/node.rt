@@ -7,7 +7,6 @@ use thiserror::Error;
 
 /// What a file holds, whatever it is written in. The maps of a tree that was read have each key once,
 /// in the order of the keys' bytes (`IsTree`).
-#[derive(Debug, Drop)]
 pub enum Node {
     Text(Text),
     Whole(i128),
@@ -15,6 +14,20 @@ pub enum Node {
     Null,
     List(Items<Node>),
     Map(Items<(Text, Node)>),
+}
+
+// Written out, so that each place that lets one go is one call.
+impl Drop for Node {
+    fn drop(self) {
+        match self {
+            Node::Text(it) => drop(it),
+            Node::Whole(_) => (),
+            Node::Truth(_) => (),
+            Node::Null => (),
+            Node::List(it) => drop(it),
+            Node::Map(it) => drop(it),
+        }
+    }
 }
 
 /// Why bytes are no tree.

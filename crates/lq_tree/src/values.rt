@@ -11,7 +11,6 @@ use lq_base::{KindFault, Literal, NoMemory, Text, moment_of, number_of};
 use std::alloc::Global;
 
 /// A value that a changelog states, by the key that states it.
-#[derive(Debug, Drop)]
 pub enum GivenValue {
     Text(Text),
     Whole(i128),
@@ -20,6 +19,19 @@ pub enum GivenValue {
     Truth(bool),
     /// A text that is a moment.
     Date(Text),
+}
+
+// Written out, so that each place that lets one go is one call.
+impl Drop for GivenValue {
+    fn drop(self) {
+        match self {
+            GivenValue::Text(it) => drop(it),
+            GivenValue::Whole(_) => (),
+            GivenValue::Decimal { units: _, scale: _ } => (),
+            GivenValue::Truth(_) => (),
+            GivenValue::Date(it) => drop(it),
+        }
+    }
 }
 
 impl GivenValue {
@@ -41,7 +53,7 @@ impl GivenValue {
 }
 
 /// The keys of a family, by what they take: `value`, `valueNumeric`, `valueBoolean`, `valueDate`.
-#[derive(Clone, Copy, Debug, PartialEq, Eq)]
+#[derive(Clone, Copy, PartialEq, Eq)]
 pub enum ValueKey {
     Text,
     Number,
@@ -61,8 +73,8 @@ fn number_given(number: Literal) -> Option<GivenValue>
     ensures { result ≡ number_given number }
 {
     match number {
-        Literal::Int(whole) => Some(GivenValue::Whole(whole)),
-        Literal::Fixed { units, scale } => Some(GivenValue::Decimal { units, scale }),
+        Literal::Int(whole, ..) => Some(GivenValue::Whole(whole)),
+        Literal::Fixed { units, scale, .. } => Some(GivenValue::Decimal { units, scale }),
         _ => None,
     }
 }

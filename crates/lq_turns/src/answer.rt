@@ -2,7 +2,6 @@ use crate::fault::Fault;
 use lq_base::{Identity, Items, Lock, Reason, Why};
 
 /// What a command answers.
-#[derive(Debug, Drop)]
 pub enum Answer {
     Done,
     /// The lock is held, or no longer by the runner that has begun.
@@ -35,8 +34,38 @@ pub enum Answer {
     OutOfMemory,
 }
 
+// Written out, so that each place that lets one go is one call.
+impl Drop for Answer {
+    fn drop(self) {
+        match self {
+            Answer::Done => (),
+            Answer::Locked(it) => drop(it),
+            Answer::Invalid(it) => drop(it),
+            Answer::Halted { identity, why } => {
+                drop(identity);
+                drop(why);
+            }
+            Answer::Refused {
+                identity,
+                statement: _,
+                kept: _,
+                reason,
+            } => {
+                drop(identity);
+                drop(reason);
+            }
+            Answer::NoTarget => (),
+            Answer::NotReversible(it) => drop(it),
+            Answer::Disk => (),
+            Answer::Full { used: _, next: _ } => (),
+            Answer::Busy(_) => (),
+            Answer::OutOfMemory => (),
+        }
+    }
+}
+
 /// What a step of a runner came to.
-#[derive(Debug, Drop)]
+#[derive(Drop)]
 pub enum Step {
     /// It made a call, and one is still to be made.
     Going,

@@ -1,7 +1,7 @@
 use lq_base::Why;
 
 /// What becomes of a changeset by its row: it is new, it runs again, or its checksum is filled in.
-#[derive(Clone, Copy, Debug, PartialEq, Eq)]
+#[derive(Clone, Copy, PartialEq, Eq)]
 pub enum What {
     New,
     Again,
@@ -9,7 +9,7 @@ pub enum What {
 }
 
 /// What a changeset does at its turn.
-#[derive(Clone, Copy, Debug, PartialEq, Eq)]
+#[derive(Clone, Copy, PartialEq, Eq)]
 pub enum Choice {
     /// It has no turn.
     Passes,

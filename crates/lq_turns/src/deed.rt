@@ -2,7 +2,6 @@ use lq_base::{Identity, Text, Tracked};
 use lq_model::Statement;
 
 /// What the program does to the table of rows.
-#[derive(Debug, Drop)]
 pub enum OnRows {
     /// A new row, after all others.
     Inserted(Tracked),
@@ -15,8 +14,26 @@ pub enum OnRows {
     Tagged(Identity, Text),
 }
 
+// Written out, so that each place that lets one go is one call.
+impl Drop for OnRows {
+    fn drop(self) {
+        match self {
+            OnRows::Inserted(it) => drop(it),
+            OnRows::Renewed(it) => drop(it),
+            OnRows::Deleted(it) => drop(it),
+            OnRows::Filled(a, b) => {
+                drop(a);
+                drop(b);
+            }
+            OnRows::Tagged(a, b) => {
+                drop(a);
+                drop(b);
+            }
+        }
+    }
+}
+
 /// What the program does to the lock, and to make the tracking tables.
-#[derive(Debug, Drop)]
 pub enum OnLock {
     LogMade,
     LockMade,
@@ -28,10 +45,34 @@ pub enum OnLock {
     Freed,
 }
 
+// Written out, so that each place that lets one go is one call.
+impl Drop for OnLock {
+    fn drop(self) {
+        match self {
+            OnLock::LogMade => (),
+            OnLock::LockMade => (),
+            OnLock::LockRowMade => (),
+            OnLock::Taken(_, b) => drop(b),
+            OnLock::Marked(it) => drop(it),
+            OnLock::Freed => (),
+        }
+    }
+}
+
 /// A statement of a command: a user's, or the program's own on the tracking tables.
-#[derive(Debug, Drop)]
 pub enum Deed {
     Users(Statement),
     Rows(OnRows),
     Locks(OnLock),
+}
+
+// Written out, so that each place that lets one go is one call.
+impl Drop for Deed {
+    fn drop(self) {
+        match self {
+            Deed::Users(it) => drop(it),
+            Deed::Rows(it) => drop(it),
+            Deed::Locks(it) => drop(it),
+        }
+    }
 }

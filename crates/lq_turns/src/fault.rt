@@ -1,7 +1,7 @@
 use lq_base::{Identity, Text};
 
 /// Why a changelog does not go with the rows of a database.
-#[derive(Debug, Drop)]
+#[derive(Drop)]
 pub enum Fault {
     /// A changeset that is here has the identity of an earlier one.
     Twice(Identity),

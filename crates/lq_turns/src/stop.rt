@@ -1,7 +1,7 @@
 use lq_base::{Identity, Reason, Why};
 
 /// A statement that the database refused.
-#[derive(Clone, Copy, Debug, PartialEq, Eq)]
+#[derive(Clone, Copy, PartialEq, Eq)]
 pub struct Refusal {
     /// Its number in the turn, from 1; the row counts as one statement more.
     pub statement: u64,
@@ -11,7 +11,7 @@ pub struct Refusal {
 }
 
 /// What stops a command in its run.
-#[derive(Debug, Drop)]
+#[derive(Drop)]
 pub enum Stop {
     /// A condition. The changelog's own has no identity.
     Halted(Option<Identity>, Why),

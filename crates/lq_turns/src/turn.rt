@@ -3,7 +3,7 @@ use lq_base::{Identity, Items};
 use lq_model::Statement;
 
 /// What a changeset runs at its turn, or what takes a row back.
-#[derive(Debug, Drop)]
+#[derive(Drop)]
 pub struct Turn {
     pub identity: Identity,
     pub statements: Items<Statement>,

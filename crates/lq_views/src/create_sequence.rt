@@ -12,7 +12,7 @@ use lq_tree::{Given, Node, Reader, bad, known, optional, optional_by, public, re
 use std::alloc::Global;
 
 /// A sequence is made (Liquibase's documentation, "createSequence").
-#[derive(Debug, Drop)]
+#[derive(Drop)]
 pub struct CreateSequence {
     pub sequence_name: Name,
     /// Its first number, 1 where none is stated.

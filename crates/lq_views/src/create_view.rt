@@ -9,7 +9,7 @@ use lq_tree::{Node, known, optional, public, required};
 use std::alloc::Global;
 
 /// A view is made (Liquibase's documentation, "createView").
-#[derive(Debug, Drop)]
+#[derive(Drop)]
 pub struct CreateView {
     pub view_name: Name,
     pub select_query: QueryText,

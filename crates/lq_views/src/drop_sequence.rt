@@ -9,7 +9,7 @@ use lq_tree::{Node, known, public, required};
 use std::alloc::Global;
 
 /// A sequence is dropped (Liquibase's documentation, "dropSequence").
-#[derive(Debug, Drop)]
+#[derive(Drop)]
 pub struct DropSequence {
     pub sequence_name: Name,
 }

@@ -8,7 +8,7 @@ use lq_tree::{Node, known, public, required};
 use std::alloc::Global;
 
 /// A view is dropped (Liquibase's documentation, "dropView").
-#[derive(Debug, Drop)]
+#[derive(Drop)]
 pub struct DropView {
     pub view_name: Name,
 }

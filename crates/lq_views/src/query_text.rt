@@ -12,7 +12,7 @@ use std::marker::Model;
 
 /// A text in the SQL of a dialect that spells a query. Contracts see the dialect and the text, which
 /// tell the query.
-#[derive(Debug, Drop)]
+#[derive(Drop)]
 pub struct QueryText {
     dialect: Dialect,
     text: Text,

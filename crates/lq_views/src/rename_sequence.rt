@@ -9,7 +9,7 @@ use lq_tree::{Node, known, public, required};
 use std::alloc::Global;
 
 /// A sequence gets another name (Liquibase's documentation, "renameSequence").
-#[derive(Debug, Drop)]
+#[derive(Drop)]
 pub struct RenameSequence {
     pub old_sequence_name: Name,
     pub new_sequence_name: Name,

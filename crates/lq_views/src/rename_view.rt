@@ -8,7 +8,7 @@ use lq_tree::{Node, known, public, required};
 use std::alloc::Global;
 
 /// A view gets another name (Liquibase's documentation, "renameView").
-#[derive(Debug, Drop)]
+#[derive(Drop)]
 pub struct RenameView {
     pub old_view_name: Name,
     pub new_view_name: Name,

@@ -1,5 +1,5 @@
 /// What a line stands after. A column is that of the innermost collection's heads.
-#[derive(Clone, Copy, Debug, PartialEq, Eq)]
+#[derive(Clone, Copy, PartialEq, Eq)]
 pub enum Mode {
     /// No line yet that isn't skipped.
     Fresh,

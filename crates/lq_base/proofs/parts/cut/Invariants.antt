@@ -1,5 +1,5 @@
 use Rattle.std.proofs.Common.{◌≡◌, ◌≤◌, length, take}
-use Rattle.lq_model.proofs.append.cut.Given as goal
+use Rattle.lq_base.proofs.parts.cut.Given as goal
 
 abbrev pub invariant-loop-items : goal.invariant-loop-items
 invariant-loop-items g l = (take l.count l.items ≡ take l.count l.initial.items) × (l.count ≤ length l.items)
