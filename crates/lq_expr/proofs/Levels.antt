@@ -4,8 +4,8 @@ use Rattle.lq_expr.specs.declared.expr.Expr.{Expr}
 use Rattle.lq_expr.specs.declared.expr.Expr.TheVariants as expr
 use Rattle.lq_expr.specs.declared.expr.ExprFault.{ExprFault}
 use Rattle.lq_expr.specs.declared.expr.ExprFault.TheVariants.{NotExpr, OutOfMemory}
-use Rattle.lq_expr.specs.declared.word.Word.{Word}
-use Rattle.lq_expr.specs.declared.word.Word.TheVariants as word
+use Rattle.lq_operators.specs.declared.word.Word.{Word}
+use Rattle.lq_operators.specs.declared.word.Word.TheVariants as word
 use Rattle.lq_expr.specs.Cuts.{negated, enclosed, is_close}
 use Rattle.lq_expr.specs.Gives.{Gives}
 use Rattle.lq_expr.specs.Grammar.{factor, name, expression, inside, or_fault}

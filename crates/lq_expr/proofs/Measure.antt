@@ -1,8 +1,8 @@
 -- What falls while an expression is read.
 use Rattle.std.proofs.Common.{ℕ, suc, List, length, Option, Some, None}
-use Rattle.lq_expr.specs.declared.operator.Operator.{Operator}
-use Rattle.lq_expr.specs.declared.operator.Operator.TheVariants.{Comma, Or, And}
-use Rattle.lq_expr.specs.declared.word.Word.{Word}
+use Rattle.lq_operators.specs.declared.operator.Operator.{Operator}
+use Rattle.lq_operators.specs.declared.operator.Operator.TheVariants.{Comma, Or, And}
+use Rattle.lq_operators.specs.declared.word.Word.{Word}
 
 abbrev pub looseness : Operator → ℕ
 looseness And = 0

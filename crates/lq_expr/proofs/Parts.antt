@@ -1,9 +1,9 @@
 -- The parts of words, one after another.
 use Rattle.std.proofs.Common.{◌≡◌, ◌<◌, ◌≤◌, ◌+◌, ◌-◌, ℕ, suc, true, false, cond, List, [], ◌∷◌, length, take, drop, get_or, arith, refl, sym, ap, ◌∙◌}
 use Rattle.std.proofs.lemmas.List.{drop_more, drop_all, take_rest}
-use Rattle.lq_expr.specs.declared.operator.Operator.{Operator}
-use Rattle.lq_expr.specs.declared.word.Word.{Word}
-use Rattle.lq_expr.specs.declared.word.Word.TheVariants as word
+use Rattle.lq_operators.specs.declared.operator.Operator.{Operator}
+use Rattle.lq_operators.specs.declared.word.Word.{Word}
+use Rattle.lq_operators.specs.declared.word.Word.TheVariants as word
 use Rattle.lq_expr.specs.Grammar.{is_cut, depth_after, cut}
 use Rattle.lq_expr.specs.Words.{longer}
 use Rattle.lq_expr.specs.Cuts.{place}

@@ -5,7 +5,7 @@ use Rattle.std.specs.List.{flat_map}
 use Rattle.std.proofs.lemmas.Str.{encode_ascii, inside_one}
 use Rattle.std.proofs.lemmas.List.{append-nil}
 use Rattle.std.proofs.lemmas.Bool.{cases_lt}
-use Rattle.lq_expr.specs.declared.word.Word.{Word}
+use Rattle.lq_operators.specs.declared.word.Word.{Word}
 use Rattle.lq_expr.specs.Words.{is_blank, is_mark, longer, runs, spelled_words, words}
 
 -- the first of the runs begins with these bytes

@@ -3,12 +3,13 @@ use Rattle.std.proofs.Common.{◌≡◌, ◌-◌, ◌==◌, ℕ, zero, suc, true
 use Rattle.std.proofs.lemmas.List.{append-nil}
 use Rattle.lq_expr.specs.declared.expr.Expr.{Expr}
 use Rattle.lq_expr.specs.declared.expr.Expr.TheVariants as expr
-use Rattle.lq_expr.specs.declared.operator.Operator.{Operator}
-use Rattle.lq_expr.specs.declared.operator.Operator.TheVariants.{Comma, Or, And}
-use Rattle.lq_expr.specs.declared.word.Word.{Word}
-use Rattle.lq_expr.specs.declared.word.Word.TheVariants as word
+use Rattle.lq_operators.specs.declared.operator.Operator.{Operator}
+use Rattle.lq_operators.specs.declared.operator.Operator.TheVariants.{Comma, Or, And}
+use Rattle.lq_operators.specs.declared.word.Word.{Word}
+use Rattle.lq_operators.specs.declared.word.Word.TheVariants as word
 use Rattle.lq_expr.specs.Words.{longer}
-use Rattle.lq_expr.specs.Grammar.{is_operator, is_cut, depth_after, cut, each, join, joined, expression, inside, factor}
+use Rattle.lq_operators.specs.Operators.{is_operator}
+use Rattle.lq_expr.specs.Grammar.{is_cut, depth_after, cut, each, join, joined, expression, inside, factor}
 use Rattle.lq_expr.specs.Spelled.{Factor, a_name, negation, parentheses, Ands, factor_alone, factor_and, Ors, ands_alone, ands_or, Commas, ors_alone, ors_comma, factor_words, ands_words, ors_words, commas_words, factor_tree, ands_trees, ors_trees, commas_trees, FactorFits, AndsFit, OrsFit, CommasFit}
 use Rattle.lq_expr.proofs.Levels.{inside_more}
 

@@ -5,17 +5,12 @@ use Rattle.lq_expr.specs.declared.expr.Expr.{Expr}
 use Rattle.lq_expr.specs.declared.expr.Expr.TheVariants as expr
 use Rattle.lq_expr.specs.declared.expr.ExprFault.{ExprFault}
 use Rattle.lq_expr.specs.declared.expr.ExprFault.TheVariants.{NotExpr}
-use Rattle.lq_expr.specs.declared.operator.Operator.{Operator}
-use Rattle.lq_expr.specs.declared.operator.Operator.TheVariants.{Comma, Or, And}
-use Rattle.lq_expr.specs.declared.word.Word.{Word}
-use Rattle.lq_expr.specs.declared.word.Word.TheVariants as word
+use Rattle.lq_operators.specs.declared.operator.Operator.{Operator}
+use Rattle.lq_operators.specs.declared.operator.Operator.TheVariants.{Comma, Or, And}
+use Rattle.lq_operators.specs.declared.word.Word.{Word}
+use Rattle.lq_operators.specs.declared.word.Word.TheVariants as word
+use Rattle.lq_operators.specs.Operators.{is_operator}
 use Rattle.lq_expr.specs.Words.{words, longer}
-
-abbrev pub is_operator : Operator → Word → Bool
-is_operator Comma word.Comma = true
-is_operator Or word.Or = true
-is_operator And word.And = true
-is_operator _ _ = false
 
 -- how many parentheses are open behind a word
 abbrev pub depth_after : Word → ℕ → ℕ

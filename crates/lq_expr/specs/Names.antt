@@ -3,9 +3,9 @@ use Rattle.std.specs.Prelude.{ℕ, List, [], ◌∷◌, Option, Some, None, Resu
 use Rattle.std.specs.List.{starts_with}
 use Rattle.lq_expr.specs.declared.expr.ExprFault.{ExprFault}
 use Rattle.lq_expr.specs.declared.expr.ExprFault.TheVariants.{NotExpr}
-use Rattle.lq_expr.specs.declared.operator.Operator.TheVariants.{Comma}
-use Rattle.lq_expr.specs.declared.word.Word.{Word}
-use Rattle.lq_expr.specs.declared.word.Word.TheVariants as word
+use Rattle.lq_operators.specs.declared.operator.Operator.TheVariants.{Comma}
+use Rattle.lq_operators.specs.declared.word.Word.{Word}
+use Rattle.lq_operators.specs.declared.word.Word.TheVariants as word
 use Rattle.lq_expr.specs.Grammar.{cut, each}
 use Rattle.lq_expr.specs.Words.{words}
 

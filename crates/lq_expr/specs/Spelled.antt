@@ -3,9 +3,9 @@ use Rattle.std.specs.Prelude.{◌≡◌, ℕ, zero, suc, false, List, [], ◌∷
 use Rattle.std.specs.List.{starts_with}
 use Rattle.lq_expr.specs.declared.expr.Expr.{Expr}
 use Rattle.lq_expr.specs.declared.expr.Expr.TheVariants as expr
-use Rattle.lq_expr.specs.declared.operator.Operator.TheVariants as operator
-use Rattle.lq_expr.specs.declared.word.Word.{Word}
-use Rattle.lq_expr.specs.declared.word.Word.TheVariants as word
+use Rattle.lq_operators.specs.declared.operator.Operator.TheVariants as operator
+use Rattle.lq_operators.specs.declared.word.Word.{Word}
+use Rattle.lq_operators.specs.declared.word.Word.TheVariants as word
 use Rattle.lq_expr.specs.Grammar.{join, expression, factor}
 
 -- a factor is a name, a negated factor or an expression in parentheses; `and` stands between factors, `or` between

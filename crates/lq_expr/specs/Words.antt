@@ -2,8 +2,8 @@
 use Rattle.std.specs.Prelude.{ℕ, Bool, ◌||◌, ◌==◌, List, [], ◌∷◌, codes, if◌then◌else◌}
 use Rattle.std.specs.List.{flat_map}
 use Rattle.std.specs.Str.{bytes_eq, str_eq_ignore_ascii_case}
-use Rattle.lq_expr.specs.declared.word.Word.{Word}
-use Rattle.lq_expr.specs.declared.word.Word.TheVariants as word
+use Rattle.lq_operators.specs.declared.word.Word.{Word}
+use Rattle.lq_operators.specs.declared.word.Word.TheVariants as word
 
 -- space, tab and line ends
 abbrev pub is_blank : ℕ → Bool

@@ -4,10 +4,8 @@
 mod expr;
 pub mod laws;
 mod names;
-mod operator;
 mod options;
 mod reading;
-mod word;
 mod words;
 
 pub use expr::{Expr, ExprFault};

@@ -3,11 +3,10 @@ ghost use Rattle.lq_expr.specs.Gives.{Gives};
 ghost use Rattle.lq_expr.specs.Names.{label_name, label_named, names_in, parsed_names};
 
 use crate::expr::ExprFault;
-use crate::operator::Operator;
 use crate::reading::first_part;
-use crate::word::Word;
 use crate::words::words;
 use lq_base::{Items, Text};
+use lq_operators::{Operator, Word};
 use std::alloc::Global;
 
 /// The names that a text lists with commas between, as labels and the contexts of a command. Blanks

@@ -4,10 +4,9 @@ ghost use Rattle.lq_expr.specs.Grammar as spec;
 ghost use Rattle.lq_expr.specs.Gives.{Gives};
 
 use crate::expr::{Expr, ExprFault};
-use crate::operator::Operator;
-use crate::word::Word;
 use crate::words::words;
 use lq_base::{Boxed, Items, Text};
+use lq_operators::{Operator, Word};
 use std::alloc::Global;
 
 /// At most so many parentheses and negations are open at a place.

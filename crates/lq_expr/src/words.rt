@@ -1,8 +1,8 @@
 ghost use Rattle.std.specs.Prelude.{◌≡◌, ◌++◌, [], IfOk, OnOk, string_bytes};
-ghost use Rattle.lq_expr.specs.Words.{is_blank, is_mark, words, spelled_words};
+ghost use Rattle.lq_expr.specs.Words.{is_blank, is_mark, word_of, words, spelled_words};
 
-use crate::word::Word;
-use lq_base::{Items, NoMemory};
+use lq_base::{Items, NoMemory, Text};
+use lq_operators::Word;
 use std::alloc::Global;
 
 /// The words of a text.
@@ -32,10 +32,34 @@ fn end_run(alloc: Global, found: &mut Items<Word>, run: &mut String) -> Result<(
     ensures empty { OnOk result (string_bytes run.new ≡ []) }
 {
     if !run.is_empty() {
-        found.push(Word::new(alloc, run.as_str())?)?;
+        found.push(word_of(alloc, run.as_str())?)?;
     }
     run.clear();
     Ok(())
+}
+
+// The word that is spelled so, in any case of its ASCII letters.
+#[tactic(auto, unfolding(crate::specs::Words::word_of))]
+fn word_of(alloc: Global, spelled: &str) -> Result<Word, NoMemory>
+    ensures { IfOk result (λ word. word ≡ word_of spelled.now) }
+{
+    match spelled {
+        "(" => return Ok(Word::Open),
+        ")" => return Ok(Word::Close),
+        "," => return Ok(Word::Comma),
+        "!" => return Ok(Word::Not),
+        _ => {}
+    }
+    if spelled.eq_ignore_ascii_case("or") {
+        return Ok(Word::Or);
+    }
+    if spelled.eq_ignore_ascii_case("and") {
+        return Ok(Word::And);
+    }
+    if spelled.eq_ignore_ascii_case("not") {
+        return Ok(Word::Not);
+    }
+    Ok(Word::Name(Text::new(alloc, spelled)?))
 }
 
 fn is_blank(c: char) -> bool

@@ -9,7 +9,6 @@ mod name;
 mod object;
 mod printer;
 mod query;
-mod quoting;
 mod rows;
 mod spell;
 mod statement;

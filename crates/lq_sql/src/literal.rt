@@ -2,10 +2,10 @@ ghost use Rattle.std.specs.Prelude.{◌≡◌, ◌++◌, OnOk};
 ghost use Rattle.lq_model.specs.Quoting.{string_text};
 ghost use Rattle.lq_model.specs.TestText.{literal_text};
 
-use crate::quoting::{Twice, push_doubled};
 use crate::spell::{Spell, Style, say};
 use lq_base::{Dialect, Literal, NoMemory, Text, append_fixed, append_whole};
 use lq_model::Phrase;
+use lq_quoting::{Twice, push_doubled};
 
 #[tactic(auto, unfolding(lq_model::specs::Quoting::string_text))]
 fn push_string(dialect: Dialect, to: &mut Text, text: &str) -> Result<(), NoMemory>

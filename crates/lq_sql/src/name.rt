@@ -2,10 +2,10 @@ ghost use Rattle.std.specs.Prelude.{◌≡◌, ◌++◌, OnOk};
 ghost use Rattle.lq_model.specs.Phrase.{words};
 ghost use Rattle.lq_model.specs.Quoting.{name_quote, name_text};
 
-use crate::quoting::{Twice, push_doubled};
 use crate::spell::{Spell, Style, say};
 use lq_base::{Dialect, Name, NoMemory, Text};
 use lq_model::Phrase;
+use lq_quoting::{Twice, push_doubled};
 
 fn name_quote(dialect: Dialect) -> &'static str
     ensures { result.now ≡ name_quote dialect }

@@ -1,5 +1,5 @@
 ghost use Rattle.std.specs.Prelude.{◌≡◌};
-ghost use Rattle.lq_expr.specs.Grammar.{is_operator};
+ghost use Rattle.lq_operators.specs.Operators.{is_operator};
 
 use crate::word::Word;
 
@@ -12,6 +12,7 @@ pub enum Operator {
 }
 
 impl Operator {
+    /// Whether the word is this operator.
     pub fn is_word(self, word: &Word) -> bool
         ensures { result ≡ is_operator self word.now }
     {
