@@ -4,16 +4,17 @@ use Rattle.std.specs.Prelude.{reverse}
 use Rattle.std.proofs.lemmas.List.{reverse-append}
 use denote.RawPtr.{Ptr}
 use Rattle.lq_nodes.specs.Slots.{without_node}
-use Rattle.lq_chain.specs.declared.node.Node.{Node}
-use Rattle.lq_chain.specs.declared.node.Spot.{Spot}
-use Rattle.lq_chain.specs.declared.node.Links.{Links}
-use Rattle.lq_chain.specs.declared.node.Finger.{Finger}
-use Rattle.lq_chain.specs.declared.done.Done.{Done}
-use Rattle.lq_chain.specs.declared.done.Done.TheVariants.{Begun, Pushed, Unlinked, Replaced}
+use Rattle.lq_links.specs.declared.node.Node.{Node}
+use Rattle.lq_links.specs.declared.node.Spot.{Spot}
+use Rattle.lq_links.specs.declared.node.Links.{Links}
+use Rattle.lq_links.specs.declared.node.Finger.{Finger}
+use Rattle.lq_links.specs.declared.done.Done.{Done}
+use Rattle.lq_links.specs.declared.done.Done.TheVariants.{Begun, Pushed, Unlinked, Replaced}
 use Rattle.lq_chain.specs.History.{history, changed, back}
-use Rattle.lq_chain.specs.Nodes.{Linked, rows, NotIn, IsOn}
-use Rattle.lq_chain.specs.State.{State, state_of, Ties, IsNone, gone, before, IsList, spots_from, spots, Spare, IsSound, AllUndo, pasts, IsWhole, seen, nothing}
-use Rattle.lq_chain.proofs.ShapeLemmas.{get_set_other}
+use Rattle.lq_links.specs.Nodes.{Linked, rows, NotIn, IsOn}
+use Rattle.lq_links.specs.State.{State, state_of, Ties, IsNone, gone, before, IsList, spots_from, spots, Spare, IsSound, AllUndo, pasts, nothing}
+use Rattle.lq_chain.specs.State.{IsWhole, seen}
+use Rattle.lq_links.proofs.ShapeLemmas.{get_set_other}
 use Rattle.lq_chain.proofs.StepLemmas.{Made, list_is}
 
 newest : (items new : List Done) (d : Done) → new ≡ items ++ d ∷ [] → reverse new ≡ d ∷ reverse items

@@ -3,15 +3,16 @@ use Rattle.std.proofs.Common.{◌≡◌, ℕ, ◌<◌, ◌^◌, List, [], ◌∷
 use Rattle.std.specs.Prelude.{reverse, slice_set}
 use Rattle.std.specs.List.{remove}
 use Rattle.std.specs.Option.{option_map}
-use Rattle.lq_chain.specs.declared.node.Node.{Node}
-use Rattle.lq_chain.specs.declared.node.Spot.{Spot}
-use Rattle.lq_chain.specs.declared.node.Links.{Links}
-use Rattle.lq_chain.specs.declared.node.Finger.{Finger}
-use Rattle.lq_chain.specs.declared.done.Done.{Done}
-use Rattle.lq_chain.specs.declared.done.Done.TheVariants.{Unlinked, Replaced}
+use Rattle.lq_links.specs.declared.node.Node.{Node}
+use Rattle.lq_links.specs.declared.node.Spot.{Spot}
+use Rattle.lq_links.specs.declared.node.Links.{Links}
+use Rattle.lq_links.specs.declared.node.Finger.{Finger}
+use Rattle.lq_links.specs.declared.done.Done.{Done}
+use Rattle.lq_links.specs.declared.done.Done.TheVariants.{Unlinked, Replaced}
 use Rattle.lq_chain.specs.History.{history}
-use Rattle.lq_chain.specs.Nodes.{Has, node, first_or, last_or, rows, spot_at, IsOn}
-use Rattle.lq_chain.specs.State.{state_of, Ties, IsList, unlinked, replaced_by, spots, IsWhole, seen, CanRelink}
+use Rattle.lq_links.specs.Nodes.{Has, node, first_or, last_or, rows, spot_at, IsOn}
+use Rattle.lq_links.specs.State.{state_of, Ties, IsList, unlinked, replaced_by, spots, CanRelink}
+use Rattle.lq_chain.specs.State.{IsWhole, seen}
 use Rattle.lq_chain.proofs.StepLemmas.{Made, made_unlinked, made_replaced, node_in}
 use Rattle.lq_chain.proofs.ChainLemmas.{unlinked_edit, replaced_edit, step_whole, step_seen}
 use Rattle.lq_chain.proofs.FindLemmas.{split, node_at, on_spot, spot_after, rows_removed, rows_set}

@@ -1,14 +1,14 @@
 -- Places of a list of nodes.
 use Rattle.std.proofs.Common.{◌≡◌, ℕ, zero, suc, ◌+◌, ◌-◌, ◌<◌, ◌⊎◌, inl, inr, List, [], ◌∷◌, ◌++◌, length, Option, Some, None, refl, sym, ap, ◌∙◌, subst, arith}
-use Rattle.lq_chain.specs.declared.node.Node.{Node}
-use Rattle.lq_chain.specs.declared.node.Spot.{Spot}
-use Rattle.lq_chain.specs.declared.node.Finger.{Finger}
+use Rattle.lq_links.specs.declared.node.Node.{Node}
+use Rattle.lq_links.specs.declared.node.Spot.{Spot}
+use Rattle.lq_links.specs.declared.node.Finger.{Finger}
 use Rattle.std.specs.Prelude.{slice_set}
 use Rattle.std.specs.List.{remove}
 use Rattle.std.specs.Option.{option_map}
-use Rattle.lq_chain.specs.Nodes.{Has, node, first_or, last_or, rows, IsThereIf, spot_at, IsOn}
-use Rattle.lq_chain.specs.State.{State, IsList}
-use Rattle.lq_chain.proofs.ShapeLemmas.{some_not, some_same}
+use Rattle.lq_links.specs.Nodes.{Has, node, first_or, last_or, rows, IsThereIf, spot_at, IsOn}
+use Rattle.lq_links.specs.State.{State, IsList}
+use Rattle.lq_links.proofs.ShapeLemmas.{some_not, some_same}
 use Rattle.lq_chain.proofs.StepLemmas.{node_in, prev_in, next_in}
 
 module _ {X : Type 0} where

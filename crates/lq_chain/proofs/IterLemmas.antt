@@ -1,11 +1,11 @@
 -- A step of a walk over linked nodes.
 use Rattle.std.proofs.Common.{◌≡◌, ℕ, List, [], ◌∷◌, length, Option, Some, None, sym, ap, ◌∙◌, subst}
 use denote.RawPtr.{Ptr}
-use Rattle.lq_chain.specs.declared.node.Node.{Node}
-use Rattle.lq_chain.specs.declared.node.Spot.{Spot}
-use Rattle.lq_chain.specs.Nodes.{node, Has, first_or, Linked}
-use Rattle.lq_chain.specs.State.{spots_from}
-use Rattle.lq_chain.proofs.ShapeLemmas.{some_not, some_same}
+use Rattle.lq_links.specs.declared.node.Node.{Node}
+use Rattle.lq_links.specs.declared.node.Spot.{Spot}
+use Rattle.lq_links.specs.Nodes.{node, Has, first_or, Linked}
+use Rattle.lq_links.specs.State.{spots_from}
+use Rattle.lq_links.proofs.ShapeLemmas.{some_not, some_same}
 use Rattle.lq_chain.proofs.StepLemmas.{spots_are}
 
 module _ {X : Type 0} where

@@ -3,14 +3,14 @@ use Rattle.std.proofs.Common.{◌≡◌, ◌≢◌, ℕ, suc, ◌+◌, ◌-◌, 
 use Rattle.std.specs.Prelude.{slice_get}
 use Rattle.std.proofs.lemmas.List.{append-nil, length-append, take-append-le, take_all}
 use denote.RawPtr.{Ptr}
-use Rattle.lq_chain.specs.declared.node.Node.{Node}
-use Rattle.lq_chain.specs.declared.node.Spot.{Spot}
-use Rattle.lq_chain.specs.declared.done.Done.{Done}
-use Rattle.lq_chain.specs.declared.done.Done.TheVariants.{Pushed, Unlinked, Replaced}
-use Rattle.lq_chain.specs.Nodes.{Has, node, first_or, last_or, Linked, NotIn, NotInIf, Apart, IsThere, IsThereIf}
-use Rattle.lq_chain.specs.State.{State, IsNone, gone, joined, rejoined, with_len, grown, popped, node_of, relinked_node, relinked, pushed, unlinked_node, unlinked, replaced_node, replaced_by, before, CanUndo, IsList, cons_node, spots_from, spots, Spare, IsSound}
-use Rattle.lq_chain.proofs.ShapeLemmas.{get_append, get_last, get_below, first_append, last_append, linked_append, linked_cut, linked_glue, notin_cut, notin_glue, apart_with, apart_without, apart_from, there_last, there_first, notin_new}
-use Rattle.lq_chain.proofs.GapLemmas.{Gap, joined_keeps, there_joined, there_if_joined, length_joined, len_joined, gap_joined, rejoined_joined}
+use Rattle.lq_links.specs.declared.node.Node.{Node}
+use Rattle.lq_links.specs.declared.node.Spot.{Spot}
+use Rattle.lq_links.specs.declared.done.Done.{Done}
+use Rattle.lq_links.specs.declared.done.Done.TheVariants.{Pushed, Unlinked, Replaced}
+use Rattle.lq_links.specs.Nodes.{Has, node, first_or, last_or, Linked, NotIn, NotInIf, Apart, IsThere, IsThereIf}
+use Rattle.lq_links.specs.State.{State, IsNone, gone, joined, rejoined, with_len, grown, popped, node_of, relinked_node, relinked, pushed, unlinked_node, unlinked, replaced_node, replaced_by, before, CanUndo, IsList, cons_node, spots_from, spots, Spare, IsSound}
+use Rattle.lq_links.proofs.ShapeLemmas.{get_append, get_last, get_below, first_append, last_append, linked_append, linked_cut, linked_glue, notin_cut, notin_glue, apart_with, apart_without, apart_from, there_last, there_first, notin_new}
+use Rattle.lq_links.proofs.GapLemmas.{Gap, joined_keeps, there_joined, there_if_joined, length_joined, len_joined, gap_joined, rejoined_joined}
 
 module _ {X : Type 0} where
   pub spots_are : (slots : List (Ptr × Option (Node X))) (ss : List (Spot × X)) (p : Option Spot) → Linked slots p ss None → spots_from (length ss) slots (first_or ss None) ≡ ss

@@ -1,14 +1,15 @@
 ghost use Rattle.std.specs.Prelude.{◌≡◌, ◌<◌, ◌≤◌, ◌+◌, ◌↔◌, [], ◌∷◌, ◌++◌, cond, length, IsTrue, IfErr, IfOk, OnOk, OnErr, slice_set};
 ghost use Rattle.std.specs.List.{remove};
 ghost use Rattle.lq_chain.specs.Marks.{kept_rows, replaced, with_new};
-ghost use Rattle.lq_chain.specs.History.{history, changed, undone_to, back, marked, forgotten, kept};
+ghost use Rattle.lq_chain.specs.History.{history, changed, undone_to, back, marked, forgotten, kept, step_shorter};
 
-use crate::done::Done;
 use crate::edits::{free_gone, free_list, undo_call};
 use crate::find::{find, finger_on};
-use crate::node::{Finger, Links};
-use crate::{Iter, Refused};
+use crate::iter::Iter;
+use crate::moves::{push_back, replace, unlink};
 use lq_base::NoMemory;
+use lq_links::{Done, Finger, Links, Refused};
+use lq_undo::{Undo, undo_to};
 use std::alloc::Global;
 use std::marker::Model;
 
@@ -41,6 +42,22 @@ impl<T> Model for Chain<T> {
     ghost view = { λ c. seen c.links c.done.items };
 
     ghost invariant = { λ c. IsWhole c.links c.done.items c.calls c.finger };
+}
+
+impl<T: Drop> Undo for Chain<T> {
+    ghost changes = { marked };
+
+    ghost before = { λ h. back 1 h.now h.past };
+
+    fn mark(&self) -> u64 {
+        Chain::mark(self)
+    }
+
+    fn step_back(&mut self) {
+        Chain::step_back(self);
+    }
+
+    ghost one_less = { λ h. step_shorter h.now h.past };
 }
 
 impl<T: Drop> Drop for Chain<T> {
@@ -186,14 +203,11 @@ impl<T: Drop> Chain<T> {
     }
 
     /// Gives the list as it was when `mark` answered this number.
-    #[tactic(auto, using(crate::proofs::HistoryLemmas::step_undone, crate::proofs::HistoryLemmas::step_shorter))]
     pub fn undo_to(&mut self, mark: u64)
         requires { mark ≤ marked self.old }
         ensures { self.new ≡ undone_to self.old mark }
     {
-        while mark < self.mark() {
-            self.step_back();
-        }
+        undo_to(self, mark);
     }
 
     /// Keeps the present list, and drops the rows that only undoing needed.
@@ -239,7 +253,7 @@ impl<T: Drop> Chain<T> {
             return Err(Refused { value: row });
         }
         let last = self.links.tail;
-        let spot = self.links.push_back(row)?;
+        let spot = push_back(&mut self.links, row)?;
         self.done.push_reserved(Done::Pushed { spot, last });
         Ok(())
     }
@@ -255,7 +269,7 @@ impl<T: Drop> Chain<T> {
             Some(spot) => spot,
             None => unreachable!(),
         };
-        let next = self.links.unlink(spot);
+        let next = unlink(&mut self.links, spot);
         self.done.push_reserved(Done::Unlinked { spot });
         self.finger = finger_on(at, next);
         Ok(())
@@ -275,7 +289,7 @@ impl<T: Drop> Chain<T> {
             Some(spot) => spot,
             None => unreachable!(),
         };
-        let put = self.links.replace(spot, by)?;
+        let put = replace(&mut self.links, spot, by)?;
         self.done.push_reserved(Done::Replaced { spot, by: put });
         self.finger = finger_on(at, Some(put));
         Ok(())

@@ -1,11 +1,10 @@
 //! What is done over the whole record of steps.
 ghost use Rattle.std.specs.Prelude.{◌≡◌, ◌<◌, [], ◌∷◌, length, reverse};
-ghost use Rattle.lq_chain.specs.Nodes.{rows};
-ghost use Rattle.lq_chain.specs.State.{state_of, Ties, IsList, IsSound, AllUndo, spots, pasts};
+ghost use Rattle.lq_links.specs.Nodes.{rows};
+ghost use Rattle.lq_links.specs.State.{state_of, Ties, IsList, IsSound, AllUndo, spots, pasts};
 
-use crate::done::Done;
-use crate::node::Links;
-use crate::steps::next;
+use crate::moves::undo;
+use lq_links::{Done, Links, next};
 
 /// Undoes the last changing call.
 pub fn undo_call<T: Drop>(links: &mut Links<T>, done: &mut Vec<Done>)
@@ -22,7 +21,7 @@ pub fn undo_call<T: Drop>(links: &mut Links<T>, done: &mut Vec<Done>)
         if let Done::Begun = step {
             return;
         }
-        links.undo(step);
+        undo(links, step);
     }
 }
 

@@ -1,11 +1,10 @@
 //! The node at a place of the list, reached from the nearest of the front, the end and the finger.
 ghost use Rattle.std.specs.Prelude.{◌≡◌, ◌⊎◌, ◌≤◌, ◌<◌, Some, None, IfNone, length};
 ghost use Rattle.std.specs.Option.{option_map};
-ghost use Rattle.lq_chain.specs.Nodes.{spot_at, IsOn};
-ghost use Rattle.lq_chain.specs.State.{state_of, IsList, spots};
+ghost use Rattle.lq_links.specs.Nodes.{spot_at, IsOn};
+ghost use Rattle.lq_links.specs.State.{state_of, IsList, spots};
 
-use crate::node::{Finger, Links, Spot};
-use crate::steps::{next, prev};
+use lq_links::{Finger, Links, Spot, next, prev};
 
 /// The spot at a place.
 pub fn find<T>(links: &Links<T>, finger: Option<Finger>, at: usize) -> Option<Spot>

@@ -3,7 +3,7 @@ ghost use Rattle.std.specs.Map.{lookup, set_value};
 ghost use Rattle.std.specs.Option.{option_copied};
 ghost use Rattle.std.specs.Prelude.{◌≡◌, ◌≤◌, None, [], IfOk, IfSome, OnErr, OnOk, is_some, length, option_map, true};
 ghost use Rattle.lq_base.specs.Name.{is_named};
-ghost use Rattle.lq_chain.specs.History.{back, changed, history, marked, undone_to};
+ghost use Rattle.lq_chain.specs.History.{back, changed, history, marked, step_shorter, undone_to};
 ghost use Rattle.lq_chain.specs.Marks.{kept_rows, replaced};
 ghost use Rattle.lq_model.specs.Catalogue.{Table, no_objects, sequence_of, table_of, the_table, view_of, with_new, with_sequence, with_table, with_view, without_sequence, without_table, without_view};
 ghost use Rattle.lq_model.specs.NameSpaces.{all_foreign_names, object_names, shared_names};
@@ -22,6 +22,7 @@ use crate::tables::Tables;
 use crate::taken::TakenNames;
 use lq_base::{Name, NoMemory, Value};
 use lq_rows::{Held, Row, Shape, Values};
+use lq_undo::{Undo, undo_to};
 use std::alloc::Global;
 use std::marker::Model;
 
@@ -59,6 +60,22 @@ impl Model for Parts {
     ghost use Rattle.lq_parts.specs.Taken.{AreKnown};
 
     ghost invariant = { λ p. AreKnown p.tables.now p.names };
+}
+
+impl Undo for Parts {
+    ghost changes = { marked };
+
+    ghost before = { λ h. back 1 h.now h.past };
+
+    fn mark(&self) -> u64 {
+        Parts::mark(self)
+    }
+
+    fn step_back(&mut self) {
+        Parts::step_back(self);
+    }
+
+    ghost one_less = { λ h. step_shorter h.now h.past };
 }
 
 impl Parts {
@@ -379,14 +396,11 @@ impl Parts {
 
 impl Parts {
     /// Gives the catalogue as it was when `mark` answered this number. It takes no memory.
-    #[tactic(auto, using(lq_chain::proofs::HistoryLemmas::step_undone, lq_chain::proofs::HistoryLemmas::step_shorter))]
     pub fn undo_to(&mut self, mark: u64)
         requires { mark ≤ marked self.old }
         ensures { self.new ≡ undone_to self.old mark }
     {
-        while mark < self.mark() {
-            self.step_back();
-        }
+        undo_to(self, mark);
     }
 
     /// Keeps the catalogue as it is: nothing can be undone.

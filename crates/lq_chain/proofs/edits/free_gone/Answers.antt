@@ -1,6 +1,6 @@
 use Rattle.std.proofs.Common.{sym, subst}
 use Rattle.std.specs.Prelude.{reverse}
-use Rattle.lq_chain.specs.State.{State, state_of, spots, gone, Spare, IsList}
+use Rattle.lq_links.specs.State.{State, state_of, spots, gone, Spare, IsList}
 use Rattle.lq_chain.proofs.ChainLemmas.{gone_newest, list_freed, spare_freed}
 use Rattle.lq_chain.proofs.edits.free_gone.Goals as goal
 

@@ -1,6 +1,6 @@
 use Rattle.std.proofs.Common.{vec_len}
 use Rattle.std.specs.Prelude.{reverse}
-use Rattle.lq_chain.specs.State.{state_of, Ties, IsList, Spare, gone, spots}
+use Rattle.lq_links.specs.State.{state_of, Ties, IsList, Spare, gone, spots}
 use Rattle.lq_chain.proofs.edits.free_gone.Given as goal
 
 abbrev pub invariant-loop-step : goal.invariant-loop-step

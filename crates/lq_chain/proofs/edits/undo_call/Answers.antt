@@ -1,6 +1,6 @@
 use Rattle.std.proofs.Common.{[], ◌∷◌, ◌++◌, ◌≡◌, ◌<◌, length, rules, sym, ap, ◌∙◌, subst}
 use Rattle.std.specs.Prelude.{reverse}
-use Rattle.lq_chain.specs.State.{State, state_of, IsSound, AllUndo, pasts}
+use Rattle.lq_links.specs.State.{State, state_of, IsSound, AllUndo, pasts}
 use Rattle.lq_chain.proofs.ChainLemmas.{newest_undone, pasts_newest, pasts_at_begun, undone_begun, edit_of, none_begun}
 use Rattle.lq_chain.proofs.edits.undo_call.Goals as goal
 

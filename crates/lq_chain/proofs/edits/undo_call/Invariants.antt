@@ -1,6 +1,6 @@
 use Rattle.std.proofs.Common.{◌≡◌, vec_len}
 use Rattle.std.specs.Prelude.{reverse}
-use Rattle.lq_chain.specs.State.{state_of, Ties, IsSound, AllUndo, pasts}
+use Rattle.lq_links.specs.State.{state_of, Ties, IsSound, AllUndo, pasts}
 use Rattle.lq_chain.proofs.edits.undo_call.Given as goal
 
 abbrev pub invariant-loop-step : goal.invariant-loop-step

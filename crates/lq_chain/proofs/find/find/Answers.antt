@@ -1,5 +1,5 @@
 use Rattle.std.proofs.Common.{arith}
-use Rattle.lq_chain.specs.State.{state_of, spots}
+use Rattle.lq_links.specs.State.{state_of, spots}
 use Rattle.lq_chain.proofs.FindLemmas.{head_none}
 use Rattle.lq_chain.proofs.find.find.Goals as goal
 

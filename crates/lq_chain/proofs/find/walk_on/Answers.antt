@@ -1,5 +1,5 @@
 use Rattle.std.proofs.Common.{◌<◌, length, sym, ◌∙◌, arith}
-use Rattle.lq_chain.specs.State.{state_of, spots}
+use Rattle.lq_links.specs.State.{state_of, spots}
 use Rattle.lq_chain.proofs.FindLemmas.{spot_within, node_at}
 use Rattle.lq_chain.proofs.find.walk_on.Goals as goal
 

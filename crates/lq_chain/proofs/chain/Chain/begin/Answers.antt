@@ -1,5 +1,5 @@
 use Rattle.std.proofs.Common.{[], ◌∷◌, ◌++◌, ◌≡◌, ◌+◌, rules, ap, ◌∙◌}
-use Rattle.lq_chain.specs.declared.done.Done.TheVariants.{Begun}
+use Rattle.lq_links.specs.declared.done.Done.TheVariants.{Begun}
 use Rattle.lq_chain.specs.History.{changed}
 use Rattle.lq_chain.proofs.ChainLemmas.{begun_whole, begun_seen}
 use Rattle.lq_chain.proofs.chain.Chain.begin.Goals as goal

@@ -1,4 +1,4 @@
-use Rattle.lq_chain.specs.State.{state_of, spots}
+use Rattle.lq_links.specs.State.{state_of, spots}
 use Rattle.lq_chain.proofs.ChainLemmas.{list_again}
 use Rattle.lq_chain.proofs.chain.Chain.drop.Goals as goal
 

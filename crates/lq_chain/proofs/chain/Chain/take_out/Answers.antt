@@ -1,8 +1,8 @@
 use Rattle.std.proofs.Common.{[], ◌∷◌, ◌++◌, ◌<◌, length, sym, ap, ◌∙◌, arith}
 use Rattle.std.specs.List.{remove}
 use Rattle.lq_chain.specs.History.{history}
-use Rattle.lq_chain.specs.State.{state_of, spots}
-use Rattle.lq_chain.specs.declared.done.Done.TheVariants.{Unlinked}
+use Rattle.lq_links.specs.State.{state_of, spots}
+use Rattle.lq_links.specs.declared.done.Done.TheVariants.{Unlinked}
 use Rattle.lq_chain.proofs.EditLemmas.{took, can_relink}
 use Rattle.lq_chain.proofs.FindLemmas.{spot_within, length_rows}
 use Rattle.lq_chain.proofs.chain.Chain.take_out.Goals as goal
@@ -20,11 +20,11 @@ pub invariant_of-self-2 : goal.invariant_of-self-2
 invariant_of-self-2 g c =
     let old = c.self.inside in let s = c.in-Some.spot in let e = c.unlink-next.ensures in
     let items = c.push_reserved.ensures.items ∙ ap (λ xs. xs ++ Unlinked s ∷ []) c.reserve.ensures.items in
-    (took old.links c.unlink-next.new.self old.done.items c.push_reserved.new.self.items old.calls old.finger c.finger_on-self-inside.result c.args.at s c.unlink-next.result c.self.invariant e.fits (sym c.find.ensures ∙ c.in-Some.is) e.state e.ties items e.next c.finger_on-self-inside.ensures).0
+    (took old.links c.unlink-next.new.links old.done.items c.push_reserved.new.self.items old.calls old.finger c.finger_on-self-inside.result c.args.at s c.unlink-next.result c.self.invariant e.fits (sym c.find.ensures ∙ c.in-Some.is) e.state e.ties items e.next c.finger_on-self-inside.ensures).0
 
 pub returns-clause-ok : goal.returns-clause-ok
 returns-clause-ok g c =
     let old = c.self.inside in let s = c.in-Some.spot in let e = c.unlink-next.ensures in
     let items = c.push_reserved.ensures.items ∙ ap (λ xs. xs ++ Unlinked s ∷ []) c.reserve.ensures.items in
-    (took old.links c.unlink-next.new.self old.done.items c.push_reserved.new.self.items old.calls old.finger c.finger_on-self-inside.result c.args.at s c.unlink-next.result c.self.invariant e.fits (sym c.find.ensures ∙ c.in-Some.is) e.state e.ties items e.next c.finger_on-self-inside.ensures).1
+    (took old.links c.unlink-next.new.links old.done.items c.push_reserved.new.self.items old.calls old.finger c.finger_on-self-inside.result c.args.at s c.unlink-next.result c.self.invariant e.fits (sym c.find.ensures ∙ c.in-Some.is) e.state e.ties items e.next c.finger_on-self-inside.ensures).1
     ∙ ap (λ h. history (remove h.now c.args.at) h.past) c.self.view_is

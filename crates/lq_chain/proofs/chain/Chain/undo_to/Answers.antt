@@ -1,0 +1,7 @@
+use Rattle.std.proofs.Common.{◌-◌, ◌∙◌}
+use Rattle.lq_chain.specs.History.{marked}
+use Rattle.lq_chain.proofs.HistoryLemmas.{ago_is_back}
+use Rattle.lq_chain.proofs.chain.Chain.undo_to.Goals as goal
+
+pub returns : goal.returns
+returns g c = c.undo_to.ensures ∙ ago_is_back (marked c.args.self.now - c.args.mark) c.args.self.now
