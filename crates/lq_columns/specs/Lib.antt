@@ -1,16 +1,8 @@
 pub mod AddDefaultValue
 pub mod AddDefaultValueLaws
-pub mod AddNotNull
-pub mod AddNotNullLaws
 pub mod DefaultKeys
 pub mod DefaultKeysLaws
 pub mod DropColumn
 pub mod DropColumnLaws
 pub mod DropDefaultValue
 pub mod DropDefaultValueLaws
-pub mod DropNotNull
-pub mod DropNotNullLaws
-pub mod Nullable
-pub mod NullableLaws
-pub mod RenameColumn
-pub mod RenameColumnLaws

@@ -4,9 +4,10 @@ use Rattle.std.specs.Prelude.{List, map, not, ◌≡◌}
 use Rattle.lq_base.specs.declared.dialect.Dialect.{Dialect}
 use Rattle.lq_base.specs.declared.tracking.Tracked.{Tracked}
 use Rattle.lq_model.specs.Catalogue.{Catalogue}
-use Rattle.lq_cond.specs.Told.{all_hold, each_told, map_told, one_holds, tells, told}
+use Rattle.lq_cond.specs.Told.{tells, told}
 use Rattle.lq_cond.specs.declared.cond.Cond.{And, Cond, Is, Not, Or, the_lemmas}
 use Rattle.lq_cond.specs.declared.condition.Condition.{Condition}
+use Rattle.lq_verdicts.specs.Verdict.{all_hold, each_told, map_told, one_holds}
 
 pub and_told : (d : Dialect) (c : Catalogue) (rows : List Tracked) (conds : List Cond) → told d (And conds) c rows ≡ map_told all_hold (each_told (map (λ cond. told d cond c rows) conds))
 and_told d c rows conds = search (rules, the_lemmas)

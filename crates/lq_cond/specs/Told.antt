@@ -1,8 +1,8 @@
 -- What a condition tells of a database, as the catalogue and the rows that track what ran: that it holds, that it does not, or the first error.
 use Rattle.std.specs.Ordering.{int_eq}
-use Rattle.std.specs.List.{list_all, list_any}
+use Rattle.std.specs.List.{list_any}
 use Rattle.std.specs.Option.{option_and_then}
-use Rattle.std.specs.Prelude.{Bool, Err, List, None, Ok, Option, Result, Some, [], if◌then◌else◌, is_some, length, not, pos, ℕ, ◌&&◌, ◌==◌, ◌≡◌, ◌∷◌}
+use Rattle.std.specs.Prelude.{Bool, Err, List, None, Ok, Option, Result, Some, [], if◌then◌else◌, is_some, length, not, pos, ℕ, ◌&&◌, ◌==◌, ◌∷◌}
 use Rattle.lq_base.specs.Name.{is_named}
 use Rattle.lq_base.specs.Options.{if_there}
 use Rattle.lq_base.specs.Text.{is_text}
@@ -21,17 +21,11 @@ use Rattle.lq_model.specs.declared.constraint.Key.{Key}
 use Rattle.lq_model.specs.declared.query.Answered.{Answered}
 use Rattle.lq_cond.specs.Dialects.{is_meant}
 use Rattle.lq_cond.specs.Printed.{is_printed}
-use Rattle.lq_cond.specs.declared.verdict.CondFault.{CondFault}
-use Rattle.lq_cond.specs.declared.verdict.CondFault.TheVariants as fault
 use Rattle.lq_cond.specs.declared.cond.Cond.{Cond, fold-Cond}
 use Rattle.lq_cond.specs.declared.cond.Cond.TheOpen.{Cond-F}
 use Rattle.lq_cond.specs.declared.condition.Condition.{Condition}
 use Rattle.lq_cond.specs.declared.condition.Condition.TheVariants.{ChangeSetExecuted, ColumnExists, Dbms, ForeignKeyConstraintExists, IndexExists, PrimaryKeyExists, RowCount, SequenceExists, SqlCheck, TableExists, TableIsEmpty, UniqueConstraintExists, ViewExists}
-
--- what is told, unless there is an error
-abbrev pub map_told : {A B : Type 0} → (A → B) → Result A Reason → Result B Reason
-map_told f (Ok a) = Ok (f a)
-map_told f (Err reason) = Err reason
+use Rattle.lq_verdicts.specs.Verdict.{all_hold, each_told, map_told, one_holds}
 
 -- a user's table has something: the tracking tables have nothing
 abbrev pub has : {A : Type 0} → Name → Option A → Bool
@@ -75,18 +69,6 @@ tells d c rows (SqlCheck text query) = is_answered text (answer User query c)
 tells d c rows (RowCount t expected) = map_told (λ count. int_eq (pos count) expected) (count_of c t)
 tells d c rows (TableIsEmpty t) = map_told (λ count. count == 0) (count_of c t)
 
--- what is told of each in order, or the first error
-abbrev pub each_told : {A : Type 0} → List (Result A Reason) → Result (List A) Reason
-each_told [] = Ok []
-each_told (Ok a ∷ more) = map_told (λ found. a ∷ found) (each_told more)
-each_told (Err reason ∷ more) = Err reason
-
-abbrev pub all_hold : List Bool → Bool
-all_hold bs = list_all (λ b. b) bs
-
-abbrev pub one_holds : List Bool → Bool
-one_holds bs = list_any (λ b. b) bs
-
 -- all have to hold, one has to hold, none may hold: each of them is tested
 abbrev pub together : (Condition → Result Bool Reason) → Cond-F (Result Bool Reason) → Result Bool Reason
 together tells (Cond-F.And inside) = map_told all_hold (each_told inside)
@@ -96,9 +78,3 @@ together tells (Cond-F.Is one) = tells one
 
 abbrev pub told : Dialect → Cond → Catalogue → List Tracked → Result Bool Reason
 told d cond c rows = fold-Cond (Result Bool Reason) (together (tells d c rows)) cond
-
--- how a check answers: as it is told, unless memory ran out
-abbrev pub IsTold : {A : Type 0} → Result A Reason → Result A CondFault → Type 0
-IsTold meant (Ok a) = meant ≡ Ok a
-IsTold meant (Err (fault.Error reason)) = meant ≡ Err reason
-IsTold meant (Err fault.OutOfMemory) = Unit {0}

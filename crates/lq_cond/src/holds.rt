@@ -6,15 +6,16 @@ ghost use Rattle.lq_model.specs.Catalogue.{sequence_of, table_of, view_of};
 ghost use Rattle.lq_model.specs.Look.{column_at, foreign_key_at, index_at, key_at, unique_at};
 ghost use Rattle.lq_model.specs.Query.{answer};
 ghost use Rattle.lq_model.specs.declared.caller.By.TheVariants.{User};
-ghost use Rattle.lq_cond.specs.Told.{IsTold, count_of, has, is_answered, key_named, map_told, one_value, tells, tracks};
+ghost use Rattle.lq_cond.specs.Told.{count_of, has, is_answered, key_named, one_value, tells, tracks};
+ghost use Rattle.lq_verdicts.specs.Verdict.{IsTold, map_told};
 
 use crate::condition::Condition;
 use crate::dialects::is_meant;
 use crate::printed::is_printed;
 use crate::tracking::is_tracking;
-use crate::verdict::CondFault;
 use lq_base::{Dialect, Items, Name, Reason, Text, Tracked, Value};
 use lq_model::{AskFault, By, Key, Look, Query};
+use lq_verdicts::{CondFault, is_count, is_zero};
 use std::alloc::Global;
 
 fn is_key_named(name: &Option<Name>, key: Option<&Key>) -> bool
@@ -85,10 +86,7 @@ fn is_answered<K: Look>(
 fn has_count<K: Look>(look: &K, table: &Name, expected: i128) -> Result<bool, CondFault>
     ensures { IsTold (map_told (λ count. int_eq (pos count) expected) (count_of (K.catalogue look.now) table.now)) result }
 {
-    match count_of(look, table) {
-        Ok(count) => Ok(i128::from(count) == expected),
-        Err(reason) => Err(CondFault::Error(reason)),
-    }
+    is_count(count_of(look, table), expected)
 }
 
 fn has_table<K: Look>(look: &K, table: &Name) -> bool
@@ -142,10 +140,7 @@ fn has_key<K: Look>(look: &K, table: &Name, name: &Option<Name>) -> bool
 fn is_empty<K: Look>(look: &K, table: &Name) -> Result<bool, CondFault>
     ensures { IsTold (map_told (λ count. count == 0) (count_of (K.catalogue look.now) table.now)) result }
 {
-    match count_of(look, table) {
-        Ok(count) => Ok(count == 0),
-        Err(reason) => Err(CondFault::Error(reason)),
-    }
+    is_zero(count_of(look, table))
 }
 
 /// What a condition of one kind tells.

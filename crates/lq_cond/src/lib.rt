@@ -18,4 +18,5 @@ pub use cond::{Cond, Reaction};
 pub use condition::Condition;
 pub use dialects::{dialect_names, is_meant};
 pub use lq_base::OnFail;
-pub use verdict::{CondFault, check};
+pub use lq_verdicts::CondFault;
+pub use verdict::check;

@@ -1,83 +1,30 @@
-ghost use Rattle.std.specs.Prelude.{map, not};
-ghost use Rattle.lq_cond.specs.Told.{IsTold, all_hold, each_told, map_told, one_holds, told};
+ghost use Rattle.std.specs.Prelude.{map};
+ghost use Rattle.lq_cond.specs.Told.{told};
+ghost use Rattle.lq_verdicts.specs.Verdict.{IsTold, each_told};
 
 use crate::cond::Cond;
 use crate::holds::tells;
-use lq_base::{Dialect, NoMemory, Reason, Tracked};
+use lq_base::{Dialect, Items, Tracked};
 use lq_model::Look;
+use lq_verdicts::{CondFault, all_hold, none_holds, one_holds, with_told};
 use std::alloc::Global;
-use thiserror::Error;
 
-/// Why it is not told whether a condition holds.
-#[derive(Clone, Copy, Debug, PartialEq, Eq, Error)]
-pub enum CondFault {
-    #[error("the condition cannot be tested")]
-    Error(Reason),
-    #[error("out of memory")]
-    OutOfMemory,
-}
-
-impl From<NoMemory> for CondFault {
-    ghost use Rattle.std.specs.Prelude.{◌≡◌};
-    ghost use Rattle.lq_cond.specs.declared.verdict.CondFault.TheVariants.{OutOfMemory};
-
-    ghost from_gives = { λ _ e. e ≡ OutOfMemory };
-
-    fn from(_: NoMemory) -> CondFault {
-        CondFault::OutOfMemory
-    }
-}
-
+// What each condition tells, in order, or the first error.
 #[cycle(told)]
-fn all_hold<K: Look>(
+fn each_told<K: Look>(
     alloc: Global,
     conds: &[Cond],
     dialect: Dialect,
     look: &K,
     rows: &[Tracked],
-) -> Result<bool, CondFault>
-    ensures { IsTold (map_told all_hold (each_told (map (λ cond. told dialect cond (K.catalogue look.now) rows.now) conds.now))) result }
+) -> Result<Items<bool>, CondFault>
+    ensures { IsTold (each_told (map (λ cond. told dialect cond (K.catalogue look.now) rows.now) conds.now)) result }
 {
-    let mut all = true;
+    let mut all = Items::new(alloc);
     for cond in conds {
-        let holds = check(alloc, cond, dialect, look, rows)?;
-        all = all && holds;
+        all = with_told(all, check(alloc, cond, dialect, look, rows))?;
     }
     Ok(all)
-}
-
-#[cycle(told)]
-fn one_holds<K: Look>(
-    alloc: Global,
-    conds: &[Cond],
-    dialect: Dialect,
-    look: &K,
-    rows: &[Tracked],
-) -> Result<bool, CondFault>
-    ensures { IsTold (map_told one_holds (each_told (map (λ cond. told dialect cond (K.catalogue look.now) rows.now) conds.now))) result }
-{
-    let mut one = false;
-    for cond in conds {
-        let met = check(alloc, cond, dialect, look, rows)?;
-        one = one || met;
-    }
-    Ok(one)
-}
-
-#[cycle(told)]
-fn none_holds<K: Look>(
-    alloc: Global,
-    conds: &[Cond],
-    dialect: Dialect,
-    look: &K,
-    rows: &[Tracked],
-) -> Result<bool, CondFault>
-    ensures { IsTold (map_told not (map_told one_holds (each_told (map (λ cond. told dialect cond (K.catalogue look.now) rows.now) conds.now)))) result }
-{
-    match one_holds(alloc, conds, dialect, look, rows) {
-        Ok(one) => Ok(!one),
-        Err(fault) => Err(fault),
-    }
 }
 
 /// Whether a condition holds in the database that is seen, whose changesets these rows track. Each
@@ -93,9 +40,9 @@ pub fn check<K: Look>(
     ensures { IsTold (told dialect cond.now (K.catalogue look.now) rows.now) result }
 {
     match cond {
-        Cond::And(inside) => all_hold(alloc, inside.as_slice(), dialect, look, rows),
-        Cond::Or(inside) => one_holds(alloc, inside.as_slice(), dialect, look, rows),
-        Cond::Not(inside) => none_holds(alloc, inside.as_slice(), dialect, look, rows),
+        Cond::And(inside) => all_hold(each_told(alloc, inside.as_slice(), dialect, look, rows)),
+        Cond::Or(inside) => one_holds(each_told(alloc, inside.as_slice(), dialect, look, rows)),
+        Cond::Not(inside) => none_holds(each_told(alloc, inside.as_slice(), dialect, look, rows)),
         Cond::Is(condition) => tells(alloc, condition, dialect, look, rows),
     }
 }

@@ -11,11 +11,11 @@ use Rattle.lq_tree.specs.Found.{Found, Taken, map_found, within}
 use Rattle.lq_tree.specs.Look.{map_of}
 use Rattle.lq_tree.specs.declared.node.Node.{Node}
 use Rattle.lq_columns.specs.AddDefaultValue as add_default_value
-use Rattle.lq_columns.specs.AddNotNull as add_not_null
+use Rattle.lq_nullable.specs.AddNotNull as add_not_null
 use Rattle.lq_columns.specs.DropColumn as drop_column
 use Rattle.lq_columns.specs.DropDefaultValue as drop_default_value
-use Rattle.lq_columns.specs.DropNotNull as drop_not_null
-use Rattle.lq_columns.specs.RenameColumn as rename_column
+use Rattle.lq_nullable.specs.DropNotNull as drop_not_null
+use Rattle.lq_rename_column.specs.RenameColumn as rename_column
 use Rattle.lq_data.specs.Delete as delete
 use Rattle.lq_data.specs.Empty as empty
 use Rattle.lq_data.specs.Insert as insert
@@ -23,13 +23,13 @@ use Rattle.lq_data.specs.Sql as sql_text
 use Rattle.lq_data.specs.TagDatabase as tag_database
 use Rattle.lq_data.specs.Update as update
 use Rattle.lq_keys.specs.AddForeignKey as add_foreign_key
-use Rattle.lq_keys.specs.AddPrimaryKey as add_primary_key
-use Rattle.lq_keys.specs.AddUnique as add_unique
+use Rattle.lq_primary_keys.specs.AddPrimaryKey as add_primary_key
+use Rattle.lq_uniques.specs.AddUnique as add_unique
 use Rattle.lq_keys.specs.CreateIndex as create_index
 use Rattle.lq_keys.specs.DropForeignKey as drop_foreign_key
 use Rattle.lq_keys.specs.DropIndex as drop_index
-use Rattle.lq_keys.specs.DropPrimaryKey as drop_primary_key
-use Rattle.lq_keys.specs.DropUnique as drop_unique
+use Rattle.lq_primary_keys.specs.DropPrimaryKey as drop_primary_key
+use Rattle.lq_uniques.specs.DropUnique as drop_unique
 use Rattle.lq_tables.specs.AddColumn as add_column
 use Rattle.lq_tables.specs.CreateTable as create_table
 use Rattle.lq_tables.specs.DropTable as drop_table

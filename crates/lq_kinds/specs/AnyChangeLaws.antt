@@ -6,11 +6,11 @@ use Rattle.lq_model.proofs.CanonLemmas.{change_told}
 use Rattle.lq_model.proofs.Lists.{named_itself, true_false}
 use Rattle.lq_model.specs.Changes.{AreReturns, AreStatements, AreTold, HaveEffect, TakeBack}
 use Rattle.lq_columns.specs.AddDefaultValueLaws as add_default_value
-use Rattle.lq_columns.specs.AddNotNullLaws as add_not_null
+use Rattle.lq_nullable.specs.AddNotNullLaws as add_not_null
 use Rattle.lq_columns.specs.DropColumnLaws as drop_column
 use Rattle.lq_columns.specs.DropDefaultValueLaws as drop_default_value
-use Rattle.lq_columns.specs.DropNotNullLaws as drop_not_null
-use Rattle.lq_columns.specs.RenameColumnLaws as rename_column
+use Rattle.lq_nullable.specs.DropNotNullLaws as drop_not_null
+use Rattle.lq_rename_column.specs.RenameColumnLaws as rename_column
 use Rattle.lq_data.specs.DeleteLaws as delete
 use Rattle.lq_data.specs.EmptyLaws as empty
 use Rattle.lq_data.specs.InsertLaws as insert
@@ -18,13 +18,13 @@ use Rattle.lq_data.specs.SqlLaws as sql_text
 use Rattle.lq_data.specs.TagDatabaseLaws as tag_database
 use Rattle.lq_data.specs.UpdateLaws as update
 use Rattle.lq_keys.specs.AddForeignKeyLaws as add_foreign_key
-use Rattle.lq_keys.specs.AddPrimaryKeyLaws as add_primary_key
-use Rattle.lq_keys.specs.AddUniqueLaws as add_unique
+use Rattle.lq_primary_keys.specs.AddPrimaryKeyLaws as add_primary_key
+use Rattle.lq_uniques.specs.AddUniqueLaws as add_unique
 use Rattle.lq_keys.specs.CreateIndexLaws as create_index
 use Rattle.lq_keys.specs.DropForeignKeyLaws as drop_foreign_key
 use Rattle.lq_keys.specs.DropIndexLaws as drop_index
-use Rattle.lq_keys.specs.DropPrimaryKeyLaws as drop_primary_key
-use Rattle.lq_keys.specs.DropUniqueLaws as drop_unique
+use Rattle.lq_primary_keys.specs.DropPrimaryKeyLaws as drop_primary_key
+use Rattle.lq_uniques.specs.DropUniqueLaws as drop_unique
 use Rattle.lq_tables.specs.AddColumnLaws as add_column
 use Rattle.lq_tables.specs.CreateTableLaws as create_table
 use Rattle.lq_tables.specs.DropTableLaws as drop_table

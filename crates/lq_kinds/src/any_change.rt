@@ -4,18 +4,16 @@ ghost use Rattle.lq_kinds.specs.AnyChange.{any_change, is_for};
 
 use crate::named::named;
 use lq_base::{Dialect, Items, KindFault, NoMemory};
-use lq_columns::{
-    AddDefaultValue, AddNotNullConstraint, DropColumn, DropDefaultValue, DropNotNullConstraint,
-    RenameColumn,
-};
+use lq_columns::{AddDefaultValue, DropColumn, DropDefaultValue};
 use lq_data::{Delete, Empty, Insert, Sql, TagDatabase, Update};
-use lq_keys::{
-    AddForeignKeyConstraint, AddPrimaryKey, AddUniqueConstraint, CreateIndex,
-    DropForeignKeyConstraint, DropIndex, DropPrimaryKey, DropUniqueConstraint,
-};
+use lq_keys::{AddForeignKeyConstraint, CreateIndex, DropForeignKeyConstraint, DropIndex};
 use lq_model::{Canon, Change, Look, SqlText, Statement, Undo};
+use lq_nullable::{AddNotNullConstraint, DropNotNullConstraint};
+use lq_primary_keys::{AddPrimaryKey, DropPrimaryKey};
+use lq_rename_column::RenameColumn;
 use lq_tables::{AddColumn, CreateTable, DropTable, RenameTable};
 use lq_tree::{Node, bad};
+use lq_uniques::{AddUniqueConstraint, DropUniqueConstraint};
 use lq_views::{CreateSequence, CreateView, DropSequence, DropView, RenameSequence, RenameView};
 use std::alloc::Global;
 

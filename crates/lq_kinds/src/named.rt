@@ -3,11 +3,11 @@ ghost use Rattle.lq_tree.specs.Found.{Reads, map_found, within};
 ghost use Rattle.lq_kinds.specs.AnyChange.{is_for, named, named_key, named_other};
 ghost use Rattle.lq_kinds.specs.declared.any_change.AnyChange.TheVariants as any;
 ghost use Rattle.lq_columns.specs.AddDefaultValue as add_default_value;
-ghost use Rattle.lq_columns.specs.AddNotNull as add_not_null;
+ghost use Rattle.lq_nullable.specs.AddNotNull as add_not_null;
 ghost use Rattle.lq_columns.specs.DropColumn as drop_column;
 ghost use Rattle.lq_columns.specs.DropDefaultValue as drop_default_value;
-ghost use Rattle.lq_columns.specs.DropNotNull as drop_not_null;
-ghost use Rattle.lq_columns.specs.RenameColumn as rename_column;
+ghost use Rattle.lq_nullable.specs.DropNotNull as drop_not_null;
+ghost use Rattle.lq_rename_column.specs.RenameColumn as rename_column;
 ghost use Rattle.lq_data.specs.Delete as delete;
 ghost use Rattle.lq_data.specs.Empty as empty;
 ghost use Rattle.lq_data.specs.Insert as insert;
@@ -15,13 +15,13 @@ ghost use Rattle.lq_data.specs.Sql as sql_text;
 ghost use Rattle.lq_data.specs.TagDatabase as tag_database;
 ghost use Rattle.lq_data.specs.Update as update;
 ghost use Rattle.lq_keys.specs.AddForeignKey as add_foreign_key;
-ghost use Rattle.lq_keys.specs.AddPrimaryKey as add_primary_key;
-ghost use Rattle.lq_keys.specs.AddUnique as add_unique;
+ghost use Rattle.lq_primary_keys.specs.AddPrimaryKey as add_primary_key;
+ghost use Rattle.lq_uniques.specs.AddUnique as add_unique;
 ghost use Rattle.lq_keys.specs.CreateIndex as create_index;
 ghost use Rattle.lq_keys.specs.DropForeignKey as drop_foreign_key;
 ghost use Rattle.lq_keys.specs.DropIndex as drop_index;
-ghost use Rattle.lq_keys.specs.DropPrimaryKey as drop_primary_key;
-ghost use Rattle.lq_keys.specs.DropUnique as drop_unique;
+ghost use Rattle.lq_primary_keys.specs.DropPrimaryKey as drop_primary_key;
+ghost use Rattle.lq_uniques.specs.DropUnique as drop_unique;
 ghost use Rattle.lq_tables.specs.AddColumn as add_column;
 ghost use Rattle.lq_tables.specs.CreateTable as create_table;
 ghost use Rattle.lq_tables.specs.DropTable as drop_table;
@@ -35,18 +35,16 @@ ghost use Rattle.lq_views.specs.RenameView as rename_view;
 
 use crate::any_change::AnyChange;
 use lq_base::{Dialect, KindFault};
-use lq_columns::{
-    AddDefaultValue, AddNotNullConstraint, DropColumn, DropDefaultValue, DropNotNullConstraint,
-    RenameColumn,
-};
+use lq_columns::{AddDefaultValue, DropColumn, DropDefaultValue};
 use lq_data::{Delete, Empty, Insert, Sql, TagDatabase, Update};
-use lq_keys::{
-    AddForeignKeyConstraint, AddPrimaryKey, AddUniqueConstraint, CreateIndex,
-    DropForeignKeyConstraint, DropIndex, DropPrimaryKey, DropUniqueConstraint,
-};
+use lq_keys::{AddForeignKeyConstraint, CreateIndex, DropForeignKeyConstraint, DropIndex};
 use lq_model::SqlText;
+use lq_nullable::{AddNotNullConstraint, DropNotNullConstraint};
+use lq_primary_keys::{AddPrimaryKey, DropPrimaryKey};
+use lq_rename_column::RenameColumn;
 use lq_tables::{AddColumn, CreateTable, DropTable, RenameTable};
 use lq_tree::{Node, placed, unknown};
+use lq_uniques::{AddUniqueConstraint, DropUniqueConstraint};
 use lq_views::{CreateSequence, CreateView, DropSequence, DropView, RenameSequence, RenameView};
 use std::alloc::Global;
 

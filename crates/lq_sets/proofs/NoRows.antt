@@ -3,9 +3,10 @@ use Rattle.std.proofs.Common.{ap, arith, drop, get_or, length, subst, suc, sym, 
 use Rattle.std.proofs.Math.Seq.{drop-cons}
 use Rattle.std.specs.Prelude.{List, map, not, ℕ, ◌+◌, ◌<◌, ◌∷◌, ◌≡◌}
 use Rattle.lq_cond.proofs.ToldLemmas.{and_told, not_told, or_told}
-use Rattle.lq_cond.specs.Told.{all_hold, each_told, map_told, one_holds, told}
+use Rattle.lq_cond.specs.Told.{told}
 use Rattle.lq_cond.specs.declared.cond.Cond.{And, Cond, Not, Or}
 use Rattle.lq_sets.specs.Seen.{NeedNoRows, NeedsNoRows}
+use Rattle.lq_verdicts.specs.Verdict.{all_hold, each_told, map_told, one_holds}
 
 module _ (conds : List Cond) (none : NeedNoRows conds) where
   pub and_needs_none : NeedsNoRows (And conds)

@@ -15,7 +15,7 @@ use Rattle.lq_beside.proofs.Stands.{users_are}
 use Rattle.lq_beside.proofs.Tests.{table_same}
 use Rattle.lq_beside.proofs.Words.{free_name}
 use Rattle.lq_beside.specs.Beside.{is_tracker, users}
-use Rattle.lq_cond.specs.Told.{count_of, has, is_answered, key_named, map_told, tells, together, told}
+use Rattle.lq_cond.specs.Told.{count_of, has, is_answered, key_named, tells, together, told}
 use Rattle.lq_cond.specs.declared.cond.Cond.{Cond, fold-Cond}
 use Rattle.lq_cond.specs.declared.condition.Condition.{Condition}
 use Rattle.lq_cond.specs.declared.condition.Condition.TheVariants.{ChangeSetExecuted, ColumnExists, Dbms, ForeignKeyConstraintExists, IndexExists, PrimaryKeyExists, RowCount, SequenceExists, SqlCheck, TableExists, TableIsEmpty, UniqueConstraintExists, ViewExists}
@@ -31,6 +31,7 @@ use Rattle.lq_model.specs.declared.index.Index.{Index}
 use Rattle.lq_model.specs.declared.query.Query.{Query}
 use Rattle.lq_sets.specs.Seen.{ConditionsSee, Suffice}
 use Rattle.lq_track.specs.Database.{Database}
+use Rattle.lq_verdicts.specs.Verdict.{map_told}
 
 abbrev as_told : Bool → Result Bool Reason
 as_told b = Ok b

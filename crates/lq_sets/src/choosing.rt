@@ -1,6 +1,5 @@
 ghost use Rattle.std.specs.Prelude.{◌≡◌, Bool, IfOk, Result, Some, false};
 ghost use Rattle.lq_base.specs.declared.reason.Reason.{Reason};
-ghost use Rattle.lq_cond.specs.Told.{IsTold};
 ghost use Rattle.lq_cond.specs.declared.cond.Cond.{Cond};
 ghost use Rattle.lq_expr.specs.declared.options.Options.{Options};
 ghost use Rattle.lq_sets.specs.Seen.{IsSeen, Suffice, is_fill};
@@ -9,6 +8,7 @@ ghost use Rattle.lq_track.specs.Database.{Database};
 ghost use Rattle.lq_turns.specs.Contents.{contents_of};
 ghost use Rattle.lq_turns.specs.Held.{StandsFor};
 ghost use Rattle.lq_turns.specs.Settle.{choice_of, own_choice, reacted, tested};
+ghost use Rattle.lq_verdicts.specs.Verdict.{IsTold};
 
 use crate::condition::holds;
 use lq_base::{Dialect, NoMemory, OnFail, Tracked, Why};

@@ -35,6 +35,7 @@ use Rattle.lq_tables.specs.ValueKeys.{default_keys, default_rows, set_keys, set_
 use Rattle.lq_tables.specs.declared.add_column.AddColumn.{AddColumn}
 use Rattle.lq_tables.specs.declared.add_column.AddedColumn.{AddedColumn}
 use Rattle.lq_tables.specs.declared.add_column.AddedConstraints.{AddedConstraints}
+use Rattle.lq_last_first.specs.LastFirst.{last_first}
 
 -- its keys
 
@@ -197,8 +198,7 @@ abbrev pub column_inverse : Dialect → Name → AddedColumn → List Statement
 column_inverse d t x = parts d t (foreign_of x) ++ (leaves d t (unique_of t x) ++ statement.DropColumn t x.name ∷ [])
 
 abbrev pub inverse_all : Dialect → Name → List AddedColumn → List Statement
-inverse_all d t [] = []
-inverse_all d t (x ∷ xs) = inverse_all d t xs ++ column_inverse d t x
+inverse_all d t xs = last_first (column_inverse d t) xs
 
 abbrev pub inverse : Dialect → AddColumn → Option (List Statement)
 inverse d x = Some (inverse_all d x.table_name x.columns)

@@ -16,6 +16,7 @@ use lq_model::{
 use lq_tree::{
     Given, GivenValue, Node, known, missing, optional, public, required, required_columns,
 };
+use lq_last_first::{TakesBack, push_undoing};
 use std::alloc::Global;
 
 /// What is stated of a new column's values.
@@ -442,6 +443,32 @@ fn made(
     Ok(made)
 }
 
+// Takes the columns of a table back.
+#[derive(Clone, Copy)]
+struct Unmaking<'a> {
+    dialect: Dialect,
+    table: &'a Name,
+}
+
+impl TakesBack for Unmaking<'_> {
+    ghost use Rattle.lq_tables.specs.AddColumn.{column_inverse};
+
+    type Thing = AddedColumn;
+
+    type Step = Statement;
+
+    ghost steps = { λ by column. column_inverse by.dialect by.table.now column };
+
+    fn push_steps(
+        &self,
+        alloc: Global,
+        column: &AddedColumn,
+        to: &mut Items<Statement>,
+    ) -> Result<(), NoMemory> {
+        column.push_undo(alloc, self.dialect, self.table, to)
+    }
+}
+
 fn unmade(
     alloc: Global,
     dialect: Dialect,
@@ -450,11 +477,8 @@ fn unmade(
 ) -> Result<Items<Statement>, NoMemory>
     ensures { IfOk result (λ made. made ≡ inverse_all dialect table.now columns.now) }
 {
-    let Some((column, after)) = columns.split_first() else {
-        return Ok(Items::new(alloc));
-    };
-    let mut undoing = unmade(alloc, dialect, table, after)?;
-    column.push_undo(alloc, dialect, table, &mut undoing)?;
+    let mut undoing = Items::new(alloc);
+    push_undoing(alloc, &Unmaking { dialect, table }, columns, &mut undoing)?;
     Ok(undoing)
 }
 

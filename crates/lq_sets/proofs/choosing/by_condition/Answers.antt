@@ -1,9 +1,10 @@
 use Rattle.std.proofs.Common.{subst, sym, ◌∙◌}
-use Rattle.lq_cond.specs.Told.{IsTold, told}
+use Rattle.lq_cond.specs.Told.{told}
 use Rattle.lq_sets.proofs.Chosen.{choice_so, in_dialect}
 use Rattle.lq_sets.proofs.choosing.by_condition.Goals as goal
 use Rattle.lq_seen.specs.View.{view}
 use Rattle.lq_turns.specs.Contents.{contents_of}
+use Rattle.lq_verdicts.specs.Verdict.{IsTold}
 
 pub returns : goal.returns
 returns g c = λ options database same stands suffice.

@@ -1,9 +1,10 @@
 use Rattle.std.proofs.Common.{subst, sym, ◌∙◌}
-use Rattle.lq_cond.specs.Told.{IsTold, told}
+use Rattle.lq_cond.specs.Told.{told}
 use Rattle.lq_sets.proofs.Chosen.{in_dialect}
 use Rattle.lq_sets.proofs.Seen.{rows_suffice}
 use Rattle.lq_sets.proofs.choosing.own_choice.Goals as goal
 use Rattle.lq_turns.specs.declared.choice.What.TheVariants.{New}
+use Rattle.lq_verdicts.specs.Verdict.{IsTold}
 
 pub returns : goal.returns
 returns g c = λ options database same seen.

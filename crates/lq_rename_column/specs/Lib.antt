@@ -1,0 +1,2 @@
+pub mod RenameColumn
+pub mod RenameColumnLaws

@@ -1,0 +1,43 @@
+-- That dropUniqueConstraint keeps its promises.
+use Rattle.std.proofs.Common.{ap}
+use Rattle.std.specs.Prelude.{codes, refl, true, ◌≡◌}
+use Rattle.lq_base.specs.Name.{is_name}
+use Rattle.lq_model.proofs.Effects.{does_so, restores_so}
+use Rattle.lq_model.proofs.Lists.{and_left, and_right, and_true}
+use Rattle.lq_model.proofs.Told.{keys_told, text_told}
+use Rattle.lq_model.specs.Changes.{AreReturns, AreStatements, AreTold, HaveEffect, TakeBack}
+use Rattle.lq_model.specs.Effect.{Becomes, GoesBack}
+use Rattle.lq_model.specs.Statement.{is_statement}
+use Rattle.lq_model.specs.Written.{nth_value}
+use Rattle.lq_uniques.specs.Drops.{drops_unique}
+use Rattle.lq_uniques.specs.DropsLaws.{unique_becomes, unique_spelled}
+use Rattle.lq_uniques.specs.DropUnique.{becomes, canonical_of, effect, gives, inverse, is_for, is_fresh, rows}
+use Rattle.lq_uniques.specs.declared.drop_unique.DropUniqueConstraint.{DropUniqueConstraint}
+
+pub spelled : AreStatements is_for gives
+spelled d x h =
+    and_true (is_statement d (drops_unique d x.table_name x.constraint_name)) true
+    (unique_spelled d x.table_name x.constraint_name (and_left (is_name x.table_name) _ h) (and_right (is_name x.table_name) _ h)) refl
+
+pub returned : AreReturns is_for inverse
+returned d x undoing right taken = absurd Prim.cc
+
+becomes_so : Becomes gives becomes is_for
+becomes_so d x c e right sound ran = unique_becomes d x.table_name x.constraint_name c e ran
+
+pub does : HaveEffect is_for gives effect
+does = does_so is_for gives becomes becomes_so
+
+goes_back : GoesBack is_for gives is_fresh inverse
+goes_back d x c e undoing right sound new ran taken = absurd Prim.cc
+
+pub restores : TakeBack is_for effect is_fresh inverse
+restores = restores_so is_for gives becomes is_fresh inverse becomes_so goes_back
+
+same : (x y : DropUniqueConstraint) → x.table_name ≡ y.table_name → x.constraint_name ≡ y.constraint_name → x ≡ y
+same x y table name = rw (table, name) refl
+
+pub told : AreTold is_for canonical_of
+told d x y right also e =
+    let is : rows x ≡ rows y = keys_told (codes "dropUniqueConstraint") (codes "dropUniqueConstraint") (rows x) (rows y) refl refl e in
+    same x y (text_told (ap (nth_value 0) is)) (text_told (ap (nth_value 1) is))
