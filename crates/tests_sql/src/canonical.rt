@@ -1,11 +1,11 @@
+use lq_base::{NoMemory, Text};
 use lq_canon::checksum;
 use lq_model::Canon;
+use std::alloc::Global;
 use std::test::Fail;
 
 // One change with each sort of value, in a list.
-#[test]
-fn writes_the_canonical_form(rt: HostRuntime) -> Result<(), Fail> {
-    let mut canon = Canon::new(rt.alloc());
+fn write_each_sort(canon: &mut Canon) -> Result<(), NoMemory> {
     canon.begin_list()?;
     canon.key("dropTable")?;
     canon.begin_map()?;
@@ -24,38 +24,54 @@ fn writes_the_canonical_form(rt: HostRuntime) -> Result<(), Fail> {
     canon.key("no")?;
     canon.truth(false)?;
     canon.end_map()?;
-    canon.end_list()?;
+    canon.end_list()
+}
+
+#[test]
+fn writes_the_canonical_form(rt: HostRuntime) -> Result<(), Fail> {
+    let mut canon = Canon::new(rt.alloc());
+    write_each_sort(&mut canon)?;
     let wanted =
         "[9:dropTable{9:tableNamet10:größer t5:emptyt0:4:list[n1:0n40:-170141183460469231731687303715884105728n7:1000000]3:yesb12:nob0}]";
     assert_eq!(rt; canon.written(), wanted.as_bytes());
     Ok(())
 }
 
-#[test]
-fn goes_back_to_a_mark(rt: HostRuntime) -> Result<(), Fail> {
-    let mut canon = Canon::new(rt.alloc());
+// Begins a list, and a change in it that is taken back.
+fn write_and_go_back(canon: &mut Canon) -> Result<(), NoMemory> {
     canon.begin_list()?;
     let mark = canon.mark();
     canon.key("dropTable")?;
     canon.begin_map()?;
     canon.go_back(mark);
+    Ok(())
+}
+
+#[test]
+fn goes_back_to_a_mark(rt: HostRuntime) -> Result<(), Fail> {
+    let mut canon = Canon::new(rt.alloc());
+    write_and_go_back(&mut canon)?;
     assert_eq!(rt; canon.mark().begun, 1);
     canon.text("t")?;
     assert_eq!(rt; canon.written(), "[t1:t".as_bytes());
     Ok(())
 }
 
-#[test]
-fn writes_a_dropped_table(rt: HostRuntime) -> Result<(), Fail> {
-    let mut canon = Canon::new(rt.alloc());
-    assert!(rt; canon.written().is_empty());
+fn write_dropped_table(canon: &mut Canon) -> Result<(), NoMemory> {
     canon.begin_list()?;
     canon.key("dropTable")?;
     canon.begin_map()?;
     canon.key("tableName")?;
     canon.text("t")?;
     canon.end_map()?;
-    canon.end_list()?;
+    canon.end_list()
+}
+
+#[test]
+fn writes_a_dropped_table(rt: HostRuntime) -> Result<(), Fail> {
+    let mut canon = Canon::new(rt.alloc());
+    assert!(rt; canon.written().is_empty());
+    write_dropped_table(&mut canon)?;
     assert_eq!(rt;
         canon.written(),
         "[9:dropTable{9:tableNamet1:t}]".as_bytes()
@@ -63,15 +79,15 @@ fn writes_a_dropped_table(rt: HostRuntime) -> Result<(), Fail> {
     Ok(())
 }
 
-#[test]
-fn gives_known_checksums(rt: HostRuntime) -> Result<(), Fail> {
-    let mut none = Canon::new(rt.alloc());
+fn sum_of_no_changes(alloc: Global) -> Result<Text, NoMemory> {
+    let mut none = Canon::new(alloc);
     none.begin_list()?;
     none.end_list()?;
-    let sum = checksum(rt.alloc(), &none)?;
-    assert_eq!(rt; sum.as_str(), "P1:d751713988987e9331980363e24189ce");
+    checksum(alloc, &none)
+}
 
-    let mut one = Canon::new(rt.alloc());
+fn sum_of_one_change(alloc: Global) -> Result<Text, NoMemory> {
+    let mut one = Canon::new(alloc);
     one.begin_list()?;
     one.key("dropTable")?;
     one.begin_map()?;
@@ -79,7 +95,14 @@ fn gives_known_checksums(rt: HostRuntime) -> Result<(), Fail> {
     one.text("t")?;
     one.end_map()?;
     one.end_list()?;
-    let sum = checksum(rt.alloc(), &one)?;
-    assert_eq!(rt; sum.as_str(), "P1:0f3ce696dcec492fb61d5b7e958b9a67");
+    checksum(alloc, &one)
+}
+
+#[test]
+fn gives_known_checksums(rt: HostRuntime) -> Result<(), Fail> {
+    let none = sum_of_no_changes(rt.alloc())?;
+    assert_eq!(rt; none.as_str(), "P1:d751713988987e9331980363e24189ce");
+    let one = sum_of_one_change(rt.alloc())?;
+    assert_eq!(rt; one.as_str(), "P1:0f3ce696dcec492fb61d5b7e958b9a67");
     Ok(())
 }

@@ -1,19 +1,12 @@
-//! Tests of SQL text in both dialects, what implements its traits, and canonical text.
+//! Tests of how statements are printed in both dialects, of what implements `lq_model`'s traits, and of
+//! canonical text.
 #![tactic(auto)]
 
 #[cfg(test)]
 mod canonical;
 #[cfg(test)]
-mod lexemes;
-#[cfg(test)]
 mod printing;
-#[cfg(test)]
-mod queries;
-#[cfg(test)]
-mod readers;
 #[cfg(test)]
 mod samples;
 #[cfg(test)]
 mod shown;
-#[cfg(test)]
-mod statements;

@@ -3,13 +3,6 @@ use lq_model::{Query, Statement, Test};
 use lq_sql::{print, print_query, print_test};
 use std::alloc::Global;
 
-pub const PG: Dialect = Dialect::Postgresql;
-
-pub const MY: Dialect = Dialect::Mysql;
-
-/// The text of the fault of what is no SQL.
-pub const NOT_SQL: &str = "no SQL of the dialect is spelled so";
-
 // What is printed goes where its text is made.
 
 pub fn shown(alloc: Global, dialect: Dialect, statement: Statement) -> Result<Text, NoMemory> {

@@ -1,113 +1,92 @@
 use lq_base::{NoMemory, Text};
 use lq_chain::Chain;
-use std::alloc::Global;
-use std::test::Fail;
+use std::alloc::{AllocError, Global};
+use tests_table::count;
 
-#[derive(Clone, Copy, Debug)]
-enum Step {
-    Push(u32),
-    Unlink(usize),
-    Replace(usize, u32),
-    UndoTo(u64),
-    Undo,
-    Forget,
+fn row(field: &str) -> u32 {
+    field.parse::<u32>().unwrap_or(0)
 }
 
 // Makes the call where the chain has the place or the mark, and says whether it was made.
-fn make(chain: &mut Chain<u32>, step: Step) -> bool {
+fn make(chain: &mut Chain<u32>, step: &[&str]) -> bool {
     match step {
-        Step::Push(row) => chain.push_back(row).is_ok(),
-        Step::Unlink(at) => at < chain.len() && chain.unlink(at).is_ok(),
-        Step::Replace(at, row) => at < chain.len() && chain.replace(at, row).is_ok(),
-        Step::UndoTo(mark) => {
-            if mark > chain.mark() {
-                return false;
-            }
-            chain.undo_to(mark);
-            true
-        }
-        Step::Undo => {
+        ["push", it] => chain.push_back(row(it)).is_ok(),
+        ["unlink", at] => unlink(chain, count(at)),
+        ["replace", at, it] => replace(chain, count(at), row(it)),
+        ["undo to", mark] => undo_to(chain, count(mark) as u64),
+        ["undo"] => {
             chain.undo();
             true
         }
-        Step::Forget => {
+        ["forget"] => {
             chain.forget();
             true
         }
+        _ => false,
     }
 }
 
-fn shows(chain: &Chain<u32>, rows: &[u32]) -> bool {
-    chain.len() == rows.len()
-        && chain.is_empty() == rows.is_empty()
-        && chain.iter().zip(rows.iter()).all(|(row, want)| row == want)
+fn unlink(chain: &mut Chain<u32>, at: usize) -> bool {
+    at < chain.len() && chain.unlink(at).is_ok()
 }
 
-// Each step, with the rows and the mark after it.
-const STEPS: [(Step, &[u32], u64); 29] = [
-    (Step::Push(1), &[1], 1),
-    (Step::Push(2), &[1, 2], 2),
-    (Step::Push(3), &[1, 2, 3], 3),
-    (Step::Forget, &[1, 2, 3], 0),
-    (Step::Unlink(1), &[1, 3], 1),
-    (Step::Replace(0, 9), &[9, 3], 2),
-    (Step::Unlink(1), &[9], 3),
-    (Step::UndoTo(1), &[1, 3], 1),
-    (Step::Undo, &[1, 2, 3], 0),
-    (Step::Unlink(1), &[1, 3], 1),
-    (Step::Replace(0, 9), &[9, 3], 2),
-    (Step::Push(4), &[9, 3, 4], 3),
-    (Step::Undo, &[1, 2, 3], 0),
-    (Step::Undo, &[1, 2, 3], 0),
-    (Step::Unlink(0), &[2, 3], 1),
-    (Step::Unlink(1), &[2], 2),
-    (Step::Unlink(0), &[], 3),
-    (Step::Push(5), &[5], 4),
-    (Step::Push(6), &[5, 6], 5),
-    (Step::Replace(1, 7), &[5, 7], 6),
-    (Step::Replace(1, 8), &[5, 8], 7),
-    (Step::UndoTo(7), &[5, 8], 7),
-    (Step::UndoTo(6), &[5, 7], 6),
-    (Step::Unlink(0), &[7], 7),
-    (Step::UndoTo(2), &[2], 2),
-    (Step::UndoTo(0), &[1, 2, 3], 0),
-    (Step::Unlink(2), &[1, 2], 1),
-    (Step::Forget, &[1, 2], 0),
-    (Step::Undo, &[1, 2], 0),
-];
+fn replace(chain: &mut Chain<u32>, at: usize, by: u32) -> bool {
+    at < chain.len() && chain.replace(at, by).is_ok()
+}
 
-#[test]
-fn each_call_gives_its_list(rt: HostRuntime) -> Result<(), Fail> {
-    let mut chain = Chain::new(rt.alloc());
-    assert!(rt; shows(&chain, &[]));
-    for (n, (step, rows, mark)) in STEPS.iter().enumerate() {
-        assert!(rt; make(&mut chain, *step), "{n}");
-        assert!(rt; shows(&chain, rows), "{n}");
-        assert_eq!(rt; chain.mark(), *mark, "{n}");
+fn undo_to(chain: &mut Chain<u32>, mark: u64) -> bool {
+    if mark > chain.mark() {
+        return false;
     }
-    Ok(())
+    chain.undo_to(mark);
+    true
+}
+
+fn show(chain: &Chain<u32>, out: &mut String) -> Result<(), AllocError> {
+    for row in chain.iter() {
+        write!(out, "{row} ")?;
+    }
+    if chain.is_empty() {
+        out.push_str("empty ")?;
+    }
+    let (len, mark) = (chain.len(), chain.mark());
+    write!(out, "({len}, {mark}) ")
+}
+
+/// The rows, how many they are, and the mark, before and after each step of a list of them.
+pub fn steps(alloc: Global, field: &str) -> Result<String, NoMemory> {
+    let mut chain: Chain<u32> = Chain::new(alloc);
+    let mut out = String::new(alloc);
+    show(&chain, &mut out)?;
+    for step in field.split(';') {
+        let words: Vec<&str> = step.split(':').collect(alloc)?;
+        if !make(&mut chain, words.as_slice()) {
+            out.push_str("not made ")?;
+        }
+        show(&chain, &mut out)?;
+    }
+    Ok(out)
 }
 
 // A row that cannot be cloned.
-#[derive(Debug, Drop)]
-struct Row {
+#[derive(Drop)]
+struct Named {
     name: Text,
 }
 
-fn make_row(alloc: Global, name: &str) -> Result<Row, NoMemory> {
+fn make_row(alloc: Global, name: &str) -> Result<Named, NoMemory> {
     let name = Text::new(alloc, name)?;
-    Ok(Row { name })
+    Ok(Named { name })
 }
 
-fn names(chain: &Chain<Row>, want: &[&str]) -> bool {
-    chain.len() == want.len()
-        && chain
-            .iter()
-            .zip(want.iter())
-            .all(|(row, want)| row.name.as_str() == *want)
+fn show_names(chain: &Chain<Named>, out: &mut String) -> Result<(), AllocError> {
+    for row in chain.iter() {
+        out.push_str(row.name.as_str())?;
+    }
+    out.push_str(" ")
 }
 
-fn change(alloc: Global, chain: &mut Chain<Row>) -> Result<(), NoMemory> {
+fn change(alloc: Global, chain: &mut Chain<Named>) -> Result<(), NoMemory> {
     if chain.len() != 2 {
         return Ok(());
     }
@@ -116,23 +95,24 @@ fn change(alloc: Global, chain: &mut Chain<Row>) -> Result<(), NoMemory> {
     chain.unlink(1)
 }
 
-#[test]
-fn rows_need_no_clone(rt: HostRuntime) -> Result<(), Fail> {
-    let mut chain = Chain::new(rt.alloc());
+/// Rows that cannot be cloned, changed and undone.
+pub fn no_clone(alloc: Global) -> Result<String, NoMemory> {
+    let mut chain = Chain::new(alloc);
+    let mut out = String::new(alloc);
     for name in ["a", "b"] {
-        chain.push_back(make_row(rt.alloc(), name)?)?;
+        chain.push_back(make_row(alloc, name)?)?;
     }
     chain.forget();
-    assert!(rt; change(rt.alloc(), &mut chain).is_ok());
-    assert!(rt; names(&chain, &["c", "d"]));
+    change(alloc, &mut chain)?;
+    show_names(&chain, &mut out)?;
     chain.undo();
-    assert!(rt; names(&chain, &["a", "b"]));
-    Ok(())
+    show_names(&chain, &mut out)?;
+    Ok(out)
 }
 
-#[test]
-fn many_rows_are_not_copied(rt: HostRuntime) -> Result<(), Fail> {
-    let mut chain = Chain::new(rt.alloc());
+/// Many rows, which are not copied.
+pub fn many(alloc: Global) -> Result<String, NoMemory> {
+    let mut chain: Chain<u32> = Chain::new(alloc);
     for n in 0..100_000u32 {
         chain.push_back(n)?;
     }
@@ -141,6 +121,5 @@ fn many_rows_are_not_copied(rt: HostRuntime) -> Result<(), Fail> {
         chain.push_back(n)?;
         chain.undo();
     }
-    assert_eq!(rt; chain.len(), 100_000);
-    Ok(())
+    Ok(format!(in alloc; "{}", chain.len())?)
 }

@@ -1,155 +1,135 @@
 use lq_base::{
-    Boxed, Dialect, Did, Duplicate, Exec, Happened, Identity, Items, Literal, Lock, Printed,
-    Reason, Same, Text, Tracked, Value,
+    Boxed, Did, Duplicate, Exec, Happened, Identity, Items, Literal, Lock, NoMemory, Printed, Same,
+    Text, Tracked, Value, both,
 };
 use std::alloc::Global;
-use std::test::Fail;
+use tests_table::no_kind;
 
-fn identity(alloc: Global) -> Result<Identity, Fail> {
-    Ok(Identity {
-        file: Text::new(alloc, "db/a.json")?,
-        id: Text::new(alloc, "1")?,
-        author: Text::new(alloc, "ann")?,
-    })
+/// An identity of a changeset.
+pub fn identity(alloc: Global, file: &str, id: &str, author: &str) -> Result<Identity, NoMemory> {
+    let who = both(Text::new(alloc, id), Text::new(alloc, author));
+    let (file, (id, author)) = both(Text::new(alloc, file), who)?;
+    Ok(Identity { file, id, author })
 }
 
-#[test]
-fn texts_are_fixed(rt: HostRuntime) -> Result<(), Fail> {
-    let mut line = Text::new(rt.alloc(), "ran ")?;
-    identity(rt.alloc())?.append_to(&mut line)?;
-    assert_eq!(rt; line.as_str(), "ran db/a.json::1::ann");
-    assert_eq!(rt; Exec::MarkRan.text(), "MARK_RAN");
-    assert_eq!(rt; Dialect::Postgresql.text(), "postgresql");
-    assert_eq!(rt; Dialect::Mysql.text(), "mysql");
-    let earlier = Text::new(rt.alloc(), "a")?;
-    let later = Text::new(rt.alloc(), "ab")?;
-    assert!(rt; earlier < later && earlier != later);
-    Ok(())
+fn first_identity(alloc: Global) -> Result<Identity, NoMemory> {
+    identity(alloc, "db/a.json", "1", "ann")
 }
 
-#[test]
-fn reasons_are_numbered(rt: HostRuntime) {
-    let reasons = [
-        (1, Reason::Exists, "exists"),
-        (2, Reason::Missing, "missing"),
-        (3, Reason::Depends, "depends"),
-        (4, Reason::NullFound, "null found"),
-        (5, Reason::Duplicate, "duplicate"),
-        (6, Reason::NoParent, "no parent"),
-        (7, Reason::HasChildren, "has children"),
-        (8, Reason::TooWide, "too wide"),
-        (9, Reason::WrongKind, "wrong kind"),
-        (10, Reason::Reserved, "reserved"),
-        (11, Reason::TooManyRows, "too many rows"),
-        (12, Reason::NotOne, "not one value"),
-    ];
-    for (number, reason, text) in reasons {
-        assert_eq!(rt; reason as u8, number, "{text}");
-        assert_eq!(rt; reason.text(), text);
-    }
-}
-
-/// Whether a copy is the same as what it was made of, and not the same as another.
-fn is_copied<T: Duplicate + Same + Drop>(alloc: Global, it: &T, other: &T) -> Result<bool, Fail> {
-    let copy = it.duplicate(alloc)?;
-    Ok(copy.same(it) && !copy.same(other))
-}
-
-fn tracked(alloc: Global, deployment: &str) -> Result<Tracked, Fail> {
+fn tracked(alloc: Global, deployment: &str) -> Result<Tracked, NoMemory> {
+    let who = both(Text::new(alloc, "1"), Text::new(alloc, "ann"));
+    let from = both(Text::new(alloc, "db/a.json"), Text::new(alloc, ""));
+    let told = both(Text::new(alloc, ""), Text::new(alloc, "profile-1"));
+    let for_whom = both(Text::new(alloc, ""), Text::new(alloc, ""));
+    let last = both(for_whom, Text::new(alloc, deployment));
+    let all = both(both(who, from), both(told, last))?;
+    let (((id, author), (filename, description)), ((comments, tool), last)) = all;
+    let ((contexts, labels), deployment) = last;
     Ok(Tracked {
-        id: Text::new(alloc, "1")?,
-        author: Text::new(alloc, "ann")?,
-        filename: Text::new(alloc, "db/a.json")?,
+        id,
+        author,
+        filename,
         date: 1000,
         order: 1,
         exec: Exec::Executed,
         md5sum: None,
-        description: Text::new(alloc, "")?,
-        comments: Text::new(alloc, "")?,
+        description,
+        comments,
         tag: None,
-        tool: Text::new(alloc, "profile-1")?,
-        contexts: Text::new(alloc, "")?,
-        labels: Text::new(alloc, "")?,
-        deployment: Text::new(alloc, deployment)?,
+        tool,
+        contexts,
+        labels,
+        deployment,
     })
 }
 
-fn lock(alloc: Global, by: &str) -> Result<Lock, Fail> {
+fn lock(alloc: Global, by: &str) -> Result<Lock, NoMemory> {
+    let by = Text::new(alloc, by)?;
     Ok(Lock {
         locked: true,
         granted: Some(1000),
-        by: Some(Text::new(alloc, by)?),
+        by: Some(by),
     })
 }
 
-#[test]
-fn copies_of_locks(rt: HostRuntime) -> Result<(), Fail> {
-    let alloc = rt.alloc();
-    let taken = lock(alloc, "ci")?;
-    let other = lock(alloc, "ann")?;
-    assert!(rt; is_copied(alloc, &taken, &other)?);
-    Ok(())
-}
-
-fn printed(alloc: Global, text: &str) -> Result<Printed, Fail> {
+fn texts(alloc: Global, text: &str) -> Result<Items<Text>, NoMemory> {
     let mut texts = Items::new(alloc);
     texts.push(Text::new(alloc, text)?)?;
-    Ok(Printed {
-        identity: identity(alloc)?,
-        texts,
-    })
+    Ok(texts)
 }
 
-#[test]
-fn copies_of_printed_texts(rt: HostRuntime) -> Result<(), Fail> {
-    let alloc = rt.alloc();
-    let drop = printed(alloc, "DROP TABLE t")?;
-    let other = printed(alloc, "DROP VIEW t")?;
-    assert!(rt; is_copied(alloc, &drop, &other)?);
-    Ok(())
+fn printed(alloc: Global, text: &str) -> Result<Printed, NoMemory> {
+    let (identity, texts) = both(first_identity(alloc), texts(alloc, text))?;
+    Ok(Printed { identity, texts })
 }
 
-fn happened(alloc: Global, what: Did) -> Result<Happened, Fail> {
-    Ok(Happened {
-        what,
-        identity: identity(alloc)?,
-    })
+fn happened(alloc: Global, what: Did) -> Result<Happened, NoMemory> {
+    let identity = first_identity(alloc)?;
+    Ok(Happened { what, identity })
 }
 
-#[test]
-fn copies_of_what_happened(rt: HostRuntime) -> Result<(), Fail> {
-    let alloc = rt.alloc();
-    let ran = happened(alloc, Did::Ran)?;
-    let again = happened(alloc, Did::RanAgain)?;
-    assert!(rt; is_copied(alloc, &ran, &again)?);
-    Ok(())
+fn boxed(alloc: Global, scale: u8) -> Result<Boxed<Literal>, NoMemory> {
+    Ok(Boxed::new(alloc, Literal::Fixed { units: 5, scale })?)
 }
 
-#[test]
-fn copies_in_boxes(rt: HostRuntime) -> Result<(), Fail> {
-    let alloc = rt.alloc();
-    let boxed = Boxed::new(alloc, Literal::Fixed { units: 5, scale: 1 })?;
-    let other = Boxed::new(alloc, Literal::Fixed { units: 5, scale: 2 })?;
-    assert!(rt; is_copied(alloc, &boxed, &other)?);
-    Ok(())
+fn pair(alloc: Global, text: &str, number: i64) -> Result<(Text, Value), NoMemory> {
+    let text = Text::new(alloc, text)?;
+    Ok((text, Value::Int(number)))
 }
 
-#[test]
-fn copies_of_rows(rt: HostRuntime) -> Result<(), Fail> {
-    let alloc = rt.alloc();
-    let row = tracked(alloc, "0000001000")?;
-    let other = tracked(alloc, "0000002000")?;
-    assert!(rt; is_copied(alloc, &row, &other)?);
-    Ok(())
+// Whether a copy of the first is the same as the first, and not the same as the second.
+fn is_copied<T: Duplicate + Same + Drop>(
+    alloc: Global,
+    first: Result<T, NoMemory>,
+    second: Result<T, NoMemory>,
+) -> Result<bool, NoMemory> {
+    let (it, other) = both(first, second)?;
+    match it.duplicate(alloc) {
+        Ok(copy) => Ok(copy.same(&it) && !copy.same(&other)),
+        Err(NoMemory) => Err(NoMemory),
+    }
 }
 
-#[test]
-fn copies_of_pairs(rt: HostRuntime) -> Result<(), Fail> {
-    let alloc = rt.alloc();
-    let pair = (Text::new(alloc, "a")?, Value::Int(1));
-    let other = (Text::new(alloc, "a")?, Value::Int(2));
-    assert!(rt; is_copied(alloc, &pair, &other)?);
-    let third = (Text::new(alloc, "b")?, Value::Int(1));
-    assert!(rt; is_copied(alloc, &pair, &third)?);
-    Ok(())
+fn told(alloc: Global, is_copied: Result<bool, NoMemory>) -> Result<String, NoMemory> {
+    let word = if is_copied? { "yes" } else { "no" };
+    Ok(String::from_str(alloc, word)?)
+}
+
+/// Whether a copy is the same as what it was made of, and not the same as another.
+pub fn copy(alloc: Global, of: &str) -> Result<String, NoMemory> {
+    match of {
+        "lock" => told(
+            alloc,
+            is_copied(alloc, lock(alloc, "ci"), lock(alloc, "ann")),
+        ),
+        "printed texts" => {
+            let (table, view) = (
+                printed(alloc, "DROP TABLE t"),
+                printed(alloc, "DROP VIEW t"),
+            );
+            told(alloc, is_copied(alloc, table, view))
+        }
+        "what happened" => {
+            let (ran, again) = (happened(alloc, Did::Ran), happened(alloc, Did::RanAgain));
+            told(alloc, is_copied(alloc, ran, again))
+        }
+        "box" => told(alloc, is_copied(alloc, boxed(alloc, 1), boxed(alloc, 2))),
+        "row" => {
+            let (row, other) = (tracked(alloc, "0000001000"), tracked(alloc, "0000002000"));
+            told(alloc, is_copied(alloc, row, other))
+        }
+        "pair with a number" => {
+            told(
+                alloc,
+                is_copied(alloc, pair(alloc, "a", 1), pair(alloc, "a", 2)),
+            )
+        }
+        "pair with a text" => {
+            told(
+                alloc,
+                is_copied(alloc, pair(alloc, "a", 1), pair(alloc, "b", 1)),
+            )
+        }
+        _ => no_kind(alloc),
+    }
 }

@@ -1,122 +1,47 @@
 use crate::shown::show;
 use lq_base::NoMemory;
 use lq_tree::{Node, TreeFault, read_json};
+use lq_yaml::{YamlFault, read_yaml};
 use std::alloc::{AllocError, Global};
-use std::test::Fail;
+use tests_table::{bytes, count, text};
 
-#[test]
-fn json_is_read(rt: HostRuntime) -> Result<(), Fail> {
-    let cases = [
-        (
-            "{\"b\":1,\"a\":[true,null,\"x\"]}",
-            "{a:[true null 'x' ] b:1 }",
-        ),
-        ("{\"k\":1,\"k\":2}", "{k:2 }"),
-        ("{\"k\":1.5,\"k\":2}", "{k:2 }"),
-        (
-            "{\"ab\":1,\"a\":2,\"B\":3,\"\":4,\"\\u00e9\":5}",
-            "{:4 B:3 a:2 ab:1 \u{e9}:5 }",
-        ),
-        (" [ ] ", "[]"),
-        ("\t{\r\n}\n", "{}"),
-        ("[[],{},[{}]]", "[[] {} [{} ] ]"),
-        ("0", "0"),
-        ("-1", "-1"),
-        ("18446744073709551615", "18446744073709551615"),
-        ("-9223372036854775808", "-9223372036854775808"),
-        ("false", "false"),
-        ("null", "null"),
-        ("\"\"", "''"),
-        ("\"a\\n\\t\\\\\\/\\\"\\u0041\\u0000\"", "'a\n\t\\/\"A\u{0}'"),
-        ("\"\\ud83d\\ude00\"", "'\u{1f600}'"),
-        ("\"1.5\"", "'1.5'"),
-    ];
-    for (text, want) in cases {
-        let node = read_json(rt.alloc(), text.as_bytes())?;
-        let mut shown = String::new(rt.alloc());
-        show(&mut shown, &node)?;
-        assert_eq!(rt; shown.as_str(), want);
+fn shown(alloc: Global, node: &Node) -> Result<String, NoMemory> {
+    let mut made = String::new(alloc);
+    show(&mut made, node)?;
+    Ok(made)
+}
+
+fn json_of(alloc: Global, bytes: &[u8]) -> Result<String, NoMemory> {
+    match read_json(alloc, bytes) {
+        Ok(node) => shown(alloc, &node),
+        Err(fault) => Ok(format!(in alloc; "{fault}")?),
+    }
+}
+
+/// A text of JSON as a tree.
+pub fn json(alloc: Global, field: &str) -> Result<String, NoMemory> {
+    json_of(alloc, bytes(alloc, field)?.as_slice())
+}
+
+fn repeated(out: &mut String, levels: usize, part: &str) -> Result<(), AllocError> {
+    for _level in 0..levels {
+        out.push_str(part)?;
     }
     Ok(())
 }
 
-#[test]
-fn json_is_refused(rt: HostRuntime) -> Result<(), Fail> {
-    let no_json: [&[u8]; 22] = [
-        b"",
-        b" ",
-        b"{",
-        b"[1,]",
-        b"{\"a\":1,}",
-        b"{\"a\" 1}",
-        b"{a:1}",
-        b"nul",
-        b"01",
-        b"1.",
-        b"+1",
-        b".5",
-        b"1 2",
-        b"{} x",
-        b"\"a",
-        b"\"\\ud800\"",
-        b"\"\\udc00\"",
-        b"\"a\tb\"",
-        b"\"a\nb\"",
-        b"\"\xff\"",
-        b"\xef\xbb\xbf1",
-        b"1e400",
-    ];
-    for bytes in no_json {
-        let fault = read_json(rt.alloc(), bytes).err();
-        assert_eq!(rt; fault, Some(TreeFault::NotJson));
-    }
-    let floats: [&[u8]; 9] = [
-        b"1.5",
-        b"1.0",
-        b"1e2",
-        b"-0",
-        b"-0.0",
-        b"18446744073709551616",
-        b"-9223372036854775809",
-        b"{\"a\":[0,{\"b\":0.5}]}",
-        b"{\"k\":2,\"k\":1.5}",
-    ];
-    for bytes in floats {
-        let fault = read_json(rt.alloc(), bytes).err();
-        assert_eq!(rt; fault, Some(TreeFault::FloatNumber));
-    }
-    Ok(())
+/// Lists one in the other.
+pub fn nested_json(alloc: Global, levels: &str) -> Result<String, NoMemory> {
+    let mut made = String::new(alloc);
+    repeated(&mut made, count(levels), "[")?;
+    repeated(&mut made, count(levels), "]")?;
+    Ok(match read_json(alloc, made.as_bytes()) {
+        Ok(_) => String::from_str(alloc, "read")?,
+        Err(fault) => format!(in alloc; "{fault}")?,
+    })
 }
 
-fn nested(alloc: Global, depth: usize) -> Result<String, AllocError> {
-    let mut text = String::new(alloc);
-    for _ in 0..depth {
-        text.push_str("[")?;
-    }
-    for _ in 0..depth {
-        text.push_str("]")?;
-    }
-    Ok(text)
-}
-
-#[test]
-fn json_nests(rt: HostRuntime) -> Result<(), Fail> {
-    let cases = [
-        (1, None),
-        (127, None),
-        (128, Some(TreeFault::NotJson)),
-        (200, Some(TreeFault::NotJson)),
-    ];
-    for (depth, want) in cases {
-        let text = nested(rt.alloc(), depth)?;
-        let fault = read_json(rt.alloc(), text.as_bytes()).err();
-        assert_eq!(rt; fault, want, "at {depth}");
-    }
-    Ok(())
-}
-
-// The value at a key as it is printed, and as a truth value.
-fn told(alloc: Global, node: &Node, key: &str) -> Result<String, NoMemory> {
+fn told_of(alloc: Global, node: &Node, key: &str) -> Result<String, NoMemory> {
     let Some(value) = node.value_at(key) else {
         return Ok(String::from_str(alloc, "absent")?);
     };
@@ -133,67 +58,94 @@ fn told(alloc: Global, node: &Node, key: &str) -> Result<String, NoMemory> {
     Ok(out)
 }
 
-const KEYS: &str =
-    "{\"d\":[1],\"a\":\"true\",\"b\":-12,\"c\":{},\"e\":false,\"f\":\"True\",\"g\":null}";
-
-#[test]
-fn values_are_told(rt: HostRuntime) -> Result<(), Fail> {
-    let node = read_json(rt.alloc(), KEYS.as_bytes())?;
-    let cases = [
-        ("a", "true, true"),
-        ("b", "-12"),
-        ("c", "no scalar"),
-        ("d", "no scalar"),
-        ("e", "false, false"),
-        ("f", "True"),
-        ("g", "no scalar"),
-        ("", "absent"),
-        ("aa", "absent"),
-    ];
-    for (key, want) in cases {
-        let told = told(rt.alloc(), &node, key)?;
-        assert_eq!(rt; told.as_str(), want);
+/// The value at a key of a map, as it is printed and as a truth value.
+pub fn told(alloc: Global, of: &str, key: &str) -> Result<String, NoMemory> {
+    match read_json(alloc, bytes(alloc, of)?.as_slice()) {
+        Ok(node) => told_of(alloc, &node, key),
+        Err(fault) => Ok(format!(in alloc; "{fault}")?),
     }
-    Ok(())
 }
 
-#[test]
-fn the_lowest_number_is_told(rt: HostRuntime) -> Result<(), Fail> {
-    let lowest = Node::Whole(i128::MIN)
-        .printed(rt.alloc())?
-        .ok_or("no text")?;
-    assert_eq!(rt; lowest.as_str(), "-170141183460469231731687303715884105728");
-    Ok(())
+fn unknown_of(alloc: Global, node: &Node, known: &str) -> Result<String, NoMemory> {
+    let known: Vec<&str> = known.split(',').collect(alloc)?;
+    let found = match node.unknown_key(known.as_slice()) {
+        Some(key) => key.as_str(),
+        None => "",
+    };
+    Ok(String::from_str(alloc, found)?)
 }
 
-#[test]
-fn unknown_keys_are_found(rt: HostRuntime) -> Result<(), Fail> {
-    let node = read_json(rt.alloc(), KEYS.as_bytes())?;
-    let cases = [
-        (["a", "b", "c", "d", "e", "f", "g"], ""),
-        (["g", "f", "e", "b", "c", "d", "x"], "a"),
-        (["a", "", "B", "d", "e", "f", "g"], "b"),
-        (["a", "b", "c", "d", "e", "f", "gg"], "g"),
-    ];
-    for (known, want) in cases {
-        let found = match node.unknown_key(&known) {
-            Some(key) => key.as_str(),
-            None => "",
-        };
-        assert_eq!(rt; found, want);
+/// The first key of a map that is not among the known ones.
+pub fn unknown(alloc: Global, of: &str, known: &str) -> Result<String, NoMemory> {
+    match read_json(alloc, bytes(alloc, of)?.as_slice()) {
+        Ok(node) => unknown_of(alloc, &node, known),
+        Err(fault) => Ok(format!(in alloc; "{fault}")?),
     }
-    Ok(())
 }
 
-#[test]
-fn parts_are_lent(rt: HostRuntime) -> Result<(), Fail> {
-    let node = read_json(rt.alloc(), b"[{\"k\":\"v\"},7]")?;
-    let items = node.as_list().ok_or("no list")?;
-    assert_eq!(rt; items.len(), 2);
-    assert_eq!(rt; items[1].as_whole(), Some(7));
-    assert!(rt; !items[1].is_null());
-    let entries = items[0].as_map().ok_or("no map")?;
-    assert_eq!(rt; entries.len(), 1);
-    assert_eq!(rt; entries[0].1.as_text(), Some("v"));
-    Ok(())
+/// The lowest number, as it is printed.
+pub fn lowest(alloc: Global) -> Result<String, NoMemory> {
+    match Node::Whole(i128::MIN).printed(alloc)? {
+        Some(text) => Ok(String::from_str(alloc, text.as_str())?),
+        None => Ok(String::from_str(alloc, "no text")?),
+    }
+}
+
+/// The parts of a list, as they are lent.
+pub fn lent(alloc: Global) -> Result<String, NoMemory> {
+    let Ok(node) = read_json(alloc, b"[{\"k\":\"v\"},7]") else {
+        return Ok(String::from_str(alloc, "not read")?);
+    };
+    let Some([first, second]) = node.as_list() else {
+        return Ok(String::from_str(alloc, "no list of two")?);
+    };
+    let is_seven = second.as_whole() == Some(7) && !second.is_null();
+    let Some([entry]) = first.as_map() else {
+        return Ok(String::from_str(alloc, "no map of one")?);
+    };
+    let value = entry.1.as_text().unwrap_or("no text");
+    Ok(format!(in alloc; "{is_seven} {value}")?)
+}
+
+fn yaml_of(alloc: Global, bytes: &[u8]) -> Result<String, NoMemory> {
+    if bytes.len() > 10_000 {
+        return Ok(String::from_str(alloc, "too long")?);
+    }
+    match read_yaml(alloc, bytes) {
+        Ok(node) => shown(alloc, &node),
+        Err(fault) => Ok(format!(in alloc; "{fault}")?),
+    }
+}
+
+/// A text of YAML as a tree.
+pub fn yaml(alloc: Global, field: &str) -> Result<String, NoMemory> {
+    yaml_of(alloc, bytes(alloc, field)?.as_slice())
+}
+
+fn fault_of(alloc: Global, bytes: &[u8]) -> Result<String, NoMemory> {
+    if bytes.len() > 10_000 {
+        return Ok(String::from_str(alloc, "too long")?);
+    }
+    Ok(match read_yaml(alloc, bytes) {
+        Ok(_) => String::from_str(alloc, "read")?,
+        Err(fault) => format!(in alloc; "{fault}")?,
+    })
+}
+
+/// Sequences one in the other, each in a line of its own and two columns deeper.
+pub fn yaml_steps(alloc: Global, levels: &str) -> Result<String, NoMemory> {
+    let mut made = String::new(alloc);
+    for level in 0..count(levels) {
+        repeated(&mut made, level, "  ")?;
+        made.push_str("-\n")?;
+    }
+    fault_of(alloc, made.as_bytes())
+}
+
+/// Sequences one in the other in one line, and what the innermost holds.
+pub fn yaml_dashes(alloc: Global, levels: &str, inside: &str) -> Result<String, NoMemory> {
+    let mut made = String::new(alloc);
+    repeated(&mut made, count(levels), "- ")?;
+    made.push_str(inside)?;
+    fault_of(alloc, made.as_bytes())
 }

@@ -1,5 +1,5 @@
 use Rattle.std.proofs.Common.{length}
-use Rattle.tests_sql.proofs.lexemes.show_lexemes.Given as goal
+use Rattle.tests_reading.proofs.lexemes.lexemes.Given as goal
 
 abbrev pub decreases-loop-left : goal.decreases-loop-left
 decreases-loop-left l = length l.left
