@@ -9,6 +9,7 @@ ghost use Rattle.lq_tables.specs.AddColumn.{add_column, column_gives, column_inv
 use crate::constraints::{Reference, foreign_stated, reference_field, unique_stated};
 use crate::value_keys::{default_at, default_value, set_at, set_value};
 use lq_base::{Dialect, Duplicate, Items, Kind, KindFault, Literal, Name, NoMemory};
+use lq_last_first::{TakesBack, push_undoing};
 use lq_model::{
     Canon, Change, ColumnDef, Field, Fields, ForeignKey, Look, MapAt, MapsAt, SqlText, Statement,
     Undo, Unique, Written, append_all, name_field, truth_field, write_change_of,
@@ -16,7 +17,6 @@ use lq_model::{
 use lq_tree::{
     Given, GivenValue, Node, known, missing, optional, public, required, required_columns,
 };
-use lq_last_first::{TakesBack, push_undoing};
 use std::alloc::Global;
 
 /// What is stated of a new column's values.
