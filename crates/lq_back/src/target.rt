@@ -2,7 +2,7 @@ ghost use Rattle.std.specs.Prelude.{◌≡◌, IfOk, None, OnErr, Some, option_m
 ghost use Rattle.lq_turns.specs.Rollback.{rows_kept, rows_undone};
 
 use lq_base::{Target, Tracked};
-use lq_plan::{NoTag, suffix};
+use lq_kept::{NoTag, suffix};
 
 /// The rows that a rollback to the target takes back: those after the ones that stay. The rows are in
 /// run order.

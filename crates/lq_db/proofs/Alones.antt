@@ -4,7 +4,9 @@ use Rattle.std.proofs.lemmas.List.{append_assoc}
 use Rattle.lq_base.specs.declared.dialect.Dialect.{Dialect}
 use Rattle.lq_base.specs.declared.reason.Reason.{Reason}
 use Rattle.lq_db.specs.Alone.{IsClosed, IsDone, IsRunning, RanOne, TakesUp, cut, rewound, work}
-use Rattle.lq_db.specs.Db.{Stays, entries_of, texts_in}
+use Rattle.lq_db.specs.Db.{Stays}
+use Rattle.lq_entries.specs.Log.{entries_of}
+use Rattle.lq_session.specs.Session.{texts_in}
 use Rattle.lq_db.specs.declared.running.Running.{Running}
 use Rattle.lq_db.proofs.Commits.{if_any_is, run_more, run_one}
 use Rattle.lq_db.proofs.Executed.{ran_text, run_last}

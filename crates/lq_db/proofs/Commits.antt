@@ -1,19 +1,23 @@
 -- What a commit leaves.
-use Rattle.std.proofs.Common.{◌≡◌, ◌∙◌, ◌<◌, ℕ, Bool, true, false, List, [], ◌∷◌, ◌++◌, length, take, Ok, Err, Result, Option, None, Some, IfSome, refl, sym, ap, subst, arith}
+use Rattle.std.proofs.Common.{◌≡◌, ◌∙◌, ◌<◌, ◌==◌, cond, ℕ, Bool, true, false, List, [], ◌∷◌, ◌++◌, length, take, Ok, Err, Result, Option, None, Some, IfSome, refl, sym, ap, subst, arith}
 use Rattle.std.specs.Option.{option_and_then, option_map}
 use Rattle.lq_base.specs.declared.dialect.Dialect.{Dialect}
 use Rattle.lq_base.specs.declared.tracking.Lock.{Lock}
 use Rattle.lq_model.specs.Catalogue.{Catalogue, no_objects}
 use Rattle.lq_model.specs.Script.{if_any}
 use Rattle.lq_model.specs.declared.caller.Room.TheVariants.{Ordinary}
-use Rattle.lq_store.specs.Calls.{Fails, MayCommit}
+use Rattle.lq_model.specs.declared.fault.StoreFault.{StoreFault}
+use Rattle.lq_model.specs.declared.fault.StoreFault.TheVariants.{Busy, Full}
+use Rattle.lq_journal.specs.declared.fault.AppendFault.TheVariants as append
+use Rattle.lq_store.specs.Calls.{Fails, IsBusy, MayCommit}
 use Rattle.lq_store.specs.Journal.{Entry, database, end_of, is_full, run_entries, run_texts}
-use Rattle.lq_store.specs.State.{State, Transaction}
+use Rattle.lq_store.specs.State.{State, Transaction, other, other_in, seen_in}
 use Rattle.lq_store.specs.Work.{committed, work_in}
 use Rattle.lq_store.specs.Executor.{Held, forgotten, kept}
-use Rattle.lq_db.specs.Db.{IsBegun, IsHeld, IsOpen, begun_in, entries_of, lock_in, texts_in}
-use Rattle.lq_db.specs.Log.{IsCut, Log, gained}
-use Rattle.lq_db.specs.declared.open.Open.{Open}
+use Rattle.lq_db.specs.Db.{IsBegun, IsHeld, IsOpen}
+use Rattle.lq_session.specs.Session.{Side, begun_in, lock_in, side, texts_in}
+use Rattle.lq_entries.specs.Log.{IsCut, Log, MayAppend, entries_of, gained}
+use Rattle.lq_session.specs.declared.open.Open.{Open}
 
 abbrev pub state : Dialect → Catalogue → Option Transaction → Log → Bool → State
 state d c begun x live = record { dialect = d; committed = c; begun = begun; entries = x.entries; used = x.used; limit = x.limit; live = live }
@@ -69,3 +73,37 @@ held_ok d h k es now_es lock now_lock b now t b_is now_is k_is es_is lock_is hel
 pub failed : (written entries : List Entry) (d : Dialect) (c e : Catalogue) (begun now : Option Transaction) (x y : Log) (live : Bool) → written ≡ entries → IsCut entries x y
     → Fails written (state d c begun x live) (state d e now y false)
 failed written entries d c e begun now x y live is cut = rw is (record { dead = refl; dialect_is = refl; limit_is = cut.limit_is; front = cut.front; is_front = cut.is_front; entries_are = cut.entries_are })
+
+pub held_same : (x y : Side) → x ≡ y → x.held ≡ y.held
+held_same x y same = ap (λ (s : Side). s.held) same
+
+pub begun_same : (x y : Side) → x ≡ y → x.begun ≡ y.begun
+begun_same x y same = ap (λ (s : Side). s.begun) same
+
+lock_same : (x y : Side) → x ≡ y → x.lock ≡ y.lock
+lock_same x y same = ap (λ (s : Side). s.lock) same
+
+-- what a call leaves that changed nothing
+pub back_held : (d : Dialect) (h k : Held) (es now_es : Option (List Entry)) (lock now_lock : Lock) (old new : Open) → now_es ≡ es → side k new now_lock ≡ side h old lock → IsHeld d h es lock (Some old) → IsHeld d k now_es now_lock (Some new)
+back_held d h k es now_es lock now_lock old new es_is same held = rw (es_is, held_same _ _ same, begun_same _ _ same, lock_same _ _ same) held
+
+pub uncommitted_held : (d : Dialect) (h k : Held) (es now_es : Option (List Entry)) (lock now_lock : Lock) (b : Option Open) (old new : Open) → b ≡ Some old → now_es ≡ es → side k new now_lock ≡ side h old lock → IsHeld d h es lock b → IsHeld d k now_es now_lock (Some new)
+uncommitted_held d h k es now_es lock now_lock b old new b_is es_is same held = back_held d h k es now_es lock now_lock old new es_is same (subst (IsHeld d h es lock) b_is held)
+
+pub uncommitted : (d : Dialect) (h k : Held) (b : Option Open) (old new : Open) (lock now_lock : Lock) (x y : Log) (live : Bool) (used next : ℕ) → b ≡ Some old → IfSome old.entry (λ texts. 0 < length texts)
+    → MayAppend {T = Unit {0}} Ordinary (entries_of old.entry) x (Err (append.Full used next)) y → side k new now_lock ≡ side h old lock
+    → MayCommit {T = Unit {0}} (state d (kept h) (begun_in h b) x live) (Err (Full used next)) (state d (kept k) (begun_in k (Some new)) y live)
+uncommitted d h k b old new lock now_lock x y live used next b_is some (full, (used_is, (next_is, y_is))) same =
+    rw (b_is, y_is, held_same _ _ same, begun_same _ _ same, if_any_is old.entry some) ((full, (used_is, next_is)), refl)
+
+-- where no other session has a transaction open, what is seen is what the engine has
+pub seen_is : (d : Dialect) (h : Held) (lock : Lock) (b : Option Open) (session : ℕ) → IsBegun d h lock b → other_in session (begun_in h b) ≡ None → seen_in session (begun_in h b) (kept h) ≡ h.now
+seen_is d h lock None session begun none = sym begun
+seen_is d h lock (Some t) session begun none = by (t.session == session) none
+  where
+    by : (here : Bool) → cond here None (Some t.session) ≡ None → cond here h.now (kept h) ≡ h.now
+    by true none = refl
+    by false none = cc
+
+pub is_busy : (session : ℕ) (x : State) (fault : StoreFault) → (n : ℕ) × (fault ≡ Busy n) × (other session x ≡ Some n) → IsBusy session x fault
+is_busy session x fault (n, is, busy) = rw is busy

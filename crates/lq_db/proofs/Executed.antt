@@ -22,9 +22,10 @@ use Rattle.lq_store.specs.Journal.{Entry, accepted, database, run_text, run_text
 use Rattle.lq_store.specs.State.{State, Transaction}
 use Rattle.lq_model.specs.Commits.{commits_itself}
 use Rattle.lq_store.specs.Executor.{Held, kept}
-use Rattle.lq_db.specs.Db.{IsAdded, IsBegun, IsHeld, IsOpen, MayTake, Stays, begun_in, lock_in, texts_in}
-use Rattle.lq_db.specs.Log.{Log}
-use Rattle.lq_db.specs.declared.open.Open.{Open}
+use Rattle.lq_db.specs.Db.{IsAdded, IsBegun, IsHeld, IsOpen, MayTake, Stays}
+use Rattle.lq_session.specs.Session.{begun_in, lock_in, texts_in}
+use Rattle.lq_entries.specs.Log.{Log}
+use Rattle.lq_session.specs.declared.open.Open.{Open}
 use Rattle.lq_model.proofs.ProgramMay.{by_program}
 use Rattle.lq_db.proofs.Commits.{open_is, state}
 

@@ -1,5 +1,3 @@
-pub mod Both
-pub mod Each
 pub mod Commits
 pub mod Executed
 pub mod Alones
@@ -7,5 +5,3 @@ pub mod AloneLeft
 pub mod RanItself
 pub mod TwinRows
 pub mod Loads
-pub mod Logs
-pub mod Moments

@@ -4,19 +4,20 @@ use Rattle.lq_base.specs.declared.dialect.Dialect.{Dialect}
 use Rattle.lq_store.specs.Apart.{is_apart}
 use Rattle.lq_store.specs.Executor.{Held, Runs, forgotten, holding, kept}
 use Rattle.lq_store.specs.declared.fault.RunFault.{RunFault}
-use Rattle.lq_db.specs.Load.{Folds, IsAt, IsCleanLock, IsDbFault, IsRaised, MayNotRaise, catalogue_of, folded, if_clean, is_clean, is_clean_database, read_entries, then_at}
+use Rattle.lq_db.specs.Load.{Folds, IsAt, IsCleanLock, IsDbFault, IsRaised, MayNotRaise}
+use Rattle.lq_entries.specs.Load.{catalogue_of, folded, if_clean, is_clean, is_clean_database, read_entries, then_at}
 use Rattle.lq_base.specs.declared.tracking.Lock.{Lock}
 use Rattle.lq_db.specs.Db.{IsHeld}
 use Rattle.lq_db.specs.Lock.{IsLockOf}
 use Rattle.lq_base.specs.declared.tracking.Tracked.{Tracked}
 use Rattle.lq_track.specs.Database.{Database, database_of, has_twin_rows, lock_of, rows_of, users_of}
-use Rattle.lq_db.specs.Log.{IsUndamaged, entries_in}
-use Rattle.lq_journal.specs.Journal.{journal_of, used_by}
+use Rattle.lq_entries.specs.Log.{IsUndamaged, entries_in}
+use Rattle.lq_frames.specs.Journal.{journal_of, used_by}
 use Rattle.lq_journal.specs.declared.fault.LoadFault.{LoadFault}
 use Rattle.lq_journal.specs.declared.fault.LoadFault.TheVariants.{Disk, Damaged, OutOfMemory}
 use Rattle.lq_db.proofs.Executed.{ran_text}
 use Rattle.std.specs.Option.{option_and_then}
-use Rattle.lq_journal.specs.declared.entry.Entry.{Entry as Placed}
+use Rattle.lq_frames.specs.declared.entry.Entry.{Entry as Placed}
 use Rattle.lq_base.specs.declared.dialect.Dialect.TheVariants.{Postgresql, Mysql}
 use Rattle.std.specs.List.Sorted.{IsStrictlySortedBy}
 use Rattle.lq_model.specs.Sound.{IsSound}

@@ -20,12 +20,13 @@ use Rattle.lq_store.specs.State.{State, Transaction}
 use Rattle.lq_model.specs.Commits.{commits_itself}
 use Rattle.lq_store.specs.Work.{Work, outcome_by, work_in}
 use Rattle.lq_store.specs.Executor.{Held, kept}
-use Rattle.lq_db.specs.Db.{IsBegun, IsHeld, IsOpen, begun_in, entries_of, lives, lock_in, texts_in}
-use Rattle.lq_db.specs.Itself.{IsCleared, IsKept, MayRunItself, Side, itself_entries, side}
+use Rattle.lq_db.specs.Db.{IsBegun, IsHeld, IsOpen, lives}
+use Rattle.lq_session.specs.Session.{IsCleared, Side, begun_in, lock_in, side, texts_in}
+use Rattle.lq_entries.specs.Log.{Log, UnlessFailed, entries_of, gained}
+use Rattle.lq_db.specs.Itself.{IsKept, MayRunItself, itself_entries}
 use Rattle.lq_db.specs.Lock.{IsLockOf}
-use Rattle.lq_db.specs.Log.{Log, UnlessFailed, gained}
-use Rattle.lq_db.specs.declared.open.Open.{Open}
-use Rattle.lq_db.proofs.Commits.{failed, if_any_is, open_is, run_more, run_one, state}
+use Rattle.lq_session.specs.declared.open.Open.{Open}
+use Rattle.lq_db.proofs.Commits.{back_held, begun_same, failed, held_same, if_any_is, open_is, run_more, run_one, state}
 use Rattle.lq_db.proofs.Executed.{ran_text}
 
 -- the entries that it writes
@@ -40,15 +41,6 @@ itself_written d by text s h b old x live b_is some spelled itself = rw (b_is, s
     cases : (r : Result (Catalogue × ℕ) Reason) → (outcome_by d true text r w).work.written ≡ itself_entries text r old
     cases (Ok ran) = ap (λ (es : List Entry). es ++ (text ∷ []) ∷ []) (if_any_is old.entry some)
     cases (Err reason) = if_any_is old.entry some
-
-held_same : (x y : Side) → x ≡ y → x.held ≡ y.held
-held_same x y same = ap (λ (s : Side). s.held) same
-
-begun_same : (x y : Side) → x ≡ y → x.begun ≡ y.begun
-begun_same x y same = ap (λ (s : Side). s.begun) same
-
-lock_same : (x y : Side) → x ≡ y → x.lock ≡ y.lock
-lock_same x y same = ap (λ (s : Side). s.lock) same
 
 abbrev Runs : Dialect → By → List ℕ → Statement → Log → Held → Open → Lock → Result ℕ StoreFault → Log → Held → Open → Lock → Type 0
 Runs d by text s x h old lock result y k new now_lock = MayRunItself d text (step by d s h.now) x (side h old lock) result y (side k new now_lock)
@@ -99,9 +91,6 @@ kept_held d h k es now_es more lock now_lock old new c es_is ran sound done held
         some = rw done.cleared.entry_is tt;
       };
     }
-
-back_held : (d : Dialect) (h k : Held) (es now_es : Option (List Entry)) (lock now_lock : Lock) (old new : Open) → now_es ≡ es → side k new now_lock ≡ side h old lock → IsHeld d h es lock (Some old) → IsHeld d k now_es now_lock (Some new)
-back_held d h k es now_es lock now_lock old new es_is same held = rw (es_is, held_same _ _ same, begun_same _ _ same, lock_same _ _ same) held
 
 pub entries_gained : (x y : Log) (more : List Entry) → y ≡ gained more x → y.entries ≡ option_map (λ entries. entries ++ more) x.entries
 entries_gained x y more is = ap (λ (l : Log). l.entries) is

@@ -1,7 +1,9 @@
 -- Texts run in a transaction of their own, all in the engine before anything is written.
 use Rattle.std.specs.Prelude.{◌≡◌, ◌<◌, ◌+◌, ◌++◌, ◌∷◌, Bool, IfSome, List, None, Option, Some, Result, Ok, Err, [], false, length, suc, true, zero, ℕ}
 use Rattle.lq_base.specs.declared.dialect.Dialect.{Dialect}
-use Rattle.lq_db.specs.Db.{Stays, entries_of, texts_in}
+use Rattle.lq_db.specs.Db.{Stays}
+use Rattle.lq_entries.specs.Log.{entries_of}
+use Rattle.lq_session.specs.Session.{texts_in}
 use Rattle.lq_db.specs.Lock.{IsLockOf}
 use Rattle.lq_db.specs.declared.alone.Prepared.{Prepared}
 use Rattle.lq_db.specs.declared.running.Ended.{Ended}

@@ -4,9 +4,10 @@ use Rattle.lq_base.specs.declared.dialect.Dialect.{Dialect}
 use Rattle.lq_base.specs.declared.reason.Reason.{Reason}
 use Rattle.lq_base.specs.declared.tracking.Lock.{Lock}
 use Rattle.lq_db.specs.Lock.{IsLockOf}
-use Rattle.lq_db.specs.Log.{IsWhole, crashes_in, entries_in}
+use Rattle.lq_entries.specs.Log.{IsWhole, crashes_in, entries_in}
 use Rattle.lq_db.specs.declared.db.Db.{Db}
-use Rattle.lq_db.specs.declared.open.Open.{Open}
+use Rattle.lq_session.specs.Session.{begun_in, lock_in, texts_in}
+use Rattle.lq_session.specs.declared.open.Open.{Open}
 use Rattle.lq_store.specs.Executor.{Held, kept}
 use Rattle.lq_journal.specs.State.{dialect_of, disk_of, limit_of, used_of}
 use Rattle.lq_journal.specs.declared.journal.Journal.{Journal}
@@ -18,20 +19,6 @@ use Rattle.lq_outside.specs.Crash.{Crashes as DiskCrashes}
 use Rattle.lq_store.specs.Crashes.{Crashes}
 use Rattle.lq_store.specs.Journal.{Entry, database, run_texts}
 use Rattle.lq_store.specs.State.{State, Transaction}
-
--- a transaction's texts that are not yet committed
-abbrev pub texts_in : Option (List (List ℕ)) → List (List ℕ)
-texts_in None = []
-texts_in (Some texts) = texts
-
--- the entries that a commit writes
-abbrev pub entries_of : Option (List (List ℕ)) → List Entry
-entries_of None = []
-entries_of (Some texts) = texts ∷ []
-
-abbrev pub begun_in : Held → Option Open → Option Transaction
-begun_in h None = None
-begun_in h (Some t) = Some (record { session = t.session; now = h.now; texts = texts_in t.entry })
 
 abbrev pub disk_in : {D P E : Type 0} → Db D P E → D
 disk_in db = disk_of db.journal
@@ -53,11 +40,6 @@ state told h db = record {
 
 abbrev pub crashes : {D P E : Type 0} → DiskCrashes → Db D P E → Crashes
 crashes disk db = crashes_in (dialect_of db.journal) (limit_of db.journal) disk
-
--- the lock that the session of a transaction sees: the committed one, as long as it has run nothing
-abbrev pub lock_in : Option Lock → Lock → Lock
-lock_in None committed = committed
-lock_in (Some lock) committed = lock
 
 -- The texts of an open transaction lead from what is committed to what its session sees.
 pub record IsOpen (d : Dialect) (h : Held) (lock : Lock) (t : Open) : Type 0 where

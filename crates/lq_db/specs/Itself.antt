@@ -3,10 +3,10 @@ use Rattle.std.specs.Prelude.{◌≡◌, Bool, List, None, Option, Some, Result,
 use Rattle.lq_base.specs.declared.dialect.Dialect.{Dialect}
 use Rattle.lq_base.specs.declared.reason.Reason.{Reason}
 use Rattle.lq_base.specs.declared.tracking.Lock.{Lock}
-use Rattle.lq_db.specs.Db.{entries_of, lock_in}
+use Rattle.lq_entries.specs.Log.{IsCut, Log, entries_of, gained}
+use Rattle.lq_session.specs.Session.{IsCleared, Side, lock_in, side}
 use Rattle.lq_db.specs.Lock.{IsLockOf}
-use Rattle.lq_db.specs.Log.{IsCut, Log, gained}
-use Rattle.lq_db.specs.declared.open.Open.{Open}
+use Rattle.lq_session.specs.declared.open.Open.{Open}
 use Rattle.lq_store.specs.Executor.{Held, back, forgotten, kept}
 use Rattle.lq_model.specs.Catalogue.{Catalogue}
 use Rattle.lq_model.specs.declared.caller.Room.TheVariants.{Ordinary}
@@ -18,18 +18,6 @@ use Rattle.lq_store.specs.Journal.{Entry, end_of, is_full, size_of_all}
 abbrev pub itself_entries : List ℕ → Result (Catalogue × ℕ) Reason → Open → List Entry
 itself_entries text (Ok ran) old = entries_of old.entry ++ (text ∷ []) ∷ []
 itself_entries text (Err reason) old = entries_of old.entry
-
--- the transaction is open and empty
-pub record IsCleared (old new : Open) : Type 0 where
-  pub session_is : new.session ≡ old.session
-  pub entry_is : new.entry ≡ None
-  pub lock_is : new.lock ≡ None
-
--- what stands beside the journal
-pub record Side : Type 0 where
-  pub held : Held
-  pub begun : Open
-  pub lock : Lock
 
 -- all that the session sees is committed
 pub record IsKept (d : Dialect) (c : Catalogue) (x y : Side) : Type 0 where
@@ -49,9 +37,6 @@ MayRunItself d text meant x a (Err Disk) y b = IsCut (itself_entries text meant 
 MayRunItself d text meant x a (Err (Full used next)) y b = (fits (itself_entries text meant a.begun) x ≡ true) × (used ≡ x.used) × (next ≡ size_of_all (itself_entries text meant a.begun)) × (y ≡ x) × (b ≡ a)
 MayRunItself d text meant x a (Err OutOfMemory) y b = (y ≡ x) × (b ≡ a)
 MayRunItself d text meant x a (Err _) y b = ⊥
-
-abbrev pub side : Held → Open → Lock → Side
-side held begun lock = record { held = held; begun = begun; lock = lock }
 
 -- the last run is taken back
 abbrev pub stepped_back : Side → Side

@@ -1,5 +1,4 @@
 pub mod Db
-pub mod Log
 pub mod Lock
 pub mod Sound
 pub mod Itself

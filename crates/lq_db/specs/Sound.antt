@@ -1,9 +1,10 @@
 -- That a database as its calls leave it is a store.
 use Rattle.std.specs.Prelude.{IfSome, List, None, Option, Some, ℕ}
 use Rattle.lq_base.specs.declared.dialect.Dialect.{Dialect}
-use Rattle.lq_db.specs.Db.{IsDb, begun_in, state}
+use Rattle.lq_db.specs.Db.{IsDb, state}
+use Rattle.lq_session.specs.Session.{begun_in}
 use Rattle.lq_db.specs.declared.db.Db.{Db}
-use Rattle.lq_db.specs.declared.open.Open.{Open}
+use Rattle.lq_session.specs.declared.open.Open.{Open}
 use Rattle.lq_store.specs.Executor.{Held}
 use Rattle.lq_model.specs.Sound.{IsSound}
 use Rattle.lq_outside.specs.Crash.{Crashes as DiskCrashes}

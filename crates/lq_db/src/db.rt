@@ -1,21 +1,21 @@
 ghost use Rattle.std.specs.Prelude.{◌≡◌, ◌≤◌, IfOk, IfErr, IfSome, MatchResult, Ok, true};
 ghost use Rattle.lq_db.specs.Db.{lives};
-ghost use Rattle.lq_db.specs.Load.{IsDbFault, catalogue_of, is_clean};
+ghost use Rattle.lq_db.specs.Load.{IsDbFault};
+ghost use Rattle.lq_entries.specs.Load.{catalogue_of, is_clean};
 ghost use Rattle.lq_outside.specs.Crash.{LeavesOnly};
 ghost use Rattle.lq_store.specs.Executor.{kept};
 
 use crate::alone::prepare;
 use crate::itself::run_itself;
 use crate::loading::{Raised, raise};
-use crate::locking::keep;
-use crate::open::Open;
 use crate::running::Ended;
 use crate::taking::{commits_itself, take};
-use crate::writing::{append_all, append_open};
 use lq_base::{Dialect, Lock};
+use lq_entries::append_all;
 use lq_journal::{AppendFault, Journal, LoadFault};
 use lq_model::{By, ByText, ParseFault, Room, SqlText, StoreFault};
 use lq_outside::{Disk, LoadRefused};
+use lq_session::{Open, abort, commit, look};
 use lq_store::{Executor, Store};
 use std::alloc::Global;
 
@@ -135,15 +135,9 @@ impl<D: Disk, P: SqlText + Drop, E: Executor + Drop> Store for Db<D, P, E> {
     }
 
     fn look(&self, session: u32) -> Result<&E, StoreFault> {
-        match &self.begun {
-            None => Ok(&self.engine),
-            Some(open) => {
-                if open.session == session {
-                    Ok(&self.engine)
-                } else {
-                    Err(StoreFault::Busy(open.session))
-                }
-            }
+        match look(&self.engine, &self.begun, session) {
+            Ok(view) => Ok(view),
+            Err(fault) => Err(fault),
         }
     }
 
@@ -200,12 +194,13 @@ impl<D: Disk, P: SqlText + Drop, E: Executor + Drop> Store for Db<D, P, E> {
     fn commit(&mut self, _session: u32) -> Result<(), StoreFault> {
         match self.begun.take() {
             None => unreachable!(),
-            Some(open) => match append_open(&mut self.journal, &open.entry, Room::Ordinary) {
-                Ok(()) => {
-                    self.engine.forget();
-                    keep(&mut self.lock, open.lock);
-                    Ok(())
-                }
+            Some(mut open) => match commit(
+                &mut self.journal,
+                &mut self.engine,
+                &mut open,
+                &mut self.lock,
+            ) {
+                Ok(()) => Ok(()),
                 Err(AppendFault::Disk) => {
                     self.live = false;
                     Err(StoreFault::Disk)
@@ -219,8 +214,7 @@ impl<D: Disk, P: SqlText + Drop, E: Executor + Drop> Store for Db<D, P, E> {
     }
 
     fn abort(&mut self, _session: u32) {
-        self.engine.undo();
-        self.begun = None;
+        abort(&mut self.engine, &mut self.begun);
     }
 
     fn alone(&mut self, _session: u32, texts: &[ByText], room: Room) -> Result<(), StoreFault> {

@@ -1,23 +1,22 @@
-ghost use Rattle.std.specs.Prelude.{◌≡◌, ◌≤◌, ◌++◌, ◌∷◌, [], true, Err, IfOk, OnOk, OnErr};
-ghost use Rattle.lq_db.specs.Db.{entries_of, lock_in};
-ghost use Rattle.lq_db.specs.Itself.{IsCleared, MayKeep, MayRunItself, itself_entries, side};
+ghost use Rattle.std.specs.Prelude.{◌≡◌, ◌≤◌, ◌++◌, ◌∷◌, [], true, Err, IfOk};
+ghost use Rattle.lq_db.specs.Itself.{MayKeep, MayRunItself, itself_entries};
 ghost use Rattle.lq_db.specs.Lock.{IsLockOf};
-ghost use Rattle.lq_db.specs.Log.{IsWhole, MayAppend, UnlessDisk, UnlessFailed, crashes_in, log_of};
+ghost use Rattle.lq_entries.specs.Log.{IsWhole, UnlessFailed, crashes_in, entries_of, log_of};
 ghost use Rattle.lq_journal.specs.State.{dialect_of, disk_of, limit_of};
-ghost use Rattle.lq_model.specs.declared.caller.Room.TheVariants.{Ordinary};
 ghost use Rattle.lq_model.specs.Statement.{is_statement};
 ghost use Rattle.lq_model.specs.Step.{step};
 ghost use Rattle.lq_outside.specs.Count.{Rose};
 ghost use Rattle.lq_store.specs.Crashes.{LeavesFront};
-ghost use Rattle.lq_store.specs.Executor.{forgotten};
+ghost use Rattle.lq_session.specs.Session.{side};
 
-use crate::locking::{keep, lock_now};
-use crate::open::Open;
-use crate::writing::{append_both, append_open};
+use crate::locking::lock_now;
 use lq_base::{Dialect, Lock, NoMemory};
-use lq_journal::{AppendFault, EncodedEntry, Journal};
-use lq_model::{By, Room, Statement, StoreFault};
+use lq_entries::append_both;
+use lq_frames::EncodedEntry;
+use lq_journal::{AppendFault, Journal};
+use lq_model::{By, Statement, StoreFault};
 use lq_outside::Disk;
+use lq_session::{Open, commit};
 use lq_store::{Executor, RunFault};
 use std::alloc::Global;
 
@@ -83,32 +82,6 @@ fn keep_ran<D: Disk, E: Executor>(
     }
 }
 
-// Commits the transaction's texts; it stays open, and has none left.
-fn keep_begun<D: Disk, E: Executor>(
-    journal: &mut Journal<D>,
-    engine: &mut E,
-    begun: &mut Open,
-    lock: &mut Lock,
-) -> Result<(), AppendFault>
-    requires whole { IsWhole (D.told (disk_of journal.old)) (D.crashes (disk_of journal.old)) journal.old }
-    ensures does { MayAppend Ordinary (entries_of begun.old.entry) (log_of (D.told (disk_of journal.old)) journal.old) result (log_of (D.told (disk_of journal.new)) journal.new) }
-    ensures kept { OnOk result (E.held engine.new ≡ forgotten (E.held engine.old)) }
-    ensures cleared { OnOk result (IsCleared begun.old begun.new) }
-    ensures lock { OnOk result (lock.new ≡ lock_in begun.old.lock lock.old) }
-    ensures back { OnErr result (side (E.held engine.new) begun.new lock.new ≡ side (E.held engine.old) begun.old lock.old) }
-    ensures whole { UnlessDisk result (IsWhole (D.told (disk_of journal.new)) (D.crashes (disk_of journal.new)) journal.new) }
-    ensures crash { LeavesFront (log_of (D.told (disk_of journal.old)) journal.old).entries (entries_of begun.old.entry)
-        (crashes_in (dialect_of journal.old) (limit_of journal.old) (D.crashes (disk_of journal.old))) (crashes_in (dialect_of journal.new) (limit_of journal.new) (D.crashes (disk_of journal.new))) }
-    ensures later { D.faults (disk_of journal.old) ≤ D.faults (disk_of journal.new) }
-    ensures rose { result ≡ Err AppendFault.Disk → Rose (D.faults (disk_of journal.old)) (D.faults (disk_of journal.new)) }
-{
-    append_open(journal, &begun.entry, Room::Ordinary)?;
-    engine.forget();
-    begun.entry = None;
-    keep(lock, begun.lock.take());
-    Ok(())
-}
-
 /// Runs a statement that commits by itself, in an open transaction.
 pub fn run_itself<D: Disk, E: Executor>(
     alloc: Global,
@@ -137,7 +110,7 @@ pub fn run_itself<D: Disk, E: Executor>(
             Ok(()) => Ok(count),
             Err(fault) => Err(fault),
         },
-        Err(RunFault::Refused(reason)) => match keep_begun(journal, engine, begun, lock) {
+        Err(RunFault::Refused(reason)) => match commit(journal, engine, begun, lock) {
             Ok(()) => Err(StoreFault::Refused(reason)),
             Err(AppendFault::Disk) => Err(StoreFault::Disk),
             Err(AppendFault::Full { used, next }) => Err(StoreFault::Full { used, next }),

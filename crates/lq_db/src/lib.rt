@@ -6,10 +6,8 @@ mod db;
 mod itself;
 mod loading;
 mod locking;
-mod open;
 mod running;
 mod taking;
 mod twins;
-mod writing;
 
 pub use db::Db;

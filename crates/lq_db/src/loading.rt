@@ -1,12 +1,14 @@
 ghost use Rattle.std.specs.Prelude.{◌≡◌, IfOk, MatchResult};
-ghost use Rattle.lq_db.specs.Load.{Folds, IsAt, IsCleanLock, IsRaised, MayNotRaise, Ran, folded};
-ghost use Rattle.lq_journal.specs.Journal.{used_by};
+ghost use Rattle.lq_db.specs.Load.{Folds, IsAt, IsCleanLock, IsRaised, MayNotRaise, Ran};
+ghost use Rattle.lq_entries.specs.Load.{folded};
+ghost use Rattle.lq_frames.specs.Journal.{used_by};
 ghost use Rattle.lq_store.specs.Journal.{run_text, run_texts};
 ghost use Rattle.lq_track.specs.Database.{lock_of, rows_of};
 
 use crate::twins::has_twin_rows;
 use lq_base::{Dialect, Items, Lock, NoMemory, Text, Tracked};
-use lq_journal::{Entry, LoadFault};
+use lq_frames::Entry;
+use lq_journal::LoadFault;
 use lq_model::{By, ParseFault, SqlText};
 use lq_store::{Executor, RunFault};
 use lq_track::{TrackFault, read_lock, read_rows};

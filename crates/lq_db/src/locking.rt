@@ -1,5 +1,4 @@
 ghost use Rattle.std.specs.Prelude.{◌≡◌, IfOk};
-ghost use Rattle.lq_db.specs.Db.{lock_in};
 ghost use Rattle.lq_db.specs.Lock.{IsLockOf};
 
 use lq_base::{Dialect, Lock, NoMemory};
@@ -19,15 +18,5 @@ pub fn lock_now<E: Executor>(alloc: Global, dialect: Dialect, engine: &E) -> Res
             by: None,
         }),
         Err(TrackFault::OutOfMemory) => Err(NoMemory),
-    }
-}
-
-/// What a session saw is committed.
-pub fn keep(lock: &mut Lock, seen: Option<Lock>)
-    ensures { lock.new ≡ lock_in seen lock.old }
-{
-    match seen {
-        None => {}
-        Some(seen) => *lock = seen,
     }
 }

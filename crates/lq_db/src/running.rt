@@ -3,7 +3,7 @@ ghost use Rattle.lq_db.specs.Alone.{IsClosed, TakesUp, rewound};
 
 use crate::taking::push_text;
 use lq_base::{Items, NoMemory, Reason};
-use lq_journal::EncodedEntry;
+use lq_frames::EncodedEntry;
 use lq_store::Executor;
 use std::alloc::Global;
 

@@ -1,14 +1,15 @@
 ghost use Rattle.std.specs.Prelude.{◌≡◌, ◌<◌, ◌++◌, ◌∷◌, [], true, IfSome, OnOk, OnErr, length};
-ghost use Rattle.lq_db.specs.Db.{IsAdded, MayTake, texts_in};
+ghost use Rattle.lq_db.specs.Db.{IsAdded, MayTake};
+ghost use Rattle.lq_session.specs.Session.{texts_in};
 ghost use Rattle.lq_model.specs.Commits.{commits_itself};
 ghost use Rattle.lq_model.specs.Statement.{is_statement};
 ghost use Rattle.lq_model.specs.Step.{step};
 
 use crate::locking::lock_now;
-use crate::open::Open;
 use lq_base::{Dialect, NoMemory};
-use lq_journal::EncodedEntry;
+use lq_frames::EncodedEntry;
 use lq_model::{By, Statement, StoreFault};
+use lq_session::Open;
 use lq_store::{Executor, RunFault};
 use std::alloc::Global;
 

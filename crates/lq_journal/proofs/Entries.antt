@@ -5,23 +5,19 @@ use Rattle.std.proofs.lemmas.Bool.Decides.{nat_tests}
 use Rattle.std.proofs.lemmas.List.{append_assoc, take_at}
 use Rattle.std.proofs.lemmas.List.Sums.{sum_by-cons}
 use Rattle.lq_base.specs.declared.dialect.Dialect.{Dialect}
-use Rattle.lq_journal.specs.declared.entry.Entry.{Entry}
-use Rattle.lq_journal.specs.Body.{front_number, framed_texts, texts_of, is_body, size_of}
-use Rattle.lq_journal.specs.Frames.{entry_len, begins, with_first, entries_from, header, frames, IsEntry, AreEntries}
-use Rattle.lq_journal.specs.Journal.{texts_in, placed, read_frames, journal_of, used_by}
+use Rattle.lq_frames.specs.declared.entry.Entry.{Entry}
+use Rattle.lq_frames.specs.Body.{front_number, framed_texts, texts_of, is_body, size_of}
+use Rattle.lq_frames.specs.Frames.{entry_len, begins, with_first, entries_from, header, frames, IsEntry, AreEntries}
+use Rattle.lq_frames.specs.Journal.{texts_in, placed, read_frames, journal_of, used_by}
 use Rattle.lq_journal.specs.declared.fault.LoadFault.{LoadFault}
 use Rattle.lq_journal.specs.declared.fault.LoadFault.TheVariants.{Disk, Damaged, OutOfMemory}
-use Rattle.lq_journal.specs.Reading.{IsNext, IsEnd, IsStepFault, IsReadFault}
-use Rattle.lq_journal.specs.State.{Holds}
-use Rattle.lq_journal.proofs.Frames.{reads_front, with_front, front_fails, frames-last, all-last}
-use Rattle.lq_journal.proofs.Numbers.{front_number-append}
-use Rattle.lq_journal.proofs.Texts.{body_fills, entry_of-length}
-use Rattle.lq_journal.proofs.Appended.{placed-last, journal_is, reads_short, reads_headed, reads_unheaded}
-
--- what the gate says
-pub gate_shut : (bytes : List ℕ) → 0 < length bytes → (¬ ((after : List ℕ) × (bytes ≡ 1 ∷ after))) → IsEnd bytes
-gate_shut [] some none = absurd (omega (arith, some))
-gate_shut (gate ∷ tail) some none = record { gate = gate; tail = tail; is = refl; closed = λ is. none (tail, ap (λ (g : ℕ). g ∷ tail) is) }
+use Rattle.lq_journal.specs.Reading.{IsNext, IsStepFault, IsReadFault}
+use Rattle.lq_gate.specs.Gate.{IsEnd}
+use Rattle.lq_frames.specs.State.{Holds}
+use Rattle.lq_frames.proofs.Frames.{reads_front, with_front, front_fails, frames-last, all-last}
+use Rattle.lq_frames.proofs.Numbers.{front_number-append}
+use Rattle.lq_frames.proofs.Texts.{body_fills, entry_of-length}
+use Rattle.lq_frames.proofs.Appended.{placed-last, journal_is, reads_short, reads_headed, reads_unheaded}
 
 -- an entry of the right form
 pub is_next : (at : ℕ) (bytes behind entry after : List ℕ) (texts : List (List ℕ)) → bytes ≡ 1 ∷ behind → behind ≡ entry ++ after → length entry ≡ entry_len behind → 0 < length after

@@ -8,11 +8,12 @@ use Rattle.lq_outside.specs.Crash.{Crashes, IsSound, LeavesOnly, Half, Settled}
 use Rattle.lq_outside.proofs.Moments.{started, weaker}
 use Rattle.lq_journal.specs.declared.journal.Journal.{Journal}
 use Rattle.lq_journal.specs.declared.reading.Found.{Found}
-use Rattle.lq_journal.specs.Frames.{header, frames}
-use Rattle.lq_journal.specs.Journal.{journal_of, StandsForSame, StandsForSameOrMore}
+use Rattle.lq_frames.specs.Frames.{header, frames}
+use Rattle.lq_frames.specs.Journal.{journal_of, StandsForSame, StandsForSameOrMore}
 use Rattle.lq_journal.specs.Reading.{FoundOn}
-use Rattle.lq_journal.specs.State.{dialect_of, limit_of, used_of, is_prepared, Holds, Stands, IsLoaded, IsReady}
-use Rattle.lq_journal.proofs.Appended.{header-length}
+use Rattle.lq_journal.specs.State.{dialect_of, limit_of, used_of, is_prepared, IsLoaded, IsReady}
+use Rattle.lq_frames.specs.State.{Holds, Stands}
+use Rattle.lq_frames.proofs.Appended.{header-length}
 use Rattle.lq_journal.proofs.Entries.{short}
 
 used_within : (prepared : Bool) (dialect : Dialect) (limit used : ℕ) (bytes : List ℕ) → Stands prepared dialect limit used bytes → 17 ≤ limit → used ≤ limit

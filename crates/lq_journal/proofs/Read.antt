@@ -4,8 +4,8 @@ use Rattle.std.specs.Option.{option_map}
 use Rattle.std.specs.Str.{is_utf8, IsUtf8}
 use Rattle.std.proofs.lemmas.List.{append_assoc, append-nil, take_at, length-take-le}
 use Rattle.std.proofs.lemmas.Str.{IsUtf8-from_is_utf8, is_utf8-from_IsUtf8}
-use Rattle.lq_journal.specs.Body.{front_number, with_text, texts_from}
-use Rattle.lq_journal.proofs.Texts.{passes_text, texts_step, texts_past, with_text-none, with_text-utf8}
+use Rattle.lq_frames.specs.Body.{front_number, with_text, texts_from}
+use Rattle.lq_frames.proofs.Texts.{passes_text, texts_step, texts_past, with_text-none, with_text-utf8}
 
 -- behind a length its text is read, and then what follows
 texts_at : (bytes : List ℕ) → 4 ≤ length bytes → texts_from 0 bytes ≡ with_text (take (front_number bytes) (drop 4 bytes)) (texts_from (front_number bytes) (drop 4 bytes))

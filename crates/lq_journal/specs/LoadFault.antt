@@ -4,7 +4,7 @@ use Rattle.lq_base.specs.declared.dialect.Dialect.{Dialect}
 use Rattle.lq_outside.specs.Count.{Rose}
 use Rattle.lq_journal.specs.declared.fault.LoadFault.{LoadFault}
 use Rattle.lq_journal.specs.declared.fault.LoadFault.TheVariants.{Disk, Damaged, OutOfMemory}
-use Rattle.lq_journal.specs.Journal.{journal_of}
+use Rattle.lq_frames.specs.Journal.{journal_of}
 
 -- The disk's count of faults rose, or what the disk tells, if it does, is damaged at that very place, or want of memory.
 abbrev pub IsLoadFault : Dialect → ℕ → Option (List ℕ) → ℕ → ℕ → LoadFault → Type 0

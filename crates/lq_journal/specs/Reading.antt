@@ -1,12 +1,12 @@
 -- What reading the bytes of a journal gives.
 use Rattle.std.specs.Prelude.{◌≡◌, ◌+◌, ◌<◌, ◌≤◌, ℕ, List, ◌∷◌, ◌++◌, length, Ok, Err, Option, IfSome}
 use Rattle.lq_base.specs.declared.dialect.Dialect.{Dialect}
-use Rattle.lq_journal.specs.declared.entry.Entry.{Entry}
+use Rattle.lq_frames.specs.declared.entry.Entry.{Entry}
 use Rattle.lq_journal.specs.declared.fault.LoadFault.{LoadFault}
 use Rattle.lq_journal.specs.declared.fault.LoadFault.TheVariants.{Disk, Damaged, OutOfMemory}
-use Rattle.lq_journal.specs.Frames.{entries_from, IsEntry}
-use Rattle.lq_journal.specs.Journal.{texts_in, journal_of, used_by}
-use Rattle.lq_journal.specs.State.{Stands}
+use Rattle.lq_frames.specs.Frames.{entries_from, IsEntry}
+use Rattle.lq_frames.specs.Journal.{texts_in, journal_of, used_by}
+use Rattle.lq_frames.specs.State.{Stands}
 use Rattle.lq_journal.specs.declared.reading.Found.{Found}
 
 -- behind an open gate stands an entry, and after it the next gate
@@ -16,13 +16,6 @@ pub record IsNext (at : ℕ) (bytes : List ℕ) (entry : Entry) (after : List �
   pub whole : IsEntry raw
   pub entry_is : entry ≡ record { at = at + 1; texts = texts_in raw }
   pub some : 0 < length after
-
--- a closed gate
-pub record IsEnd (bytes : List ℕ) : Type 0 where
-  pub gate : ℕ
-  pub tail : List ℕ
-  pub is : bytes ≡ gate ∷ tail
-  pub closed : ¬ gate ≡ 1
 
 -- an entry of a wrong form stands behind an open gate, or want of memory
 abbrev pub IsStepFault : ℕ → List ℕ → LoadFault → Type 0

@@ -1,22 +1,21 @@
-ghost use Rattle.std.specs.Prelude.{◌≡◌, ◌+◌, ◌-◌, ◌<◌, ◌≤◌, ◌↔◌, [], ◌∷◌, ◌++◌, IfSome, IfOk, IfErr, IsErrAnd, IsTrue, OnOk, OnErr, MatchResult, Ok, Err, length};
+ghost use Rattle.std.specs.Prelude.{◌≡◌, ◌+◌, ◌<◌, ◌≤◌, ◌↔◌, [], ◌∷◌, ◌++◌, IfSome, IfOk, IfErr, IsErrAnd, IsTrue, OnOk, OnErr, MatchResult, Ok, Err, length};
 ghost use Rattle.std.specs.Option.{option_map};
 ghost use Rattle.lq_outside.specs.Count.{CountsFault};
-ghost use Rattle.lq_outside.specs.Bytes.{Writes, Tears, Torn};
-ghost use Rattle.lq_outside.specs.Crash.{Settled, LeavesOnly, Half};
-ghost use Rattle.lq_journal.specs.Body.{size_of};
-ghost use Rattle.lq_journal.specs.Frames.{header};
-ghost use Rattle.lq_journal.specs.Journal.{journal_of, used_by, with_last, IsSameOrMore, StandsForSame, StandsForSameOrMore};
+ghost use Rattle.lq_outside.specs.Crash.{Settled, LeavesOnly};
+ghost use Rattle.lq_frames.specs.Body.{size_of};
+ghost use Rattle.lq_frames.specs.Frames.{header};
+ghost use Rattle.lq_frames.specs.Journal.{journal_of, used_by, with_last, IsSameOrMore, StandsForSame, StandsForSameOrMore};
 ghost use Rattle.lq_journal.specs.LoadFault.{IsLengthFault, IsLoadFault, IsSizeFault};
 ghost use Rattle.lq_journal.specs.AppendFault.{end_of, IsAppendFault, IsFull};
 ghost use Rattle.lq_journal.specs.Reading.{FoundOn};
 ghost use Rattle.lq_journal.specs.Synced.{HasSynced, HasSyncedBefore};
 ghost use Rattle.lq_journal.specs.declared.fault.AppendFault.TheVariants.{Full};
 
-use crate::encoded::EncodedEntry;
-use crate::entry::Entry;
 use crate::fault::{AppendFault, LoadFault};
 use crate::reading::{self, Found};
 use lq_base::{Dialect, Items};
+use lq_frames::{EncodedEntry, Entry};
+use lq_gate::{Ending, write_entry, write_synced};
 use lq_model::Room;
 use lq_outside::{Disk, DiskFailed, LoadRefused};
 use std::alloc::Global;
@@ -35,20 +34,6 @@ pub struct Journal<D: Disk> {
     used: u64,
     /// The file has a header and a gate.
     prepared: bool,
-}
-
-// Writes, and then syncs.
-fn write_synced<D: Disk>(disk: &mut D, at: u64, bytes: &[u8]) -> Result<(), DiskFailed>
-    requires { IfSome (D.told disk.old) (λ before. at ≤ length before) }
-    ensures written { OnOk result (Writes at bytes.now (D.told disk.old) (D.told disk.new)) }
-    ensures torn { Tears at (length bytes.now) (D.told disk.old) (D.told disk.new) }
-    ensures durable { OnOk result (Settled (D.told disk.new) (D.crashes disk.new)) }
-    ensures any_moment { LeavesOnly (D.crashes disk.old) (D.crashes disk.new) (Half (D.crashes disk.old).leaves (Torn at (length bytes.now))) }
-    ensures faults { CountsFault result (D.faults disk.old) (D.faults disk.new) }
-{
-    disk.write_at(at, bytes)?;
-    disk.sync()?;
-    Ok(())
 }
 
 // The bytes of the file, after a sync.
@@ -220,11 +205,13 @@ impl<D: Disk> Journal<D> {
             LeavesOnly (D.crashes (disk_of self.old)) (D.crashes (disk_of self.new)) (StandsForSameOrMore (dialect_of self.old) (limit_of self.old) (used_of self.old) entry.now (journal_of (dialect_of self.old) (limit_of self.old) before))) }
         ensures faults { CountsFault result (D.faults (disk_of self.old)) (D.faults (disk_of self.new)) }
     {
-        let gate = self.used - 1;
-        let written = entry.bytes();
-        write_synced(&mut self.disk, self.used, written)?;
-        write_synced(&mut self.disk, gate, &[1])?;
-        self.used += written.len() as u64;
+        let ending = Ending {
+            dialect: self.dialect,
+            limit: self.limit,
+            used: self.used,
+        };
+        write_entry(&mut self.disk, ending, entry)?;
+        self.used += entry.size();
         Ok(())
     }
 

@@ -2,13 +2,9 @@
 //! write.
 #![tactic(auto)]
 
-mod encoded;
-mod entry;
 mod fault;
 mod journal;
 mod reading;
 
-pub use encoded::EncodedEntry;
-pub use entry::Entry;
 pub use fault::{AppendFault, LoadFault};
 pub use journal::Journal;

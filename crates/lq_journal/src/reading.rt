@@ -1,13 +1,15 @@
 ghost use Rattle.std.specs.Prelude.{◌≡◌, ◌+◌, ◌≤◌, ◌<◌, ◌^◌, ◌∷◌, ◌++◌, length, take, IfOk, IfErr, IsNone, MatchOption, Some, None, Ok, true, false};
 ghost use Rattle.std.specs.Option.{ForSome};
 ghost use Rattle.std.specs.Str.{is_utf8};
-ghost use Rattle.lq_journal.specs.Body.{front_number, with_text, texts_from, if_any, texts_of};
-ghost use Rattle.lq_journal.specs.Frames.{entry_len, header};
-ghost use Rattle.lq_journal.specs.Reading.{IsNext, IsEnd, IsStepFault, IsFound, IsReadFault};
+ghost use Rattle.lq_frames.specs.Body.{front_number, with_text, texts_from, if_any, texts_of};
+ghost use Rattle.lq_frames.specs.Frames.{entry_len, header};
+ghost use Rattle.lq_journal.specs.Reading.{IsNext, IsStepFault, IsFound, IsReadFault};
+ghost use Rattle.lq_gate.specs.Gate.{IsEnd};
 
-use crate::entry::Entry;
 use crate::fault::LoadFault;
 use lq_base::{Dialect, Items, NoMemory, Text};
+use lq_frames::Entry;
+use lq_gate::behind_gate;
 use std::alloc::Global;
 
 /// What stands in a file.
@@ -124,18 +126,6 @@ fn front_entry(bytes: &[u8]) -> Option<(&[u8], &[u8])>
         Some(bytes.split_at(4 + len))
     } else {
         None
-    }
-}
-
-// What stands behind the gate, where it is open.
-#[tactic(auto, using(crate::proofs::Entries::gate_shut))]
-fn behind_gate(bytes: &[u8]) -> Option<&[u8]>
-    requires { 0 < length bytes.now }
-    ensures { MatchOption result (IsEnd bytes.now) (λ behind. bytes.now ≡ 1 ∷ behind.now) }
-{
-    match bytes {
-        [1, behind @ ..] => Some(behind),
-        _ => None,
     }
 }
 

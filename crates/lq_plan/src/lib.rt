@@ -1,9 +1,8 @@
-//! What a command decides before it runs: what is wrong with a changelog, what each changeset is to
-//! do, and what a rollback takes back.
+//! What a command decides before it runs: what is wrong with a changelog, and what each changeset
+//! is to do.
 #![tactic(auto)]
 
 mod head;
-mod kept_rows;
 mod laws;
 mod row_index;
 mod seen;
@@ -11,7 +10,6 @@ mod turns;
 mod validation;
 
 pub use head::Head;
-pub use kept_rows::{NoTag, suffix};
 pub use laws::heads_tell;
 pub use row_index::{RowIndex, index_of, row_at};
 pub use seen::key_of;

@@ -29,7 +29,7 @@ use Rattle.lq_beside.proofs.TablesRead.{map_some, not_is}
 use Rattle.lq_beside.proofs.TakesNone.{lock_tracker, log_tracker}
 use Rattle.lq_beside.proofs.Tests.{any_aimed, harmless_foreign, loose_same, no_orphan, none_in, not_users, null_same, orphan_same, overfull_same, twins_same}
 use Rattle.lq_store.specs.Apart.{is_apart, names_tracking, takes_key}
-use Rattle.lq_db.specs.Load.{is_clean_database}
+use Rattle.lq_entries.specs.Load.{is_clean_database}
 use Rattle.lq_stand.specs.Clean.{CleanStands}
 use Rattle.lq_stand.proofs.Apart.{names_free, none_aimed, untargeted, unviewed}
 

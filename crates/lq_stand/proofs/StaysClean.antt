@@ -30,7 +30,7 @@ use Rattle.lq_turns.specs.declared.deed.OnRows.{OnRows}
 use Rattle.lq_turns.specs.declared.deed.OnRows.TheVariants.{Deleted, Filled, Inserted, Renewed, Tagged}
 use Rattle.lq_beside.proofs.TablesRead.{not_is}
 use Rattle.lq_store.specs.Apart.{names_tracking}
-use Rattle.lq_db.specs.Load.{is_clean_database}
+use Rattle.lq_entries.specs.Load.{is_clean_database}
 use Rattle.lq_stand.specs.First.{calls_are_first, deed_is_first, deeds_are_first, is_first}
 use Rattle.lq_stand.specs.Stays.{CallsStayClean, CleanIsFound, IsClean, StopsStayClean}
 use Rattle.lq_stand.proofs.Differ.{Adds, differ_after}

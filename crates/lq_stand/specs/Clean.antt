@@ -5,7 +5,7 @@ use Rattle.lq_model.specs.Catalogue.{Catalogue}
 use Rattle.lq_model.specs.Sound.{IsSound}
 use Rattle.lq_track.specs.Database.{Database, IsDatabase}
 use Rattle.lq_turns.specs.Held.{StandsFor}
-use Rattle.lq_db.specs.Load.{is_clean}
+use Rattle.lq_entries.specs.Load.{is_clean}
 
 -- what a sound and clean catalogue stands for, whose rows differ
 abbrev pub CleanStands : Type 0

@@ -22,7 +22,7 @@ use Rattle.lq_turns.specs.declared.stamp.Stamp.{Stamp}
 use Rattle.lq_turns.specs.declared.turn.Turn.{Turn}
 use Rattle.lq_beside.specs.Fitting.{is_deleted}
 use Rattle.lq_store.specs.Apart.{is_apart}
-use Rattle.lq_db.specs.Load.{is_clean, is_clean_database}
+use Rattle.lq_entries.specs.Load.{is_clean, is_clean_database}
 use Rattle.lq_stand.specs.First.{calls_are_first}
 
 -- a user's statement leaves the users' objects apart from the tracking tables

@@ -10,7 +10,7 @@ use Rattle.lq_commands.specs.Refusals.{refusal}
 use Rattle.lq_commands.specs.Scripts.{script}
 use Rattle.lq_commands.specs.Works.{is_finished}
 use Rattle.lq_commands.specs.declared.given.Given.{Given}
-use Rattle.lq_db.specs.Log.{entries_in}
+use Rattle.lq_entries.specs.Log.{entries_in}
 use Rattle.lq_drill.specs.Faults.{answer_of, freed}
 use Rattle.lq_drill.specs.Shows.{HadRoom, room_of_entry as room_in_drill}
 use Rattle.lq_kinds.specs.declared.any_change.AnyChange.{AnyChange}

@@ -4,9 +4,9 @@ use Rattle.std.specs.Prelude.{Err, IfSome, List, None, Ok, Option, Result, Some,
 use Rattle.lq_base.specs.declared.dialect.Dialect.{Dialect}
 use Rattle.lq_commands.specs.Kinds.{is_of_database}
 use Rattle.lq_commands.specs.Refusals.{Answers}
-use Rattle.lq_db.specs.Load.{catalogue_of, read_entries}
-use Rattle.lq_journal.proofs.Appended.{reads_too_long}
-use Rattle.lq_journal.specs.Journal.{read_frames}
+use Rattle.lq_entries.specs.Load.{catalogue_of, read_entries}
+use Rattle.lq_frames.proofs.Appended.{reads_too_long}
+use Rattle.lq_frames.specs.Journal.{read_frames}
 use Rattle.lq_model.specs.Catalogue.{Catalogue}
 use Rattle.lq_tell.specs.declared.done.Done.{Done}
 use Rattle.lq_tell.specs.declared.status.Status.{Status}

@@ -7,7 +7,7 @@ use Rattle.lq_commands.specs.Works.{OnIts, TellsRoom}
 use Rattle.lq_commands.specs.declared.given.Asked.{Asked}
 use Rattle.lq_commands.specs.declared.given.Given.{Given}
 use Rattle.lq_db.specs.Db.{IsDb, IsNew, state}
-use Rattle.lq_db.specs.Load.{catalogue_of}
+use Rattle.lq_entries.specs.Load.{catalogue_of}
 use Rattle.lq_db.specs.declared.db.Db.{Db}
 use Rattle.lq_outside.specs.Crash.{Crashes}
 use Rattle.lq_store.specs.Executor.{Held, kept}

@@ -3,7 +3,8 @@ use Rattle.std.proofs.Common.{ap, inl, inr, refl, subst, sym, ◌∙◌}
 use Rattle.std.specs.Prelude.{Err, IfSome, List, Ok, Option, Result, Some, ℕ, ◌≡◌, ◌⊎◌}
 use Rattle.lq_base.specs.declared.dialect.Dialect.{Dialect}
 use Rattle.lq_db.specs.Db.{IsDb}
-use Rattle.lq_db.specs.Load.{IsDbFault, catalogue_of}
+use Rattle.lq_db.specs.Load.{IsDbFault}
+use Rattle.lq_entries.specs.Load.{catalogue_of}
 use Rattle.lq_db.specs.declared.db.Db.{Db}
 use Rattle.lq_journal.specs.declared.fault.LoadFault.{LoadFault}
 use Rattle.lq_journal.specs.declared.fault.LoadFault.TheVariants as load

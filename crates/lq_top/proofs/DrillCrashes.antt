@@ -3,11 +3,11 @@ use Rattle.std.proofs.Common.{ap, arith, inl, inr, refl, sym, ◌∙◌}
 use Rattle.std.specs.Option.{option_map}
 use Rattle.std.specs.Prelude.{Bool, Err, IsTrue, List, None, Ok, Option, Result, Some, [], map, slice_get, suc, true, zero, ℕ, ◌++◌, ◌∷◌, ◌≡◌, ◌≤◌, ◌⊎◌}
 use Rattle.lq_base.specs.declared.dialect.Dialect.{Dialect}
-use Rattle.lq_db.specs.Log.{crashes_in, entries_in, texts_of}
+use Rattle.lq_entries.specs.Log.{crashes_in, entries_in, texts_of}
 use Rattle.lq_drill.specs.Drill.{HasFaulted as PlayerFaulted, LeftInDrill}
 use Rattle.lq_drill.specs.Faults.{Comes, FreesEarly}
 use Rattle.lq_drill.specs.Shows.{entries_of}
-use Rattle.lq_journal.specs.Journal.{journal_of}
+use Rattle.lq_frames.specs.Journal.{journal_of}
 use Rattle.lq_kinds.specs.declared.any_change.AnyChange.{AnyChange}
 use Rattle.lq_outside.specs.Crash.{Crashes as DiskCrashes, IsSound, LeavesOnly}
 use Rattle.lq_players.specs.Answers.{failure_of}

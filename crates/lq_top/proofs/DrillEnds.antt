@@ -11,8 +11,9 @@ use Rattle.lq_base.specs.declared.dialect.Dialect.{Dialect}
 use Rattle.lq_commands.proofs.BareName.{clean_no_bar}
 use Rattle.lq_commands.specs.Who.{clean}
 use Rattle.lq_db.specs.Db.{IsDb, IsNew, IsValid, crashes as crashes_of, disk_in, state}
-use Rattle.lq_db.specs.Load.{IsDbFault, catalogue_of}
-use Rattle.lq_db.specs.Log.{crashes_in, entries_in}
+use Rattle.lq_db.specs.Load.{IsDbFault}
+use Rattle.lq_entries.specs.Load.{catalogue_of}
+use Rattle.lq_entries.specs.Log.{crashes_in, entries_in}
 use Rattle.lq_db.specs.declared.db.Db.{Db}
 use Rattle.lq_drill.specs.Drill.{Each, FailsBy, HasFaulted as PlayerFaulted, IsDrilled, IsDrilledUntil, IsFaultless as HasNoFault, IsSerialDrill, LeftAtEnd, LeftInDrill, MetAt, shut}
 use Rattle.lq_drill.specs.Faults.{FallsFirst, Meets}

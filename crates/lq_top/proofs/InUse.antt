@@ -4,16 +4,17 @@ use Rattle.std.proofs.lemmas.List.Sums.{sum_by-cons}
 use Rattle.std.specs.List.{sum_by}
 use Rattle.std.specs.Prelude.{Bool, IfSome, List, Ok, Option, Some, [], false, map, true, ℕ, ◌+◌, ◌∷◌, ◌≡◌, ◌≤◌}
 use Rattle.lq_base.specs.declared.dialect.Dialect.{Dialect}
-use Rattle.lq_db.proofs.Logs.{size_is}
+use Rattle.lq_entries.proofs.Logs.{size_is}
 use Rattle.lq_db.specs.Db.{IsDb}
-use Rattle.lq_db.specs.Log.{entries_in, texts_of}
+use Rattle.lq_entries.specs.Log.{entries_in, texts_of}
 use Rattle.lq_db.specs.declared.db.Db.{Db}
-use Rattle.lq_journal.proofs.Appended.{journal_is}
+use Rattle.lq_frames.proofs.Appended.{journal_is}
 use Rattle.lq_journal.proofs.Entries.{short, used_is}
-use Rattle.lq_journal.specs.Body.{size_of}
-use Rattle.lq_journal.specs.Journal.{journal_of, placed, used_by}
-use Rattle.lq_journal.specs.State.{Stands, dialect_of, is_prepared, limit_of, used_of}
-use Rattle.lq_journal.specs.declared.entry.Entry.{Entry as Placed}
+use Rattle.lq_frames.specs.Body.{size_of}
+use Rattle.lq_frames.specs.Journal.{journal_of, placed, used_by}
+use Rattle.lq_frames.specs.State.{Stands}
+use Rattle.lq_journal.specs.State.{dialect_of, is_prepared, limit_of, used_of}
+use Rattle.lq_frames.specs.declared.entry.Entry.{Entry as Placed}
 use Rattle.lq_outside.specs.Crash.{Crashes}
 use Rattle.lq_store.specs.Executor.{Held}
 use Rattle.lq_store.specs.Journal.{Entry, entry_size, size_of_all}

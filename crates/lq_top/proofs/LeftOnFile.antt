@@ -3,8 +3,8 @@ use Rattle.std.proofs.Common.{ap, arith, inl, inr, refl, rules, sym, ◌∙◌}
 use Rattle.std.specs.Option.{option_map}
 use Rattle.std.specs.Prelude.{IsTrue, List, Option, Some, ℕ, ◌++◌, ◌≡◌, ◌≤◌}
 use Rattle.lq_base.specs.declared.dialect.Dialect.{Dialect}
-use Rattle.lq_db.specs.Log.{crashes_in, entries_in, texts_of}
-use Rattle.lq_journal.specs.Journal.{journal_of}
+use Rattle.lq_entries.specs.Log.{crashes_in, entries_in, texts_of}
+use Rattle.lq_frames.specs.Journal.{journal_of}
 use Rattle.lq_model.specs.Catalogue.{Catalogue}
 use Rattle.lq_outside.specs.Crash.{Crashes as DiskCrashes, IsSound, LeavesOnly}
 use Rattle.lq_run.specs.Crashes.{LeftInCommand, Since}

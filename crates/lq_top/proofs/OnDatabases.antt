@@ -12,7 +12,8 @@ use Rattle.lq_commands.specs.Scripts.{script}
 use Rattle.lq_commands.specs.Works.{CrashesIn, IsKept, IsReady, OnIts, Works, is_finished, only_reads}
 use Rattle.lq_commands.specs.declared.given.Given.{Given}
 use Rattle.lq_db.specs.Db.{IsDb, IsNew, IsValid, crashes as crashes_of, disk_in, state}
-use Rattle.lq_db.specs.Load.{IsDbFault, catalogue_of}
+use Rattle.lq_db.specs.Load.{IsDbFault}
+use Rattle.lq_entries.specs.Load.{catalogue_of}
 use Rattle.lq_db.specs.declared.db.Db.{Db}
 use Rattle.lq_journal.specs.declared.fault.LoadFault.{LoadFault}
 use Rattle.lq_outside.specs.Count.{Rose}

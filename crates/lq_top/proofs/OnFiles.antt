@@ -10,12 +10,13 @@ use Rattle.lq_commands.specs.Scripts.{script}
 use Rattle.lq_commands.specs.Works.{CrashesIn, TellsRoom, Works, is_finished, only_reads}
 use Rattle.lq_commands.specs.declared.given.Given.{Given}
 use Rattle.lq_db.specs.Db.{IsDb, IsValid, state}
-use Rattle.lq_db.specs.Load.{IsDbFault, catalogue_of}
-use Rattle.lq_db.specs.Log.{crashes_in, entries_in, texts_of}
+use Rattle.lq_db.specs.Load.{IsDbFault}
+use Rattle.lq_entries.specs.Load.{catalogue_of}
+use Rattle.lq_entries.specs.Log.{crashes_in, entries_in, texts_of}
 use Rattle.lq_db.specs.declared.db.Db.{Db}
-use Rattle.lq_journal.specs.Journal.{journal_of}
+use Rattle.lq_frames.specs.Journal.{journal_of}
 use Rattle.lq_journal.specs.State.{dialect_of, limit_of, used_of}
-use Rattle.lq_journal.specs.declared.entry.Entry.{Entry as Placed}
+use Rattle.lq_frames.specs.declared.entry.Entry.{Entry as Placed}
 use Rattle.lq_journal.specs.declared.fault.LoadFault.{LoadFault}
 use Rattle.lq_journal.specs.declared.fault.LoadFault.TheVariants as load
 use Rattle.lq_model.specs.Catalogue.{Catalogue}

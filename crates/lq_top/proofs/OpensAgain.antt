@@ -11,10 +11,10 @@ use Rattle.lq_commands.proofs.Planned.{kept}
 use Rattle.lq_commands.proofs.ViewsRead.{views_are_read}
 use Rattle.lq_commands.specs.Scripts.{log_in, rollback_to, script, sets_in}
 use Rattle.lq_commands.specs.declared.given.Given.{Given}
-use Rattle.lq_db.specs.Load.{folded, if_clean, is_clean, is_clean_database, read_entries, then_at}
-use Rattle.lq_db.specs.Log.{entries_in, texts_of}
-use Rattle.lq_journal.specs.Journal.{journal_of, used_by}
-use Rattle.lq_journal.specs.declared.entry.Entry.{Entry as Placed}
+use Rattle.lq_entries.specs.Load.{folded, if_clean, is_clean, is_clean_database, read_entries, then_at}
+use Rattle.lq_entries.specs.Log.{entries_in, texts_of}
+use Rattle.lq_frames.specs.Journal.{journal_of, used_by}
+use Rattle.lq_frames.specs.declared.entry.Entry.{Entry as Placed}
 use Rattle.lq_kinds.specs.Dialects.{AreFor}
 use Rattle.lq_kinds.specs.declared.any_change.AnyChange.{AnyChange}
 use Rattle.lq_model.specs.Catalogue.{Catalogue, no_objects}

@@ -4,9 +4,10 @@ use Rattle.std.specs.Option.{option_map}
 use Rattle.std.specs.Prelude.{IfSome, List, Ok, Option, Result, Some, true, ℕ, ◌++◌, ◌≡◌}
 use Rattle.lq_base.specs.declared.dialect.Dialect.{Dialect}
 use Rattle.lq_commands.specs.Works.{IsReady}
-use Rattle.lq_db.specs.Db.{IsDb, IsNew, begun_in, state}
-use Rattle.lq_db.specs.Load.{catalogue_of, is_clean}
-use Rattle.lq_db.specs.Log.{entries_in}
+use Rattle.lq_db.specs.Db.{IsDb, IsNew, state}
+use Rattle.lq_session.specs.Session.{begun_in}
+use Rattle.lq_entries.specs.Load.{catalogue_of, is_clean}
+use Rattle.lq_entries.specs.Log.{entries_in}
 use Rattle.lq_db.specs.declared.db.Db.{Db}
 use Rattle.lq_journal.specs.State.{dialect_of, limit_of}
 use Rattle.lq_model.specs.Catalogue.{Catalogue}

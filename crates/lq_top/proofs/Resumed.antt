@@ -69,7 +69,7 @@ use Rattle.lq_top.proofs.Unchanged.{holds_it}
 use Rattle.lq_top.proofs.Written.{Does, IsWritten, failed_unfinished, false_true, was_over}
 use Rattle.lq_top.specs.Asks.{Asks, Files}
 use Rattle.lq_top.specs.Bytes.{Becomes, IsLeftOn, Opens, most_bytes}
-use Rattle.lq_db.specs.Log.{entries_in}
+use Rattle.lq_entries.specs.Log.{entries_in}
 use Rattle.lq_top.specs.Jobs.{DoesLine, is_on_file, job_refusal, job_script}
 use Rattle.lq_top.specs.Resumed.{EndsSo, LeavesMarked, RollbackResumes, StandsHeld, UpdateResumes, turns_to}
 use Rattle.lq_top.specs.Run.{EndsBy, IsOutside, Runs, given_by, is_over}

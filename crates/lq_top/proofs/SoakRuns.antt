@@ -18,15 +18,16 @@ use Rattle.lq_commands.specs.Stamp.{stamp_of}
 use Rattle.lq_commands.specs.Works.{OnIts, Works, is_finished}
 use Rattle.lq_commands.specs.declared.given.Given.{Given}
 use Rattle.lq_db.proofs.Loads.{nothing_sound}
-use Rattle.lq_db.proofs.Logs.{size_is}
-use Rattle.lq_db.specs.Db.{IsDb, IsNew, IsValid, begun_in, state}
-use Rattle.lq_db.specs.Log.{entries_in, texts_of}
+use Rattle.lq_entries.proofs.Logs.{size_is}
+use Rattle.lq_db.specs.Db.{IsDb, IsNew, IsValid, state}
+use Rattle.lq_session.specs.Session.{begun_in}
+use Rattle.lq_entries.specs.Log.{entries_in, texts_of}
 use Rattle.lq_db.specs.declared.db.Db.{Db}
 use Rattle.lq_journal.proofs.Entries.{short}
-use Rattle.lq_journal.specs.Body.{size_of}
-use Rattle.lq_journal.specs.Journal.{journal_of, used_by}
+use Rattle.lq_frames.specs.Body.{size_of}
+use Rattle.lq_frames.specs.Journal.{journal_of, used_by}
 use Rattle.lq_journal.specs.State.{dialect_of, limit_of}
-use Rattle.lq_journal.specs.declared.entry.Entry.{Entry as Placed}
+use Rattle.lq_frames.specs.declared.entry.Entry.{Entry as Placed}
 use Rattle.lq_kinds.specs.declared.change_set.Changelog.{Changelog}
 use Rattle.lq_model.specs.Catalogue.{no_objects}
 use Rattle.lq_model.specs.NameSpaces.{is_taken}

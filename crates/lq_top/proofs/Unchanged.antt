@@ -9,10 +9,10 @@ use Rattle.lq_commands.specs.Refusals.{Answers}
 use Rattle.lq_commands.specs.Works.{is_finished}
 use Rattle.lq_commands.specs.declared.given.Given.{Given}
 use Rattle.lq_db.proofs.Loads.{folded_runs}
-use Rattle.lq_db.specs.Load.{folded, if_clean, is_clean, read_entries}
-use Rattle.lq_db.specs.Log.{entries_in, texts_of}
-use Rattle.lq_journal.specs.Journal.{journal_of, used_by}
-use Rattle.lq_journal.specs.declared.entry.Entry.{Entry as Placed}
+use Rattle.lq_entries.specs.Load.{folded, if_clean, is_clean, read_entries}
+use Rattle.lq_entries.specs.Log.{entries_in, texts_of}
+use Rattle.lq_frames.specs.Journal.{journal_of, used_by}
+use Rattle.lq_frames.specs.declared.entry.Entry.{Entry as Placed}
 use Rattle.lq_model.specs.Catalogue.{Catalogue, no_objects}
 use Rattle.lq_run.specs.Stands.{HadRoom}
 use Rattle.lq_store.specs.Journal.{Entry}

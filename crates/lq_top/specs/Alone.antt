@@ -4,7 +4,7 @@ use Rattle.lq_base.specs.declared.command.Command.{Command}
 use Rattle.lq_base.specs.declared.dialect.Dialect.{Dialect}
 use Rattle.lq_cli.specs.declared.line.Job.TheVariants.{Run}
 use Rattle.lq_commands.specs.Works.{is_finished}
-use Rattle.lq_db.specs.Log.{entries_in}
+use Rattle.lq_entries.specs.Log.{entries_in}
 use Rattle.lq_drill.specs.Faults.{answer_of, freed}
 use Rattle.lq_kinds.specs.declared.any_change.AnyChange.{AnyChange}
 use Rattle.lq_players.specs.Tasks.{task_for}

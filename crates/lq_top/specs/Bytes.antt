@@ -5,8 +5,8 @@ use Rattle.lq_base.specs.declared.dialect.Dialect.{Dialect}
 use Rattle.lq_commands.specs.Works.{is_finished}
 use Rattle.lq_commands.specs.declared.given.Asked.{Asked}
 use Rattle.lq_commands.specs.declared.given.Given.{Given}
-use Rattle.lq_db.specs.Load.{catalogue_of}
-use Rattle.lq_db.specs.Log.{entries_in}
+use Rattle.lq_entries.specs.Load.{catalogue_of}
+use Rattle.lq_entries.specs.Log.{entries_in}
 use Rattle.lq_journal.specs.declared.fault.LoadFault.{LoadFault}
 use Rattle.lq_journal.specs.declared.fault.LoadFault.TheVariants as load
 use Rattle.lq_model.specs.Catalogue.{Catalogue}

@@ -11,7 +11,7 @@ use Rattle.lq_cli.specs.declared.line.Job.TheVariants.{Drill}
 use Rattle.lq_cli.specs.declared.line.Line.{Line}
 use Rattle.lq_commands.specs.Stamp.{numbered_stamp}
 use Rattle.lq_commands.specs.Who.{clean}
-use Rattle.lq_db.specs.Log.{entries_in}
+use Rattle.lq_entries.specs.Log.{entries_in}
 use Rattle.lq_drill.specs.Faults.{Comes, FallsFirst, FreesAtMostOnce, FreesEarly, Meets}
 use Rattle.lq_drill.specs.Player.{MayAnswer, answer_of}
 use Rattle.lq_drill.specs.Shows.{HadRoom, entries_of}

@@ -6,7 +6,7 @@ use Rattle.lq_base.specs.declared.identity.Identity.{Identity}
 use Rattle.lq_base.specs.declared.run.Why.{Why}
 use Rattle.lq_commands.specs.Works.{IsKept, is_finished}
 use Rattle.lq_commands.specs.declared.given.Given.{Given}
-use Rattle.lq_db.specs.Load.{catalogue_of}
+use Rattle.lq_entries.specs.Load.{catalogue_of}
 use Rattle.lq_outside.specs.Crash.{Crashes as DiskCrashes, Settled}
 use Rattle.lq_outside.specs.Sink.{IsPart}
 use Rattle.lq_sources.specs.declared.fault.LoadFault.{LoadFault}

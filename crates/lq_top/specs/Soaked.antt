@@ -12,7 +12,7 @@ use Rattle.lq_changelog.specs.Changelog.{changelog as changelog_in}
 use Rattle.lq_commands.specs.Outputs.{TellsText}
 use Rattle.lq_commands.specs.Scripts.{script}
 use Rattle.lq_commands.specs.declared.given.Given.{Given}
-use Rattle.lq_db.specs.Log.{entries_in}
+use Rattle.lq_entries.specs.Log.{entries_in}
 use Rattle.lq_kinds.specs.declared.change_set.Changelog.{Changelog}
 use Rattle.lq_model.specs.Catalogue.{Catalogue, no_objects, table_of}
 use Rattle.lq_outside.specs.Folder.{held_in}

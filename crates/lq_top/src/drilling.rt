@@ -5,7 +5,7 @@ ghost use Rattle.std.specs.Prelude.{◌≡◌, ◌≤◌, Err, IfErr, IfOk, IfSo
 ghost use Rattle.lq_commands.specs.Who.{clean};
 ghost use Rattle.lq_commands.specs.Works.{IsReady};
 ghost use Rattle.lq_db.specs.Db.{IsDb, IsNew, disk_in, engine_in, state};
-ghost use Rattle.lq_db.specs.Load.{catalogue_of};
+ghost use Rattle.lq_entries.specs.Load.{catalogue_of};
 ghost use Rattle.lq_lines.specs.Commands.{is_run};
 ghost use Rattle.lq_lines.specs.File.{lines_of};
 ghost use Rattle.lq_outside.specs.Count.{Rose};

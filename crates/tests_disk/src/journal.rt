@@ -1,63 +1,114 @@
+ghost use Rattle.std.specs.Prelude.{IfSome};
+ghost use Rattle.lq_journal.specs.State.{IsReady, disk_of};
+
 use lq_base::{Dialect, Items, Text};
-use lq_journal::{AppendFault, EncodedEntry, Entry, Journal, LoadFault};
+use lq_frames::{EncodedEntry, Entry};
+use lq_journal::{AppendFault, Journal, LoadFault};
 use lq_model::Room;
-use lq_outside::{Disk, Fuse, LoadRefused, MemDisk, SureDisk};
-use std::alloc::Global;
+use lq_outside::{Disk, Fuse, MemDisk, SureDisk};
+use std::alloc::{AllocError, Global};
 use std::test::Fail;
 
 const PGSQL: &[u8] = b"LQJOURNAL1 PGSQL";
 
-const ONE: &[u8] = b"\x01\x00\x00\x00\x13T\x00\x00\x00\x0eDROP TABLE \"t\"";
+const ONE: &[u8] = b"\x01\x00\x00\x00\x13T\x00\x00\x00\x0eDROP TABLE \"t\"\x00";
 
-// What was loaded, as one line.
-fn described<D: Disk + Drop>(
-    alloc: Global,
-    loaded: Result<(Journal<D>, Items<Entry>), LoadRefused<D, LoadFault>>,
-) -> Result<String, Fail> {
-    let (journal, entries) = match loaded {
-        Ok(loaded) => loaded,
-        Err(refused) => {
-            return Ok(match refused.fault {
-                LoadFault::Disk => format!(in alloc; "disk fault")?,
-                LoadFault::Damaged { at } => format!(in alloc; "damaged at {at}")?,
-                LoadFault::OutOfMemory => format!(in alloc; "out of memory")?,
-            });
-        }
-    };
-    let used = journal.used();
-    let mut line = format!(in alloc; "{used} used")?;
-    for entry in entries.as_slice() {
-        let at = entry.at;
-        line.push_str(format!(in alloc; ", {at}")?.as_str())?;
-        for text in entry.texts.as_slice() {
-            line.push_str(" ")?;
-            line.push_str(text.as_str())?;
-        }
+fn push_entry(line: &mut String, entry: &Entry) -> Result<(), AllocError> {
+    let at = entry.at;
+    write!(line, ", {at}")?;
+    for text in entry.texts.as_slice() {
+        line.push_str(" ")?;
+        line.push_str(text.as_str())?;
     }
-    Ok(line)
+    Ok(())
 }
 
-fn opened(alloc: Global, dialect: Dialect, bytes: Vec<u8>) -> Result<String, Fail> {
-    let disk = SureDisk::new(bytes);
-    described(alloc, Journal::load(alloc, disk, dialect, 8192))
+fn push_entries(line: &mut String, used: u64, entries: &[Entry]) -> Result<(), AllocError> {
+    write!(line, "{used} used")?;
+    for entry in entries {
+        push_entry(line, entry)?;
+    }
+    Ok(())
+}
+
+fn push_fault(line: &mut String, fault: LoadFault) -> Result<(), AllocError> {
+    match fault {
+        LoadFault::Disk => line.push_str("disk fault"),
+        LoadFault::Damaged { at } => write!(line, "damaged at {at}"),
+        LoadFault::OutOfMemory => line.push_str("out of memory"),
+    }
+}
+
+// What is loaded of these bytes, as one line.
+fn push_loaded(
+    alloc: Global,
+    line: &mut String,
+    dialect: Dialect,
+    bytes: Vec<u8>,
+) -> Result<(), AllocError> {
+    match Journal::load(alloc, SureDisk::new(bytes), dialect, 8192) {
+        Ok((journal, entries)) => push_entries(line, journal.used(), entries.as_slice()),
+        Err(refused) => push_fault(line, refused.fault),
+    }
+}
+
+// Whether these bytes are loaded so.
+fn is_loaded(
+    alloc: Global,
+    dialect: Dialect,
+    bytes: Vec<u8>,
+    want: &str,
+) -> Result<bool, AllocError> {
+    let mut line = String::new(alloc);
+    push_loaded(alloc, &mut line, dialect, bytes)?;
+    Ok(line.as_str() == want)
+}
+
+// Whether a file of this head, and of what comes behind it, is loaded so.
+fn is_read(
+    alloc: Global,
+    dialect: Dialect,
+    head: &[u8],
+    rest: &[u8],
+    want: &str,
+) -> Result<bool, AllocError> {
+    let mut bytes = Vec::from_slice(alloc, head)?;
+    bytes.extend_from_slice(rest)?;
+    is_loaded(alloc, dialect, bytes, want)
 }
 
 #[test]
-fn entries_are_encoded(rt: HostRuntime) -> Result<(), Fail> {
-    let mut entry = EncodedEntry::new(rt.alloc(), "DROP TABLE \"t\"")?;
+fn an_entry_is_encoded(rt: HostRuntime) -> Result<(), Fail> {
+    let entry = EncodedEntry::new(rt.alloc(), "DROP TABLE \"t\"")?;
     assert_eq!(rt;
         entry.bytes(),
         b"\x00\x00\x00\x13T\x00\x00\x00\x0eDROP TABLE \"t\"\x00".as_slice()
     );
     assert_eq!(rt; entry.size(), 24);
+    Ok(())
+}
+
+#[test]
+fn an_entry_grows(rt: HostRuntime) -> Result<(), Fail> {
+    let mut entry = EncodedEntry::new(rt.alloc(), "DROP TABLE \"t\"")?;
     entry.push("x")?;
     assert_eq!(rt;
         entry.bytes(),
         b"\x00\x00\x00\x18T\x00\x00\x00\x0eDROP TABLE \"t\"\x00\x00\x00\x01x\x00".as_slice()
     );
-    let mut texts = Items::new(rt.alloc());
-    texts.push(Text::new(rt.alloc(), "")?)?;
-    texts.push(Text::new(rt.alloc(), "é")?)?;
+    Ok(())
+}
+
+fn two_texts(alloc: Global, first: &str, second: &str) -> Result<Items<Text>, Fail> {
+    let mut texts = Items::new(alloc);
+    texts.push(Text::new(alloc, first)?)?;
+    texts.push(Text::new(alloc, second)?)?;
+    Ok(texts)
+}
+
+#[test]
+fn texts_are_encoded(rt: HostRuntime) -> Result<(), Fail> {
+    let texts = two_texts(rt.alloc(), "", "é")?;
     let entry = EncodedEntry::from_texts(rt.alloc(), texts.as_slice())?;
     assert_eq!(rt;
         entry.bytes(),
@@ -112,10 +163,8 @@ fn journals_are_read(rt: HostRuntime) -> Result<(), Fail> {
         ),
     ];
     for (rest, want) in rows {
-        let mut bytes = Vec::from_slice(rt.alloc(), PGSQL)?;
-        bytes.extend_from_slice(rest)?;
-        let line = opened(rt.alloc(), Dialect::Postgresql, bytes)?;
-        assert_eq!(rt; line.as_str(), want, "{want}");
+        let holds = is_read(rt.alloc(), Dialect::Postgresql, PGSQL, rest, want)?;
+        assert!(rt; holds, "{want}");
     }
     Ok(())
 }
@@ -132,9 +181,14 @@ fn files_are_tested(rt: HostRuntime) -> Result<(), Fail> {
         (b'x', 8193, "damaged at 8192"),
     ] {
         let bytes = vec![in rt.alloc(); byte; len]?;
-        let line = opened(rt.alloc(), Dialect::Postgresql, bytes)?;
-        assert_eq!(rt; line.as_str(), want, "{len}");
+        let holds = is_loaded(rt.alloc(), Dialect::Postgresql, bytes, want)?;
+        assert!(rt; holds, "{len}");
     }
+    Ok(())
+}
+
+#[test]
+fn headers_are_tested(rt: HostRuntime) -> Result<(), Fail> {
     for (dialect, head, want) in [
         (
             Dialect::Postgresql,
@@ -149,11 +203,8 @@ fn files_are_tested(rt: HostRuntime) -> Result<(), Fail> {
             "41 used, 17 DROP TABLE \"t\"",
         ),
     ] {
-        let mut bytes = Vec::from_slice(rt.alloc(), head)?;
-        bytes.extend_from_slice(ONE)?;
-        bytes.push(0)?;
-        let line = opened(rt.alloc(), dialect, bytes)?;
-        assert_eq!(rt; line.as_str(), want, "{want}");
+        let holds = is_read(rt.alloc(), dialect, head, ONE, want)?;
+        assert!(rt; holds, "{want}");
     }
     Ok(())
 }
@@ -172,6 +223,22 @@ fn append_one<D: Disk>(alloc: Global, disk: D, entry: &EncodedEntry) -> (D, bool
     }
 }
 
+// Whether an appending on a disk that fails after so many calls is answered so, and its file is then
+// loaded so.
+fn stops(
+    alloc: Global,
+    entry: &EncodedEntry,
+    calls: u64,
+    done: bool,
+    want: &str,
+) -> Result<bool, AllocError> {
+    let fuse = Fuse::new(SureDisk::new(Vec::new(alloc)), calls);
+    let (fuse, answered) = append_one(alloc, fuse, entry);
+    let disk = fuse.into_inner();
+    let holds = is_read(alloc, Dialect::Postgresql, disk.bytes(), b"", want)?;
+    Ok(holds && answered == done)
+}
+
 #[test]
 fn a_stop_leaves_the_entry_or_not(rt: HostRuntime) -> Result<(), Fail> {
     let entry = EncodedEntry::new(rt.alloc(), "DROP TABLE \"t\"")?;
@@ -183,44 +250,67 @@ fn a_stop_leaves_the_entry_or_not(rt: HostRuntime) -> Result<(), Fail> {
         } else {
             "41 used, 17 DROP TABLE \"t\""
         };
-        let fuse = Fuse::new(SureDisk::new(Vec::new(rt.alloc())), calls);
-        let (fuse, done) = append_one(rt.alloc(), fuse, &entry);
-        assert_eq!(rt; done, calls >= 9, "{calls}");
-        let bytes = Vec::from_slice(rt.alloc(), fuse.into_inner().bytes())?;
-        let line = opened(rt.alloc(), Dialect::Postgresql, bytes)?;
-        assert_eq!(rt; line.as_str(), want, "{calls}");
+        let holds = stops(rt.alloc(), &entry, calls, calls >= 9, want)?;
+        assert!(rt; holds, "{calls}");
     }
+    Ok(())
+}
+
+// Whether an appending on a disk of which this one call fails does so, and its file is then loaded so.
+fn fails(alloc: Global, entry: &EncodedEntry, call: u64, want: &str) -> Result<bool, AllocError> {
+    let disk = MemDisk::new(Vec::new(alloc), Vec::from_slice(alloc, &[call])?);
+    let (disk, answered) = append_one(alloc, disk, entry);
+    let holds = is_read(alloc, Dialect::Postgresql, disk.bytes(), b"", want)?;
+    Ok(holds && !answered)
+}
+
+#[test]
+fn a_failure_leaves_the_entry_or_not(rt: HostRuntime) -> Result<(), Fail> {
+    let entry = EncodedEntry::new(rt.alloc(), "DROP TABLE \"t\"")?;
     // The eighth call is the third write.
-    for n in 1..10u64 {
-        let fail = Vec::from_slice(rt.alloc(), &[n])?;
-        let disk = MemDisk::new(Vec::new(rt.alloc()), fail);
-        let (disk, done) = append_one(rt.alloc(), disk, &entry);
-        assert!(rt; !done, "{n}");
-        let want = if n < 9 {
+    for call in 1..10u64 {
+        let want = if call < 9 {
             "17 used"
         } else {
             "41 used, 17 DROP TABLE \"t\""
         };
-        let bytes = Vec::from_slice(rt.alloc(), disk.bytes())?;
-        let line = opened(rt.alloc(), Dialect::Postgresql, bytes)?;
-        assert_eq!(rt; line.as_str(), want, "{n}");
+        let holds = fails(rt.alloc(), &entry, call, want)?;
+        assert!(rt; holds, "{call}");
     }
     Ok(())
+}
+
+fn of_length(alloc: Global, len: usize) -> Result<EncodedEntry, Fail> {
+    let text = String::from_utf8(vec![in alloc; b'x'; len]?)?;
+    Ok(EncodedEntry::new(alloc, text.as_str())?)
+}
+
+// A journal with one entry.
+fn filled(alloc: Global, entry: &EncodedEntry) -> Option<Journal<SureDisk>>
+    ensures { IfSome result (λ journal. IsReady (⟦<SureDisk as Disk>⟧.told (disk_of journal)) journal) }
+{
+    let disk = SureDisk::new(Vec::new(alloc));
+    let Ok((mut journal, _)) = Journal::load(alloc, disk, Dialect::Mysql, 8192) else {
+        return None;
+    };
+    match journal.prepare() {
+        Ok(()) => match journal.append(entry, Room::Ordinary) {
+            Ok(()) => Some(journal),
+            Err(_) => None,
+        },
+        Err(_) => None,
+    }
 }
 
 #[test]
 fn a_full_journal_has_room_for_a_release(rt: HostRuntime) -> Result<(), Fail> {
     let small = EncodedEntry::new(rt.alloc(), "DROP TABLE \"t\"")?;
-    let text = String::from_utf8(vec![in rt.alloc(); b'x'; 4069]?)?;
-    let large = EncodedEntry::new(rt.alloc(), text.as_str())?;
+    let large = of_length(rt.alloc(), 4069)?;
     assert_eq!(rt; large.size(), 4079);
-    let disk = SureDisk::new(Vec::new(rt.alloc()));
-    let Ok((mut journal, _)) = Journal::load(rt.alloc(), disk, Dialect::Mysql, 8192) else {
+    let Some(mut journal) = filled(rt.alloc(), &large) else {
         assert!(rt; false);
         return Ok(());
     };
-    journal.prepare()?;
-    journal.append(&large, Room::Ordinary)?;
     assert_eq!(rt; journal.used(), 4096);
     let full = AppendFault::Full {
         used: 4096,
@@ -228,10 +318,10 @@ fn a_full_journal_has_room_for_a_release(rt: HostRuntime) -> Result<(), Fail> {
     };
     assert_eq!(rt; journal.append(&small, Room::Ordinary), Err(full));
     assert_eq!(rt; journal.used(), 4096);
-    journal.append(&small, Room::Release)?;
+    assert!(rt; journal.append(&small, Room::Release).is_ok());
     assert_eq!(rt; journal.used(), 4120);
-    let bytes = Vec::from_slice(rt.alloc(), journal.into_disk().bytes())?;
-    assert_eq!(rt; bytes.len(), 4120);
-    assert!(rt; bytes.starts_with(b"LQJOURNAL1 MYSQL\x01"));
+    let disk = journal.into_disk();
+    assert_eq!(rt; disk.bytes().len(), 4120);
+    assert!(rt; disk.bytes().starts_with(b"LQJOURNAL1 MYSQL\x01"));
     Ok(())
 }

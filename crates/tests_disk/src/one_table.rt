@@ -14,7 +14,6 @@ use std::alloc::Global;
 
 /// A look at a catalogue of one table, without constraints but a key. Of queries it answers the one
 /// for all of the table, asked by the program, and has no memory for others.
-#[derive(Drop)]
 pub struct OneTable {
     pub name: Name,
     pub columns: Items<Column>,
@@ -22,7 +21,33 @@ pub struct OneTable {
     pub rows: Items<Items<Value>>,
 }
 
+// Written out, so that each place that lets one go is one call.
+impl Drop for OneTable {
+    fn drop(self) {
+        let OneTable {
+            name,
+            columns,
+            key,
+            rows,
+        } = self;
+        drop(name);
+        drop(columns);
+        drop(key);
+        drop(rows);
+    }
+}
+
 impl OneTable {
+    pub fn with_rows(mut self, rows: Items<Items<Value>>) -> OneTable {
+        self.rows = rows;
+        self
+    }
+
+    pub fn with_key(mut self, key: Key) -> OneTable {
+        self.key = Some(key);
+        self
+    }
+
     fn whole(&self, alloc: Global) -> Result<Answered, NoMemory>
         ensures { IfOk result (λ answered. answered ≡ record { columns = length self.now.columns; rows = self.now.rows }) }
     {

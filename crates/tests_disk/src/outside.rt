@@ -8,18 +8,23 @@ use lq_outside::{
 use std::alloc::Global;
 use std::test::Fail;
 
+fn file(alloc: Global, path: &str, text: &str) -> Result<(Text, Items<u8>), Fail> {
+    let path = Text::new(alloc, path)?;
+    Ok((path, Items::from_slice(alloc, text.as_bytes())?))
+}
+
 // Three files in two folders, and one beside them.
 fn files(alloc: Global) -> Result<Items<(Text, Items<u8>)>, Fail> {
     let mut files = Items::new(alloc);
-    for (path, bytes) in [
+    for (path, text) in [
         ("db/2.sql", "two"),
         ("db/old/1.sql", "one"),
         ("dbs.sql", "beside"),
         ("/db/3.sql", "rooted"),
         ("db/2.sql", "hidden"),
     ] {
-        let path = Text::new(alloc, path)?;
-        files.push((path, Items::from_slice(alloc, bytes.as_bytes())?))?;
+        let made = file(alloc, path, text)?;
+        files.push(made)?;
     }
     Ok(files)
 }
@@ -65,9 +70,14 @@ fn files_are_found_and_listed(rt: HostRuntime) -> Result<(), Fail> {
     assert!(rt; lists(&mut sure, "", &["db/2.sql", "db/old/1.sql", "dbs.sql"]));
     assert!(rt; lists(&mut sure, "d", &[]));
     assert!(rt; lists(&mut sure, "db/2.sql", &[]));
+    Ok(())
+}
 
+#[test]
+fn files_fail_at_their_numbers(rt: HostRuntime) -> Result<(), Fail> {
+    let files = files(rt.alloc())?;
     let fail = Vec::from_slice(rt.alloc(), &[2, 3])?;
-    let mut some = MemFiles::new(rt.alloc(), files(rt.alloc())?, fail);
+    let mut some = MemFiles::new(rt.alloc(), files, fail);
     for (path, want) in [
         ("dbs.sql", "beside"),
         ("dbs.sql", "failed"),
@@ -80,18 +90,29 @@ fn files_are_found_and_listed(rt: HostRuntime) -> Result<(), Fail> {
     Ok(())
 }
 
+// One file of so many bytes.
+fn of_length(alloc: Global, path: &str, len: usize) -> Result<Items<(Text, Items<u8>)>, Fail> {
+    let path = Text::new(alloc, path)?;
+    let bytes = vec![in alloc; 7u8; len]?;
+    let mut files = Items::new(alloc);
+    files.push((path, Items::from_vec(bytes)))?;
+    Ok(files)
+}
+
+// Whether the file is read as a whole of so many bytes, or is too long.
+fn is_whole<F: Files>(files: &mut F, path: &str, len: usize) -> Option<bool> {
+    match files.read(path) {
+        Ok(Found::Bytes(bytes)) => { if bytes.len() == len { Some(true) } else { None } }
+        Ok(Found::TooLong) => Some(false),
+        _ => None,
+    }
+}
+
 #[test]
 fn files_have_at_most_16_mebibytes(rt: HostRuntime) -> Result<(), Fail> {
     for (len, whole) in [(16_777_216, true), (16_777_217, false)] {
-        let bytes = vec![in rt.alloc(); 7u8; len]?;
-        let mut files = Items::new(rt.alloc());
-        files.push((Text::new(rt.alloc(), "long")?, Items::from_vec(bytes)))?;
-        let mut files = SureFiles::new(rt.alloc(), files);
-        match files.read("long") {
-            Ok(Found::Bytes(bytes)) => assert!(rt; whole && bytes.len() == len, "{len}"),
-            Ok(Found::TooLong) => assert!(rt; !whole, "{len}"),
-            _ => assert!(rt; false, "{len}"),
-        }
+        let mut files = SureFiles::new(rt.alloc(), of_length(rt.alloc(), "long", len)?);
+        assert_eq!(rt; is_whole(&mut files, "long", len), Some(whole), "{len}");
     }
     Ok(())
 }
@@ -105,19 +126,34 @@ fn calls<D: Disk>(disk: &mut D) -> [bool; 4] {
     [wrote, synced, sized, read]
 }
 
+// A disk of two bytes, of which this call fails.
+fn failing(alloc: Global, call: u64) -> Result<MemDisk, Fail> {
+    let fail = Vec::from_slice(alloc, &[call])?;
+    Ok(MemDisk::new(Vec::from_slice(alloc, b"xy")?, fail))
+}
+
+// What is on the disk after one call of each kind, where the first of them may fail.
+fn left(first_fails: bool) -> &'static [u8] {
+    if first_fails { b"xy" } else { b"abcd" }
+}
+
 #[test]
 fn disks_fail_at_their_numbers(rt: HostRuntime) -> Result<(), Fail> {
     for n in 1..6u64 {
-        let fail = Vec::from_slice(rt.alloc(), &[n])?;
-        let mut disk = MemDisk::new(Vec::from_slice(rt.alloc(), b"xy")?, fail);
+        let mut disk = failing(rt.alloc(), n)?;
         assert_eq!(rt; calls(&mut disk), [n != 1, n != 2, n != 3, n != 4], "{n}");
-        let left: &[u8] = if n == 1 { b"xy" } else { b"abcd" };
-        assert_eq!(rt; disk.bytes(), left, "{n}");
+        assert_eq!(rt; disk.bytes(), left(n == 1), "{n}");
+    }
+    Ok(())
+}
 
+#[test]
+fn disks_fail_from_their_numbers_on(rt: HostRuntime) -> Result<(), Fail> {
+    for n in 1..6u64 {
         let whole = SureDisk::new(Vec::from_slice(rt.alloc(), b"xy")?);
         let mut fuse = Fuse::new(whole, n - 1);
         assert_eq!(rt; calls(&mut fuse), [n > 1, n > 2, n > 3, n > 4], "{n}");
-        assert_eq!(rt; fuse.into_inner().bytes(), left, "{n}");
+        assert_eq!(rt; fuse.into_inner().bytes(), left(n == 1), "{n}");
     }
     Ok(())
 }
@@ -239,7 +275,11 @@ fn pieces_are_written_whole(rt: HostRuntime) -> Result<(), Fail> {
     write_all(&mut sure, b"one ")?;
     write_all(&mut sure, b"piece")?;
     assert_eq!(rt; sure.bytes(), b"one piece".as_slice());
+    Ok(())
+}
 
+#[test]
+fn a_front_of_a_piece_is_written(rt: HostRuntime) -> Result<(), Fail> {
     for (n, front) in [(1, ""), (3, "he"), (5, "hell"), (6, "hello")] {
         let fail = Vec::from_slice(rt.alloc(), &[n])?;
         let mut bytes = ByteSink {

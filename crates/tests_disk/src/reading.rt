@@ -2,11 +2,11 @@ use crate::one_table::OneTable;
 use lq_base::{Dialect, Items, Kind, Lock, Name, Text, Tracked, Value};
 use lq_model::{Column, Key};
 use lq_track::{TrackFault, read_lock, read_rows};
-use std::alloc::Global;
+use std::alloc::{AllocError, Global};
 use std::test::Fail;
 
 /// What stands in a column of a row.
-#[derive(Clone, Copy, Debug)]
+#[derive(Clone, Copy)]
 enum Cell {
     Null,
     Int(i64),
@@ -56,7 +56,8 @@ fn column(alloc: Global, name: &str, kind: Kind, nullable: bool) -> Result<Colum
 fn columns(alloc: Global, defs: &[(&str, Kind, bool)]) -> Result<Items<Column>, Fail> {
     let mut columns = Items::new(alloc);
     for def in defs {
-        columns.push(column(alloc, def.0, def.1, def.2)?)?;
+        let column = column(alloc, def.0, def.1, def.2)?;
+        columns.push(column)?;
     }
     Ok(columns)
 }
@@ -74,7 +75,8 @@ fn value(alloc: Global, cell: Cell) -> Result<Value, Fail> {
 fn values(alloc: Global, cells: &[Cell]) -> Result<Items<Value>, Fail> {
     let mut values = Items::new(alloc);
     for cell in cells {
-        values.push(value(alloc, *cell)?)?;
+        let value = value(alloc, *cell)?;
+        values.push(value)?;
     }
     Ok(values)
 }
@@ -99,118 +101,190 @@ fn log_cells(id: &'static str, order: i64, exec: &'static str) -> [Cell; 14] {
     ]
 }
 
-fn log_of(alloc: Global, rows: Items<Items<Value>>) -> Result<OneTable, Fail> {
+// A table of this name and these columns, without key and rows.
+fn table_of(alloc: Global, name: &str, defs: &[(&str, Kind, bool)]) -> Result<OneTable, Fail> {
+    let name = Name::new(alloc, name)?;
+    let columns = columns(alloc, defs)?;
     Ok(OneTable {
-        name: Name::new(alloc, LOG)?,
-        columns: columns(alloc, &LOG_COLUMNS)?,
+        name,
+        columns,
         key: None,
-        rows,
+        rows: Items::new(alloc),
     })
+}
+
+fn log_of(alloc: Global, rows: Items<Items<Value>>) -> Result<OneTable, Fail> {
+    match table_of(alloc, LOG, &LOG_COLUMNS) {
+        Ok(table) => Ok(table.with_rows(rows)),
+        Err(fault) => {
+            drop(rows);
+            Err(fault)
+        }
+    }
 }
 
 fn key_of(alloc: Global, name: &str, column: &str) -> Result<Key, Fail> {
+    let name = Name::new(alloc, name)?;
+    let column = Name::new(alloc, column)?;
     let mut columns = Items::new(alloc);
-    columns.push(Name::new(alloc, column)?)?;
-    Ok(Key {
-        name: Name::new(alloc, name)?,
-        columns,
-    })
+    columns.push(column)?;
+    Ok(Key { name, columns })
+}
+
+// A lock table with a key of this name and of this column.
+fn keyed_lock(alloc: Global, name: &str, column: &str) -> Result<OneTable, Fail> {
+    let key = key_of(alloc, name, column)?;
+    Ok(table_of(alloc, LOCK, &LOCK_COLUMNS)?.with_key(key))
 }
 
 fn lock_of(alloc: Global, rows: Items<Items<Value>>) -> Result<OneTable, Fail> {
-    Ok(OneTable {
-        name: Name::new(alloc, LOCK)?,
-        columns: columns(alloc, &LOCK_COLUMNS)?,
-        key: Some(key_of(alloc, "pk_DATABASECHANGELOGLOCK", "ID")?),
-        rows,
-    })
+    match keyed_lock(alloc, "pk_DATABASECHANGELOGLOCK", "ID") {
+        Ok(table) => Ok(table.with_rows(rows)),
+        Err(fault) => {
+            drop(rows);
+            Err(fault)
+        }
+    }
 }
 
-fn push_or_null(line: &mut String, text: &Option<Text>) -> Result<(), Fail> {
+fn push_or_null(line: &mut String, text: &Option<Text>) -> Result<(), AllocError> {
     match text {
-        Some(text) => line.push_str(text.as_str())?,
-        None => line.push_str("null")?,
+        Some(text) => line.push_str(text.as_str()),
+        None => line.push_str("null"),
+    }
+}
+
+fn push_words(line: &mut String, texts: &[&Text]) -> Result<(), AllocError> {
+    for text in texts {
+        line.push_str(" ")?;
+        line.push_str(text.as_str())?;
     }
     Ok(())
 }
 
-fn push_row(alloc: Global, line: &mut String, row: &Tracked) -> Result<(), Fail> {
-    let (date, order) = (row.date, row.order);
-    line.push_str(format!(in alloc; "{order} {date}")?.as_str())?;
-    for text in [&row.id, &row.author, &row.filename] {
-        line.push_str(" ")?;
-        line.push_str(text.as_str())?;
-    }
+// How it ran, its checksum and its tag.
+fn push_run(line: &mut String, row: &Tracked) -> Result<(), AllocError> {
     line.push_str(" ")?;
     line.push_str(row.exec.text())?;
     line.push_str(" ")?;
     push_or_null(line, &row.md5sum)?;
     line.push_str(" ")?;
-    push_or_null(line, &row.tag)?;
-    for text in [
-        &row.description,
-        &row.comments,
-        &row.tool,
-        &row.contexts,
-        &row.labels,
-        &row.deployment,
-    ] {
-        line.push_str(" ")?;
-        line.push_str(text.as_str())?;
+    push_or_null(line, &row.tag)
+}
+
+fn push_row(line: &mut String, row: &Tracked) -> Result<(), AllocError> {
+    let (date, order) = (row.date, row.order);
+    write!(line, "{order} {date}")?;
+    push_words(line, &[&row.id, &row.author, &row.filename])?;
+    push_run(line, row)?;
+    push_words(
+        line,
+        &[
+            &row.description,
+            &row.comments,
+            &row.tool,
+            &row.contexts,
+            &row.labels,
+            &row.deployment,
+        ],
+    )?;
+    line.push_str(";")
+}
+
+fn push_rows(line: &mut String, rows: &[Tracked]) -> Result<(), AllocError> {
+    for row in rows {
+        push_row(line, row)?;
     }
-    line.push_str(";")?;
     Ok(())
+}
+
+fn push_read(alloc: Global, line: &mut String, look: &OneTable) -> Result<(), AllocError> {
+    match read_rows(alloc, Dialect::Postgresql, look) {
+        Ok(rows) => push_rows(line, rows.as_slice()),
+        Err(TrackFault::NotTables) => line.push_str("not the tables"),
+        Err(TrackFault::OutOfMemory) => line.push_str("out of memory"),
+    }
 }
 
 // What is read of DATABASECHANGELOG, as one line.
 fn rows_read(alloc: Global, look: &OneTable) -> Result<String, Fail> {
     let mut line = String::new(alloc);
-    match read_rows(alloc, Dialect::Postgresql, look) {
-        Ok(rows) => {
-            for row in rows.as_slice() {
-                push_row(alloc, &mut line, row)?;
-            }
-        }
-        Err(TrackFault::NotTables) => line.push_str("not the tables")?,
-        Err(TrackFault::OutOfMemory) => line.push_str("out of memory")?,
-    }
+    push_read(alloc, &mut line, look)?;
     Ok(line)
 }
 
-fn lock_text(alloc: Global, lock: &Lock) -> Result<String, Fail> {
-    let mut line = String::new(alloc);
-    line.push_str(if lock.locked { "locked " } else { "free " })?;
-    match lock.granted {
-        Some(ms) => line.push_str(format!(in alloc; "{ms} ")?.as_str())?,
-        None => line.push_str("null ")?,
+fn push_granted(line: &mut String, granted: Option<i64>) -> Result<(), AllocError> {
+    match granted {
+        Some(ms) => write!(line, "{ms} "),
+        None => line.push_str("null "),
     }
-    push_or_null(&mut line, &lock.by)?;
-    Ok(line)
+}
+
+fn push_lock(line: &mut String, lock: &Lock) -> Result<(), AllocError> {
+    line.push_str(if lock.locked { "locked " } else { "free " })?;
+    push_granted(line, lock.granted)?;
+    push_or_null(line, &lock.by)
+}
+
+fn push_lock_read(
+    alloc: Global,
+    line: &mut String,
+    dialect: Dialect,
+    look: &OneTable,
+) -> Result<(), AllocError> {
+    match read_lock(alloc, dialect, look) {
+        Ok(lock) => push_lock(line, &lock),
+        Err(fault) => write!(line, "{fault}"),
+    }
 }
 
 // What is read of DATABASECHANGELOGLOCK, as one line.
 fn lock_read(alloc: Global, dialect: Dialect, look: &OneTable) -> Result<String, Fail> {
-    match read_lock(alloc, dialect, look) {
-        Ok(lock) => lock_text(alloc, &lock),
-        Err(fault) => Ok(format!(in alloc; "{fault}")?),
-    }
+    let mut line = String::new(alloc);
+    push_lock_read(alloc, &mut line, dialect, look)?;
+    Ok(line)
 }
 
 const FIRST: &str =
     "1 1000 1 ann db/e.json EXECUTED P1:d751713988987e9331980363e24189ce v1 createTable first profile-1 test a,b 0000001000;";
 
+fn rows_of(alloc: Global, cells: &[[Cell; 14]]) -> Result<Items<Items<Value>>, Fail> {
+    let mut rows = Items::new(alloc);
+    for row in cells {
+        let values = values(alloc, row)?;
+        rows.push(values)?;
+    }
+    Ok(rows)
+}
+
+// What is read of DATABASECHANGELOG with these rows.
+fn log_read(alloc: Global, rows: Items<Items<Value>>) -> Result<String, Fail> {
+    let table = log_of(alloc, rows)?;
+    rows_read(alloc, &table)
+}
+
+// What is read of a row in which one cell is another one.
+fn row_read(alloc: Global, place: usize, cell: Cell) -> Result<String, Fail> {
+    let mut cells = log_cells("1", 1, "EXECUTED");
+    if let Some(held) = cells.get_mut(place) {
+        *held = cell;
+    }
+    let rows = rows_of(alloc, &[cells])?;
+    log_read(alloc, rows)
+}
+
 #[test]
 fn rows_come_in_run_order(rt: HostRuntime) -> Result<(), Fail> {
     let alloc = rt.alloc();
-    let mut rows = Items::new(alloc);
-    for (id, order, exec) in [
-        ("c", 30, "RERAN"),
-        ("a", 1, "EXECUTED"),
-        ("b", 2, "MARK_RAN"),
-    ] {
-        rows.push(values(alloc, &log_cells(id, order, exec))?)?;
-    }
-    let line = rows_read(alloc, &log_of(alloc, rows)?)?;
+    let rows = rows_of(
+        alloc,
+        &[
+            log_cells("c", 30, "RERAN"),
+            log_cells("a", 1, "EXECUTED"),
+            log_cells("b", 2, "MARK_RAN"),
+        ],
+    )?;
+    let line = log_read(alloc, rows)?;
     let want =
         "1 1000 a ann db/e.json EXECUTED P1:d751713988987e9331980363e24189ce v1 createTable first profile-1 test a,b 0000001000;2 1000 b ann db/e.json MARK_RAN P1:d751713988987e9331980363e24189ce v1 createTable first profile-1 test a,b 0000001000;30 1000 c ann db/e.json RERAN P1:d751713988987e9331980363e24189ce v1 createTable first profile-1 test a,b 0000001000;";
     assert_eq!(rt; line.as_str(), want);
@@ -219,7 +293,6 @@ fn rows_come_in_run_order(rt: HostRuntime) -> Result<(), Fail> {
 
 #[test]
 fn each_value_of_a_row_is_tested(rt: HostRuntime) -> Result<(), Fail> {
-    let alloc = rt.alloc();
     let refused = "not the tables";
     for (place, cell, want) in [
         (0, Cell::Text("1"), FIRST),
@@ -244,13 +317,7 @@ fn each_value_of_a_row_is_tested(rt: HostRuntime) -> Result<(), Fail> {
         (9, Cell::Bool(true), refused),
         (13, Cell::Null, refused),
     ] {
-        let mut cells = log_cells("1", 1, "EXECUTED");
-        if let Some(held) = cells.get_mut(place) {
-            *held = cell;
-        }
-        let mut rows = Items::new(alloc);
-        rows.push(values(alloc, &cells)?)?;
-        let line = rows_read(alloc, &log_of(alloc, rows)?)?;
+        let line = row_read(rt.alloc(), place, cell)?;
         assert_eq!(rt; line.as_str(), want, "{place}");
     }
     Ok(())
@@ -262,12 +329,7 @@ fn read_with(alloc: Global, place: usize, def: (&'static str, Kind, bool)) -> Re
     if let Some(held) = defs.get_mut(place) {
         *held = def;
     }
-    let table = OneTable {
-        name: Name::new(alloc, LOG)?,
-        columns: columns(alloc, &defs)?,
-        key: None,
-        rows: Items::new(alloc),
-    };
+    let table = table_of(alloc, LOG, &defs)?;
     rows_read(alloc, &table)
 }
 
@@ -287,17 +349,14 @@ fn each_column_is_tested(rt: HostRuntime) -> Result<(), Fail> {
 }
 
 fn keyed_log(alloc: Global) -> Result<OneTable, Fail> {
-    Ok(OneTable {
-        name: Name::new(alloc, LOG)?,
-        columns: columns(alloc, &LOG_COLUMNS)?,
-        key: Some(key_of(alloc, "k", "ID")?),
-        rows: Items::new(alloc),
-    })
+    let key = key_of(alloc, "k", "ID")?;
+    Ok(table_of(alloc, LOG, &LOG_COLUMNS)?.with_key(key))
 }
 
 #[test]
 fn a_log_has_no_key(rt: HostRuntime) -> Result<(), Fail> {
-    let line = rows_read(rt.alloc(), &keyed_log(rt.alloc())?)?;
+    let table = keyed_log(rt.alloc())?;
+    let line = rows_read(rt.alloc(), &table)?;
     assert_eq!(rt; line.as_str(), "not the tables");
     Ok(())
 }
@@ -311,14 +370,31 @@ fn a_missing_log_has_no_rows(rt: HostRuntime) -> Result<(), Fail> {
 
 #[test]
 fn a_missing_lock_is_free(rt: HostRuntime) -> Result<(), Fail> {
-    let line = lock_read(rt.alloc(), Dialect::Mysql, &keyed_log(rt.alloc())?)?;
+    let table = keyed_log(rt.alloc())?;
+    let line = lock_read(rt.alloc(), Dialect::Mysql, &table)?;
     assert_eq!(rt; line.as_str(), "free null null");
     Ok(())
 }
 
+// So many rows of these cells.
+fn times(alloc: Global, cells: &[Cell], count: usize) -> Result<Items<Items<Value>>, Fail> {
+    let mut rows = Items::new(alloc);
+    for _ in 0..count {
+        let values = values(alloc, cells)?;
+        rows.push(values)?;
+    }
+    Ok(rows)
+}
+
+// What is read of DATABASECHANGELOGLOCK with so many rows of these cells.
+fn row_times(alloc: Global, cells: &[Cell], count: usize) -> Result<String, Fail> {
+    let rows = times(alloc, cells, count)?;
+    let table = lock_of(alloc, rows)?;
+    lock_read(alloc, Dialect::Postgresql, &table)
+}
+
 #[test]
 fn the_lock_is_read(rt: HostRuntime) -> Result<(), Fail> {
-    let alloc = rt.alloc();
     let taken = [
         Cell::Int(1),
         Cell::Bool(true),
@@ -336,19 +412,20 @@ fn the_lock_is_read(rt: HostRuntime) -> Result<(), Fail> {
         (second, 1, "not the tracking tables"),
         (wrong, 1, "not the tracking tables"),
     ] {
-        let mut rows = Items::new(alloc);
-        for _ in 0..count {
-            rows.push(values(alloc, &cells)?)?;
-        }
-        let line = lock_read(alloc, Dialect::Postgresql, &lock_of(alloc, rows)?)?;
+        let line = row_times(rt.alloc(), &cells, count)?;
         assert_eq!(rt; line.as_str(), want, "{count}");
     }
     Ok(())
 }
 
+// What is read of a lock table with a key of this name and of this column.
+fn key_read(alloc: Global, dialect: Dialect, name: &str, column: &str) -> Result<String, Fail> {
+    let table = keyed_lock(alloc, name, column)?;
+    lock_read(alloc, dialect, &table)
+}
+
 #[test]
 fn the_lock_has_its_key(rt: HostRuntime) -> Result<(), Fail> {
-    let alloc = rt.alloc();
     for (dialect, name, column, want) in [
         (
             Dialect::Postgresql,
@@ -370,14 +447,16 @@ fn the_lock_has_its_key(rt: HostRuntime) -> Result<(), Fail> {
             "not the tracking tables",
         ),
     ] {
-        let mut table = lock_of(alloc, Items::new(alloc))?;
-        table.key = Some(key_of(alloc, name, column)?);
-        let line = lock_read(alloc, dialect, &table)?;
+        let line = key_read(rt.alloc(), dialect, name, column)?;
         assert_eq!(rt; line.as_str(), want, "{name}");
     }
-    let mut without = lock_of(alloc, Items::new(alloc))?;
-    without.key = None;
-    let line = lock_read(alloc, Dialect::Postgresql, &without)?;
+    Ok(())
+}
+
+#[test]
+fn the_lock_is_not_without_a_key(rt: HostRuntime) -> Result<(), Fail> {
+    let without = table_of(rt.alloc(), LOCK, &LOCK_COLUMNS)?;
+    let line = lock_read(rt.alloc(), Dialect::Postgresql, &without)?;
     assert_eq!(rt; line.as_str(), "not the tracking tables");
     Ok(())
 }

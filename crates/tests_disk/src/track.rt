@@ -1,7 +1,7 @@
 ghost use Rattle.std.specs.Prelude.{◌≤◌, IfOk};
 ghost use Rattle.lq_base.specs.Moment.{IsMoment};
 
-use lq_base::{Dialect, Exec, Identity, Kind, Literal, Name, Text, Tracked};
+use lq_base::{Dialect, Exec, Identity, Kind, Literal, Name, NoMemory, Text, Tracked, both};
 use lq_model::{ColumnDef, Key, Operand, Statement, Test};
 use lq_track::{
     Ran, again_row, delete_row, fill_sum, free_lock, insert_row, make_tables, mark_lock, row_of,
@@ -189,12 +189,10 @@ fn written(alloc: Global, statement: &Statement) -> Result<String, AllocError> {
     Ok(out)
 }
 
-fn identity(alloc: Global) -> Result<Identity, Fail> {
-    Ok(Identity {
-        file: Text::new(alloc, "db/e.json")?,
-        id: Text::new(alloc, "1")?,
-        author: Text::new(alloc, "ann")?,
-    })
+fn identity(alloc: Global) -> Result<Identity, NoMemory> {
+    let of = both(Text::new(alloc, "1"), Text::new(alloc, "ann"));
+    let (file, (id, author)) = both(Text::new(alloc, "db/e.json"), of)?;
+    Ok(Identity { file, id, author })
 }
 
 // The row of a changeset without changes, of which an update at the reading 1000 makes the first row.
@@ -203,10 +201,9 @@ fn row(alloc: Global, exec: Exec, comments: &str, reading: u64) -> Result<Tracke
     requires { reading ≤ 253402300799999 }
     ensures { IfOk result (λ row. IsMoment row.date) }
 {
-    let identity = identity(alloc)?;
-    let checksum = Text::new(alloc, "P1:d751713988987e9331980363e24189ce")?;
-    let empty = Text::new(alloc, "")?;
-    let comments = Text::new(alloc, comments)?;
+    let sum = Text::new(alloc, "P1:d751713988987e9331980363e24189ce");
+    let texts = both(sum, both(Text::new(alloc, ""), Text::new(alloc, comments)));
+    let (identity, (checksum, (empty, comments))) = both(identity(alloc), texts)?;
     Ok(row_of(
         alloc,
         Ran {
@@ -224,6 +221,21 @@ fn row(alloc: Global, exec: Exec, comments: &str, reading: u64) -> Result<Tracke
     )?)
 }
 
+fn is_written(alloc: Global, statement: &Statement, want: &str) -> Result<bool, AllocError> {
+    let text = written(alloc, statement)?;
+    Ok(text.as_str() == want)
+}
+
+// Whether these statements make the tables.
+fn makes(alloc: Global, dialect: Dialect, wanted: &[&str]) -> Result<bool, Fail> {
+    let made = make_tables(alloc, dialect)?;
+    let mut all = made.len() == wanted.len();
+    for (statement, want) in made.as_slice().iter().zip(wanted.iter()) {
+        all = is_written(alloc, statement, want)? && all;
+    }
+    Ok(all)
+}
+
 #[test]
 fn the_tables_are_made(rt: HostRuntime) -> Result<(), Fail> {
     let mut wanted = [
@@ -232,11 +244,7 @@ fn the_tables_are_made(rt: HostRuntime) -> Result<(), Fail> {
         "INSERT INTO \"DATABASECHANGELOGLOCK\" (\"ID\", \"LOCKED\", \"LOCKGRANTED\", \"LOCKEDBY\") VALUES (1, FALSE, NULL, NULL)",
     ];
     for dialect in [Dialect::Postgresql, Dialect::Mysql] {
-        let made = make_tables(rt.alloc(), dialect)?;
-        assert_eq!(rt; made.len(), 3);
-        for (statement, want) in made.as_slice().iter().zip(wanted.iter()) {
-            assert_eq!(rt; written(rt.alloc(), statement)?.as_str(), *want);
-        }
+        assert!(rt; makes(rt.alloc(), dialect, &wanted)?);
         wanted[1] =
             "CREATE TABLE \"DATABASECHANGELOGLOCK\" (\"ID\" INTEGER NOT NULL, \"LOCKED\" BOOLEAN NOT NULL, \"LOCKGRANTED\" TIMESTAMP, \"LOCKEDBY\" TEXT, CONSTRAINT \"PRIMARY\" PRIMARY KEY (\"ID\"))";
     }
@@ -346,13 +354,18 @@ fn the_lock_is_written(rt: HostRuntime) -> Result<(), Fail> {
     Ok(())
 }
 
+fn repeated(alloc: Global, character: &str, count: usize) -> Result<String, AllocError> {
+    let mut text = String::new(alloc);
+    for _ in 0..count {
+        text.push_str(character)?;
+    }
+    Ok(text)
+}
+
 #[test]
 fn long_comments_are_cut(rt: HostRuntime) -> Result<(), Fail> {
     for (character, count, left) in [("a", 255, 255), ("a", 256, 255), ("\u{20ac}", 300, 765)] {
-        let mut comments = String::new(rt.alloc());
-        for _ in 0..count {
-            comments.push_str(character)?;
-        }
+        let comments = repeated(rt.alloc(), character, count)?;
         let row = row(rt.alloc(), Exec::Executed, comments.as_str(), 1000)?;
         let kept = row.comments.as_str();
         assert_eq!(rt; kept.len(), left);

@@ -1,6 +1,7 @@
 use crate::rows::{rows, text};
 use lq_base::{Target, Tracked};
-use lq_plan::{greatest, suffix};
+use lq_kept::suffix;
+use lq_plan::greatest;
 use std::alloc::Global;
 use std::process::Abort;
 

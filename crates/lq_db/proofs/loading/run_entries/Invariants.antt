@@ -1,5 +1,6 @@
 use Rattle.std.proofs.Common.{◌≡◌, drop}
-use Rattle.lq_db.specs.Load.{IsAt, folded}
+use Rattle.lq_db.specs.Load.{IsAt}
+use Rattle.lq_entries.specs.Load.{folded}
 use Rattle.lq_db.proofs.loading.run_entries.Given as goal
 
 abbrev pub invariant-loop-entry : goal.invariant-loop-entry

@@ -1,9 +1,9 @@
 use Rattle.std.proofs.Common.{◌≡◌, ◌+◌, List, ℕ, Bor, drop, Some, subst, sym, ◌∙◌, ap}
 use Rattle.std.proofs.lemmas.List.{take_rest}
-use Rattle.lq_journal.specs.declared.entry.Entry.{Entry}
-use Rattle.lq_journal.specs.Body.{texts_of}
+use Rattle.lq_frames.specs.declared.entry.Entry.{Entry}
+use Rattle.lq_frames.specs.Body.{texts_of}
 use Rattle.lq_journal.specs.Reading.{IsNext}
-use Rattle.lq_journal.proofs.Texts.{some_is}
+use Rattle.lq_frames.proofs.Texts.{some_is}
 use Rattle.lq_journal.proofs.Entries.{is_next}
 use Rattle.lq_journal.proofs.reading.next_entry.Goals as goal
 

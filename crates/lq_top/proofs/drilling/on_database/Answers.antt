@@ -3,7 +3,8 @@ use Rattle.std.proofs.lemmas.List.{length-map}
 use Rattle.std.specs.List.{All}
 use Rattle.std.specs.Prelude.{Err, length, ◌≤◌}
 use Rattle.lq_commands.specs.Who.{clean}
-use Rattle.lq_db.specs.Db.{begun_in, crashes, disk_in, engine_in, state}
+use Rattle.lq_session.specs.Session.{begun_in}
+use Rattle.lq_db.specs.Db.{crashes, disk_in, engine_in, state}
 use Rattle.lq_players.specs.AnyCommand.{IsUnstarted}
 use Rattle.lq_tell.specs.declared.status.Status.TheVariants as status
 use Rattle.lq_top.proofs.DrillEnds.{memory_drilled, played_drilled}

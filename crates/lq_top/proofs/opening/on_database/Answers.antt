@@ -3,7 +3,7 @@ use Rattle.std.specs.Prelude.{Err, IfSome, Ok, ◌≡◌}
 use Rattle.lq_cli.specs.declared.line.Job.TheVariants as job
 use Rattle.lq_commands.specs.Stamp.{stamp_of}
 use Rattle.lq_db.specs.Db.{IsNew, disk_in, engine_in, state}
-use Rattle.lq_db.specs.Load.{catalogue_of}
+use Rattle.lq_entries.specs.Load.{catalogue_of}
 use Rattle.lq_store.specs.Executor.{kept}
 use Rattle.lq_top.proofs.OnDatabases.{memory_worked, worked}
 use Rattle.lq_top.proofs.WithClock.{given_dialect, given_is, given_read, given_ready, given_short, given_sql}

@@ -1,7 +1,7 @@
 use Rattle.std.proofs.Common.{◌∙◌, sym, ap}
-use Rattle.lq_db.specs.Log.{log_of}
+use Rattle.lq_entries.specs.Log.{log_of}
 use Rattle.lq_journal.specs.State.{disk_of}
-use Rattle.lq_db.proofs.Commits.{committed_ok, failed, held_ok, open_is, written_is}
+use Rattle.lq_db.proofs.Commits.{committed_ok, failed, held_ok, open_is, uncommitted, uncommitted_held, written_is}
 use Rattle.lq_db.proofs.db.DbStore.commit.Goals as goal
 
 pub returns-in-Ok-clause-does : goal.returns-in-Ok-clause-does
@@ -9,7 +9,7 @@ returns-in-Ok-clause-does g c =
     let begun = sym c.take.ensures.value ∙ c.in-Some.is in
     let begun_is = open_is _ (g.E.Executor.held c.args.self.now.engine) _ _ _ begun (c.requires.valid.lives c.requires.live).is_held.begun_is in
     let does = c.in-Ok.ensures.does in
-    committed_ok _ (g.E.Executor.held c.args.self.now.engine) (g.E.Executor.held c.forget.new.self) _ _ _ (log_of (g.D.Disk.told (disk_of c.args.self.now.journal)) c.args.self.now.journal) (log_of (g.D.Disk.told (disk_of c.append_open.new.to)) c.append_open.new.to) _ begun c.take.ensures.after begun_is.some c.forget.ensures does.0 does.1
+    committed_ok _ (g.E.Executor.held c.args.self.now.engine) (g.E.Executor.held c.commit.new.engine) _ _ _ (log_of (g.D.Disk.told (disk_of c.args.self.now.journal)) c.args.self.now.journal) (log_of (g.D.Disk.told (disk_of c.commit.new.journal)) c.commit.new.journal) _ begun c.take.ensures.after begun_is.some c.in-Ok.ensures.kept does.0 does.1
 
 pub returns-in-Ok-clause-valid : goal.returns-in-Ok-clause-valid
 returns-in-Ok-clause-valid g c =
@@ -23,7 +23,7 @@ returns-in-Ok-clause-valid g c =
         whole = c.in-Ok.ensures.whole;
         sql_is = is.sql_is;
         journal_is = journal;
-        is_held = held_ok _ (g.E.Executor.held c.args.self.now.engine) (g.E.Executor.held c.forget.new.self) _ _ _ _ _ _ _ begun c.take.ensures.after c.forget.ensures (ap (λ l. l.entries) log) c.keep.ensures is.is_held;
+        is_held = held_ok _ (g.E.Executor.held c.args.self.now.engine) (g.E.Executor.held c.commit.new.engine) _ _ _ _ _ _ _ begun c.take.ensures.after c.in-Ok.ensures.kept (ap (λ l. l.entries) log) c.in-Ok.ensures.lock is.is_held;
       };
     }
 
@@ -37,7 +37,7 @@ pub returns-in-Err-Disk-clause-does : goal.returns-in-Err-Disk-clause-does
 returns-in-Err-Disk-clause-does g c =
     let begun = sym c.take.ensures.value ∙ c.in-Some.is in
     let begun_is = open_is _ (g.E.Executor.held c.args.self.now.engine) _ _ _ begun (c.requires.valid.lives c.requires.live).is_held.begun_is in
-    failed _ _ _ _ _ _ _ (log_of (g.D.Disk.told (disk_of c.args.self.now.journal)) c.args.self.now.journal) (log_of (g.D.Disk.told (disk_of c.append_open.new.to)) c.append_open.new.to) _ (written_is (g.E.Executor.held c.args.self.now.engine) _ _ _ begun begun_is.some) (rw c.in-Err-Disk.field-0-is at c.in-Err-Disk.ensures.does)
+    failed _ _ _ _ _ _ _ (log_of (g.D.Disk.told (disk_of c.args.self.now.journal)) c.args.self.now.journal) (log_of (g.D.Disk.told (disk_of c.commit.new.journal)) c.commit.new.journal) _ (written_is (g.E.Executor.held c.args.self.now.engine) _ _ _ begun begun_is.some) (rw c.in-Err-Disk.field-0-is at c.in-Err-Disk.ensures.does)
 
 pub returns-in-Err-Disk-clause-crash : goal.returns-in-Err-Disk-clause-crash
 returns-in-Err-Disk-clause-crash g c =
@@ -55,3 +55,26 @@ pub returns-in-Err-Disk-clause-valid : goal.returns-in-Err-Disk-clause-valid
 returns-in-Err-Disk-clause-valid g c =
     let cut = rw c.in-Err-Disk.field-0-is at c.in-Err-Disk.ensures.does in
     record { journal_is = cut.dialect_is ∙ c.requires.valid.journal_is; lives = λ live. cc }
+
+pub returns-in-Err-Full-clause-does : goal.returns-in-Err-Full-clause-does
+returns-in-Err-Full-clause-does g c =
+    let begun = sym c.take.ensures.value ∙ c.in-Some.is in
+    let begun_is = open_is _ (g.E.Executor.held c.args.self.now.engine) _ _ _ begun (c.requires.valid.lives c.requires.live).is_held.begun_is in
+    uncommitted _ (g.E.Executor.held c.args.self.now.engine) (g.E.Executor.held c.commit.new.engine) _ _ _ _ _ (log_of (g.D.Disk.told (disk_of c.args.self.now.journal)) c.args.self.now.journal) (log_of (g.D.Disk.told (disk_of c.commit.new.journal)) c.commit.new.journal) _ _ _ begun begun_is.some (rw c.in-Err-Full.field-0-is at c.in-Err-Full.ensures.does) c.in-Err-Full.ensures.back
+
+pub returns-in-Err-Full-clause-valid : goal.returns-in-Err-Full-clause-valid
+returns-in-Err-Full-clause-valid g c =
+    let is = c.requires.valid.lives c.requires.live in
+    let begun = sym c.take.ensures.value ∙ c.in-Some.is in
+    let same = rw c.in-Err-Full.field-0-is at c.in-Err-Full.ensures.does in
+    let log = same.1.1.1 in
+    let journal = ap (λ l. l.dialect) log ∙ is.journal_is in
+    record {
+      journal_is = journal;
+      lives = λ live. record {
+        whole = rw c.in-Err-Full.field-0-is at c.in-Err-Full.ensures.whole;
+        sql_is = is.sql_is;
+        journal_is = journal;
+        is_held = uncommitted_held _ (g.E.Executor.held c.args.self.now.engine) (g.E.Executor.held c.commit.new.engine) _ _ _ _ _ _ _ begun (ap (λ l. l.entries) log) c.in-Err-Full.ensures.back is.is_held;
+      };
+    }

@@ -1,11 +1,11 @@
 use Rattle.std.proofs.Common.{◌≡◌, ◌∙◌, true, refl, sym, ap}
 use Rattle.lq_journal.specs.State.{disk_of}
 use Rattle.lq_db.specs.Db.{lives}
-use Rattle.lq_db.specs.Log.{log_of}
+use Rattle.lq_entries.specs.Log.{log_of}
 use Rattle.lq_db.proofs.Commits.{open_is}
 use Rattle.lq_db.proofs.Executed.{taken_held}
 use Rattle.lq_db.proofs.RanItself.{itself_held, itself_written, ran_itself, same_opening, whole_lives}
-use Rattle.lq_db.proofs.Moments.{stood}
+use Rattle.lq_entries.proofs.Moments.{stood}
 use Rattle.lq_db.proofs.db.DbStore.execute.Goals as goal
 
 pub returns-clause-valid : goal.returns-clause-valid

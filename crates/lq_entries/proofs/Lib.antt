@@ -1,0 +1,4 @@
+pub mod Both
+pub mod Each
+pub mod Logs
+pub mod Moments

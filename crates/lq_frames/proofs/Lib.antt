@@ -1,0 +1,4 @@
+pub mod Appended
+pub mod Frames
+pub mod Numbers
+pub mod Texts

@@ -1,0 +1,5 @@
+pub mod Body
+pub mod Entry
+pub mod Frames
+pub mod Journal
+pub mod State

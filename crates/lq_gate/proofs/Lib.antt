@@ -1,0 +1,4 @@
+pub mod Crash
+pub mod Gated
+pub mod Gates
+pub mod Written
