@@ -3,3 +3,4 @@ pub mod Levels
 pub mod StatedLemmas
 pub mod ToldLemmas
 pub mod TrackingNames
+mod EachLemmas

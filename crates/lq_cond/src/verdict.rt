@@ -22,7 +22,10 @@ fn each_told<K: Look>(
 {
     let mut all = Items::new(alloc);
     for cond in conds {
-        all = with_told(all, check(alloc, cond, dialect, look, rows))?;
+        match with_told(all, check(alloc, cond, dialect, look, rows)) {
+            Ok(more) => all = more,
+            Err(fault) => return Err(fault),
+        }
     }
     Ok(all)
 }
