@@ -6,7 +6,8 @@ use lq_base::{Dialect, KindFault};
 use lq_contents::tree_of;
 use lq_kinds::here_at;
 use lq_model::SqlText;
-use lq_sources::{Format, Gather, What};
+use lq_paths::Format;
+use lq_sources::{Gather, What};
 use lq_tree::{Node, unknown};
 use std::alloc::Global;
 

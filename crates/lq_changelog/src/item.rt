@@ -3,7 +3,7 @@ ghost use Rattle.lq_base.specs.Options.{if_there};
 ghost use Rattle.lq_kinds.specs.Dialects.{is_read_for};
 ghost use Rattle.lq_kinds.specs.Label.{is_label};
 ghost use Rattle.lq_sources.specs.Answers.{IsMade};
-ghost use Rattle.lq_sources.specs.Paths.{format_of};
+ghost use Rattle.lq_paths.specs.Paths.{format_of};
 ghost use Rattle.lq_changelog.specs.Gathers.{line_of, reaction_in, set_by, set_in, sql_set, tree_set, what_at};
 ghost use Rattle.lq_changelog.specs.ShortTexts.{HasShortTexts};
 
@@ -14,7 +14,8 @@ use lq_cond::Reaction;
 use lq_contents::own_reaction;
 use lq_kinds::{ChangeSet, SetFault, is_label};
 use lq_model::SqlText;
-use lq_sources::{Format, What, entry_of, format_of};
+use lq_paths::{Format, format_of};
+use lq_sources::{What, entry_of};
 use lq_tree::{Node, bad_key, placed, placed_list};
 use std::alloc::Global;
 

@@ -5,7 +5,8 @@ use Rattle.std.specs.List.{list_all, list_any}
 use Rattle.clap.specs.Walk.{Rule, Text, is_early_multiple}
 use Rattle.clap.specs.Simple.{App, filled_from, with_rule}
 use Rattle.clap.specs.Faults.{is_simple_and_free}
-use Rattle.lq_cli.specs.Options.{option, define, define_rules, rules_of, command_of}
+use Rattle.lq_cli.specs.Options.{define_rules, rules_of, command_of}
+use Rattle.lq_option.specs.Rules.{option, define}
 use Rattle.lq_cli.specs.Table.{takes}
 
 pub command_of-more : (rules : List Rule) (r : Rule) → with_rule (command_of rules) r ≡ command_of (rules ++ r ∷ [])

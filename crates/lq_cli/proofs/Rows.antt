@@ -4,7 +4,8 @@ use Rattle.clap.proofs.WalkLemmas.{first_value-rows, raw_values-rows}
 use Rattle.clap.specs.Matches.{first_value, matched_of, raw_values}
 use Rattle.clap.specs.Walk.{Row, Text, all_of, first_of, rows_of}
 use Rattle.clap.specs.declared.parser.matches.Found.{Found}
-use Rattle.lq_cli.specs.Options.{define_id, definitions, value}
+use Rattle.lq_cli.specs.Options.{definitions, value}
+use Rattle.lq_option.specs.Rules.{define_id}
 
 pub value_is : (f : Found) (given : List Row) (name : Text) → rows_of f ≡ given → first_value f name ≡ value given name
 unfolding value

@@ -2,22 +2,11 @@
 use Rattle.std.specs.Prelude.{Bool, true, false, ◌==◌, ◌&&◌, ◌||◌, not, List, [], ◌∷◌, ◌++◌, map, Option, None, Some, if◌then◌else◌, codes}
 use Rattle.std.specs.List.{list_all}
 use Rattle.clap.specs.Walk.{Row, Rule, Text, all_of, first_of}
-use Rattle.clap.specs.Simple.{App, new_shape, new_rule, matches_of}
+use Rattle.clap.specs.Simple.{App, new_shape, matches_of}
 use Rattle.clap.specs.Kinds.{Kinds}
 use Rattle.clap.specs.Faults.{fault_of}
-use Rattle.clap.specs.declared.builder.action.ArgAction.TheVariants.{Append}
+use Rattle.lq_option.specs.Rules.{define, define_id, option}
 use Rattle.lq_cli.specs.Table.{Form}
-
--- `--name=value` or `--name value`
-abbrev pub option : Bool → Text → Rule
-option required name = record (new_rule name) { long = Some name; required = required }
-
-abbrev pub define_id : Text
-define_id = codes "define"
-
--- `-Dname=value`, any number of times
-abbrev pub define : Rule
-define = record (new_rule define_id) { short = Some 68; action = Some Append }
 
 abbrev pub define_rules : Bool → List Rule
 define_rules true = define ∷ []

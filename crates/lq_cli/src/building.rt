@@ -1,11 +1,12 @@
 ghost use Rattle.std.specs.Prelude.{◌≡◌, IfOk, [], map, true, false};
 ghost use Rattle.clap.specs.Simple.{app_of, with_rule};
-ghost use Rattle.clap.specs.Walk.{rule_of};
-ghost use Rattle.lq_cli.specs.Options.{command_of, define as define_rule, option as option_rule, rules_of};
+ghost use Rattle.lq_cli.specs.Options.{command_of, rules_of};
 ghost use Rattle.lq_cli.specs.Table.{takes};
+ghost use Rattle.lq_option.specs.Rules.{option as option_rule};
 
 use crate::form::Form;
-use clap::{Arg, ArgAction, Command};
+use clap::Command;
+use lq_option::{define, option};
 use std::alloc::{AllocError, Global};
 
 /// A command that takes the options of a form.
@@ -45,20 +46,4 @@ fn with_option<'a>(
 {
     let option = option(alloc, name, required);
     command.arg(option)
-}
-
-fn option<'a>(alloc: Global, name: &'a str, required: bool) -> Arg<'a>
-    ensures rule { rule_of result ≡ option_rule required name.entry.now }
-    ensures local { result.global ≡ false }
-{
-    Arg::new(alloc, name).long(name).required(required)
-}
-
-fn define<'a>(alloc: Global) -> Arg<'a>
-    ensures rule { rule_of result ≡ define_rule }
-    ensures local { result.global ≡ false }
-{
-    Arg::new(alloc, "define")
-        .short('D')
-        .action(ArgAction::Append)
 }

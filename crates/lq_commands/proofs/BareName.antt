@@ -5,23 +5,22 @@ use Rattle.std.proofs.lemmas.List.{append-nil}
 use Rattle.std.proofs.lemmas.List.Folds.{list_any-append}
 use Rattle.std.proofs.lemmas.Str.{encode_ascii, inside_one}
 use Rattle.std.specs.List.{list_any}
-use Rattle.std.specs.Prelude.{Bool, List, [], encode_utf8, encode_utf8_all, false, if◌then◌else◌, length, map, nat_lt, suc, true, ℕ, ◌<◌, ◌==◌, ◌||◌, ◌∷◌, ◌≡◌, ◌≤◌}
+use Rattle.std.specs.Prelude.{Bool, List, [], encode_utf8, encode_utf8_all, false, if◌then◌else◌, length, map, suc, true, ℕ, ◌<◌, ◌∷◌, ◌≡◌, ◌≤◌}
 use Rattle.std.specs.Str.{chars}
 use Rattle.lq_turns.proofs.MarkRead.{bare_names_have_no_mark}
 use Rattle.lq_turns.specs.Stops.{is_mark}
+use Rattle.lq_base.specs.Character.{is_control}
+use Rattle.lq_words.specs.Words.{is_bar}
 use Rattle.lq_commands.specs.Who.{clean, kept}
-
-abbrev is_bar : ℕ → Bool
-is_bar b = b == 124
 
 other_than_bar : (b : ℕ) → 124 < b → is_bar b ≡ false
 other_than_bar b high = search (arith)
 
 -- a character that is kept is no bar
 kept_bare : (c : ℕ) → is_bar (kept c) ≡ false
-kept_bare c = by (nat_lt c 32 || c == 127) (is_bar c) refl where
-  by : (control bar : Bool) → is_bar c ≡ bar → is_bar (if control || bar then 95 else c) ≡ false
-  by true bar is = refl
+kept_bare c = by (is_bar c) (is_control c) refl where
+  by : (bar control : Bool) → is_bar c ≡ bar → is_bar (if bar then 95 else (if control then 95 else c)) ≡ false
+  by true control is = refl
   by false true is = refl
   by false false is = is
 

@@ -7,7 +7,7 @@ use Rattle.lq_base.specs.declared.tracking.Lock.{Lock}
 use Rattle.lq_cli.specs.declared.line.Job.{Job}
 use Rattle.lq_cli.specs.declared.line.Job.TheVariants.{RollbackSql, Run, UpdateSql}
 use Rattle.lq_report.specs.Output.{status_text, tagged_text, unrecorded_line, validated_text}
-use Rattle.lq_report.specs.Words.{held_text}
+use Rattle.lq_words.specs.Words.{held_text}
 use Rattle.lq_seen.specs.Printing.{Account}
 use Rattle.lq_tell.specs.Lines.{warning_lines}
 use Rattle.lq_tell.specs.declared.done.Done.{Done}

@@ -2,6 +2,7 @@ ghost use Rattle.std.specs.Prelude.{◌≡◌, IfOk, string_bytes};
 ghost use Rattle.lq_commands.specs.Who.{clean, kept};
 
 use lq_base::{NoMemory, Text};
+use lq_words::shown;
 use std::alloc::{AllocError, Global};
 
 /// Who runs the command, as the tracking tables name it: each `|` and each control character is `_`,
@@ -23,7 +24,7 @@ fn kept(character: char) -> char
     ensures { result ≡ kept character }
 {
     match character {
-        '\0'..='\u{1f}' | '\u{7f}' | '|' => '_',
-        _ => character,
+        '|' => '_',
+        _ => shown(character),
     }
 }

@@ -3,8 +3,8 @@ use Rattle.std.specs.Prelude.{Err, List, Ok, Result, ℕ}
 use Rattle.lq_base.specs.declared.fault.KindFault.TheVariants as kind
 use Rattle.lq_sources.specs.declared.fault.What.{What}
 use Rattle.lq_sources.specs.declared.fault.What.TheVariants as what
-use Rattle.lq_sources.specs.declared.path.Format.{Format}
-use Rattle.lq_sources.specs.declared.path.Format.TheVariants.{Json, Sql, Yaml}
+use Rattle.lq_paths.specs.declared.path.Format.{Format}
+use Rattle.lq_paths.specs.declared.path.Format.TheVariants.{Json, Sql, Yaml}
 use Rattle.lq_sqltree.specs.SqlTree.{sql_tree}
 use Rattle.lq_sqltree.specs.declared.fault.SqlTreeFault.{SqlTreeFault}
 use Rattle.lq_sqltree.specs.declared.fault.SqlTreeFault.TheVariants as sql

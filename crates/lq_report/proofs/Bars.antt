@@ -14,7 +14,8 @@ use Rattle.lq_base.specs.SqlByte.{begins}
 use Rattle.std.proofs.lemmas.Str.Pattern.{NoCharPasses-char, drop_at_char}
 use Rattle.std.proofs.lemmas.Bool.{eq-eqb}
 use Rattle.std.proofs.lemmas.Bool.Decides.{eqb_tells}
-use Rattle.lq_report.specs.Mark.{is_bar, at_last_bar, is_count, statement_of, marked, mark_of}
+use Rattle.lq_report.specs.Mark.{at_last_bar, is_count, statement_of, marked, mark_of}
+use Rattle.lq_words.specs.Words.{is_bar}
 use Rattle.lq_report.specs.Laws.{written, MarksAreRead, NoMarkWithoutBars}
 
 -- the clause of `rsplit_once`

@@ -1,7 +1,8 @@
 -- What holds of the definitions.
 use Rattle.std.specs.Prelude.{◌≡◌, ℕ, List, [], ◌++◌, Bool, true, false, Some, None, codes, if◌then◌else◌}
 use Rattle.std.specs.List.{after_first, list_any}
-use Rattle.lq_report.specs.Mark.{is_bar, is_count, mark_of}
+use Rattle.lq_report.specs.Mark.{is_count, mark_of}
+use Rattle.lq_words.specs.Words.{is_bar}
 
 -- WHO before its first bar, the identity, and the statement's number, or `undo ` and that
 abbrev pub written : List ℕ → List ℕ → Bool → List ℕ → List ℕ

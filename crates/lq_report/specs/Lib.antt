@@ -2,4 +2,3 @@ pub mod Laws
 pub mod Log
 pub mod Mark
 pub mod Output
-pub mod Words

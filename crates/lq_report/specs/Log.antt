@@ -13,21 +13,27 @@ use Rattle.lq_base.specs.Tracking.{identity_text}
 use Rattle.lq_report.specs.declared.fixed.FixedLine.{FixedLine}
 use Rattle.lq_report.specs.declared.fixed.FixedLine.TheVariants as fixed
 use Rattle.lq_report.specs.Mark.{lock_mark, mark_text}
-use Rattle.lq_report.specs.Words.{place_text, why_text, held_text}
+use Rattle.lq_words.specs.Plain.{plain}
+use Rattle.lq_words.specs.Words.{place_text, why_text, held_text}
 use denote.Ref.{Bor}
 
+-- words of the tool's own, and numbers
+abbrev pub said : List ℕ → List ℕ
+said text = codes "liquibase: " ++ text ++ codes "\n"
+
+-- a text with others in it, which begin no line of their own: each control character is `_`
 abbrev pub log_line : List ℕ → List ℕ
-log_line text = codes "liquibase: " ++ text ++ codes "\n"
+log_line text = said (plain text)
 
 -- the lines without parts
 unfoldable pub fixed_line : FixedLine → List ℕ
-fixed_line fixed.Usage = log_line (codes "usage: liquibase COMMAND --url=DIALECT:FILE [options]")
-fixed_line fixed.ReadFault = log_line (codes "cannot read the files")
-fixed_line fixed.TooMany = log_line (codes "changelog fault: too many changesets or files")
-fixed_line fixed.NothingToTag = log_line (codes "no changeset to tag")
-fixed_line fixed.DiskFault = log_line (codes "database fault")
-fixed_line fixed.WriteFault = log_line (codes "cannot write the output")
-fixed_line fixed.OutOfMemory = log_line (codes "out of memory")
+fixed_line fixed.Usage = said (codes "usage: liquibase COMMAND --url=DIALECT:FILE [options]")
+fixed_line fixed.ReadFault = said (codes "cannot read the files")
+fixed_line fixed.TooMany = said (codes "changelog fault: too many changesets or files")
+fixed_line fixed.NothingToTag = said (codes "no changeset to tag")
+fixed_line fixed.DiskFault = said (codes "database fault")
+fixed_line fixed.WriteFault = said (codes "cannot write the output")
+fixed_line fixed.OutOfMemory = said (codes "out of memory")
 
 -- what a run says
 unfoldable pub warning_line : Option (Bor Identity) → Why → List ℕ
@@ -47,20 +53,23 @@ unfoldable pub not_reversible_line : Identity → List ℕ
 not_reversible_line identity = log_line (codes "no rollback for " ++ identity_text identity)
 
 unfoldable pub damaged_line : ℕ → List ℕ
-damaged_line at = log_line (codes "database damaged at " ++ decimal at)
+damaged_line at = said (codes "database damaged at " ++ decimal at)
 
 unfoldable pub full_line : ℕ → ℕ → List ℕ
-full_line used next = log_line (codes "database full: " ++ decimal used ++ codes " and " ++ decimal next ++ codes " bytes")
+full_line used next = said (codes "database full: " ++ decimal used ++ codes " and " ++ decimal next ++ codes " bytes")
 
 unfoldable pub busy_line : ℕ → List ℕ
-busy_line session = log_line (codes "busy: session " ++ decimal session)
+busy_line session = said (codes "busy: session " ++ decimal session)
 
 -- a held lock, with its mark where it has one
 unfoldable pub unrecorded_log_line : Lock → List ℕ
 unrecorded_log_line lock = option_map_or (λ mark. log_line (codes "unrecorded: " ++ mark_text mark)) (lock_mark lock) []
 
+abbrev pub held_line : Lock → List ℕ
+held_line lock = log_line (codes "locked by " ++ held_text lock)
+
 unfoldable pub locked_lines : Lock → List ℕ
-locked_lines lock = log_line (codes "locked by " ++ held_text lock) ++ unrecorded_log_line lock
+locked_lines lock = held_line lock ++ unrecorded_log_line lock
 
 -- validation faults: two changesets of one identity, and a changeset whose row has another checksum
 unfoldable pub twice_line : Identity → List ℕ

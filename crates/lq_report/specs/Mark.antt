@@ -4,9 +4,7 @@ use Rattle.std.specs.List.{after_first}
 use Rattle.lq_base.specs.declared.tracking.Lock.{Lock}
 use Rattle.lq_base.specs.Number.{is_digits}
 use Rattle.lq_base.specs.SqlByte.{begins}
-
-abbrev pub is_bar : ℕ → Bool
-is_bar b = b == 124
+use Rattle.lq_words.specs.Words.{is_bar}
 
 -- what stands before the last `|` of a text, and behind it
 unfoldable pub at_last_bar : List ℕ → Option (List ℕ × List ℕ)

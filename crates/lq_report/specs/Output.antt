@@ -13,7 +13,7 @@ use Rattle.lq_base.specs.Tracking.{identity_text}
 use Rattle.lq_report.specs.declared.drill.Drilled.{Drilled}
 use Rattle.lq_report.specs.declared.soak.Soaked.{Soaked}
 use Rattle.lq_report.specs.Mark.{lock_mark, mark_text}
-use Rattle.lq_report.specs.Words.{command_word, did_text, is_did, held_text}
+use Rattle.lq_words.specs.Words.{command_word, did_text, is_did, held_text}
 use denote.Ref.{Bor}
 
 -- `ran IDENTITY`, and the like for what else was done

@@ -1,9 +1,9 @@
 ghost use Rattle.std.specs.Prelude.{◌≡◌, ◌++◌, IfOk, OnOk};
 ghost use Rattle.lq_report.specs.Output.{drill_text, drilled_from, drilled_line, ending_text};
-ghost use Rattle.lq_report.specs.Words.{command_word, rollback_word};
 
 use crate::parts::append_counted;
-use lq_base::{Command, NoMemory, Target, Text};
+use lq_base::{Command, NoMemory, Text};
+use lq_words::command_word;
 use std::alloc::Global;
 
 /// How far a command line of a drill came.
@@ -12,30 +12,6 @@ pub struct Drilled {
     pub command: Command,
     /// The status that the command ended with, if it ended.
     pub status: Option<u8>,
-}
-
-fn rollback_word(target: &Target) -> &'static str
-    ensures { result.now ≡ rollback_word target.now }
-{
-    match target {
-        Target::Tag(_) => "rollback",
-        Target::Count(_) => "rollback-count",
-        Target::Date(_) => "rollback-to-date",
-    }
-}
-
-fn command_word(command: &Command) -> &'static str
-    ensures { result.now ≡ command_word command.now }
-{
-    match command {
-        Command::Validate => "validate",
-        Command::Status => "status",
-        Command::Update => "update",
-        Command::Tag(_) => "tag",
-        Command::Rollback(target) => rollback_word(target),
-        Command::Sync => "changelog-sync",
-        Command::Release => "release-locks",
-    }
 }
 
 fn append_ending(status: Option<u8>, to: &mut Text) -> Result<(), NoMemory>

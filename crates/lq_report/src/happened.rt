@@ -1,23 +1,12 @@
 ghost use Rattle.std.specs.List.{flat_map};
 ghost use Rattle.std.specs.Prelude.{◌≡◌, ◌++◌, IfOk, OnOk};
 ghost use Rattle.lq_report.specs.Output.{happened_line, count_of, update_text, rollback_text, sync_text};
-ghost use Rattle.lq_report.specs.Words.{did_text, is_did};
+ghost use Rattle.lq_words.specs.Words.{is_did};
 
 use crate::parts::{append_counted, append_named};
 use lq_base::{Did, Happened, NoMemory, Text};
+use lq_words::did_text;
 use std::alloc::Global;
-
-fn did_text(did: Did) -> &'static str
-    ensures { result.now ≡ did_text did }
-{
-    match did {
-        Did::Ran => "ran",
-        Did::RanAgain => "ran again",
-        Did::Marked => "marked",
-        Did::Skipped => "skipped",
-        Did::RolledBack => "rolled back",
-    }
-}
 
 fn is_did(did: Did, other: Did) -> bool
     ensures { result ≡ is_did did other }

@@ -7,6 +7,7 @@ mod fixed;
 mod happened;
 pub mod laws;
 mod lock;
+mod log_line;
 mod mark;
 mod parts;
 mod printed;

@@ -1,7 +1,7 @@
 ghost use Rattle.std.specs.Fmt.{decimal};
-ghost use Rattle.std.specs.Prelude.{◌≡◌, [], ◌∷◌, ◌++◌, OnOk};
+ghost use Rattle.std.specs.Prelude.{◌≡◌, ◌++◌, OnOk};
 ghost use Rattle.lq_base.specs.Tracking.{identity_text};
-ghost use Rattle.lq_report.specs.Words.{place_text, why_text};
+ghost use Rattle.lq_words.specs.Words.{place_text, why_text};
 
 use lq_base::{Identity, NoMemory, Text, Why, append_whole};
 
@@ -48,12 +48,12 @@ pub(crate) fn append_place(
     }
 }
 
-/// Appends why a precondition stopped a run, and then the line's end.
+/// Appends why a precondition stopped a run.
 pub(crate) fn append_why(why: Why, to: &mut Text) -> Result<(), NoMemory>
-    ensures { OnOk result (to.new ≡ to.old ++ (why_text why ++ 10 ∷ [])) }
+    ensures { OnOk result (to.new ≡ to.old ++ why_text why) }
 {
     match why {
-        Why::Failed => to.push_str("precondition failed\n"),
-        Why::Error(reason) => to.push_all(&["precondition error: ", reason.text(), "\n"]),
+        Why::Failed => to.push_str("precondition failed"),
+        Why::Error(reason) => to.push_all(&["precondition error: ", reason.text()]),
     }
 }

@@ -1,31 +1,48 @@
 ghost use Rattle.std.specs.Prelude.{◌≡◌, ◌++◌, OnOk};
 ghost use Rattle.lq_report.specs.Log.{warning_line, halted_line, refused_line, no_tag_line, not_reversible_line, damaged_line, full_line, busy_line};
 
+use crate::log_line::{append_line, append_parts};
 use crate::parts::{append_counted, append_named, append_place, append_why};
 use lq_base::{Identity, NoMemory, Reason, Text, Why};
+use std::alloc::Global;
 
 /// Appends the line for a precondition that does not hold, where the run goes on. Without an identity
 /// it is one of the changelog's own.
 #[tactic(auto, unfolding(crate::specs::Log::warning_line))]
-pub fn append_warning(place: Option<&Identity>, why: Why, to: &mut Text) -> Result<(), NoMemory>
+pub fn append_warning(
+    alloc: Global,
+    place: Option<&Identity>,
+    why: Why,
+    to: &mut Text,
+) -> Result<(), NoMemory>
     ensures { OnOk result (to.new ≡ to.old ++ warning_line place.entry why) }
 {
-    append_place("liquibase: warning: ", place, ": ", to)?;
-    append_why(why, to)
+    let mut text = Text::new(alloc, "warning: ")?;
+    append_place("", place, ": ", &mut text)?;
+    append_why(why, &mut text)?;
+    append_line(alloc, text.as_str(), to)
 }
 
 /// Appends the line for a precondition at which the run halted.
 #[tactic(auto, unfolding(crate::specs::Log::halted_line))]
-pub fn append_halted(place: Option<&Identity>, why: Why, to: &mut Text) -> Result<(), NoMemory>
+pub fn append_halted(
+    alloc: Global,
+    place: Option<&Identity>,
+    why: Why,
+    to: &mut Text,
+) -> Result<(), NoMemory>
     ensures { OnOk result (to.new ≡ to.old ++ halted_line place.entry why) }
 {
-    append_place("liquibase: halted at ", place, ": ", to)?;
-    append_why(why, to)
+    let mut text = Text::new(alloc, "halted at ")?;
+    append_place("", place, ": ", &mut text)?;
+    append_why(why, &mut text)?;
+    append_line(alloc, text.as_str(), to)
 }
 
 /// Appends the line for a statement that was refused. `kept` of the changeset's statements stay.
 #[tactic(auto, unfolding(crate::specs::Log::refused_line))]
 pub fn append_refused(
+    alloc: Global,
     identity: &Identity,
     statement: u64,
     kept: u64,
@@ -34,26 +51,34 @@ pub fn append_refused(
 ) -> Result<(), NoMemory>
     ensures { OnOk result (to.new ≡ to.old ++ refused_line identity.now statement kept reason) }
 {
-    append_named("liquibase: refused at ", identity, ", statement ", to)?;
-    append_counted("", statement, ", ", to)?;
-    append_counted("", kept, " kept: ", to)?;
-    to.push_all(&[reason.text(), "\n"])
+    let mut line = Text::new(alloc, "refused at ")?;
+    append_named("", identity, ", statement ", &mut line)?;
+    append_counted("", statement, ", ", &mut line)?;
+    append_counted("", kept, " kept: ", &mut line)?;
+    line.push_str(reason.text())?;
+    append_line(alloc, line.as_str(), to)
 }
 
 /// Appends the line for a tag that no row has.
 #[tactic(auto, unfolding(crate::specs::Log::no_tag_line))]
-pub fn append_no_tag(tag: &str, to: &mut Text) -> Result<(), NoMemory>
+pub fn append_no_tag(alloc: Global, tag: &str, to: &mut Text) -> Result<(), NoMemory>
     ensures { OnOk result (to.new ≡ to.old ++ no_tag_line tag.now) }
 {
-    to.push_all(&["liquibase: no changeset has the tag ", tag, "\n"])
+    append_parts(alloc, &["no changeset has the tag ", tag], to)
 }
 
 /// Appends the line for a changeset that cannot be rolled back.
 #[tactic(auto, unfolding(crate::specs::Log::not_reversible_line))]
-pub fn append_not_reversible(identity: &Identity, to: &mut Text) -> Result<(), NoMemory>
+pub fn append_not_reversible(
+    alloc: Global,
+    identity: &Identity,
+    to: &mut Text,
+) -> Result<(), NoMemory>
     ensures { OnOk result (to.new ≡ to.old ++ not_reversible_line identity.now) }
 {
-    append_named("liquibase: no rollback for ", identity, "\n", to)
+    let mut text = Text::new(alloc, "no rollback for ")?;
+    identity.append_to(&mut text)?;
+    append_line(alloc, text.as_str(), to)
 }
 
 /// Appends the line for a database file that is damaged from this byte on.

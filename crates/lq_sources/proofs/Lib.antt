@@ -1,5 +1,4 @@
 pub mod Given
 pub mod Listings
-pub mod Paths
 pub mod Sources
 pub mod Steps

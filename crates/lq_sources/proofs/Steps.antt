@@ -13,7 +13,7 @@ use Rattle.lq_sources.specs.Source.{IsTold, Source}
 use Rattle.lq_sources.specs.Walk.{Held, bytes_read, contents, each, each_from, file, is_set, item_gathered, may_open, named, root_file, take_folder, take_item, take_path, taken_under, walked, written}
 use Rattle.lq_sources.specs.declared.fault.LoadFault.{LoadFault}
 use Rattle.lq_sources.specs.declared.fault.LoadFault.TheVariants.{OutOfMemory, TooDeep, TooMany}
-use Rattle.lq_sources.specs.declared.path.Format.{Format}
+use Rattle.lq_paths.specs.declared.path.Format.{Format}
 
 module _ {G : Type 0} where
   -- how far a loop over items is

@@ -2,7 +2,6 @@ pub mod Answers
 pub mod Faults
 pub mod Items
 pub mod Meaning
-pub mod Paths
 pub mod SoFar
 pub mod Source
 pub mod Values

@@ -3,7 +3,7 @@ use Rattle.std.specs.Prelude.{Bool, List, Result, ℕ}
 use Rattle.lq_tree.specs.Found.{Taken}
 use Rattle.lq_tree.specs.declared.node.Node.{Node}
 use Rattle.lq_sources.specs.declared.fault.What.{What}
-use Rattle.lq_sources.specs.declared.path.Format.{Format}
+use Rattle.lq_paths.specs.declared.path.Format.{Format}
 
 pub record Meaning (G : Type 0) : Type 0 where
   -- the tree of a file's bytes

@@ -8,7 +8,7 @@ use Rattle.lq_tree.specs.declared.node.Node.{Node}
 use Rattle.lq_sources.specs.Faults.{Loaded, at_place, by_keys, in_file, ◌>>=◌}
 use Rattle.lq_sources.specs.Items.{entry_of, item_at, items_of, place}
 use Rattle.lq_sources.specs.Meaning.{Meaning}
-use Rattle.lq_sources.specs.Paths.{format_of, is_xml, joined, plain}
+use Rattle.lq_paths.specs.Paths.{format_of, is_xml, joined, plain}
 use Rattle.lq_sources.specs.SoFar.{SoFar, nothing_yet, so_far, with_file, with_property, with_set}
 use Rattle.lq_sources.specs.Source.{Source}
 use Rattle.lq_sources.specs.Values.{filled, value_in}
@@ -16,7 +16,7 @@ use Rattle.lq_sources.specs.declared.fault.LoadFault.TheVariants.{Fault, NoFile,
 use Rattle.lq_sources.specs.declared.fault.What.TheVariants.{BadPath, Key, UnknownFormat}
 use Rattle.lq_sources.specs.declared.item.Item.{Item}
 use Rattle.lq_sources.specs.declared.item.Item.TheVariants.{Include, IncludeAll, Other, Property}
-use Rattle.lq_sources.specs.declared.path.Format.{Format}
+use Rattle.lq_paths.specs.declared.path.Format.{Format}
 use Rattle.lq_sources.specs.declared.reading.Reading.{Reading}
 
 -- the items of a list with their places, counted from i, up to the first fault

@@ -1,6 +1,6 @@
 use crate::fault::What;
-use crate::path::Format;
 use lq_base::KindFault;
+use lq_paths::Format;
 use lq_tree::Node;
 use std::alloc::Global;
 

@@ -8,9 +8,9 @@ ghost use Rattle.lq_sources.specs.Walk.{is_taken, taken_under};
 ghost use Rattle.lq_sources.specs.declared.fault.LoadFault.TheVariants.{Read};
 
 use crate::fault::LoadFault;
-use crate::path::{format_of, is_xml};
 use lq_base::{Items, NoMemory, Text};
 use lq_outside::Files;
+use lq_paths::{format_of, is_xml};
 use std::alloc::Global;
 
 fn is_taken(path: &str) -> bool

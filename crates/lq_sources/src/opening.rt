@@ -1,17 +1,17 @@
 ghost use Rattle.std.specs.Prelude.{◌≡◌, ◌≤◌, ◌<◌, ◌+◌, length, IfOk, IsErrOf};
 ghost use Rattle.lq_outside.specs.Count.{Rose};
 ghost use Rattle.lq_sources.specs.Answers.{Finds, Holds, Loads};
-ghost use Rattle.lq_sources.specs.Paths.{joined};
+ghost use Rattle.lq_paths.specs.Paths.{joined};
 ghost use Rattle.lq_sources.specs.SoFar.{so_far};
 ghost use Rattle.lq_sources.specs.Walk.{bytes_read, may_name, may_open, named, target, written};
 ghost use Rattle.lq_sources.specs.declared.fault.LoadFault.TheVariants.{Read};
 
 use crate::fault::{LoadFault, What};
 use crate::item::Included;
-use crate::path::{Format, format_of, is_xml, joined, plain};
 use crate::reading::Reading;
 use lq_base::{Items, Text, char_count, has_control};
 use lq_outside::{Files, Found};
+use lq_paths::{Format, format_of, is_xml, joined, plain};
 use std::alloc::Global;
 
 fn may_name(path: &str) -> bool

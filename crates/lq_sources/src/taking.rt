@@ -9,9 +9,9 @@ use crate::blame::{in_file, in_item};
 use crate::fault::{LoadFault, What};
 use crate::gather::Gather;
 use crate::item::{Item, entry_of, item_at, items_of, place_of};
-use crate::path::Format;
 use crate::reading::Reading;
 use lq_base::{KindFault, Text};
+use lq_paths::Format;
 use lq_tree::Node;
 use std::alloc::Global;
 

@@ -9,12 +9,12 @@ use crate::gather::Gather;
 use crate::item::Item;
 use crate::listing::taken_under;
 use crate::opening::{bytes_of, may_open, target_of, test_name};
-use crate::path::Format;
 use crate::reading::Reading;
 use crate::taking::{entry_in, gather_item, items_in, read_item, tree_in};
 use crate::values::filled;
 use lq_base::Text;
 use lq_outside::Files;
+use lq_paths::Format;
 use lq_tree::Node;
 use std::alloc::Global;
 

@@ -6,7 +6,7 @@ use Rattle.lq_base.specs.declared.run.Why.{Why}
 use Rattle.lq_base.specs.Tracking.{identity_text}
 use Rattle.lq_faultlog.specs.Lines.{load_fault_line}
 use Rattle.lq_report.specs.Log.{busy_line, changed_line, damaged_line, fixed_line, full_line, locked_lines, log_line, no_tag_line, not_reversible_line, refused_line, twice_line}
-use Rattle.lq_report.specs.Words.{why_text}
+use Rattle.lq_words.specs.Words.{why_text}
 use Rattle.lq_report.specs.declared.fixed.FixedLine.TheVariants as fixed
 use Rattle.lq_turns.specs.declared.fault.Fault.{Fault}
 use Rattle.lq_turns.specs.declared.fault.Fault.TheVariants as fault

@@ -21,29 +21,34 @@ pub fn status_lines(alloc: Global, status: &Status, tag: Option<&str>) -> Result
     ensures { IfOk result (λ text. text ≡ status_lines (option_copied tag.entry) status.now) }
 {
     let mut text = Text::new(alloc, "")?;
-    append_status(status, tag, &mut text)?;
+    append_status(alloc, status, tag, &mut text)?;
     Ok(text)
 }
 
-fn append_status(status: &Status, tag: Option<&str>, to: &mut Text) -> Result<(), NoMemory>
+fn append_status(
+    alloc: Global,
+    status: &Status,
+    tag: Option<&str>,
+    to: &mut Text,
+) -> Result<(), NoMemory>
     ensures { OnOk result (to.new ≡ to.old ++ status_lines (option_copied tag.entry) status.now) }
 {
     match status {
         Status::Done => Ok(()),
         Status::Usage => append_fixed(FixedLine::Usage, to),
         Status::ReadFault => append_fixed(FixedLine::ReadFault, to),
-        Status::Changelog(fault) => append_load_fault(fault, to),
-        Status::Invalid(faults) => append_faults(faults.as_slice(), to),
-        Status::Locked(lock) => append_lock(lock, to),
-        Status::Halted { identity, why } => append_halt(identity, *why, to),
+        Status::Changelog(fault) => append_load_fault(alloc, fault, to),
+        Status::Invalid(faults) => append_faults(alloc, faults.as_slice(), to),
+        Status::Locked(lock) => append_lock(alloc, lock, to),
+        Status::Halted { identity, why } => append_halt(alloc, identity, *why, to),
         Status::Refused {
             identity,
             statement,
             kept,
             reason,
-        } => append_refused(identity, *statement, *kept, *reason, to),
-        Status::NoTarget => append_no_target(tag, to),
-        Status::NotReversible(of) => append_not_reversible(of, to),
+        } => append_refused(alloc, identity, *statement, *kept, *reason, to),
+        Status::NoTarget => append_no_target(alloc, tag, to),
+        Status::NotReversible(of) => append_not_reversible(alloc, of, to),
         Status::DiskFault => append_fixed(FixedLine::DiskFault, to),
         Status::Damaged { at } => append_damaged(*at, to),
         Status::Full { used, next } => append_full(*used, *next, to),
@@ -59,13 +64,13 @@ fn append_fixed(line: FixedLine, to: &mut Text) -> Result<(), NoMemory>
     to.push_str(line.text())
 }
 
-fn append_lock(lock: &Lock, to: &mut Text) -> Result<(), NoMemory>
+fn append_lock(alloc: Global, lock: &Lock, to: &mut Text) -> Result<(), NoMemory>
     ensures { OnOk result (to.new ≡ to.old ++ locked_lines lock.now) }
 {
     if !has_moment(lock) {
         return Err(NoMemory);
     }
-    append_locked(lock, to)
+    append_locked(alloc, lock, to)
 }
 
 /// Whether it was taken at a moment of the calendar, or it is not known when. Each lock of a database is
@@ -79,37 +84,42 @@ pub fn has_moment(lock: &Lock) -> bool
     }
 }
 
-fn append_halt(place: &Option<Identity>, why: Why, to: &mut Text) -> Result<(), NoMemory>
+fn append_halt(
+    alloc: Global,
+    place: &Option<Identity>,
+    why: Why,
+    to: &mut Text,
+) -> Result<(), NoMemory>
     ensures { OnOk result (to.new ≡ to.old ++ halted_at place.now why) }
 {
-    append_halted(place.as_ref(), why, to)
+    append_halted(alloc, place.as_ref(), why, to)
 }
 
-fn append_no_target(tag: Option<&str>, to: &mut Text) -> Result<(), NoMemory>
+fn append_no_target(alloc: Global, tag: Option<&str>, to: &mut Text) -> Result<(), NoMemory>
     ensures { OnOk result (to.new ≡ to.old ++ no_target_line (option_copied tag.entry)) }
 {
     match tag {
-        Some(tag) => append_no_tag(tag, to),
+        Some(tag) => append_no_tag(alloc, tag, to),
         None => append_fixed(FixedLine::NothingToTag, to),
     }
 }
 
-fn append_faults(faults: &[Fault], to: &mut Text) -> Result<(), NoMemory>
+fn append_faults(alloc: Global, faults: &[Fault], to: &mut Text) -> Result<(), NoMemory>
     ensures { OnOk result (to.new ≡ to.old ++ flat_map fault_line faults.now) }
 {
     for fault in faults {
-        append_fault(fault, to)?;
+        append_fault(alloc, fault, to)?;
     }
     Ok(())
 }
 
-fn append_fault(fault: &Fault, to: &mut Text) -> Result<(), NoMemory>
+fn append_fault(alloc: Global, fault: &Fault, to: &mut Text) -> Result<(), NoMemory>
     ensures { OnOk result (to.new ≡ to.old ++ fault_line fault.now) }
 {
     match fault {
-        Fault::Twice(of) => append_twice(of, to),
+        Fault::Twice(of) => append_twice(alloc, of, to),
         Fault::Changed { identity, was, is } => {
-            append_changed(identity, was.as_str(), is.as_str(), to)
+            append_changed(alloc, identity, was.as_str(), is.as_str(), to)
         }
     }
 }
@@ -123,38 +133,51 @@ pub fn warning_lines(
     ensures { IfOk result (λ text. text ≡ warning_lines own warned.now) }
 {
     let mut text = Text::new(alloc, "")?;
-    append_own(own, &mut text)?;
-    append_warnings(warned, &mut text)?;
+    append_own(alloc, own, &mut text)?;
+    append_warnings(alloc, warned, &mut text)?;
     Ok(text)
 }
 
-fn append_own(own: Option<Why>, to: &mut Text) -> Result<(), NoMemory>
+fn append_own(alloc: Global, own: Option<Why>, to: &mut Text) -> Result<(), NoMemory>
     ensures { OnOk result (to.new ≡ to.old ++ own_line own) }
 {
     match own {
-        Some(why) => append_warned(&None, why, to),
+        Some(why) => append_warned(alloc, &None, why, to),
         None => Ok(()),
     }
 }
 
-fn append_warnings(warned: &[(Option<Identity>, Why)], to: &mut Text) -> Result<(), NoMemory>
+fn append_warnings(
+    alloc: Global,
+    warned: &[(Option<Identity>, Why)],
+    to: &mut Text,
+) -> Result<(), NoMemory>
     ensures { OnOk result (to.new ≡ to.old ++ flat_map warning_line warned.now) }
 {
     for one in warned {
-        append_pair(one, to)?;
+        append_pair(alloc, one, to)?;
     }
     Ok(())
 }
 
-fn append_pair(warned: &(Option<Identity>, Why), to: &mut Text) -> Result<(), NoMemory>
+fn append_pair(
+    alloc: Global,
+    warned: &(Option<Identity>, Why),
+    to: &mut Text,
+) -> Result<(), NoMemory>
     ensures { OnOk result (to.new ≡ to.old ++ warning_line warned.now) }
 {
     let (place, why) = warned;
-    append_warned(place, *why, to)
+    append_warned(alloc, place, *why, to)
 }
 
-fn append_warned(place: &Option<Identity>, why: Why, to: &mut Text) -> Result<(), NoMemory>
+fn append_warned(
+    alloc: Global,
+    place: &Option<Identity>,
+    why: Why,
+    to: &mut Text,
+) -> Result<(), NoMemory>
     ensures { OnOk result (to.new ≡ to.old ++ warned_at place.now why) }
 {
-    append_warning(place.as_ref(), why, to)
+    append_warning(alloc, place.as_ref(), why, to)
 }

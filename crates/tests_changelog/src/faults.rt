@@ -97,3 +97,37 @@ fn keys_are_told_by_their_places(rt: HostRuntime) {
     ];
     tell(&rt, rt.alloc(), &cases)
 }
+
+// The log's line stays one, whatever keys and paths hold.
+#[test]
+fn control_characters_begin_no_line(rt: HostRuntime) {
+    let cases = [
+        Case {
+            files: &[("a.json", r#"{"b\nliquibase: no":1}"#)],
+            wanted: "liquibase: changelog fault: a.json: b_liquibase: no: unknown\n",
+        },
+        Case {
+            files: &[(
+                "a.json",
+                r#"{"databaseChangeLog":[{"\u001f\u007f\u0080 é\r":1}]}"#,
+            )],
+            wanted: "liquibase: changelog fault: a.json: databaseChangeLog[0].__\u{80} é_: unknown\n",
+        },
+        Case {
+            files: &[(
+                "a.json",
+                r#"{"databaseChangeLog":[{"include":{"file":"b\tc.json"}}]}"#,
+            )],
+            wanted: "liquibase: changelog fault: b_c.json: bad path\n",
+        },
+        Case {
+            files: &[("a\nb.json", "{}")],
+            wanted: "liquibase: changelog fault: a_b.json: bad path\n",
+        },
+        Case {
+            files: &[("a.yaml", "\"b\\nc\": 1")],
+            wanted: "liquibase: changelog fault: a.yaml: b_c: unknown\n",
+        },
+    ];
+    tell(&rt, rt.alloc(), &cases)
+}

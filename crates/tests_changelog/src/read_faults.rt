@@ -115,7 +115,7 @@ fn no_call_is_made_behind_another_fault(rt: HostRuntime) {
         Calls {
             files: &[("a\n.json", ONE)],
             made: 0,
-            wanted: "liquibase: changelog fault: a\n.json: bad path\n",
+            wanted: "liquibase: changelog fault: a_.json: bad path\n",
         },
         Calls {
             files: &[("a.json", XML), ("one.json", ONE)],

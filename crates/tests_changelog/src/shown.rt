@@ -112,7 +112,7 @@ pub fn shown(alloc: Global, loaded: &Result<Changelog, LoadFault>) -> Result<Tex
     let mut text = Text::new(alloc, "")?;
     match loaded {
         Ok(changelog) => append_changelog(changelog, &mut text)?,
-        Err(fault) => append_load_fault(fault, &mut text)?,
+        Err(fault) => append_load_fault(alloc, fault, &mut text)?,
     }
     Ok(text)
 }
@@ -122,7 +122,7 @@ pub fn sums(alloc: Global, loaded: &Result<Changelog, LoadFault>) -> Result<Text
     let mut text = Text::new(alloc, "")?;
     match loaded {
         Ok(changelog) => append_sums(changelog.sets.as_slice(), &mut text)?,
-        Err(fault) => append_load_fault(fault, &mut text)?,
+        Err(fault) => append_load_fault(alloc, fault, &mut text)?,
     }
     Ok(text)
 }

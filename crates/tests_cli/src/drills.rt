@@ -1,32 +1,40 @@
-use crate::shown::shown;
-use lq_base::{Dialect, NoMemory};
+use crate::shown::append_line;
+use lq_base::{Dialect, NoMemory, Text, append_whole};
 use lq_lines::{Lines, LinesFault, read_lines};
 use std::alloc::Global;
 use std::process::Abort;
 use std::test::Fail;
 
-/// Each command line and a line feed, and then the numbers with a blank before each.
-fn lines_text(alloc: Global, lines: &Lines) -> Result<String, NoMemory> {
-    let mut text = String::new(alloc);
+/// Appends each command line and a line feed, and then the numbers with a blank before each.
+fn append_lines(lines: &Lines, to: &mut Text) -> Result<(), NoMemory> {
     for line in lines.lines.as_slice() {
-        let line = shown(alloc, line)?;
-        text.push_str(line.as_str())?;
-        text.push_str("\n")?;
+        append_line(line, to)?;
+        to.push_str("\n")?;
     }
+    append_steps(lines, to)
+}
+
+fn append_steps(lines: &Lines, to: &mut Text) -> Result<(), NoMemory> {
     for step in lines.steps.as_slice() {
-        let step = format!(in alloc; " {step}")?;
-        text.push_str(step.as_str())?;
+        to.push_str(" ")?;
+        append_whole(i128::from(*step), to)?;
     }
-    Ok(text)
+    Ok(())
+}
+
+fn append_read(read: &Result<Lines, LinesFault>, to: &mut Text) -> Result<(), NoMemory> {
+    match read {
+        Ok(lines) => append_lines(lines, to),
+        Err(LinesFault::Usage) => to.push_str("usage"),
+        Err(LinesFault::OutOfMemory) => Err(NoMemory),
+    }
 }
 
 /// What a file gives for the database `d=b`, or `usage`.
-fn told(alloc: Global, dialect: Dialect, file: &[u8]) -> Result<String, NoMemory> {
-    match read_lines(alloc, dialect, "d=b", file) {
-        Ok(lines) => lines_text(alloc, &lines),
-        Err(LinesFault::Usage) => Ok(String::from_str(alloc, "usage")?),
-        Err(LinesFault::OutOfMemory) => Err(NoMemory),
-    }
+fn told(alloc: Global, dialect: Dialect, file: &[u8]) -> Result<Text, NoMemory> {
+    let mut text = Text::new(alloc, "")?;
+    append_read(&read_lines(alloc, dialect, "d=b", file), &mut text)?;
+    Ok(text)
 }
 
 /// What these files give.
@@ -62,7 +70,7 @@ fn files_are_read(rt: HostRuntime) -> Result<(), Fail> {
         ),
         (
             "release-locks\ntag --tag v1\nsteps\n\n 2\t1  2\n\t\n1\n\n",
-            "Run(Release) Postgresql d=b -\nRun(Tag(Text { text: \"v1\" })) Postgresql d=b -\n 2 1 2 1",
+            "Run(Release) Postgresql d=b -\nRun(Tag(v1)) Postgresql d=b -\n 2 1 2 1",
         ),
     ];
     tell(&rt, rt.alloc(), Dialect::Postgresql, &rows);
@@ -90,7 +98,7 @@ fn options_of_lines_are_read(rt: HostRuntime) -> Result<(), Fail> {
         ),
         (
             "rollback --changelog-file=é.json --tag=ü\nsteps\n",
-            "Run(Rollback(Tag(Text { text: \"ü\" }))) Mysql d=b é.json\n",
+            "Run(Rollback(Tag(ü))) Mysql d=b é.json\n",
         ),
     ];
     tell(&rt, rt.alloc(), Dialect::Mysql, &rows);

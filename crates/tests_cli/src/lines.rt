@@ -35,7 +35,7 @@ fn commands_are_read(rt: HostRuntime) -> Result<(), Fail> {
         ),
         (
             &["update", "--label-filter", "l", URL, FILE],
-            "Run(Update) Postgresql db a.json Name(Text { text: \"l\" })",
+            "Run(Update) Postgresql db a.json Name(l)",
         ),
         (
             &["update", URL, "-Dx=1", FILE, "-Dy=", "-Dx=a=b"],
@@ -52,11 +52,11 @@ fn commands_are_read(rt: HostRuntime) -> Result<(), Fail> {
         ),
         (
             &["rollback", URL, FILE, "--tag=v1"],
-            "Run(Rollback(Tag(Text { text: \"v1\" }))) Postgresql db a.json",
+            "Run(Rollback(Tag(v1))) Postgresql db a.json",
         ),
         (
             &["rollback", "--tag", "v 1", FILE, URL, "-Da=b"],
-            "Run(Rollback(Tag(Text { text: \"v 1\" }))) Postgresql db a.json a=b",
+            "Run(Rollback(Tag(v 1))) Postgresql db a.json a=b",
         ),
         (
             &["rollback-count", URL, FILE, "--count=0"],
@@ -94,36 +94,27 @@ fn commands_are_read(rt: HostRuntime) -> Result<(), Fail> {
         ),
         (
             &["rollback-sql", "--tag=t", URL, FILE],
-            "RollbackSql(Tag(Text { text: \"t\" })) Postgresql db a.json",
+            "RollbackSql(Tag(t)) Postgresql db a.json",
         ),
-        (
-            &["tag", URL, "--tag=v1"],
-            "Run(Tag(Text { text: \"v1\" })) Postgresql db -",
-        ),
-        (
-            &["tag", "--tag=-v", URL],
-            "Run(Tag(Text { text: \"-v\" })) Postgresql db -",
-        ),
+        (&["tag", URL, "--tag=v1"], "Run(Tag(v1)) Postgresql db -"),
+        (&["tag", "--tag=-v", URL], "Run(Tag(-v)) Postgresql db -"),
         (
             &["status", "--label-filter=l", FILE, URL],
-            "Run(Status) Postgresql db a.json Name(Text { text: \"l\" })",
+            "Run(Status) Postgresql db a.json Name(l)",
         ),
         (
             &["drill", URL, "--runs=a/runs"],
-            "Drill(Text { text: \"a/runs\" }) Postgresql db -",
+            "Drill(a/runs) Postgresql db -",
         ),
-        (
-            &["drill", "--runs", "a b", MY],
-            "Drill(Text { text: \"a b\" }) Mysql a/b.db -",
-        ),
+        (&["drill", "--runs", "a b", MY], "Drill(a b) Mysql a/b.db -"),
         (
             &["soak", "--number", "7", "--sets", "1", URL],
-            "Soak { number: 7, sets: 1 } Postgresql db -",
+            "Soak(7)(1) Postgresql db -",
         ),
         (&["release-locks", MY], "Run(Release) Mysql a/b.db -"),
         (
             &["soak", "--sets=10000", URL, "--number=0"],
-            "Soak { number: 0, sets: 10000 } Postgresql db -",
+            "Soak(0)(10000) Postgresql db -",
         ),
     ];
     for (words, want) in cases {

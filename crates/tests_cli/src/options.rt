@@ -46,7 +46,7 @@ fn options_stand_in_any_order(rt: HostRuntime) {
                 URL,
                 FILE,
             ],
-            "UpdateSql Postgresql db a.json @a Name(Text { text: \"l\" })",
+            "UpdateSql Postgresql db a.json @a Name(l)",
         ),
         (
             &[
@@ -57,11 +57,11 @@ fn options_stand_in_any_order(rt: HostRuntime) {
                 "--label-filter",
                 "l",
             ],
-            "UpdateSql Postgresql db a.json @a Name(Text { text: \"l\" })",
+            "UpdateSql Postgresql db a.json @a Name(l)",
         ),
         (
             &["changelog-sync", "--label-filter", "l", FILE, "-Dx=1", URL],
-            "Run(Sync) Postgresql db a.json Name(Text { text: \"l\" }) x=1",
+            "Run(Sync) Postgresql db a.json Name(l) x=1",
         ),
         (
             &[
@@ -88,7 +88,7 @@ fn options_stand_in_any_order(rt: HostRuntime) {
         ),
         (
             &["tag", "--tag", "v1", "--url", "mysql:db"],
-            "Run(Tag(Text { text: \"v1\" })) Mysql db -",
+            "Run(Tag(v1)) Mysql db -",
         ),
         (
             &["release-locks", "--url", "postgresql:db"],
@@ -96,19 +96,19 @@ fn options_stand_in_any_order(rt: HostRuntime) {
         ),
         (
             &["drill", "--runs=r", "--url=mysql:db"],
-            "Drill(Text { text: \"r\" }) Mysql db -",
+            "Drill(r) Mysql db -",
         ),
         (
             &["drill", "--url=mysql:db", "--runs=r"],
-            "Drill(Text { text: \"r\" }) Mysql db -",
+            "Drill(r) Mysql db -",
         ),
         (
             &["drill", "--runs", "r", "--url", "mysql:db"],
-            "Drill(Text { text: \"r\" }) Mysql db -",
+            "Drill(r) Mysql db -",
         ),
         (
             &["drill", "--url", "mysql:db", "--runs", "r"],
-            "Drill(Text { text: \"r\" }) Mysql db -",
+            "Drill(r) Mysql db -",
         ),
     ];
     tell(&rt, rt.alloc(), &rows);
@@ -308,7 +308,7 @@ fn properties_are_defined_as_often_as_wanted(rt: HostRuntime) {
         ),
         (
             &["rollback", "-Dx=--tag=v2", URL, FILE, "--tag=v1"],
-            "Run(Rollback(Tag(Text { text: \"v1\" }))) Postgresql db a.json x=--tag=v2",
+            "Run(Rollback(Tag(v1))) Postgresql db a.json x=--tag=v2",
         ),
         (
             &[

@@ -17,7 +17,7 @@ fn counts_are_decimal(rt: HostRuntime) {
         ),
         (
             &["soak", URL, "--sets=1", "--number=18446744073709551615"],
-            "Soak { number: 18446744073709551615, sets: 1 } Postgresql db -",
+            "Soak(18446744073709551615)(1) Postgresql db -",
         ),
     ];
     tell(&rt, rt.alloc(), &rows);
@@ -155,7 +155,7 @@ fn one_target_is_given(rt: HostRuntime) {
     let rows: [Row<'_>; 2] = [
         (
             &["rollback-sql", FILE, "--tag", "v1", URL],
-            "RollbackSql(Tag(Text { text: \"v1\" })) Postgresql db a.json",
+            "RollbackSql(Tag(v1)) Postgresql db a.json",
         ),
         (
             &["rollback-sql", "--count", "0", FILE, "--url", "mysql:db"],
@@ -195,11 +195,11 @@ fn tags_have_no_control_character(rt: HostRuntime) {
     let rows: [Row<'_>; 2] = [
         (
             &["tag", URL, "--tag= \u{80}\u{e9}"],
-            "Run(Tag(Text { text: \" \\u{80}\u{e9}\" })) Postgresql db -",
+            "Run(Tag( \u{80}\u{e9})) Postgresql db -",
         ),
         (
             &["rollback", URL, FILE, "--tag=\"'"],
-            "Run(Rollback(Tag(Text { text: \"\\\"'\" }))) Postgresql db a.json",
+            "Run(Rollback(Tag(\"'))) Postgresql db a.json",
         ),
     ];
     tell(&rt, rt.alloc(), &rows);

@@ -61,28 +61,19 @@ fn values_may_begin_with_a_dash_or_be_empty(rt: HostRuntime) {
         ),
         (
             &["update", URL, FILE, "--label-filter=-l"],
-            "Run(Update) Postgresql db a.json Name(Text { text: \"-l\" })",
+            "Run(Update) Postgresql db a.json Name(-l)",
         ),
         (
             &["rollback", URL, FILE, "--tag=--tag=v1"],
-            "Run(Rollback(Tag(Text { text: \"--tag=v1\" }))) Postgresql db a.json",
+            "Run(Rollback(Tag(--tag=v1))) Postgresql db a.json",
         ),
-        (
-            &["drill", URL, "--runs=-r"],
-            "Drill(Text { text: \"-r\" }) Postgresql db -",
-        ),
+        (&["drill", URL, "--runs=-r"], "Drill(-r) Postgresql db -"),
         (
             &["drill", URL, "--runs=--runs=r"],
-            "Drill(Text { text: \"--runs=r\" }) Postgresql db -",
+            "Drill(--runs=r) Postgresql db -",
         ),
-        (
-            &["drill", URL, "--runs="],
-            "Drill(Text { text: \"\" }) Postgresql db -",
-        ),
-        (
-            &["drill", URL, "--runs", ""],
-            "Drill(Text { text: \"\" }) Postgresql db -",
-        ),
+        (&["drill", URL, "--runs="], "Drill() Postgresql db -"),
+        (&["drill", URL, "--runs", ""], "Drill() Postgresql db -"),
     ];
     tell(&rt, rt.alloc(), &rows);
     let none: [&[&str]; 19] = [

@@ -16,25 +16,26 @@ enum Fault {
     TooMany,
 }
 
-fn append(fault: Fault, to: &mut Text) -> Result<(), NoMemory> {
+fn append(
+    alloc: Global,
+    path: &str,
+    place: &str,
+    fault: Fault,
+    to: &mut Text,
+) -> Result<(), NoMemory> {
     match fault {
-        Fault::NoFile => append_no_file("db/a.json", to),
-        Fault::File(what) => append_file_fault("db/a.json", what, to),
-        Fault::Line => append_line_fault("db/a.sql", 3, to),
-        Fault::Key(rule) => append_key_fault(
-            "db/a.json",
-            "changes[0].dropTable.tableName",
-            rule,
-            to,
-        ),
-        Fault::Dialect => append_dialect_fault("db/a.json", "changes[0]", Dialect::Mysql, to),
+        Fault::NoFile => append_no_file(alloc, path, to),
+        Fault::File(what) => append_file_fault(alloc, path, what, to),
+        Fault::Line => append_line_fault(alloc, path, 3, to),
+        Fault::Key(rule) => append_key_fault(alloc, path, place, rule, to),
+        Fault::Dialect => append_dialect_fault(alloc, path, place, Dialect::Mysql, to),
         Fault::TooMany => to.push_str(FixedLine::TooMany.text()),
     }
 }
 
-fn made(alloc: Global, fault: Fault) -> Result<Text, NoMemory> {
+fn made(alloc: Global, path: &str, place: &str, fault: Fault) -> Result<Text, NoMemory> {
     let mut to = Text::new(alloc, "")?;
-    append(fault, &mut to)?;
+    append(alloc, path, place, fault, &mut to)?;
     Ok(to)
 }
 
@@ -51,7 +52,7 @@ fn faults_of_a_changelog_write_their_lines(rt: HostRuntime) -> Result<(), Fail> 
         ),
         (
             Fault::Line,
-            "liquibase: changelog fault: db/a.sql: line 3\n",
+            "liquibase: changelog fault: db/a.json: line 3\n",
         ),
         (
             Fault::Key("missing"),
@@ -59,7 +60,7 @@ fn faults_of_a_changelog_write_their_lines(rt: HostRuntime) -> Result<(), Fail> 
         ),
         (
             Fault::Dialect,
-            "liquibase: changelog fault: db/a.json: changes[0]: not for mysql\n",
+            "liquibase: changelog fault: db/a.json: changes[0].dropTable.tableName: not for mysql\n",
         ),
         (
             Fault::TooMany,
@@ -67,7 +68,49 @@ fn faults_of_a_changelog_write_their_lines(rt: HostRuntime) -> Result<(), Fail> 
         ),
     ];
     for (fault, want) in cases {
-        let text = made(rt.alloc(), fault)?;
+        let text = made(
+            rt.alloc(),
+            "db/a.json",
+            "changes[0].dropTable.tableName",
+            fault,
+        )?;
+        assert_eq!(rt; text.as_str(), want);
+    }
+    Ok(())
+}
+
+// Paths and places of files, with a line feed, the last control characters and one that is none.
+#[test]
+fn faults_of_a_changelog_are_one_line_each(rt: HostRuntime) -> Result<(), Fail> {
+    let cases = [
+        (
+            Fault::NoFile,
+            "liquibase: changelog fault: no file a_liquibase: b_\n",
+        ),
+        (
+            Fault::File("bad path"),
+            "liquibase: changelog fault: a_liquibase: b_: bad path\n",
+        ),
+        (
+            Fault::Line,
+            "liquibase: changelog fault: a_liquibase: b_: line 3\n",
+        ),
+        (
+            Fault::Key("unknown"),
+            "liquibase: changelog fault: a_liquibase: b_: _ _é\u{80}: unknown\n",
+        ),
+        (
+            Fault::Dialect,
+            "liquibase: changelog fault: a_liquibase: b_: _ _é\u{80}: not for mysql\n",
+        ),
+    ];
+    for (fault, want) in cases {
+        let text = made(
+            rt.alloc(),
+            "a\nliquibase: b\0",
+            "\u{1f} \u{7f}é\u{80}",
+            fault,
+        )?;
         assert_eq!(rt; text.as_str(), want);
     }
     Ok(())

@@ -15,6 +15,7 @@ enum Line {
     Changed,
     Locked,
     LockedMarked,
+    LockedBroken,
     LockedByNobody,
     Halted,
     HaltedAtChangelog,
@@ -30,27 +31,27 @@ enum Line {
 
 fn append_lock(alloc: Global, by: &str, to: &mut Text) -> Result<(), NoMemory> {
     let held = lock(alloc, by)?;
-    append_locked(&held, to)
+    append_locked(alloc, &held, to)
 }
 
-fn append_lock_of_nobody(to: &mut Text) -> Result<(), NoMemory> {
+fn append_lock_of_nobody(alloc: Global, to: &mut Text) -> Result<(), NoMemory> {
     let held = Lock {
         locked: true,
         granted: None,
         by: None,
     };
-    append_locked(&held, to)
+    append_locked(alloc, &held, to)
 }
 
-fn append_of_changeset(alloc: Global, line: Line, to: &mut Text) -> Result<(), NoMemory> {
-    let at = identity(alloc, "1")?;
+fn append_of_changeset(alloc: Global, id: &str, line: Line, to: &mut Text) -> Result<(), NoMemory> {
+    let at = identity(alloc, id)?;
     match line {
-        Line::Twice => append_twice(&at, to),
-        Line::Changed => append_changed(&at, "8:a", "9:b", to),
-        Line::Halted => append_halted(Some(&at), Why::Failed, to),
-        Line::Refused => append_refused(&at, 2, 1, Reason::NullFound, to),
-        Line::NotReversible => append_not_reversible(&at, to),
-        _ => append_warning(Some(&at), Why::Failed, to),
+        Line::Twice => append_twice(alloc, &at, to),
+        Line::Changed => append_changed(alloc, &at, "8:a", "9:b", to),
+        Line::Halted => append_halted(alloc, Some(&at), Why::Failed, to),
+        Line::Refused => append_refused(alloc, &at, 2, 1, Reason::NullFound, to),
+        Line::NotReversible => append_not_reversible(alloc, &at, to),
+        _ => append_warning(alloc, Some(&at), Why::Failed, to),
     }
 }
 
@@ -60,14 +61,20 @@ fn made(alloc: Global, line: Line) -> Result<Text, NoMemory> {
         Line::Fixed(fixed) => to.push_str(fixed.text())?,
         Line::Locked => append_lock(alloc, "bob", &mut to)?,
         Line::LockedMarked => append_lock(alloc, "bob|db/a.json::1::ann|undo 2", &mut to)?,
-        Line::LockedByNobody => append_lock_of_nobody(&mut to)?,
-        Line::HaltedAtChangelog => append_halted(None, Why::Error(Reason::NotOne), &mut to)?,
-        Line::NoTag => append_no_tag("v1", &mut to)?,
+        Line::LockedBroken => append_lock(alloc, "bob\n|db/a.json::\r1::ann|2", &mut to)?,
+        Line::LockedByNobody => append_lock_of_nobody(alloc, &mut to)?,
+        Line::HaltedAtChangelog => append_halted(alloc, None, Why::Error(Reason::NotOne), &mut to)?,
+        Line::NoTag => append_no_tag(alloc, "v1", &mut to)?,
         Line::Damaged => append_damaged(12, &mut to)?,
         Line::Full => append_full(5, 18_446_744_073_709_551_615, &mut to)?,
         Line::Busy => append_busy(3, &mut to)?,
-        Line::WarningAtChangelog => append_warning(None, Why::Error(Reason::Missing), &mut to)?,
-        _ => append_of_changeset(alloc, line, &mut to)?,
+        Line::WarningAtChangelog => append_warning(
+            alloc,
+            None,
+            Why::Error(Reason::Missing),
+            &mut to,
+        )?,
+        _ => append_of_changeset(alloc, "1", line, &mut to)?,
     }
     Ok(to)
 }
@@ -116,6 +123,10 @@ fn runs_write_their_lines(rt: HostRuntime) -> Result<(), Fail> {
             "liquibase: locked by bob since 1970-01-01 00:00:01.000\nliquibase: unrecorded: db/a.json::1::ann, undo statement 2\n",
         ),
         (
+            Line::LockedBroken,
+            "liquibase: locked by bob_ since 1970-01-01 00:00:01.000\nliquibase: unrecorded: db/a.json::_1::ann, statement 2\n",
+        ),
+        (
             Line::LockedByNobody,
             "liquibase: locked by unknown since unknown\n",
         ),
@@ -153,6 +164,52 @@ fn runs_write_their_lines(rt: HostRuntime) -> Result<(), Fail> {
     ];
     for (line, want) in cases {
         let text = made(rt.alloc(), line)?;
+        assert_eq!(rt; text.as_str(), want);
+    }
+    Ok(())
+}
+
+fn broken(alloc: Global, line: Line) -> Result<Text, NoMemory> {
+    let mut to = Text::new(alloc, "")?;
+    match line {
+        Line::NoTag => append_no_tag(alloc, "v\n1", &mut to)?,
+        _ => append_of_changeset(alloc, "\n1\t", line, &mut to)?,
+    }
+    Ok(to)
+}
+
+// What a database file holds begins no line of the log.
+#[test]
+fn lines_of_runs_are_one_each(rt: HostRuntime) -> Result<(), Fail> {
+    let cases = [
+        (
+            Line::Twice,
+            "liquibase: duplicate changeset db/a.json::_1_::ann\n",
+        ),
+        (
+            Line::Changed,
+            "liquibase: checksum of db/a.json::_1_::ann was 8:a, is 9:b\n",
+        ),
+        (
+            Line::Halted,
+            "liquibase: halted at db/a.json::_1_::ann: precondition failed\n",
+        ),
+        (
+            Line::Refused,
+            "liquibase: refused at db/a.json::_1_::ann, statement 2, 1 kept: null found\n",
+        ),
+        (Line::NoTag, "liquibase: no changeset has the tag v_1\n"),
+        (
+            Line::NotReversible,
+            "liquibase: no rollback for db/a.json::_1_::ann\n",
+        ),
+        (
+            Line::Warning,
+            "liquibase: warning: db/a.json::_1_::ann: precondition failed\n",
+        ),
+    ];
+    for (line, want) in cases {
+        let text = broken(rt.alloc(), line)?;
         assert_eq!(rt; text.as_str(), want);
     }
     Ok(())

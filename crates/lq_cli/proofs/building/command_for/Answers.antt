@@ -2,7 +2,8 @@ use Rattle.std.proofs.Common.{rules, ◌≡◌, ◌++◌, map, true, false, [], 
 use Rattle.std.proofs.lemmas.List.{take_all}
 use Rattle.clap.specs.Walk.{Text}
 use Rattle.clap.specs.Simple.{app_of}
-use Rattle.lq_cli.specs.Options.{command_of, rules_of, option}
+use Rattle.lq_cli.specs.Options.{command_of, rules_of}
+use Rattle.lq_option.specs.Rules.{option}
 use Rattle.lq_cli.specs.Table.{takes}
 use Rattle.lq_cli.proofs.Forms.{next_option, last_define}
 use Rattle.lq_cli.proofs.building.command_for.Goals as goal

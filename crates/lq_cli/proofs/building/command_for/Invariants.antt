@@ -1,6 +1,7 @@
 use Rattle.std.proofs.Common.{◌≡◌, ◌++◌, map, take, true, false}
 use Rattle.clap.specs.Simple.{app_of}
-use Rattle.lq_cli.specs.Options.{command_of, option}
+use Rattle.lq_cli.specs.Options.{command_of}
+use Rattle.lq_option.specs.Rules.{option}
 use Rattle.lq_cli.proofs.building.command_for.Given as goal
 
 abbrev pub invariant-loop-name : goal.invariant-loop-name

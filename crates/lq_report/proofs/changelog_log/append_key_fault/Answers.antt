@@ -1,8 +1,9 @@
-use Rattle.std.proofs.Common.{append_assoc}
+use Rattle.std.proofs.Common.{◌++◌, codes, append_assoc}
+use Rattle.std.proofs.lemmas.List.{append-nil}
 use Rattle.lq_report.specs.Log.{key_fault_line}
-use Rattle.lq_report.proofs.Appended.{on_ok, one}
+use Rattle.lq_report.proofs.Appended.{lined}
 use Rattle.lq_report.proofs.changelog_log.append_key_fault.Goals as goal
 
 pub returns : goal.returns
 unfolding key_fault_line
-returns c = on_ok c.push_all.result c.push_all.ensures.ok (λ is. one _ _ _ (key_fault_line c.args.path.now c.args.place.now c.args.rule.now) is (simp append_assoc))
+returns c = lined c.append_parts.result _ _ _ (codes "changelog fault: " ++ c.args.path.now ++ codes ": " ++ c.args.place.now ++ codes ": " ++ c.args.rule.now) c.append_parts.ensures (simp (append_assoc, append-nil))

@@ -1,7 +1,8 @@
 use Rattle.std.proofs.Common.{◌≡◌, length, None, refl, arith}
 use Rattle.std.specs.List.{position_or_len}
 use Rattle.std.proofs.lemmas.Str.Pattern.{split_once_first}
-use Rattle.lq_report.specs.Mark.{is_bar, mark_of}
+use Rattle.lq_report.specs.Mark.{mark_of}
+use Rattle.lq_words.specs.Words.{is_bar}
 use Rattle.lq_report.proofs.Bars.{no_bar_no_mark}
 use Rattle.lq_report.proofs.mark.mark_of.Goals as goal
 

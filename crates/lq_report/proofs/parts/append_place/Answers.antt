@@ -1,6 +1,6 @@
 use Rattle.std.proofs.Common.{◌++◌}
 use Rattle.std.proofs.lemmas.List.{append-nil}
-use Rattle.lq_report.specs.Words.{place_text}
+use Rattle.lq_words.specs.Words.{place_text}
 use Rattle.lq_report.proofs.Appended.{on_ok, one}
 use Rattle.lq_report.proofs.parts.append_place.Goals as goal
 
