@@ -1,5 +1,5 @@
 // Standard output and standard error.
-ghost use Rattle.std.specs.Prelude.{None};
+ghost use Rattle.std.specs.Prelude.{◌≡◌, None};
 ghost use Rattle.std.specs.Io.{WritesAtMost};
 
 use lq_outside::{Sink, SinkFailed};
