@@ -16,15 +16,20 @@ fn ran(rt: &HostRuntime, given: &[&str], out: File, log: File) -> Result<u8, Fai
     for word in given {
         words.push(String::from_str(rt.alloc(), word)?)?;
     }
+    let mut files = HostFiles::new(rt);
+    let disk = FileDisk::open(rt, "run_test/db");
+    let mut clock = HostClock::new(rt);
+    let mut out = Stream::new(out);
+    let mut log = Stream::new(log);
     let ended = run(
         rt.alloc(),
         &words,
         "ann",
-        &mut HostFiles::new(rt),
-        FileDisk::open(rt, "run_test/db"),
-        &mut HostClock::new(rt),
-        &mut Stream::new(out),
-        &mut Stream::new(log),
+        &mut files,
+        disk,
+        &mut clock,
+        &mut out,
+        &mut log,
     );
     Ok(ended.status.code())
 }
