@@ -2,24 +2,13 @@
 //! is run with.
 #![tactic(auto)]
 
-mod file_disk;
-mod host_clock;
-mod host_files;
-mod stream;
-#[cfg(test)]
-mod tests;
-mod walk;
-
-use file_disk::FileDisk;
-use host_clock::HostClock;
-use host_files::HostFiles;
 use lq_base::NoMemory;
+use lq_host::{FileDisk, HostClock, HostFiles, Stream};
 use lq_outside::{Disk, SureDisk, write_all};
 use lq_top::{database_path, run};
 use std::env::{self, VarError};
 use std::io::ErrorKind;
 use std::process::ExitCode;
-use stream::Stream;
 
 // The status of want of memory.
 const OUT_OF_MEMORY: u8 = 15;

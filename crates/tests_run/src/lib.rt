@@ -20,6 +20,8 @@ mod full;
 #[cfg(test)]
 mod memory;
 #[cfg(test)]
+mod real;
+#[cfg(test)]
 mod refusals;
 #[cfg(test)]
 mod running;

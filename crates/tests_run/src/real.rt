@@ -1,7 +1,4 @@
-use crate::file_disk::FileDisk;
-use crate::host_clock::HostClock;
-use crate::host_files::HostFiles;
-use crate::stream::Stream;
+use lq_host::{FileDisk, HostClock, HostFiles, Stream};
 use lq_top::run;
 use std::fs::{self, File};
 use std::test::Fail;
@@ -13,8 +10,8 @@ const URL: &str = "--url=postgresql:run_test/db";
 
 const PATH: &str = "--changelog-file=run_test/r1.json";
 
-// Runs a command with the adapters of the system, and tells whether it printed the text.
-fn prints(rt: &HostRuntime, given: &[&str], text: &str) -> Result<bool, Fail> {
+// Runs a command with the adapters of the system, and gives its status.
+fn ran(rt: &HostRuntime, given: &[&str], out: File, log: File) -> Result<u8, Fail> {
     let mut words = Vec::new(rt.alloc());
     for word in given {
         words.push(String::from_str(rt.alloc(), word)?)?;
@@ -22,8 +19,8 @@ fn prints(rt: &HostRuntime, given: &[&str], text: &str) -> Result<bool, Fail> {
     let mut files = HostFiles::new(rt);
     let disk = FileDisk::open(rt, "run_test/db");
     let mut clock = HostClock::new(rt);
-    let mut out = Stream::new(File::create(rt, "run_test/out")?);
-    let mut log = Stream::new(File::create(rt, "run_test/log")?);
+    let mut out = Stream::new(out);
+    let mut log = Stream::new(log);
     let ended = run(
         rt.alloc(),
         &words,
@@ -34,9 +31,17 @@ fn prints(rt: &HostRuntime, given: &[&str], text: &str) -> Result<bool, Fail> {
         &mut out,
         &mut log,
     );
-    let printed = fs::read(rt, "run_test/out")?;
-    let logged = fs::read(rt, "run_test/log")?;
-    Ok(ended.status.code() == 0 && printed.as_slice() == text.as_bytes() && logged.is_empty())
+    Ok(ended.status.code())
+}
+
+// Whether a command comes to its end and prints the text.
+fn prints(rt: &HostRuntime, given: &[&str], text: &str) -> Result<bool, Fail> {
+    let out = File::create(rt, "run_test/out")?;
+    let log = File::create(rt, "run_test/log")?;
+    let status = ran(rt, given, out, log)?;
+    let printed = fs::read_to_string(rt, "run_test/out")?;
+    let logged = fs::metadata(rt, "run_test/log")?.len();
+    Ok(status == 0 && printed.as_str() == text && logged == 0)
 }
 
 #[test]

@@ -1,6 +1,6 @@
 // All files under a folder.
 ghost use Rattle.std.specs.Prelude.{◌≡◌, IfOk};
-ghost use Rattle.liquibase.specs.Path.{joined};
+ghost use Rattle.lq_host.specs.Path.{joined};
 
 use lq_base::{Items, NoMemory, Text};
 use std::alloc::{AllocError, Global};
@@ -20,7 +20,7 @@ struct Walk<'a> {
     entries: u64,
 }
 
-// What a path leads to, after all links.
+// What is found at a path, after all links.
 #[derive(Clone, Copy, PartialEq, Eq)]
 enum Node {
     Folder,
@@ -29,15 +29,15 @@ enum Node {
 }
 
 /// The paths of all files under a folder, links followed, and none where there is no such folder. It
-/// fails where a folder lies more than 64 levels below the first one, or where there are more than
-/// 1,000,000 files and folders.
+/// fails where a link leads nowhere, where a folder lies more than 64 levels below the first one, and
+/// where there are more than 1,000,000 files and folders.
 pub fn files_under(rt: &HostRuntime, folder: &str) -> io::Result<Items<Text>> {
     let mut walk = Walk {
         rt,
         files: Items::new(rt.alloc()),
         entries: 0,
     };
-    if node_at(rt, on_system(folder))? == Node::Folder {
+    if is_folder(rt, on_system(folder))? {
         walk.visit(folder, MAX_LEVELS)?;
     }
     let Walk { files, .. } = walk;
@@ -65,18 +65,27 @@ impl Walk<'_> {
     }
 }
 
-fn node_at(rt: &HostRuntime, path: &str) -> io::Result<Node> {
-    match fs::metadata(rt, path) {
-        Ok(found) if found.is_dir() => Ok(Node::Folder),
-        Ok(found) if found.is_file() => Ok(Node::File),
-        Ok(_) => Ok(Node::Other),
-        // A link may lead nowhere.
+// Whether there is a folder at a path. It may be of nothing, or below a file.
+fn is_folder(rt: &HostRuntime, path: &str) -> io::Result<bool> {
+    match node_at(rt, path) {
+        Ok(node) => Ok(node == Node::Folder),
         Err(error) => match error.kind() {
             ErrorKind::NotFound | ErrorKind::NotADirectory | ErrorKind::InvalidFilename => {
-                Ok(Node::Other)
+                Ok(false)
             }
             _ => Err(error),
         },
+    }
+}
+
+fn node_at(rt: &HostRuntime, path: &str) -> io::Result<Node> {
+    let found = fs::metadata(rt, path)?;
+    if found.is_dir() {
+        Ok(Node::Folder)
+    } else if found.is_file() {
+        Ok(Node::File)
+    } else {
+        Ok(Node::Other)
     }
 }
 

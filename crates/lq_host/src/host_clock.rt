@@ -32,17 +32,3 @@ impl Clock for HostClock<'_> {
         self.last
     }
 }
-
-#[cfg(test)]
-mod tests {
-    use super::*;
-
-    #[test]
-    fn the_clock_is_past_2020_and_before_2200(rt: HostRuntime) {
-        let mut clock = HostClock::new(&rt);
-        let first = clock.now();
-        assert!(rt; first > 1_577_836_800_000);
-        assert!(rt; first < 7_258_118_400_000);
-        assert_eq!(rt; clock.last, first);
-    }
-}
