@@ -115,9 +115,9 @@ fn change_column(
     ensures ok { OnOk result (parts.new ≡ changed parts.old (with_table parts.old.now table.now (with_changed column.now (applied change.now) (the_table parts.old.now table.now)))) }
     ensures err { OnErr result (parts.new ≡ parts.old) }
 {
-    let shape = copied_shape(parts, alloc, table)?;
-    let columns = changed_columns(alloc, shape.columns.as_slice(), column, change)?;
-    parts.shape_table(table, Shape { columns, ..shape })
+    let mut shape = copied_shape(parts, alloc, table)?;
+    shape.columns = changed_columns(alloc, shape.columns.as_slice(), column, change)?;
+    parts.shape_table(table, shape)
 }
 
 /// Changes the column of the name, unless a test is against it.

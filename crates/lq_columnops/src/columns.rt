@@ -18,7 +18,7 @@ use lq_arm::Tests;
 use lq_base::{Dialect, Items, Name, NoMemory};
 use lq_model::{By, Column, ColumnDef};
 use lq_parts::{Parts, RunFault};
-use lq_rows::{Shape, has_column, is_null};
+use lq_rows::{has_column, is_null};
 use lq_shapes::new_column;
 use std::alloc::Global;
 
@@ -39,10 +39,11 @@ fn drop_unless(
         Err(fault) => return Err(fault),
     }
     let by = rows_less(parts, alloc, table, column)?;
-    let shape = copied_shape(parts, alloc, table)?;
+    let mut shape = copied_shape(parts, alloc, table)?;
     let mut columns = Items::new(alloc);
     push_columns_without(alloc, &mut columns, shape.columns.as_slice(), column)?;
-    reshape(parts, alloc, table, Shape { columns, ..shape }, by)?;
+    shape.columns = columns;
+    reshape(parts, alloc, table, shape, by)?;
     Ok(0)
 }
 
@@ -103,10 +104,9 @@ fn add_unless(
         Err(fault) => return Err(fault),
     }
     let by = rows_more(parts, alloc, table, &column)?;
-    let shape = copied_shape(parts, alloc, table)?;
-    let mut columns = shape.columns;
-    columns.push(column)?;
-    reshape(parts, alloc, table, Shape { columns, ..shape }, by)?;
+    let mut shape = copied_shape(parts, alloc, table)?;
+    shape.columns.push(column)?;
+    reshape(parts, alloc, table, shape, by)?;
     Ok(0)
 }
 

@@ -68,22 +68,10 @@ fn joined_with(
 ) -> ChangeSet
     ensures { sum ≡ sum_of heading.changes → result ≡ set_with heading selection running path notes }
 {
-    let Heading {
-        id,
-        author,
-        changes,
-    } = heading;
-    let Selection {
-        context,
-        labels,
-        here,
-    } = selection;
-    let Notes {
-        valid_sums,
-        comment,
-        reaction,
-        rollback,
-    } = notes;
+    let here = selection.here;
+    let (id, author, changes) = heading.into_parts();
+    let (context, labels) = selection.into_parts();
+    let (valid_sums, comment, reaction, rollback) = notes.into_parts();
     ChangeSet {
         identity: Identity {
             file: path,

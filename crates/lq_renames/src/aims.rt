@@ -53,9 +53,13 @@ fn retarget_each(
 fn retargeted(alloc: Global, from: &Name, to: &Name, held: &Held) -> Result<Shape, NoMemory>
     ensures { IfOk result (λ shape. with_shape shape held.now.now ≡ retargeted from.now to.now held.now.now) }
 {
-    let foreign = retarget_each(alloc, from, to, held.foreign_keys())?;
-    let shape = held.shape().duplicate(alloc)?;
-    Ok(Shape { foreign, ..shape })
+    let (foreign, copy) = both(
+        retarget_each(alloc, from, to, held.foreign_keys()),
+        held.shape().duplicate(alloc),
+    )?;
+    let mut shape = copy;
+    shape.foreign = foreign;
+    Ok(shape)
 }
 
 /// Gives the foreign keys of the table at a place the new name of the table that they aim at.

@@ -8,7 +8,7 @@ ghost use Rattle.lq_rows.specs.Answers.{Continues};
 ghost use Rattle.lq_rows.specs.Stored.{with_shape};
 
 use crate::lists::{columns, foreign_keys, indexes, key, uniques};
-use lq_base::{Duplicate, Name, NoMemory};
+use lq_base::{Duplicate, Name, NoMemory, both};
 use lq_parts::Parts;
 use lq_rows::{Held, Shape};
 use lq_shapes::targets_table;
@@ -27,12 +27,25 @@ fn with_column_renamed(
     ensures { IfOk result (λ shape. with_shape shape held.now.now ≡ with_column_renamed table.now own from.now to.now held.now.now) }
 {
     let shape = held.shape();
+    let (((columns, key), uniques), (foreign, indexes)) = both(
+        both(
+            both(
+                columns(alloc, own, from, to, shape.columns.as_slice()),
+                key(alloc, own, from, to, &shape.key),
+            ),
+            uniques(alloc, own, from, to, shape.uniques.as_slice()),
+        ),
+        both(
+            foreign_keys(alloc, table, own, from, to, shape.foreign.as_slice()),
+            indexes(alloc, own, from, to, shape.indexes.as_slice()),
+        ),
+    )?;
     Ok(Shape {
-        columns: columns(alloc, own, from, to, shape.columns.as_slice())?,
-        key: key(alloc, own, from, to, &shape.key)?,
-        uniques: uniques(alloc, own, from, to, shape.uniques.as_slice())?,
-        foreign: foreign_keys(alloc, table, own, from, to, shape.foreign.as_slice())?,
-        indexes: indexes(alloc, own, from, to, shape.indexes.as_slice())?,
+        columns,
+        key,
+        uniques,
+        foreign,
+        indexes,
     })
 }
 

@@ -16,6 +16,7 @@ use crate::values::Values;
 use lq_base::{Items, Name, NoMemory, Value};
 use lq_chain::Chain;
 use lq_model::{Column, ForeignKey, Index, Key, Unique};
+use lq_undo::Numbered;
 use std::alloc::Global;
 use std::collections::BTreeSet;
 use std::marker::Model;
@@ -34,18 +35,24 @@ pub struct Seen {
 #[derive(Drop)]
 pub struct Body {
     shape: Shape,
-    /// What the next row gets in a numbered column where it states no number.
-    next: u64,
-    rows: Chain<Row>,
+    /// The rows, with what the next of them gets in a numbered column where it states no number.
+    numbered: Numbered<Chain<Row>>,
     /// What is known of the rows for looking up; it is dropped where rows go.
     seen: Vec<Seen>,
 }
 
 /// A table, with its rows before each change since the last `forget`. It is small, and can be moved
 /// without its rows.
-#[derive(Drop)]
 pub struct Held {
     body: Box<Body>,
+}
+
+// Written out, so that each place that lets one go is one call.
+impl Drop for Held {
+    fn drop(self) {
+        let Held { body } = self;
+        drop(body);
+    }
 }
 
 impl Model for Held {
@@ -56,9 +63,9 @@ impl Model for Held {
     ghost use Rattle.lq_rows.specs.Stored.{table_as};
     ghost use Rattle.lq_rows.specs.Seen.{AllShow};
 
-    ghost view = { λ t. stored (table_as t.body.value.shape t.body.value.next t.body.value.rows.now) t.body.value.rows.past };
+    ghost view = { λ t. stored (table_as t.body.value.shape t.body.value.numbered.next t.body.value.numbered.rows.now) t.body.value.numbered.rows.past };
 
-    ghost invariant = { λ t. AllShow t.body.value.shape.columns t.body.value.rows.now t.body.value.seen.items };
+    ghost invariant = { λ t. AllShow t.body.value.shape.columns t.body.value.numbered.rows.now t.body.value.seen.items };
 }
 
 impl Held {
@@ -68,8 +75,10 @@ impl Held {
     {
         let body = Body {
             shape,
-            next: 1,
-            rows: Chain::new(alloc),
+            numbered: Numbered {
+                rows: Chain::new(alloc),
+                next: 1,
+            },
             seen: Vec::new(alloc),
         };
         Ok(Held {
@@ -118,21 +127,21 @@ impl Held {
     pub fn next(&self) -> u64
         ensures { result ≡ self.now.now.next }
     {
-        self.body.next
+        self.body.numbered.next
     }
 
     /// The rows, with what undoing their changes needs.
     pub fn rows(&self) -> &Chain<Row>
         ensures { result.now ≡ rows_of self.now }
     {
-        &self.body.rows
+        &self.body.numbered.rows
     }
 
     /// The number of its rows.
     pub fn len(&self) -> usize
         ensures { result ≡ length self.now.now.rows }
     {
-        self.body.rows.len()
+        self.body.numbered.rows.len()
     }
 
     /// Whether a row has a null in the column of the name.
@@ -146,7 +155,7 @@ impl Held {
     pub fn mark(&self) -> u64
         ensures { result ≡ marked (rows_of self.now) }
     {
-        self.body.rows.mark()
+        self.body.numbered.rows.mark()
     }
 
     /// Whether a row has these values in these columns. What gets known for it stays known.
@@ -164,7 +173,7 @@ impl Held {
             alloc,
             &mut body.seen,
             body.shape.columns.as_slice(),
-            &body.rows,
+            &body.numbered.rows,
             names,
             values,
         )
@@ -181,7 +190,7 @@ impl Held {
             alloc,
             &mut body.seen,
             columns,
-            &body.rows,
+            &body.numbered.rows,
             &body.shape.key,
             row,
         )? {
@@ -191,7 +200,7 @@ impl Held {
             alloc,
             &mut body.seen,
             columns,
-            &body.rows,
+            &body.numbered.rows,
             body.shape.uniques.as_slice(),
             row,
         )? {
@@ -201,7 +210,7 @@ impl Held {
             alloc,
             &mut body.seen,
             columns,
-            &body.rows,
+            &body.numbered.rows,
             body.shape.indexes.as_slice(),
             row,
         )
@@ -219,11 +228,11 @@ impl Held {
             body.shape.columns.as_slice(),
             row.as_slice(),
         );
-        if body.rows.push_back(row).is_err() {
+        if body.numbered.rows.push_back(row).is_err() {
             body.seen.clear();
             return Err(NoMemory);
         }
-        body.next = next;
+        body.numbered.next = next;
         Ok(())
     }
 
@@ -235,7 +244,7 @@ impl Held {
     {
         let body = &mut *self.body;
         body.seen.clear();
-        body.rows.replace_some(alloc, by)
+        body.numbered.rows.replace_some(alloc, by)
     }
 
     /// Keeps the rows whose mark stands and takes the others out, or changes nothing.
@@ -246,7 +255,7 @@ impl Held {
     {
         let body = &mut *self.body;
         body.seen.clear();
-        body.rows.keep(alloc, marks)
+        body.numbered.rows.keep(alloc, marks)
     }
 
     /// Gives the rows and the next number as they were.
@@ -256,8 +265,7 @@ impl Held {
     {
         let body = &mut *self.body;
         body.seen.clear();
-        body.rows.undo_to(mark);
-        body.next = next;
+        body.numbered.go_back(mark, next);
     }
 
     /// Gives the table another shape, and hands back the one that it had.
@@ -274,7 +282,7 @@ impl Held {
     pub fn forget(&mut self)
         ensures { self.new ≡ with_rows (forgotten (rows_of self.old)) self.old.now.next self.old }
     {
-        self.body.rows.forget();
+        self.body.numbered.rows.forget();
     }
 }
 

@@ -1,9 +1,8 @@
-use lq_base::{Duplicate, Items, NoMemory};
+use lq_base::{Duplicate, Items, NoMemory, both};
 use lq_model::{Column, ForeignKey, Index, Key, Unique};
 use std::alloc::Global;
 
 /// What a table is but for its rows and its next number.
-#[derive(Drop)]
 pub struct Shape {
     pub columns: Items<Column>,
     pub key: Option<Key>,
@@ -12,14 +11,39 @@ pub struct Shape {
     pub indexes: Items<Index>,
 }
 
+// Written out, so that each place that lets one go is one call.
+impl Drop for Shape {
+    fn drop(self) {
+        let Shape {
+            columns,
+            key,
+            uniques,
+            foreign,
+            indexes,
+        } = self;
+        drop(columns);
+        drop(key);
+        drop(uniques);
+        drop(foreign);
+        drop(indexes);
+    }
+}
+
 impl Duplicate for Shape {
     fn duplicate(&self, alloc: Global) -> Result<Shape, NoMemory> {
+        let (((columns, key), uniques), (foreign, indexes)) = both(
+            both(
+                both(self.columns.duplicate(alloc), self.key.duplicate(alloc)),
+                self.uniques.duplicate(alloc),
+            ),
+            both(self.foreign.duplicate(alloc), self.indexes.duplicate(alloc)),
+        )?;
         Ok(Shape {
-            columns: self.columns.duplicate(alloc)?,
-            key: self.key.duplicate(alloc)?,
-            uniques: self.uniques.duplicate(alloc)?,
-            foreign: self.foreign.duplicate(alloc)?,
-            indexes: self.indexes.duplicate(alloc)?,
+            columns,
+            key,
+            uniques,
+            foreign,
+            indexes,
         })
     }
 }

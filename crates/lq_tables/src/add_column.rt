@@ -4,11 +4,11 @@ ghost use Rattle.std.specs.Prelude.{◌≡◌, ◌++◌, ◌∷◌, [], IfOk, No
 ghost use Rattle.lq_model.specs.declared.statement.Statement.TheVariants as statement;
 ghost use Rattle.lq_tree.specs.Found.{Reads};
 ghost use Rattle.lq_tree.specs.Values.{literal_of};
-ghost use Rattle.lq_tables.specs.AddColumn.{add_column, column_gives, column_inverse, def_of, firms, foreign_of, inverse_all, is_firm, is_for, joins, leaves, parts, refers, sets, unique_of};
+ghost use Rattle.lq_tables.specs.AddColumn.{add_column, column_gives, column_inverse, def_of, firms, foreign_of, inverse_all, is_firm, is_for, joins, leaves, parts, refers, sets, unique_of, with_foreign_name};
 
 use crate::constraints::{Reference, foreign_stated, reference_field, unique_stated};
 use crate::value_keys::{default_at, default_value, set_at, set_value};
-use lq_base::{Dialect, Duplicate, Items, Kind, KindFault, Literal, Name, NoMemory};
+use lq_base::{Dialect, Duplicate, Items, Kind, KindFault, Literal, Name, NoMemory, both};
 use lq_last_first::{TakesBack, push_undoing};
 use lq_model::{
     Canon, Change, ColumnDef, Field, Fields, ForeignKey, Look, MapAt, MapsAt, SqlText, Statement,
@@ -129,20 +129,31 @@ impl Given for AddedConstraints {
         let nullable = optional(alloc, node, "nullable")?;
         let unique = optional(alloc, node, "unique")?;
         let unique_constraint_name = optional(alloc, node, "uniqueConstraintName")?;
-        let references: Option<Reference> = optional(alloc, node, "references")?;
-        let foreign_key_name: Option<Name> = optional(alloc, node, "foreignKeyName")?;
-        if references.is_some() && foreign_key_name.is_none() {
-            return Err(missing(alloc, "foreignKeyName"));
-        }
-        Ok(AddedConstraints {
-            primary_key_name,
-            nullable,
-            unique,
-            unique_constraint_name,
-            references,
-            foreign_key_name,
-        })
+        let references = optional(alloc, node, "references")?;
+        let foreign_key_name = optional(alloc, node, "foreignKeyName")?;
+        with_foreign_name(
+            alloc,
+            AddedConstraints {
+                primary_key_name,
+                nullable,
+                unique,
+                unique_constraint_name,
+                references,
+                foreign_key_name,
+            },
+        )
     }
+}
+
+// Tests that a foreign key has a name.
+fn with_foreign_name(alloc: Global, stated: AddedConstraints) -> Result<AddedConstraints, KindFault>
+    ensures read { Reads (with_foreign_name stated) result }
+    ensures same { IfOk result (λ found. found ≡ stated) }
+{
+    if stated.references.is_some() && stated.foreign_key_name.is_none() {
+        return Err(missing(alloc, "foreignKeyName"));
+    }
+    Ok(stated)
 }
 
 impl Given for AddedColumn {
@@ -247,9 +258,9 @@ impl AddedColumn {
     fn def(&self, alloc: Global) -> Result<ColumnDef, NoMemory>
         ensures { IfOk result (λ made. made ≡ def_of self.now) }
     {
-        let default = self.default(alloc)?;
+        let (name, default) = both(self.name.duplicate(alloc), self.default(alloc))?;
         Ok(ColumnDef {
-            name: self.name.duplicate(alloc)?,
+            name,
             kind: self.kind,
             nullable: !(self.is_firm() && !self.value.is_some()),
             default,
@@ -260,30 +271,35 @@ impl AddedColumn {
     fn add(&self, alloc: Global, table: &Name) -> Result<Statement, NoMemory>
         ensures { IfOk result (λ made. made ≡ statement.AddColumn table.now (def_of self.now)) }
     {
-        let column = self.def(alloc)?;
-        Ok(Statement::AddColumn {
-            table: table.duplicate(alloc)?,
-            column,
-        })
+        let (table, column) = both(table.duplicate(alloc), self.def(alloc))?;
+        Ok(Statement::AddColumn { table, column })
     }
 
     fn set(&self, alloc: Global, table: &Name, value: &GivenValue) -> Result<Statement, NoMemory>
         ensures { IfOk result (λ made. made ≡ statement.Update table.now ((self.now.name, literal_of value.now) ∷ []) None) }
     {
-        let mut sets = Items::new(alloc);
-        sets.push((self.name.duplicate(alloc)?, value.literal(alloc)?))?;
+        let (table, sets) = both(table.duplicate(alloc), self.filled(alloc, value))?;
         Ok(Statement::Update {
-            table: table.duplicate(alloc)?,
+            table,
             sets,
             test: None,
         })
     }
 
+    // The column with the value.
+    fn filled(&self, alloc: Global, value: &GivenValue) -> Result<Items<(Name, Literal)>, NoMemory>
+        ensures { IfOk result (λ sets. sets ≡ (self.now.name, literal_of value.now) ∷ []) }
+    {
+        let (column, value) = both(self.name.duplicate(alloc), value.literal(alloc))?;
+        let mut sets = Items::new(alloc);
+        sets.push((column, value))?;
+        Ok(sets)
+    }
+
     fn firm(&self, alloc: Global, dialect: Dialect, table: &Name) -> Result<Statement, NoMemory>
         ensures { IfOk result (λ made. made ∷ [] ≡ firms dialect table.now self.now) }
     {
-        let table = table.duplicate(alloc)?;
-        let column = self.name.duplicate(alloc)?;
+        let (table, column) = both(table.duplicate(alloc), self.name.duplicate(alloc))?;
         match dialect {
             Dialect::Postgresql => Ok(Statement::SetNotNull { table, column }),
             Dialect::Mysql => Ok(Statement::Modify {
@@ -322,13 +338,11 @@ impl AddedColumn {
     ) -> Result<(), NoMemory>
         ensures { OnOk result (to.new ≡ to.old ++ joins table.now (unique_of table.now self.now)) }
     {
-        let Some(unique) = self.unique(alloc, table)? else {
+        let (table, unique) = both(table.duplicate(alloc), self.unique(alloc, table))?;
+        let Some(unique) = unique else {
             return Ok(());
         };
-        to.push(Statement::AddUnique {
-            table: table.duplicate(alloc)?,
-            unique,
-        })?;
+        to.push(Statement::AddUnique { table, unique })?;
         Ok(())
     }
 
@@ -340,13 +354,11 @@ impl AddedColumn {
     ) -> Result<(), NoMemory>
         ensures { OnOk result (to.new ≡ to.old ++ refers table.now (foreign_of self.now)) }
     {
-        let Some(foreign) = self.foreign(alloc)? else {
+        let (table, foreign) = both(table.duplicate(alloc), self.foreign(alloc))?;
+        let Some(foreign) = foreign else {
             return Ok(());
         };
-        to.push(Statement::AddForeignKey {
-            table: table.duplicate(alloc)?,
-            foreign,
-        })?;
+        to.push(Statement::AddForeignKey { table, foreign })?;
         Ok(())
     }
 
@@ -377,8 +389,8 @@ impl AddedColumn {
         let Some(unique) = self.unique(alloc, table)? else {
             return Ok(());
         };
-        let table = table.duplicate(alloc)?;
         let name = unique.into_name();
+        let table = table.duplicate(alloc)?;
         match dialect {
             Dialect::Postgresql => to.push(Statement::DropConstraint { table, name })?,
             Dialect::Mysql => to.push(Statement::DropUnique { table, name })?,
@@ -398,8 +410,8 @@ impl AddedColumn {
         let Some(foreign) = self.foreign(alloc)? else {
             return Ok(());
         };
-        let table = table.duplicate(alloc)?;
         let name = foreign.into_name();
+        let table = table.duplicate(alloc)?;
         match dialect {
             Dialect::Postgresql => to.push(Statement::DropConstraint { table, name })?,
             Dialect::Mysql => to.push(Statement::DropForeignKey { table, name })?,
@@ -418,10 +430,8 @@ impl AddedColumn {
     {
         self.push_parts(alloc, dialect, table, to)?;
         self.push_leaves(alloc, dialect, table, to)?;
-        to.push(Statement::DropColumn {
-            table: table.duplicate(alloc)?,
-            column: self.name.duplicate(alloc)?,
-        })?;
+        let (table, column) = both(table.duplicate(alloc), self.name.duplicate(alloc))?;
+        to.push(Statement::DropColumn { table, column })?;
         Ok(())
     }
 }

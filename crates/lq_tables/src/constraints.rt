@@ -1,7 +1,7 @@
 //! What createTable and addColumn can state of a column besides its kind and values.
 
 ghost use Rattle.std.specs.Option.{option_copied, option_map};
-ghost use Rattle.std.specs.Prelude.{◌≡◌, ◌<◌, IfOk, IfSome, MatchOption, false, length, true};
+ghost use Rattle.std.specs.Prelude.{◌≡◌, ◌<◌, ◌∷◌, [], IfOk, IfSome, MatchOption, false, length, true};
 ghost use Rattle.std.specs.Str.{is_utf8};
 ghost use Rattle.lq_base.specs.Name.{is_name};
 ghost use Rattle.lq_base.specs.Options.{if_there};
@@ -9,17 +9,25 @@ ghost use Rattle.lq_model.specs.Canon.{text};
 ghost use Rattle.lq_model.specs.Written.{field_value};
 ghost use Rattle.lq_tables.specs.Constraints.{closed, foreign_stated, is_target, last_open, name_in, target_at, target_of, unique_stated};
 
-use lq_base::{Duplicate, Items, KindFault, Name, NameFault, NoMemory, Text};
+use lq_base::{Duplicate, Items, KindFault, Name, NameFault, NoMemory, Text, both};
 use lq_model::{Field, ForeignKey, Target, Unique, unique_name};
 use lq_tree::{Given, Node, bad};
 use std::alloc::Global;
 
 /// The column that a foreign key targets, as `TABLE(COLUMN)`.
-#[derive(Drop)]
 pub struct Reference {
     /// As it was given.
     pub text: Text,
     pub target: Target,
+}
+
+// Written out, so that each place that lets one go is one call.
+impl Drop for Reference {
+    fn drop(self) {
+        let Reference { text, target } = self;
+        drop(text);
+        drop(target);
+    }
 }
 
 fn as_text(bytes: &[u8]) -> Option<&str>
@@ -115,6 +123,16 @@ impl Given for Reference {
     }
 }
 
+// A list of the one name.
+fn one_name(alloc: Global, name: &Name) -> Result<Items<Name>, NoMemory>
+    ensures { IfOk result (λ names. names ≡ name.now ∷ []) }
+{
+    let name = name.duplicate(alloc)?;
+    let mut names = Items::new(alloc);
+    names.push(name)?;
+    Ok(names)
+}
+
 /// The unique constraint of a column, where there is one.
 pub(crate) fn unique_stated(
     alloc: Global,
@@ -128,8 +146,7 @@ pub(crate) fn unique_stated(
     if !unique.unwrap_or(false) {
         return Ok(None);
     }
-    let mut columns = Items::new(alloc);
-    columns.push(column.duplicate(alloc)?)?;
+    let columns = one_name(alloc, column)?;
     let name = match name {
         Some(name) => name.duplicate(alloc)?,
         None => unique_name(alloc, table, columns.as_slice())?,
@@ -149,14 +166,14 @@ pub(crate) fn foreign_stated(
     let (Some(reference), Some(name)) = (references, name) else {
         return Ok(None);
     };
-    let mut columns = Items::new(alloc);
-    columns.push(column.duplicate(alloc)?)?;
-    let mut targets = Items::new(alloc);
-    targets.push(reference.target.column.duplicate(alloc)?)?;
+    let target = &reference.target;
+    let names = both(name.duplicate(alloc), target.table.duplicate(alloc));
+    let lists = both(one_name(alloc, column), one_name(alloc, &target.column));
+    let ((name, table), (columns, targets)) = both(names, lists)?;
     Ok(Some(ForeignKey {
-        name: name.duplicate(alloc)?,
+        name,
         columns,
-        table: reference.target.table.duplicate(alloc)?,
+        table,
         targets,
         cascade: false,
     }))

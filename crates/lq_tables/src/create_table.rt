@@ -3,11 +3,11 @@ ghost use Rattle.std.specs.Option.{option_map};
 ghost use Rattle.std.specs.Prelude.{◌≡◌, ◌++◌, IfOk, OnOk, map, true};
 ghost use Rattle.lq_tree.specs.Found.{Reads};
 ghost use Rattle.lq_tree.specs.Values.{literal_of};
-ghost use Rattle.lq_tables.specs.CreateTable.{create_table, creates, def_of, first_name, foreign_of, is_for, is_in_key, is_loose, key_column_of, key_columns, key_named, key_of, stated_name, unique_of};
+ghost use Rattle.lq_tables.specs.CreateTable.{create_table, creates, def_of, first_name, foreign_of, is_for, is_in_key, is_loose, key_column_of, key_columns, key_named, key_of, stated_name, unique_of, with_foreign_name};
 
 use crate::constraints::{Reference, foreign_stated, reference_field, unique_stated};
 use crate::value_keys::{default_at, default_value};
-use lq_base::{Dialect, Duplicate, Items, Kind, KindFault, Literal, Name, NoMemory};
+use lq_base::{Dialect, Duplicate, Items, Kind, KindFault, Literal, Name, NoMemory, both};
 use lq_model::{
     Canon, Change, ColumnDef, Field, Fields, ForeignKey, Key, Look, MapAt, MapsAt, SqlText,
     Statement, Undo, Unique, Written, key_name, name_field, truth_field, write_change_of,
@@ -125,21 +125,35 @@ impl Given for CreatedConstraints {
         let nullable = optional(alloc, node, "nullable")?;
         let unique = optional(alloc, node, "unique")?;
         let unique_constraint_name = optional(alloc, node, "uniqueConstraintName")?;
-        let references: Option<Reference> = optional(alloc, node, "references")?;
-        let foreign_key_name: Option<Name> = optional(alloc, node, "foreignKeyName")?;
-        if references.is_some() && foreign_key_name.is_none() {
-            return Err(missing(alloc, "foreignKeyName"));
-        }
-        Ok(CreatedConstraints {
-            primary_key,
-            primary_key_name,
-            nullable,
-            unique,
-            unique_constraint_name,
-            references,
-            foreign_key_name,
-        })
+        let references = optional(alloc, node, "references")?;
+        let foreign_key_name = optional(alloc, node, "foreignKeyName")?;
+        with_foreign_name(
+            alloc,
+            CreatedConstraints {
+                primary_key,
+                primary_key_name,
+                nullable,
+                unique,
+                unique_constraint_name,
+                references,
+                foreign_key_name,
+            },
+        )
     }
+}
+
+// Tests that a foreign key has a name.
+fn with_foreign_name(
+    alloc: Global,
+    stated: CreatedConstraints,
+) -> Result<CreatedConstraints, KindFault>
+    ensures read { Reads (with_foreign_name stated) result }
+    ensures same { IfOk result (λ found. found ≡ stated) }
+{
+    if stated.references.is_some() && stated.foreign_key_name.is_none() {
+        return Err(missing(alloc, "foreignKeyName"));
+    }
+    Ok(stated)
 }
 
 impl Given for CreatedColumn {
@@ -223,9 +237,9 @@ impl CreatedColumn {
     fn def(&self, alloc: Global) -> Result<ColumnDef, NoMemory>
         ensures { IfOk result (λ made. made ≡ def_of self.now) }
     {
-        let default = self.default(alloc)?;
+        let (name, default) = both(self.name.duplicate(alloc), self.default(alloc))?;
         Ok(ColumnDef {
-            name: self.name.duplicate(alloc)?,
+            name,
             kind: self.kind,
             nullable: self.is_loose(),
             default,
@@ -399,13 +413,18 @@ impl CreateTable {
     fn statement(&self, alloc: Global, dialect: Dialect) -> Result<Statement, NoMemory>
         ensures { IfOk result (λ made. made ≡ creates dialect self.now) }
     {
+        let table = &self.table_name;
         let columns = self.columns.as_slice();
+        let head = both(table.duplicate(alloc), defs(alloc, columns));
+        let lists = both(uniques(alloc, table, columns), foreign_keys(alloc, columns));
+        let tail = both(stated_key(alloc, dialect, table, columns), lists);
+        let ((table, columns), (key, (uniques, foreign))) = both(head, tail)?;
         Ok(Statement::CreateTable {
-            table: self.table_name.duplicate(alloc)?,
-            columns: defs(alloc, columns)?,
-            key: stated_key(alloc, dialect, &self.table_name, columns)?,
-            uniques: uniques(alloc, &self.table_name, columns)?,
-            foreign: foreign_keys(alloc, columns)?,
+            table,
+            columns,
+            key,
+            uniques,
+            foreign,
         })
     }
 }

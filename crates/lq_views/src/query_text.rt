@@ -12,11 +12,23 @@ use std::marker::Model;
 
 /// A text in the SQL of a dialect that spells a query. Contracts see the dialect and the text, which
 /// tell the query.
-#[derive(Drop)]
 pub struct QueryText {
     dialect: Dialect,
     text: Text,
     query: Query,
+}
+
+// Written out, so that each place that lets one go is one call.
+impl Drop for QueryText {
+    fn drop(self) {
+        let QueryText {
+            dialect: _,
+            text,
+            query,
+        } = self;
+        drop(text);
+        drop(query);
+    }
 }
 
 impl Model for QueryText {

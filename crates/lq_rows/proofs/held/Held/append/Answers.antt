@@ -7,6 +7,6 @@ use Rattle.lq_rows.proofs.held.Held.append.Goals as goal
 pub invariant_of-self-2 : goal.invariant_of-self-2
 invariant_of-self-2 c =
     let b = c.deref_mut-body.result.now in
-    let shows : AllShow b.shape.columns b.rows.now b.seen.items = rw (c.deref_mut-body.ensures.value) c.self.invariant in
-    let rows : c.push_back.new.self ≡ changed b.rows (b.rows.now ++ c.args.row ∷ []) = search rules in
-    rw (rows) (kept_up b.shape.columns b.rows.now c.args.row b.seen.items c.keep_up.new.seen.items _ _ c.as_slice.ensures c.as_slice-2.ensures c.keep_up.ensures shows)
+    let shows : AllShow b.shape.columns b.numbered.rows.now b.seen.items = rw (c.deref_mut-body.ensures.value) c.self.invariant in
+    let rows : c.push_back.new.self ≡ changed b.numbered.rows (b.numbered.rows.now ++ c.args.row ∷ []) = search rules in
+    rw (rows) (kept_up b.shape.columns b.numbered.rows.now c.args.row b.seen.items c.keep_up.new.seen.items _ _ c.as_slice.ensures c.as_slice-2.ensures c.keep_up.ensures shows)
