@@ -1,8 +1,8 @@
 -- The state of an open journal.
-use Rattle.std.specs.Prelude.{◌≡◌, ◌+◌, ◌≤◌, ℕ, Bool, true, false, List, ◌∷◌, ◌++◌, length, Option, IfSome}
+use Rattle.std.specs.Prelude.{◌≡◌, ◌≤◌, ℕ, Bool, true, List, Option, IfSome}
 use Rattle.lq_base.specs.declared.dialect.Dialect.{Dialect}
 use Rattle.lq_journal.specs.declared.journal.Journal.{Journal}
-use Rattle.lq_frames.specs.Frames.{header, frames, AreEntries}
+use Rattle.lq_frames.specs.State.{Stands}
 
 abbrev pub disk_of : {D : Type 0} → Journal D → D
 disk_of journal = journal.disk

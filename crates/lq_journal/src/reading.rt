@@ -32,7 +32,7 @@ pub fn header(dialect: Dialect) -> &'static [u8]
 }
 
 // The length that stands at the front.
-#[tactic(auto, unfolding(crate::specs::Body::front_number))]
+#[tactic(auto, unfolding(lq_frames::specs::Body::front_number))]
 fn front_number(bytes: &[u8]) -> Option<usize>
     ensures { MatchOption result (length bytes.now < 4) (λ n. (n ≡ front_number bytes.now) × (n < 2 ^ 32) × (4 ≤ length bytes.now)) }
 {
@@ -43,7 +43,7 @@ fn front_number(bytes: &[u8]) -> Option<usize>
 }
 
 // The bytes of the text at the front, and what stands after it.
-#[tactic(auto, using(crate::proofs::Texts::texts_short, crate::proofs::Read::text_far, crate::proofs::Read::text_there))]
+#[tactic(auto, using(lq_frames::proofs::Texts::texts_short, crate::proofs::Read::text_far, crate::proofs::Read::text_there))]
 fn next_text(bytes: &[u8]) -> Option<(&[u8], &[u8])>
     requires { 0 < length bytes.now }
     ensures { MatchOption result (texts_from 0 bytes.now ≡ None) (λ next. (texts_from 0 bytes.now ≡ with_text next.0.now (texts_from 0 next.1.now)) × (length next.1.now < length bytes.now)) }
@@ -102,7 +102,7 @@ fn if_any(texts: Option<Items<Text>>) -> Option<Items<Text>>
 }
 
 // The texts of a body, where its form is right.
-#[tactic(auto, unfolding(crate::specs::Body::texts_of))]
+#[tactic(auto, unfolding(lq_frames::specs::Body::texts_of))]
 fn read_body(alloc: Global, body: &[u8]) -> Result<Option<Items<Text>>, NoMemory>
     ensures { IfOk result (λ texts. texts ≡ texts_of body.now) }
 {

@@ -4,8 +4,8 @@ use Rattle.lq_frames.specs.State.{Stands}
 use Rattle.lq_journal.proofs.Opened.{ready_stands}
 use Rattle.lq_journal.proofs.journal.Journal.write_entry.Goals as goal
 
-pub write_entry-requires-stands : goal.write_entry-requires-stands
-write_entry-requires-stands g c = ready_stands _ c.args.self.now c.requires.ready
+pub write_entry-requires-clause-stands : goal.write_entry-requires-clause-stands
+write_entry-requires-clause-stands g c = ready_stands _ c.args.self.now c.requires.ready
 
 pub returns-clause-ready : goal.returns-clause-ready
 returns-clause-ready g c =
