@@ -18,9 +18,9 @@ returns-clause-ready g c =
         limit_least = old.limit_least;
         limit_most = old.limit_most;
         used_least = omega (arith, least);
-        used_most = fits;
-        stands = subst (λ p. IfSome (g.D.Disk.told c.write_entry.new.disk) (Stands p journal.dialect journal.limit (journal.used + size_of c.args.entry.now))) (sym c.requires.ready.prepared)
-            c.in_ok-write_entry.ensures.stands;
+        used_most = rw (c.size.ensures.value) fits;
+        stands = rw (c.size.ensures.value) (subst (λ p. IfSome (g.D.Disk.told c.write_entry.new.disk) (Stands p journal.dialect journal.limit (journal.used + size_of c.args.entry.now))) (sym c.requires.ready.prepared)
+            c.in_ok-write_entry.ensures.stands);
       };
       prepared = c.requires.ready.prepared;
     }
