@@ -6,6 +6,12 @@ use Rattle.lq_tell.specs.SoakLog.{change_text, kind_at, kind_of, next_number, nu
 pub three : (old t1 t2 new a b c all : List ℕ) → t1 ≡ old ++ a → t2 ≡ t1 ++ b → new ≡ t2 ++ c → a ++ b ++ c ≡ all → new ≡ old ++ all
 three old t1 t2 new a b c all e1 e2 e3 same = two old t2 new (a ++ b) c all (e2 ∙ ap (λ (z : List ℕ). z ++ b) e1 ∙ append_assoc old a b) e3 same
 
+pub four : (old t1 t2 t3 new a b c d all : List ℕ) → t1 ≡ old ++ a → t2 ≡ t1 ++ b → t3 ≡ t2 ++ c → new ≡ t3 ++ d → a ++ b ++ c ++ d ≡ all → new ≡ old ++ all
+four old t1 t2 t3 new a b c d all e1 e2 e3 e4 same =
+    two old t3 new (a ++ b ++ c) d all (also old t2 t3 (a ++ b) c (also old t1 t2 a b e1 e2) e3) e4 same where
+      also : (old mid new a b : List ℕ) → mid ≡ old ++ a → new ≡ mid ++ b → new ≡ old ++ (a ++ b)
+      also old mid new a b first second = second ∙ ap (λ z. z ++ b) first ∙ append_assoc old a b
+
 -- a number between two texts, once and more often
 
 pub once : (a n b c d e : List ℕ) → (a ++ (n ++ b)) ++ c ++ d ++ e ≡ a ++ n ++ b ++ c ++ d ++ e

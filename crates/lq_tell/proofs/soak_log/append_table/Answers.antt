@@ -1,7 +1,7 @@
 use Rattle.std.proofs.Common.{codes}
 use Rattle.std.specs.Fmt.{decimal}
-use Rattle.lq_report.proofs.Appended.{four, on_ok}
-use Rattle.lq_tell.proofs.SoakTexts.{once}
+use Rattle.lq_report.proofs.Appended.{on_ok}
+use Rattle.lq_tell.proofs.SoakTexts.{four, once}
 use Rattle.lq_tell.specs.SoakLog.{table_text}
 use Rattle.lq_tell.proofs.soak_log.append_table.Goals as goal
 
