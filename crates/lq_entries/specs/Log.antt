@@ -1,6 +1,6 @@
 -- A journal as a store sees it: its entries as texts, and what a crash may leave of them.
 use Rattle.std.specs.List.{sum_by}
-use Rattle.std.specs.Prelude.{◌≡◌, Bool, IfSome, List, None, Option, Result, Ok, Err, Some, false, true, is_some, map, ℕ, ◌+◌, ◌++◌}
+use Rattle.std.specs.Prelude.{[], ◌∷◌, ◌≡◌, Bool, IfSome, List, None, Option, Result, Ok, Err, Some, false, true, is_some, map, ℕ, ◌+◌, ◌++◌}
 use Rattle.std.specs.Option.{option_and_then, option_map}
 use Rattle.lq_base.specs.declared.dialect.Dialect.{Dialect}
 use Rattle.lq_frames.specs.Journal.{journal_of}
