@@ -4,7 +4,6 @@ use Rattle.std.specs.Str.{bytes_eq}
 use Rattle.lq_base.specs.declared.dialect.Dialect.{Dialect}
 use Rattle.lq_base.specs.Kind.{plain_number}
 use Rattle.lq_base.specs.declared.fault.KindFault.TheVariants.{Bad, OutOfMemory, Unknown}
-use Rattle.lq_asked.specs.Asked.{with_reaction}
 use Rattle.lq_cond.specs.declared.cond.Reaction.{Reaction}
 use Rattle.lq_kinds.specs.AnyChange.{gives}
 use Rattle.lq_kinds.specs.ChangeSets.{set_of, sum_of}
@@ -34,9 +33,11 @@ abbrev pub with_set : Option ChangeSet → Contents → Contents
 with_set None g = g
 with_set (Some set) g = record g { sets = g.sets ++ set ∷ [] }
 
--- what one file more asks
-abbrev pub with_asked : Bool → Reaction → Contents → Contents
-with_asked is_root r g = record g { asked = with_reaction is_root r g.asked }
+-- the conditions of each file join those before; only the root says how they are reacted to
+abbrev pub with_reaction : Bool → Reaction → Contents → Contents
+with_reaction is_root r g =
+    if is_root then record { conds = g.conds ++ r.cond ∷ []; on_fail = r.on_fail; on_error = r.on_error; sets = g.sets }
+    else record g { conds = g.conds ++ r.cond ∷ [] }
 
 -- a changeset of a tree, whose faults begin with its item's key
 abbrev pub in_tree : {A : Type 0} → Result A SetFault → Result A What
@@ -132,7 +133,7 @@ map_made f (Err what) = Err what
 abbrev pub gathers : Dialect → Bool → List ℕ → List ℕ → Node → Contents → Result Contents What
 gathers d is_root path key n g =
     if bytes_eq key (codes "changeSet") then map_made (λ found. with_set found g) (set_in d path n)
-    else if bytes_eq key (codes "preConditions") then map_made (λ found. with_asked is_root found g) (reaction_in d n)
+    else if bytes_eq key (codes "preConditions") then map_made (λ found. with_reaction is_root found g) (reaction_in d n)
     else Err (Key (Unknown key))
 
 abbrev pub meaning : Dialect → Meaning Contents

@@ -4,8 +4,7 @@ ghost use Rattle.lq_base.specs.Options.{if_there};
 ghost use Rattle.lq_kinds.specs.Dialects.{AreFor, is_read_for};
 ghost use Rattle.lq_changelog.specs.ShortTexts.{HasShortTexts};
 
-use lq_asked::Asked;
-use lq_base::{Items, NoMemory};
+use lq_base::{Items, NoMemory, OnFail};
 use lq_cond::{Cond, Reaction};
 use lq_kinds::{ChangeSet, Changelog};
 use lq_model::SqlText;
@@ -16,7 +15,11 @@ use std::marker::{Model, PhantomData};
 /// are short.
 #[derive(Drop)]
 pub struct Gathered<P: SqlText> {
-    asked: Asked,
+    /// The conditions of all files.
+    conds: Items<Cond>,
+    /// What the root says.
+    on_fail: OnFail,
+    on_error: OnFail,
     sets: Items<ChangeSet>,
     sql: PhantomData<P>,
 }
@@ -25,7 +28,7 @@ impl<P: SqlText> Model for Gathered<P> {
     ghost use Rattle.std.specs.Coded.{codes};
     ghost use Rattle.std.specs.List.{All, list_all};
     ghost use Rattle.std.specs.Prelude.{◌≡◌, true};
-    ghost use Rattle.lq_asked.specs.contracts.asked.Asked as asked;
+    ghost use Rattle.lq_cond.specs.contracts.cond.Cond as cond;
     ghost use Rattle.lq_kinds.specs.Dialects.{is_read_for};
     ghost use Rattle.lq_kinds.specs.contracts.change_set.ChangeSet as set;
     ghost use Rattle.lq_changelog.specs.Contents.{Contents};
@@ -33,22 +36,24 @@ impl<P: SqlText> Model for Gathered<P> {
 
     ghost Value = { Contents };
 
-    ghost coded = { Prim.hlevel (codes, asked.the_row.coded, set.the_row.coded) };
+    ghost coded = { Prim.hlevel (codes, cond.the_row.coded, set.the_row.coded) };
 
-    ghost view = { λ g. record { asked = g.asked; sets = g.sets } };
+    ghost view = { λ g. record { conds = g.conds; on_fail = g.on_fail; on_error = g.on_error; sets = g.sets } };
 
     ghost invariant = { λ g. (list_all (is_read_for P.dialect) g.sets ≡ true) × All HasShortTexts g.sets };
 }
 
 impl<P: SqlText> Gathered<P> {
     ghost use Rattle.lq_changelog.specs.Changelog.{changelog_of, nothing};
-    ghost use Rattle.lq_changelog.specs.Gathers.{with_asked, with_set};
+    ghost use Rattle.lq_changelog.specs.Gathers.{with_reaction, with_set};
 
     pub fn new(alloc: Global) -> Gathered<P>
         ensures { result ≡ nothing }
     {
         Gathered {
-            asked: Asked::new(alloc),
+            conds: Items::new(alloc),
+            on_fail: OnFail::Halt,
+            on_error: OnFail::Halt,
             sets: Items::new(alloc),
             sql: PhantomData,
         }
@@ -69,9 +74,19 @@ impl<P: SqlText> Gathered<P> {
 
     /// Adds conditions. Only the root says how they are reacted to.
     pub fn add_reaction(&mut self, is_root: bool, reaction: Reaction) -> Result<(), NoMemory>
-        ensures { OnOk result (self.new ≡ with_asked is_root reaction self.old) }
+        ensures { OnOk result (self.new ≡ with_reaction is_root reaction self.old) }
     {
-        self.asked.add(is_root, reaction)
+        let Reaction {
+            cond,
+            on_fail,
+            on_error,
+        } = reaction;
+        self.conds.push(cond)?;
+        if is_root {
+            self.on_fail = on_fail;
+            self.on_error = on_error;
+        }
+        Ok(())
     }
 
     pub fn into_changelog(self) -> Changelog
@@ -80,9 +95,9 @@ impl<P: SqlText> Gathered<P> {
         ensures short { All HasShortTexts result.sets }
     {
         Changelog {
-            cond: Cond::And(self.asked.conds),
-            on_fail: self.asked.on_fail,
-            on_error: self.asked.on_error,
+            cond: Cond::And(self.conds),
+            on_fail: self.on_fail,
+            on_error: self.on_error,
             sets: self.sets,
         }
     }
