@@ -66,7 +66,10 @@ pub fn changelog<P: SqlText>(
     ensures short { All HasShortTexts result.sets }
 {
     let mut files = files_of(alloc, "db/a.json", json).expect(rt, "memory");
-    load(alloc, &mut files, "db/a.json", dialect, sql, &[]).expect(rt, "a changelog")
+    match load(alloc, &mut files, "db/a.json", dialect, sql, &[]) {
+        Ok(changelog) => changelog,
+        Err(_) => panic!(rt; "a changelog"),
+    }
 }
 
 /// A command without filters.
