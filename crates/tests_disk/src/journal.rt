@@ -99,16 +99,11 @@ fn an_entry_grows(rt: HostRuntime) -> Result<(), Fail> {
     Ok(())
 }
 
-fn two_texts(alloc: Global, first: &str, second: &str) -> Result<Items<Text>, Fail> {
-    let mut texts = Items::new(alloc);
-    texts.push(Text::new(alloc, first)?)?;
-    texts.push(Text::new(alloc, second)?)?;
-    Ok(texts)
-}
-
 #[test]
 fn texts_are_encoded(rt: HostRuntime) -> Result<(), Fail> {
-    let texts = two_texts(rt.alloc(), "", "é")?;
+    let mut texts = Items::new(rt.alloc());
+    texts.push(Text::new(rt.alloc(), "")?)?;
+    texts.push(Text::new(rt.alloc(), "é")?)?;
     let entry = EncodedEntry::from_texts(rt.alloc(), texts.as_slice())?;
     assert_eq!(rt;
         entry.bytes(),
