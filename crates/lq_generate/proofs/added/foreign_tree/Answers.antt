@@ -1,0 +1,12 @@
+use Rattle.std.proofs.Common.{[], Some, ap, ◌∷◌}
+use Rattle.std.specs.Prelude.{codes}
+use Rattle.lq_tree.specs.declared.node.Node.{Map as MapNode, Text as TextNode}
+use Rattle.lq_generate.specs.Added.{foreign_front, listed}
+use Rattle.lq_generate.proofs.Laid.{three}
+use Rattle.lq_generate.proofs.added.foreign_tree.Goals as goal
+
+pub returns : goal.returns
+returns c =
+    let f = c.args.foreign.now in
+    rw (c.in_ok-placed.ensures, c.in_ok-aimed.ensures, c.in_ok-front.ensures, c.in_ok-targets.ensures, c.as_key.ensures.value, c.as_slice.ensures)
+    (ap MapNode (three (foreign_front c.args.table.now f) ((codes "referencedColumnNames", Some (TextNode (listed f.targets))) ∷ []) ((codes "referencedTableName", Some (TextNode f.table)) ∷ [])))

@@ -1,0 +1,8 @@
+use Rattle.std.proofs.Common.{◌≡◌, ◌++◌, drop}
+use Rattle.std.specs.List.{flat_map}
+use Rattle.lq_generate.specs.Generated.{foreign_items}
+use Rattle.lq_generate.specs.Seen.{tables_in}
+use Rattle.lq_generate.proofs.sets.all_foreign.Given as goal
+
+abbrev pub invariant-loop-entry : goal.invariant-loop-entry
+invariant-loop-entry l = l.nodes ++ flat_map foreign_items (tables_in (drop l.entry-index l.tables)) ≡ flat_map foreign_items (tables_in l.tables)

@@ -1,0 +1,9 @@
+pub mod Rows
+pub mod Types
+pub mod Created
+pub mod Added
+pub mod Generated
+pub mod Faults
+pub mod Seen
+pub mod Users
+pub mod Outcome

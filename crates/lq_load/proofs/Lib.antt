@@ -1,0 +1,4 @@
+pub mod All
+pub mod Fields
+pub mod Right
+pub mod RowsWritten

@@ -1,0 +1,5 @@
+pub mod LoadData
+pub mod LoadDataLaws
+pub mod LoadKeys
+pub mod Records
+pub mod Rows

@@ -1,0 +1,81 @@
+//! The statements that put rows into a table.
+ghost use Rattle.std.specs.Prelude.{◌≡◌, ◌++◌, ◌∷◌, [], IfOk, OnErr, OnOk, map};
+ghost use Rattle.lq_load.specs.LoadData.{insert_of, literal_in};
+
+use lq_base::{Duplicate, Items, Literal, Name, NoMemory, Text, both, cut};
+use lq_model::Statement;
+use std::alloc::Global;
+
+/// The field `NULL` is null, and any other its text.
+fn literal_of(alloc: Global, field: &str) -> Result<Literal, NoMemory>
+    ensures { IfOk result (λ made. made ≡ literal_in field.now) }
+{
+    if field == "NULL" {
+        return Ok(Literal::Null);
+    }
+    Ok(Literal::Text(Text::new(alloc, field)?))
+}
+
+fn literals_of(alloc: Global, row: &[Text]) -> Result<Items<Literal>, NoMemory>
+    ensures { IfOk result (λ literals. literals ≡ map literal_in row.now) }
+{
+    let mut literals = Items::new(alloc);
+    for field in row {
+        literals.push(literal_of(alloc, field.as_str())?)?;
+    }
+    Ok(literals)
+}
+
+fn insert_of(
+    alloc: Global,
+    table: &Name,
+    columns: &Items<Name>,
+    row: &[Text],
+) -> Result<Statement, NoMemory>
+    ensures { IfOk result (λ made. made ≡ insert_of table.now columns.now row.now) }
+{
+    let (table, columns) = both(table.duplicate(alloc), columns.duplicate(alloc))?;
+    let values = literals_of(alloc, row)?;
+    Ok(Statement::Insert {
+        table,
+        columns,
+        values,
+    })
+}
+
+/// Adds the statement of a row, or changes nothing.
+fn push_insert(
+    alloc: Global,
+    table: &Name,
+    columns: &Items<Name>,
+    row: &[Text],
+    to: &mut Items<Statement>,
+) -> Result<(), NoMemory>
+    ensures ok { OnOk result (to.new ≡ to.old ++ insert_of table.now columns.now row.now ∷ []) }
+    ensures err { OnErr result (to.new ≡ to.old) }
+{
+    let statement = insert_of(alloc, table, columns, row)?;
+    to.push(statement)?;
+    Ok(())
+}
+
+/// Adds the statement of each row, in order, or changes nothing.
+pub fn push_inserts(
+    alloc: Global,
+    table: &Name,
+    columns: &Items<Name>,
+    rows: &[Items<Text>],
+    to: &mut Items<Statement>,
+) -> Result<(), NoMemory>
+    ensures ok { OnOk result (to.new ≡ to.old ++ map (insert_of table.now columns.now) rows.now) }
+    ensures err { OnErr result (to.new ≡ to.old) }
+{
+    let before = to.len();
+    for row in rows {
+        if push_insert(alloc, table, columns, row.as_slice(), to).is_err() {
+            cut(to, before);
+            return Err(NoMemory);
+        }
+    }
+    Ok(())
+}
