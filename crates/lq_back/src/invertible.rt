@@ -21,6 +21,7 @@ pub fn has_inverse(change: &AnyChange) -> bool
         | AnyChange::Insert(_)
         | AnyChange::Update(_)
         | AnyChange::Delete(_)
+        | AnyChange::LoadData(_)
         | AnyChange::Sql(_) => false,
         _ => true,
     }

@@ -1,1 +1,4 @@
-pub mod Checksum
+pub mod Parts
+pub mod Passing
+pub mod Sums
+pub mod Uniform

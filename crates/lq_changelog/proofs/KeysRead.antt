@@ -7,9 +7,10 @@ use Rattle.lq_tree.specs.Given.{if_so}
 use Rattle.lq_tree.specs.Keys.{at_required}
 use Rattle.lq_tree.specs.Look.{printed_of, value_at}
 use Rattle.lq_tree.specs.declared.node.Node.{Node}
-use Rattle.lq_kinds.specs.ChangeSets.{by_keys, by_path, heading, if_taken, notes, only_known, path_at, path_in, path_of, running, selection, set_of, set_with}
+use Rattle.lq_kinds.specs.ChangeSets.{by_keys, by_path, by_set, heading, if_taken, map_set, notes, only_known, path_at, path_in, path_of, running, selection, set_of, set_with}
 use Rattle.lq_kinds.specs.Changes.{changes_at}
 use Rattle.lq_kinds.specs.Label.{a_label, is_label}
+use Rattle.lq_kinds.specs.Loads.{Files}
 use Rattle.lq_kinds.specs.declared.change_set.ChangeSet.{ChangeSet}
 use Rattle.lq_kinds.specs.declared.fault.SetFault.{SetFault}
 use Rattle.lq_kinds.specs.declared.fault.SetFault.TheVariants.{BadPath}
@@ -37,8 +38,8 @@ label_read : (key : List ℕ) (value : Option Node) (label : List ℕ) → at_re
 label_read key None label e = absurd Prim.cc
 label_read key (Some n) label e = label_printed key (printed_of n) label e
 
-three_read : {A B C D : Type 0} (make : A → B → C → D) (a : Found A) (b : Found B) (c : Found C) (made : D)
-    → and_then (and_then (map_found make a) (λ g. map_found g b)) (λ g. map_found g c) ≡ Ok made
+three_read : {A B C D : Type 0} (make : A → B → C → D) (a : Found A) (b : Found B) (c : Result C SetFault) (made : D)
+    → by_keys (and_then (map_found make a) (λ g. map_found g b)) (λ with. map_set with c) ≡ Ok made
     → (x : A) × (y : B) × (z : C) × (a ≡ Ok x) × (b ≡ Ok y) × (make x y z ≡ made)
 three_read make (Ok x) (Ok y) (Ok z) made e = (x, y, z, refl, refl, Prim.cc)
 three_read make (Ok x) (Ok y) (Err fault) made e = absurd Prim.cc
@@ -46,12 +47,12 @@ three_read make (Ok x) (Err fault) c made e = absurd Prim.cc
 three_read make (Err fault) b c made e = absurd Prim.cc
 
 -- its id and its author are such texts
-pub heading_read : (d : Dialect) (n : Node) (h : Heading) → heading d n ≡ Ok h → (is_label h.id ≡ true) × (is_label h.author ≡ true)
+pub heading_read : (d : Dialect) (given : Files) (n : Node) (h : Heading) → heading d given n ≡ Ok h → (is_label h.id ≡ true) × (is_label h.author ≡ true)
 unfolding heading
-heading_read d n h e =
+heading_read d given n h e =
     let id = at_required (codes "id") a_label (value_at (codes "id") n) in
     let author = at_required (codes "author") a_label (value_at (codes "author") n) in
-    let parts = three_read (λ id author changes. record { id = id; author = author; changes = changes }) id author (changes_at d n) h e in
+    let parts = three_read (λ id author changes. record { id = id; author = author; changes = changes }) id author (changes_at d given n) h e in
     subst (λ (x : Heading). (is_label x.id ≡ true) × (is_label x.author ≡ true)) parts.5
     (label_read (codes "id") (value_at (codes "id") n) parts.0 parts.3, label_read (codes "author") (value_at (codes "author") n) parts.1 parts.4)
 
@@ -88,8 +89,8 @@ set_taken : (ignored : Bool) (made x : ChangeSet) → set_if ignored made ≡ Ok
 set_taken true made x e = absurd Prim.cc
 set_taken false made x e = Prim.cc
 
-parts_read : (known : Found (Unit {0})) (heading : Found Heading) (selection : Found Selection) (running : Found Running) (path : Result (List ℕ) SetFault) (notes : Found Notes) (x : ChangeSet)
-    → by_keys known (λ _. by_keys heading (λ h. by_keys selection (λ s. by_keys running (λ r. by_path path (λ p. by_keys notes (λ a. Ok (if_taken r (set_with h s r p a)))))))) ≡ Ok (Some x)
+parts_read : (known : Found (Unit {0})) (heading : Result Heading SetFault) (selection : Found Selection) (running : Found Running) (path : Result (List ℕ) SetFault) (notes : Found Notes) (x : ChangeSet)
+    → by_keys known (λ _. by_set heading (λ h. by_keys selection (λ s. by_keys running (λ r. by_path path (λ p. by_keys notes (λ a. Ok (if_taken r (set_with h s r p a)))))))) ≡ Ok (Some x)
     → (h : Heading) × (s : Selection) × (r : Running) × (p : List ℕ) × (a : Notes) × (heading ≡ Ok h) × (path ≡ Ok p) × (set_with h s r p a ≡ x)
 parts_read (Ok _) (Ok h) (Ok s) (Ok r) (Ok p) (Ok a) x e = (h, s, r, p, a, refl, refl, set_taken r.ignored (set_with h s r p a) x e)
 parts_read (Ok _) (Ok h) (Ok s) (Ok r) (Ok p) (Err fault) x e = absurd Prim.cc
@@ -99,7 +100,7 @@ parts_read (Ok _) (Ok h) (Err fault) running path notes x e = absurd Prim.cc
 parts_read (Ok _) (Err fault) selection running path notes x e = absurd Prim.cc
 parts_read (Err fault) heading selection running path notes x e = absurd Prim.cc
 
-pub set_read : (d : Dialect) (file : List ℕ) (n : Node) (x : ChangeSet) → set_of d file n ≡ Ok (Some x)
-    → (h : Heading) × (s : Selection) × (r : Running) × (p : List ℕ) × (a : Notes) × (heading d n ≡ Ok h) × (path_at file n ≡ Ok p) × (set_with h s r p a ≡ x)
+pub set_read : (d : Dialect) (file : List ℕ) (given : Files) (n : Node) (x : ChangeSet) → set_of d file given n ≡ Ok (Some x)
+    → (h : Heading) × (s : Selection) × (r : Running) × (p : List ℕ) × (a : Notes) × (heading d given n ≡ Ok h) × (path_at file n ≡ Ok p) × (set_with h s r p a ≡ x)
 unfolding set_of
-set_read d file n x e = parts_read (only_known d n) (heading d n) (selection d n) (running n) (path_at file n) (notes d n) x e
+set_read d file given n x e = parts_read (only_known d n) (heading d given n) (selection d n) (running n) (path_at file n) (notes d n) x e

@@ -1,8 +1,8 @@
 -- The texts of a changeset that is read are short.
 use Rattle.std.proofs.Common.{arith, rules, subst, sym, tests}
 use Rattle.std.proofs.lemmas.List.Elements.{All-cons, All-nil, All-push}
-use Rattle.std.specs.List.{All, list_all}
-use Rattle.std.specs.Prelude.{Bool, IfSome, List, Ok, Option, Some, [], length, map, nat_le, not, refl, suc, true, zero, ℕ, ◌&&◌, ◌*◌, ◌+◌, ◌++◌, ◌-◌, ◌∷◌, ◌≡◌, ◌≤◌}
+use Rattle.std.specs.List.{All, list_all, starts_with}
+use Rattle.std.specs.Prelude.{Bool, IfSome, List, Ok, Option, Some, [], codes, eqb, length, map, nat_le, not, refl, suc, true, zero, ℕ, ◌&&◌, ◌*◌, ◌+◌, ◌++◌, ◌-◌, ◌∷◌, ◌≡◌, ◌≤◌}
 use Rattle.std.specs.Str.{IsUtf8, chars, chars_after, continuation_len, lead_bits}
 use Rattle.hex.proofs.HexLemmas.{length-encode_with}
 use Rattle.hex.specs.Hex.{lower_digits}
@@ -12,12 +12,14 @@ use Rattle.lq_base.specs.Character.{char_count, has_control}
 use Rattle.lq_base.specs.Options.{if_there}
 use Rattle.lq_base.specs.declared.dialect.Dialect.{Dialect}
 use Rattle.lq_model.proofs.Lists.{all-append, and_left, and_right, and_true}
+use Rattle.lq_canon.specs.Sums.{uniformed}
 use Rattle.lq_model.specs.Canon.{canonical_changes}
 use Rattle.lq_tree.specs.declared.node.Node.{Node}
 use Rattle.lq_kinds.specs.AnyChange.{canonical_of, is_for}
 use Rattle.lq_kinds.specs.ChangeSets.{set_of, set_with, sum_of}
 use Rattle.lq_kinds.specs.Dialects.{is_read_for}
 use Rattle.lq_kinds.specs.Label.{is_label}
+use Rattle.lq_kinds.specs.Loads.{Files}
 use Rattle.lq_kinds.specs.declared.any_change.AnyChange.{AnyChange}
 use Rattle.lq_kinds.specs.declared.any_change.AnyChange.TheVariants.{TagDatabase}
 use Rattle.lq_kinds.specs.declared.change_set.ChangeSet.{ChangeSet}
@@ -44,7 +46,7 @@ characters_at_most (b ∷ bytes) = omega (arith, after_bytes (continuation_len b
 -- 3 for the mark, and 32 digits
 pub sum_short : (changes : List AnyChange) → char_count (sum_of changes) ≤ 35
 sum_short changes =
-    let canonical = canonical_changes (map canonical_of changes) in
+    let canonical = canonical_changes (map uniformed (map canonical_of changes)) in
     let digest = length-md5 canonical in
     let digits = length-encode_with lower_digits (md5 canonical) in
     omega (arith, digest, digits, characters_at_most (sum_of changes))
@@ -64,29 +66,32 @@ record Fits (x : ChangeSet) : Type 0 where
   id : char_count x.identity.id ≤ 255
   author : char_count x.identity.author ≤ 255
   sum : char_count x.sum ≤ 35
+  form : starts_with eqb x.sum (codes "P2:") ≡ true
 
-names_fit : (d : Dialect) (path : List ℕ) (n : Node) (x : ChangeSet) → is_label path ≡ true → set_of d path n ≡ Ok (Some x) → Fits x
+names_fit : (d : Dialect) (path : List ℕ) (given : Files) (n : Node) (x : ChangeSet) → is_label path ≡ true → set_of d path given n ≡ Ok (Some x) → Fits x
 unfolding set_with
-names_fit d path n x label e =
-    let parts = set_read d path n x e in
-    let labels = heading_read d n parts.0 parts.5 in
+names_fit d path given n x label e =
+    let parts = set_read d path given n x e in
+    let labels = heading_read d given n parts.0 parts.5 in
     subst Fits parts.7 (record {
       file = label_short parts.3 (path_read path n parts.3 label parts.6);
       id = label_short parts.0.id labels.0;
       author = label_short parts.0.author labels.1;
       sum = sum_short parts.0.changes;
+      form = refl;
     })
 
 -- a changeset that was read for a dialect, whose texts are UTF-8
-pub read_short : (d : Dialect) (path : List ℕ) (n : Node) (x : ChangeSet) → is_label path ≡ true → set_of d path n ≡ Ok (Some x) → is_read_for d x ≡ true
+pub read_short : (d : Dialect) (path : List ℕ) (given : Files) (n : Node) (x : ChangeSet) → is_label path ≡ true → set_of d path given n ≡ Ok (Some x) → is_read_for d x ≡ true
     → IsUtf8 x.comment → IsUtf8 x.context_text → IsUtf8 x.labels_text → HasShortTexts x
-read_short d path n x label e right comment contexts labels =
-    let fits = names_fit d path n x label e in
+read_short d path given n x label e right comment contexts labels =
+    let fits = names_fit d path given n x label e in
     record {
       file = fits.file;
       id = fits.id;
       author = fits.author;
       sum = fits.sum;
+      form = fits.form;
       tags = tags_short d x.changes (and_left (list_all (is_for d) x.changes) _ right);
       comment = comment;
       contexts = contexts;
@@ -94,18 +99,19 @@ read_short d path n x label e right comment contexts labels =
     }
 
 -- the same of one that may be there
-pub found_short : (d : Dialect) (path : List ℕ) (n : Node) (found : Option ChangeSet) (x : ChangeSet) → found ≡ Some x → is_label path ≡ true → set_of d path n ≡ Ok found
+pub found_short : (d : Dialect) (path : List ℕ) (given : Files) (n : Node) (found : Option ChangeSet) (x : ChangeSet) → found ≡ Some x → is_label path ≡ true → set_of d path given n ≡ Ok found
     → if_there (is_read_for d) found ≡ true → IsUtf8 x.comment → IsUtf8 x.context_text → IsUtf8 x.labels_text → HasShortTexts x
-found_short d path n found x is label e right =
-    read_short d path n x label (subst (λ o. set_of d path n ≡ Ok o) is e) (subst (λ o. if_there (is_read_for d) o ≡ true) is right)
+found_short d path given n found x is label e right =
+    read_short d path given n x label (subst (λ o. set_of d path given n ≡ Ok o) is e) (subst (λ o. if_there (is_read_for d) o ≡ true) is right)
 
 -- the same changeset without its changes
-pub emptied_short : (x : ChangeSet) (changes : List AnyChange) (sum : List ℕ) → changes ≡ [] → sum ≡ sum_of [] → HasShortTexts x → HasShortTexts (record x { changes = changes; sum = sum })
-emptied_short x changes sum none is short = record {
+pub emptied_short : (x : ChangeSet) (changes : List AnyChange) (sum old : List ℕ) → changes ≡ [] → sum ≡ sum_of [] → HasShortTexts x → HasShortTexts (record x { changes = changes; sum = sum; old_sum = old })
+emptied_short x changes sum old none is short = record {
   file = short.file;
   id = short.id;
   author = short.author;
   sum = subst (λ s. char_count s ≤ 35) (sym is) (sum_short []);
+  form = subst (λ s. starts_with eqb s (codes "P2:") ≡ true) (sym is) refl;
   tags = subst (All HasShortTag) (sym none) (All-nil HasShortTag);
   comment = short.comment;
   contexts = short.contexts;

@@ -6,7 +6,7 @@ use Rattle.lq_base.specs.Kind.{plain_number}
 use Rattle.lq_base.specs.declared.fault.KindFault.TheVariants.{Bad, OutOfMemory, Unknown}
 use Rattle.lq_cond.specs.declared.cond.Reaction.{Reaction}
 use Rattle.lq_kinds.specs.AnyChange.{gives}
-use Rattle.lq_kinds.specs.ChangeSets.{set_of, sum_of}
+use Rattle.lq_kinds.specs.ChangeSets.{old_sum_of, set_of, sum_of}
 use Rattle.lq_kinds.specs.Changes.{here_at, is_read}
 use Rattle.lq_kinds.specs.Label.{is_label}
 use Rattle.lq_kinds.specs.declared.any_change.AnyChange.{AnyChange}
@@ -16,6 +16,8 @@ use Rattle.lq_kinds.specs.declared.fault.SetFault.TheVariants as set
 use Rattle.lq_sources.specs.Faults.{by_keys}
 use Rattle.lq_sources.specs.Items.{entry_of}
 use Rattle.lq_sources.specs.Meaning.{Meaning}
+use Rattle.lq_sources.specs.declared.fault.Lack.{Lack}
+use Rattle.lq_sources.specs.declared.fault.Lack.TheVariants.{File, Wrong}
 use Rattle.lq_sources.specs.declared.fault.What.{What}
 use Rattle.lq_sources.specs.declared.fault.What.TheVariants.{BadPath, Key, Line}
 use Rattle.lq_paths.specs.Paths.{format_of}
@@ -39,20 +41,23 @@ with_reaction is_root r g =
     if is_root then record { conds = g.conds ++ r.cond ∷ []; on_fail = r.on_fail; on_error = r.on_error; sets = g.sets }
     else record g { conds = g.conds ++ r.cond ∷ [] }
 
--- a changeset of a tree, whose faults begin with its item's key
-abbrev pub in_tree : {A : Type 0} → Result A SetFault → Result A What
+-- a changeset of a tree, whose faults begin with its item's key; a file that it loads is that of an include
+abbrev pub in_tree : {A : Type 0} → Result A SetFault → Result A Lack
 in_tree (Ok a) = Ok a
-in_tree (Err (set.InKeys fault)) = Err (Key (placed (codes "changeSet") fault))
-in_tree (Err set.BadPath) = Err BadPath
+in_tree (Err (set.InKeys fault)) = Err (Wrong (Key (placed (codes "changeSet") fault)))
+in_tree (Err set.BadPath) = Err (Wrong BadPath)
+in_tree (Err (set.Wants file relative)) = Err (File (record { path = file; relative = relative }))
 
-unfoldable pub tree_set : Dialect → List ℕ → Node → Result (Option ChangeSet) What
-tree_set d path n = in_tree (set_of d path n)
+-- with the bytes of the files that it loads, as far as they are given
+unfoldable pub tree_set : Dialect → List (List ℕ) → List ℕ → Node → Result (Option ChangeSet) Lack
+tree_set d given path n = in_tree (set_of d path given n)
 
--- a fault of a changeset of formatted SQL is at the line at which it begins
+-- a fault of a changeset of formatted SQL is at the line at which it begins; it has no load, and so wants no file
 abbrev pub what_at : ℕ → SetFault → What
 what_at line (set.InKeys OutOfMemory) = Key OutOfMemory
 what_at line (set.InKeys fault) = Line line
 what_at line set.BadPath = BadPath
+what_at line (set.Wants file relative) = Line line
 
 abbrev pub at_line : {A : Type 0} → ℕ → Result A SetFault → Result A What
 at_line line (Ok a) = Ok a
@@ -68,7 +73,7 @@ no_line = Err (Key (Bad (codes "changeSet")))
 -- a map of a changeset's keys; none such is missing in what comes from a file
 abbrev pub part_in : Dialect → List ℕ → Option Node → Result (Option ChangeSet) SetFault
 part_in d path None = Err (set.InKeys (Bad []))
-part_in d path (Some n) = set_of d path n
+part_in d path (Some n) = set_of d path [] n
 
 abbrev pub then_set : {A : Type 0} → Result (Option ChangeSet) SetFault → Result A SetFault → Result A SetFault
 then_set (Ok _) next = next
@@ -82,7 +87,7 @@ is_idle d _ = false
 -- a body that holds no statement is no change
 abbrev pub without_idle : Dialect → Option ChangeSet → Option ChangeSet
 without_idle d None = None
-without_idle d (Some x) = if is_idle d x.changes then Some (record x { changes = []; sum = sum_of [] }) else Some x
+without_idle d (Some x) = if is_idle d x.changes then Some (record x { changes = []; sum = sum_of []; old_sum = old_sum_of [] }) else Some x
 
 abbrev pub map_set : (Option ChangeSet → Option ChangeSet) → Result (Option ChangeSet) SetFault → Result (Option ChangeSet) SetFault
 map_set f (Ok found) = Ok (f found)
@@ -112,29 +117,34 @@ under_line d path (Some e) = elim (line_of e.0) [ None ↦ no_line | Some line �
 unfoldable pub sql_set : Dialect → List ℕ → Node → Result (Option ChangeSet) What
 sql_set d path n = under_line d path (entry_of n)
 
-abbrev pub set_by : Option Format → Dialect → List ℕ → Node → Result (Option ChangeSet) What
-set_by (Some Sql) d path n = sql_set d path n
-set_by (Some Json) d path n = tree_set d path n
-set_by (Some Yaml) d path n = tree_set d path n
-set_by None d path n = tree_set d path n
+-- what is wrong keeps an item from being gathered
+abbrev pub wrongly : {A : Type 0} → Result A What → Result A Lack
+wrongly (Ok a) = Ok a
+wrongly (Err what) = Err (Wrong what)
+
+abbrev pub set_by : Option Format → Dialect → List (List ℕ) → List ℕ → Node → Result (Option ChangeSet) Lack
+set_by (Some Sql) d given path n = wrongly (sql_set d path n)
+set_by (Some Json) d given path n = tree_set d given path n
+set_by (Some Yaml) d given path n = tree_set d given path n
+set_by None d given path n = tree_set d given path n
 
 -- a changeset of the file at a path, which is its own path where it has no other
-unfoldable pub set_in : Dialect → List ℕ → Node → Result (Option ChangeSet) What
-set_in d path n = cond (is_label path) (set_by (format_of path) d path n) (Err BadPath)
+unfoldable pub set_in : Dialect → List (List ℕ) → List ℕ → Node → Result (Option ChangeSet) Lack
+set_in d given path n = cond (is_label path) (set_by (format_of path) d given path n) (Err (Wrong BadPath))
 
 unfoldable pub reaction_in : Dialect → Node → Result Reaction What
 reaction_in d n = by_keys (within_list (codes "preConditions") (own_reaction d n))
 
-abbrev pub map_made : {A B : Type 0} → (A → B) → Result A What → Result B What
+abbrev pub map_made : {A B : Type 0} → (A → B) → Result A Lack → Result B Lack
 map_made f (Ok a) = Ok (f a)
-map_made f (Err what) = Err what
+map_made f (Err lack) = Err lack
 
--- an item by its key
-abbrev pub gathers : Dialect → Bool → List ℕ → List ℕ → Node → Contents → Result Contents What
-gathers d is_root path key n g =
-    if bytes_eq key (codes "changeSet") then map_made (λ found. with_set found g) (set_in d path n)
-    else if bytes_eq key (codes "preConditions") then map_made (λ found. with_reaction is_root found g) (reaction_in d n)
-    else Err (Key (Unknown key))
+-- an item by its key, with the bytes of the files that it loads
+abbrev pub gathers : Dialect → List (List ℕ) → Bool → List ℕ → List ℕ → Node → Contents → Result Contents Lack
+gathers d given is_root path key n g =
+    if bytes_eq key (codes "changeSet") then map_made (λ found. with_set found g) (set_in d given path n)
+    else if bytes_eq key (codes "preConditions") then map_made (λ found. with_reaction is_root found g) (wrongly (reaction_in d n))
+    else Err (Wrong (Key (Unknown key)))
 
 abbrev pub meaning : Dialect → Meaning Contents
 meaning d = record { tree = file_tree; here = here_at d; gathers = gathers d }

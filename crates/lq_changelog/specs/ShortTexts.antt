@@ -1,6 +1,6 @@
 -- What holds of the texts of a changeset that was loaded.
-use Rattle.std.specs.List.{All}
-use Rattle.std.specs.Prelude.{◌≤◌}
+use Rattle.std.specs.List.{All, starts_with}
+use Rattle.std.specs.Prelude.{codes, eqb, true, ◌≡◌, ◌≤◌}
 use Rattle.std.specs.Str.{IsUtf8}
 use Rattle.lq_base.specs.Character.{char_count}
 use Rattle.lq_kinds.specs.declared.any_change.AnyChange.{AnyChange}
@@ -17,8 +17,9 @@ pub record HasShortTexts (x : ChangeSet) : Type 0 where
   pub file : char_count x.identity.file ≤ 255
   pub id : char_count x.identity.id ≤ 255
   pub author : char_count x.identity.author ≤ 255
-  -- `P1:` and 32 hexadecimal digits
+  -- `P2:` and 32 hexadecimal digits
   pub sum : char_count x.sum ≤ 35
+  pub form : starts_with eqb x.sum (codes "P2:") ≡ true
   pub tags : All HasShortTag x.changes
   pub comment : IsUtf8 x.comment
   pub contexts : IsUtf8 x.context_text

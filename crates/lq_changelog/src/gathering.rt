@@ -2,12 +2,12 @@ ghost use Rattle.std.specs.Prelude.{◌≡◌};
 
 use crate::gathered::Gathered;
 use crate::item::{reaction_in, set_in};
-use lq_base::{Dialect, KindFault};
+use lq_base::{Dialect, Items, KindFault};
 use lq_contents::tree_of;
 use lq_kinds::here_at;
 use lq_model::SqlText;
 use lq_paths::Format;
-use lq_sources::{Gather, What};
+use lq_sources::{Gather, Lack, What};
 use lq_tree::{Node, unknown};
 use std::alloc::Global;
 
@@ -37,22 +37,23 @@ impl<'a, P: SqlText> Gather for Reader<'a, P> {
     fn gather(
         &self,
         alloc: Global,
+        given: &[Items<u8>],
         is_root: bool,
         path: &str,
         key: &str,
         node: &Node,
         gathered: &mut Gathered<P>,
-    ) -> Result<(), What> {
+    ) -> Result<(), Lack> {
         match key {
             "changeSet" => {
-                let set = set_in(alloc, path, node, self.dialect, self.sql)?;
+                let set = set_in(alloc, given, path, node, self.dialect, self.sql)?;
                 Ok(gathered.add_set(set)?)
             }
             "preConditions" => {
                 let reaction = reaction_in(alloc, node, self.dialect, self.sql)?;
                 Ok(gathered.add_reaction(is_root, reaction)?)
             }
-            _ => Err(What::Key(unknown(alloc, key))),
+            _ => Err(Lack::Wrong(What::Key(unknown(alloc, key)))),
         }
     }
 }

@@ -2,42 +2,49 @@ ghost use Rattle.std.specs.Prelude.{◌≡◌, IfOk, IfSome, true};
 ghost use Rattle.lq_base.specs.Options.{if_there};
 ghost use Rattle.lq_kinds.specs.Dialects.{is_read_for};
 ghost use Rattle.lq_kinds.specs.Label.{is_label};
-ghost use Rattle.lq_sources.specs.Answers.{IsMade};
+ghost use Rattle.lq_sources.specs.Answers.{IsGathered, IsMade};
 ghost use Rattle.lq_paths.specs.Paths.{format_of};
 ghost use Rattle.lq_changelog.specs.Gathers.{line_of, reaction_in, set_by, set_in, sql_set, tree_set, what_at};
 ghost use Rattle.lq_changelog.specs.ShortTexts.{HasShortTexts};
 
 use crate::sql_parts::parts_set;
 use crate::texts::read_set;
-use lq_base::{Dialect, KindFault, plain_number};
+use lq_base::{Dialect, Items, KindFault, plain_number};
 use lq_cond::Reaction;
 use lq_contents::own_reaction;
 use lq_kinds::{ChangeSet, SetFault, is_label};
 use lq_model::SqlText;
 use lq_paths::{Format, format_of};
-use lq_sources::{What, entry_of};
+use lq_sources::{Included, Lack, What, entry_of};
 use lq_tree::{Node, bad_key, placed, placed_list};
 use std::alloc::Global;
 
-/// A changeset of a tree.
+/// A changeset of a tree, with the bytes of the files that it loads, as far as they are given.
 #[tactic(auto, unfolding(crate::specs::Gathers::tree_set))]
 fn tree_set<P: SqlText>(
     alloc: Global,
+    given: &[Items<u8>],
     path: &str,
     node: &Node,
     dialect: Dialect,
     sql: &P,
-) -> Result<Option<ChangeSet>, What>
+) -> Result<Option<ChangeSet>, Lack>
     requires same { P.dialect ≡ dialect }
     requires label { is_label path.now ≡ true }
-    ensures made { IsMade (tree_set dialect path.now node.now) result }
+    ensures made { IsGathered (tree_set dialect given.now path.now node.now) result }
     ensures right { IfOk result (λ set. if_there (is_read_for dialect) set ≡ true) }
     ensures short { IfOk result (λ set. IfSome set HasShortTexts) }
 {
-    match read_set(alloc, path, node, dialect, sql) {
+    match read_set(alloc, given, path, node, dialect, sql) {
         Ok(set) => Ok(set),
-        Err(SetFault::BadPath) => Err(What::BadPath),
-        Err(SetFault::InKeys(fault)) => Err(What::Key(placed(alloc, "changeSet", fault))),
+        Err(SetFault::BadPath) => Err(Lack::Wrong(What::BadPath)),
+        Err(SetFault::Wants { file, is_relative }) => Err(Lack::File(Included {
+            path: file,
+            relative: is_relative,
+        })),
+        Err(SetFault::InKeys(fault)) => {
+            Err(Lack::Wrong(What::Key(placed(alloc, "changeSet", fault))))
+        }
     }
 }
 
@@ -49,6 +56,10 @@ fn what_at(line: u64, fault: SetFault) -> What
         SetFault::InKeys(KindFault::OutOfMemory) => What::Key(KindFault::OutOfMemory),
         SetFault::InKeys(_) => What::Line(line),
         SetFault::BadPath => What::BadPath,
+        SetFault::Wants {
+            file: _,
+            is_relative: _,
+        } => What::Line(line),
     }
 }
 
@@ -94,20 +105,24 @@ fn sql_set<P: SqlText>(
 /// A changeset, by what its file is written in.
 fn set_by<P: SqlText>(
     alloc: Global,
+    given: &[Items<u8>],
     path: &str,
     node: &Node,
     dialect: Dialect,
     sql: &P,
-) -> Result<Option<ChangeSet>, What>
+) -> Result<Option<ChangeSet>, Lack>
     requires same { P.dialect ≡ dialect }
     requires label { is_label path.now ≡ true }
-    ensures made { IsMade (set_by (format_of path.now) dialect path.now node.now) result }
+    ensures made { IsGathered (set_by (format_of path.now) dialect given.now path.now node.now) result }
     ensures right { IfOk result (λ set. if_there (is_read_for dialect) set ≡ true) }
     ensures short { IfOk result (λ set. IfSome set HasShortTexts) }
 {
     match format_of(path) {
-        Some(Format::Sql) => sql_set(alloc, path, node, dialect, sql),
-        _ => tree_set(alloc, path, node, dialect, sql),
+        Some(Format::Sql) => match sql_set(alloc, path, node, dialect, sql) {
+            Ok(set) => Ok(set),
+            Err(what) => Err(Lack::Wrong(what)),
+        },
+        _ => tree_set(alloc, given, path, node, dialect, sql),
     }
 }
 
@@ -116,20 +131,21 @@ fn set_by<P: SqlText>(
 #[tactic(auto, unfolding(crate::specs::Gathers::set_in))]
 pub fn set_in<P: SqlText>(
     alloc: Global,
+    given: &[Items<u8>],
     path: &str,
     node: &Node,
     dialect: Dialect,
     sql: &P,
-) -> Result<Option<ChangeSet>, What>
+) -> Result<Option<ChangeSet>, Lack>
     requires same { P.dialect ≡ dialect }
-    ensures made { IsMade (set_in dialect path.now node.now) result }
+    ensures made { IsGathered (set_in dialect given.now path.now node.now) result }
     ensures right { IfOk result (λ set. if_there (is_read_for dialect) set ≡ true) }
     ensures short { IfOk result (λ set. IfSome set HasShortTexts) }
 {
     if is_label(path) {
-        set_by(alloc, path, node, dialect, sql)
+        set_by(alloc, given, path, node, dialect, sql)
     } else {
-        Err(What::BadPath)
+        Err(Lack::Wrong(What::BadPath))
     }
 }
 

@@ -1,7 +1,7 @@
 ghost use Rattle.std.specs.Prelude.{◌≡◌, ◌==◌, [], IfOk, IfSome, length, option_copied, true};
 ghost use Rattle.lq_base.specs.Options.{if_there};
 ghost use Rattle.lq_kinds.specs.AnyChange.{gives, is_for};
-ghost use Rattle.lq_kinds.specs.ChangeSets.{ReadsSet, sum_of};
+ghost use Rattle.lq_kinds.specs.ChangeSets.{ReadsSet, old_sum_of, sum_of};
 ghost use Rattle.lq_kinds.specs.Dialects.{is_read_for};
 ghost use Rattle.lq_kinds.specs.Label.{is_label};
 ghost use Rattle.lq_tree.specs.Look.{value_at};
@@ -11,7 +11,7 @@ ghost use Rattle.lq_changelog.specs.ShortTexts.{HasShortTexts};
 
 use crate::texts::read_set;
 use lq_base::{Dialect, Items, KindFault, NoMemory};
-use lq_kinds::{AnyChange, ChangeSet, SetFault, here_at, sum_of};
+use lq_kinds::{AnyChange, ChangeSet, SetFault, here_at, sums_of};
 use lq_model::{Change, SqlText};
 use lq_tree::{Node, bad};
 use std::alloc::Global;
@@ -31,7 +31,7 @@ fn part_in<P: SqlText>(
     ensures short { IfOk result (λ set. IfSome set HasShortTexts) }
 {
     match part {
-        Some(node) => read_set(alloc, path, node, dialect, sql),
+        Some(node) => read_set(alloc, &[], path, node, dialect, sql),
         None => Err(SetFault::InKeys(bad(alloc))),
     }
 }
@@ -60,13 +60,14 @@ fn is_idle(alloc: Global, changes: &[AnyChange], dialect: Dialect) -> Result<boo
 /// The changeset without its changes.
 fn emptied(alloc: Global, set: ChangeSet) -> Result<ChangeSet, NoMemory>
     requires { HasShortTexts set }
-    ensures made { IfOk result (λ made. made ≡ record set { changes = []; sum = sum_of [] }) }
+    ensures made { IfOk result (λ made. made ≡ record set { changes = []; sum = sum_of []; old_sum = old_sum_of [] }) }
     ensures short { IfOk result HasShortTexts }
 {
-    let sum = sum_of(alloc, &[])?;
+    let sums = sums_of(alloc, &[])?;
     let mut made = set;
     made.changes = Items::new(alloc);
-    made.sum = sum;
+    made.sum = sums.sum;
+    made.old_sum = sums.old_sum;
     Ok(made)
 }
 

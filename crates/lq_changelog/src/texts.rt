@@ -6,7 +6,7 @@ ghost use Rattle.lq_kinds.specs.Dialects.{is_read_for};
 ghost use Rattle.lq_kinds.specs.Label.{is_label};
 ghost use Rattle.lq_changelog.specs.ShortTexts.{HasShortTexts};
 
-use lq_base::{Dialect, Text};
+use lq_base::{Dialect, Items, Text};
 use lq_kinds::{ChangeSet, SetFault};
 use lq_model::SqlText;
 use lq_tree::Node;
@@ -33,9 +33,11 @@ fn texts_are_utf8(set: &ChangeSet)
     text_is_utf8(&set.labels_text);
 }
 
-/// The changeset of a map of its keys, in the file at a path. Its texts are short.
+/// The changeset of a map of its keys, in the file at a path, with the bytes of the files that it loads,
+/// as far as they are given. Its texts are short.
 pub fn read_set<P: SqlText>(
     alloc: Global,
+    given: &[Items<u8>],
     path: &str,
     node: &Node,
     dialect: Dialect,
@@ -43,11 +45,11 @@ pub fn read_set<P: SqlText>(
 ) -> Result<Option<ChangeSet>, SetFault>
     requires same { P.dialect ≡ dialect }
     requires label { is_label path.now ≡ true }
-    ensures read { ReadsSet (set_of dialect path.now node.now) result }
+    ensures read { ReadsSet (set_of dialect path.now given.now node.now) result }
     ensures right { IfOk result (λ set. if_there (is_read_for dialect) set ≡ true) }
     ensures short { IfOk result (λ set. IfSome set HasShortTexts) }
 {
-    let found = ChangeSet::read(alloc, node, dialect, path, sql)?;
+    let found = ChangeSet::read(alloc, node, dialect, path, sql, given)?;
     let Some(set) = found else {
         return Ok(None);
     };

@@ -1,4 +1,5 @@
 pub mod Gives
+pub mod Job
 pub mod Line
 pub mod Options
 pub mod Parsed

@@ -6,7 +6,7 @@ use Rattle.lq_base.specs.declared.command.Command.TheVariants as command
 use Rattle.lq_base.specs.declared.command.Target.{Target}
 use Rattle.lq_base.specs.declared.command.Target.TheVariants as target
 use Rattle.lq_cli.specs.declared.line.Job.{Job}
-use Rattle.lq_cli.specs.declared.line.Job.TheVariants.{Run, UpdateSql, RollbackSql, Drill, Soak}
+use Rattle.lq_cli.specs.declared.line.Job.TheVariants.{Run, UpdateSql, UpdateCount, UpdateTo, RollbackSql, History, Drill, Soak}
 use Rattle.lq_cli.specs.declared.line.Line.{Line}
 use Rattle.lq_cli.specs.declared.verb.Verb.{Verb}
 use Rattle.lq_cli.specs.declared.verb.Verb.TheVariants as verb
@@ -38,6 +38,13 @@ only_target given = only_one (value given tag) (value given count) (value given 
 abbrev pub rollback : Option Target → Option Job
 rollback target = option_map (λ back. Run (command.Rollback back)) target
 
+-- an update of so many changesets, and one up to a tag
+unfoldable pub counting : List Row → Option Job
+counting given = option_map UpdateCount (value given count >>= number_from 0 4294967295)
+
+unfoldable pub going : List Row → Option Job
+going given = option_map UpdateTo (value given tag >>= tag_of)
+
 unfoldable pub tagging : List Row → Option Job
 tagging given = option_map (λ t. Run (command.Tag t)) (value given tag >>= tag_of)
 
@@ -56,6 +63,8 @@ job_of verb.Validate given = Some (Run command.Validate)
 job_of verb.Status given = Some (Run command.Status)
 job_of verb.Update given = Some (Run command.Update)
 job_of verb.UpdateSql given = Some UpdateSql
+job_of verb.UpdateCount given = counting given
+job_of verb.UpdateToTag given = going given
 job_of verb.ChangelogSync given = Some (Run command.Sync)
 job_of verb.Rollback given = rollback (value given tag >>= to_tag)
 job_of verb.RollbackCount given = rollback (value given count >>= by_count)
@@ -63,6 +72,7 @@ job_of verb.RollbackToDate given = rollback (value given date >>= to_date)
 job_of verb.RollbackSql given = option_map RollbackSql (only_target given)
 job_of verb.Tag given = tagging given
 job_of verb.ReleaseLocks given = Some (Run command.Release)
+job_of verb.History given = Some History
 job_of verb.Drill given = drilling given
 job_of verb.Soak given = soak given
 

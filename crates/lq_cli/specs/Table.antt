@@ -3,7 +3,7 @@ use Rattle.std.specs.Prelude.{ℕ, Bool, true, false, List, [], ◌∷◌, Optio
 use Rattle.std.specs.Map.{lookup}
 use Rattle.std.specs.Str.{bytes_eq}
 use Rattle.lq_cli.specs.declared.verb.Verb.{Verb}
-use Rattle.lq_cli.specs.declared.verb.Verb.TheVariants.{Validate, Status, Update, UpdateSql, ChangelogSync, Rollback, RollbackCount, RollbackToDate, RollbackSql, Tag, ReleaseLocks, Drill, Soak}
+use Rattle.lq_cli.specs.declared.verb.Verb.TheVariants.{Validate, Status, Update, UpdateSql, UpdateCount, UpdateToTag, ChangelogSync, Rollback, RollbackCount, RollbackToDate, RollbackSql, Tag, ReleaseLocks, History, Drill, Soak}
 
 -- the names of the options
 abbrev pub url : List ℕ
@@ -45,18 +45,25 @@ pub record Form : Type 0 where
 abbrev pub takes : List (List ℕ) → List (List ℕ) → Bool → Form
 takes required optional defines = record { required = required; optional = optional; defines = defines }
 
+-- with filters of contexts and labels, and with `-D`
+abbrev pub filtered : List (List ℕ) → Form
+filtered required = takes required (context_filter ∷ label_filter ∷ []) true
+
 abbrev pub form_of : Verb → Form
 form_of Validate = takes (url ∷ changelog_file ∷ []) [] true
-form_of Status = takes (url ∷ changelog_file ∷ []) (context_filter ∷ label_filter ∷ []) true
-form_of Update = takes (url ∷ changelog_file ∷ []) (context_filter ∷ label_filter ∷ []) true
-form_of UpdateSql = takes (url ∷ changelog_file ∷ []) (context_filter ∷ label_filter ∷ []) true
-form_of ChangelogSync = takes (url ∷ changelog_file ∷ []) (context_filter ∷ label_filter ∷ []) true
+form_of Status = filtered (url ∷ changelog_file ∷ [])
+form_of Update = filtered (url ∷ changelog_file ∷ [])
+form_of UpdateSql = filtered (url ∷ changelog_file ∷ [])
+form_of UpdateCount = filtered (url ∷ changelog_file ∷ count ∷ [])
+form_of UpdateToTag = filtered (url ∷ changelog_file ∷ tag ∷ [])
+form_of ChangelogSync = filtered (url ∷ changelog_file ∷ [])
 form_of Rollback = takes (url ∷ changelog_file ∷ tag ∷ []) [] true
 form_of RollbackCount = takes (url ∷ changelog_file ∷ count ∷ []) [] true
 form_of RollbackToDate = takes (url ∷ changelog_file ∷ date ∷ []) [] true
 form_of RollbackSql = takes (url ∷ changelog_file ∷ []) (tag ∷ count ∷ date ∷ []) true
 form_of Tag = takes (url ∷ tag ∷ []) [] false
 form_of ReleaseLocks = takes (url ∷ []) [] false
+form_of History = takes (url ∷ []) [] false
 form_of Drill = takes (url ∷ runs ∷ []) [] false
 form_of Soak = takes (url ∷ number ∷ sets ∷ []) [] false
 
@@ -64,10 +71,11 @@ form_of Soak = takes (url ∷ number ∷ sets ∷ []) [] false
 abbrev pub verbs : List (List ℕ × Verb)
 verbs =
     (codes "validate", Validate) ∷ (codes "status", Status) ∷ (codes "update", Update)
-    ∷ (codes "update-sql", UpdateSql) ∷ (codes "changelog-sync", ChangelogSync)
+    ∷ (codes "update-sql", UpdateSql) ∷ (codes "update-count", UpdateCount)
+    ∷ (codes "update-to-tag", UpdateToTag) ∷ (codes "changelog-sync", ChangelogSync)
     ∷ (codes "rollback", Rollback) ∷ (codes "rollback-count", RollbackCount)
     ∷ (codes "rollback-to-date", RollbackToDate) ∷ (codes "rollback-sql", RollbackSql)
-    ∷ (codes "tag", Tag) ∷ (codes "release-locks", ReleaseLocks)
+    ∷ (codes "tag", Tag) ∷ (codes "release-locks", ReleaseLocks) ∷ (codes "history", History)
     ∷ (codes "drill", Drill) ∷ (codes "soak", Soak) ∷ []
 
 -- the command of this name

@@ -62,12 +62,15 @@ RequiredSuffice = list_all (λ words. is_some (line_of words)) (
     ∷ with_changelog (codes "status") []
     ∷ with_changelog (codes "update") []
     ∷ with_changelog (codes "update-sql") []
+    ∷ with_changelog (codes "update-count") (codes "--count=1" ∷ [])
+    ∷ with_changelog (codes "update-to-tag") (codes "--tag=v1" ∷ [])
     ∷ with_changelog (codes "changelog-sync") []
     ∷ with_changelog (codes "rollback") (codes "--tag=v1" ∷ [])
     ∷ with_changelog (codes "rollback-count") (codes "--count=1" ∷ [])
     ∷ with_changelog (codes "rollback-sql") (codes "--tag=v1" ∷ [])
     ∷ (codes "tag" ∷ codes "--url=mysql:f" ∷ codes "--tag=v1" ∷ [])
     ∷ (codes "release-locks" ∷ codes "--url=mysql:f" ∷ [])
+    ∷ (codes "history" ∷ codes "--url=mysql:f" ∷ [])
     ∷ (codes "drill" ∷ codes "--url=mysql:f" ∷ codes "--runs=r" ∷ [])
     ∷ (codes "soak" ∷ codes "--url=mysql:f" ∷ codes "--number=0" ∷ codes "--sets=1" ∷ [])
     ∷ []) ≡ true
@@ -109,8 +112,8 @@ CountsAreRefused = AreNone (
     ∷ counting (codes "--count=" ∷ [])
     ∷ [])
 
--- no command, one that there is not, two or none of the three targets, a value that says nothing, `-D` where it is not
--- taken, and a drill without its file or with a changelog
+-- no command, one that there is not, two or none of the three targets, a value that says nothing, a count or a tag that
+-- is missing, `-D` or a changelog where it is not taken, and a drill without its file or with a changelog
 abbrev pub CommandsAreRefused : Type 0
 CommandsAreRefused = AreNone (
     []
@@ -122,6 +125,11 @@ CommandsAreRefused = AreNone (
     ∷ (codes "status" ∷ codes "--url=mysql:f" ∷ codes "--changelog-file=c" ∷ codes "--label-filter=" ∷ [])
     ∷ (codes "tag" ∷ codes "--url=mysql:f" ∷ codes "--tag=" ∷ [])
     ∷ (codes "tag" ∷ codes "--url=mysql:f" ∷ codes "--tag=v1" ∷ codes "-Dx=1" ∷ [])
+    ∷ with_changelog (codes "update-count") []
+    ∷ with_changelog (codes "update-to-tag") []
+    ∷ with_changelog (codes "update-to-tag") (codes "--count=1" ∷ [])
+    ∷ (codes "history" ∷ codes "--url=mysql:f" ∷ codes "-Dx=1" ∷ [])
+    ∷ (codes "history" ∷ codes "--url=mysql:f" ∷ codes "--changelog-file=c" ∷ [])
     ∷ (codes "drill" ∷ codes "--url=mysql:f" ∷ [])
     ∷ (codes "drill" ∷ codes "--url=mysql:f" ∷ codes "--runs=r" ∷ codes "--changelog-file=c" ∷ [])
     ∷ (codes "soak" ∷ codes "--url=mysql:f" ∷ codes "--number=0" ∷ codes "--sets=0" ∷ [])

@@ -1,5 +1,5 @@
 ghost use Rattle.std.specs.Prelude.{◌≡◌, map};
-ghost use Rattle.lq_cli.specs.Table.{form_of, takes};
+ghost use Rattle.lq_cli.specs.Table.{filtered, form_of, takes};
 
 use crate::verb::Verb;
 
@@ -22,7 +22,11 @@ impl Form {
     {
         match verb {
             Verb::Validate => Form::new(&["url", "changelog-file"], &[], true),
-            Verb::Status | Verb::Update | Verb::UpdateSql | Verb::ChangelogSync => Form::filtered(),
+            Verb::Status | Verb::Update | Verb::UpdateSql | Verb::ChangelogSync => {
+                Form::filtered_to(&["url", "changelog-file"])
+            }
+            Verb::UpdateCount => Form::filtered_to(&["url", "changelog-file", "count"]),
+            Verb::UpdateToTag => Form::filtered_to(&["url", "changelog-file", "tag"]),
             Verb::Rollback => Form::new(&["url", "changelog-file", "tag"], &[], true),
             Verb::RollbackCount => Form::new(&["url", "changelog-file", "count"], &[], true),
             Verb::RollbackToDate => Form::new(&["url", "changelog-file", "date"], &[], true),
@@ -32,21 +36,17 @@ impl Form {
                 true,
             ),
             Verb::Tag => Form::new(&["url", "tag"], &[], false),
-            Verb::ReleaseLocks => Form::new(&["url"], &[], false),
+            Verb::ReleaseLocks | Verb::History => Form::new(&["url"], &[], false),
             Verb::Drill => Form::new(&["url", "runs"], &[], false),
             Verb::Soak => Form::new(&["url", "number", "sets"], &[], false),
         }
     }
 
-    fn filtered() -> Form
+    fn filtered_to(required: &'static [&'static str]) -> Form
         ensures { takes (map (λ w. w.now) result.required.now) (map (λ w. w.now) result.optional.now) result.defines
-            ≡ form_of Verb.Status }
+            ≡ filtered (map (λ w. w.now) required.entry.now) }
     {
-        Form::new(
-            &["url", "changelog-file"],
-            &["context-filter", "label-filter"],
-            true,
-        )
+        Form::new(required, &["context-filter", "label-filter"], true)
     }
 
     fn new(

@@ -1,6 +1,6 @@
 ghost use Rattle.std.specs.Prelude.{◌≡◌, option_and_then, option_map};
 ghost use Rattle.lq_cli.specs.Gives.{Gives};
-ghost use Rattle.lq_cli.specs.Line.{by_count, drilling, job_of, only_target, rollback, soak, tagging, to_date, to_tag};
+ghost use Rattle.lq_cli.specs.Line.{by_count, counting, drilling, going, job_of, only_target, rollback, soak, tagging, to_date, to_tag};
 ghost use Rattle.lq_cli.specs.Options.{value};
 ghost use Rattle.lq_cli.specs.Table.{count, date, number, sets, tag};
 ghost use Rattle.lq_cli.specs.Values.{number_from, tag_of};
@@ -24,6 +24,8 @@ pub fn job_of(alloc: Global, verb: Verb, given: &Chosen) -> Result<Job, WordsFau
         Verb::Status => Ok(Job::Run(Command::Status)),
         Verb::Update => Ok(Job::Run(Command::Update)),
         Verb::UpdateSql => Ok(Job::UpdateSql),
+        Verb::UpdateCount => counting(given),
+        Verb::UpdateToTag => going(alloc, given),
         Verb::ChangelogSync => Ok(Job::Run(Command::Sync)),
         Verb::Rollback => rollback_to_tag(alloc, given),
         Verb::RollbackCount => rollback_by_count(given),
@@ -31,6 +33,7 @@ pub fn job_of(alloc: Global, verb: Verb, given: &Chosen) -> Result<Job, WordsFau
         Verb::RollbackSql => rollback_sql(alloc, given),
         Verb::Tag => tagging(alloc, given),
         Verb::ReleaseLocks => Ok(Job::Run(Command::Release)),
+        Verb::History => Ok(Job::History),
         Verb::Drill => drilling(alloc, given),
         Verb::Soak => soak(given),
     }
@@ -67,6 +70,32 @@ fn rollback_sql(alloc: Global, given: &Chosen) -> Result<Job, WordsFault>
     ensures { Gives (option_map (λ target. Job.RollbackSql target) (only_target given.now)) result }
 {
     Ok(Job::RollbackSql(only_target(alloc, given)?))
+}
+
+#[tactic(auto, unfolding(crate::specs::Line::counting))]
+fn counting(given: &Chosen) -> Result<Job, WordsFault>
+    ensures { Gives (counting given.now) result }
+{
+    match count_in(given) {
+        Some(count) => Ok(Job::UpdateCount(count)),
+        None => Err(WordsFault::Usage),
+    }
+}
+
+fn count_in(given: &Chosen) -> Option<u64>
+    ensures { result ≡ option_and_then (number_from 0 4294967295) (value given.now count) }
+{
+    number_from(0, 4_294_967_295, given.value("count")?)
+}
+
+#[tactic(auto, unfolding(crate::specs::Line::going))]
+fn going(alloc: Global, given: &Chosen) -> Result<Job, WordsFault>
+    ensures { Gives (going given.now) result }
+{
+    match tag_in(given) {
+        Some(tag) => Ok(Job::UpdateTo(Text::new(alloc, tag)?)),
+        None => Err(WordsFault::Usage),
+    }
 }
 
 #[tactic(auto, unfolding(crate::specs::Line::tagging))]

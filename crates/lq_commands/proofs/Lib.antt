@@ -5,6 +5,7 @@ mod Endings
 mod Freed
 mod InOneTurn
 mod Inserted
+mod Jobbed
 mod LoadedTexts
 mod MayWrite
 pub mod PlainRefusals

@@ -1,7 +1,9 @@
 pub mod AtOnce
 pub mod Inserts
+pub mod Jobs
 pub mod Kinds
 pub mod Outputs
+pub mod Parts
 pub mod Reading
 pub mod Refusals
 pub mod Scripts

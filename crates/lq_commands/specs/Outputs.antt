@@ -5,8 +5,8 @@ use Rattle.lq_base.specs.declared.command.Command.TheVariants as command
 use Rattle.lq_base.specs.declared.command.Target.{Target}
 use Rattle.lq_base.specs.declared.tracking.Lock.{Lock}
 use Rattle.lq_cli.specs.declared.line.Job.{Job}
-use Rattle.lq_cli.specs.declared.line.Job.TheVariants.{RollbackSql, Run, UpdateSql}
-use Rattle.lq_report.specs.Output.{status_text, tagged_text, unrecorded_line, validated_text}
+use Rattle.lq_cli.specs.declared.line.Job.TheVariants.{History, RollbackSql, Run, UpdateCount, UpdateSql, UpdateTo}
+use Rattle.lq_report.specs.Output.{history_text, status_text, tagged_text, unrecorded_line, validated_text}
 use Rattle.lq_words.specs.Words.{held_text}
 use Rattle.lq_seen.specs.Printing.{Account}
 use Rattle.lq_tell.specs.Lines.{warning_lines}
@@ -17,6 +17,7 @@ use Rattle.lq_track.specs.Database.{Database}
 use Rattle.lq_turns.specs.Pending.{pending}
 use Rattle.lq_turns.specs.Rollback.{rows_kept}
 use Rattle.lq_commands.specs.Inserts.{TellsSync, synced_in}
+use Rattle.lq_commands.specs.Parts.{counted_in}
 use Rattle.lq_commands.specs.Scripts.{rolled_to, sets_in, updated_in}
 use Rattle.lq_commands.specs.Tells.{IfFinished, TellsRollback, TellsUpdate}
 use Rattle.lq_commands.specs.declared.given.Given.{Given}
@@ -43,12 +44,15 @@ at_once_text (command.Tag name) given database = tagged_text name
 at_once_text command.Release given database = released_text database.lock
 at_once_text _ given database = []
 
--- what it tells that came to its end: an update and a rollback of their turns, a changelog-sync of its rows
+-- what it tells that came to its end: an update and a rollback of their turns, a changelog-sync of its rows; an update by part tells of that part
 abbrev pub TellsEnd : Job → Given → Database → Done → Type 0
 TellsEnd (Run command.Update) given database done = TellsUpdate false (updated_in false given database) done
 TellsEnd (Run (command.Rollback target)) given database done = TellsRollback false (back_in false given target database) done
 TellsEnd (Run command.Sync) given database done = TellsSync (synced_in given database) done
 TellsEnd (Run c) given database done = TellsText (at_once_text c given database) done
+TellsEnd (UpdateCount count) given database done = TellsUpdate false (updated_in false (counted_in count given database.rows) database) done
+TellsEnd (UpdateTo tag) given database done = TellsUpdate false (updated_in false given database) done
+TellsEnd History given database done = TellsText (history_text database.rows) done
 TellsEnd UpdateSql given database done = TellsUpdate true (updated_in true given database) done
 TellsEnd (RollbackSql target) given database done = TellsRollback true (back_in true given target database) done
 TellsEnd _ given database done = Unit {0}

@@ -8,6 +8,7 @@ ghost use Rattle.lq_kinds.specs.Dialects.{AreFor};
 ghost use Rattle.lq_outside.specs.Count.{Rose};
 ghost use Rattle.lq_tell.specs.declared.status.Status.TheVariants.{DiskFault};
 ghost use Rattle.lq_commands.specs.AtOnce.{is_at_once};
+ghost use Rattle.lq_commands.specs.Jobs.{DidJob, is_own, job_tag};
 ghost use Rattle.lq_commands.specs.Outputs.{TellsJob};
 ghost use Rattle.lq_commands.specs.Refusals.{Answers, Passes, no_way_back, print_rollback, print_update, refusal};
 ghost use Rattle.lq_commands.specs.Scripts.{printed_script, script, tag_in};
@@ -16,7 +17,8 @@ ghost use Rattle.lq_commands.specs.Works.{CrashesIn, IsKept, IsReady, OnIts, Tel
 
 use crate::checks::{check_own, check_target, check_ways, valid_rows};
 use crate::given::Given;
-use crate::listing::{status, validate};
+use crate::listing::{history, status, validate};
+use crate::part::update_count;
 use crate::release::{free, release};
 use crate::rollback::rollback;
 use crate::running::fault_answer;
@@ -24,6 +26,7 @@ use crate::sync::sync;
 use crate::tag::tag;
 use crate::update::update;
 use lq_base::{Command, Target, Tracked};
+use lq_cli::Job;
 use lq_model::SqlText;
 use lq_store::Store;
 use lq_tell::{Done, Status};
@@ -65,6 +68,39 @@ pub fn run_command<S: Store, P: SqlText>(
         Command::Rollback(target) => rollback(alloc, given, target, store, sql, false),
         Command::Sync => sync(alloc, given, store, sql),
         _ => run_at_once(alloc, command, &given, store, sql),
+    }
+}
+
+/// Does a job on the database of a store, whole: a command, an update by part of its changelog, or the
+/// list of its rows; otherwise as `run_command`. An update up to a tag has that part of its changelog
+/// already.
+pub fn run_job<S: Store, P: SqlText>(
+    alloc: Global,
+    job: &Job,
+    given: Given,
+    store: &mut S,
+    sql: &P,
+) -> Result<Done, Status>
+    requires own { is_own job.now ≡ true }
+    requires valid { S.valid store.old }
+    requires ready { IsReady given.options.dialect (S.state store.old) }
+    requires sql { P.dialect ≡ given.options.dialect }
+    requires read { AreFor given.options.dialect given.changelog }
+    requires short { All HasShortTexts given.changelog.sets }
+    requires tag { IfSome (job_tag job.now) (λ tag. char_count tag ≤ 255) }
+    requires moment { given.stamp.reading ≤ 253402300799999 }
+    requires name { is_mark given.stamp.who ≡ false }
+    ensures valid { S.valid store.new }
+    ensures did { DidJob S.state S.crashes job.now given store.old result store.new }
+    ensures later { S.faults store.old ≤ S.faults store.new }
+    ensures disk { result ≡ Err DiskFault → Rose (S.faults store.old) (S.faults store.new) }
+{
+    match job {
+        Job::Run(command) => run_command(alloc, command, given, store, sql),
+        Job::UpdateCount(count) => update_count(alloc, given, *count, store, sql),
+        Job::UpdateTo(_) => update(alloc, given, store, sql, false),
+        Job::History => history(alloc, given.options.dialect, store),
+        _ => unreachable!(),
     }
 }
 

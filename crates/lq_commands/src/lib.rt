@@ -6,6 +6,7 @@ mod command;
 mod given;
 mod listing;
 mod one_turn;
+mod part;
 mod release;
 mod rollback;
 mod running;
@@ -16,7 +17,7 @@ mod tag;
 mod update;
 mod who;
 
-pub use command::{print_rollback, print_update, run_command};
+pub use command::{print_rollback, print_update, run_command, run_job};
 pub use given::{Asked, Given, SESSION, stamped};
 pub use stamp::{numbered_stamp, stamp_of};
 pub use who::clean;

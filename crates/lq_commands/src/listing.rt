@@ -1,5 +1,5 @@
-ghost use Rattle.std.specs.Prelude.{◌≡◌, [], Err, IfErr, IfOk, Some};
-ghost use Rattle.lq_report.specs.Output.{status_text, validated_text};
+ghost use Rattle.std.specs.Prelude.{◌≡◌, [], Err, IfErr, IfOk, None, Some};
+ghost use Rattle.lq_report.specs.Output.{history_text, status_text, validated_text};
 ghost use Rattle.lq_tell.specs.declared.status.Status.TheVariants.{DiskFault, Done as Whole, OutOfMemory};
 ghost use Rattle.lq_commands.specs.Outputs.{TellsText};
 ghost use Rattle.lq_commands.specs.Refusals.{Answers, invalid};
@@ -8,10 +8,10 @@ ghost use Rattle.lq_commands.specs.Tells.{IsQuiet};
 ghost use Rattle.lq_commands.specs.Works.{IsReady, OnIts, Works};
 ghost use Rattle.lq_turns.specs.Pending.{pending};
 
-use crate::checks::valid_rows;
+use crate::checks::{rows_in, valid_rows};
 use crate::given::Given;
-use lq_base::{Text, Tracked};
-use lq_report::{status_text, validated_text};
+use lq_base::{Dialect, Text, Tracked};
+use lq_report::{history_text, status_text, validated_text};
 use lq_sets::pending_of;
 use lq_store::Store;
 use lq_tell::{Done, Status};
@@ -61,5 +61,28 @@ fn listed(alloc: Global, given: &Given, rows: &[Tracked]) -> Result<Done, Status
 {
     let found = pending_of(alloc, &given.options, &given.changelog, rows)?;
     let text = status_text(alloc, found.as_slice())?;
+    Ok(Done::with(alloc, text))
+}
+
+/// Lists the rows in run order, whatever holds the lock (Liquibase's documentation, "history").
+pub fn history<S: Store>(alloc: Global, dialect: Dialect, store: &S) -> Result<Done, Status>
+    requires valid { S.valid store.now }
+    requires ready { IsReady dialect (S.state store.now) }
+    ensures answers { Answers None result }
+    ensures works { OnIts dialect (S.state store.now) (λ database. Works dialect [] database (S.state store.now) result (S.state store.now)) }
+    ensures sure { result ≡ Err DiskFault → ⊥ }
+    ensures tells { IfOk result (λ done. OnIts dialect (S.state store.now) (λ database. TellsText (history_text database.rows) done)) }
+{
+    let rows = rows_in(alloc, dialect, store)?;
+    told_rows(alloc, rows.as_slice())
+}
+
+fn told_rows(alloc: Global, rows: &[Tracked]) -> Result<Done, Status>
+    ensures out { IfOk result (λ done. done.out ≡ Some (history_text rows.now)) }
+    ensures done { IfOk result (λ done. done.status ≡ Whole) }
+    ensures quiet { IfOk result IsQuiet }
+    ensures fault { IfErr result (λ s. s ≡ OutOfMemory) }
+{
+    let text = history_text(alloc, rows)?;
     Ok(Done::with(alloc, text))
 }

@@ -23,6 +23,7 @@ use Rattle.lq_data.specs.Sql as sql_text
 use Rattle.lq_data.specs.TagDatabase as tag_database
 use Rattle.lq_data.specs.Update as update
 use Rattle.lq_keys.specs.AddForeignKey as add_foreign_key
+use Rattle.lq_load.specs.LoadData as load_data
 use Rattle.lq_primary_keys.specs.AddPrimaryKey as add_primary_key
 use Rattle.lq_uniques.specs.AddUnique as add_unique
 use Rattle.lq_keys.specs.CreateIndex as create_index
@@ -41,7 +42,7 @@ use Rattle.lq_views.specs.DropView as drop_view
 use Rattle.lq_views.specs.RenameSequence as rename_sequence
 use Rattle.lq_views.specs.RenameView as rename_view
 use Rattle.lq_kinds.specs.declared.any_change.AnyChange.{AnyChange}
-use Rattle.lq_kinds.specs.declared.any_change.AnyChange.TheVariants.{AddColumn, AddDefaultValue, AddForeignKeyConstraint, AddNotNullConstraint, AddPrimaryKey, AddUniqueConstraint, CreateIndex, CreateSequence, CreateTable, CreateView, Delete, DropColumn, DropDefaultValue, DropForeignKeyConstraint, DropIndex, DropNotNullConstraint, DropPrimaryKey, DropSequence, DropTable, DropUniqueConstraint, DropView, Empty, Insert, RenameColumn, RenameSequence, RenameTable, RenameView, Sql, TagDatabase, Update}
+use Rattle.lq_kinds.specs.declared.any_change.AnyChange.TheVariants.{AddColumn, AddDefaultValue, AddForeignKeyConstraint, AddNotNullConstraint, AddPrimaryKey, AddUniqueConstraint, CreateIndex, CreateSequence, CreateTable, CreateView, Delete, DropColumn, DropDefaultValue, DropForeignKeyConstraint, DropIndex, DropNotNullConstraint, DropPrimaryKey, DropSequence, DropTable, DropUniqueConstraint, DropView, Empty, Insert, LoadData, RenameColumn, RenameSequence, RenameTable, RenameView, Sql, TagDatabase, Update}
 
 -- reading
 
@@ -128,6 +129,7 @@ is_for d (RenameSequence x) = rename_sequence.is_for d x
 is_for d (Insert x) = insert.is_for d x
 is_for d (Update x) = update.is_for d x
 is_for d (Delete x) = delete.is_for d x
+is_for d (LoadData x) = load_data.is_for d x
 is_for d (Sql x) = sql_text.is_for d x
 is_for d (TagDatabase x) = tag_database.is_for d x
 is_for d (Empty x) = empty.is_for d x
@@ -160,6 +162,7 @@ gives d (RenameSequence x) = rename_sequence.gives d x
 gives d (Insert x) = insert.gives d x
 gives d (Update x) = update.gives d x
 gives d (Delete x) = delete.gives d x
+gives d (LoadData x) = load_data.gives d x
 gives d (Sql x) = sql_text.gives d x
 gives d (TagDatabase x) = tag_database.gives d x
 gives d (Empty x) = empty.gives d x
@@ -192,6 +195,7 @@ effect d (RenameSequence x) c = rename_sequence.effect d x c
 effect d (Insert x) c = insert.effect d x c
 effect d (Update x) c = update.effect d x c
 effect d (Delete x) c = delete.effect d x c
+effect d (LoadData x) c = load_data.effect d x c
 effect d (Sql x) c = sql_text.effect d x c
 effect d (TagDatabase x) c = tag_database.effect d x c
 effect d (Empty x) c = empty.effect d x c
@@ -224,6 +228,7 @@ is_fresh d (RenameSequence x) c = rename_sequence.is_fresh d x c
 is_fresh d (Insert x) c = insert.is_fresh d x c
 is_fresh d (Update x) c = update.is_fresh d x c
 is_fresh d (Delete x) c = delete.is_fresh d x c
+is_fresh d (LoadData x) c = load_data.is_fresh d x c
 is_fresh d (Sql x) c = sql_text.is_fresh d x c
 is_fresh d (TagDatabase x) c = tag_database.is_fresh d x c
 is_fresh d (Empty x) c = empty.is_fresh d x c
@@ -256,6 +261,7 @@ inverse d (RenameSequence x) = rename_sequence.inverse d x
 inverse d (Insert x) = insert.inverse d x
 inverse d (Update x) = update.inverse d x
 inverse d (Delete x) = delete.inverse d x
+inverse d (LoadData x) = load_data.inverse d x
 inverse d (Sql x) = sql_text.inverse d x
 inverse d (TagDatabase x) = tag_database.inverse d x
 inverse d (Empty x) = empty.inverse d x
@@ -288,6 +294,7 @@ canonical_of (RenameSequence x) = rename_sequence.canonical_of x
 canonical_of (Insert x) = insert.canonical_of x
 canonical_of (Update x) = update.canonical_of x
 canonical_of (Delete x) = delete.canonical_of x
+canonical_of (LoadData x) = load_data.canonical_of x
 canonical_of (Sql x) = sql_text.canonical_of x
 canonical_of (TagDatabase x) = tag_database.canonical_of x
 canonical_of (Empty x) = empty.canonical_of x

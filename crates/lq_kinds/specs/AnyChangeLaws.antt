@@ -18,6 +18,7 @@ use Rattle.lq_data.specs.SqlLaws as sql_text
 use Rattle.lq_data.specs.TagDatabaseLaws as tag_database
 use Rattle.lq_data.specs.UpdateLaws as update
 use Rattle.lq_keys.specs.AddForeignKeyLaws as add_foreign_key
+use Rattle.lq_load.specs.LoadDataLaws as load_data
 use Rattle.lq_primary_keys.specs.AddPrimaryKeyLaws as add_primary_key
 use Rattle.lq_uniques.specs.AddUniqueLaws as add_unique
 use Rattle.lq_keys.specs.CreateIndexLaws as create_index
@@ -37,7 +38,7 @@ use Rattle.lq_views.specs.RenameSequenceLaws as rename_sequence
 use Rattle.lq_views.specs.RenameViewLaws as rename_view
 use Rattle.lq_kinds.specs.AnyChange.{canonical_of, effect, gives, inverse, is_for, is_fresh}
 use Rattle.lq_kinds.specs.declared.any_change.AnyChange.{AnyChange}
-use Rattle.lq_kinds.specs.declared.any_change.AnyChange.TheVariants.{AddColumn, AddDefaultValue, AddForeignKeyConstraint, AddNotNullConstraint, AddPrimaryKey, AddUniqueConstraint, CreateIndex, CreateSequence, CreateTable, CreateView, Delete, DropColumn, DropDefaultValue, DropForeignKeyConstraint, DropIndex, DropNotNullConstraint, DropPrimaryKey, DropSequence, DropTable, DropUniqueConstraint, DropView, Empty, Insert, RenameColumn, RenameSequence, RenameTable, RenameView, Sql, TagDatabase, Update}
+use Rattle.lq_kinds.specs.declared.any_change.AnyChange.TheVariants.{AddColumn, AddDefaultValue, AddForeignKeyConstraint, AddNotNullConstraint, AddPrimaryKey, AddUniqueConstraint, CreateIndex, CreateSequence, CreateTable, CreateView, Delete, DropColumn, DropDefaultValue, DropForeignKeyConstraint, DropIndex, DropNotNullConstraint, DropPrimaryKey, DropSequence, DropTable, DropUniqueConstraint, DropView, Empty, Insert, LoadData, RenameColumn, RenameSequence, RenameTable, RenameView, Sql, TagDatabase, Update}
 
 pub spelled : AreStatements is_for gives
 spelled d (CreateTable x) = create_table.spelled d x
@@ -67,6 +68,7 @@ spelled d (RenameSequence x) = rename_sequence.spelled d x
 spelled d (Insert x) = insert.spelled d x
 spelled d (Update x) = update.spelled d x
 spelled d (Delete x) = delete.spelled d x
+spelled d (LoadData x) = load_data.spelled d x
 spelled d (Sql x) = sql_text.spelled d x
 spelled d (TagDatabase x) = tag_database.spelled d x
 spelled d (Empty x) = empty.spelled d x
@@ -99,6 +101,7 @@ returned d (RenameSequence x) = rename_sequence.returned d x
 returned d (Insert x) = insert.returned d x
 returned d (Update x) = update.returned d x
 returned d (Delete x) = delete.returned d x
+returned d (LoadData x) = load_data.returned d x
 returned d (Sql x) = sql_text.returned d x
 returned d (TagDatabase x) = tag_database.returned d x
 returned d (Empty x) = empty.returned d x
@@ -131,6 +134,7 @@ does d (RenameSequence x) = rename_sequence.does d x
 does d (Insert x) = insert.does d x
 does d (Update x) = update.does d x
 does d (Delete x) = delete.does d x
+does d (LoadData x) = load_data.does d x
 does d (Sql x) = sql_text.does d x
 does d (TagDatabase x) = tag_database.does d x
 does d (Empty x) = empty.does d x
@@ -163,6 +167,7 @@ restores d (RenameSequence x) = rename_sequence.restores d x
 restores d (Insert x) = insert.restores d x
 restores d (Update x) = update.restores d x
 restores d (Delete x) = delete.restores d x
+restores d (LoadData x) = load_data.restores d x
 restores d (Sql x) = sql_text.restores d x
 restores d (TagDatabase x) = tag_database.restores d x
 restores d (Empty x) = empty.restores d x
@@ -198,6 +203,7 @@ told d (RenameSequence x) (RenameSequence y) right also e = ap (λ k. RenameSequ
 told d (Insert x) (Insert y) right also e = ap (λ k. Insert k) (insert.told d x y right also e)
 told d (Update x) (Update y) right also e = ap (λ k. Update k) (update.told d x y right also e)
 told d (Delete x) (Delete y) right also e = ap (λ k. Delete k) (delete.told d x y right also e)
+told d (LoadData x) (LoadData y) right also e = ap (λ k. LoadData k) (load_data.told d x y right also e)
 told d (Sql x) (Sql y) right also e = ap (λ k. Sql k) (sql_text.told d x y right also e)
 told d (TagDatabase x) (TagDatabase y) right also e = ap (λ k. TagDatabase k) (tag_database.told d x y right also e)
 told d (Empty x) (Empty y) right also e = ap (λ k. Empty k) (empty.told d x y right also e)

@@ -3,13 +3,12 @@ use Rattle.std.specs.Option.{unwrap_or}
 use Rattle.std.specs.Prelude.{Bool, Err, List, None, Ok, Option, Result, Some, [], codes, cond, false, map, option_and_then, true, ℕ, ◌++◌, ◌∷◌, ◌≡◌}
 use Rattle.std.specs.Str.{bytes_eq}
 use Rattle.lq_base.specs.declared.dialect.Dialect.{Dialect}
-use Rattle.lq_base.specs.declared.fault.KindFault.TheVariants.{Bad, Missing, NotFor, OutOfMemory, Unknown}
+use Rattle.lq_base.specs.declared.fault.KindFault.TheVariants.{Bad}
 use Rattle.lq_base.specs.declared.run.OnFail.TheVariants.{Halt}
-use Rattle.lq_canon.specs.Checksum.{checksum_of}
+use Rattle.lq_canon.specs.Sums as sums
 use Rattle.lq_cond.specs.Reading.{reaction}
 use Rattle.lq_cond.specs.declared.cond.Cond.TheVariants.{And}
 use Rattle.lq_cond.specs.declared.cond.Reaction.{Reaction}
-use Rattle.lq_model.specs.Canon.{canonical_changes}
 use Rattle.lq_tree.specs.Found.{Found, Taken, and_then, map_found, or_bad, within, within_list}
 use Rattle.lq_tree.specs.Given.{a_text, a_truth, if_so}
 use Rattle.lq_tree.specs.Items.{items_from, items_in}
@@ -17,9 +16,11 @@ use Rattle.lq_tree.specs.Keys.{Keys, fields, known, optional, required, ◌⊛�
 use Rattle.lq_tree.specs.Look.{list_of, printed_of, value_at}
 use Rattle.lq_tree.specs.declared.node.Node.{Node}
 use Rattle.lq_kinds.specs.AnyChange.{canonical_of}
-use Rattle.lq_kinds.specs.Changes.{changes_keys, here_keys, rollback_keys}
+use Rattle.lq_kinds.specs.Changes.{changes_at, here_keys, rollback_keys}
 use Rattle.lq_kinds.specs.Context.{context_keys, labels}
 use Rattle.lq_kinds.specs.Label.{a_label, is_label}
+use Rattle.lq_kinds.specs.Loads.{Files}
+pub use Rattle.lq_kinds.specs.SetReads.{ReadsSet, by_keys, by_set, map_set}
 use Rattle.lq_kinds.specs.declared.any_change.AnyChange.{AnyChange}
 use Rattle.lq_kinds.specs.declared.change_set.ChangeSet.{ChangeSet}
 use Rattle.lq_kinds.specs.declared.context.Context.{Context}
@@ -48,12 +49,11 @@ no_reaction = record { cond = And []; on_fail = Halt; on_error = Halt }
 
 -- the keys in order
 
-abbrev pub heading_keys : Dialect → Keys Heading
-heading_keys d =
+abbrev pub heading_keys : Keys (List AnyChange → Heading)
+heading_keys =
     fields (λ id author changes. record { id = id; author = author; changes = changes })
     ⊛ required (codes "id") a_label
     ⊛ required (codes "author") a_label
-    ⊛ changes_keys d
 
 abbrev pub selection_keys : Dialect → Keys Selection
 selection_keys d =
@@ -73,8 +73,9 @@ running_keys =
 
 -- what these keys say, group by group
 
-unfoldable pub heading : Dialect → Taken Heading
-heading d = (heading_keys d).says
+-- its changes with the bytes of the files that they load
+unfoldable pub heading : Dialect → Files → Node → Result Heading SetFault
+heading d given n = by_keys (heading_keys.says n) (λ with. map_set with (changes_at d given n))
 
 unfoldable pub selection : Dialect → Taken Selection
 selection d = (selection_keys d).says
@@ -122,11 +123,6 @@ notes d = (notes_keys d).says
 
 -- its path
 
--- a fault of the keys stops the reading
-abbrev pub by_keys : {A B : Type 0} → Found A → (A → Result B SetFault) → Result B SetFault
-by_keys (Ok a) f = f a
-by_keys (Err fault) f = Err (InKeys fault)
-
 abbrev pub by_path : {B : Type 0} → Result (List ℕ) SetFault → (List ℕ → Result B SetFault) → Result B SetFault
 by_path (Ok path) f = f path
 by_path (Err fault) f = Err fault
@@ -145,7 +141,7 @@ path_at path n = path_in path (value_at (codes "logicalFilePath") n)
 
 -- all keys that a changeset may have
 abbrev pub set_names : Dialect → List (List ℕ)
-set_names d = (heading_keys d).names ++ (selection_keys d).names ++ running_keys.names ++ codes "logicalFilePath" ∷ (notes_keys d).names
+set_names d = heading_keys.names ++ codes "changes" ∷ (selection_keys d).names ++ running_keys.names ++ codes "logicalFilePath" ∷ (notes_keys d).names
 
 -- a changeset has no other key
 unfoldable pub only_known : Dialect → Taken (Unit {0})
@@ -153,7 +149,11 @@ only_known d = known (set_names d)
 
 -- the checksum of changes
 abbrev pub sum_of : List AnyChange → List ℕ
-sum_of changes = checksum_of (canonical_changes (map canonical_of changes))
+sum_of changes = sums.sum_of (map canonical_of changes)
+
+-- and the one of the old form
+abbrev pub old_sum_of : List AnyChange → List ℕ
+old_sum_of changes = sums.old_sum_of (map canonical_of changes)
 
 unfoldable pub set_with : Heading → Selection → Running → List ℕ → Notes → ChangeSet
 set_with h s r path a = record {
@@ -175,6 +175,7 @@ set_with h s r path a = record {
   on_fail = a.reaction.on_fail;
   on_error = a.reaction.on_error;
   sum = sum_of h.changes;
+  old_sum = old_sum_of h.changes;
 }
 
 -- none where it is to be ignored
@@ -182,22 +183,12 @@ abbrev pub if_taken : Running → ChangeSet → Option ChangeSet
 if_taken r set = cond r.ignored None (Some set)
 
 -- a changeset of the file at a path: none where it is to be ignored, after all of its keys were read
-unfoldable pub set_of : Dialect → List ℕ → Node → Result (Option ChangeSet) SetFault
-set_of d path n =
+unfoldable pub set_of : Dialect → List ℕ → Files → Node → Result (Option ChangeSet) SetFault
+set_of d path given n =
     by_keys (only_known d n) (λ _.
-    by_keys (heading d n) (λ h.
+    by_set (heading d given n) (λ h.
     by_keys (selection d n) (λ s.
     by_keys (running n) (λ r.
     by_path (path_at path n) (λ p.
     by_keys (notes d n) (λ a.
     Ok (if_taken r (set_with h s r p a))))))))
-
--- how a reading of a changeset answers: as it is meant, unless memory ran out
-abbrev pub ReadsSet : {A : Type 0} → Result A SetFault → Result A SetFault → Type 0
-ReadsSet meant (Ok a) = meant ≡ Ok a
-ReadsSet meant (Err BadPath) = meant ≡ Err BadPath
-ReadsSet meant (Err (InKeys (Missing path))) = meant ≡ Err (InKeys (Missing path))
-ReadsSet meant (Err (InKeys (Unknown path))) = meant ≡ Err (InKeys (Unknown path))
-ReadsSet meant (Err (InKeys (Bad path))) = meant ≡ Err (InKeys (Bad path))
-ReadsSet meant (Err (InKeys (NotFor path dialect))) = meant ≡ Err (InKeys (NotFor path dialect))
-ReadsSet meant (Err (InKeys OutOfMemory)) = Unit {0}

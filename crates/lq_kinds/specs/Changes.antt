@@ -1,19 +1,23 @@
 -- The changes of a changeset, and what takes it back.
 use Rattle.std.specs.List.{position}
 use Rattle.std.specs.Option.{option_map, unwrap_or}
-use Rattle.std.specs.Prelude.{Bool, Err, List, None, Ok, Option, Some, [], codes, cond, drop, false, option_and_then, suc, true, ℕ, ◌+◌, ◌++◌, ◌∷◌}
+use Rattle.std.specs.Prelude.{Bool, Err, List, None, Ok, Option, Result, Some, [], codes, cond, drop, false, option_and_then, suc, true, ℕ, ◌+◌, ◌++◌, ◌∷◌}
 use Rattle.lq_base.specs.declared.dialect.Dialect.{Dialect}
 use Rattle.lq_base.specs.declared.fault.KindFault.TheVariants.{Bad}
 use Rattle.lq_cond.specs.Dialects.{is_meant, names_in}
-use Rattle.lq_tree.specs.Found.{Found, Taken, and_then, map_found, within}
+use Rattle.lq_tree.specs.Found.{Found, Taken, map_found, within}
 use Rattle.lq_tree.specs.Given.{a_text}
 use Rattle.lq_tree.specs.Items.{item_path, items_from}
 use Rattle.lq_tree.specs.Keys.{Keys, at_optional}
 use Rattle.lq_tree.specs.Look.{is_null, list_of, printed_of, value_at}
 use Rattle.lq_tree.specs.declared.node.Node.{Map as MapNode, Node, Text as TextNode}
 use Rattle.lq_kinds.specs.AnyChange.{any_change}
+use Rattle.lq_kinds.specs.Loads.{Files, changes_from}
+use Rattle.lq_kinds.specs.SetReads.{by_keys, by_set}
 use Rattle.lq_kinds.specs.declared.any_change.AnyChange.{AnyChange}
 use Rattle.lq_kinds.specs.declared.any_change.AnyChange.TheVariants.{TagDatabase}
+use Rattle.lq_kinds.specs.declared.fault.SetFault.{SetFault}
+use Rattle.lq_kinds.specs.declared.fault.SetFault.TheVariants.{InKeys}
 
 -- whether it is for the dialect
 
@@ -57,19 +61,17 @@ abbrev pub once_tagged : List AnyChange → Found (List AnyChange)
 once_tagged changes = if_tagged changes (second_tag changes)
 
 -- each change in order, and then whether there is a second tag
-abbrev pub changes_of : Dialect → Option (List Node) → Found (List AnyChange)
-changes_of d None = Err (Bad (codes "changes"))
-changes_of d (Some ns) = and_then (items_from (codes "changes") 0 (any_change d) ns) once_tagged
+abbrev pub changes_of : Dialect → Files → Option (List Node) → Result (List AnyChange) SetFault
+changes_of d given None = Err (InKeys (Bad (codes "changes")))
+changes_of d given (Some ns) = by_set (changes_from d 0 given ns) (λ changes. by_keys (once_tagged changes) (λ kept. Ok kept))
 
-abbrev pub changes_in : Dialect → Option Node → Found (List AnyChange)
-changes_in d None = Ok []
-changes_in d (Some value) = changes_of d (list_of value)
+abbrev pub changes_in : Dialect → Files → Option Node → Result (List AnyChange) SetFault
+changes_in d given None = Ok []
+changes_in d given (Some value) = changes_of d given (list_of value)
 
-unfoldable pub changes_at : Dialect → Taken (List AnyChange)
-changes_at d n = cond (is_read d n) (changes_in d (value_at (codes "changes") n)) (Ok [])
-
-abbrev pub changes_keys : Dialect → Keys (List AnyChange)
-changes_keys d = record { names = codes "changes" ∷ []; says = changes_at d }
+-- with the bytes of the files that its loads take, as far as they are given
+unfoldable pub changes_at : Dialect → Files → Node → Result (List AnyChange) SetFault
+changes_at d given n = cond (is_read d n) (changes_in d given (value_at (codes "changes") n)) (Ok [])
 
 -- what takes it back
 

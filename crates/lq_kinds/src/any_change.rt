@@ -7,6 +7,7 @@ use lq_base::{Dialect, Items, KindFault, NoMemory};
 use lq_columns::{AddDefaultValue, DropColumn, DropDefaultValue};
 use lq_data::{Delete, Empty, Insert, Sql, TagDatabase, Update};
 use lq_keys::{AddForeignKeyConstraint, CreateIndex, DropForeignKeyConstraint, DropIndex};
+use lq_load::LoadData;
 use lq_model::{Canon, Change, Look, SqlText, Statement, Undo};
 use lq_nullable::{AddNotNullConstraint, DropNotNullConstraint};
 use lq_primary_keys::{AddPrimaryKey, DropPrimaryKey};
@@ -46,6 +47,8 @@ pub enum AnyChange {
     Insert(Insert),
     Update(Update),
     Delete(Delete),
+    /// Read by a changeset alone, since its file is needed.
+    LoadData(LoadData),
     Sql(Sql),
     TagDatabase(TagDatabase),
     Empty(Empty),
@@ -82,6 +85,7 @@ impl Drop for AnyChange {
             AnyChange::Insert(change) => drop(change),
             AnyChange::Update(change) => drop(change),
             AnyChange::Delete(change) => drop(change),
+            AnyChange::LoadData(change) => drop(change),
             AnyChange::Sql(change) => drop(change),
             AnyChange::TagDatabase(change) => drop(change),
             AnyChange::Empty(change) => drop(change),
@@ -91,7 +95,8 @@ impl Drop for AnyChange {
 
 impl AnyChange {
     /// The change of a map with one key, the name of its type: another node is `Bad` with the empty
-    /// path, and a name of no type is `Unknown`. A fault's path begins with the type's name.
+    /// path, and a name of no type is `Unknown`, as is `loadData`, which needs its file. A fault's path
+    /// begins with the type's name.
     #[tactic(auto, unfolding(crate::specs::AnyChange::any_change))]
     pub fn read<P: SqlText>(
         alloc: Global,
@@ -165,6 +170,7 @@ impl Change for AnyChange {
             AnyChange::Insert(change) => change.statements(alloc, dialect, to),
             AnyChange::Update(change) => change.statements(alloc, dialect, to),
             AnyChange::Delete(change) => change.statements(alloc, dialect, to),
+            AnyChange::LoadData(change) => change.statements(alloc, dialect, to),
             AnyChange::Sql(change) => change.statements(alloc, dialect, to),
             AnyChange::TagDatabase(change) => change.statements(alloc, dialect, to),
             AnyChange::Empty(change) => change.statements(alloc, dialect, to),
@@ -200,6 +206,7 @@ impl Change for AnyChange {
             AnyChange::Insert(change) => change.undo(alloc, dialect),
             AnyChange::Update(change) => change.undo(alloc, dialect),
             AnyChange::Delete(change) => change.undo(alloc, dialect),
+            AnyChange::LoadData(change) => change.undo(alloc, dialect),
             AnyChange::Sql(change) => change.undo(alloc, dialect),
             AnyChange::TagDatabase(change) => change.undo(alloc, dialect),
             AnyChange::Empty(change) => change.undo(alloc, dialect),
@@ -235,6 +242,7 @@ impl Change for AnyChange {
             AnyChange::Insert(change) => change.is_fresh(dialect, look),
             AnyChange::Update(change) => change.is_fresh(dialect, look),
             AnyChange::Delete(change) => change.is_fresh(dialect, look),
+            AnyChange::LoadData(change) => change.is_fresh(dialect, look),
             AnyChange::Sql(change) => change.is_fresh(dialect, look),
             AnyChange::TagDatabase(change) => change.is_fresh(dialect, look),
             AnyChange::Empty(change) => change.is_fresh(dialect, look),
@@ -270,6 +278,7 @@ impl Change for AnyChange {
             AnyChange::Insert(change) => change.canon(to),
             AnyChange::Update(change) => change.canon(to),
             AnyChange::Delete(change) => change.canon(to),
+            AnyChange::LoadData(change) => change.canon(to),
             AnyChange::Sql(change) => change.canon(to),
             AnyChange::TagDatabase(change) => change.canon(to),
             AnyChange::Empty(change) => change.canon(to),

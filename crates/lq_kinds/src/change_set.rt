@@ -29,6 +29,8 @@ pub struct ChangeSet {
     pub on_error: OnFail,
     /// The checksum of its changes.
     pub sum: Text,
+    /// The one of the old form, by which rows from before the new form are known.
+    pub old_sum: Text,
 }
 
 // Written out, so that crates above call it and need not be proved for each type again.
@@ -53,6 +55,7 @@ impl Drop for ChangeSet {
             on_fail: _,
             on_error: _,
             sum: _,
+            old_sum: _,
         } = self;
     }
 }

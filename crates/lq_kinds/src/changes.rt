@@ -4,13 +4,15 @@ ghost use Rattle.lq_tree.specs.Found.{Reads};
 ghost use Rattle.lq_tree.specs.Items.{item_path};
 ghost use Rattle.lq_kinds.specs.AnyChange.{is_for};
 ghost use Rattle.lq_kinds.specs.Changes.{changes_at, changes_in, here_at, is_read, is_tagging, once_tagged, second_tag, tag_path};
+ghost use Rattle.lq_kinds.specs.SetReads.{ReadsSet};
 
 use crate::any_change::AnyChange;
-use crate::readers::Changes;
+use crate::fault::SetFault;
+use crate::loads::each_change;
 use lq_base::{Dialect, Items, KindFault, NoMemory, Text};
 use lq_cond::{dialect_names, is_meant};
 use lq_model::SqlText;
-use lq_tree::{Given, Node, Reader, bad_key, each_item, optional_by};
+use lq_tree::{Given, Node, Reader, bad_key, optional_by};
 use std::alloc::Global;
 
 /// Reads `dbms`: whether it means a dialect (Liquibase's documentation, "dbms").
@@ -82,7 +84,7 @@ fn second_tag(changes: &[AnyChange]) -> Option<usize>
 }
 
 /// The path of an item of the list that stands at a key.
-fn item_path(alloc: Global, key: &str, place: usize) -> Result<Text, NoMemory>
+pub fn item_path(alloc: Global, key: &str, place: usize) -> Result<Text, NoMemory>
     ensures { IfOk result (λ path. path ≡ item_path key.now place) }
 {
     let digits = format!(in alloc; "{place}")?;
@@ -112,37 +114,43 @@ fn once_tagged(alloc: Global, changes: Items<AnyChange>) -> Result<Items<AnyChan
 fn changes_in<P: SqlText>(
     alloc: Global,
     value: Option<&Node>,
+    given: &[Items<u8>],
     dialect: Dialect,
     sql: &P,
-) -> Result<Items<AnyChange>, KindFault>
+) -> Result<Items<AnyChange>, SetFault>
     requires same { P.dialect ≡ dialect }
-    ensures read { Reads (changes_in dialect (option_copied value.entry)) result }
+    ensures read { ReadsSet (changes_in dialect given.now (option_copied value.entry)) result }
     ensures right { IfOk result (λ changes. list_all (is_for dialect) changes ≡ true) }
 {
     let Some(value) = value else {
         return Ok(Items::new(alloc));
     };
     let Some(nodes) = value.as_list() else {
-        return Err(bad_key(alloc, "changes"));
+        return Err(SetFault::InKeys(bad_key(alloc, "changes")));
     };
-    let changes = each_item(alloc, "changes", nodes, &Changes { dialect, sql })?;
-    once_tagged(alloc, changes)
+    let changes = each_change(alloc, nodes, given, dialect, sql)?;
+    match once_tagged(alloc, changes) {
+        Ok(kept) => Ok(kept),
+        Err(fault) => Err(SetFault::InKeys(fault)),
+    }
 }
 
-/// The changes of a changeset. Where it is not for the dialect they are not read.
+/// The changes of a changeset, with the bytes of the files that its loads take, as far as they are
+/// given. Where it is not for the dialect they are not read.
 #[tactic(auto, unfolding(crate::specs::Changes::changes_at))]
 pub fn changes_at<P: SqlText>(
     alloc: Global,
     node: &Node,
+    given: &[Items<u8>],
     dialect: Dialect,
     sql: &P,
-) -> Result<Items<AnyChange>, KindFault>
+) -> Result<Items<AnyChange>, SetFault>
     requires same { P.dialect ≡ dialect }
-    ensures read { Reads (changes_at dialect node.now) result }
+    ensures read { ReadsSet (changes_at dialect given.now node.now) result }
     ensures right { IfOk result (λ changes. list_all (is_for dialect) changes ≡ true) }
 {
     if !is_read(alloc, node, dialect)? {
         return Ok(Items::new(alloc));
     }
-    changes_in(alloc, node.value_at("changes"), dialect, sql)
+    changes_in(alloc, node.value_at("changes"), given, dialect, sql)
 }

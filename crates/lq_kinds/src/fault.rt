@@ -1,4 +1,4 @@
-use lq_base::{KindFault, NoMemory};
+use lq_base::{KindFault, NoMemory, Text};
 use std::alloc::AllocError;
 use thiserror::Error;
 
@@ -11,6 +11,13 @@ pub enum SetFault {
     /// Its `logicalFilePath` has not 1 to 255 characters, or a control character.
     #[error("a bad path")]
     BadPath,
+    /// One of its changes loads a file of which no bytes were given.
+    #[error("a file is wanted")]
+    Wants {
+        file: Text,
+        /// Whether the path is from the folder of the changelog's file.
+        is_relative: bool,
+    },
 }
 
 impl From<KindFault> for SetFault {

@@ -1,11 +1,11 @@
 ghost use Rattle.std.specs.Option.{unwrap_or};
 ghost use Rattle.std.specs.Prelude.{◌≡◌, [], IfOk};
-ghost use Rattle.lq_kinds.specs.ChangeSets.{no_context, no_labels, no_reaction, set_with, sum_of};
+ghost use Rattle.lq_kinds.specs.ChangeSets.{no_context, no_labels, no_reaction, old_sum_of, set_with, sum_of};
 
 use crate::change_set::ChangeSet;
 use crate::context::{Context, LabelNames};
 use crate::heading::{Heading, Notes, Running, Selection};
-use crate::sum::sum_of;
+use crate::sum::{Sums, sums_of};
 use lq_base::{Identity, Items, NoMemory, OnFail, Text};
 use lq_cond::{Cond, Reaction};
 use std::alloc::Global;
@@ -56,7 +56,7 @@ pub fn reaction_or(alloc: Global, reaction: Option<Reaction>) -> Reaction
     }
 }
 
-/// The changeset of what was read of its keys, with its checksum.
+/// The changeset of what was read of its keys, with its checksums.
 #[tactic(auto, unfolding(crate::specs::ChangeSets::set_with))]
 fn joined_with(
     heading: Heading,
@@ -64,9 +64,9 @@ fn joined_with(
     running: Running,
     path: Text,
     notes: Notes,
-    sum: Text,
+    sums: Sums,
 ) -> ChangeSet
-    ensures { sum ≡ sum_of heading.changes → result ≡ set_with heading selection running path notes }
+    ensures { sums.sum ≡ sum_of heading.changes → sums.old_sum ≡ old_sum_of heading.changes → result ≡ set_with heading selection running path notes }
 {
     let here = selection.here;
     let (id, author, changes) = heading.into_parts();
@@ -94,7 +94,8 @@ fn joined_with(
         cond: reaction.cond,
         on_fail: reaction.on_fail,
         on_error: reaction.on_error,
-        sum,
+        sum: sums.sum,
+        old_sum: sums.old_sum,
     }
 }
 
@@ -109,6 +110,6 @@ pub fn set_with(
 ) -> Result<ChangeSet, NoMemory>
     ensures { IfOk result (λ set. set ≡ set_with heading selection running path notes) }
 {
-    let sum = sum_of(alloc, heading.changes.as_slice())?;
-    Ok(joined_with(heading, selection, running, path, notes, sum))
+    let sums = sums_of(alloc, heading.changes.as_slice())?;
+    Ok(joined_with(heading, selection, running, path, notes, sums))
 }

@@ -7,34 +7,12 @@ use lq_model::SqlText;
 use lq_tree::{Node, Reader};
 use std::alloc::Global;
 
-/// Reads changes.
-#[derive(Drop)]
-pub struct Changes<'a, P: SqlText> {
-    pub dialect: Dialect,
-    pub sql: &'a P,
-    ghost same: { P.dialect ≡ dialect },
-}
-
 /// Reads the items of a rollback block.
 #[derive(Drop)]
 pub struct Undoings<'a, P: SqlText> {
     pub dialect: Dialect,
     pub sql: &'a P,
     ghost same: { P.dialect ≡ dialect },
-}
-
-impl<'a, P: SqlText> Reader for Changes<'a, P> {
-    ghost use Rattle.lq_kinds.specs.AnyChange.{any_change, is_for};
-
-    type Read = AnyChange;
-
-    ghost of = { λ reader. any_change reader.dialect };
-
-    ghost fits = { λ reader. is_for reader.dialect };
-
-    fn read(&self, alloc: Global, node: &Node) -> Result<AnyChange, KindFault> {
-        AnyChange::read(alloc, node, self.dialect, self.sql)
-    }
 }
 
 impl<'a, P: SqlText> Reader for Undoings<'a, P> {

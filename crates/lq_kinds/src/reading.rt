@@ -96,16 +96,17 @@ impl Reader for Texts {
 fn heading<P: SqlText>(
     alloc: Global,
     node: &Node,
+    given: &[Items<u8>],
     dialect: Dialect,
     sql: &P,
-) -> Result<Heading, KindFault>
+) -> Result<Heading, SetFault>
     requires same { P.dialect ≡ dialect }
-    ensures read { Reads (heading dialect node.now) result }
+    ensures read { ReadsSet (heading dialect given.now node.now) result }
     ensures right { IfOk result (λ found. list_all (is_for dialect) found.changes ≡ true) }
 {
     let id = required_by(alloc, node, "id", &Labels)?;
     let author = required_by(alloc, node, "author", &Labels)?;
-    let changes = changes_at(alloc, node, dialect, sql)?;
+    let changes = changes_at(alloc, node, given, dialect, sql)?;
     Ok(Heading {
         id,
         author,
@@ -243,6 +244,9 @@ fn notes<P: SqlText>(
 impl ChangeSet {
     /// The changeset of a node of the file at a path: `None` where it is to be ignored. The first
     /// fault is told in the order of the keys (docs/DECISIONS.md). What is read is for the dialect.
+    ///
+    /// `given` has the bytes of the files that its changes load, in their order, as far as they were
+    /// read. The first load for which there are none is answered by `Wants` with its file.
     #[tactic(auto, unfolding(crate::specs::ChangeSets::set_of))]
     pub fn read<P: SqlText>(
         alloc: Global,
@@ -250,13 +254,14 @@ impl ChangeSet {
         dialect: Dialect,
         path: &str,
         sql: &P,
+        given: &[Items<u8>],
     ) -> Result<Option<ChangeSet>, SetFault>
         requires same { P.dialect ≡ dialect }
-        ensures read { ReadsSet (set_of dialect path.now node.now) result }
+        ensures read { ReadsSet (set_of dialect path.now given.now node.now) result }
         ensures right { IfOk result (λ set. if_there (is_read_for dialect) set ≡ true) }
     {
         only_known(alloc, node, dialect)?;
-        let heading = heading(alloc, node, dialect, sql)?;
+        let heading = heading(alloc, node, given, dialect, sql)?;
         let selection = selection(alloc, node, dialect)?;
         let running = running(alloc, node)?;
         let path = path_at(alloc, node, path)?;

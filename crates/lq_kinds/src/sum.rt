@@ -1,13 +1,20 @@
 ghost use Rattle.std.specs.Prelude.{◌≡◌, ◌++◌, IfOk, OnOk, map};
 ghost use Rattle.lq_model.specs.Canon.{IsFinished, canonical_changes, canonical_each};
 ghost use Rattle.lq_kinds.specs.AnyChange.{canonical_of};
-ghost use Rattle.lq_kinds.specs.ChangeSets.{sum_of};
+ghost use Rattle.lq_kinds.specs.ChangeSets.{old_sum_of, sum_of};
 
 use crate::any_change::AnyChange;
 use lq_base::{NoMemory, Text};
-use lq_canon::checksum;
+use lq_canon::{checksum, old_checksum};
 use lq_model::{Canon, Change};
 use std::alloc::Global;
+
+/// The checksum of changes, and the one of the old form.
+#[derive(Drop)]
+pub struct Sums {
+    pub sum: Text,
+    pub old_sum: Text,
+}
 
 fn write_each(canon: &mut Canon, changes: &[AnyChange]) -> Result<(), NoMemory>
     ensures written { OnOk result (canon.new.written ≡ canon.old.written ++ canonical_each (map canonical_of changes.now)) }
@@ -32,11 +39,13 @@ fn canonical_text(alloc: Global, changes: &[AnyChange]) -> Result<Canon, NoMemor
     Ok(canon)
 }
 
-/// The checksum of the changes of a changeset.
-pub fn sum_of(alloc: Global, changes: &[AnyChange]) -> Result<Text, NoMemory>
-    ensures { IfOk result (λ sum. sum ≡ sum_of changes.now) }
+/// The checksums of the changes of a changeset.
+pub fn sums_of(alloc: Global, changes: &[AnyChange]) -> Result<Sums, NoMemory>
+    ensures sum { IfOk result (λ sums. sums.sum ≡ sum_of changes.now) }
+    ensures old { IfOk result (λ sums. sums.old_sum ≡ old_sum_of changes.now) }
 {
     let canon = canonical_text(alloc, changes)?;
     let sum = checksum(alloc, &canon)?;
-    Ok(sum)
+    let old_sum = old_checksum(alloc, &canon)?;
+    Ok(Sums { sum, old_sum })
 }

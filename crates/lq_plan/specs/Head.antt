@@ -1,11 +1,11 @@
 -- A changeset of which no more is told than its head.
-use Rattle.std.specs.Prelude.{None, Ok, [], false, true}
+use Rattle.std.specs.Prelude.{None, Ok, [], true}
 use Rattle.lq_base.specs.Text.{is_text}
 use Rattle.lq_base.specs.declared.run.OnFail.TheVariants.{Halt}
-use Rattle.lq_turns.specs.Set.{Set}
+use Rattle.lq_turns.specs.Set.{Set, is_old_form, sum_by_form}
 use Rattle.lq_plan.specs.declared.head.Head.{Head}
 
--- No stored sum is of an old form. It says nothing of changes and conditions, which no fault and no turn's sort depends on.
+-- It says nothing of changes and conditions, which no fault and no turn's sort depends on.
 abbrev pub headed : Head → Set (Unit {0})
 headed h = record {
   identity = h.identity.now;
@@ -19,8 +19,9 @@ headed h = record {
   fail_on_error = true;
   in_transaction = true;
   sum = h.sum.now;
-  is_own_sum = λ stored. is_text stored h.sum.now;
-  is_old_sum = λ stored. false;
+  is_own_sum = λ stored. is_text stored (sum_by_form h.old_sum.now h.sum.now stored);
+  is_old_sum = is_old_form;
+  sum_like = sum_by_form h.old_sum.now h.sum.now;
   valid_sums = h.valid_sums.now;
   description = [];
   comments = [];

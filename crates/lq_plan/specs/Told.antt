@@ -25,6 +25,7 @@ bare x = record {
   sum = x.sum;
   is_own_sum = x.is_own_sum;
   is_old_sum = x.is_old_sum;
+  sum_like = x.sum_like;
   valid_sums = x.valid_sums;
   description = [];
   comments = [];

@@ -12,6 +12,8 @@ pub struct Head<'a> {
     pub run_on_change: bool,
     /// The checksum of its changes.
     pub sum: &'a Text,
+    /// The one of the old form.
+    pub old_sum: &'a Text,
     /// The texts of `validCheckSum`.
     pub valid_sums: &'a [Text],
 }

@@ -1,5 +1,6 @@
 ghost use Rattle.std.specs.Option.{option_map};
 ghost use Rattle.std.specs.Prelude.{◌≡◌, ◌++◌, ◌∷◌, [], IfOk, List, OnOk, if◌then◌else◌, map};
+ghost use Rattle.lq_turns.specs.Set.{sum_by_form};
 ghost use Rattle.lq_turns.specs.Faults.{changed_at, changed_by, faults};
 ghost use Rattle.lq_turns.specs.declared.fault.Fault.TheVariants as fault;
 ghost use Rattle.lq_plan.specs.Head.{headed};
@@ -7,7 +8,7 @@ ghost use Rattle.lq_plan.specs.Head.{headed};
 use crate::head::Head;
 use crate::row_index::{index_of, row_at};
 use crate::seen::{key_of, was_seen};
-use crate::turns::has_changed;
+use crate::turns::{has_changed, sum_like};
 use lq_base::{Duplicate, Identity, Items, NoMemory, Text, Tracked};
 use lq_turns::Fault;
 use std::alloc::Global;
@@ -81,11 +82,11 @@ fn add_changed(
 }
 
 fn changed(alloc: Global, head: &Head<'_>, was: &Text) -> Result<Fault, NoMemory>
-    ensures { IfOk result (λ made. made ≡ fault.Changed head.now.identity.now was.now head.now.sum.now) }
+    ensures { IfOk result (λ made. made ≡ fault.Changed head.now.identity.now was.now (sum_by_form head.now.old_sum.now head.now.sum.now was.now)) }
 {
     Ok(Fault::Changed {
         identity: head.identity.duplicate(alloc)?,
         was: was.copy(alloc)?,
-        is: head.sum.copy(alloc)?,
+        is: sum_like(head, was).copy(alloc)?,
     })
 }

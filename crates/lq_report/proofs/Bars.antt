@@ -14,7 +14,9 @@ use Rattle.lq_base.specs.SqlByte.{begins}
 use Rattle.std.proofs.lemmas.Str.Pattern.{NoCharPasses-char, drop_at_char}
 use Rattle.std.proofs.lemmas.Bool.{eq-eqb}
 use Rattle.std.proofs.lemmas.Bool.Decides.{eqb_tells}
-use Rattle.lq_report.specs.Mark.{at_last_bar, is_count, statement_of, marked, mark_of}
+use Rattle.lq_report.specs.declared.mark.Form.{Form}
+use Rattle.lq_report.specs.declared.mark.Form.TheVariants.{Back, Run, Undo}
+use Rattle.lq_report.specs.Mark.{form_text, at_last_bar, is_count, statement_of, marked, mark_of}
 use Rattle.lq_words.specs.Words.{is_bar}
 use Rattle.lq_report.specs.Laws.{written, MarksAreRead, NoMarkWithoutBars}
 
@@ -97,48 +99,55 @@ digits_no_bar (b ∷ bs) all =
     let parts = both (is_ascii_digit b) (list_all is_ascii_digit bs) all in
     no_bar_cons b bs (λ e. let no : is_ascii_digit 124 ≡ true = subst (λ z. is_ascii_digit z ≡ true) e parts.0 in absurd (cc)) (digits_no_bar bs parts.1)
 
-digits_no_undo : (bs : List ℕ) → list_all is_ascii_digit bs ≡ true → begins (codes "undo ") bs ≡ false
-digits_no_undo [] all = refl
-digits_no_undo (b ∷ bs) all =
+digits_no_word : (w : ℕ) (word bs : List ℕ) → is_ascii_digit w ≡ false → list_all is_ascii_digit bs ≡ true → begins (w ∷ word) bs ≡ false
+digits_no_word w word [] letter all = refl
+digits_no_word w word (b ∷ bs) letter all =
     let parts = both (is_ascii_digit b) (list_all is_ascii_digit bs) all in
-    elim (eqb_tells 117 b) [
-      | inl same ↦ (let no : is_ascii_digit 117 ≡ true = subst (λ z. is_ascii_digit z ≡ true) (sym same.1) parts.0 in absurd (cc))
+    elim (eqb_tells w b) [
+      | inl same ↦ (let no : is_ascii_digit w ≡ true = subst (λ z. is_ascii_digit z ≡ true) (sym same.1) parts.0 in absurd (cc))
       | inr other ↦ rw other.0 refl
     ]
 
 -- the end of a mark has no bar, and is read as what was written
-ending : Bool → List ℕ → List ℕ
-ending undoes statement = (if undoes then codes "undo " else []) ++ statement
+ending : Form → List ℕ → List ℕ
+ending form statement = form_text form ++ statement
 
-ending_no_bar : (undoes : Bool) (statement : List ℕ) → list_all is_ascii_digit statement ≡ true → HasNoBar (ending undoes statement)
+ending_no_bar : (form : Form) (statement : List ℕ) → list_all is_ascii_digit statement ≡ true → HasNoBar (ending form statement)
 unfolding ending
-ending_no_bar false statement all = digits_no_bar statement all
-ending_no_bar true statement all =
+ending_no_bar Run statement all = digits_no_bar statement all
+ending_no_bar Undo statement all =
     no_bar_cons 117 (110 ∷ 100 ∷ 111 ∷ 32 ∷ statement) (λ e. omega arith)
     (no_bar_cons 110 (100 ∷ 111 ∷ 32 ∷ statement) (λ e. omega arith)
     (no_bar_cons 100 (111 ∷ 32 ∷ statement) (λ e. omega arith)
     (no_bar_cons 111 (32 ∷ statement) (λ e. omega arith)
     (no_bar_cons 32 statement (λ e. omega arith) (digits_no_bar statement all)))))
+ending_no_bar Back statement all =
+    no_bar_cons 98 (97 ∷ 99 ∷ 107 ∷ 32 ∷ statement) (λ e. omega arith)
+    (no_bar_cons 97 (99 ∷ 107 ∷ 32 ∷ statement) (λ e. omega arith)
+    (no_bar_cons 99 (107 ∷ 32 ∷ statement) (λ e. omega arith)
+    (no_bar_cons 107 (32 ∷ statement) (λ e. omega arith)
+    (no_bar_cons 32 statement (λ e. omega arith) (digits_no_bar statement all)))))
 
-ending_read : (undoes : Bool) (statement : List ℕ) → list_all is_ascii_digit statement ≡ true → statement_of (ending undoes statement) ≡ (undoes, statement)
+ending_read : (form : Form) (statement : List ℕ) → list_all is_ascii_digit statement ≡ true → statement_of (ending form statement) ≡ (form, statement)
 unfolding ending
-ending_read false statement all = rw (digits_no_undo statement all) refl
-ending_read true statement all = refl
+ending_read Run statement all = rw (digits_no_word 117 (codes "ndo ") statement refl all, digits_no_word 98 (codes "ack ") statement refl all) refl
+ending_read Undo statement all = refl
+ending_read Back statement all = refl
 
-ending_marked : (identity statement : List ℕ) (undoes : Bool) → is_count statement ≡ true → marked identity (undoes, statement) ≡ Some (identity, undoes, statement)
-ending_marked identity statement undoes is = rw is refl
+ending_marked : (identity statement : List ℕ) (form : Form) → is_count statement ≡ true → marked identity (form, statement) ≡ Some (identity, form, statement)
+ending_marked identity statement form is = rw is refl
 
-written_parts : (who identity statement : List ℕ) (undoes : Bool) → written who identity undoes statement ≡ who ++ 124 ∷ (identity ++ 124 ∷ ending undoes statement)
+written_parts : (who identity statement : List ℕ) (form : Form) → written who identity form statement ≡ who ++ 124 ∷ (identity ++ 124 ∷ ending form statement)
 unfolding ending
-written_parts who identity statement undoes = simp append_assoc
+written_parts who identity statement form = simp append_assoc
 
 pub read : MarksAreRead
 unfolding mark_of
-read who identity statement undoes none is =
+read who identity statement form none is =
     let digits = both (is_digits statement) (not (slice_index statement 0 == 48)) is in
     let all = both (nat_lt 0 (length statement)) (list_all is_ascii_digit statement) digits.0 in
-    ap (λ by. option_and_then (λ parts. marked parts.0 (statement_of parts.1)) (at_last_bar (after_first is_bar by))) (written_parts who identity statement undoes)
-    ∙ ap (λ rest. option_and_then (λ parts. marked parts.0 (statement_of parts.1)) (at_last_bar rest)) (behind_first who (identity ++ 124 ∷ ending undoes statement) none)
-    ∙ ap (option_and_then (λ parts. marked parts.0 (statement_of parts.1))) (last_parts identity (ending undoes statement) (ending_no_bar undoes statement all.1))
-    ∙ ap (marked identity) (ending_read undoes statement all.1)
-    ∙ ending_marked identity statement undoes is
+    ap (λ by. option_and_then (λ parts. marked parts.0 (statement_of parts.1)) (at_last_bar (after_first is_bar by))) (written_parts who identity statement form)
+    ∙ ap (λ rest. option_and_then (λ parts. marked parts.0 (statement_of parts.1)) (at_last_bar rest)) (behind_first who (identity ++ 124 ∷ ending form statement) none)
+    ∙ ap (option_and_then (λ parts. marked parts.0 (statement_of parts.1))) (last_parts identity (ending form statement) (ending_no_bar form statement all.1))
+    ∙ ap (marked identity) (ending_read form statement all.1)
+    ∙ ending_marked identity statement form is

@@ -9,7 +9,9 @@ use Rattle.lq_base.specs.declared.run.Did.TheVariants.{Ran, RanAgain, Marked, Sk
 use Rattle.lq_base.specs.declared.run.Happened.{Happened}
 use Rattle.lq_base.specs.declared.run.Printed.{Printed}
 use Rattle.lq_base.specs.declared.tracking.Lock.{Lock}
-use Rattle.lq_base.specs.Tracking.{identity_text}
+use Rattle.lq_base.specs.declared.tracking.Tracked.{Tracked}
+use Rattle.lq_base.specs.Moment.{moment_text}
+use Rattle.lq_base.specs.Tracking.{exec_text, identity_text}
 use Rattle.lq_report.specs.declared.drill.Drilled.{Drilled}
 use Rattle.lq_report.specs.declared.soak.Soaked.{Soaked}
 use Rattle.lq_report.specs.Mark.{lock_mark, mark_text}
@@ -46,12 +48,32 @@ pending_line identity = identity_text identity ++ codes "\n"
 unfoldable pub status_text : List Identity → List ℕ
 status_text pending = codes "pending: " ++ decimal (length pending) ++ codes "\n" ++ flat_map pending_line pending
 
+-- history: for each row in run order its place, its moment, how it came to be and its changeset, and its tag where it has one
+abbrev pub tracked_identity : Tracked → Identity
+tracked_identity row = record { file = row.filename; id = row.id; author = row.author }
+
+abbrev pub tag_behind : Option (List ℕ) → List ℕ
+tag_behind (Some tag) = codes " tag " ++ tag
+tag_behind None = []
+
+unfoldable pub history_line : Tracked → List ℕ
+history_line row =
+    decimal row.order ++ codes " " ++ moment_text row.date ++ codes " " ++ exec_text row.exec ++ codes " "
+    ++ identity_text (tracked_identity row) ++ tag_behind row.tag ++ codes "\n"
+
+abbrev pub history_text : List Tracked → List ℕ
+history_text rows = flat_map history_line rows
+
 -- tag, and validate
 abbrev pub tagged_text : List ℕ → List ℕ
 tagged_text tag = codes "tagged " ++ tag ++ codes "\n"
 
 abbrev pub validated_text : List ℕ
 validated_text = codes "no validation faults\n"
+
+-- undo-unrecorded: the changeset, and how many of its statements were taken back
+unfoldable pub undone_text : Identity → ℕ → List ℕ
+undone_text identity count = codes "undone " ++ identity_text identity ++ codes ", " ++ decimal count ++ codes " statements\n"
 
 -- update-sql and rollback-sql: for each changeset a heading, and then each statement's text and `;`
 abbrev pub heading : Bool → List ℕ

@@ -5,6 +5,7 @@ mod changelog_log;
 mod drill;
 mod fixed;
 mod happened;
+mod history;
 pub mod laws;
 mod lock;
 mod log_line;
@@ -22,6 +23,7 @@ pub use changelog_log::{
 pub use drill::{Drilled, drill_text};
 pub use fixed::{FixedLine, validated_text};
 pub use happened::{rollback_text, sync_text, update_text};
+pub use history::history_text;
 pub use lock::{append_locked, release_text};
 pub use mark::{Mark, mark_of};
 pub use printed::sql_text;
@@ -30,5 +32,5 @@ pub use run_log::{
     append_refused, append_warning,
 };
 pub use soak::{Soaked, soak_text};
-pub use status::{status_text, tagged_text};
+pub use status::{status_text, tagged_text, undone_text};
 pub use validation_log::{append_changed, append_twice};

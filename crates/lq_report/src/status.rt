@@ -1,6 +1,6 @@
 ghost use Rattle.std.specs.List.{flat_map};
 ghost use Rattle.std.specs.Prelude.{◌≡◌, ◌++◌, IfOk, OnOk};
-ghost use Rattle.lq_report.specs.Output.{pending_line, status_text, tagged_text};
+ghost use Rattle.lq_report.specs.Output.{pending_line, status_text, tagged_text, undone_text};
 
 use crate::parts::{append_counted, append_named};
 use lq_base::{Identity, NoMemory, Text};
@@ -39,5 +39,22 @@ pub fn tagged_text(alloc: Global, tag: &str) -> Result<Text, NoMemory>
 {
     let mut text = Text::new(alloc, "")?;
     text.push_all(&["tagged ", tag, "\n"])?;
+    Ok(text)
+}
+
+#[tactic(auto, unfolding(crate::specs::Output::undone_text))]
+fn append_undone(identity: &Identity, count: u64, to: &mut Text) -> Result<(), NoMemory>
+    ensures { OnOk result (to.new ≡ to.old ++ undone_text identity.now count) }
+{
+    append_named("undone ", identity, ", ", to)?;
+    append_counted("", count, " statements\n", to)
+}
+
+/// What `undo-unrecorded` writes: the changeset, and how many of its statements were taken back.
+pub fn undone_text(alloc: Global, identity: &Identity, count: u64) -> Result<Text, NoMemory>
+    ensures { IfOk result (λ text. text ≡ undone_text identity.now count) }
+{
+    let mut text = Text::new(alloc, "")?;
+    append_undone(identity, count, &mut text)?;
     Ok(text)
 }

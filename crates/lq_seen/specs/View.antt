@@ -1,7 +1,7 @@
 -- A changeset and a changelog of changes of any type, as the commands see them.
 use Rattle.std.specs.List.{join_by}
 use Rattle.std.specs.Option.{option_or}
-use Rattle.std.specs.Prelude.{List, None, Option, Some, [], codes, false, map, ℕ, ◌∷◌}
+use Rattle.std.specs.Prelude.{List, None, Option, Some, [], codes, map, ℕ, ◌∷◌}
 use Rattle.lq_base.specs.Text.{is_text}
 use Rattle.lq_base.specs.declared.dialect.Dialect.{Dialect}
 use Rattle.lq_base.specs.declared.run.OnFail.{OnFail}
@@ -15,7 +15,7 @@ use Rattle.lq_kinds.specs.declared.change_set.ChangeSet.{ChangeSet}
 use Rattle.lq_kinds.specs.declared.change_set.Changelog.{Changelog}
 use Rattle.lq_seen.specs.Selection.{is_selected}
 use Rattle.lq_turns.specs.Promised.{meaning}
-use Rattle.lq_turns.specs.Set.{Changelog as Log, Condition, Meaning, Set}
+use Rattle.lq_turns.specs.Set.{Changelog as Log, Condition, Meaning, Set, is_old_form, sum_by_form}
 
 -- what changes of any type do
 abbrev pub any_meaning : Meaning AnyChange
@@ -43,7 +43,7 @@ tag_of (x ∷ xs) = option_or (tag_by x) (tag_of xs)
 abbrev pub condition_of : Dialect → Cond → OnFail → OnFail → Condition
 condition_of d asked on_fail on_error = record { told = λ c. told_by d asked c.users c.rows; on_fail = on_fail; on_error = on_error }
 
--- A changeset for a command's options. Its sum has one form, so a stored sum is its own where the two are the same text, and none is of an old form.
+-- A changeset for a command's options. A stored sum is its own where it is the text of the sum of the same form.
 abbrev pub view : Options → ChangeSet → Set AnyChange
 view options x = record {
   identity = x.identity;
@@ -57,8 +57,9 @@ view options x = record {
   fail_on_error = x.fail_on_error;
   in_transaction = x.in_transaction;
   sum = x.sum;
-  is_own_sum = λ stored. is_text stored x.sum;
-  is_old_sum = λ stored. false;
+  is_own_sum = λ stored. is_text stored (sum_by_form x.old_sum x.sum stored);
+  is_old_sum = is_old_form;
+  sum_like = sum_by_form x.old_sum x.sum;
   valid_sums = x.valid_sums;
   description = described x.changes;
   comments = x.comment;

@@ -35,6 +35,7 @@ pub fn type_name(change: &AnyChange) -> &'static str
         AnyChange::Insert(_) => "insert",
         AnyChange::Update(_) => "update",
         AnyChange::Delete(_) => "delete",
+        AnyChange::LoadData(_) => "loadData",
         AnyChange::Sql(_) => "sql",
         AnyChange::TagDatabase(_) => "tagDatabase",
         AnyChange::Empty(_) => "empty",

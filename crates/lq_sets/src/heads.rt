@@ -20,6 +20,7 @@ fn head_of<'a>(options: &Options, set: &'a ChangeSet) -> Head<'a>
         run_always: set.run_always,
         run_on_change: set.run_on_change,
         sum: &set.sum,
+        old_sum: &set.old_sum,
         valid_sums: set.valid_sums.as_slice(),
     }
 }

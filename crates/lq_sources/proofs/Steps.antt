@@ -1,18 +1,19 @@
 -- What the files of a loading mean, step by step.
-use Rattle.std.proofs.Common.{◌≡◌, ◌⊎◌, ◌<◌, ◌≤◌, ◌+◌, ◌-◌, zero, suc, List, ℕ, ◌∙◌, refl, sym, ap, subst, drop, length, inl, inr, Option, Some, Ok, Err, Bool, false, arith}
+use Rattle.std.proofs.Common.{◌≡◌, ◌⊎◌, ◌<◌, ◌≤◌, ◌+◌, ◌-◌, ◌++◌, ◌∷◌, [], zero, suc, List, ℕ, ◌∙◌, refl, sym, ap, subst, drop, length, inl, inr, Option, Some, Ok, Err, Bool, false, arith}
 use Rattle.std.specs.Prelude.{cond, if◌then◌else◌, nat_le, slice_index_or, ◌&&◌}
 use Rattle.std.proofs.Math.Nat.{le_trans}
 use Rattle.std.proofs.Math.Seq.{drop-cons}
 use Rattle.lq_tree.specs.declared.node.Node.{Node}
 use Rattle.lq_sources.specs.Answers.{Answers, IsFree}
-use Rattle.lq_sources.specs.Faults.{Loaded, at_place, by_keys, in_file, ◌>>=◌}
-use Rattle.lq_sources.specs.Items.{items_of, place}
+use Rattle.lq_sources.specs.Faults.{Loaded, by_keys, in_file, ◌>>=◌}
+use Rattle.lq_sources.specs.Items.{items_of}
 use Rattle.lq_sources.specs.Meaning.{Meaning}
 use Rattle.lq_sources.specs.SoFar.{SoFar, nothing_yet, with_file, with_set}
 use Rattle.lq_sources.specs.Source.{IsTold, Source}
-use Rattle.lq_sources.specs.Walk.{Held, bytes_read, contents, each, each_from, file, is_set, item_gathered, may_open, named, root_file, take_folder, take_item, take_path, taken_under, walked, written}
+use Rattle.lq_sources.specs.Walk.{Held, bytes_read, contents, each, each_from, file, gathered_in, is_set, item_gathered, item_with_files, may_open, named, on_wanted, root_file, take_folder, take_item, take_path, taken_under, tried, walked, wanted_bytes, written}
 use Rattle.lq_sources.specs.declared.fault.LoadFault.{LoadFault}
 use Rattle.lq_sources.specs.declared.fault.LoadFault.TheVariants.{OutOfMemory, TooDeep, TooMany}
+use Rattle.lq_sources.specs.declared.item.Included.{Included}
 use Rattle.lq_paths.specs.declared.path.Format.{Format}
 
 module _ {G : Type 0} where
@@ -92,19 +93,120 @@ module _ {G : Type 0} where
     path_answer told include path s r new is h =
         same_meaning told (λ source. take_path (include source) path s) (λ source. include source path s) r new (λ source known. ap (λ f. f >>= (λ p. include source p s)) is) h
 
-    abbrev full : Bool → Loaded (Held G) → Loaded (Held G)
-    full so rest = if so then Err TooMany else rest
+    -- ---- an item that is gathered, with the files that it wants
 
-    abbrev made : SoFar → G → Loaded (Held G)
-    made counts g = Ok (record { counts = counts; gathered = g })
+    module _ (is_root : Bool) (path : List ℕ) (i : ℕ) (key : List ℕ) (n : Node) where
+      -- what is left to do behind a turn
+      abbrev pub Wanted : Source → List (List ℕ) → SoFar → G → Option Included → Loaded (Held G)
+      Wanted source given counts g wants = on_wanted m source is_root path i key n (gathered_in m source is_root path i key n (10000 - counts.files)) given counts g wants
 
-    pub gathered_ok : (is_root : Bool) (path : List ℕ) (i : ℕ) (key : List ℕ) (n : Node) (s : Held G) (g : G) (counts : SoFar) → (is_set key && nat_le 10000 s.counts.sets) ≡ false
-        → m.gathers is_root path key n s.gathered ≡ Ok g → counts ≡ cond (is_set key) (with_set s.counts) s.counts
-        → item_gathered m is_root path i key n s ≡ Ok (record { counts = counts; gathered = g })
-    unfolding item_gathered
-    gathered_ok is_root path i key n s g counts room found is =
-        ap (λ so. full so (in_file path (at_place (place i) (m.gathers is_root path key n s.gathered)) >>= made (cond (is_set key) (with_set s.counts) s.counts))) room
-        ∙ (ap (λ r. in_file path (at_place (place i) r) >>= made (cond (is_set key) (with_set s.counts) s.counts)) found ∙ ap (λ c. made c g) (sym is))
+      -- what a turn comes to
+      abbrev pub Turn : List (List ℕ) → G → Loaded (Option Included × G)
+      Turn given g = tried m path i g (m.gathers given is_root path key n g)
+
+      taken_first : (source : Source) (s : Held G) (r : Loaded (Option Included × G)) → Turn [] s.gathered ≡ r
+          → item_with_files m source is_root path i key n s ≡ (r >>= (λ made. Wanted source [] s.counts made.1 made.0))
+      unfolding item_with_files
+      taken_first source s r is = ap (λ q. q >>= (λ made. Wanted source [] s.counts made.1 made.0)) is
+
+      -- one file more is read, and the item gathered once more
+      taken_next : (source : Source) (given : List (List ℕ)) (counts later : SoFar) (g : G) (it : Included) (bytes : List ℕ) (r : Loaded (Option Included × G))
+          → counts.files < 10000 → later ≡ with_file (length bytes) counts → wanted_bytes source path it counts ≡ Ok bytes → Turn (given ++ bytes ∷ []) g ≡ r
+          → Wanted source given counts g (Some it) ≡ (r >>= (λ made. Wanted source (given ++ bytes ∷ []) later made.1 made.0))
+      taken_next source given counts later g it bytes r few is read made =
+          ap (λ turns. on_wanted m source is_root path i key n (gathered_in m source is_root path i key n turns) given counts g (Some it)) less
+          ∙ (ap (λ q. q >>= (λ bs. gathered_in m source is_root path i key n (suc left) (given ++ bs ∷ []) (record { counts = with_file (length bs) counts; gathered = g }))) read
+          ∙ (ap (λ q. q >>= (λ x. on_wanted m source is_root path i key n (gathered_in m source is_root path i key n left) (given ++ bytes ∷ []) (with_file (length bytes) counts) x.1 x.0)) made
+          ∙ ap (λ c. r >>= (λ x. Wanted source (given ++ bytes ∷ []) c x.1 x.0)) (sym is)))
+        where
+          left : ℕ
+          left = 10000 - (counts.files + 1)
+
+          less : 10000 - counts.files ≡ suc left
+          less = omega (arith, few)
+
+      -- a file that cannot be read is told
+      taken_not : (source : Source) (given : List (List ℕ)) (counts : SoFar) (g : G) (it : Included) (fault : LoadFault) → wanted_bytes source path it counts ≡ Err fault
+          → Wanted source given counts g (Some it) ≡ Err fault
+      taken_not source given counts g it fault is =
+          ap (λ q. q >>= (λ bs. gathered_in m source is_root path i key n (10000 - counts.files) (given ++ bs ∷ []) (record { counts = with_file (length bs) counts; gathered = g }))) is
+
+      module _ (first_told told : Option (List ℕ → Option (List ℕ))) (first now : ℕ) (s : Held G) (given : List (List ℕ)) (counts : SoFar) (g : G) where
+        abbrev pub AtWanted : Option Included → Type 0
+        AtWanted wants = Gone (λ source. item_with_files m source is_root path i key n s) (λ source. Wanted source given counts g wants) first_told told first now
+
+      pub wanted_init : (told : Option (List ℕ → Option (List ℕ))) (first : ℕ) (s : Held G) (given : List (List ℕ)) (wants : Option Included) (g : G) → given ≡ [] → Turn given s.gathered ≡ Ok (wants, g)
+          → AtWanted told told first first s given s.counts g wants
+      wanted_init told first s given wants g none made = record {
+        same = refl;
+        later = omega arith;
+        reads = λ source known. taken_first source s (Ok (wants, g)) (ap (λ bs. Turn bs s.gathered) (sym none) ∙ made) ∙ ap (λ bs. Wanted source bs s.counts g wants) (sym none);
+      }
+
+      pub wanted_init_failed : {B : Type 0} (told : Option (List ℕ → Option (List ℕ))) (s : Held G) (given : List (List ℕ)) (r : Loaded B) (fault : LoadFault) (new : Held G) → r ≡ Err fault → given ≡ []
+          → (fault ≡ OutOfMemory) ⊎ (Turn given s.gathered ≡ Err fault) → Answers told (λ source. item_with_files m source is_root path i key n s) r new
+      wanted_init_failed told s given r fault new so none blames = subst (λ q. Answers told (λ source. item_with_files m source is_root path i key n s) q new) (sym so) (by blames)
+        where
+          by : (fault ≡ OutOfMemory) ⊎ (Turn given s.gathered ≡ Err fault) → IsFree fault ⊎ ((source : Source) → IsTold told source → item_with_files m source is_root path i key n s ≡ Err fault)
+          by (inl memory) = inl (inl memory)
+          by (inr is) = inr (λ source known. taken_first source s (Err fault) (ap (λ bs. Turn bs s.gathered) (sym none) ∙ is))
+
+      pub wanted_next : (first_told told after : Option (List ℕ → Option (List ℕ))) (first now later : ℕ) (s : Held G) (given more : List (List ℕ)) (counts next : SoFar) (g : G) (it : Included) (bytes : List ℕ) (wants : Option Included) (h : G)
+          → AtWanted first_told told first now s given counts g (Some it) → after ≡ told → now ≤ later → counts.files < 10000 → next ≡ with_file (length bytes) counts → more ≡ given ++ bytes ∷ []
+          → ((source : Source) → IsTold told source → wanted_bytes source path it counts ≡ Ok bytes) → Turn more g ≡ Ok (wants, h)
+          → AtWanted first_told after first later s more next h wants
+      wanted_next first_told told after first now later s given more counts next g it bytes wants h gone same rises few is pushed read made = record {
+        same = same ∙ gone.same;
+        later = le_trans gone.later rises;
+        reads = λ source known. gone.reads source known
+            ∙ (taken_next source given counts next g it bytes (Ok (wants, h)) few is (read source (subst (λ t. IsTold t source) (sym gone.same) known)) (ap (λ bs. Turn bs g) (sym pushed) ∙ made)
+            ∙ ap (λ bs. Wanted source bs next h wants) (sym pushed));
+      }
+
+      pub wanted_not_read : {B : Type 0} (first_told told : Option (List ℕ → Option (List ℕ))) (first now : ℕ) (s : Held G) (given : List (List ℕ)) (counts : SoFar) (g : G) (it : Included) (r : Loaded B) (fault : LoadFault) (new : Held G) → r ≡ Err fault
+          → AtWanted first_told told first now s given counts g (Some it) → IsFree fault ⊎ ((source : Source) → IsTold told source → wanted_bytes source path it counts ≡ Err fault)
+          → Answers first_told (λ source. item_with_files m source is_root path i key n s) r new
+      wanted_not_read first_told told first now s given counts g it r fault new so gone blames = subst (λ q. Answers first_told (λ source. item_with_files m source is_root path i key n s) q new) (sym so) (by blames)
+        where
+          by : IsFree fault ⊎ ((source : Source) → IsTold told source → wanted_bytes source path it counts ≡ Err fault) → IsFree fault ⊎ ((source : Source) → IsTold first_told source → item_with_files m source is_root path i key n s ≡ Err fault)
+          by (inl free) = inl free
+          by (inr h) = inr (λ source known. gone.reads source known ∙ taken_not source given counts g it fault (h source (subst (λ t. IsTold t source) (sym gone.same) known)))
+
+      pub wanted_not_taken : {B : Type 0} (first_told told : Option (List ℕ → Option (List ℕ))) (first now : ℕ) (s : Held G) (given more : List (List ℕ)) (counts : SoFar) (g : G) (it : Included) (bytes : List ℕ) (r : Loaded B) (fault : LoadFault) (new : Held G) → r ≡ Err fault
+          → AtWanted first_told told first now s given counts g (Some it) → counts.files < 10000 → more ≡ given ++ bytes ∷ []
+          → ((source : Source) → IsTold told source → wanted_bytes source path it counts ≡ Ok bytes) → (fault ≡ OutOfMemory) ⊎ (Turn more g ≡ Err fault)
+          → Answers first_told (λ source. item_with_files m source is_root path i key n s) r new
+      wanted_not_taken first_told told first now s given more counts g it bytes r fault new so gone few pushed read blames = subst (λ q. Answers first_told (λ source. item_with_files m source is_root path i key n s) q new) (sym so) (by blames)
+        where
+          by : (fault ≡ OutOfMemory) ⊎ (Turn more g ≡ Err fault) → IsFree fault ⊎ ((source : Source) → IsTold first_told source → item_with_files m source is_root path i key n s ≡ Err fault)
+          by (inl memory) = inl (inl memory)
+          by (inr is) = inr (λ source known. gone.reads source known
+              ∙ taken_next source given counts (with_file (length bytes) counts) g it bytes (Err fault) few refl (read source (subst (λ t. IsTold t source) (sym gone.same) known)) (ap (λ bs. Turn bs g) (sym pushed) ∙ is))
+
+      -- and counted
+      abbrev full : Bool → Loaded (Held G) → Loaded (Held G)
+      full so rest = if so then Err TooMany else rest
+
+      abbrev counted : Held G → Loaded (Held G)
+      counted t = Ok (record { counts = cond (is_set key) (with_set t.counts) t.counts; gathered = t.gathered })
+
+      pub gathered_answer : (told : Option (List ℕ → Option (List ℕ))) (s t : Held G) (counts : SoFar) → (is_set key && nat_le 10000 s.counts.sets) ≡ false
+          → counts ≡ cond (is_set key) (with_set t.counts) t.counts → ((source : Source) → IsTold told source → item_with_files m source is_root path i key n s ≡ Ok t)
+          → (source : Source) → IsTold told source → item_gathered m source is_root path i key n s ≡ Ok (record { counts = counts; gathered = t.gathered })
+      unfolding item_gathered
+      gathered_answer told s t counts room is taken source known =
+          ap (λ so. full so (item_with_files m source is_root path i key n s >>= counted)) room
+          ∙ (ap (λ q. q >>= counted) (taken source known) ∙ ap (λ (c : SoFar). Ok (record { counts = c; gathered = t.gathered })) (sym is))
+
+      pub not_gathered : {B : Type 0} (told : Option (List ℕ → Option (List ℕ))) (s : Held G) (r : Loaded B) (fault : LoadFault) (new : Held G) → r ≡ Err fault → (is_set key && nat_le 10000 s.counts.sets) ≡ false
+          → IsFree fault ⊎ ((source : Source) → IsTold told source → item_with_files m source is_root path i key n s ≡ Err fault)
+          → Answers told (λ source. item_gathered m source is_root path i key n s) r new
+      unfolding item_gathered
+      not_gathered told s r fault new so room blames = subst (λ q. Answers told (λ source. item_gathered m source is_root path i key n s) q new) (sym so) (by blames)
+        where
+          by : IsFree fault ⊎ ((source : Source) → IsTold told source → item_with_files m source is_root path i key n s ≡ Err fault) → IsFree fault ⊎ ((source : Source) → IsTold told source → item_gathered m source is_root path i key n s ≡ Err fault)
+          by (inl free) = inl free
+          by (inr h) = inr (λ source known. ap (λ so. full so (item_with_files m source is_root path i key n s >>= counted)) room ∙ ap (λ q. q >>= counted) (h source known))
 
     pub walked_ok : (source : Source) (root : List ℕ) (given : List (List ℕ × List ℕ)) (g : G) (counts : SoFar) (new : Held G) → named root ≡ Ok root → counts ≡ nothing_yet given
         → root_file m source root (record { counts = counts; gathered = g }) ≡ Ok new → walked m source root given g ≡ Ok new.gathered

@@ -2,6 +2,8 @@
 use Rattle.std.specs.Prelude.{Bool, Err, List, Ok, Option, Result, false, true, ℕ, ◌≡◌, ◌⊎◌}
 use Rattle.lq_sources.specs.Faults.{Loaded, is_memory}
 pub use Rattle.lq_sources.specs.Source.{IsTold, Source}
+use Rattle.lq_sources.specs.declared.fault.Lack.{Lack}
+use Rattle.lq_sources.specs.declared.fault.Lack.TheVariants.{File, Wrong}
 use Rattle.lq_sources.specs.declared.fault.LoadFault.{LoadFault}
 use Rattle.lq_sources.specs.declared.fault.LoadFault.TheVariants.{OutOfMemory, Read}
 use Rattle.lq_sources.specs.declared.fault.What.{What}
@@ -34,11 +36,25 @@ abbrev pub Finds : {A : Type 0} → Option (List ℕ → Option (List ℕ)) → 
 Finds told meant (Ok a) = (source : Source) → IsTold told source → meant source ≡ Ok a
 Finds told meant (Err fault) = IsFree fault ⊎ ((source : Source) → IsTold told source → meant source ≡ Err fault)
 
--- the answer of a reading of one file's contents, or want of memory
-abbrev pub Makes : {A B : Type 0} → Result A What → Result B What → A → Type 0
+-- the answer of a gathering, or want of memory
+abbrev pub Makes : {A B : Type 0} → Result A Lack → Result B Lack → A → Type 0
 Makes meant (Ok _) new = meant ≡ Ok new
-Makes meant (Err what) new = (is_memory what ≡ true) ⊎ (meant ≡ Err what)
+Makes meant (Err (Wrong what)) new = (is_memory what ≡ true) ⊎ (meant ≡ Err (Wrong what))
+Makes meant (Err (File it)) new = meant ≡ Err (File it)
 
+-- the same of one whose value is the answer
+abbrev pub IsGathered : {A : Type 0} → Result A Lack → Result A Lack → Type 0
+IsGathered meant (Ok a) = meant ≡ Ok a
+IsGathered meant (Err (Wrong what)) = (is_memory what ≡ true) ⊎ (meant ≡ Err (Wrong what))
+IsGathered meant (Err (File it)) = meant ≡ Err (File it)
+
+-- where a file is wanted, nothing was gathered
+abbrev pub IsKept : {A B : Type 0} → Result B Lack → A → A → Type 0
+IsKept (Ok _) old new = Unit {0}
+IsKept (Err (Wrong what)) old new = Unit {0}
+IsKept (Err (File it)) old new = new ≡ old
+
+-- the answer of a reading of one file's contents, or want of memory
 abbrev pub IsMade : {A : Type 0} → Result A What → Result A What → Type 0
 IsMade meant (Ok a) = meant ≡ Ok a
 IsMade meant (Err what) = (is_memory what ≡ true) ⊎ (meant ≡ Err what)

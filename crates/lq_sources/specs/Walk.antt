@@ -1,19 +1,22 @@
 -- What the files below a root bring, or the first fault.
-use Rattle.std.specs.Prelude.{Bool, Err, List, None, Ok, Option, Some, [], codes, cond, false, if◌then◌else◌, is_some, length, nat_le, nat_lt, not, suc, true, zero, ℕ, ◌&&◌, ◌+◌, ◌==◌, ◌||◌, ◌∷◌}
+use Rattle.std.specs.Prelude.{Bool, Err, List, None, Ok, Option, Result, Some, [], codes, cond, false, if◌then◌else◌, is_some, length, nat_le, nat_lt, not, suc, true, zero, ℕ, ◌&&◌, ◌+◌, ◌++◌, ◌-◌, ◌==◌, ◌||◌, ◌∷◌}
 use Rattle.std.specs.List.{filter}
 use Rattle.std.specs.Str.{bytes_eq}
 use Rattle.lq_base.specs.Character.{char_count, has_control}
 use Rattle.lq_base.specs.declared.fault.KindFault.TheVariants.{Bad}
 use Rattle.lq_tree.specs.declared.node.Node.{Node}
-use Rattle.lq_sources.specs.Faults.{Loaded, at_place, by_keys, in_file, ◌>>=◌}
+use Rattle.lq_sources.specs.Faults.{Loaded, at_place, by_keys, fault_in, in_file, placed_what, ◌>>=◌}
 use Rattle.lq_sources.specs.Items.{entry_of, item_at, items_of, place}
 use Rattle.lq_sources.specs.Meaning.{Meaning}
 use Rattle.lq_paths.specs.Paths.{format_of, is_xml, joined, plain}
 use Rattle.lq_sources.specs.SoFar.{SoFar, nothing_yet, so_far, with_file, with_property, with_set}
 use Rattle.lq_sources.specs.Source.{Source}
 use Rattle.lq_sources.specs.Values.{filled, value_in}
+use Rattle.lq_sources.specs.declared.fault.Lack.{Lack}
+use Rattle.lq_sources.specs.declared.fault.Lack.TheVariants.{File, Wrong}
 use Rattle.lq_sources.specs.declared.fault.LoadFault.TheVariants.{Fault, NoFile, TooDeep, TooLong, TooMany, Xml}
 use Rattle.lq_sources.specs.declared.fault.What.TheVariants.{BadPath, Key, UnknownFormat}
+use Rattle.lq_sources.specs.declared.item.Included.{Included}
 use Rattle.lq_sources.specs.declared.item.Item.{Item}
 use Rattle.lq_sources.specs.declared.item.Item.TheVariants.{Include, IncludeAll, Other, Property}
 use Rattle.lq_paths.specs.declared.path.Format.{Format}
@@ -94,17 +97,45 @@ module _ {G : Type 0} (include : List ℕ → Held G → Loaded (Held G)) where
   abbrev pub take_folder : Source → List ℕ → Held G → Loaded (Held G)
   take_folder source folder s = taken_under source folder >>= (λ paths. each take_path paths s)
 
+-- the bytes of the file that an item of the file at a path wants, whatever the file is written in
+abbrev pub wanted_bytes : Source → List ℕ → Included → SoFar → Loaded (List ℕ)
+wanted_bytes source path it s =
+    target (joined path it.relative it.path) >>= (λ place. named place >>= (λ p.
+    if nat_le 10000 s.files then Err TooMany else bytes_read p (source.content p) s))
+
 module _ {G : Type 0} (m : Meaning G) where
   -- an item by its key
   unfoldable pub item_read : List ℕ → ℕ → List ℕ → Node → Loaded Item
   item_read path i key n = in_file path (at_place (place i) (by_keys (item_at m.here key n)))
 
-  -- an item that is gathered; a changeset too many is none before its keys are looked at
-  unfoldable pub item_gathered : Bool → List ℕ → ℕ → List ℕ → Node → Held G → Loaded (Held G)
-  item_gathered is_root path i key n s =
-      if is_set key && nat_le 10000 s.counts.sets then Err TooMany
-      else (in_file path (at_place (place i) (m.gathers is_root path key n s.gathered)) >>= (λ found.
-      Ok (record { counts = cond (is_set key) (with_set s.counts) s.counts; gathered = found })))
+  -- what gathering an item of the file at a path comes to: what has been gathered, or the file that it wants too
+  abbrev pub tried : List ℕ → ℕ → G → Result G Lack → Loaded (Option Included × G)
+  tried path i g (Ok found) = Ok (None, found)
+  tried path i g (Err (Wrong what)) = Err (fault_in path (placed_what (place i) what))
+  tried path i g (Err (File it)) = Ok (Some it, g)
+
+  module _ (source : Source) (is_root : Bool) (path : List ℕ) (i : ℕ) (key : List ℕ) (n : Node) where
+    -- where a file is wanted, it is read, and the item gathered with its bytes too
+    abbrev pub on_wanted : (List (List ℕ) → Held G → Loaded (Held G)) → List (List ℕ) → SoFar → G → Option Included → Loaded (Held G)
+    on_wanted next given counts g None = Ok (record { counts = counts; gathered = g })
+    on_wanted next given counts g (Some it) =
+        wanted_bytes source path it counts >>= (λ bytes. next (given ++ bytes ∷ []) (record { counts = with_file (length bytes) counts; gathered = g }))
+
+    -- an item gathered with the bytes of the files that it wants, in at most so many turns
+    abbrev pub gathered_in : ℕ → List (List ℕ) → Held G → Loaded (Held G)
+    gathered_in zero given s = Err TooMany
+    gathered_in (suc turns) given s =
+        tried path i s.gathered (m.gathers given is_root path key n s.gathered) >>= (λ made. on_wanted (gathered_in turns) given s.counts made.1 made.0)
+
+    -- each turn but the last reads a file, of which there are 10,000 at most
+    unfoldable pub item_with_files : Held G → Loaded (Held G)
+    item_with_files s = gathered_in (suc (10000 - s.counts.files)) [] s
+
+    -- an item that is gathered; a changeset too many is none before its keys are looked at
+    unfoldable pub item_gathered : Held G → Loaded (Held G)
+    item_gathered s =
+        if is_set key && nat_le 10000 s.counts.sets then Err TooMany
+        else (item_with_files s >>= (λ t. Ok (record { counts = cond (is_set key) (with_set t.counts) t.counts; gathered = t.gathered })))
 
   -- the items of a file's bytes: its whole tree is read before them
   abbrev pub items_read : List ℕ → Format → List ℕ → Loaded (List Node)
@@ -116,7 +147,7 @@ module _ {G : Type 0} (m : Meaning G) where
     bring is_root path i key n (Include it) s = target (joined path it.relative it.path) >>= (λ p. take_path include p s)
     bring is_root path i key n (IncludeAll it) s = target (joined path it.relative it.path) >>= (λ folder. take_folder include source folder s)
     bring is_root path i key n (Property it) s = Ok (record { counts = with_property path it s.counts; gathered = s.gathered })
-    bring is_root path i key n Other s = item_gathered is_root path i key n s
+    bring is_root path i key n Other s = item_gathered source is_root path i key n s
 
     abbrev pub take_entry : Bool → List ℕ → ℕ → List ℕ → Node → Held G → Loaded (Held G)
     take_entry is_root path i key n s = item_read path i key n >>= (λ item. bring is_root path i key n item s)

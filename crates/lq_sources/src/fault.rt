@@ -1,9 +1,11 @@
 ghost use Rattle.std.specs.Prelude.{◌≡◌};
 ghost use Rattle.lq_base.specs.declared.fault.KindFault.TheVariants.{OutOfMemory as NoRoom};
 ghost use Rattle.lq_sources.specs.Faults.{fault_of_files};
+ghost use Rattle.lq_sources.specs.declared.fault.Lack.TheVariants.{Wrong};
 ghost use Rattle.lq_sources.specs.declared.fault.LoadFault.TheVariants.{OutOfMemory};
 ghost use Rattle.lq_sources.specs.declared.fault.What.TheVariants.{Key};
 
+use crate::item::Included;
 use lq_base::{KindFault, NoMemory, Text};
 use lq_outside::FilesFault;
 use std::alloc::{AllocError, AllocFailed};
@@ -24,6 +26,15 @@ pub enum What {
     Line(u64),
     /// A key of its tree.
     Key(KindFault),
+}
+
+/// Why an item was not gathered.
+#[derive(Drop)]
+pub enum Lack {
+    /// Something in it is wrong.
+    Wrong(What),
+    /// It wants the bytes of one file more.
+    File(Included),
 }
 
 /// Why no changelog was loaded.
@@ -57,6 +68,22 @@ impl From<NoMemory> for What {
 
     fn from(_: NoMemory) -> What {
         What::Key(KindFault::OutOfMemory)
+    }
+}
+
+impl From<What> for Lack {
+    ghost from_gives = { λ what e. e ≡ Wrong what };
+
+    fn from(what: What) -> Lack {
+        Lack::Wrong(what)
+    }
+}
+
+impl From<NoMemory> for Lack {
+    ghost from_gives = { λ _ e. e ≡ Wrong (Key NoRoom) };
+
+    fn from(_: NoMemory) -> Lack {
+        Lack::Wrong(What::Key(KindFault::OutOfMemory))
     }
 }
 

@@ -1,5 +1,5 @@
-use crate::fault::What;
-use lq_base::KindFault;
+use crate::fault::{Lack, What};
+use lq_base::{Items, KindFault};
 use lq_paths::Format;
 use lq_tree::Node;
 use std::alloc::Global;
@@ -7,7 +7,7 @@ use std::alloc::Global;
 /// What a loading does with files, but for their includes and properties.
 pub trait Gather {
     ghost use Rattle.lq_tree.specs.Found.{Reads};
-    ghost use Rattle.lq_sources.specs.Answers.{IsMade, Makes};
+    ghost use Rattle.lq_sources.specs.Answers.{IsKept, IsMade, Makes};
     ghost use Rattle.lq_sources.specs.Meaning.{Meaning};
 
     /// What it gathers.
@@ -24,16 +24,19 @@ pub trait Gather {
     fn is_here(&self, alloc: Global, node: &Node) -> Result<bool, KindFault>
         ensures { Reads ((means self.now).here node.now) result };
 
-    /// Gathers what stands at the key of an item that is no include, no includeAll and no property.
-    /// The paths of faults begin with the key.
+    /// Gathers what stands at the key of an item that is no include, no includeAll and no property,
+    /// with the bytes of the files that it wanted so far. The paths of faults begin with the key. Where
+    /// it wants a file more, nothing is gathered.
     fn gather(
         &self,
         alloc: Global,
+        given: &[Items<u8>],
         is_root: bool,
         path: &str,
         key: &str,
         node: &Node,
         gathered: &mut Self::Gathered,
-    ) -> Result<(), What>
-        ensures { Makes ((means self.now).gathers is_root path.now key.now node.now gathered.old) result gathered.new };
+    ) -> Result<(), Lack>
+        ensures made { Makes ((means self.now).gathers given.now is_root path.now key.now node.now gathered.old) result gathered.new }
+        ensures kept { IsKept result gathered.old gathered.new };
 }

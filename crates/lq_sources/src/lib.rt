@@ -5,6 +5,7 @@
 mod blame;
 mod fault;
 mod gather;
+mod gathering;
 mod item;
 mod laws;
 mod listing;
@@ -14,7 +15,7 @@ mod taking;
 mod values;
 mod walking;
 
-pub use fault::{LoadFault, What};
+pub use fault::{Lack, LoadFault, What};
 pub use gather::Gather;
 pub use item::{Included, Item, Property, entry_of, item_at, items_of, place_of};
 pub use laws::{files_have_source, source_is_one};

@@ -1,15 +1,13 @@
-ghost use Rattle.std.specs.Prelude.{◌≡◌, ◌&&◌, cond, false, nat_le};
-ghost use Rattle.lq_sources.specs.Answers.{Holds, Loads, map_ok};
+ghost use Rattle.std.specs.Prelude.{◌≡◌};
+ghost use Rattle.lq_sources.specs.Answers.{Loads, map_ok};
 ghost use Rattle.lq_sources.specs.Faults.{by_keys, in_file};
 ghost use Rattle.lq_sources.specs.Items.{items_of};
-ghost use Rattle.lq_sources.specs.SoFar.{so_far, with_set};
-ghost use Rattle.lq_sources.specs.Walk.{entry_at, held, is_set, item_gathered, item_read};
+ghost use Rattle.lq_sources.specs.Walk.{entry_at, item_read};
 
 use crate::blame::{in_file, in_item};
 use crate::fault::{LoadFault, What};
 use crate::gather::Gather;
 use crate::item::{Item, entry_of, item_at, items_of, place_of};
-use crate::reading::Reading;
 use lq_base::{KindFault, Text};
 use lq_paths::Format;
 use lq_tree::Node;
@@ -74,48 +72,5 @@ pub fn read_item<G: Gather>(
     match item_at(alloc, gather, entry.0.as_str(), &entry.1) {
         Ok(item) => Ok(item),
         Err(fault) => Err(in_item(alloc, path, i, What::Key(fault))),
-    }
-}
-
-/// Whether an item is a changeset too many.
-fn is_too_many(key: &str, reading: &Reading) -> bool
-    ensures { result ≡ (is_set key.now && nat_le 10000 (so_far reading.now).sets) }
-{
-    key == "changeSet" && reading.sets >= 10_000
-}
-
-/// Counts an item that is a changeset.
-fn count_item(key: &str, reading: &mut Reading)
-    requires { (is_set key.now && nat_le 10000 (so_far reading.old).sets) ≡ false }
-    ensures { so_far reading.new ≡ cond (is_set key.now) (with_set (so_far reading.old)) (so_far reading.old) }
-{
-    if key == "changeSet" {
-        reading.count_set();
-    }
-}
-
-/// Gathers an item of a file.
-#[tactic(auto, unfolding(crate::specs::Walk::item_gathered))]
-pub fn gather_item<G: Gather>(
-    alloc: Global,
-    gather: &G,
-    is_root: bool,
-    path: &str,
-    i: usize,
-    entry: &(Text, Node),
-    reading: &mut Reading,
-    gathered: &mut G::Gathered,
-) -> Result<(), LoadFault>
-    ensures { Holds (item_gathered (G.means gather.now) is_root path.now i entry.now.0 entry.now.1 (held reading.old gathered.old)) result (held reading.new gathered.new) }
-{
-    if is_too_many(entry.0.as_str(), reading) {
-        return Err(LoadFault::TooMany);
-    }
-    match gather.gather(alloc, is_root, path, entry.0.as_str(), &entry.1, gathered) {
-        Ok(()) => {
-            count_item(entry.0.as_str(), reading);
-            Ok(())
-        }
-        Err(what) => Err(in_item(alloc, path, i, what)),
     }
 }

@@ -6,11 +6,12 @@ ghost use Rattle.lq_sources.specs.declared.fault.LoadFault.TheVariants.{Read};
 
 use crate::fault::LoadFault;
 use crate::gather::Gather;
+use crate::gathering::gather_item;
 use crate::item::Item;
 use crate::listing::taken_under;
 use crate::opening::{bytes_of, may_open, target_of, test_name};
 use crate::reading::Reading;
-use crate::taking::{entry_in, gather_item, items_in, read_item, tree_in};
+use crate::taking::{entry_in, items_in, read_item, tree_in};
 use crate::values::filled;
 use lq_base::Text;
 use lq_outside::Files;
@@ -138,6 +139,7 @@ fn take_entry<F: Files, G: Gather>(
             gather_item(
                 terms.alloc,
                 gather,
+                files,
                 terms.is_root,
                 path,
                 i,

@@ -33,12 +33,12 @@ use Rattle.lq_turns.specs.declared.deed.Deed.TheVariants.{Locks}
 use Rattle.lq_turns.specs.declared.deed.OnLock.TheVariants.{Freed}
 use Rattle.lq_turns.specs.declared.stamp.Stamp.{Stamp}
 use Rattle.lq_top.proofs.AsRunner.{calls_same, checked_of, last_answer, last_finished, refusal_told, status_said, task_of}
+use Rattle.lq_top.proofs.InPart.{command_on_file, runs_command, same_dialect, says_command}
 use Rattle.lq_top.proofs.OneRunner.{Follows, follows, refused}
 use Rattle.lq_top.proofs.Unchanged.{becomes_same, left_same, no_room}
 use Rattle.lq_top.specs.Alone.{EndsWith, HasAnswered, IsCutShort, TakesSteps, WasCutShort, status_of}
 use Rattle.lq_top.specs.Asks.{Asks, Files}
 use Rattle.lq_top.specs.Bytes.{Becomes, HadRoomOn, Holds, IsLeftOn, Opens, in_use, most_bytes}
-use Rattle.lq_top.specs.Jobs.{is_on_file}
 use Rattle.lq_top.specs.Run.{EndsBy, IsOutside, Runs, RunsJob, given_by, is_end, is_over}
 use Rattle.lq_top.specs.Says.{Said, SaysJob}
 
@@ -171,8 +171,10 @@ module _ (c : Command) (given : Given) (database : Database) (before : Option (L
 
 pub takes_steps : {words : List (List ℕ)} {files : Files} (asks : Asks words files) (stamp : Stamp) (before : Option (List ℕ)) (s : Status) (after out written : Option (List ℕ)) → Runs asks stamp before s after → Said asks stamp before s out written
     → TakesSteps asks stamp before s after
-takes_steps asks stamp before s after out written runs said c is database opens =
+takes_steps asks stamp before s after out written runs said database opens c part is =
     let given : Given = given_by asks stamp in
-    goes c given database before s after out written opens
-    (subst (λ (job : Job). RunsJob job given database before s after) is (runs (ap is_on_file is) database opens))
-    (λ finished. subst (λ (job : Job). SaysJob job given database s out written) is (said database opens finished))
+    let job : Job = asks.line.job in
+    let run : Command × Given = (c, part) in
+    goes c part database before s after out written (subst (λ (d : Dialect). Opens d before database) (same_dialect given database run job is) opens)
+    (runs_command given database run job is before s after (runs (command_on_file given database run job is) database opens))
+    (λ finished. says_command given database run job is s out written (said database opens finished))

@@ -1,7 +1,8 @@
 -- Of a file that is damaged: it is told with its place, and stays as it is.
 use Rattle.std.proofs.Common.{ap, inl, inr, refl, subst, sym, ◌∙◌}
-use Rattle.std.specs.Prelude.{Err, IfSome, List, Ok, Option, Result, Some, ℕ, ◌≡◌, ◌⊎◌}
+use Rattle.std.specs.Prelude.{Err, IfSome, List, Ok, Option, Result, Some, false, true, ℕ, ◌≡◌, ◌⊎◌}
 use Rattle.lq_base.specs.declared.dialect.Dialect.{Dialect}
+use Rattle.lq_cli.specs.declared.line.Job.{Job}
 use Rattle.lq_db.specs.Db.{IsDb}
 use Rattle.lq_db.specs.Load.{IsDbFault}
 use Rattle.lq_entries.specs.Load.{catalogue_of}
@@ -17,10 +18,12 @@ use Rattle.lq_tell.specs.declared.done.Done.{Done}
 use Rattle.lq_tell.specs.declared.status.Status.{Status}
 use Rattle.lq_tell.specs.declared.status.Status.TheVariants as status
 use Rattle.lq_top.proofs.Copied.{long_told}
+use Rattle.lq_top.proofs.InPart.{no_goal}
 use Rattle.lq_top.proofs.Written.{IsWritten, failed_ends}
 use Rattle.lq_top.specs.Asks.{file_status}
 use Rattle.lq_top.specs.Bytes.{IsDamagedAt, load_status, most_bytes}
 use Rattle.lq_top.specs.Copies.{IsNoCopy, copy_status}
+use Rattle.lq_top.specs.Jobs.{goes_on, misses}
 use Rattle.lq_top.specs.Run.{SparesDamage, TellsPlace}
 use Rattle.lq_top.specs.Worked.{FailsAt, Spares}
 
@@ -57,11 +60,11 @@ fails_so place s tells = (s, refl, tells)
 pub fails_by : (place : ℕ) (s x : Status) → s ≡ x → TellsPlace place x → FailsAt place (Err s)
 fails_by place s x is tells = fails_so place s (subst (TellsPlace place) (sym is) tells)
 
-pub spares_by : (place : ℕ) (before : Option (List ℕ)) (done : Result Done Status) (after : Option (List ℕ)) → FailsAt place done → after ≡ before → Spares place before done after
-spares_by place before done after fails same = (fails.0, fails.1, (fails.2, same))
+pub spares_by : (job : Job) (place : ℕ) (before : Option (List ℕ)) (done : Result Done Status) (after : Option (List ℕ)) → FailsAt place done → after ≡ before → Spares job place before done after
+spares_by job place before done after fails same = (fails.0, fails.1, (inl fails.2, same))
 
-pub memory_spares : (place : ℕ) (before : Option (List ℕ)) (done : Result Done Status) (after : Option (List ℕ)) (s : Status) → s ≡ status.OutOfMemory → done ≡ Err s → after ≡ before → Spares place before done after
-memory_spares place before done after s memory is same = (s, is, (memory_first place s memory, same))
+pub memory_spares : (job : Job) (place : ℕ) (before : Option (List ℕ)) (done : Result Done Status) (after : Option (List ℕ)) (s : Status) → s ≡ status.OutOfMemory → done ≡ Err s → after ≡ before → Spares job place before done after
+memory_spares job place before done after s memory is same = (s, is, (inl (memory_first place s memory), same))
 
 -- a fault of loading
 
@@ -70,12 +73,12 @@ load_tells d told before now load.Disk is place damaged = disk_first place
 load_tells d told before now (load.Damaged one) is place damaged = inl (same_place d told one place is damaged)
 load_tells d told before now load.OutOfMemory is place damaged = memory_first place status.OutOfMemory refl
 
-pub load_spares : (d : Dialect) (told after : Option (List ℕ)) (before now : ℕ) (f : LoadFault) (s : Status) → s ≡ load_status f → IsDbFault d most_bytes told before now f → after ≡ told → (place : ℕ) → IsDamagedAt d told place → Spares place told (Err s) after
-load_spares d told after before now f s is_status is same place damaged = spares_by place told (Err s) after (fails_by place s (load_status f) is_status (load_tells d told before now f is place damaged)) same
+pub load_spares : (job : Job) (d : Dialect) (told after : Option (List ℕ)) (before now : ℕ) (f : LoadFault) (s : Status) → s ≡ load_status f → IsDbFault d most_bytes told before now f → after ≡ told → (place : ℕ) → IsDamagedAt d told place → Spares job place told (Err s) after
+load_spares job d told after before now f s is_status is same place damaged = spares_by job place told (Err s) after (fails_by place s (load_status f) is_status (load_tells d told before now f is place damaged)) same
 
 -- of a disk that was read before
-pub spares_after : (d : Dialect) (before now : Option (List ℕ)) → now ≡ before → (done : Result Done Status) (after : Option (List ℕ)) (place : ℕ) → (IsDamagedAt d now place → Spares place now done after) → IsDamagedAt d before place → Spares place before done after
-spares_after d before now same done after place spares damaged = subst (λ o. Spares place o done after) same (spares (subst (λ o. IsDamagedAt d o place) (sym same) damaged))
+pub spares_after : (job : Job) (d : Dialect) (before now : Option (List ℕ)) → now ≡ before → (done : Result Done Status) (after : Option (List ℕ)) (place : ℕ) → (IsDamagedAt d now place → Spares job place now done after) → IsDamagedAt d before place → Spares job place before done after
+spares_after job d before now same done after place spares damaged = subst (λ o. Spares job place o done after) same (spares (subst (λ o. IsDamagedAt d o place) (sym same) damaged))
 
 -- a fault of the files
 pub files_tell : (f : FilesFault) (place : ℕ) → TellsPlace place (file_status f)
@@ -123,5 +126,20 @@ told_as : (place : ℕ) (x s : Status) → (s ≡ x) ⊎ (s ≡ status.OutOfMemo
 told_as place x s (inl same) tells = subst (TellsPlace place) (sym same) tells
 told_as place x s (inr memory) tells = memory_first place s memory
 
-pub spares_damage : (place : ℕ) (before : Option (List ℕ)) (done : Result Done Status) (after : Option (List ℕ)) (s : Status) → IsWritten done s → Spares place before done after → SparesDamage place s before after
-spares_damage place before done after s by spares = (told_as place spares.0 s (failed_ends done spares.0 s by spares.1) spares.2.0, spares.2.1)
+told_or : (job : Job) (place : ℕ) (x s : Status) → (s ≡ x) ⊎ (s ≡ status.OutOfMemory) → TellsPlace place x ⊎ (misses job x ≡ true) → TellsPlace place s ⊎ (misses job s ≡ true)
+told_or job place x s by (inl tells) = inl (told_as place x s by tells)
+told_or job place x s (inl same) (inr missed) = inr (ap (misses job) same ∙ missed)
+told_or job place x s (inr memory) (inr missed) = inl (memory_first place s memory)
+
+pub spares_damage : (job : Job) (place : ℕ) (before : Option (List ℕ)) (done : Result Done Status) (after : Option (List ℕ)) (s : Status) → IsWritten done s → Spares job place before done after → SparesDamage job place s before after
+spares_damage job place before done after s by spares = (told_or job place spares.0 s (failed_ends done spares.0 s by spares.1) spares.2.0, spares.2.1)
+
+-- a job without a tag to go on to spares it as any other does
+spared_by : (j k : Job) (place : ℕ) (s : Status) → goes_on j ≡ false → TellsPlace place s ⊎ (misses j s ≡ true) → TellsPlace place s ⊎ (misses k s ≡ true)
+spared_by j k place s none (inl tells) = inl tells
+spared_by j k place s none (inr missed) = absurd (false_true (sym (no_goal j (Err s) none) ∙ missed)) where
+  false_true : false ≡ true → ⊥
+  false_true h = Prim.cc
+
+pub spares_as : (j k : Job) (place : ℕ) (before : Option (List ℕ)) (done : Result Done Status) (after : Option (List ℕ)) → goes_on j ≡ false → Spares j place before done after → Spares k place before done after
+spares_as j k place before done after none spares = (spares.0, spares.1, (spared_by j k place spares.0 none spares.2.0, spares.2.1))

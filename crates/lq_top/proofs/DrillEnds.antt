@@ -8,6 +8,7 @@ use Rattle.std.specs.Prelude.{Bool, Err, IfSome, List, Ok, Option, Result, Some,
 use Rattle.lq_back.specs.Laws.{TurnsBackAreSpelled}
 use Rattle.lq_base.specs.declared.command.Command.{Command}
 use Rattle.lq_base.specs.declared.dialect.Dialect.{Dialect}
+use Rattle.lq_cli.specs.declared.line.Job.TheVariants as job
 use Rattle.lq_commands.proofs.BareName.{clean_no_bar}
 use Rattle.lq_commands.specs.Who.{clean}
 use Rattle.lq_db.specs.Db.{IsDb, IsNew, IsValid, crashes as crashes_of, disk_in, state}
@@ -410,7 +411,7 @@ module _ {D : Type 0} (told : D → Option (List ℕ)) (faults : D → ℕ) (cra
   memory_drilled coming after up disk = record {
     used = record {
       damaged = tt;
-      spares = λ beside place damaged. memory_spares place (told disk) (Err status.OutOfMemory) (told disk) status.OutOfMemory refl refl refl;
+      spares = λ beside place damaged. memory_spares (job.Drill []) place (told disk) (Err status.OutOfMemory) (told disk) status.OutOfMemory refl refl refl;
       safe = λ command finished. absurd (false_true command);
       off = λ off. absurd (false_true off);
       later = same_count (faults disk) (faults disk) refl;
@@ -443,7 +444,7 @@ module _ {D : Type 0} (told : D → Option (List ℕ)) (faults : D → ℕ) (cra
     fault_drilled up f is = record {
       used = record {
         damaged = fault_tells d (told disk) (faults disk) (faults read) f is;
-        spares = λ beside place damaged. load_spares d (told disk) (told read) (faults disk) (faults read) f (load_status f) refl is same place damaged;
+        spares = λ beside place damaged. load_spares (job.Drill []) d (told disk) (told read) (faults disk) (faults read) f (load_status f) refl is same place damaged;
         safe = λ command finished. absurd (false_true command);
         off = λ off. absurd (false_true off);
         later = later;
@@ -459,7 +460,7 @@ module _ {D : Type 0} (told : D → Option (List ℕ)) (faults : D → ℕ) (cra
     drilled_after r last did = record {
       used = record {
         damaged = subst (λ o. TellsDamage d o r) same did.used.damaged;
-        spares = λ beside place damaged. spares_after d (told disk) (told read) same r (told last) place (did.used.spares beside place) damaged;
+        spares = λ beside place damaged. spares_after (job.Drill []) d (told disk) (told read) same r (told last) place (did.used.spares beside place) damaged;
         safe = λ command finished. absurd (false_true command);
         off = λ off. absurd (false_true off);
         later = omega (arith, later, did.used.later);

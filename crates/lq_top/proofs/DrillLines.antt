@@ -2,7 +2,7 @@
 use Rattle.std.proofs.Common.{ap, refl, sym, ◌∙◌}
 use Rattle.std.specs.Prelude.{Err, List, Ok, Option, Result, false, true, ℕ, ◌≡◌}
 use Rattle.lq_cli.specs.declared.line.Job.{Job}
-use Rattle.lq_cli.specs.declared.line.Job.TheVariants.{Drill, RollbackSql, Run, Soak, UpdateSql}
+use Rattle.lq_cli.specs.declared.line.Job.TheVariants.{Drill, History, RollbackSql, Run, Soak, UpdateCount, UpdateSql, UpdateTo}
 use Rattle.lq_cli.specs.declared.line.Line.{Line}
 use Rattle.lq_expr.specs.declared.options.Options.{Options}
 use Rattle.lq_kinds.specs.declared.change_set.Changelog.{Changelog}
@@ -24,6 +24,9 @@ true_false h = Prim.cc
 pub by_job : {A : Type 0} (job : Job) → (is_drill job ≡ false → A) → ((runs : List ℕ) → job ≡ Drill runs → A) → A
 by_job (Run c) other drill = other refl
 by_job UpdateSql other drill = other refl
+by_job (UpdateCount count) other drill = other refl
+by_job (UpdateTo tag) other drill = other refl
+by_job History other drill = other refl
 by_job (RollbackSql target) other drill = other refl
 by_job (Drill runs) other drill = drill runs refl
 by_job (Soak number sets) other drill = other refl
@@ -36,6 +39,9 @@ drill_given source line runs is = ap (λ job. given_for job source line) is
 pub other_given : (job : Job) (source : Source) (line : Line) → is_drill job ≡ false → given_for job source line ≡ loaded source line.options.dialect line.given line.root
 other_given (Run c) source line plain = refl
 other_given UpdateSql source line plain = refl
+other_given (UpdateCount count) source line plain = refl
+other_given (UpdateTo tag) source line plain = refl
+other_given History source line plain = refl
 other_given (RollbackSql target) source line plain = refl
 other_given (Drill runs) source line plain = absurd (true_false plain)
 other_given (Soak number sets) source line plain = refl
@@ -58,6 +64,8 @@ meant_same told faults crashes files meant other same job options stamp before d
   untouched = did.untouched;
   changelog = λ fault is source tells. sym (same source) ∙ did.changelog fault is source tells;
   not_loaded = λ source tells fault gives. did.not_loaded source tells fault (same source ∙ gives);
-  does = λ source g tells gives. did.does source g tells (same source ∙ gives);
-  any_moment = λ source g tells gives. did.any_moment source g tells (same source ∙ gives);
+  missed = λ missed. (λ source tells whole gives. (did.missed missed).0 source tells whole (same source ∙ gives), (did.missed missed).1);
+  in_vain = λ source whole tells gives. did.in_vain source whole tells (same source ∙ gives);
+  does = λ source whole g tells gives. did.does source whole g tells (same source ∙ gives);
+  any_moment = λ source whole g tells gives. did.any_moment source whole g tells (same source ∙ gives);
 }

@@ -128,7 +128,7 @@ module _ {D : Type 0} (told : D → Option (List ℕ)) (faults : D → ℕ) (cra
   unused : (s : Status) → TellsDamage d (told before) (Err s) → (failing s ≡ Err status.DiskFault → ⊥) → ((place : ℕ) → TellsPlace place s) → UsedDisk told faults crashes (Drill []) d before (Err s) before
   unused s whole not_disk tells = record {
     damaged = whole;
-    spares = λ beside place damaged. spares_by place (told before) (Err s) (told before) (fails_so place s (tells place)) refl;
+    spares = λ beside place damaged. spares_by (Drill []) place (told before) (Err s) (told before) (fails_so place s (tells place)) refl;
     safe = λ command finished. absurd (false_true command);
     off = λ off. refl;
     later = Prim.search rules;

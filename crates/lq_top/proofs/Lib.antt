@@ -17,7 +17,8 @@ pub mod DrillRuns
 pub mod DrillScripts
 pub mod DrillStays
 pub mod Handing
-pub mod InUse
+pub mod InPart
+mod InUse
 pub mod Kept
 pub mod LeftOnFile
 pub mod Loading

@@ -6,9 +6,9 @@ use Rattle.lq_cli.specs.Line.{line_of}
 use Rattle.lq_cli.specs.declared.line.Job.{Job}
 use Rattle.lq_cli.specs.declared.line.Line.{Line}
 use Rattle.lq_commands.specs.Kinds.{is_diskless, is_of_database}
+use Rattle.lq_commands.specs.Parts.{part_for}
 use Rattle.lq_commands.specs.declared.given.Given.{Given}
 use Rattle.lq_expr.specs.declared.options.Options.{Options}
-use Rattle.lq_kinds.specs.Dialects.{AreFor}
 use Rattle.lq_kinds.specs.declared.change_set.Changelog.{Changelog}
 use Rattle.lq_sources.specs.Answers.{Finds, IsTold, Source}
 use Rattle.lq_sources.specs.Faults.{Loaded}
@@ -19,9 +19,10 @@ use Rattle.lq_tell.specs.declared.status.Status.{Status}
 use Rattle.lq_tell.specs.declared.status.Status.TheVariants as status
 use Rattle.lq_turns.specs.declared.stamp.Stamp.{Stamp}
 use Rattle.lq_top.specs.Asks.{Asks, Files, HasFault, asked_by, file_status, given_to}
-use Rattle.lq_top.specs.Bytes.{OnFile, TellsDamage, given_at}
-use Rattle.lq_top.specs.Jobs.{DoesJob, DoesLine, is_on_file}
+use Rattle.lq_top.specs.Bytes.{TellsDamage, given_at}
+use Rattle.lq_top.specs.Jobs.{DoesLine}
 use Rattle.lq_top.specs.Kinds.{IsNotLoaded, IsOfDatabase, IsOfFiles, IsOfLine, IsOfWords, Refuses, is_of_line, is_unwritten}
+use Rattle.lq_top.specs.Worked.{InVain}
 
 pub ok_same : {a b : Changelog} → (let r : Loaded Changelog = Ok a in r) ≡ Ok b → a ≡ b
 ok_same h = Prim.cc
@@ -57,12 +58,6 @@ pub memory_no_disk : failing status.OutOfMemory ≡ failing status.DiskFault →
 memory_no_disk h = Prim.cc
 
 -- the changelog was read
-
-pub loaded_does : (job : Job) (options : Options) (a g : Changelog) (stamp : Stamp) (meant : Loaded Changelog) (before : Option (List ℕ)) (done : Result Done Status) (after : Option (List ℕ)) → meant ≡ Ok a → meant ≡ Ok g
-    → AreFor options.dialect a → (is_on_file job ≡ true → OnFile options.dialect before (λ database. DoesJob job (given_at (asked_by options a) stamp) database before done after))
-    → DoesLine job (given_at (asked_by options g) stamp) before done after
-loaded_does job options a g stamp meant before done after is gives read does =
-    subst (λ h. DoesLine job (given_at (asked_by options h) stamp) before done after) (ok_same (sym is ∙ gives)) (λ on database opens. inr (read, does on database opens))
 
 pub is_loaded : {a : Changelog} {fault : LoadFault} {meant : Loaded Changelog} {done : Result Done Status} → meant ≡ Ok a → meant ≡ Err fault → IsNotLoaded fault done
 is_loaded is gives = absurd (ok_err (sym is ∙ gives))
@@ -110,6 +105,11 @@ module _ (told : Files) (meant : Source → Loaded Changelog) (f : LoadFault) wh
   fails_does (inl (inl is)) source tells g gives job given before = λ on database opens. inl (inr (ap (λ (e : LoadFault). failing (file_status e)) is), refl)
   fails_does (inl (inr is)) source tells g gives job given before = λ on database opens. inl (inl (ap (λ (e : LoadFault). failing (file_status e)) is), refl)
   fails_does (inr all) source tells g gives job given before = absurd (err_ok (sym (all source tells) ∙ gives))
+
+  pub fails_in_vain : {D : Type 0} → Finds told meant (Err f) → (source : Source) → IsTold told source → (g : Changelog) → meant source ≡ Ok g → (disk : D) → InVain (failing (file_status f)) disk disk
+  fails_in_vain (inl (inl is)) source tells g gives disk = (inr (inr (ap (λ (e : LoadFault). failing (file_status e)) is)), refl)
+  fails_in_vain (inl (inr is)) source tells g gives disk = (inr (inl (ap (λ (e : LoadFault). failing (file_status e)) is)), refl)
+  fails_in_vain (inr all) source tells g gives disk = absurd (err_ok (sym (all source tells) ∙ gives))
 
   pub fault_given : Finds told meant (Err f) → (fault : LoadFault) → failing (file_status f) ≡ Err (status.Changelog fault) → (source : Source) → IsTold told source → meant source ≡ Err fault
   fault_given (inl (inl is)) fault told_is source tells = absurd (memory_not (ap file_status (sym is) ∙ same_status told_is)) where
@@ -248,11 +248,11 @@ soak_disk done kind is = false_true (subst (Refuses is_diskless) is kind)
 
 module _ (words : List (List ℕ)) (files : Files) (line : Line) (is_line : line_of words ≡ Some line) where
   pub line_does : (stamp : Stamp) (before : Option (List ℕ)) (done : Result Done Status) (after : Option (List ℕ))
-      → ((source : Source) (g : Changelog) → IsTold files source → given_to source line ≡ Ok g → DoesLine line.job (given_at (asked_by line.options g) stamp) before done after)
+      → ((source : Source) (whole g : Changelog) → IsTold files source → given_to source line ≡ Ok whole → part_for line.job whole ≡ Some g → DoesLine line.job (given_at (asked_by line.options g) stamp) before done after)
       → (asks : Asks words files) → DoesLine asks.line.job (given_at (asked_by asks.line.options asks.changelog) stamp) before done after
   line_does stamp before done after does asks =
-      subst (λ (l : Line). (source : Source) (g : Changelog) → IsTold files source → given_to source l ≡ Ok g → DoesLine l.job (given_at (asked_by l.options g) stamp) before done after)
-      (some_line (sym is_line ∙ asks.is_line)) does asks.source asks.changelog asks.told asks.gives
+      subst (λ (l : Line). (source : Source) (whole g : Changelog) → IsTold files source → given_to source l ≡ Ok whole → part_for l.job whole ≡ Some g → DoesLine l.job (given_at (asked_by l.options g) stamp) before done after)
+      (some_line (sym is_line ∙ asks.is_line)) does asks.source asks.whole asks.changelog asks.told asks.gives asks.is_part
 
   pub line_fails : (done : Result Done Status) → ((source : Source) → IsTold files source → (fault : LoadFault) → given_to source line ≡ Err fault → IsNotLoaded fault done)
       → (fault : LoadFault) → HasFault words files fault → IsNotLoaded fault done

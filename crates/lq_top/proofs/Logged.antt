@@ -6,17 +6,19 @@ use Rattle.std.specs.Prelude.{Bool, Err, List, Ok, Option, Result, Some, [], fal
 use Rattle.lq_base.specs.declared.command.Command.TheVariants as command
 use Rattle.lq_base.specs.declared.command.Target.{Target}
 use Rattle.lq_cli.specs.Line.{line_of}
+use Rattle.lq_cli.specs.Job.{goal_of}
 use Rattle.lq_cli.specs.declared.line.Job.{Job}
-use Rattle.lq_cli.specs.declared.line.Job.TheVariants.{Drill, RollbackSql, Run, Soak, UpdateSql}
+use Rattle.lq_cli.specs.declared.line.Job.TheVariants.{Drill, History, RollbackSql, Run, Soak, UpdateCount, UpdateSql, UpdateTo}
 use Rattle.lq_commands.proofs.Warned.{back_quiet}
 use Rattle.lq_commands.specs.Inserts.{TellsSync, synced_in}
 use Rattle.lq_commands.specs.Outputs.{TellsJob, TellsText, at_once_text, back_in, released_text}
+use Rattle.lq_commands.specs.Parts.{counted_in}
 use Rattle.lq_commands.specs.Refusals.{if_halts, invalid, own_halt, unready}
 use Rattle.lq_commands.specs.Scripts.{log_in, sets_in, updated_in}
 use Rattle.lq_commands.specs.Tells.{TellsRollback, TellsUpdate}
 use Rattle.lq_commands.specs.Works.{is_finished}
 use Rattle.lq_commands.specs.declared.given.Given.{Given}
-use Rattle.lq_report.specs.Output.{tagged_text, validated_text}
+use Rattle.lq_report.specs.Output.{history_text, tagged_text, validated_text}
 use Rattle.lq_seen.specs.View.{any_meaning}
 use Rattle.lq_tell.specs.Lines.{status_lines, warning_line, warning_lines}
 use Rattle.lq_tell.specs.Log.{log_text, stands_alone, warnings_of}
@@ -32,7 +34,7 @@ use Rattle.lq_turns.specs.declared.choice.Choice.TheVariants as choice
 use Rattle.lq_turns.specs.declared.stamp.Stamp.{Stamp}
 use Rattle.lq_top.proofs.Said.{halted_is}
 use Rattle.lq_top.proofs.Written.{Does, IsWritten, failed_unfinished, false_true, lines_same, none_some, quiet_invalid, quiet_unready, refused_for, was_over}
-use Rattle.lq_top.specs.Asks.{Asks, Files, asked_tag, back_tag}
+use Rattle.lq_top.specs.Asks.{Asks, Files, asked_tag}
 use Rattle.lq_top.specs.Jobs.{DoesJob, DoesLine, is_on_file, job_refusal}
 use Rattle.lq_top.specs.Run.{given_by, is_over}
 use Rattle.lq_top.specs.Says.{Warns, job_warnings}
@@ -97,6 +99,9 @@ ok_warned (Run (command.Tag name)) given database done on tells finished = text_
 ok_warned (Run (command.Rollback target)) given database done on tells finished = rollback_warned given database done false target (tells finished)
 ok_warned (Run command.Sync) given database done on tells finished = sync_warned given database done (tells finished)
 ok_warned (Run command.Release) given database done on tells finished = text_warned given database done (released_text database.lock) (tells finished)
+ok_warned (UpdateCount count) given database done on tells finished = update_warned (counted_in count given database.rows) database done false (tells finished)
+ok_warned (UpdateTo tag) given database done on tells finished = update_warned given database done false (tells finished)
+ok_warned History given database done on tells finished = text_warned given database done (history_text database.rows) (tells finished)
 ok_warned UpdateSql given database done on tells finished = update_warned given database done true (tells finished)
 ok_warned (RollbackSql target) given database done on tells finished = rollback_warned given database done true target (tells finished)
 ok_warned (Drill path) given database done on tells finished = absurd (false_true on)
@@ -111,6 +116,12 @@ err_warned (Run (command.Tag name)) given database x refused finished = refl
 err_warned (Run (command.Rollback target)) given database x refused finished = refl
 err_warned (Run command.Sync) given database x refused finished = refl
 err_warned (Run command.Release) given database x refused finished = refl
+err_warned (UpdateCount count) given database x refused finished =
+    let part = counted_in count given database.rows in
+    own_quiet false part database x (halted_is (unready part database) (own_halt part database) x (quiet_unready part database) refused finished)
+err_warned (UpdateTo tag) given database x refused finished =
+    own_quiet false given database x (halted_is (unready given database) (own_halt given database) x (quiet_unready given database) refused finished)
+err_warned History given database x refused finished = refl
 err_warned UpdateSql given database x refused finished =
     own_quiet true given database x (halted_is (invalid given database.rows) (own_halt given database) x (quiet_invalid given database.rows) refused finished)
 err_warned (RollbackSql target) given database x refused finished = refl
@@ -142,4 +153,4 @@ has_warned {words} asks stamp file left done s tag before after by does tagged i
     ∙ ap (λ (lines : List ℕ). option_map (λ (log : List ℕ). log ++ lines) before)
     (ap (λ (alone : Bool). (if alone then [] else warnings_of done) ++ status_lines tag s) (beside_over s over)
     ∙ (ap (λ (lines : List ℕ). lines ++ status_lines tag s) warned
-    ∙ ap (λ (lines : List ℕ). job_warnings job given database ++ lines) (lines_same tag (back_tag job) done s by.ended (tag_is tag (asked_tag (line_of words)) (back_tag job) (ap asked_tag asks.is_line) tagged))))
+    ∙ ap (λ (lines : List ℕ). job_warnings job given database ++ lines) (lines_same tag (goal_of job) done s by.ended (tag_is tag (asked_tag (line_of words)) (goal_of job) (ap asked_tag asks.is_line) tagged))))

@@ -1,21 +1,18 @@
 -- What a command did on a database that was loaded, and on the disk that it was loaded from.
 use Rattle.std.proofs.Common.{ap, arith, refl, subst, sym, ◌∙◌}
 use Rattle.std.specs.Prelude.{Err, IfSome, List, Ok, Option, Result, false, true, ℕ, ◌≡◌, ◌≤◌}
-use Rattle.lq_base.specs.declared.command.Command.{Command}
 use Rattle.lq_base.specs.declared.dialect.Dialect.{Dialect}
 use Rattle.lq_cli.specs.declared.line.Job.{Job}
-use Rattle.lq_cli.specs.declared.line.Job.TheVariants as job
-use Rattle.lq_commands.proofs.PlainRefusals.{refusal_plain}
 use Rattle.lq_commands.specs.Outputs.{TellsJob}
-use Rattle.lq_commands.specs.Refusals.{Answers, refusal}
-use Rattle.lq_commands.specs.Scripts.{script}
-use Rattle.lq_commands.specs.Works.{CrashesIn, IsKept, IsReady, OnIts, Works, is_finished, only_reads}
+use Rattle.lq_commands.specs.Refusals.{Answers}
+use Rattle.lq_commands.specs.Works.{CrashesIn, IsKept, IsReady, OnIts, Works, is_finished}
 use Rattle.lq_commands.specs.declared.given.Given.{Given}
 use Rattle.lq_db.specs.Db.{IsDb, IsNew, IsValid, crashes as crashes_of, disk_in, state}
 use Rattle.lq_db.specs.Load.{IsDbFault}
 use Rattle.lq_entries.specs.Load.{catalogue_of}
 use Rattle.lq_db.specs.declared.db.Db.{Db}
 use Rattle.lq_journal.specs.declared.fault.LoadFault.{LoadFault}
+use Rattle.lq_journal.specs.declared.fault.LoadFault.TheVariants as load
 use Rattle.lq_outside.specs.Count.{Rose}
 use Rattle.lq_outside.specs.Crash.{Crashes as DiskCrashes, IsSound, LeavesOnly, Settled}
 use Rattle.lq_store.specs.Executor.{Held, kept}
@@ -24,12 +21,13 @@ use Rattle.lq_tell.specs.declared.done.Done.{Done}
 use Rattle.lq_tell.specs.declared.status.Status.{Status}
 use Rattle.lq_tell.specs.declared.status.Status.TheVariants as status
 use Rattle.lq_top.proofs.DamagedFiles.{load_spares, memory_spares, no_damage, spares_after}
+use Rattle.lq_top.proofs.InPart.{has_aim, memory_aim, no_goal, own_beside, own_plain}
 use Rattle.lq_top.proofs.LeftOnFile.{since_after, since_none, since_read}
 use Rattle.lq_top.proofs.OnFiles.{does_nothing, does_there, fault_kind, fault_rises, fault_tells, load_unfinished, memory_kind, memory_no_disk, memory_tells, memory_unfinished, moments_there, refused_does, rose_later, settled_after}
 use Rattle.lq_top.proofs.OnReady.{ready_kind, ready_tells}
 use Rattle.lq_top.proofs.Ready.{opened}
 use Rattle.lq_top.specs.Bytes.{OnFile, TellsDamage, load_status, most_bytes}
-use Rattle.lq_top.specs.Jobs.{DoesJob, is_apart, is_command, is_on_file}
+use Rattle.lq_top.specs.Jobs.{DoesJob, goes_on, is_apart, is_on_file, is_own, job_reads, job_refusal, job_script, misses}
 use Rattle.lq_top.specs.Kinds.{IsOfDatabase}
 use Rattle.lq_top.specs.Worked.{CrashesJob, WorkedOn}
 
@@ -39,14 +37,19 @@ true_false h = Prim.cc
 false_true : false ≡ true → ⊥
 false_true h = Prim.cc
 
+load_aim : (job : Job) (f : LoadFault) → misses job (load_status f) ≡ false
+load_aim job load.Disk = refl
+load_aim job (load.Damaged place) = refl
+load_aim job load.OutOfMemory = refl
+
 same_count : (a b : ℕ) → a ≡ b → b ≤ a
 same_count a b is = omega arith
 
 module _ {D : Type 0} (told : D → Option (List ℕ)) (faults : D → ℕ) (crashes : D → DiskCrashes) where
   -- a job that is not on the file
-  pub aside_worked : (job : Job) (given : Given) (disk : D) (done : Result Done Status) → is_on_file job ≡ false → is_apart job ≡ true → is_command job ≡ false → TellsDamage given.options.dialect (told disk) done → IsOfDatabase done → (done ≡ Err status.DiskFault → ⊥)
+  pub aside_worked : (job : Job) (given : Given) (disk : D) (done : Result Done Status) → is_on_file job ≡ false → is_apart job ≡ true → is_own job ≡ false → goes_on job ≡ false → TellsDamage given.options.dialect (told disk) done → IsOfDatabase done → (done ≡ Err status.DiskFault → ⊥)
       → WorkedOn told faults crashes job given disk done disk
-  aside_worked job given disk done off apart none damaged kind no_fault = record {
+  aside_worked job given disk done off apart none no_tag damaged kind no_fault = record {
     used = record {
       damaged = damaged;
       spares = λ beside. absurd (true_false (sym apart ∙ beside));
@@ -56,6 +59,7 @@ module _ {D : Type 0} (told : D → Option (List ℕ)) (faults : D → ℕ) (cra
       fault = λ is. absurd (no_fault is);
     };
     kind = kind;
+    has_part = no_goal job done no_tag;
     does = λ on. absurd (true_false (sym on ∙ off));
     any_moment = λ on. absurd (true_false (sym on ∙ off));
   }
@@ -76,80 +80,84 @@ module _ {D : Type 0} (told : D → Option (List ℕ)) (faults : D → ℕ) (cra
     settled_kept : left ≡ db → Settled (told (disk_in left)) (crashes (disk_in left))
     settled_kept same = subst (λ (db : Db D P E). Settled (told (disk_in db)) (crashes (disk_in db))) (sym same) is.whole.settled
 
-    pub worked : (c : Command) (r : Result Done Status) → OnIts d x (λ database. Answers (refusal c given database) r) → OnIts d x (λ database. IsKept (refusal c given database) db left) → (only_reads c ≡ true → left ≡ db)
-        → OnIts d x (λ database. Works d (script c given database) database x r y) → OnIts d x (λ database. CrashesIn d (script c given database) database x (crashes_of (crashes (disk_in db)) db) (crashes_of (crashes (disk_in left)) left))
-        → OnIts d x (λ database. TellsJob (job.Run c) given database r) → faults (disk_in db) ≤ faults (disk_in left) → (r ≡ Err status.DiskFault → Rose (faults (disk_in db)) (faults (disk_in left)))
-        → WorkedOn told faults crashes (job.Run c) given (disk_in db) r (disk_in left)
-    worked c r answers refused reads works moments tells later fault = record {
+    pub worked : (job : Job) → is_own job ≡ true → (r : Result Done Status) → OnIts d x (λ database. Answers (job_refusal job given database) r) → OnIts d x (λ database. IsKept (job_refusal job given database) db left) → (job_reads job ≡ true → left ≡ db)
+        → OnIts d x (λ database. Works d (job_script job given database) database x r y) → OnIts d x (λ database. CrashesIn d (job_script job given database) database x (crashes_of (crashes (disk_in db)) db) (crashes_of (crashes (disk_in left)) left))
+        → OnIts d x (λ database. TellsJob job given database r) → faults (disk_in db) ≤ faults (disk_in left) → (r ≡ Err status.DiskFault → Rose (faults (disk_in db)) (faults (disk_in left)))
+        → WorkedOn told faults crashes job given (disk_in db) r (disk_in left)
+    worked job own r answers refused reads works moments tells later fault = record {
       used = record {
-        damaged = ready_tells d d refl x ready (refusal c given) (refusal_plain given c) r answers (told (disk_in db));
+        damaged = ready_tells d d refl x ready (job_refusal job given) (own_plain job own given) r answers (told (disk_in db));
         spares = λ beside place damaged. no_damage d (told (disk_in db)) (kept h) read place damaged;
         safe = λ command finished.
-            settled_after d p (script c given ready.database) ready.database x (told (disk_in left)) (crashes (disk_in left)) k left valid (refusal c given ready.database) r (answers ready.database ready.has)
+            settled_after d p (job_script job given ready.database) ready.database x (told (disk_in left)) (crashes (disk_in left)) k left valid (job_refusal job given ready.database) r (answers ready.database ready.has)
             (λ some. settled_kept (refused ready.database ready.has some)) (works ready.database ready.has) finished;
-        off = λ off. absurd (false_true off);
+        off = λ off. absurd (true_false (sym off ∙ own_beside job own));
         later = later;
         fault = fault;
       };
-      kind = ready_kind d d refl x ready (refusal c given) (refusal_plain given c) r answers;
+      has_part = has_aim job own given ready.database r (answers ready.database ready.has);
+      kind = ready_kind d d refl x ready (job_refusal job given) (own_plain job own given) r answers;
       does = λ on database opens.
           let has = opened d p (told (disk_in db)) (crashes (disk_in db)) h db is new (told (disk_in db)) database refl read opens in
-          does_there d p (told (disk_in db)) (crashes (disk_in db)) h db is new.limit_is opens.bytes opens.told_is (told (disk_in left)) (crashes (disk_in left)) k left valid database has c given r refl
+          does_there d p (told (disk_in db)) (crashes (disk_in db)) h db is new.limit_is opens.bytes opens.told_is (told (disk_in left)) (crashes (disk_in left)) k left valid database has job own given r refl
           (answers database has) (λ some. ap (λ (db : Db D P E). told (disk_in db)) (refused database has some)) (λ only. ap (λ (db : Db D P E). told (disk_in db)) (reads only)) (works database has) (tells database has);
       any_moment = λ on database opens.
           let has = opened d p (told (disk_in db)) (crashes (disk_in db)) h db is new (told (disk_in db)) database refl read opens in
           moments_there d p (told (disk_in db)) (crashes (disk_in db)) h db is new.limit_is opens.bytes opens.told_is (told (disk_in left)) (crashes (disk_in left)) k left valid database has
-          (script c given database) r (works database has) (moments database has);
+          (job_script job given database) r (works database has) (moments database has);
     }
 
   module _ (given : Given) (disk : D) where
     -- there was no memory for it
-    pub memory_worked : (c : Command) (s : Status) → s ≡ status.OutOfMemory → WorkedOn told faults crashes (job.Run c) given disk (Err s) disk
-    memory_worked c s memory = record {
+    pub memory_worked : (job : Job) (s : Status) → s ≡ status.OutOfMemory → WorkedOn told faults crashes job given disk (Err s) disk
+    memory_worked job s memory = record {
       used = record {
         damaged = memory_tells given.options.dialect (told disk) s memory;
-        spares = λ beside place damaged. memory_spares place (told disk) (Err s) (told disk) s memory refl refl;
+        spares = λ beside place damaged. memory_spares job place (told disk) (Err s) (told disk) s memory refl refl;
         safe = λ command finished. absurd (memory_unfinished s memory finished);
         off = λ off. refl;
         later = same_count (faults disk) (faults disk) refl;
         fault = λ is. absurd (memory_no_disk s memory is);
       };
       kind = memory_kind s memory;
-      does = λ on database opens. does_nothing c given database (told disk) (told disk) s memory opens refl;
-      any_moment = λ on database opens. since_none given.options.dialect (script c given database) database (told disk) (crashes disk);
+      has_part = memory_aim job s memory;
+      does = λ on database opens. does_nothing job given database (told disk) (told disk) s memory opens refl;
+      any_moment = λ on database opens. since_none given.options.dialect (job_script job given database) database (told disk) (crashes disk);
     }
 
     module _ (sound : IsSound (told disk) (crashes disk)) (after : D) (same : told after ≡ told disk) (later : faults disk ≤ faults after) (read : LeavesOnly (crashes disk) (crashes after) (crashes disk).leaves) where
       -- what was done on the disk as it was read is done on the disk
-      pub worked_after : (c : Command) (r : Result Done Status) (last : D) → WorkedOn told faults crashes (job.Run c) given after r last → WorkedOn told faults crashes (job.Run c) given disk r last
-      worked_after c r last did = record {
+      pub worked_after : (job : Job) → is_own job ≡ true → (r : Result Done Status) (last : D) → WorkedOn told faults crashes job given after r last → WorkedOn told faults crashes job given disk r last
+      worked_after job own r last did = record {
         used = record {
           damaged = subst (λ o. TellsDamage given.options.dialect o r) same did.used.damaged;
-          spares = λ beside place damaged. spares_after given.options.dialect (told disk) (told after) same r (told last) place (did.used.spares beside place) damaged;
+          spares = λ beside place damaged. spares_after job given.options.dialect (told disk) (told after) same r (told last) place (did.used.spares beside place) damaged;
           safe = did.used.safe;
-          off = λ off. absurd (false_true off);
+          off = λ off. absurd (true_false (sym off ∙ own_beside job own));
           later = omega (arith, later, did.used.later);
           fault = λ is. rose_later (faults disk) (faults after) (faults last) later (did.used.fault is);
         };
         kind = did.kind;
-        does = subst (λ (before : Option (List ℕ)). is_on_file (job.Run c) ≡ true → OnFile given.options.dialect before (λ database. DoesJob (job.Run c) given database before r (told last))) same did.does;
+        has_part = did.has_part;
+        does = subst (λ (before : Option (List ℕ)). is_on_file job ≡ true → OnFile given.options.dialect before (λ database. DoesJob job given database before r (told last))) same did.does;
         any_moment = λ on database opens.
-            since_after given.options.dialect (script c given database) database (told disk) (crashes disk) sound (crashes after) (crashes last) read
-            (subst (λ o. CrashesJob (job.Run c) given o (crashes after) (crashes last)) same did.any_moment on database opens);
+            since_after given.options.dialect (job_script job given database) database (told disk) (crashes disk) sound (crashes after) (crashes last) read
+            (subst (λ o. CrashesJob job given o (crashes after) (crashes last)) same did.any_moment on database opens);
       }
 
       -- it could not be loaded
-      pub fault_worked : (c : Command) (f : LoadFault) (s : Status) → s ≡ load_status f → IsDbFault given.options.dialect most_bytes (told disk) (faults disk) (faults after) f → WorkedOn told faults crashes (job.Run c) given disk (Err s) after
-      fault_worked c f s is_status is = record {
+      pub fault_worked : (job : Job) → is_own job ≡ true → (f : LoadFault) (s : Status) → s ≡ load_status f → IsDbFault given.options.dialect most_bytes (told disk) (faults disk) (faults after) f → WorkedOn told faults crashes job given disk (Err s) after
+      fault_worked job own f s is_status is = record {
         used = record {
           damaged = subst (λ s. TellsDamage given.options.dialect (told disk) (Err s)) (sym is_status) (fault_tells given.options.dialect (told disk) (faults disk) (faults after) f is);
-          spares = λ beside place damaged. load_spares given.options.dialect (told disk) (told after) (faults disk) (faults after) f s is_status is same place damaged;
+          spares = λ beside place damaged. load_spares job given.options.dialect (told disk) (told after) (faults disk) (faults after) f s is_status is same place damaged;
           safe = λ command finished. absurd (load_unfinished f (subst (λ s. is_finished s ≡ true) is_status finished));
-          off = λ off. absurd (false_true off);
+          off = λ off. absurd (true_false (sym off ∙ own_beside job own));
           later = later;
           fault = fault_rises given.options.dialect (told disk) (faults disk) (faults after) f s is_status is;
         };
         kind = subst (λ s. IsOfDatabase (Err s)) (sym is_status) (fault_kind f);
-        does = λ on. refused_does (told disk) (told after) (faults disk) (faults after) f s is_status c given is same;
-        any_moment = λ on database opens. since_read given.options.dialect (script c given database) database (told disk) (crashes disk) sound (crashes after) read;
+        has_part = ap (misses job) is_status ∙ load_aim job f;
+        does = λ on. refused_does (told disk) (told after) (faults disk) (faults after) f s is_status job given is same;
+        any_moment = λ on database opens. since_read given.options.dialect (job_script job given database) database (told disk) (crashes disk) sound (crashes after) read;
       }

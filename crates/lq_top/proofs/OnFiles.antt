@@ -1,13 +1,11 @@
 -- What a command does on a database that was loaded from a file.
 use Rattle.std.proofs.Common.{ap, arith, inl, inr, refl, subst, sym, ◌∙◌}
 use Rattle.std.specs.Prelude.{Bool, Err, IfOk, IfSome, List, None, Ok, Option, Result, Some, false, is_some, map, true, ℕ, ◌+◌, ◌≡◌, ◌≤◌}
-use Rattle.lq_base.specs.declared.command.Command.{Command}
 use Rattle.lq_base.specs.declared.dialect.Dialect.{Dialect}
-use Rattle.lq_cli.specs.declared.line.Job.TheVariants as job
+use Rattle.lq_cli.specs.declared.line.Job.{Job}
 use Rattle.lq_commands.specs.Outputs.{TellsJob}
-use Rattle.lq_commands.specs.Refusals.{Answers, IsFault, refusal}
-use Rattle.lq_commands.specs.Scripts.{script}
-use Rattle.lq_commands.specs.Works.{CrashesIn, TellsRoom, Works, is_finished, only_reads}
+use Rattle.lq_commands.specs.Refusals.{Answers, IsFault}
+use Rattle.lq_commands.specs.Works.{CrashesIn, TellsRoom, Works, is_finished}
 use Rattle.lq_commands.specs.declared.given.Given.{Given}
 use Rattle.lq_db.specs.Db.{IsDb, IsValid, state}
 use Rattle.lq_db.specs.Load.{IsDbFault}
@@ -36,13 +34,14 @@ use Rattle.lq_tell.specs.declared.status.Status.TheVariants as status
 use Rattle.lq_track.specs.Database.{Database}
 use Rattle.lq_turns.specs.Session.{all_called, session_on}
 use Rattle.lq_turns.specs.declared.call.Call.{Call}
+use Rattle.lq_top.proofs.InPart.{own_calls}
 use Rattle.lq_top.proofs.InUse.{used_in}
 use Rattle.lq_top.proofs.LeftOnFile.{is_left_on, since_on}
 use Rattle.lq_top.proofs.Ready.{becomes}
 use Rattle.lq_top.proofs.RefusedKinds.{answers_disk, answers_memory}
 use Rattle.lq_top.proofs.Unchanged.{had_room, left_same, says_full}
-use Rattle.lq_top.specs.Bytes.{Becomes, IsFullOn, IsLeftOn, OnFile, Opens, TellsDamage, TellsRoomOn, WorksOn, in_use, load_status, most_bytes}
-use Rattle.lq_top.specs.Jobs.{DoesJob}
+use Rattle.lq_top.specs.Bytes.{Becomes, HadRoomOn, IsFullOn, IsLeftOn, OnFile, Opens, SaysFullOn, TellsDamage, TellsRoomOn, WorksOn, in_use, load_status, most_bytes}
+use Rattle.lq_top.specs.Jobs.{DoesJob, is_own, job_reads, job_refusal, job_script}
 use Rattle.lq_top.specs.Kinds.{IsOfDatabase}
 use Rattle.lq_top.specs.Worked.{CrashesSince}
 
@@ -147,10 +146,10 @@ module _ {D P E : Type 0} (d p : Dialect) (told : Option (List ℕ)) (crashes : 
   room_there calls (Err s) behind = tt
 
   -- what a command does on the database it does on the file
-  pub does_there : (c : Command) (given : Given) (r : Result Done Status) → given.options.dialect ≡ d → Answers (refusal c given database) r → (is_some (refusal c given database) ≡ true → now ≡ told) → (only_reads c ≡ true → now ≡ told)
-      → Works d (script c given database) database x r y → TellsJob (job.Run c) given database r → DoesJob (job.Run c) given database told r now
-  does_there c given r dialect answers kept reads works tells =
-      let calls = script c given database in
+  pub does_there : (job : Job) → is_own job ≡ true → (given : Given) (r : Result Done Status) → given.options.dialect ≡ d → Answers (job_refusal job given database) r → (is_some (job_refusal job given database) ≡ true → now ≡ told) → (job_reads job ≡ true → now ≡ told)
+      → Works d (job_script job given database) database x r y → TellsJob job given database r → DoesJob job given database told r now
+  does_there job own given r dialect answers kept reads works tells =
+      let calls = job_script job given database in
       let room = subst (λ e. IfOk r (λ (ended : Done). TellsRoomOn e calls database told ended.status)) (sym dialect) (room_there calls r works) in
       record {
         answers = answers;
@@ -158,8 +157,8 @@ module _ {D P E : Type 0} (d p : Dialect) (told : Option (List ℕ)) (crashes : 
         reads = reads;
         works = subst (λ e. WorksOn e calls database told r now) (sym dialect) (works_there calls r works);
         tells = tells;
-        room = had_room given.options.dialect calls database told r room;
-        full = says_full given.options.dialect calls database told r room;
+        room = subst (λ calls. IfOk r (λ (ended : Done). is_finished ended.status ≡ true → HadRoomOn given.options.dialect calls database told)) (sym (own_calls job own given database)) (had_room given.options.dialect calls database told r room);
+        full = subst (λ calls. IfOk r (λ (ended : Done). SaysFullOn given.options.dialect calls database told ended.status)) (sym (own_calls job own given database)) (says_full given.options.dialect calls database told r room);
       }
 
   -- and what a crash may leave of the journal it may leave of the file
@@ -190,10 +189,10 @@ module _ {D P E : Type 0} (d p : Dialect) (calls : List Call) (database : Databa
   settled_after o (Err s) answers kept works finished = kept (is_refused o s answers finished)
 
 -- one that met no memory has done nothing
-pub does_nothing : (c : Command) (given : Given) (database : Database) (told now : Option (List ℕ)) (s : Status) → s ≡ status.OutOfMemory → Opens given.options.dialect told database → now ≡ told → DoesJob (job.Run c) given database told (Err s) now
-does_nothing c given database told now s memory opens same =
-    subst (λ s. DoesJob (job.Run c) given database told (Err s) now) (sym memory)
-    (record { answers = answers_memory (refusal c given database); refused = λ some. same; reads = λ only. same; works = left_same given.options.dialect (script c given database) database told now opens same; tells = tt; room = tt; full = tt })
+pub does_nothing : (job : Job) (given : Given) (database : Database) (told now : Option (List ℕ)) (s : Status) → s ≡ status.OutOfMemory → Opens given.options.dialect told database → now ≡ told → DoesJob job given database told (Err s) now
+does_nothing job given database told now s memory opens same =
+    subst (λ s. DoesJob job given database told (Err s) now) (sym memory)
+    (record { answers = answers_memory (job_refusal job given database); refused = λ some. same; reads = λ only. same; works = left_same given.options.dialect (job_script job given database) database told now opens same; tells = tt; room = tt; full = tt })
 
 pub memory_kind : (s : Status) → s ≡ status.OutOfMemory → IsOfDatabase (Err s)
 memory_kind s memory = subst (λ s. IsOfDatabase (Err s)) (sym memory) refl
@@ -255,15 +254,15 @@ fault_kind (load.Damaged place) = refl
 fault_kind load.OutOfMemory = refl
 
 -- a file that could not be loaded is as it was
-pub refused_does : (told now : Option (List ℕ)) (before later : ℕ) (fault : LoadFault) (s : Status) → s ≡ load_status fault → (c : Command) (given : Given) → IsDbFault given.options.dialect most_bytes told before later fault → now ≡ told
-    → OnFile given.options.dialect told (λ database. DoesJob (job.Run c) given database told (Err s) now)
-refused_does told now before later fault s is_status c given is same database opens =
-    subst (λ s. DoesJob (job.Run c) given database told (Err s) now) (sym is_status)
+pub refused_does : (told now : Option (List ℕ)) (before later : ℕ) (fault : LoadFault) (s : Status) → s ≡ load_status fault → (job : Job) (given : Given) → IsDbFault given.options.dialect most_bytes told before later fault → now ≡ told
+    → OnFile given.options.dialect told (λ database. DoesJob job given database told (Err s) now)
+refused_does told now before later fault s is_status job given is same database opens =
+    subst (λ s. DoesJob job given database told (Err s) now) (sym is_status)
     (record {
-      answers = fault_answers given.options.dialect told before later fault (refusal c given database) database is opens;
+      answers = fault_answers given.options.dialect told before later fault (job_refusal job given database) database is opens;
       refused = λ some. same;
       reads = λ only. same;
-      works = left_same given.options.dialect (script c given database) database told now opens same;
+      works = left_same given.options.dialect (job_script job given database) database told now opens same;
       tells = tt;
       room = tt;
       full = tt;

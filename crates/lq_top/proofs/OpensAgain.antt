@@ -6,9 +6,10 @@ use Rattle.lq_base.specs.declared.command.Command.TheVariants as command
 use Rattle.lq_base.specs.declared.dialect.Dialect.{Dialect}
 use Rattle.lq_base.specs.declared.tracking.Tracked.{Tracked}
 use Rattle.lq_cli.specs.declared.line.Job.{Job}
-use Rattle.lq_cli.specs.declared.line.Job.TheVariants.{Drill, RollbackSql, Run, Soak, UpdateSql}
+use Rattle.lq_cli.specs.declared.line.Job.TheVariants.{Drill, History, RollbackSql, Run, Soak, UpdateCount, UpdateSql, UpdateTo}
 use Rattle.lq_commands.proofs.Planned.{kept}
 use Rattle.lq_commands.proofs.ViewsRead.{views_are_read}
+use Rattle.lq_commands.specs.Parts.{counted_in}
 use Rattle.lq_commands.specs.Scripts.{log_in, rollback_to, script, sets_in}
 use Rattle.lq_commands.specs.declared.given.Given.{Given}
 use Rattle.lq_entries.specs.Load.{folded, if_clean, is_clean, is_clean_database, read_entries, then_at}
@@ -30,6 +31,7 @@ use Rattle.lq_turns.specs.Session.{left_by, session_on}
 use Rattle.lq_turns.specs.declared.call.Call.{Call}
 use Rattle.lq_turns.specs.declared.stamp.Stamp.{Stamp}
 use Rattle.lq_turns.specs.declared.turn.Turn.{Turn}
+use Rattle.lq_top.proofs.InPart.{counted_read}
 use Rattle.lq_top.specs.Asks.{Asks, Files}
 use Rattle.lq_top.specs.Bytes.{Becomes, Holds, IsLeftOn, Opens, most_bytes}
 use Rattle.lq_top.specs.Jobs.{job_script}
@@ -145,6 +147,11 @@ module _ (given : Given) (database : Database) where
     job_first : (job : Job) → AreFirst (job_script job given database)
     job_first (Run c) = script_first c
     job_first UpdateSql = refl
+    job_first (UpdateCount count) =
+        let part = counted_in count given database.rows in
+        update_is_first any_meaning kept d given.stamp (log_in part) database opens.stands.sound (views_are_read d given.options part.changelog (counted_read count given database.rows read))
+    job_first (UpdateTo tag) = script_first command.Update
+    job_first History = refl
     job_first (RollbackSql target) = refl
     job_first (Drill path) = refl
     job_first (Soak number sets) = refl

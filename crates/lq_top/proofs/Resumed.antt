@@ -1,8 +1,10 @@
 -- Commands that go on after stops, and what a stop of one leaves that holds the lock.
 use Rattle.std.proofs.Common.{ap, inl, inr, refl, subst, sym, ◌∙◌}
-use Rattle.std.specs.List.{list_all}
+use Rattle.std.proofs.lemmas.List.Elements.{All-head, All-tail}
+use Rattle.std.specs.List.{All, last_or, list_all}
 use Rattle.std.specs.Option.{option_map, option_or}
 use Rattle.std.specs.Prelude.{Bool, List, None, Ok, Option, Result, Some, [], false, if◌then◌else◌, length, not, option_and_then, true, ℕ, ◌&&◌, ◌++◌, ◌||◌, ◌∷◌, ◌≡◌, ◌⊎◌}
+use Rattle.lq_base.specs.declared.command.Command.{Command}
 use Rattle.lq_base.specs.declared.command.Command.TheVariants as command
 use Rattle.lq_base.specs.declared.command.Target.{Target}
 use Rattle.lq_base.specs.declared.dialect.Dialect.{Dialect}
@@ -11,11 +13,13 @@ use Rattle.lq_base.specs.declared.identity.Identity.{Identity}
 use Rattle.lq_base.specs.declared.reason.Reason.{Reason}
 use Rattle.lq_base.specs.declared.tracking.Lock.{Lock}
 use Rattle.lq_base.specs.declared.tracking.Tracked.{Tracked}
+use Rattle.lq_changelog.specs.ShortTexts.{HasShortTexts}
 use Rattle.lq_cli.specs.declared.line.Job.{Job}
-use Rattle.lq_cli.specs.declared.line.Job.TheVariants.{Drill, RollbackSql, Run, Soak, UpdateSql}
+use Rattle.lq_cli.specs.declared.line.Job.TheVariants.{Drill, History, RollbackSql, Run, Soak, UpdateCount, UpdateSql, UpdateTo}
 use Rattle.lq_commands.proofs.Planned.{kept}
 use Rattle.lq_commands.proofs.ViewsRead.{views_are_read}
 use Rattle.lq_commands.specs.Refusals.{if_halts, if_some, invalid, own_halt, refusal, unready}
+use Rattle.lq_commands.specs.Parts.{counted_in}
 use Rattle.lq_commands.specs.Scripts.{log_in, rollback_to, sets_in, update_script, updated_in}
 use Rattle.lq_commands.specs.Tells.{status_by}
 use Rattle.lq_commands.specs.Works.{is_finished}
@@ -24,10 +28,11 @@ use Rattle.lq_expr.specs.declared.options.Options.{Options}
 use Rattle.lq_kinds.specs.Dialects.{AreFor}
 use Rattle.lq_kinds.specs.declared.any_change.AnyChange.{AnyChange}
 use Rattle.lq_kinds.specs.declared.change_set.ChangeSet.{ChangeSet}
-use Rattle.lq_model.proofs.Lists.{and_true, named_itself}
+use Rattle.lq_model.proofs.Lists.{and_true}
 use Rattle.lq_model.specs.Sound.{IsSound}
 use Rattle.lq_model.specs.declared.caller.Room.TheVariants.{Ordinary}
 use Rattle.lq_run.specs.Stands.{entries_of}
+use Rattle.lq_seen.proofs.OwnSums.{own_sum}
 use Rattle.lq_seen.specs.Selection.{is_met}
 use Rattle.lq_seen.specs.View.{any_meaning, views}
 use Rattle.lq_store.specs.Journal.{Entry}
@@ -65,21 +70,23 @@ use Rattle.lq_turns.specs.declared.deed.OnRows.TheVariants.{Tagged}
 use Rattle.lq_turns.specs.declared.fault.Fault.{Fault}
 use Rattle.lq_turns.specs.declared.stamp.Stamp.{Stamp}
 use Rattle.lq_turns.specs.declared.turn.Turn.{Turn}
+use Rattle.lq_top.proofs.InPart.{command_on_file, counted_read, loaded_command, runs_command, says_command}
 use Rattle.lq_top.proofs.Unchanged.{holds_it}
 use Rattle.lq_top.proofs.Written.{Does, IsWritten, failed_unfinished, false_true, was_over}
 use Rattle.lq_top.specs.Asks.{Asks, Files}
 use Rattle.lq_top.specs.Bytes.{Becomes, IsLeftOn, Opens, most_bytes}
 use Rattle.lq_entries.specs.Log.{entries_in}
-use Rattle.lq_top.specs.Jobs.{DoesLine, is_on_file, job_refusal, job_script}
-use Rattle.lq_top.specs.Resumed.{EndsSo, LeavesMarked, RollbackResumes, StandsHeld, UpdateResumes, turns_to}
+use Rattle.lq_top.specs.Jobs.{DoesLine, IsLoaded, is_on_file, job_refusal, job_script}
+use Rattle.lq_top.specs.Resumed.{EndsSo, LeavesMarked, RollbackResumes, StandsHeld, UpdateHeld, UpdateResumes, turns_to}
 use Rattle.lq_top.specs.Run.{EndsBy, IsOutside, Runs, given_by, is_over}
 use Rattle.lq_top.specs.Says.{Said, SaysJob}
 
 -- what the law on updates asks of a view of a changelog
 
-own_sums : (options : Options) (xs : List ChangeSet) → list_all has_own_sum (views options xs) ≡ true
-own_sums options [] = refl
-own_sums options (x ∷ xs) = and_true _ _ (and_true _ _ (named_itself x.sum) refl) (own_sums options xs)
+own_sums : (options : Options) (xs : List ChangeSet) → All HasShortTexts xs → list_all has_own_sum (views options xs) ≡ true
+own_sums options [] short = refl
+own_sums options (x ∷ xs) short =
+    and_true _ _ (own_sum x.old_sum x.sum (All-head HasShortTexts x xs short).form) (own_sums options xs (All-tail HasShortTexts x xs short))
 
 chosen_here : (here met : Bool) → (not (here && met) || here) ≡ true
 chosen_here true true = refl
@@ -175,9 +182,9 @@ same_calls given database None = refl
 same_calls given database (Some stay) = refl
 
 module _ (job : Job) (given : Given) (before : Option (List ℕ)) (done : Result Done Status) (after : Option (List ℕ)) where
-  -- one that came to its end had a changelog that was read for the dialect
-  was_read : (s : Status) → IsWritten done s → (database : Database) → Does job given database before done after → is_over s ≡ true → AreFor given.options.dialect given.changelog
-  was_read s by database does over = elim does as (λ _. AreFor given.options.dialect given.changelog) [
+  -- one that came to its end had a changelog that was loaded for the dialect
+  was_loaded : (s : Status) → IsWritten done s → (database : Database) → Does job given database before done after → is_over s ≡ true → IsLoaded given.options.dialect given.changelog
+  was_loaded s by database does over = elim does as (λ _. IsLoaded given.options.dialect given.changelog) [
     | inl failed ↦ absurd (failed_unfinished done failed.0 (was_over done s by over))
     | inr made ↦ made.0
   ]
@@ -192,17 +199,19 @@ module _ {words : List (List ℕ)} {files : Files} (asks : Asks words files) (st
   pub has_resumed : (out_before out_after : Option (List ℕ)) → IsWritten done s → DoesLine asks.line.job (given_by asks stamp) before done after → Runs asks stamp before s after → Said asks stamp before s out_before out_after
       → UpdateResumes asks stamp before s after
   has_resumed out_before out_after by does runs said = λ database opens was over.
-      let on = ap is_on_file was.is_update in
-      let ran = runs on database opens in
-      let read = was_read asks.line.job given before done after s by database (does on database opens) over in
-      let ends = subst (λ (job : Job). EndsBy (job_refusal job given database) s) was.is_update ran.ends in
-      let goes : own_halt given database ≡ None = ap (λ told. if_halts (tested New (log_in given).condition told)) (was.steady.bare (contents_of database)) in
-      let apart = faultless_are_apart AnyChange (sets_in given) database.rows (are_here asks.line.options asks.changelog.sets) (faultless given database s was.stopped.unlocked goes ends over) in
-      let law = updates_at d was.is_postgresql stamp (log_in given) was.start database was.sound was.unlocked (views_are_read d asks.line.options asks.changelog read) (own_sums asks.line.options asks.changelog.sets) apart was.steady was.stopped in
-      let made = subst (λ (job : Job). Becomes d (job_script job given database) database before after) was.is_update (ran.works over) in (
-        (left_by d (update_script given database) database, made.holds, law.0),
-        ends_so (status_by (updated d any_meaning stamp.reading (log_in given) (contents_of was.start)).stop) s over
-            (λ finished. update_status given database s out_before out_after (subst (λ (job : Job). SaysJob job given database s out_before out_after) was.is_update (said database opens finished)) ∙ ap status_by law.1),
+      let job = asks.line.job in
+      let part = was.part in
+      let run : Command × Given = (command.Update, part) in
+      let on = command_on_file given database run job was.is_update in
+      let ran = runs_command given database run job was.is_update before s after (runs on database opens) in
+      let loaded = loaded_command given database run job was.is_update (was_loaded job given before done after s by database (does on database opens) over) in
+      let goes : own_halt part database ≡ None = ap (λ told. if_halts (tested New (log_in part).condition told)) (was.steady.bare (contents_of database)) in
+      let apart = faultless_are_apart AnyChange (sets_in part) database.rows (are_here part.options part.changelog.sets) (faultless part database s was.stopped.unlocked goes ran.ends over) in
+      let law = updates_at part.options.dialect was.is_postgresql part.stamp (log_in part) was.start database was.sound was.unlocked (views_are_read part.options.dialect part.options part.changelog loaded.read) (own_sums part.options part.changelog.sets loaded.short) apart was.steady was.stopped in
+      let made = ran.works over in (
+        (left_by part.options.dialect (update_script part database) database, made.holds, law.0),
+        ends_so (status_by (updated part.options.dialect any_meaning part.stamp.reading (log_in part) (contents_of was.start)).stop) s over
+            (λ finished. update_status part database s out_before out_after (says_command given database run job was.is_update s out_before out_after (said database opens finished)) ∙ ap status_by law.1),
       )
 
   pub has_gone_on_back : Runs asks stamp before s after → RollbackResumes asks stamp before s after
@@ -222,17 +231,17 @@ unlocked_held : (now database : Database) → now.lock ≡ database.lock → dat
 unlocked_held now database same unlocked locked = false_true (sym (ap (λ (lock : Lock). lock.locked) (same ∙ unlocked)) ∙ locked)
 
 module _ (d : Dialect) (database now : Database) where
-  -- a front of the calls' entries that leads there
-  abbrev FrontLed : List Call → Type 0
-  FrontLed calls = (front : Journal) × (rest : Journal) × ((all_called d calls (session_on database)).entries ≡ front ++ rest) × (all_done d (joined front) database ≡ Ok now)
+  -- a front of the calls' entries
+  abbrev IsFront : List Call → Journal → Type 0
+  IsFront calls written = (rest : Journal) × ((all_called d calls (session_on database)).entries ≡ written ++ rest)
 
   -- after the closing entry the lock is free
   closed_free : (before : Database) → all_done d (Locks Freed ∷ []) before ≡ Ok now → now.lock ≡ free
   closed_free before led = ap (λ (e : Database). e.lock) (sym (ok_same led))
 
-  front_led : (calls : List Call) (written : Journal) → IsLeft d calls database [] written → all_done d (joined written) database ≡ Ok now → now.lock.locked ≡ true → FrontLed calls
-  front_led calls written left led locked = elim left.is as (λ _. FrontLed calls) [
-    | inl same ↦ (left.front, left.rest, left.entries, subst (λ (es : Journal). all_done d (joined es) database ≡ Ok now) same led)
+  front_led : (calls : List Call) (written : Journal) → IsLeft d calls database [] written → all_done d (joined written) database ≡ Ok now → now.lock.locked ≡ true → IsFront calls written
+  front_led calls written left led locked = elim left.is as (λ _. IsFront calls written) [
+    | inl same ↦ (left.rest, left.entries ∙ ap (λ (es : Journal). es ++ left.rest) (sym same))
     | inr closed ↦ absurd (closed_held (subst (λ (es : Journal). all_done d (joined es) database ≡ Ok now) closed.0 led))
   ] where
     closed_held : all_done d (joined (left.front ++ (Locks Freed ∷ []) ∷ [])) database ≡ Ok now → ⊥
@@ -248,7 +257,7 @@ module _ (d : Dialect) (database now : Database) where
   none_held : (written : Journal) → IsLeft d [] database [] written → all_done d (joined written) database ≡ Ok now → database.lock ≡ free → now.lock.locked ≡ true → ⊥
   none_held written left led unlocked locked =
       let it = front_led [] written left led locked in
-      unlocked_held now database (none_led it.0 it.1 it.2 it.3) unlocked locked
+      unlocked_held now database (none_led written it.0 it.1 led) unlocked locked
 
   -- nor does a release-locks on a free lock
   release_held : (written : Journal) → IsLeft d (release_calls database) database [] written → all_done d (joined written) database ≡ Ok now → database.lock ≡ free → now.lock.locked ≡ true → ⊥
@@ -275,7 +284,7 @@ tag_held : (d : Dialect) (database now : Database) (tag : List ℕ) (last : Opti
 tag_held d database now tag None written left led unlocked locked = none_held d database now written left led unlocked locked
 tag_held d database now tag (Some row) written left led unlocked locked =
     let it = front_led d database now (tag_of tag (Some row)) written left led locked in
-    unlocked_held now database (tag_led d database now (identity_of row) tag it.0 it.1 (sym (tag_entries d database (identity_of row) tag) ∙ it.2) it.3) unlocked locked
+    unlocked_held now database (tag_led d database now (identity_of row) tag written it.0 (sym (tag_entries d database (identity_of row) tag) ∙ it.1) led) unlocked locked
 
 -- a rollback's calls are those of its turns
 
@@ -288,11 +297,11 @@ module _ (given : Given) (target : Target) (database : Database) where
   turns_by (Some stay) = refl
 
   back_stands : (now : Database) (written : Journal) (o : Option (List Turn)) → turns_to given target database ≡ o → IsLeft given.options.dialect (of_turns o) database [] written → all_done given.options.dialect (joined written) database ≡ Ok now
-      → database.lock ≡ free → now.lock.locked ≡ true → StandsHeld (Run (command.Rollback target)) given database now
+      → database.lock ≡ free → now.lock.locked ≡ true → StandsHeld (Run (command.Rollback target)) given database (last_or None (joined written)) now
   back_stands now written None is left led unlocked locked = absurd (none_held given.options.dialect database now written left led unlocked locked)
   back_stands now written (Some turns) is left led unlocked locked =
       let it = front_led given.options.dialect database now (rollback_of given.options.dialect given.stamp turns database) written left led locked in
-      (turns, is, rollback_stops given.options.dialect given.stamp turns database now it.0 it.1 unlocked it.2 it.3 locked)
+      (turns, is, rollback_stops given.options.dialect given.stamp turns database now written it.0 unlocked it.1 led locked)
 
 -- a file on which nothing was written holds what it held
 
@@ -323,26 +332,38 @@ abbrev IsReadOr : Given → Option (List ℕ) → Option (List ℕ) → Type 0
 IsReadOr given before after = AreFor given.options.dialect given.changelog ⊎ (after ≡ before)
 
 module _ (given : Given) (database : Database) (before after : Option (List ℕ)) (opens : Opens given.options.dialect before database) (unlocked : database.lock ≡ free) where
-  update_stands : AreFor given.options.dialect given.changelog → (left : IsLeftOn given.options.dialect (update_script given database) database before after) → left.now.lock.locked ≡ true → StandsHeld (Run command.Update) given database left.now
+  update_stands : AreFor given.options.dialect given.changelog → (left : IsLeftOn given.options.dialect (update_script given database) database before after) → left.now.lock.locked ≡ true → UpdateHeld given database (last_or None (joined left.written)) left.now
   update_stands read left locked = λ goes.
       let it = front_led given.options.dialect database left.now (update_script given database) left.written left.stops left.led locked in
-      update_stops any_meaning kept given.options.dialect given.stamp (log_in given) database left.now it.0 it.1 opens.stands.sound (views_are_read given.options.dialect given.options given.changelog read) unlocked goes it.2 it.3 locked
+      update_stops any_meaning kept given.options.dialect given.stamp (log_in given) database left.now left.written it.0 opens.stands.sound (views_are_read given.options.dialect given.options given.changelog read) unlocked goes it.1 left.led locked
 
-  stands : (job : Job) → (is_on_file job ≡ true → IsReadOr given before after) → (left : IsLeftOn given.options.dialect (job_script job given database) database before after) → left.now.lock.locked ≡ true → StandsHeld job given database left.now
-  stands (Run command.Validate) read left locked = none_held given.options.dialect database left.now left.written left.stops left.led unlocked locked
-  stands (Run command.Status) read left locked = none_held given.options.dialect database left.now left.written left.stops left.led unlocked locked
-  stands (Run command.Update) read left locked = elim (read refl) as (λ _. StandsHeld (Run command.Update) given database left.now) [
+  held_stands : IsReadOr given before after → (left : IsLeftOn given.options.dialect (update_script given database) database before after) → left.now.lock.locked ≡ true → UpdateHeld given database (last_or None (joined left.written)) left.now
+  held_stands read left locked = elim read as (λ _. UpdateHeld given database (last_or None (joined left.written)) left.now) [
     | inl its ↦ update_stands its left locked
     | inr same ↦ absurd (unlocked_held left.now database (ap (λ (e : Database). e.lock) (sym (same_left given.options.dialect (update_script given database) database before after opens same left))) unlocked locked)
   ]
+
+counted_or : (count : ℕ) (given : Given) (rows : List Tracked) (before after : Option (List ℕ)) → IsReadOr given before after → IsReadOr (counted_in count given rows) before after
+counted_or count given rows before after (inl read) = inl (counted_read count given rows read)
+counted_or count given rows before after (inr same) = inr same
+
+module _ (given : Given) (database : Database) (before after : Option (List ℕ)) (opens : Opens given.options.dialect before database) (unlocked : database.lock ≡ free) where
+  stands : (job : Job) → (is_on_file job ≡ true → IsReadOr given before after) → (left : IsLeftOn given.options.dialect (job_script job given database) database before after) → left.now.lock.locked ≡ true → StandsHeld job given database (last_or None (joined left.written)) left.now
+  stands (Run command.Validate) read left locked = none_held given.options.dialect database left.now left.written left.stops left.led unlocked locked
+  stands (Run command.Status) read left locked = none_held given.options.dialect database left.now left.written left.stops left.led unlocked locked
+  stands (Run command.Update) read left locked = held_stands given database before after opens unlocked (read refl) left locked
   stands (Run (command.Tag name)) read left locked = tag_held given.options.dialect database left.now name (last_row database.rows) left.written left.stops left.led unlocked locked
   stands (Run (command.Rollback target)) read left locked =
       back_stands given target database left.now left.written (turns_to given target database) refl
       (subst (λ (cs : List Call). IsLeft given.options.dialect cs database [] left.written) (turns_by given target database (rows_kept target database.rows)) left.stops) left.led unlocked locked
   stands (Run command.Sync) read left locked =
       let it = front_led given.options.dialect database left.now (job_script (Run command.Sync) given database) left.written left.stops left.led locked in
-      sync_stops AnyChange given.options.dialect given.stamp (log_in given) database left.now it.0 it.1 unlocked it.2 it.3 locked
+      sync_stops AnyChange given.options.dialect given.stamp (log_in given) database left.now left.written it.0 unlocked it.1 left.led locked
   stands (Run command.Release) read left locked = release_held given.options.dialect database left.now left.written left.stops left.led unlocked locked
+  stands (UpdateCount count) read left locked =
+      held_stands (counted_in count given database.rows) database before after opens unlocked (counted_or count given database.rows before after (read refl)) left locked
+  stands (UpdateTo tag) read left locked = held_stands given database before after opens unlocked (read refl) left locked
+  stands History read left locked = none_held given.options.dialect database left.now left.written left.stops left.led unlocked locked
   stands UpdateSql read left locked = none_held given.options.dialect database left.now left.written left.stops left.led unlocked locked
   stands (RollbackSql target) read left locked = none_held given.options.dialect database left.now left.written left.stops left.led unlocked locked
   stands (Drill path) read left locked = none_held given.options.dialect database left.now left.written left.stops left.led unlocked locked
@@ -352,7 +373,7 @@ module _ {words : List (List ℕ)} {files : Files} (asks : Asks words files) (st
   read_or : (database : Database) (done : Result Done Status) (after : Option (List ℕ)) → Does asks.line.job (given_by asks stamp) database before done after → IsReadOr (given_by asks stamp) before after
   read_or database done after does = elim does as (λ _. IsReadOr (given_by asks stamp) before after) [
     | inl failed ↦ inr failed.1
-    | inr made ↦ inl made.0
+    | inr made ↦ inl made.0.read
   ]
 
   -- in the end

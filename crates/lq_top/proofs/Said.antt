@@ -10,10 +10,11 @@ use Rattle.lq_base.specs.declared.dialect.Dialect.{Dialect}
 use Rattle.lq_base.specs.declared.tracking.Lock.{Lock}
 use Rattle.lq_base.specs.declared.tracking.Tracked.{Tracked}
 use Rattle.lq_cli.specs.declared.line.Job.{Job}
-use Rattle.lq_cli.specs.declared.line.Job.TheVariants.{Drill, RollbackSql, Run, Soak, UpdateSql}
+use Rattle.lq_cli.specs.declared.line.Job.TheVariants.{Drill, History, RollbackSql, Run, Soak, UpdateCount, UpdateSql, UpdateTo}
 use Rattle.lq_commands.proofs.Planned.{kept}
 use Rattle.lq_commands.specs.Inserts.{TellsSync, synced_in}
 use Rattle.lq_commands.specs.Outputs.{TellsJob, TellsText, at_once_text, back_in, released_text}
+use Rattle.lq_commands.specs.Parts.{counted_in}
 use Rattle.lq_commands.specs.Refusals.{Answers, held, if_halts, if_not, if_some, invalid, no_way_back, own_halt, refusal, unreachable_by, unready, untagged}
 use Rattle.lq_commands.specs.Scripts.{log_in, nothing_told, rolled_to, sets_in, updated_in}
 use Rattle.lq_commands.specs.Tells.{TellsRollback, TellsUpdate, status_by, update_told}
@@ -21,7 +22,7 @@ use Rattle.lq_commands.specs.Works.{is_finished}
 use Rattle.lq_commands.specs.declared.given.Given.{Given}
 use Rattle.lq_kinds.specs.declared.any_change.AnyChange.{AnyChange}
 use Rattle.lq_outside.specs.Sink.{IsPart}
-use Rattle.lq_report.specs.Output.{sync_text, tagged_text, validated_text}
+use Rattle.lq_report.specs.Output.{history_text, sync_text, tagged_text, validated_text}
 use Rattle.lq_seen.specs.Printing.{Account, of_turns}
 use Rattle.lq_seen.specs.View.{any_meaning}
 use Rattle.lq_tell.specs.Texts.{EndsAs, has_output, out_text, status_done, text_or_none}
@@ -153,6 +154,12 @@ says_ok (Run (command.Tag name)) given database s before after done none tells i
 says_ok (Run (command.Rollback target)) given database s before after done none tells is finished whole = rollback_said given database s before after false target done is (tells finished) whole
 says_ok (Run command.Sync) given database s before after done none tells is finished whole = sync_said given database s before after done is (tells finished) whole
 says_ok (Run command.Release) given database s before after done none tells is finished whole = text_said given database s before after (released_text database.lock) done is (tells finished) whole
+says_ok (UpdateCount count) given database s before after done none tells is finished whole =
+    let part = counted_in count given database.rows in
+    update_said part database s before after false done (or_none (unready part database) (own_halt part database) none) is (tells finished) whole
+says_ok (UpdateTo tag) given database s before after done none tells is finished whole =
+    update_said given database s before after false done (or_none (unready given database) (own_halt given database) none) is (tells finished) whole
+says_ok History given database s before after done none tells is finished whole = text_said given database s before after (history_text database.rows) done is (tells finished) whole
 says_ok UpdateSql given database s before after done none tells is finished whole =
     update_said given database s before after true done (or_none (invalid given database.rows) (own_halt given database) none) is (tells finished) whole
 says_ok (RollbackSql target) given database s before after done none tells is finished whole = rollback_said given database s before after true target done is (tells finished) whole
@@ -171,6 +178,12 @@ says_err (Run (command.Rollback target)) given database s before after x refused
     absurd (quiet_not x _ (quiet_or (unready given database) (unreachable_by given (rows_kept target database.rows) database.rows) (quiet_unready given database) (quiet_way given (rows_kept target database.rows) database.rows)) refused finished)
 says_err (Run command.Sync) given database s before after x refused finished is whole = absurd (quiet_not x _ (quiet_unready given database) refused finished)
 says_err (Run command.Release) given database s before after x refused finished is whole = absurd (none_some refused)
+says_err (UpdateCount count) given database s before after x refused finished is whole =
+    let part = counted_in count given database.rows in
+    update_halted part database s before after false x (halted_is (unready part database) (own_halt part database) x (quiet_unready part database) refused finished) is whole
+says_err (UpdateTo tag) given database s before after x refused finished is whole =
+    update_halted given database s before after false x (halted_is (unready given database) (own_halt given database) x (quiet_unready given database) refused finished) is whole
+says_err History given database s before after x refused finished is whole = absurd (none_some refused)
 says_err UpdateSql given database s before after x refused finished is whole =
     update_halted given database s before after true x (halted_is (invalid given database.rows) (own_halt given database) x (quiet_invalid given database.rows) refused finished) is whole
 says_err (RollbackSql target) given database s before after x refused finished is whole =
@@ -197,6 +210,12 @@ says_line : (job : Job) (given : Given) (file left : Option (List ℕ)) (done : 
     → (has_output s ≡ true → after ≡ option_map (λ (out : List ℕ). out ++ out_text done) before) → OnFile given.options.dialect file (λ database. is_finished s ≡ true → SaysJob job given database s before after)
 says_line (Run c) given file left done s before after ended does whole = λ database opens finished.
     says_does (Run c) given database file left done s before after ended (does refl database opens) finished (whole (finished_output s finished))
+says_line (UpdateCount count) given file left done s before after ended does whole = λ database opens finished.
+    says_does (UpdateCount count) given database file left done s before after ended (does refl database opens) finished (whole (finished_output s finished))
+says_line (UpdateTo tag) given file left done s before after ended does whole = λ database opens finished.
+    says_does (UpdateTo tag) given database file left done s before after ended (does refl database opens) finished (whole (finished_output s finished))
+says_line History given file left done s before after ended does whole = λ database opens finished.
+    says_does History given database file left done s before after ended (does refl database opens) finished (whole (finished_output s finished))
 says_line UpdateSql given file left done s before after ended does whole = λ database opens finished.
     says_does UpdateSql given database file left done s before after ended (does refl database opens) finished (whole (finished_output s finished))
 says_line (RollbackSql target) given file left done s before after ended does whole = λ database opens finished.

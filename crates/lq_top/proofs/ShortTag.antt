@@ -6,12 +6,12 @@ use Rattle.std.specs.Prelude.{Bool, IfSome, List, None, Option, Some, [], false,
 use Rattle.lq_base.specs.Character.{char_count, has_control}
 use Rattle.lq_base.specs.declared.command.Command.TheVariants as command
 use Rattle.lq_base.specs.declared.command.Target.{Target}
-use Rattle.lq_cli.specs.Line.{by_count, drilling, job_of, line_after, line_of, line_with, only_target, rollback, soak, tagging, to_date, to_tag}
+use Rattle.lq_cli.specs.Line.{by_count, counting, drilling, going, job_of, line_after, line_of, line_with, only_target, rollback, soak, tagging, to_date, to_tag}
 use Rattle.lq_cli.specs.Options.{definitions, given_in, value}
 use Rattle.lq_cli.specs.Table.{context_filter, count, date, form_of, label_filter, number, runs, sets, tag, url, verb_of}
 use Rattle.lq_cli.specs.Values.{contexts_of, labels_of, number_from, properties_of, tag_of, url_of}
 use Rattle.lq_cli.specs.declared.line.Job.{Job}
-use Rattle.lq_cli.specs.declared.line.Job.TheVariants.{Drill, RollbackSql, Run}
+use Rattle.lq_cli.specs.declared.line.Job.TheVariants.{Drill, RollbackSql, Run, UpdateCount, UpdateTo}
 use Rattle.lq_cli.specs.declared.line.Line.{Line}
 use Rattle.lq_cli.specs.declared.verb.Verb.{Verb}
 use Rattle.lq_cli.specs.declared.verb.Verb.TheVariants as verb
@@ -78,6 +78,22 @@ drills : (o : Option (List ℕ)) → IfSome (option_map Drill o) HasShort
 drills None = tt
 drills (Some path) = tt
 
+counts : (o : Option ℕ) → IfSome (option_map UpdateCount o) HasShort
+counts None = tt
+counts (Some n) = tt
+
+counting_short : (given : List _) → IfSome (counting given) HasShort
+unfolding counting
+counting_short given = counts (option_and_then (number_from 0 4294967295) (value given count))
+
+goes_to : (o : Option (List ℕ)) → IfSome (option_map UpdateTo o) HasShort
+goes_to None = tt
+goes_to (Some text) = tt
+
+going_short : (given : List _) → IfSome (going given) HasShort
+unfolding going
+going_short given = goes_to (option_and_then tag_of (value given tag))
+
 drilling_short : (given : List _) → IfSome (drilling given) HasShort
 unfolding drilling
 drilling_short given = drills (value given runs)
@@ -94,6 +110,8 @@ job_short verb.Validate given = tt
 job_short verb.Status given = tt
 job_short verb.Update given = tt
 job_short verb.UpdateSql given = tt
+job_short verb.UpdateCount given = counting_short given
+job_short verb.UpdateToTag given = going_short given
 job_short verb.ChangelogSync given = tt
 job_short verb.Rollback given = goes_back (option_and_then to_tag (value given tag))
 job_short verb.RollbackCount given = goes_back (option_and_then by_count (value given count))
@@ -101,6 +119,7 @@ job_short verb.RollbackToDate given = goes_back (option_and_then to_date (value 
 job_short verb.RollbackSql given = prints_back (only_target given)
 job_short verb.Tag given = tagging_short given
 job_short verb.ReleaseLocks given = tt
+job_short verb.History given = tt
 job_short verb.Drill given = drilling_short given
 job_short verb.Soak given = soak_short given
 

@@ -26,7 +26,7 @@ use Rattle.lq_turns.specs.declared.call.Call.{Call}
 use Rattle.lq_turns.specs.declared.deed.Deed.{Deed}
 use Rattle.lq_top.specs.Bytes.{Becomes, HadRoomOn, Holds, IsLeftOn, OnFile, Opens, SaysFullOn, TellsRoomOn, WorksOn, in_use, most_bytes}
 use Rattle.lq_top.specs.Copies.{job_of}
-use Rattle.lq_top.specs.Jobs.{DoesJob, is_apart, is_command, job_calls, job_refusal, job_script}
+use Rattle.lq_top.specs.Jobs.{DoesJob, goes_on, is_apart, is_own, job_calls, job_refusal, job_script}
 use Rattle.lq_top.specs.declared.copying.Printing.{Printing}
 use Rattle.lq_top.specs.declared.copying.Printing.TheVariants as print
 
@@ -135,9 +135,13 @@ pub prints_on_file : {A : Type 0} (printing : Printing) → is_apart (job_of pri
 prints_on_file print.Update off = absurd (false_true off)
 prints_on_file (print.Rollback target) off = absurd (false_true off)
 
-pub prints_no_command : {A : Type 0} (printing : Printing) → is_command (job_of printing) ≡ true → A
+pub prints_no_command : {A : Type 0} (printing : Printing) → is_own (job_of printing) ≡ true → A
 prints_no_command print.Update is = absurd (false_true is)
 prints_no_command (print.Rollback target) is = absurd (false_true is)
+
+pub prints_no_goal : (printing : Printing) → goes_on (job_of printing) ≡ false
+prints_no_goal print.Update = refl
+prints_no_goal (print.Rollback target) = refl
 
 prints : (printing : Printing) (given : Given) (database : Database) (before : Option (List ℕ)) (done : Result Done Status) (after : Option (List ℕ)) → Opens given.options.dialect before database → after ≡ before
     → WorksOn given.options.dialect (job_script (job_of printing) given database) database before done after

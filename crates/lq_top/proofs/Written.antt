@@ -10,17 +10,18 @@ use Rattle.lq_base.specs.declared.run.Why.{Why}
 use Rattle.lq_base.specs.declared.tracking.Lock.{Lock}
 use Rattle.lq_base.specs.declared.tracking.Tracked.{Tracked}
 use Rattle.lq_cli.specs.declared.line.Job.{Job}
-use Rattle.lq_cli.specs.declared.line.Job.TheVariants.{Drill, RollbackSql, Run, Soak, UpdateSql}
+use Rattle.lq_cli.specs.declared.line.Job.TheVariants.{Drill, History, RollbackSql, Run, Soak, UpdateCount, UpdateSql, UpdateTo}
 use Rattle.lq_commands.proofs.PlainRefusals.{IsNotFull, refusal_not_full}
+use Rattle.lq_commands.specs.Parts.{counted_in}
 use Rattle.lq_commands.specs.Refusals.{Answers, IsFault, ends, held, if_halts, if_not, if_some, invalid, unreachable_by, unready, untagged}
 use Rattle.lq_commands.specs.Scripts.{log_in, script, sets_in}
 use Rattle.lq_commands.specs.Works.{is_finished}
 use Rattle.lq_commands.specs.declared.given.Given.{Given}
-use Rattle.lq_kinds.specs.Dialects.{AreFor}
 use Rattle.lq_sources.specs.declared.fault.LoadFault.{LoadFault}
 use Rattle.lq_sources.specs.declared.fault.LoadFault.TheVariants as load
 use Rattle.lq_seen.specs.View.{any_meaning}
 use Rattle.lq_tell.specs.Lines.{status_lines, warning_lines}
+use Rattle.lq_model.specs.Sound.{IsSound}
 use Rattle.lq_outside.specs.Sink.{IsPart}
 use Rattle.lq_tell.specs.Log.{log_text, stands_alone, warnings_of}
 use Rattle.lq_tell.specs.Texts.{EndsAs, has_output, out_of, status_done}
@@ -39,6 +40,7 @@ use Rattle.lq_turns.specs.declared.choice.Choice.{Choice}
 use Rattle.lq_turns.specs.declared.choice.Choice.TheVariants as choice
 use Rattle.lq_turns.specs.declared.fault.Fault.{Fault}
 use Rattle.lq_turns.specs.declared.stamp.Stamp.{Stamp}
+use Rattle.lq_top.proofs.InPart.{command_on_file, loaded_command, runs_command, same_dialect}
 use Rattle.lq_top.proofs.Kept.{restores, syncs, updates}
 use Rattle.lq_top.proofs.OnFiles.{by_end}
 use Rattle.lq_top.proofs.OpensAgain.{opens_after, opens_left, opens_same}
@@ -46,9 +48,10 @@ use Rattle.lq_top.proofs.Unchanged.{becomes_left, becomes_same, left_same}
 use Rattle.lq_top.specs.Asks.{Asks, Files, file_status}
 use Rattle.lq_top.specs.Bytes.{Becomes, HadRoomOn, IsLeftOn, OnFile, Opens, SaysFullOn, TellsDamage}
 use Rattle.lq_top.specs.Headline.{GoesBack, GoneBack, HasSynced, HasUpdated}
-use Rattle.lq_top.specs.Jobs.{DoesJob, DoesLine, is_on_file, job_calls, job_refusal, job_script}
+use Rattle.lq_top.specs.Jobs.{DoesJob, DoesLine, IsLoaded, goes_on, is_no_target, is_on_file, job_calls, job_refusal, job_script, misses}
 use Rattle.lq_top.specs.Kinds.{IsNotLoaded, IsOfFiles, IsOfWords, is_unwritten}
-use Rattle.lq_top.specs.Run.{EndsBy, EndsUnread, IsDamage, IsLogged, IsLoggedInPart, IsOutside, IsUnread, MayWarn, Runs, RunsJob, given_by, is_end, is_over}
+use Rattle.lq_top.specs.Run.{EndsBy, EndsInVain, EndsUnread, IsDamage, IsLogged, IsLoggedInPart, IsOutside, IsUnread, MayWarn, Runs, RunsJob, given_by, is_end, is_over}
+use Rattle.lq_top.specs.Worked.{InVain, has_missed}
 
 pub false_true : false ≡ true → ⊥
 false_true h = Prim.cc
@@ -162,6 +165,7 @@ is_caused status.ReadFault = true
 is_caused (status.Changelog fault) = true
 is_caused status.DiskFault = true
 is_caused (status.Damaged at) = true
+is_caused status.NoTarget = true
 is_caused s = false
 
 caused_not_ends : (s : Status) → is_caused s ≡ true → ends s ≡ true → ⊥
@@ -294,6 +298,40 @@ ends_unread fault done s by (inl is) = either (λ same. inl same) (λ memory. in
 ends_unread fault done s by (inr (inl is)) = either (λ same. inr (inl same)) (λ memory. inr (inr memory)) (failed_ends done status.ReadFault s by is)
 ends_unread fault done s by (inr (inr is)) = either (λ same. inr (inr same)) (λ memory. inr (inr memory)) (failed_ends done status.OutOfMemory s by is)
 
+-- one that had no part of its changelog to run
+
+is_target : (s : Status) → is_no_target s ≡ true → s ≡ status.NoTarget
+is_target status.NoTarget is = refl
+is_target status.Done is = absurd (false_true is)
+is_target status.Usage is = absurd (false_true is)
+is_target status.ReadFault is = absurd (false_true is)
+is_target (status.Changelog fault) is = absurd (false_true is)
+is_target (status.Invalid faults) is = absurd (false_true is)
+is_target (status.Locked lock) is = absurd (false_true is)
+is_target (status.Halted place why) is = absurd (false_true is)
+is_target (status.Refused identity statement kept reason) is = absurd (false_true is)
+is_target (status.NotReversible identity) is = absurd (false_true is)
+is_target status.DiskFault is = absurd (false_true is)
+is_target (status.Damaged at) is = absurd (false_true is)
+is_target (status.Full used next) is = absurd (false_true is)
+is_target status.WriteFault is = absurd (false_true is)
+is_target status.OutOfMemory is = absurd (false_true is)
+is_target (status.Busy session) is = absurd (false_true is)
+
+first_of : (a b : Bool) → (a && b) ≡ true → a ≡ true
+first_of true b both = refl
+first_of false b both = both
+
+pub had_missed : (job : Job) (done : Result Done Status) (s : Status) → IsWritten done s → misses job s ≡ true → has_missed job done ≡ true
+had_missed job done s by missed =
+    let is = is_target s (first_of (is_no_target s) (goes_on job) missed) in
+    ap (has_missed job) (cause done s status.NoTarget by refl is) ∙ (ap (misses job) (sym is) ∙ missed)
+
+pub ends_in_vain : {D : Type 0} (done : Result Done Status) (s : Status) → IsWritten done s → (before after : D) → InVain done before after → EndsInVain s before after
+ends_in_vain done s by before after (inl is, same) = (either (λ target. inl target) (λ memory. inr (inr memory)) (failed_ends done status.NoTarget s by is), same)
+ends_in_vain done s by before after (inr (inl is), same) = (either (λ read. inr (inl read)) (λ memory. inr (inr memory)) (failed_ends done status.ReadFault s by is), same)
+ends_in_vain done s by before after (inr (inr is), same) = (either (λ memory. inr (inr memory)) (λ memory. inr (inr memory)) (failed_ends done status.OutOfMemory s by is), same)
+
 pub no_words : (done : Result Done Status) (s : Status) → IsWritten done s → (done ≡ Err status.Usage) ⊎ (done ≡ Err status.OutOfMemory) → (s ≡ status.Usage) ⊎ (s ≡ status.OutOfMemory)
 no_words done s by (inl is) = failed_ends done status.Usage s by is
 no_words done s by (inr is) = either (λ same. inr same) (λ memory. inr memory) (failed_ends done status.OutOfMemory s by is)
@@ -399,6 +437,9 @@ no_script command.Release given database s is finished = absurd (none_some is)
 
 no_job_script : (job : Job) (given : Given) (database : Database) (s : Status) → job_refusal job given database ≡ Some s → is_finished s ≡ true → job_script job given database ≡ []
 no_job_script (Run c) given database s is finished = no_script c given database s is finished
+no_job_script (UpdateCount count) given database s is finished = no_script command.Update (counted_in count given database.rows) database s is finished
+no_job_script (UpdateTo tag) given database s is finished = no_script command.Update given database s is finished
+no_job_script History given database s is finished = refl
 no_job_script UpdateSql given database s is finished = refl
 no_job_script (RollbackSql target) given database s is finished = refl
 no_job_script (Drill path) given database s is finished = refl
@@ -458,6 +499,9 @@ err_not_full (Some refused) s never (inr fault) = fault_not_full s fault
 -- what is printed is refused as its command is where the lock is free
 job_not_full : (job : Job) (given : Given) (database : Database) → IfSome (job_refusal job given database) IsNotFull
 job_not_full (Run c) given database = refusal_not_full given c database
+job_not_full (UpdateCount count) given database = refusal_not_full (counted_in count given database.rows) command.Update database
+job_not_full (UpdateTo tag) given database = refusal_not_full given command.Update database
+job_not_full History given database = tt
 job_not_full UpdateSql given database = refusal_not_full given command.Update (record database { lock = free })
 job_not_full (RollbackSql target) given database = refusal_not_full given (command.Rollback target) (record database { lock = free })
 job_not_full (Drill path) given database = tt
@@ -478,7 +522,7 @@ room_by job given database before (Ok ended) after does passes finished = does.r
 room_by job given database before (Err x) after does passes finished = absurd (none_some (sym passes ∙ refused_for (job_refusal job given database) x does.answers finished))
 
 abbrev pub Does : Job → Given → Database → Option (List ℕ) → Result Done Status → Option (List ℕ) → Type 0
-Does job given database before done after = (Failed done × (after ≡ before)) ⊎ (AreFor given.options.dialect given.changelog × DoesJob job given database before done after)
+Does job given database before done after = (Failed done × (after ≡ before)) ⊎ (IsLoaded given.options.dialect given.changelog × DoesJob job given database before done after)
 
 module _ (job : Job) (given : Given) (before : Option (List ℕ)) (done : Result Done Status) (after : Option (List ℕ)) (s : Status) (by : IsWritten done s) where
   runs_by : (database : Database) → Opens given.options.dialect before database → Does job given database before done after → RunsJob job given database before s after
@@ -493,14 +537,14 @@ module _ (job : Job) (given : Given) (before : Option (List ℕ)) (done : Result
     room = λ passes over. absurd (failed_unfinished done failed (was_over done s by over));
     full = λ used next is. absurd (outside_not_full s (failed_outside done s by failed) used next is);
   }
-  runs_by database opens (inr (read, does)) = record {
+  runs_by database opens (inr (loaded, does)) = record {
     ends = ends_by (job_refusal job given database) done s by does.answers;
     refused = does.refused;
     reads = does.reads;
     works = λ over. becomes_by job given database before done after opens does (was_over done s by over);
     left = λ stopped. left_by job given database before done after does;
-    opens = λ over. opens_after given database before opens read job after (becomes_by job given database before done after opens does (was_over done s by over));
-    opens_cut = λ stopped cut. opens_left given database before opens read job after cut;
+    opens = λ over. opens_after given database before opens loaded.read job after (becomes_by job given database before done after opens does (was_over done s by over));
+    opens_cut = λ stopped cut. opens_left given database before opens loaded.read job after cut;
     room = λ passes over. room_by job given database before done after does passes (was_over done s by over);
     full = full_by job given database before done after s by.ended does;
   }
@@ -509,14 +553,14 @@ module _ (job : Job) (given : Given) (before : Option (List ℕ)) (done : Result
   runs does on database opens = runs_by database opens (does on database opens)
 
   over_does : (database : Database) → Opens given.options.dialect before database → Does job given database before done after → is_over s ≡ true
-      → AreFor given.options.dialect given.changelog × Becomes given.options.dialect (job_script job given database) database before after
+      → IsLoaded given.options.dialect given.changelog × Becomes given.options.dialect (job_script job given database) database before after
   over_does database opens (inl (failed, same)) over = absurd (failed_unfinished done failed (was_over done s by over))
-  over_does database opens (inr (read, does)) over = (read, becomes_by job given database before done after opens does (was_over done s by over))
+  over_does database opens (inr (loaded, does)) over = (loaded, becomes_by job given database before done after opens does (was_over done s by over))
 
   over_command : (c : Command) → job ≡ Run c → DoesLine job given before done after → (database : Database) → Opens given.options.dialect before database → is_over s ≡ true
-      → AreFor given.options.dialect given.changelog × Becomes given.options.dialect (script c given database) database before after
+      → IsLoaded given.options.dialect given.changelog × Becomes given.options.dialect (script c given database) database before after
   over_command c is does database opens over =
-      subst (λ j. AreFor given.options.dialect given.changelog × Becomes given.options.dialect (job_script j given database) database before after) is
+      subst (λ j. IsLoaded given.options.dialect given.changelog × Becomes given.options.dialect (job_script j given database) database before after) is
       (over_does database opens (does (ap is_on_file is) database opens) over)
 
 -- the headline
@@ -529,9 +573,15 @@ module _ {words : List (List ℕ)} {files : Files} (stamp : Stamp) (before : Opt
   has_run asks does = runs asks.line.job (given_by asks stamp) before done after s by does
 
   pub has_updated : (asks : Asks words files) → DoesAsks asks → HasUpdated asks stamp before s after
-  has_updated asks does is database opens stands over =
-      let made = over_command asks.line.job (given_by asks stamp) before done after s by command.Update is does database opens over in
-      updates (given_by asks stamp) database before after stands opens.stands.sound made.0 made.1
+  has_updated asks does database opens part is stands over =
+      let job = asks.line.job in
+      let given = given_by asks stamp in
+      let run : Command × Given = (command.Update, part) in
+      let its = does (command_on_file given database run job is) database opens in
+      let ran = runs_command given database run job is before s after (runs_by job given before done after s by database opens its) in
+      let read = (loaded_command given database run job is (over_does job given before done after s by database opens its over).0).read in
+      let sound = subst (λ (d : Dialect). IsSound d database.users) (same_dialect given database run job is) opens.stands.sound in
+      updates part database before after stands sound read (ran.works over)
 
   pub has_synced : (asks : Asks words files) → DoesAsks asks → HasSynced asks stamp before s after
   has_synced asks does is database opens stands over =

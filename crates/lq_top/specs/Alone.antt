@@ -2,8 +2,8 @@
 use Rattle.std.specs.Prelude.{List, None, Option, Some, [], option_map, replicate, true, ℕ, ◌++◌, ◌<◌, ◌≡◌, ◌⊎◌}
 use Rattle.lq_base.specs.declared.command.Command.{Command}
 use Rattle.lq_base.specs.declared.dialect.Dialect.{Dialect}
-use Rattle.lq_cli.specs.declared.line.Job.TheVariants.{Run}
 use Rattle.lq_commands.specs.Works.{is_finished}
+use Rattle.lq_commands.specs.declared.given.Given.{Given}
 use Rattle.lq_entries.specs.Log.{entries_in}
 use Rattle.lq_drill.specs.Faults.{answer_of, freed}
 use Rattle.lq_kinds.specs.declared.any_change.AnyChange.{AnyChange}
@@ -20,7 +20,8 @@ use Rattle.lq_turns.specs.declared.stamp.Stamp.{Stamp}
 use Rattle.lq_top.specs.Asks.{Asks, Files}
 use Rattle.lq_top.specs.Bytes.{OnFile, most_bytes}
 use Rattle.lq_top.specs.Drilled.{Commands, HoldsMachine, machine_after}
-use Rattle.lq_top.specs.Run.{IsOutside}
+use Rattle.lq_top.specs.Jobs.{command_by}
+use Rattle.lq_top.specs.Run.{IsOutside, given_by}
 
 -- the status of a command that answers so
 abbrev pub status_of : Answer → Status
@@ -70,8 +71,9 @@ module _ (d : Dialect) (task : Task AnyChange) (database : Database) where
       pub once : (tail ≡ []) ⊎ (tail ≡ freed)
       pub entries : entries_in d most_bytes after ≡ option_map (λ entries. entries ++ entries_of d (front ++ tail)) (entries_in d most_bytes before)
 
--- on each file that holds a database the command is the one runner of a machine
+-- on each file that holds a database the command that the job is, with what it works with there, is the one runner of a machine
 abbrev pub TakesSteps : {words : List (List ℕ)} {files : Files} → Asks words files → Stamp → Option (List ℕ) → Status → Option (List ℕ) → Type 0
-TakesSteps asks stamp before s after = (c : Command) → asks.line.job ≡ Run c → OnFile asks.line.options.dialect before
-    (λ database. HasAnswered asks.line.options.dialect (task_for c asks.line.options asks.changelog stamp) database before s after
-    ⊎ WasCutShort asks.line.options.dialect (task_for c asks.line.options asks.changelog stamp) database before s after)
+TakesSteps asks stamp before s after = OnFile asks.line.options.dialect before
+    (λ database. (c : Command) (given : Given) → command_by asks.line.job (given_by asks stamp) database ≡ Some (c, given)
+    → HasAnswered given.options.dialect (task_for c given.options given.changelog given.stamp) database before s after
+    ⊎ WasCutShort given.options.dialect (task_for c given.options given.changelog given.stamp) database before s after)

@@ -1,12 +1,11 @@
 -- What the words and the files of a command ask for.
 use Rattle.std.specs.Prelude.{Bool, Err, List, None, Ok, Option, Some, false, true, ℕ, ◌≡◌}
-use Rattle.lq_base.specs.declared.command.Command.TheVariants as command
-use Rattle.lq_base.specs.declared.command.Target.{Target}
-use Rattle.lq_base.specs.declared.command.Target.TheVariants as target
+use Rattle.lq_cli.specs.Job.{goal_of}
 use Rattle.lq_cli.specs.Line.{line_of}
 use Rattle.lq_cli.specs.declared.line.Job.{Job}
-use Rattle.lq_cli.specs.declared.line.Job.TheVariants.{Drill, RollbackSql, Run, Soak, UpdateSql}
+use Rattle.lq_cli.specs.declared.line.Job.TheVariants.{Drill}
 use Rattle.lq_cli.specs.declared.line.Line.{Line}
+use Rattle.lq_commands.specs.Parts.{part_for}
 use Rattle.lq_kinds.specs.declared.change_set.Changelog.{Changelog}
 use Rattle.lq_sources.specs.Answers.{IsTold, Source, map_ok}
 use Rattle.lq_sources.specs.Faults.{Loaded}
@@ -16,11 +15,8 @@ pub use Rattle.lq_top.specs.Loads.{Files, asked_by, file_status, loaded, no_chan
 
 -- the job is a drill
 abbrev pub is_drill : Job → Bool
-is_drill (Run c) = false
-is_drill UpdateSql = false
-is_drill (RollbackSql target) = false
 is_drill (Drill runs) = true
-is_drill (Soak number sets) = false
+is_drill _ = false
 
 abbrev pub asks_drill : Option Line → Bool
 asks_drill (Some line) = is_drill line.job
@@ -35,29 +31,34 @@ given_for _ source line = loaded source line.options.dialect line.given line.roo
 abbrev pub given_to : Source → Line → Loaded Changelog
 given_to source line = given_for line.job source line
 
--- the words are this line, and the files give it this changelog
+-- the words are this line, and of the changelog that the files give it its job runs this part
 pub record Asks (words : List (List ℕ)) (files : Files) : Type 0 where
   pub line : Line
   pub is_line : line_of words ≡ Some line
   pub source : Source
   pub told : IsTold files source
+  pub whole : Changelog
+  pub gives : given_to source line ≡ Ok whole
   pub changelog : Changelog
-  pub gives : given_to source line ≡ Ok changelog
+  pub is_part : part_for line.job whole ≡ Some changelog
 
-abbrev pub target_tag : Target → Option (List ℕ)
-target_tag (target.Tag tag) = Some tag
-target_tag (target.Count n) = None
-target_tag (target.Date at) = None
+-- the files give a changelog of which the line's job has no part to run: no changeset sets its tag
+abbrev pub HasNoPart : Files → Line → Type 0
+HasNoPart files line = (source : Source) → IsTold files source → (whole : Changelog) → given_to source line ≡ Ok whole → part_for line.job whole ≡ None
 
--- the tag that a rollback goes back to
-abbrev pub back_tag : Job → Option (List ℕ)
-back_tag (Run (command.Rollback target)) = target_tag target
-back_tag (RollbackSql target) = target_tag target
-back_tag _ = None
+-- the words are this line, and the files give it such a changelog
+pub record AsksInVain (words : List (List ℕ)) (files : Files) : Type 0 where
+  pub line : Line
+  pub is_line : line_of words ≡ Some line
+  pub source : Source
+  pub told : IsTold files source
+  pub whole : Changelog
+  pub gives : given_to source line ≡ Ok whole
+  pub no_part : part_for line.job whole ≡ None
 
--- no words of a command, no tag
+-- the tag to which the words go; no words of a command, no tag
 abbrev pub asked_tag : Option Line → Option (List ℕ)
-asked_tag (Some line) = back_tag line.job
+asked_tag (Some line) = goal_of line.job
 asked_tag None = None
 
 -- the words are no command line, or those of a drill whose file has no such form

@@ -3,6 +3,8 @@ use Rattle.std.specs.Prelude.{Bool, List, Option, Some, [], false, length, true,
 use Rattle.lq_base.specs.declared.command.Command.TheVariants as command
 use Rattle.lq_base.specs.declared.command.Target.{Target}
 use Rattle.lq_cli.specs.declared.line.Job.TheVariants.{Run as Runs}
+use Rattle.lq_commands.specs.Scripts.{log_in}
+use Rattle.lq_commands.specs.declared.given.Given.{Given}
 use Rattle.lq_kinds.specs.declared.any_change.AnyChange.{AnyChange}
 use Rattle.lq_seen.specs.View.{any_meaning, view_log}
 use Rattle.lq_tell.specs.declared.status.Status.{Status}
@@ -20,7 +22,8 @@ use Rattle.lq_turns.specs.Synced.{synced}
 use Rattle.lq_turns.specs.declared.stamp.Stamp.{Stamp}
 use Rattle.lq_top.specs.Asks.{Asks, Files}
 use Rattle.lq_top.specs.Bytes.{OnFile, Opens}
-use Rattle.lq_top.specs.Run.{HoldsSame, IsOutside, is_over}
+use Rattle.lq_top.specs.Jobs.{command_by}
+use Rattle.lq_top.specs.Run.{HoldsSame, IsOutside, given_by, is_over}
 
 -- the changelog as a command sees it
 abbrev pub log_of : {words : List (List ℕ)} {files : Files} → Asks words files → Changelog AnyChange
@@ -59,10 +62,10 @@ abbrev pub IsTaken : Status → Type 0
 IsTaken s = (is_taken s ≡ true) ⊎ IsOutside s
 
 module _ {words : List (List ℕ)} {files : Files} (asks : Asks words files) (stamp : Stamp) (before : Option (List ℕ)) (s : Status) (after : Option (List ℕ)) where
-  -- what an update that comes to its end leaves is what its changesets do one after another, with a free lock
+  -- what an update that comes to its end leaves is what its changesets do one after another, with a free lock; an update by part is the update of that part
   abbrev pub HasUpdated : Type 0
-  HasUpdated = asks.line.job ≡ Runs command.Update → OnFile asks.line.options.dialect before (λ database. database.lock ≡ free → is_over s ≡ true
-      → HoldsSame asks.line.options.dialect after (at_rest database (updated asks.line.options.dialect any_meaning stamp.reading (log_of asks) (contents_of database)).contents))
+  HasUpdated = OnFile asks.line.options.dialect before (λ database. (part : Given) → command_by asks.line.job (given_by asks stamp) database ≡ Some (command.Update, part) → database.lock ≡ free → is_over s ≡ true
+      → HoldsSame part.options.dialect after (at_rest database (updated part.options.dialect any_meaning part.stamp.reading (log_in part) (contents_of database)).contents))
 
   -- and a changelog-sync: a row for each selected changeset without one
   abbrev pub HasSynced : Type 0

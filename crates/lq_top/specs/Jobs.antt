@@ -1,68 +1,54 @@
 -- What a job does on a database file.
-use Rattle.std.specs.Prelude.{Bool, Err, IfOk, List, None, Option, Result, [], false, true, ℕ, ◌≡◌, ◌⊎◌}
+use Rattle.std.specs.List.{All}
+use Rattle.std.specs.Prelude.{Bool, Err, IfOk, List, Option, Result, false, true, ℕ, ◌&&◌, ◌≡◌, ◌⊎◌}
 use Rattle.lq_base.specs.declared.command.Command.TheVariants as command
+use Rattle.lq_base.specs.declared.dialect.Dialect.{Dialect}
+use Rattle.lq_changelog.specs.ShortTexts.{HasShortTexts}
 use Rattle.lq_cli.specs.declared.line.Job.{Job}
-use Rattle.lq_cli.specs.declared.line.Job.TheVariants.{Drill, RollbackSql, Run, Soak, UpdateSql}
+use Rattle.lq_cli.specs.declared.line.Job.TheVariants.{Drill, RollbackSql, Soak, UpdateSql, UpdateTo}
 use Rattle.lq_commands.specs.Outputs.{TellsJob}
-use Rattle.lq_commands.specs.Refusals.{Answers, print_rollback, print_update, refusal}
-use Rattle.lq_commands.specs.Scripts.{printed_script, script, tag_in}
-use Rattle.lq_commands.specs.Works.{IsKept, is_finished, only_reads}
+use Rattle.lq_commands.specs.Refusals.{Answers}
+use Rattle.lq_commands.specs.Scripts.{printed_script}
+use Rattle.lq_commands.specs.Works.{IsKept, is_finished}
 use Rattle.lq_commands.specs.declared.given.Given.{Given}
 use Rattle.lq_kinds.specs.Dialects.{AreFor}
+use Rattle.lq_kinds.specs.declared.change_set.Changelog.{Changelog}
 use Rattle.lq_tell.specs.declared.done.Done.{Done}
 use Rattle.lq_tell.specs.declared.status.Status.{Status}
 use Rattle.lq_tell.specs.declared.status.Status.TheVariants as status
 use Rattle.lq_track.specs.Database.{Database}
 use Rattle.lq_turns.specs.declared.call.Call.{Call}
 use Rattle.lq_top.specs.Bytes.{HadRoomOn, OnFile, SaysFullOn, WorksOn}
+pub use Rattle.lq_commands.specs.Jobs.{command_by, is_own, job_reads, job_refusal, job_script, job_tag}
 
 -- it works on the file alone: a soak has a database of its own, and in a drill commands work beside one another
 abbrev pub is_on_file : Job → Bool
-is_on_file (Run c) = true
-is_on_file UpdateSql = true
-is_on_file (RollbackSql target) = true
 is_on_file (Drill path) = false
 is_on_file (Soak number sets) = false
+is_on_file _ = true
 
 -- it has a database of its own, and leaves the file as it is
 abbrev pub is_apart : Job → Bool
 is_apart (Soak number sets) = true
 is_apart _ = false
 
--- it is a command, which writes to the file
-abbrev pub is_command : Job → Bool
-is_command (Run c) = true
-is_command _ = false
+-- so an update up to a tag ends that no changeset sets
+abbrev pub goes_on : Job → Bool
+goes_on (UpdateTo tag) = true
+goes_on _ = false
 
--- it appends nothing to the file, however it ends
-abbrev pub job_reads : Job → Bool
-job_reads (Run c) = only_reads c
-job_reads UpdateSql = true
-job_reads (RollbackSql target) = true
-job_reads _ = false
+abbrev pub is_no_target : Status → Bool
+is_no_target status.NoTarget = true
+is_no_target s = false
 
--- what is printed is written nowhere
-abbrev pub job_script : Job → Given → Database → List Call
-job_script (Run c) given database = script c given database
-job_script _ given database = []
+abbrev pub misses : Job → Status → Bool
+misses job s = is_no_target s && goes_on job
 
 -- the calls that it makes, on the file or on a copy
 abbrev pub job_calls : Job → Given → Database → List Call
-job_calls (Run c) given database = script c given database
 job_calls UpdateSql given database = printed_script command.Update given database
 job_calls (RollbackSql target) given database = printed_script (command.Rollback target) given database
-job_calls _ given database = []
-
-abbrev pub job_refusal : Job → Given → Database → Option Status
-job_refusal (Run c) given database = refusal c given database
-job_refusal UpdateSql given database = print_update given database
-job_refusal (RollbackSql target) given database = print_rollback given target database
-job_refusal _ given database = None
-
--- the tag that a job sets
-abbrev pub job_tag : Job → Option (List ℕ)
-job_tag (Run c) = tag_in c
-job_tag _ = None
+job_calls job given database = job_script job given database
 
 -- on a file that holds the database: it is refused, or only reads, and nothing is written; or where it comes to its end its calls are done, and it tells of them
 pub record DoesJob (job : Job) (given : Given) (database : Database) (before : Option (List ℕ)) (done : Result Done Status) (after : Option (List ℕ)) : Type 0 where
@@ -75,7 +61,12 @@ pub record DoesJob (job : Job) (given : Given) (database : Database) (before : O
   pub room : IfOk done (λ ended. is_finished ended.status ≡ true → HadRoomOn given.options.dialect (job_calls job given database) database before)
   pub full : IfOk done (λ ended. SaysFullOn given.options.dialect (job_calls job given database) database before ended.status)
 
--- A line whose files give a changelog: they fail all the same, or there is no memory for it, and nothing is written; or it was read for the dialect, and its job is done on the file.
+-- what holds of a changelog that was loaded for a dialect
+pub record IsLoaded (d : Dialect) (g : Changelog) : Type 0 where
+  pub read : AreFor d g
+  pub short : All HasShortTexts g.sets
+
+-- A line whose files give a changelog: they fail all the same, or there is no memory for it, and nothing is written; or it was loaded for the dialect, and its job is done on the file.
 abbrev pub DoesLine : Job → Given → Option (List ℕ) → Result Done Status → Option (List ℕ) → Type 0
 DoesLine job given before done after = is_on_file job ≡ true → OnFile given.options.dialect before
-    (λ database. (((done ≡ Err status.ReadFault) ⊎ (done ≡ Err status.OutOfMemory)) × (after ≡ before)) ⊎ (AreFor given.options.dialect given.changelog × DoesJob job given database before done after))
+    (λ database. (((done ≡ Err status.ReadFault) ⊎ (done ≡ Err status.OutOfMemory)) × (after ≡ before)) ⊎ (IsLoaded given.options.dialect given.changelog × DoesJob job given database before done after))

@@ -18,7 +18,7 @@ use Rattle.lq_turns.specs.Session.{left_by}
 use Rattle.lq_turns.specs.declared.stamp.Stamp.{Stamp}
 use Rattle.lq_top.specs.Asks.{Asks, Files, asked_by, file_status}
 use Rattle.lq_top.specs.Bytes.{Becomes, CrashesOn, HadRoomOn, Holds, IsLeftOn, OnFile, Opens, SaysFullOn, given_at, most_bytes}
-use Rattle.lq_top.specs.Jobs.{is_command, is_on_file, job_calls, job_reads, job_refusal, job_script}
+use Rattle.lq_top.specs.Jobs.{is_on_file, is_own, job_calls, job_reads, job_refusal, job_script, misses}
 
 -- it came to its end, and then perhaps its text could not be written
 abbrev pub is_over : Status → Bool
@@ -72,7 +72,7 @@ OpensAtCrash asks stamp before bytes = OnFile asks.line.options.dialect before
 
 -- after a command that came to its end a crash leaves what is there
 abbrev pub IsSafe : {words : List (List ℕ)} {files : Files} → Asks words files → Status → Option (List ℕ) → DiskCrashes → Type 0
-IsSafe asks s after now = is_command asks.line.job ≡ true → is_over s ≡ true → Settled after now
+IsSafe asks s after now = is_own asks.line.job ≡ true → is_over s ≡ true → Settled after now
 
 -- a file holds a database that is the same but for which of the tracking tables were made
 abbrev pub HoldsSame : Dialect → Option (List ℕ) → Database → Type 0
@@ -94,9 +94,13 @@ IsUnread s = ⊥
 abbrev pub TellsPlace : ℕ → Status → Type 0
 TellsPlace at s = (s ≡ status.Damaged at) ⊎ IsUnread s ⊎ IsOutside s
 
--- and it stays as it is
-abbrev pub SparesDamage : ℕ → Status → Option (List ℕ) → Option (List ℕ) → Type 0
-SparesDamage at s before after = TellsPlace at s × (after ≡ before)
+-- or no changeset sets the tag of an update up to one; and it stays as it is
+abbrev pub SparesDamage : Job → ℕ → Status → Option (List ℕ) → Option (List ℕ) → Type 0
+SparesDamage job at s before after = (TellsPlace at s ⊎ (misses job s ≡ true)) × (after ≡ before)
+
+-- so an update ends that has no part of its changelog to run, and the disk stays as it is
+abbrev pub EndsInVain : {D : Type 0} → Status → D → D → Type 0
+EndsInVain s before after = ((s ≡ status.NoTarget) ⊎ (s ≡ status.ReadFault) ⊎ (s ≡ status.OutOfMemory)) × (after ≡ before)
 
 -- so a command ends whose files give a fault in place of a changelog
 abbrev pub EndsUnread : LoadFault → Status → Type 0

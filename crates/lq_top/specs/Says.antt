@@ -3,23 +3,25 @@ use Rattle.std.specs.List.{flat_map}
 use Rattle.std.specs.Prelude.{Bool, List, None, Option, Some, [], false, option_map, true, ℕ, ◌++◌, ◌≡◌}
 use Rattle.lq_base.specs.declared.command.Command.TheVariants as command
 use Rattle.lq_base.specs.declared.command.Target.{Target}
+use Rattle.lq_cli.specs.Job.{goal_of}
 use Rattle.lq_cli.specs.declared.line.Job.{Job}
-use Rattle.lq_cli.specs.declared.line.Job.TheVariants.{RollbackSql, Run, UpdateSql}
+use Rattle.lq_cli.specs.declared.line.Job.TheVariants.{History, RollbackSql, Run, UpdateCount, UpdateSql, UpdateTo}
 use Rattle.lq_commands.specs.Inserts.{synced_in}
 use Rattle.lq_commands.specs.Outputs.{at_once_text, back_in}
+use Rattle.lq_commands.specs.Parts.{counted_in}
 use Rattle.lq_commands.specs.Refusals.{own_halt}
 use Rattle.lq_commands.specs.Scripts.{updated_in}
 use Rattle.lq_commands.specs.Tells.{rollback_told, status_by, update_told}
 use Rattle.lq_commands.specs.Works.{is_finished}
 use Rattle.lq_commands.specs.declared.given.Given.{Given}
 use Rattle.lq_outside.specs.Sink.{IsPart}
-use Rattle.lq_report.specs.Output.{sync_text}
+use Rattle.lq_report.specs.Output.{history_text, sync_text}
 use Rattle.lq_tell.specs.Lines.{status_lines, warning_line}
 use Rattle.lq_tell.specs.declared.status.Status.{Status}
 use Rattle.lq_track.specs.Database.{Database}
 use Rattle.lq_turns.specs.declared.stamp.Stamp.{Stamp}
 use Rattle.lq_turns.specs.declared.stop.Stop.{Stop}
-use Rattle.lq_top.specs.Asks.{Asks, Files, back_tag}
+use Rattle.lq_top.specs.Asks.{Asks, Files}
 use Rattle.lq_top.specs.Bytes.{OnFile}
 use Rattle.lq_top.specs.Jobs.{is_on_file}
 use Rattle.lq_top.specs.Run.{given_by, is_over}
@@ -42,12 +44,15 @@ SaysUpdate prints given database s before after =
 abbrev pub SaysRollback : Bool → Given → Target → Database → Status → Option (List ℕ) → Option (List ℕ) → Type 0
 SaysRollback prints given target database s before after = Says (back_in prints given target database).settled.stop (rollback_told prints (back_in prints given target database)) s before after
 
--- of each changeset what was done, or the statements that ran, where those are to be printed
+-- of each changeset what was done, or the statements that ran, where those are to be printed; an update by part says so of that part
 abbrev pub SaysJob : Job → Given → Database → Status → Option (List ℕ) → Option (List ℕ) → Type 0
 SaysJob (Run command.Update) given database s before after = SaysUpdate false given database s before after
 SaysJob (Run (command.Rollback target)) given database s before after = SaysRollback false given target database s before after
 SaysJob (Run command.Sync) given database s before after = Says (synced_in given database).stop (sync_text (synced_in given database).happened) s before after
 SaysJob (Run c) given database s before after = Says None (at_once_text c given database) s before after
+SaysJob (UpdateCount count) given database s before after = SaysUpdate false (counted_in count given database.rows) database s before after
+SaysJob (UpdateTo tag) given database s before after = SaysUpdate false given database s before after
+SaysJob History given database s before after = Says None (history_text database.rows) s before after
 SaysJob UpdateSql given database s before after = SaysUpdate true given database s before after
 SaysJob (RollbackSql target) given database s before after = SaysRollback true given target database s before after
 SaysJob _ given database s before after = Unit {0}
@@ -67,10 +72,12 @@ pub record SaidInPart {words : List (List ℕ)} {files : Files} (asks : Asks wor
 -- the lines of a job's warnings: of an update those of its turns in order, the changelog's own first; of another there are none
 abbrev pub job_warnings : Job → Given → Database → List ℕ
 job_warnings (Run command.Update) given database = flat_map warning_line (updated_in false given database).settled.warned
+job_warnings (UpdateCount count) given database = flat_map warning_line (updated_in false (counted_in count given database.rows) database).settled.warned
+job_warnings (UpdateTo tag) given database = flat_map warning_line (updated_in false given database).settled.warned
 job_warnings UpdateSql given database = flat_map warning_line (updated_in true given database).settled.warned
 job_warnings _ given database = []
 
 -- on each file that holds a database, where the command came to its end: the log got these lines, and behind them those of the status
 abbrev pub Warns : {words : List (List ℕ)} {files : Files} → Asks words files → Stamp → Option (List ℕ) → Status → Option (List ℕ) → Option (List ℕ) → Type 0
 Warns asks stamp told s before after = is_on_file asks.line.job ≡ true → OnFile asks.line.options.dialect told
-    (λ database. is_over s ≡ true → after ≡ option_map (λ log. log ++ (job_warnings asks.line.job (given_by asks stamp) database ++ status_lines (back_tag asks.line.job) s)) before)
+    (λ database. is_over s ≡ true → after ≡ option_map (λ log. log ++ (job_warnings asks.line.job (given_by asks stamp) database ++ status_lines (goal_of asks.line.job) s)) before)

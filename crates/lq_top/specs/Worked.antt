@@ -1,7 +1,8 @@
 -- What a job did on the disk of its database file.
-use Rattle.std.specs.Prelude.{Err, IsTrue, List, Ok, Option, Result, Some, false, true, ℕ, ◌≡◌, ◌≤◌, ◌⊎◌}
+use Rattle.std.specs.Prelude.{Bool, Err, IsTrue, List, None, Ok, Option, Result, Some, false, true, ℕ, ◌≡◌, ◌≤◌, ◌⊎◌}
 use Rattle.lq_base.specs.declared.dialect.Dialect.{Dialect}
 use Rattle.lq_cli.specs.declared.line.Job.{Job}
+use Rattle.lq_commands.specs.Parts.{part_for}
 use Rattle.lq_commands.specs.Works.{is_finished}
 use Rattle.lq_commands.specs.declared.given.Given.{Given}
 use Rattle.lq_expr.specs.declared.options.Options.{Options}
@@ -20,7 +21,7 @@ use Rattle.lq_turns.specs.declared.call.Call.{Call}
 use Rattle.lq_turns.specs.declared.stamp.Stamp.{Stamp}
 use Rattle.lq_top.specs.Asks.{Files, asked_by}
 use Rattle.lq_top.specs.Bytes.{IsDamagedAt, IsLeftOn, OnFile, TellsDamage, WasLeft, given_at}
-use Rattle.lq_top.specs.Jobs.{DoesJob, DoesLine, is_apart, is_command, is_on_file, job_script}
+use Rattle.lq_top.specs.Jobs.{DoesJob, DoesLine, IsLoaded, is_apart, is_on_file, is_own, job_script, misses}
 use Rattle.lq_top.specs.Kinds.{IsNotLoaded, IsOfDatabase, IsOfFiles, IsOfLine}
 use Rattle.lq_top.specs.Run.{SparesDamage, TellsPlace}
 
@@ -39,17 +40,26 @@ abbrev pub FailsAt : ℕ → Result Done Status → Type 0
 FailsAt at done = (s : Status) × (done ≡ Err s) × TellsPlace at s
 
 -- and left the file as it is
-abbrev pub Spares : ℕ → Option (List ℕ) → Result Done Status → Option (List ℕ) → Type 0
-Spares at before done after = (s : Status) × (done ≡ Err s) × SparesDamage at s before after
+abbrev pub Spares : Job → ℕ → Option (List ℕ) → Result Done Status → Option (List ℕ) → Type 0
+Spares job at before done after = (s : Status) × (done ≡ Err s) × SparesDamage job at s before after
+
+-- it had no part of its changelog to run
+abbrev pub has_missed : Job → Result Done Status → Bool
+has_missed job (Ok done) = false
+has_missed job (Err s) = misses job s
+
+-- so it fails then, and leaves its disk as it is
+abbrev pub InVain : {D : Type 0} → Result Done Status → D → D → Type 0
+InVain done before after = ((done ≡ Err status.NoTarget) ⊎ (done ≡ Err status.ReadFault) ⊎ (done ≡ Err status.OutOfMemory)) × (after ≡ before)
 
 -- for disks, by what they tell, by how many of their calls have failed, and by what a crash leaves of them
 module _ {D : Type 0} (told : D → Option (List ℕ)) (faults : D → ℕ) (crashes : D → DiskCrashes) where
   -- how a job left its disk
   pub record UsedDisk (job : Job) (d : Dialect) (before : D) (done : Result Done Status) (after : D) : Type 0 where
     pub damaged : TellsDamage d (told before) done
-    pub spares : is_apart job ≡ false → (at : ℕ) → IsDamagedAt d (told before) at → Spares at (told before) done (told after)
+    pub spares : is_apart job ≡ false → (at : ℕ) → IsDamagedAt d (told before) at → Spares job at (told before) done (told after)
     -- after a command that came to its end a crash leaves what is there
-    pub safe : is_command job ≡ true → is_finished (status_done done) ≡ true → Settled (told after) (crashes after)
+    pub safe : is_own job ≡ true → is_finished (status_done done) ≡ true → Settled (told after) (crashes after)
     pub off : is_apart job ≡ true → after ≡ before
     pub later : faults before ≤ faults after
     pub fault : done ≡ Err status.DiskFault → Rose (faults before) (faults after)
@@ -58,8 +68,19 @@ module _ {D : Type 0} (told : D → Option (List ℕ)) (faults : D → ℕ) (cra
   pub record WorkedOn (job : Job) (given : Given) (before : D) (done : Result Done Status) (after : D) : Type 0 where
     pub used : UsedDisk job given.options.dialect before done after
     pub kind : IsOfDatabase done
+    pub has_part : has_missed job done ≡ false
     pub does : is_on_file job ≡ true → OnFile given.options.dialect (told before) (λ database. DoesJob job given database (told before) done (told after))
     pub any_moment : CrashesJob job given (told before) (crashes before) (crashes after)
+
+  -- what it did with a changelog that its files give: with the part that it runs, where there is one
+  pub record WorkedWith (job : Job) (options : Options) (whole : Changelog) (stamp : Stamp) (before : D) (done : Result Done Status) (after : D) : Type 0 where
+    pub used : UsedDisk job options.dialect before done after
+    pub kind : IsOfDatabase done
+    pub missed : has_missed job done ≡ true → (part_for job whole ≡ None) × (after ≡ before)
+    pub in_vain : part_for job whole ≡ None → InVain done before after
+    pub loaded : (g : Changelog) → part_for job whole ≡ Some g → IsLoaded options.dialect g
+    pub does : (g : Changelog) → part_for job whole ≡ Some g → is_on_file job ≡ true → OnFile options.dialect (told before) (λ database. DoesJob job (given_at (asked_by options g) stamp) database (told before) done (told after))
+    pub any_moment : (g : Changelog) → part_for job whole ≡ Some g → CrashesJob job (given_at (asked_by options g) stamp) (told before) (crashes before) (crashes after)
 
   -- what it did with what its files give: a changelog, or a fault
   pub record WorkedBy (files : Files) (meant : Source → Loaded Changelog) (job : Job) (options : Options) (stamp : Stamp) (before : D) (done : Result Done Status) (after : D) : Type 0 where
@@ -68,5 +89,7 @@ module _ {D : Type 0} (told : D → Option (List ℕ)) (faults : D → ℕ) (cra
     pub untouched : IsOfFiles done → after ≡ before
     pub changelog : (fault : LoadFault) → done ≡ Err (status.Changelog fault) → (source : Source) → IsTold files source → meant source ≡ Err fault
     pub not_loaded : (source : Source) → IsTold files source → (fault : LoadFault) → meant source ≡ Err fault → IsNotLoaded fault done
-    pub does : (source : Source) (g : Changelog) → IsTold files source → meant source ≡ Ok g → DoesLine job (given_at (asked_by options g) stamp) (told before) done (told after)
-    pub any_moment : (source : Source) (g : Changelog) → IsTold files source → meant source ≡ Ok g → CrashesJob job (given_at (asked_by options g) stamp) (told before) (crashes before) (crashes after)
+    pub missed : has_missed job done ≡ true → ((source : Source) → IsTold files source → (whole : Changelog) → meant source ≡ Ok whole → part_for job whole ≡ None) × (after ≡ before)
+    pub in_vain : (source : Source) (whole : Changelog) → IsTold files source → meant source ≡ Ok whole → part_for job whole ≡ None → InVain done before after
+    pub does : (source : Source) (whole g : Changelog) → IsTold files source → meant source ≡ Ok whole → part_for job whole ≡ Some g → DoesLine job (given_at (asked_by options g) stamp) (told before) done (told after)
+    pub any_moment : (source : Source) (whole g : Changelog) → IsTold files source → meant source ≡ Ok whole → part_for job whole ≡ Some g → CrashesJob job (given_at (asked_by options g) stamp) (told before) (crashes before) (crashes after)

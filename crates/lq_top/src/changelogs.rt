@@ -1,6 +1,8 @@
 ghost use Rattle.std.specs.List.{All};
-ghost use Rattle.std.specs.Prelude.{◌≡◌, ◌≤◌, Err, IfOk};
+ghost use Rattle.std.specs.Prelude.{◌≡◌, ◌≤◌, Err, IfOk, IfSome};
+ghost use Rattle.lq_base.specs.declared.dialect.Dialect.{Dialect as AnyDialect};
 ghost use Rattle.lq_changelog.specs.ShortTexts.{HasShortTexts};
+ghost use Rattle.lq_commands.specs.Parts.{part_for};
 ghost use Rattle.lq_kinds.specs.Dialects.{AreFor};
 ghost use Rattle.lq_outside.specs.Count.{Rose};
 ghost use Rattle.lq_sources.specs.Answers.{Finds};
@@ -9,10 +11,12 @@ ghost use Rattle.lq_top.specs.Loads.{file_status, loaded, no_changelog};
 
 use lq_base::{Dialect, Items, OnFail, Text};
 use lq_changelog::load;
+use lq_cli::Job;
 use lq_cond::Cond;
 use lq_kinds::Changelog;
 use lq_model::SqlText;
 use lq_outside::Files;
+use lq_portion::up_to_tag;
 use lq_sources::LoadFault;
 use lq_tell::Status;
 use std::alloc::Global;
@@ -48,6 +52,19 @@ fn no_changelog(alloc: Global) -> Changelog
         on_fail: OnFail::Halt,
         on_error: OnFail::Halt,
         sets: Items::new(alloc),
+    }
+}
+
+/// The part of the changelog that a job runs: of an update up to a tag the one that ends with the first
+/// changeset that sets it, where one does.
+pub fn part_for(job: &Job, changelog: Changelog) -> Option<Changelog>
+    ensures part { result ≡ part_for job.now changelog }
+    ensures read { (d : AnyDialect) → AreFor d changelog → IfSome result (AreFor d) }
+    ensures short { All HasShortTexts changelog.sets → IfSome result (λ part. All HasShortTexts part.sets) }
+{
+    match job {
+        Job::UpdateTo(tag) => up_to_tag(changelog, tag),
+        _ => Some(changelog),
     }
 }
 

@@ -257,9 +257,9 @@ fn command_in(job: Job) -> Command
     requires { is_run job ≡ true }
     ensures { result ≡ command_in job }
 {
-    match job {
-        Job::Run(command) => command,
-        _ => unreachable!(),
+    match job.into_command() {
+        Some(command) => command,
+        None => unreachable!(),
     }
 }
 

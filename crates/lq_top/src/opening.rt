@@ -1,10 +1,8 @@
 ghost use Rattle.std.specs.List.{All};
-ghost use Rattle.std.specs.Prelude.{◌≡◌, ◌≤◌, IfSome, Ok};
+ghost use Rattle.std.specs.Prelude.{◌≡◌, ◌≤◌, IfSome, Ok, true};
 ghost use Rattle.lq_base.specs.Character.{char_count};
 ghost use Rattle.lq_changelog.specs.ShortTexts.{HasShortTexts};
-ghost use Rattle.lq_cli.specs.declared.line.Job.TheVariants as job;
 ghost use Rattle.lq_commands.specs.Reading.{ReadOnce};
-ghost use Rattle.lq_commands.specs.Scripts.{tag_in};
 ghost use Rattle.lq_commands.specs.Stamp.{stamp_of};
 ghost use Rattle.lq_commands.specs.Works.{IsReady};
 ghost use Rattle.lq_db.specs.Db.{IsDb, IsNew, disk_in, engine_in, state};
@@ -13,10 +11,11 @@ ghost use Rattle.lq_kinds.specs.Dialects.{AreFor};
 ghost use Rattle.lq_store.specs.Executor.{kept};
 ghost use Rattle.lq_top.specs.Bytes.{given_at, load_status, most_bytes};
 ghost use Rattle.lq_top.specs.Clock.{ReadAtMostOnce};
+ghost use Rattle.lq_top.specs.Jobs.{is_own, job_tag};
 ghost use Rattle.lq_top.specs.Worked.{WorkedOn};
 
-use lq_base::Command;
-use lq_commands::{Asked, run_command, stamped};
+use lq_cli::Job;
+use lq_commands::{Asked, run_job, stamped};
 use lq_db::Db;
 use lq_engine::Engine;
 use lq_journal::LoadFault;
@@ -47,12 +46,12 @@ pub fn load_status(fault: LoadFault) -> Status
     }
 }
 
-/// Loads the database of a disk, and does the command there.
+/// Loads the database of a disk, and does the job there.
 pub fn on_disk<D: Disk, C: Clock, P: SqlText + Drop + Copy>(
     alloc: Global,
     disk: D,
     sql: P,
-    command: &Command,
+    job: &Job,
     asked: Asked,
     who: &str,
     clock: &mut C,
@@ -60,12 +59,13 @@ pub fn on_disk<D: Disk, C: Clock, P: SqlText + Drop + Copy>(
     requires sql { P.dialect ≡ asked.options.dialect }
     requires read { AreFor asked.options.dialect asked.changelog }
     requires short { All HasShortTexts asked.changelog.sets }
-    requires tag { IfSome (tag_in command.now) (λ tag. char_count tag ≤ 255) }
-    ensures worked { WorkedOn D.told D.faults D.crashes (job.Run command.now) (given_at asked (stamp_of who.now (C.last clock.new))) disk result.done result.disk }
+    requires own { is_own job.now ≡ true }
+    requires tag { IfSome (job_tag job.now) (λ tag. char_count tag ≤ 255) }
+    ensures worked { WorkedOn D.told D.faults D.crashes job.now (given_at asked (stamp_of who.now (C.last clock.new))) disk result.done result.disk }
     ensures once { ReadAtMostOnce (C.to_come clock.old) (C.to_come clock.new) (C.last clock.new) }
 {
     match Db::<D, P, Engine>::load(alloc, disk, asked.options.dialect, sql, LIMIT) {
-        Ok(db) => on_database(alloc, db, sql, command, asked, who, clock),
+        Ok(db) => on_database(alloc, db, sql, job, asked, who, clock),
         Err(refused) => {
             let LoadRefused { disk, fault } = refused;
             Worked {
@@ -80,7 +80,7 @@ fn on_database<D: Disk, C: Clock, P: SqlText + Drop + Copy, E: Executor + Drop>(
     alloc: Global,
     db: Db<D, P, E>,
     sql: P,
-    command: &Command,
+    job: &Job,
     asked: Asked,
     who: &str,
     clock: &mut C,
@@ -92,14 +92,15 @@ fn on_database<D: Disk, C: Clock, P: SqlText + Drop + Copy, E: Executor + Drop>(
     requires sql { P.dialect ≡ asked.options.dialect }
     requires read { AreFor asked.options.dialect asked.changelog }
     requires short { All HasShortTexts asked.changelog.sets }
-    requires tag { IfSome (tag_in command.now) (λ tag. char_count tag ≤ 255) }
-    ensures worked { WorkedOn D.told D.faults D.crashes (job.Run command.now) (given_at asked (stamp_of who.now (C.last clock.new))) (disk_in db) result.done result.disk }
+    requires own { is_own job.now ≡ true }
+    requires tag { IfSome (job_tag job.now) (λ tag. char_count tag ≤ 255) }
+    ensures worked { WorkedOn D.told D.faults D.crashes job.now (given_at asked (stamp_of who.now (C.last clock.new))) (disk_in db) result.done result.disk }
     ensures once { ReadOnce (C.to_come clock.old) (C.to_come clock.new) (C.last clock.new) }
 {
     let mut db = db;
     match stamped(alloc, asked, who, clock) {
         Ok(given) => {
-            let done = run_command(alloc, command, given, &mut db, &sql);
+            let done = run_job(alloc, job, given, &mut db, &sql);
             Worked {
                 disk: db.into_disk(),
                 done,

@@ -13,14 +13,14 @@ ghost use Rattle.lq_tell.specs.Lines.{status_lines};
 ghost use Rattle.lq_tell.specs.Texts.{IsSilent};
 ghost use Rattle.lq_tell.specs.declared.status.Status.TheVariants as status;
 ghost use Rattle.lq_top.specs.Alone.{TakesSteps};
-ghost use Rattle.lq_top.specs.Asks.{Asks, HasFault, HasNoForm, IsFaultOf, IsUsage, asked_tag, asks_drill};
+ghost use Rattle.lq_top.specs.Asks.{Asks, AsksInVain, HasFault, HasNoForm, HasNoPart, IsFaultOf, IsUsage, asked_tag, asks_drill};
 ghost use Rattle.lq_top.specs.Bytes.{IsDamagedAt};
 ghost use Rattle.lq_top.specs.Clock.{ReadAtMostOnce, ReadUpTo};
 ghost use Rattle.lq_top.specs.Drilled.{AsksDrill, RunsDrill};
 ghost use Rattle.lq_top.specs.Headline.{GoesBack, GoneBack, HasSynced, HasUpdated, IsTaken};
-ghost use Rattle.lq_top.specs.Jobs.{is_apart};
+ghost use Rattle.lq_top.specs.Jobs.{is_apart, misses};
 ghost use Rattle.lq_top.specs.Resumed.{LeavesMarked, RollbackResumes, UpdateResumes};
-ghost use Rattle.lq_top.specs.Run.{Crashes, EndsUnread, IsDamage, IsLogged, IsLoggedInPart, IsSafe, IsUnread, OpensAtCrash, Runs, SparesDamage};
+ghost use Rattle.lq_top.specs.Run.{Crashes, EndsInVain, EndsUnread, IsDamage, IsLogged, IsLoggedInPart, IsSafe, IsUnread, OpensAtCrash, Runs, SparesDamage};
 ghost use Rattle.lq_top.specs.Says.{Said, SaidInPart, Warns};
 ghost use Rattle.lq_top.specs.Soaked.{SaysSoak};
 
@@ -62,8 +62,10 @@ pub fn run<F: Files, D: Disk, C: Clock, O: Sink, L: Sink>(
     ensures read { result.status ≡ status.ReadFault → Rose (F.faults files.old) (F.faults files.new) }
     ensures changelog { (fault : LoadFault) → result.status ≡ status.Changelog fault → IsFaultOf (map (λ word. string_bytes word) words.now) (F.told files.old) fault }
     ensures changelog_only { (fault : LoadFault) → HasFault (map (λ word. string_bytes word) words.now) (F.told files.old) fault → EndsUnread fault result.status }
+    ensures missed { (line : Line) → line_of (map (λ word. string_bytes word) words.now) ≡ Some line → misses line.job result.status ≡ true → HasNoPart (F.told files.old) line × (result.disk ≡ disk) }
+    ensures in_vain { AsksInVain (map (λ word. string_bytes word) words.now) (F.told files.old) → EndsInVain result.status disk result.disk }
     ensures damaged { (line : Line) → line_of (map (λ word. string_bytes word) words.now) ≡ Some line → IsDamage line.options.dialect (D.told disk) result.status }
-    ensures damaged_only { (line : Line) (at : ℕ) → line_of (map (λ word. string_bytes word) words.now) ≡ Some line → is_apart line.job ≡ false → IsDamagedAt line.options.dialect (D.told disk) at → SparesDamage at result.status (D.told disk) (D.told result.disk) }
+    ensures damaged_only { (line : Line) (at : ℕ) → line_of (map (λ word. string_bytes word) words.now) ≡ Some line → is_apart line.job ≡ false → IsDamagedAt line.options.dialect (D.told disk) at → SparesDamage line.job at result.status (D.told disk) (D.told result.disk) }
     ensures disk { result.status ≡ status.DiskFault → Rose (D.faults disk) (D.faults result.disk) }
     ensures write { result.status ≡ status.WriteFault → Rose (O.faults out.old) (O.faults out.new) }
 

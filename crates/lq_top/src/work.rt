@@ -13,26 +13,28 @@ ghost use Rattle.lq_outside.specs.Crash.{Settled};
 ghost use Rattle.lq_sources.specs.declared.fault.LoadFault.{LoadFault as Fault};
 ghost use Rattle.lq_tell.specs.Texts.{status_done};
 ghost use Rattle.lq_tell.specs.declared.status.Status.TheVariants as status;
-ghost use Rattle.lq_top.specs.Asks.{Asks, HasFault, HasNoForm, IsFaultOf, IsUsage, asked_by, asked_tag, asks_drill, back_tag, given_to, is_drill, loaded};
+ghost use Rattle.lq_cli.specs.Job.{goal_of};
+ghost use Rattle.lq_top.specs.Asks.{Asks, AsksInVain, HasFault, HasNoForm, HasNoPart, IsFaultOf, IsUsage, asked_by, asked_tag, asks_drill, given_to, is_drill, loaded};
 ghost use Rattle.lq_top.specs.Bytes.{IsDamagedAt, TellsDamage, given_at};
 ghost use Rattle.lq_top.specs.Clock.{ReadAtMostOnce, ReadUpTo};
 ghost use Rattle.lq_top.specs.Copies.{job_of};
 ghost use Rattle.lq_top.specs.Drilled.{AsksDrill, DoesDrill, DrilledBy, IsFormless, IsSettled};
-ghost use Rattle.lq_top.specs.Jobs.{DoesLine, is_apart, is_command, job_tag};
+ghost use Rattle.lq_top.specs.Jobs.{DoesLine, is_apart, is_own, job_tag};
 ghost use Rattle.lq_top.specs.Kinds.{IsNotLoaded, IsOfFiles, IsOfWords};
 ghost use Rattle.lq_top.specs.Run.{Crashes};
 ghost use Rattle.lq_top.specs.Soaked.{TellsSoakOf};
-ghost use Rattle.lq_top.specs.Worked.{Spares, WorkedBy, WorkedOn};
+ghost use Rattle.lq_top.specs.Worked.{InVain, Spares, WorkedBy, WorkedOn, WorkedWith, has_missed};
 
-use crate::changelogs::{changelog_of, file_status};
+use crate::changelogs::{changelog_of, file_status, part_for};
 use crate::copying::{Printing, on_copy};
 use crate::drilling::drill;
 use crate::opening::{Worked, on_disk};
 use crate::soak::{Seed, soak};
-use lq_base::{Command, Dialect, Target, Text};
+use lq_base::{Dialect, Text};
 use lq_cli::{Job, Line, WordsFault, read_words};
 use lq_commands::Asked;
 use lq_expr::Options;
+use lq_kinds::Changelog;
 use lq_model::SqlText;
 use lq_my::My;
 use lq_outside::{Clock, Disk, Files};
@@ -45,7 +47,7 @@ use std::alloc::Global;
 pub struct Ending<D: Disk> {
     pub disk: D,
     pub done: Result<Done, Status>,
-    /// The tag that a rollback goes back to.
+    /// The tag that a rollback goes back to, or an update on to.
     pub tag: Option<Text>,
 }
 
@@ -68,9 +70,11 @@ pub fn work<F: Files, D: Disk, C: Clock>(
     ensures untouched { IsOfFiles result.done → result.disk ≡ disk }
     ensures does { (asks : Asks (map (λ word. string_bytes word) words.now) (F.told files.old)) → DoesLine asks.line.job (given_at (asked_by asks.line.options asks.changelog) (stamp_of who.now (C.last clock.new))) (D.told disk) result.done (D.told result.disk) }
     ensures any_moment { (asks : Asks (map (λ word. string_bytes word) words.now) (F.told files.old)) → Crashes asks (stamp_of who.now (C.last clock.new)) (D.told disk) (D.crashes disk) (D.crashes result.disk) }
-    ensures safe { (asks : Asks (map (λ word. string_bytes word) words.now) (F.told files.old)) → is_command asks.line.job ≡ true → is_finished (status_done result.done) ≡ true → Settled (D.told result.disk) (D.crashes result.disk) }
+    ensures safe { (asks : Asks (map (λ word. string_bytes word) words.now) (F.told files.old)) → is_own asks.line.job ≡ true → is_finished (status_done result.done) ≡ true → Settled (D.told result.disk) (D.crashes result.disk) }
     ensures damaged { (line : Line) → line_of (map (λ word. string_bytes word) words.now) ≡ Some line → TellsDamage line.options.dialect (D.told disk) result.done }
-    ensures damaged_only { (line : Line) (at : ℕ) → line_of (map (λ word. string_bytes word) words.now) ≡ Some line → is_apart line.job ≡ false → IsDamagedAt line.options.dialect (D.told disk) at → Spares at (D.told disk) result.done (D.told result.disk) }
+    ensures damaged_only { (line : Line) (at : ℕ) → line_of (map (λ word. string_bytes word) words.now) ≡ Some line → is_apart line.job ≡ false → IsDamagedAt line.options.dialect (D.told disk) at → Spares line.job at (D.told disk) result.done (D.told result.disk) }
+    ensures missed { (line : Line) → line_of (map (λ word. string_bytes word) words.now) ≡ Some line → has_missed line.job result.done ≡ true → HasNoPart (F.told files.old) line × (result.disk ≡ disk) }
+    ensures in_vain { AsksInVain (map (λ word. string_bytes word) words.now) (F.told files.old) → InVain result.done disk result.disk }
     ensures soaks { (line : Line) → line_of (map (λ word. string_bytes word) words.now) ≡ Some line → TellsSoakOf line.job line.options.dialect (stamp_of who.now (C.last clock.new)) result.done }
     ensures off { (line : Line) → line_of (map (λ word. string_bytes word) words.now) ≡ Some line → is_apart line.job ≡ true → result.disk ≡ disk }
     ensures tag { (result.tag ≡ asked_tag (line_of (map (λ word. string_bytes word) words.now))) ⊎ (result.done ≡ Err status.OutOfMemory) }
@@ -113,7 +117,7 @@ fn on_line<F: Files, D: Disk, C: Clock>(
     ensures worked { is_drill line.job ≡ false → WorkedBy D.told D.faults D.crashes (F.told files.old) (λ source. given_to source line) line.job line.options (stamp_of who.now (C.last clock.new)) disk result.done result.disk }
     ensures drilled { (runs : List ℕ) → line.job ≡ job.Drill runs → DrilledBy D.told D.faults D.crashes (F.told files.old) line.options.dialect line.path runs who.now (C.to_come clock.old) (C.to_come clock.new) disk result.done result.disk }
     ensures soaks { TellsSoakOf line.job line.options.dialect (stamp_of who.now (C.last clock.new)) result.done }
-    ensures tag { result.tag ≡ back_tag line.job }
+    ensures tag { result.tag ≡ goal_of line.job }
     ensures once { is_drill line.job ≡ false → ReadAtMostOnce (C.to_come clock.old) (C.to_come clock.new) (C.last clock.new) }
 {
     let Line {
@@ -123,7 +127,7 @@ fn on_line<F: Files, D: Disk, C: Clock>(
         root,
         given,
     } = line;
-    match job {
+    match &job {
         Job::Drill(runs) => {
             let path = path.as_str();
             let runs = runs.as_str();
@@ -143,7 +147,7 @@ fn on_line<F: Files, D: Disk, C: Clock>(
                 tag: None,
             }
         }
-        job => on_command(
+        _ => on_command(
             alloc,
             job,
             options,
@@ -173,7 +177,7 @@ fn on_command<F: Files, D: Disk, C: Clock>(
     ensures read { result.done ≡ Err status.ReadFault → Rose (F.faults files.old) (F.faults files.new) }
     ensures worked { WorkedBy D.told D.faults D.crashes (F.told files.old) (λ source. loaded source options.dialect given.now root.now) job options (stamp_of who.now (C.last clock.new)) disk result.done result.disk }
     ensures soaks { TellsSoakOf job options.dialect (stamp_of who.now (C.last clock.new)) result.done }
-    ensures tag { result.tag ≡ back_tag job }
+    ensures tag { result.tag ≡ goal_of job }
     ensures once { ReadAtMostOnce (C.to_come clock.old) (C.to_come clock.new) (C.last clock.new) }
 {
     let Worked { disk, done } = in_dialect(
@@ -182,18 +186,7 @@ fn on_command<F: Files, D: Disk, C: Clock>(
     Ending {
         disk,
         done,
-        tag: tag_of(job),
-    }
-}
-
-/// The tag that a rollback goes back to.
-fn tag_of(job: Job) -> Option<Text>
-    ensures { result ≡ back_tag job }
-{
-    match job {
-        Job::Run(Command::Rollback(Target::Tag(tag))) => Some(tag),
-        Job::RollbackSql(Target::Tag(tag)) => Some(tag),
-        _ => None,
+        tag: job.into_goal(),
     }
 }
 
@@ -246,13 +239,42 @@ fn with_sql<F: Files, D: Disk, C: Clock, P: SqlText + Drop + Copy>(
     ensures once { ReadAtMostOnce (C.to_come clock.old) (C.to_come clock.new) (C.last clock.new) }
 {
     match changelog_of(alloc, files, root, options.dialect, &sql, given) {
-        Ok(changelog) => {
-            let asked = Asked { changelog, options };
-            on_job(alloc, sql, job, asked, who, disk, clock)
-        }
+        Ok(changelog) => on_part(alloc, sql, job, options, changelog, who, disk, clock),
         Err(fault) => Worked {
             disk,
             done: Err(file_status(fault)),
+        },
+    }
+}
+
+// The files gave this changelog. Without a part of it to run nothing is opened.
+fn on_part<D: Disk, C: Clock, P: SqlText + Drop + Copy>(
+    alloc: Global,
+    sql: P,
+    job: &Job,
+    options: Options,
+    changelog: Changelog,
+    who: &str,
+    disk: D,
+    clock: &mut C,
+) -> Worked<D>
+    requires sql { P.dialect ≡ options.dialect }
+    requires read { AreFor options.dialect changelog }
+    requires short { All HasShortTexts changelog.sets }
+    requires tag { IfSome (job_tag job.now) (λ tag. char_count tag ≤ 255) }
+    requires no_drill { is_drill job.now ≡ false }
+    ensures worked { WorkedWith D.told D.faults D.crashes job.now options changelog (stamp_of who.now (C.last clock.new)) disk result.done result.disk }
+    ensures soaks { TellsSoakOf job.now options.dialect (stamp_of who.now (C.last clock.new)) result.done }
+    ensures once { ReadAtMostOnce (C.to_come clock.old) (C.to_come clock.new) (C.last clock.new) }
+{
+    match part_for(job, changelog) {
+        Some(changelog) => {
+            let asked = Asked { changelog, options };
+            on_job(alloc, sql, job, asked, who, disk, clock)
+        }
+        None => Worked {
+            disk,
+            done: Err(Status::NoTarget),
         },
     }
 }
@@ -275,8 +297,10 @@ fn on_job<D: Disk, C: Clock, P: SqlText + Drop + Copy>(
     ensures soaks { TellsSoakOf job.now asked.options.dialect (stamp_of who.now (C.last clock.new)) result.done }
     ensures once { ReadAtMostOnce (C.to_come clock.old) (C.to_come clock.new) (C.last clock.new) }
 {
+    if is_own(job) {
+        return on_disk(alloc, disk, sql, job, asked, who, clock);
+    }
     match job {
-        Job::Run(command) => on_disk(alloc, disk, sql, command, asked, who, clock),
         Job::UpdateSql => printed(alloc, disk, sql, Printing::Update, asked, who, clock),
         Job::RollbackSql(target) => {
             let printing = Printing::Rollback(target);
@@ -290,7 +314,17 @@ fn on_job<D: Disk, C: Clock, P: SqlText + Drop + Copy>(
             let done = soak(alloc, sql, asked.options.dialect, seed, who, clock);
             Worked { disk, done }
         }
-        Job::Drill(_) => unreachable!(),
+        _ => unreachable!(),
+    }
+}
+
+// It works on the database of the file itself.
+fn is_own(job: &Job) -> bool
+    ensures { result ≡ is_own job.now }
+{
+    match job {
+        Job::Run(_) | Job::UpdateCount(_) | Job::UpdateTo(_) | Job::History => true,
+        _ => false,
     }
 }
 

@@ -65,7 +65,7 @@ too_long s ss is = grind (arith, nat_tests, is)
 
 -- whether a changeset has no row
 
-new_at : {Key : Type 0} (x : Set Key) (rows : List Tracked) → what x rows ≡ Some New → has_row rows x.identity ≡ false
+pub new_at : {Key : Type 0} (x : Set Key) (rows : List Tracked) → what x rows ≡ Some New → has_row rows x.identity ≡ false
 new_at x rows is = by x.selected (row_at x.identity rows) refl is where
   by : (chosen : Bool) (o : Option Tracked) → row_at x.identity rows ≡ o → cond chosen (what_by x o) None ≡ Some New → has_row rows x.identity ≡ false
   by false o at q = Prim.cc
@@ -95,19 +95,19 @@ tested_by turn P runs halts skips marks condition (Err reason) = by condition.on
 -- what is refused with nothing kept changes nothing
 
 module _ (d : Dialect) (turn : Turn) (c : Contents) where
-  abbrev Unmoved : Ending → Type 0
+  abbrev pub Unmoved : Ending → Type 0
   Unmoved (Finished e) = Unit {0}
   Unmoved (Refused e refusal) = (refusal.kept == 0) ≡ true → e ≡ c
 
-  refused_unmoved : (before stay : List Statement) (reason : Reason) → Unmoved (refused d before stay reason c)
+  pub refused_unmoved : (before stay : List Statement) (reason : Reason) → Unmoved (refused d before stay reason c)
   refused_unmoved before [] reason is = refl
   refused_unmoved before (s ∷ ss) reason is = absurd (too_long s ss is)
 
-  row_unmoved : (users : Catalogue) (r : Result (List Tracked) Reason) → Unmoved (elim r as (λ _. Ending) [ Ok rows ↦ Finished (record { users = users; rows = rows }) | Err reason ↦ refused d turn.statements (kept d turn turn.statements false) reason c ])
+  pub row_unmoved : (users : Catalogue) (r : Result (List Tracked) Reason) → Unmoved (elim r as (λ _. Ending) [ Ok rows ↦ Finished (record { users = users; rows = rows }) | Err reason ↦ refused d turn.statements (kept d turn turn.statements false) reason c ])
   row_unmoved users (Ok rows) = tt
   row_unmoved users (Err reason) = refused_unmoved turn.statements (kept d turn turn.statements false) reason
 
-  course_unmoved : (q : Course) → Unmoved (elim q as (λ _. Ending) [ Through users ↦ row_ending d turn users c | Stuck before s reason ↦ refused d before (kept d turn before (is_marked d turn s)) reason c ])
+  pub course_unmoved : (q : Course) → Unmoved (elim q as (λ _. Ending) [ Through users ↦ row_ending d turn users c | Stuck before s reason ↦ refused d before (kept d turn before (is_marked d turn s)) reason c ])
   course_unmoved (Through users) = row_unmoved users (rows_after turn.row c.rows)
   course_unmoved (Stuck before s reason) = refused_unmoved before (kept d turn before (is_marked d turn s)) reason
 

@@ -1,7 +1,8 @@
 -- The databases that the calls of a turn commit, one after another.
 use Rattle.std.proofs.Common.{ap, subst, sym, ◌∙◌}
 use Rattle.std.proofs.lemmas.List.{append_assoc}
-use Rattle.std.specs.Prelude.{Bool, Err, List, Ok, Result, [], false, refl, true, ℕ, ◌++◌, ◌∷◌, ◌≡◌}
+use Rattle.std.specs.Prelude.{Bool, Err, List, None, Ok, Option, Result, Some, [], false, refl, true, ℕ, ◌++◌, ◌∷◌, ◌≡◌}
+use Rattle.std.specs.List.{last_or}
 use Rattle.lq_base.specs.declared.dialect.Dialect.{Dialect}
 use Rattle.lq_base.specs.declared.reason.Reason.{Reason}
 use Rattle.lq_base.specs.declared.tracking.Tracked.{Tracked}
@@ -24,63 +25,75 @@ use Rattle.lq_turns.proofs.Effects.{course_through, ok_same}
 use Rattle.lq_turns.proofs.Entered.{is_finished}
 use Rattle.lq_turns.proofs.Journal.{done_both, next, same_ok}
 
-module _ (d : Dialect) (P : Database → Type 0) where
-  -- the entries lead from one database to another, and each that is passed has the property
-  abbrev pub Visits : Database → Journal → Database → Type 0
-  Visits database [] last = P database × (database ≡ last)
-  Visits database (deeds ∷ entries) last = P database × ((now : Database) × (all_done d deeds database ≡ Ok now) × Visits now entries last)
+pub last_or_both : (o : Option Deed) (xs ys : List Deed) → last_or o (xs ++ ys) ≡ last_or (last_or o xs) ys
+last_or_both o [] ys = refl
+last_or_both o (x ∷ xs) ys = last_or_both (Some x) xs ys
 
-  pub visits_both : (database : Database) (entries more : Journal) (mid last : Database) → Visits database entries mid → Visits mid more last → Visits database (entries ++ more) last
-  visits_both database [] more mid last first second = subst (λ x. Visits x more last) (sym first.1) second
-  visits_both database (deeds ∷ entries) more mid last first second = (first.0, (first.1.0, first.1.1, visits_both first.1.0 entries more mid last first.1.2 second))
+pub last_or_push : (o : Option Deed) (xs : List Deed) (x : Deed) → last_or o (xs ++ x ∷ []) ≡ Some x
+last_or_push o xs x = last_or_both o xs (x ∷ [])
 
-  pub visits_front : (database : Database) (front rest : Journal) (last now : Database) → Visits database (front ++ rest) last → all_done d (joined front) database ≡ Ok now → P now
-  visits_front database [] [] last now v led = subst P (same_ok d led) v.0
-  visits_front database [] (e ∷ rest) last now v led = subst P (same_ok d led) v.0
-  visits_front database (deeds ∷ front) rest last now v led =
+module _ (d : Dialect) (P : Option Deed → Database → Type 0) where
+  -- The entries lead from one database to another, and each that is passed has the property, which is asked of the last deed before it too.
+  abbrev pub Visits : Option Deed → Database → Journal → Option Deed → Database → Type 0
+  Visits o database [] p last = P o database × (o ≡ p) × (database ≡ last)
+  Visits o database (deeds ∷ entries) p last = P o database × ((now : Database) × (all_done d deeds database ≡ Ok now) × Visits (last_or o deeds) now entries p last)
+
+  pub visits_both : (o : Option Deed) (database : Database) (entries more : Journal) (q : Option Deed) (mid : Database) (p : Option Deed) (last : Database) → Visits o database entries q mid → Visits q mid more p last → Visits o database (entries ++ more) p last
+  visits_both o database [] more q mid p last first second = subst (λ x. Visits o x more p last) (sym first.2) (subst (λ z. Visits z mid more p last) (sym first.1) second)
+  visits_both o database (deeds ∷ entries) more q mid p last first second = (first.0, (first.1.0, first.1.1, visits_both (last_or o deeds) first.1.0 entries more q mid p last first.1.2 second))
+
+  pub visits_front : (o : Option Deed) (database : Database) (front rest : Journal) (p : Option Deed) (last now : Database) → Visits o database (front ++ rest) p last → all_done d (joined front) database ≡ Ok now → P (last_or o (joined front)) now
+  visits_front o database [] [] p last now v led = subst (P o) (same_ok d led) v.0
+  visits_front o database [] (e ∷ rest) p last now v led = subst (P o) (same_ok d led) v.0
+  visits_front o database (deeds ∷ front) rest p last now v led =
       let parts = done_both d deeds (joined front) database in
-      visits_front v.1.0 front rest last now v.1.2 (sym (ap (next d (joined front)) v.1.1) ∙ sym parts ∙ led)
+      subst (λ l. P l now) (sym (last_or_both o deeds (joined front)))
+      (visits_front (last_or o deeds) v.1.0 front rest p last now v.1.2 (sym (ap (next d (joined front)) v.1.1) ∙ sym parts ∙ led))
 
-  pub visits_last : (database : Database) (entries : Journal) (last : Database) → Visits database entries last → P last
-  visits_last database [] last v = subst P v.1 v.0
-  visits_last database (deeds ∷ entries) last v = visits_last v.1.0 entries last v.1.2
+  pub visits_last : (o : Option Deed) (database : Database) (entries : Journal) (p : Option Deed) (last : Database) → Visits o database entries p last → P p last
+  visits_last o database [] p last v = subst (λ l. P l last) v.1 (subst (P o) v.2 v.0)
+  visits_last o database (deeds ∷ entries) p last v = visits_last (last_or o deeds) v.1.0 entries p last v.1.2
 
   -- from one session to another, each database that is committed has the property
   pub record Fine (s t : Session) : Type 0 where
     pub more : Journal
     pub entries : t.entries ≡ s.entries ++ more
-    pub visits : Visits s.committed more t.committed
+    -- the last deed that was committed
+    pub last : Option Deed
+    pub visits : Visits None s.committed more last t.committed
     pub leads : all_done d t.begun t.committed ≡ Ok t.seen
 
-  any_visits : (deeds : List Deed) (database now : Database) → all_done d deeds database ≡ Ok now → P database → P now → Visits database (if_any deeds) now
-  any_visits [] database now led p q = (p, same_ok d led)
-  any_visits (deed ∷ deeds) database now led p q = (p, (now, led, (q, refl)))
+  pub any_visits : (o : Option Deed) (deeds : List Deed) (database now : Database) → all_done d deeds database ≡ Ok now → P o database → P (last_or o deeds) now → Visits o database (if_any deeds) (last_or o deeds) now
+  any_visits o [] database now led p q = (p, refl, same_ok d led)
+  any_visits o (deed ∷ deeds) database now led p q = (p, (now, led, (q, refl, refl)))
 
-  pub fine_up : (s t : Session) → Fine s t → P t.seen → Fine s (settled_up t)
+  abbrev pub fine_up : (s t : Session) (fine : Fine s t) → P (last_or fine.last t.begun) t.seen → Fine s (settled_up t)
   fine_up s t fine p = record {
     more = fine.more ++ if_any t.begun;
     entries = ap (λ es. es ++ if_any t.begun) fine.entries ∙ append_assoc s.entries fine.more (if_any t.begun);
-    visits = visits_both s.committed fine.more (if_any t.begun) t.committed t.seen fine.visits (any_visits t.begun t.committed t.seen fine.leads (visits_last s.committed fine.more t.committed fine.visits) p);
+    last = last_or fine.last t.begun;
+    visits = visits_both None s.committed fine.more (if_any t.begun) fine.last t.committed (last_or fine.last t.begun) t.seen fine.visits (any_visits fine.last t.begun t.committed t.seen fine.leads (visits_last None s.committed fine.more fine.last t.committed fine.visits) p);
     leads = refl;
   }
 
-  pub fine_closed : (s t : Session) → Fine s t → P t.seen → Fine s (closed t)
-  fine_closed s t fine p = let it = fine_up s t fine p in record { more = it.more; entries = it.entries; visits = it.visits; leads = refl }
+  abbrev pub fine_closed : (s t : Session) (fine : Fine s t) → P (last_or fine.last t.begun) t.seen → Fine s (closed t)
+  fine_closed s t fine p = let it = fine_up s t fine p in record { more = it.more; entries = it.entries; last = it.last; visits = it.visits; leads = refl }
 
-  pub fine_aborted : (s t : Session) → Fine s t → Fine s (aborted t)
-  fine_aborted s t fine = record { more = fine.more; entries = fine.entries; visits = fine.visits; leads = refl }
+  abbrev pub fine_aborted : (s t : Session) → Fine s t → Fine s (aborted t)
+  fine_aborted s t fine = record { more = fine.more; entries = fine.entries; last = fine.last; visits = fine.visits; leads = refl }
 
-  pub fine_open : (s t : Session) → Fine s t → Fine s (record t { is_open = true })
-  fine_open s t fine = record { more = fine.more; entries = fine.entries; visits = fine.visits; leads = fine.leads }
+  abbrev pub fine_open : (s t : Session) → Fine s t → Fine s (record t { is_open = true })
+  fine_open s t fine = record { more = fine.more; entries = fine.entries; last = fine.last; visits = fine.visits; leads = fine.leads }
 
   -- a deed that commits nothing
   abbrev pub with_deed : Deed → Database → Session → Session
   with_deed deed now t = record t { seen = now; begun = t.begun ++ deed ∷ [] }
 
-  pub fine_deed : (deed : Deed) (now : Database) (s t : Session) → done d deed t.seen ≡ Ok now → Fine s t → Fine s (with_deed deed now t)
+  abbrev pub fine_deed : (deed : Deed) (now : Database) (s t : Session) → done d deed t.seen ≡ Ok now → Fine s t → Fine s (with_deed deed now t)
   fine_deed deed now s t is fine = record {
     more = fine.more;
     entries = fine.entries;
+    last = fine.last;
     visits = fine.visits;
     leads = done_both d t.begun (deed ∷ []) t.committed ∙ ap (next d (deed ∷ [])) fine.leads ∙ ap (next d []) is;
   }

@@ -1,7 +1,7 @@
 -- What stands at each moment of a command that holds the lock for its turns.
 use Rattle.std.proofs.Common.{ap, inl, inr, subst, sym, ◌∙◌}
 use Rattle.std.proofs.lemmas.List.{append_assoc}
-use Rattle.std.specs.List.{list_all}
+use Rattle.std.specs.List.{last_or, list_all}
 use Rattle.std.specs.Prelude.{Bool, List, None, Ok, Option, Some, [], false, if◌then◌else◌, map, not, pos, refl, true, ℕ, ◌&&◌, ◌++◌, ◌∷◌, ◌≡◌, ◌⊎◌}
 use Rattle.lq_base.specs.declared.dialect.Dialect.{Dialect}
 use Rattle.lq_base.specs.declared.dialect.Dialect.TheVariants.{Mysql, Postgresql}
@@ -19,9 +19,9 @@ use Rattle.lq_turns.specs.Deed.{all_done, if_accepted, lock_after, rows_after}
 use Rattle.lq_turns.specs.Effects.{not_fresh}
 use Rattle.lq_turns.specs.Laws.{AreRead}
 use Rattle.lq_turns.specs.Rollback.{all_rolled, calls_if_finished, rolled_as, turns_made}
-use Rattle.lq_turns.specs.Script.{calls_of_turn, calls_unless, closing, has_work, if_missing, opening, rows_to_sync, set_calls, sets_calls, sync_of, turn_by, with_lock}
+use Rattle.lq_turns.specs.Script.{calls_of_turn, calls_unless, closing, has_work, if_missing, opening, rows_to_sync, set_calls, sets_calls, sync_of, turn_by, update_calls, with_lock}
 use Rattle.lq_turns.specs.Session.{Session, all_called, all_executed, is_own, session_on, settled_if}
-use Rattle.lq_turns.specs.Set.{IsKept, Meaning, Set}
+use Rattle.lq_turns.specs.Set.{Changelog, IsKept, Meaning, Set}
 use Rattle.lq_turns.specs.Settle.{Settled, all_settled, choice, did_of, fill_turn, followed, is_halt, mark_turn, own_choice, run_ending, run_turn, settle, settled_as, settled_by}
 use Rattle.lq_turns.specs.Stops.{Journal, joined}
 use Rattle.lq_turns.specs.Synced.{all_inserted, inserted_then, with_rows}
@@ -29,6 +29,7 @@ use Rattle.lq_turns.specs.declared.call.Call.{Call}
 use Rattle.lq_turns.specs.declared.call.Call.TheVariants.{Begin, Commit, Execute}
 use Rattle.lq_turns.specs.declared.choice.Choice.{Choice}
 use Rattle.lq_turns.specs.declared.choice.Choice.TheVariants.{Fills, Halts, Marks, Passes, Runs, Skips}
+use Rattle.lq_turns.specs.declared.deed.Deed.{Deed}
 use Rattle.lq_turns.specs.declared.deed.Deed.TheVariants.{Locks, Rows}
 use Rattle.lq_turns.specs.declared.deed.OnLock.{OnLock}
 use Rattle.lq_turns.specs.declared.deed.OnLock.TheVariants.{Freed, LockMade, LockRowMade, LogMade, Marked, Taken}
@@ -38,7 +39,7 @@ use Rattle.lq_turns.specs.declared.stop.Stop.{Stop}
 use Rattle.lq_turns.specs.declared.turn.Turn.{Turn}
 use Rattle.lq_turns.specs.Turn.{Ending, Finished, Refused, contents_in, ending, made, turn_calls}
 use Rattle.lq_turns.specs.First.{holds_unless}
-use Rattle.lq_turns.specs.Within.{IsBetween, RollbackStands, RollbackStops, SyncStops, UpdateStands, UpdateStops, gives_way, is_refused, is_turn_refused, none_gives_way}
+use Rattle.lq_turns.specs.Within.{IsBetween, RollbackStands, RollbackStops, SyncStops, UpdateFront, UpdateFronts, UpdateStands, UpdateStops, gives_way, is_refused, is_turn_refused, none_gives_way}
 use Rattle.lq_turns.proofs.Entered.{is_finished}
 use Rattle.lq_turns.proofs.GoesOn.{onwards, still}
 use Rattle.lq_turns.proofs.Journal.{same_ok}
@@ -46,7 +47,7 @@ use Rattle.lq_turns.proofs.Made.{calls_both}
 use Rattle.lq_turns.proofs.Marks.{Fine, Visits, deed_taken, fine_aborted, fine_closed, fine_deed, fine_open, fine_up, visits_front, with_deed}
 use Rattle.lq_turns.proofs.TurnLeft.{row_not_own}
 use Rattle.lq_turns.proofs.TurnStops.{if_ok, turn_stops}
-use Rattle.lq_turns.proofs.Updates.{run_is, settled_is, turn_left}
+use Rattle.lq_turns.proofs.Updates.{opened, run_is, sets_taken, settled_is, turn_left}
 
 -- the calls around the turns
 
@@ -64,8 +65,8 @@ freed_not_own : (d : Dialect) → is_own d (Locks Freed) ≡ false
 freed_not_own Postgresql = refl
 freed_not_own Mysql = refl
 
-module _ (d : Dialect) (P : Database → Type 0) (stamp : Stamp) (database : Database)
-    (unheld : (now : Database) → now.lock ≡ free → P now) (between : (now : Database) → IsBetween stamp (contents_of database) now → P now) (unlocked : database.lock ≡ free) where
+module _ (d : Dialect) (P : Option Deed → Database → Type 0) (stamp : Stamp) (database : Database)
+    (unheld : (o : Option Deed) (now : Database) → now.lock ≡ free → contents_of now ≡ contents_of database → P o now) (between : (o : Option Deed) (now : Database) → IsBetween stamp (contents_of database) now → P o now) (unlocked : database.lock ≡ free) where
   abbrev start : Session
   start = session_on database
 
@@ -90,7 +91,7 @@ module _ (d : Dialect) (P : Database → Type 0) (stamp : Stamp) (database : Dat
 
   up_opens : (own : Bool) (s : Session) → Opens s → Opens (settled_if own s)
   up_opens false s is = is
-  up_opens true s is = record { fine = fine_up d P start s is.fine (unheld s.seen is.lock); lock = is.lock; contents = is.contents }
+  up_opens true s is = record { fine = fine_up d P start s is.fine (unheld (last_or is.fine.last s.begun) s.seen is.lock is.contents); lock = is.lock; contents = is.contents }
 
   one_opens : (w : OnLock) (s : Session) → keeps_lock w ≡ true → Opens s → Opens (with_deed d P (Locks w) (with_contents (lock_after w s.seen) (contents_of s.seen)) s)
   one_opens w s keeps is = record {
@@ -118,7 +119,7 @@ module _ (d : Dialect) (P : Database → Type 0) (stamp : Stamp) (database : Dat
       let now = with_contents (lock_after (Taken stamp.reading stamp.who) s.seen) (contents_of s.seen) in
       subst (λ own. IsReady (contents_of database) (all_executed d [] (settled_if own (with_deed d P (Locks (Taken stamp.reading stamp.who)) now (settled_if own s))))) (sym (taken_not_own d stamp.reading stamp.who))
       (let at : IsBetween stamp (contents_of database) now = record { contents = is.contents; lock = refl } in record {
-        fine = fine_closed d P start (with_deed d P (Locks (Taken stamp.reading stamp.who)) now s) (fine_deed d P (Locks (Taken stamp.reading stamp.who)) now start s refl is.fine) (between now at);
+        fine = fine_closed d P start (with_deed d P (Locks (Taken stamp.reading stamp.who)) now s) (fine_deed d P (Locks (Taken stamp.reading stamp.who)) now start s refl is.fine) (between (last_or is.fine.last (s.begun ++ Locks (Taken stamp.reading stamp.who) ∷ [])) now at);
         begun = refl;
         at = at;
       })
@@ -134,26 +135,27 @@ module _ (d : Dialect) (P : Database → Type 0) (stamp : Stamp) (database : Dat
       opens_more (if_missing database.has_log LogMade) locks (IsReady (contents_of database)) start (missing_keep database.has_log LogMade refl)
       (λ s first. opens_more (if_missing database.has_lock LockMade) rows (IsReady (contents_of database)) s (missing_keep database.has_lock LockMade refl)
       (λ t second. opens_more (if_missing database.has_lock_row LockRowMade) (Taken stamp.reading stamp.who ∷ []) (IsReady (contents_of database)) t (missing_keep database.has_lock_row LockRowMade refl) takes_lock second) first)
-      (record { fine = record { more = []; entries = refl; visits = (unheld database unlocked, refl); leads = refl }; lock = unlocked; contents = refl })
+      (record { fine = record { more = []; entries = refl; last = None; visits = (unheld None database unlocked refl, refl, refl); leads = refl }; lock = unlocked; contents = refl })
 
-  frees_lock : (s : Session) → Fine d P start s → Fine d P start (all_executed d (Locks Freed ∷ []) s)
-  frees_lock s fine =
+  frees_lock : (s : Session) → ((o : Option Deed) (now : Database) → now.lock ≡ free → contents_of now ≡ contents_of s.seen → P o now) → Fine d P start s → Fine d P start (all_executed d (Locks Freed ∷ []) s)
+  frees_lock s ended fine =
       let now = with_contents (lock_after Freed s.seen) (contents_of s.seen) in
       subst (λ own. Fine d P start (all_executed d [] (settled_if own (with_deed d P (Locks Freed) now (settled_if own s))))) (sym (freed_not_own d))
-      (fine_closed d P start (with_deed d P (Locks Freed) now s) (fine_deed d P (Locks Freed) now start s refl fine) (unheld now refl))
+      (fine_closed d P start (with_deed d P (Locks Freed) now s) (fine_deed d P (Locks Freed) now start s refl fine) (ended (last_or fine.last (s.begun ++ Locks Freed ∷ [])) now refl refl))
 
   -- each front of its entries leads to what has the property
-  pub locked_stops : (calls : List Call) → ((s : Session) → IsReady (contents_of database) s → Fine d P start (all_called d calls s)) → (front rest : Journal) (now : Database)
-      → (all_called d (with_lock stamp database calls) start).entries ≡ front ++ rest → all_done d (joined front) database ≡ Ok now → P now
-  locked_stops calls go front rest now is led =
+  pub locked_stops : (calls : List Call) → ((s : Session) → IsReady (contents_of database) s → Fine d P start (all_called d calls s))
+      → ((o : Option Deed) (now : Database) → now.lock ≡ free → contents_of now ≡ contents_of (all_called d calls (all_executed d (map Locks (opening stamp database)) start)).seen → P o now) → (front rest : Journal) (now : Database)
+      → (all_called d (with_lock stamp database calls) start).entries ≡ front ++ rest → all_done d (joined front) database ≡ Ok now → P (last_or None (joined front)) now
+  locked_stops calls go ended front rest now is led =
       let here = all_executed d (map Locks (opening stamp database)) start in
-      let fine = frees_lock (all_called d calls here) (go here ready) in
+      let fine = frees_lock (all_called d calls here) ended (go here ready) in
       let entries = sym fine.entries ∙ sym (ap (λ (s : Session). s.entries) (calls_both d calls (closing ∷ []) here)) ∙ is in
-      visits_front d P database front rest (all_executed d (Locks Freed ∷ []) (all_called d calls here)).committed now
-      (subst (λ es. Visits d P database es (all_executed d (Locks Freed ∷ []) (all_called d calls here)).committed) entries fine.visits) led
+      visits_front d P None database front rest fine.last (all_executed d (Locks Freed ∷ []) (all_called d calls here)).committed now
+      (subst (λ es. Visits d P None database es fine.last (all_executed d (Locks Freed ∷ []) (all_called d calls here)).committed) entries fine.visits) led
 
-  pub nothing_stops : (front rest : Journal) (now : Database) → (let none : Journal = [] in none) ≡ front ++ rest → all_done d (joined front) database ≡ Ok now → P now
-  nothing_stops [] rest now is led = subst P (same_ok d led) (unheld database unlocked)
+  pub nothing_stops : (front rest : Journal) (now : Database) → (let none : Journal = [] in none) ≡ front ++ rest → all_done d (joined front) database ≡ Ok now → P (last_or None (joined front)) now
+  nothing_stops [] rest now is led = subst (P None) (same_ok d led) (unheld None database unlocked refl)
   nothing_stops (e ∷ front) rest now is led = Prim.cc
 
 never : {A : Type 0} (lock : Lock) → lock ≡ free → lock.locked ≡ true → A
@@ -213,20 +215,23 @@ module _ {Key : Type 0} (d : Dialect) (m : Meaning Key) (keeps : IsKept m) (stam
     abbrev first : Contents
     first = contents_of database
 
-    abbrev IsStanding : Database → Type 0
-    IsStanding now = now.lock.locked ≡ true → UpdateStands d m stamp sets first now
+    abbrev IsStanding : Option Deed → Database → Type 0
+    IsStanding o now = UpdateFront d m stamp sets first o now
 
-    unheld : (now : Database) → now.lock ≡ free → IsStanding now
-    unheld now is held = never now.lock is held
+    unheld : (o : Option Deed) (now : Database) → now.lock ≡ free → contents_of now ≡ contents_of database → IsStanding o now
+    unheld o now is at = inr (is, inl at)
+
+    over : (o : Option Deed) (now : Database) → now.lock ≡ free → contents_of now ≡ (all_settled d m stamp.reading sets first).contents → IsStanding o now
+    over o now is at = inr (is, inr at)
 
     abbrev after : List (Set Key) → Contents
     after turns = (all_settled d m stamp.reading turns first).contents
 
-    between : (turns rest : List (Set Key)) (now : Database) → sets ≡ turns ++ rest → (all_settled d m stamp.reading turns first).stop ≡ None → IsBetween stamp (after turns) now → IsStanding now
-    between turns rest now are stop at held = record { turns = turns; rest = rest; are = are; goes_on = stop; stands = inl at }
+    between : (turns rest : List (Set Key)) (o : Option Deed) (now : Database) → sets ≡ turns ++ rest → (all_settled d m stamp.reading turns first).stop ≡ None → IsBetween stamp (after turns) now → IsStanding o now
+    between turns rest o now are stop at = inl (ap (λ (l : Lock). l.locked) at.lock, record { turns = turns; rest = rest; are = are; goes_on = stop; stands = inl at })
 
     abbrev Ready : Contents → Session → Type 0
-    Ready c s = IsReady d IsStanding stamp database unheld (λ now at. between [] sets now refl refl at) unlocked c s
+    Ready c s = IsReady d IsStanding stamp database unheld (λ o now at. between [] sets o now refl refl at) unlocked c s
 
     -- one more
     one_more : (turns : List (Set Key)) (x : Set Key) (o : Option Stop) → (all_settled d m stamp.reading turns first).stop ≡ None → (settle d m stamp.reading x (after turns)).stop ≡ o → o ≡ None
@@ -254,10 +259,10 @@ module _ {Key : Type 0} (d : Dialect) (m : Meaning Key) (keeps : IsKept m) (stam
         let q = choice x c in
         let contents = settled_is d m keeps stamp x c q read sound ∙ ap (λ t. turn_left d t c) is in
         let over = turn_stops d IsStanding stamp turn c
-        (λ now within held. record { turns = turns; rest = x ∷ more; are = are; goes_on = stop; stands = inr (x, more, turn, refl, is, within) })
-        (λ e now done at.
+        (λ o now within. inl (ap (λ (l : Lock). l.locked) within.lock, record { turns = turns; rest = x ∷ more; are = are; goes_on = stop; stands = inr (x, more, turn, refl, is, within) }))
+        (λ o e now done at.
         let past = one_more turns x (here x turns).stop stop refl (goes_past x c q turn is read sound (ap is_finished done)) in
-        between (turns ++ x ∷ []) more now (are ∙ sym (append_assoc turns (x ∷ []) more)) past.1
+        between (turns ++ x ∷ []) more o now (are ∙ sym (append_assoc turns (x ∷ []) more)) past.1
         (record { contents = at.contents ∙ sym (past.0 ∙ contents ∙ ap contents_in done); lock = at.lock }))
         (session_on database) s ready.fine ready.at.contents ready.at.lock in
         record {
@@ -300,28 +305,42 @@ module _ {Key : Type 0} (d : Dialect) (m : Meaning Key) (keeps : IsKept m) (stam
               (subst (λ (c : Contents). none_gives_way d m stamp xs c ≡ true) (sym more.0) none) next)
         ]) refl (and_right (not (gives_way d m stamp x (after turns))) _ skip))
 
+module _ {Key : Type 0} (m : Meaning Key) (keeps : IsKept m) (d : Dialect) (stamp : Stamp) (g : Changelog Key) (database : Database) (sound : IsSound d database.users) (read : AreRead d m g.sets) (unlocked : database.lock ≡ free)
+    (skip : none_gives_way d m stamp g.sets (contents_of database) ≡ true) where
+  -- what stands at a front of its entries
+  abbrev StandsAt : Journal → Database → Type 0
+  StandsAt front now = IsStanding d m keeps stamp g.sets database unlocked (last_or None (joined front)) now
+
+  with_turns : (front rest : Journal) (now : Database) → (all_called d (with_lock stamp database (sets_calls d m stamp g.sets (contents_of database))) (session_on database)).entries ≡ front ++ rest → all_done d (joined front) database ≡ Ok now → StandsAt front now
+  with_turns front rest now is led =
+      let here = all_executed d (map Locks (opening stamp database)) (session_on database) in
+      let taken = sets_taken d m keeps stamp g.sets (contents_of database) here read sound (opened d stamp database) in
+      locked_stops d (IsStanding d m keeps stamp g.sets database unlocked) stamp database (unheld d m keeps stamp g.sets database unlocked)
+      (λ o e at. between d m keeps stamp g.sets database unlocked [] g.sets o e refl refl at) unlocked (sets_calls d m stamp g.sets (contents_of database))
+      (λ s ready. all_past d m keeps stamp g.sets database unlocked [] g.sets s refl refl read sound skip ready)
+      (λ o e is at. over d m keeps stamp g.sets database unlocked o e is (at ∙ taken.seen))
+      front rest now is led
+
+  without : (front rest : Journal) (now : Database) → (let nothing : Journal = [] in nothing) ≡ front ++ rest → all_done d (joined front) database ≡ Ok now → StandsAt front now
+  without front rest now is led =
+      nothing_stops d (IsStanding d m keeps stamp g.sets database unlocked) stamp database (unheld d m keeps stamp g.sets database unlocked)
+      (λ o e at. between d m keeps stamp g.sets database unlocked [] g.sets o e refl refl at) unlocked front rest now is led
+
+  all_stand : (front rest : Journal) (now : Database) → (all_called d (update_calls d m stamp g database) (session_on database)).entries ≡ front ++ rest → all_done d (joined front) database ≡ Ok now → StandsAt front now
+  all_stand front rest now is led = by (has_work g.sets database.rows && not (is_halt (own_choice g (contents_of database)))) is where
+    by : (b : Bool) → (all_called d (if b then with_lock stamp database (sets_calls d m stamp g.sets (contents_of database)) else []) (session_on database)).entries ≡ front ++ rest → StandsAt front now
+    by true q = with_turns front rest now q led
+    by false q = without front rest now q led
+
+-- at each front of its entries
+pub update_fronts : {Key : Type 0} (m : Meaning Key) → IsKept m → UpdateFronts m
+update_fronts m keeps d stamp g database now front rest sound read unlocked skip is led = all_stand m keeps d stamp g database sound read unlocked skip front rest now is led
+
 pub update_stops : {Key : Type 0} (m : Meaning Key) → IsKept m → UpdateStops m
-update_stops m keeps d stamp g database now front rest sound read unlocked skip is led held =
-    by (has_work g.sets database.rows) (is_halt (own_choice g (contents_of database))) refl is where
-      go : (front rest : Journal) (now : Database) → is_halt (own_choice g (contents_of database)) ≡ false → (all_called d (with_lock stamp database (sets_calls d m stamp g.sets (contents_of database))) (session_on database)).entries ≡ front ++ rest
-          → all_done d (joined front) database ≡ Ok now → now.lock.locked ≡ true → UpdateStands d m stamp g.sets (contents_of database) now
-      go front rest now halt is led held =
-          locked_stops d (IsStanding d m keeps stamp g.sets database unlocked) stamp database (unheld d m keeps stamp g.sets database unlocked)
-          (λ e at. between d m keeps stamp g.sets database unlocked [] g.sets e refl refl at) unlocked (sets_calls d m stamp g.sets (contents_of database))
-          (λ s ready. all_past d m keeps stamp g.sets database unlocked [] g.sets s refl refl read sound
-          skip ready)
-          front rest now is led held
-
-      none : (front rest : Journal) (now : Database) → (let nothing : Journal = [] in nothing) ≡ front ++ rest → all_done d (joined front) database ≡ Ok now → now.lock.locked ≡ true → UpdateStands d m stamp g.sets (contents_of database) now
-      none front rest now is led held =
-          nothing_stops d (IsStanding d m keeps stamp g.sets database unlocked) stamp database (unheld d m keeps stamp g.sets database unlocked)
-          (λ e at. between d m keeps stamp g.sets database unlocked [] g.sets e refl refl at) unlocked front rest now is led held
-
-      by : (work halt : Bool) → is_halt (own_choice g (contents_of database)) ≡ halt
-          → (all_called d (if work && not halt then with_lock stamp database (sets_calls d m stamp g.sets (contents_of database)) else []) (session_on database)).entries ≡ front ++ rest → UpdateStands d m stamp g.sets (contents_of database) now
-      by true false at q = go front rest now at q led held
-      by true true at q = none front rest now q led held
-      by false halt at q = none front rest now q led held
+update_stops m keeps d stamp g database now front rest sound read unlocked skip is led held = elim (update_fronts m keeps d stamp g database now front rest sound read unlocked skip is led) as (λ _. UpdateStands d m stamp g.sets (contents_of database) (last_or None (joined front)) now) [
+  | inl stands ↦ stands.1
+  | inr rests ↦ never now.lock rests.0 held
+]
 
 -- a rollback
 
@@ -342,30 +361,30 @@ module _ (d : Dialect) (stamp : Stamp) where
     abbrev origin : Contents
     origin = contents_of database
 
-    abbrev IsStandingBack : Database → Type 0
-    IsStandingBack now = now.lock.locked ≡ true → RollbackStands d stamp all origin now
+    abbrev IsStandingBack : Option Deed → Database → Type 0
+    IsStandingBack o now = now.lock.locked ≡ true → RollbackStands d stamp all origin o now
 
-    unheld_back : (now : Database) → now.lock ≡ free → IsStandingBack now
-    unheld_back now is held = never now.lock is held
+    unheld_back : (o : Option Deed) (now : Database) → now.lock ≡ free → contents_of now ≡ contents_of database → IsStandingBack o now
+    unheld_back o now is at held = never now.lock is held
 
     abbrev rolled : List Turn → Contents
     rolled turns = (all_rolled d turns origin).contents
 
-    between_back : (turns rest : List Turn) (now : Database) → all ≡ turns ++ rest → (all_rolled d turns origin).stop ≡ None → IsBetween stamp (rolled turns) now → IsStandingBack now
-    between_back turns rest now are stop at held = record { turns = turns; rest = rest; are = are; goes_on = stop; stands = inl at }
+    between_back : (turns rest : List Turn) (o : Option Deed) (now : Database) → all ≡ turns ++ rest → (all_rolled d turns origin).stop ≡ None → IsBetween stamp (rolled turns) now → IsStandingBack o now
+    between_back turns rest o now are stop at held = record { turns = turns; rest = rest; are = are; goes_on = stop; stands = inl at }
 
     abbrev ReadyBack : Contents → Session → Type 0
-    ReadyBack c s = IsReady d IsStandingBack stamp database unheld_back (λ now at. between_back [] all now refl refl at) unlocked c s
+    ReadyBack c s = IsReady d IsStandingBack stamp database unheld_back (λ o now at. between_back [] all o now refl refl at) unlocked c s
 
     one_back : (turns : List Turn) (turn : Turn) (more : List Turn) (s : Session) → all ≡ turns ++ turn ∷ more → (all_rolled d turns origin).stop ≡ None → ReadyBack (rolled turns) s
         → (over : Fine d IsStandingBack (session_on database) (all_called d (made d (turn_calls d stamp.who turn) (rolled turns)) s))
         × (((e : Contents) × (ending d turn (rolled turns) ≡ Finished e) × ReadyBack (rolled (turns ++ turn ∷ [])) (all_called d (made d (turn_calls d stamp.who turn) (rolled turns)) s)) ⊎ (is_finished (ending d turn (rolled turns)) ≡ false))
     one_back turns turn more s are stop ready =
         let over = turn_stops d IsStandingBack stamp turn (rolled turns)
-        (λ now within held. record { turns = turns; rest = turn ∷ more; are = are; goes_on = stop; stands = inr (turn, more, refl, within) })
-        (λ e now done at.
+        (λ o now within held. record { turns = turns; rest = turn ∷ more; are = are; goes_on = stop; stands = inr (turn, more, refl, within) })
+        (λ o e now done at.
         let past = rolled_more turns turn origin e stop done in
-        between_back (turns ++ turn ∷ []) more now (are ∙ sym (append_assoc turns (turn ∷ []) more)) past.1 (record { contents = at.contents ∙ sym past.0; lock = at.lock }))
+        between_back (turns ++ turn ∷ []) more o now (are ∙ sym (append_assoc turns (turn ∷ []) more)) past.1 (record { contents = at.contents ∙ sym past.0; lock = at.lock }))
         (session_on database) s ready.fine ready.at.contents ready.at.lock in (
           over.fine,
           elim over.ended as (λ _. ((e : Contents) × (ending d turn (rolled turns) ≡ Finished e) × ReadyBack (rolled (turns ++ turn ∷ [])) (all_called d (made d (turn_calls d stamp.who turn) (rolled turns)) s)) ⊎ (is_finished (ending d turn (rolled turns)) ≡ false)) [
@@ -399,11 +418,11 @@ module _ (d : Dialect) (stamp : Stamp) where
 
 pub rollback_stops : RollbackStops
 rollback_stops d stamp [] database now front rest unlocked is led held =
-    nothing_stops d (IsStandingBack d stamp [] database unlocked) stamp database (unheld_back d stamp [] database unlocked) (λ e at. between_back d stamp [] database unlocked [] [] e refl refl at) unlocked front rest now is led held
+    nothing_stops d (IsStandingBack d stamp [] database unlocked) stamp database (unheld_back d stamp [] database unlocked) (λ o e at. between_back d stamp [] database unlocked [] [] o e refl refl at) unlocked front rest now is led held
 rollback_stops d stamp (turn ∷ turns) database now front rest unlocked is led held =
     locked_stops d (IsStandingBack d stamp (turn ∷ turns) database unlocked) stamp database (unheld_back d stamp (turn ∷ turns) database unlocked)
-    (λ e at. between_back d stamp (turn ∷ turns) database unlocked [] (turn ∷ turns) e refl refl at) unlocked (turns_made d stamp.who (turn ∷ turns) (contents_of database))
-    (λ s ready. all_back d stamp (turn ∷ turns) database unlocked [] (turn ∷ turns) s refl refl ready) front rest now is led held
+    (λ o e at. between_back d stamp (turn ∷ turns) database unlocked [] (turn ∷ turns) o e refl refl at) unlocked (turns_made d stamp.who (turn ∷ turns) (contents_of database))
+    (λ s ready. all_back d stamp (turn ∷ turns) database unlocked [] (turn ∷ turns) s refl refl ready) (λ o e is at held. never e.lock is held) front rest now is led held
 
 -- a changelog-sync
 
@@ -414,8 +433,8 @@ module _ (d : Dialect) (stamp : Stamp) (all : List Tracked) (database : Database
   abbrev target : Contents
   target = with_rows source (all_inserted all database.rows)
 
-  abbrev IsSynced : Database → Type 0
-  IsSynced now = now.lock.locked ≡ true → IsBetween stamp source now ⊎ IsBetween stamp target now
+  abbrev IsSynced : Option Deed → Database → Type 0
+  IsSynced o now = now.lock.locked ≡ true → IsBetween stamp source now ⊎ IsBetween stamp target now
 
   abbrev inserts : List Tracked → List Call
   inserts rows = map (λ r. Execute (Rows (Inserted r))) rows ++ Commit ∷ []
@@ -443,11 +462,11 @@ module _ (d : Dialect) (stamp : Stamp) (all : List Tracked) (database : Database
       }))
       (λ reason went. fine_aborted d IsSynced (session_on database) s part.fine)
 
-  unheld_sync : (now : Database) → now.lock ≡ free → IsSynced now
-  unheld_sync now is held = never now.lock is held
+  unheld_sync : (o : Option Deed) (now : Database) → now.lock ≡ free → contents_of now ≡ contents_of database → IsSynced o now
+  unheld_sync o now is at held = never now.lock is held
 
-  between_sync : (now : Database) → IsBetween stamp source now → IsSynced now
-  between_sync now at held = inl at
+  between_sync : (o : Option Deed) (now : Database) → IsBetween stamp source now → IsSynced o now
+  between_sync o now at held = inl at
 
   all_in : (s : Session) → IsReady d IsSynced stamp database unheld_sync between_sync unlocked source s → Fine d IsSynced (session_on database) (all_called d (made d (Begin ∷ inserts all) source) s)
   all_in s ready =
@@ -461,12 +480,12 @@ module _ (d : Dialect) (stamp : Stamp) (all : List Tracked) (database : Database
       }))
 
 sync_by : (d : Dialect) (stamp : Stamp) (rows : List Tracked) (database now : Database) (front rest : Journal) (unlocked : database.lock ≡ free)
-    → (all_called d (sync_of d stamp rows database) (session_on database)).entries ≡ front ++ rest → all_done d (joined front) database ≡ Ok now → IsSynced d stamp rows database unlocked now
+    → (all_called d (sync_of d stamp rows database) (session_on database)).entries ≡ front ++ rest → all_done d (joined front) database ≡ Ok now → IsSynced d stamp rows database unlocked (last_or None (joined front)) now
 sync_by d stamp [] database now front rest unlocked is led =
     nothing_stops d (IsSynced d stamp [] database unlocked) stamp database (unheld_sync d stamp [] database unlocked) (between_sync d stamp [] database unlocked) unlocked front rest now is led
 sync_by d stamp (row ∷ rows) database now front rest unlocked is led =
     locked_stops d (IsSynced d stamp (row ∷ rows) database unlocked) stamp database (unheld_sync d stamp (row ∷ rows) database unlocked) (between_sync d stamp (row ∷ rows) database unlocked) unlocked
-    (made d (Begin ∷ inserts d stamp (row ∷ rows) database unlocked (row ∷ rows)) (contents_of database)) (all_in d stamp (row ∷ rows) database unlocked) front rest now is led
+    (made d (Begin ∷ inserts d stamp (row ∷ rows) database unlocked (row ∷ rows)) (contents_of database)) (all_in d stamp (row ∷ rows) database unlocked) (λ o e is at held. never e.lock is held) front rest now is led
 
 pub sync_stops : (Key : Type 0) → SyncStops Key
 sync_stops Key d stamp g database now front rest unlocked is led held = sync_by d stamp (rows_to_sync stamp.reading g.sets database.rows) database now front rest unlocked is led held

@@ -33,7 +33,7 @@ module _ {Key : Type 0} (d : Dialect) (m : Meaning Key) (keeps : IsKept m) (stam
       elim (settle d m stamp.reading x c).stop as (λ o. IsSound d (followed o (settle d m stamp.reading x c) (all_settled d m stamp.reading xs)).contents.users) [ None ↦ more | Some stop ↦ one ]
 
   -- what happened in the first turns, and in the others
-  happened_both : (xs ys : List (Set Key)) (c : Contents) → (all_settled d m stamp.reading xs c).stop ≡ None
+  pub happened_both : (xs ys : List (Set Key)) (c : Contents) → (all_settled d m stamp.reading xs c).stop ≡ None
       → (all_settled d m stamp.reading (xs ++ ys) c).happened ≡ (all_settled d m stamp.reading xs c).happened ++ (all_settled d m stamp.reading ys (all_settled d m stamp.reading xs c).contents).happened
   happened_both [] ys c stop = refl
   happened_both (x ∷ xs) ys c stop =

@@ -1,12 +1,12 @@
 -- What stands at each moment of a turn, whole or in parts, in both ways of committing.
 use Rattle.std.proofs.Common.{ap, inl, inr, subst, sym, ◌∙◌}
 use Rattle.std.proofs.lemmas.List.{append-nil, append_assoc}
-use Rattle.std.specs.List.{list_any}
-use Rattle.std.specs.Prelude.{Bool, Err, List, Ok, Result, Some, [], false, if◌then◌else◌, length, not, pos, refl, suc, true, ℕ, ◌++◌, ◌||◌, ◌∷◌, ◌≡◌, ◌⊎◌}
+use Rattle.std.specs.List.{last_or, list_any}
+use Rattle.std.specs.Prelude.{Bool, Err, List, Ok, Option, Result, Some, [], false, if◌then◌else◌, length, not, pos, refl, suc, true, ℕ, ◌++◌, ◌||◌, ◌∷◌, ◌≡◌, ◌⊎◌}
 use Rattle.lq_base.specs.declared.dialect.Dialect.{Dialect}
 use Rattle.lq_base.specs.declared.reason.Reason.{Reason}
 use Rattle.lq_base.specs.declared.tracking.Lock.{Lock}
-use Rattle.lq_model.proofs.Lists.{any-append, or_left, or_right, true_false}
+use Rattle.lq_model.proofs.Lists.{any-append, named_itself, or_left, or_right, true_false}
 use Rattle.lq_model.specs.Catalogue.{Catalogue}
 use Rattle.lq_model.specs.Step.{run, step}
 use Rattle.lq_model.specs.declared.caller.By.TheVariants.{User}
@@ -25,10 +25,10 @@ use Rattle.lq_turns.specs.declared.deed.OnLock.TheVariants.{Marked}
 use Rattle.lq_turns.specs.declared.stamp.Stamp.{Stamp}
 use Rattle.lq_turns.specs.declared.turn.Turn.{Turn}
 use Rattle.lq_turns.specs.Turn.{Finished, apart, ending, is_marked, made, mark, mark_text, row_calls, statement_calls, turn_calls, unmark}
-use Rattle.lq_turns.specs.Within.{IsBetween, IsWithin}
+use Rattle.lq_turns.specs.Within.{IsBetween, IsWithin, marks_last}
 use Rattle.lq_turns.proofs.Effects.{run_both, then_run}
 use Rattle.lq_turns.proofs.Entered.{is_finished}
-use Rattle.lq_turns.proofs.Marks.{Fine, deed_taken, ends_by_row, ends_stuck, fine_aborted, fine_closed, fine_deed, fine_open, fine_up}
+use Rattle.lq_turns.proofs.Marks.{Fine, deed_taken, ends_by_row, ends_stuck, fine_aborted, fine_closed, fine_deed, fine_open, fine_up, last_or_push}
 use Rattle.lq_turns.proofs.TurnLeft.{mark_not_own, row_not_own}
 
 pub if_ok : {A B : Type 0} (f : A → B) (r : Result A Reason) (y : B) → if_accepted f r ≡ Ok y → (x : A) × (r ≡ Ok x) × (f x ≡ y)
@@ -43,9 +43,9 @@ length_more : (first : List Statement) (s : Statement) → length (first ++ s �
 length_more [] s = refl
 length_more (x ∷ first) s = ap suc (length_more first s)
 
-module _ (d : Dialect) (P : Database → Type 0) (stamp : Stamp) (turn : Turn) (c : Contents)
-    (within : (now : Database) → IsWithin d stamp turn c now → P now)
-    (after : (e : Contents) (now : Database) → ending d turn c ≡ Finished e → IsBetween stamp e now → P now) (start : Session) where
+module _ (d : Dialect) (P : Option Deed → Database → Type 0) (stamp : Stamp) (turn : Turn) (c : Contents)
+    (within : (o : Option Deed) (now : Database) → IsWithin d stamp turn c o now → P o now)
+    (after : (o : Option Deed) (e : Contents) (now : Database) → ending d turn c ≡ Finished e → IsBetween stamp e now → P o now) (start : Session) where
   -- some statements ran, and are seen; the lock has the mark of the last marked one, or none
   record Inside (first : List Statement) (s : Session) : Type 0 where
     fine : Fine d P start s
@@ -67,7 +67,7 @@ module _ (d : Dialect) (P : Database → Type 0) (stamp : Stamp) (turn : Turn) (
   row_now s now = record s { seen = with_contents s.seen now; begun = s.begun ++ Rows turn.row ∷ [] }
 
   last_commit : (e : Contents) (s : Session) → Fine d P start s → ending d turn c ≡ Finished e → IsBetween stamp e s.seen → IsOver (closed s)
-  last_commit e s fine is at = record { fine = fine_closed d P start s fine (after e s.seen is at); begun = refl; ended = inl (e, is, at) }
+  last_commit e s fine is at = record { fine = fine_closed d P start s fine (after (last_or fine.last s.begun) e s.seen is at); begun = refl; ended = inl (e, is, at) }
 
   row_ends : (flag : Bool) (e : Contents) (s : Session) → Fine d P start s → ending d turn c ≡ Finished e → contents_of s.seen ≡ e → (by : List ℕ) → s.seen.lock ≡ taken (pos stamp.reading) by → (flag ≡ false → by ≡ stamp.who)
       → IsOver (all_called d (made d ((if flag then Execute (Locks (Marked stamp.who)) ∷ [] else []) ++ Commit ∷ []) (contents_of s.seen)) s)
@@ -142,6 +142,7 @@ module _ (d : Dialect) (P : Database → Type 0) (stamp : Stamp) (turn : Turn) (
     ran : run User d first c.users ≡ Ok s.seen.users
     rows : s.seen.rows ≡ c.rows
     lock : s.seen.lock ≡ taken (pos stamp.reading) (mark_text stamp.who turn (suc (length first)))
+    last : (o : Option Deed) → last_or o s.begun ≡ Some (Locks (Marked (mark_text stamp.who turn (suc (length first)))))
 
   mark_taken : (first : List Statement) (calls : List Call) (t : Session) → Inside first t
       → ((u : Session) → IsMarked first u → IsOver (all_called d (made d calls (contents_of u.seen)) u))
@@ -156,38 +157,41 @@ module _ (d : Dialect) (P : Database → Type 0) (stamp : Stamp) (turn : Turn) (
         ran = inside.ran ∙ ap (λ (e : Contents). Ok e.users) same;
         rows = sym (ap (λ (e : Contents). e.rows) same) ∙ inside.rows;
         lock = ap (λ (l : Lock). record l { by = Some text }) inside.lock;
+        last = λ o. last_or_push o t.begun (Locks (Marked text));
       }))
       (λ reason went. Prim.cc)
 
-  within_before : (first rest : List Statement) (s : Statement) (t : Session) → turn.statements ≡ first ++ s ∷ rest → IsMarked first t → P t.seen
-  within_before first rest s t are at = within t.seen (record { before = first; marked = s; after = rest; are = are; lock = at.lock; users = inl at.ran; rows = at.rows })
+  within_before : (first rest : List Statement) (s : Statement) (t : Session) (o : Option Deed) → turn.statements ≡ first ++ s ∷ rest → IsMarked first t → P (last_or o t.begun) t.seen
+  within_before first rest s t o are at =
+      let text = mark_text stamp.who turn (suc (length first)) in
+      within (last_or o t.begun) t.seen (record { before = first; marked = s; after = rest; are = are; lock = at.lock; users = inl (ap (marks_last text) (at.last o) ∙ named_itself text, at.ran); rows = at.rows })
 
   -- one that is marked, and committed by itself
   own_taken : (first rest : List Statement) (s : Statement) (calls : List Call) (t : Session) → turn.statements ≡ first ++ s ∷ rest → is_own d (Users s) ≡ true → is_marked d turn s ≡ true → IsMarked first t
-      → ((u : Session) → P u.seen → Inside (first ++ s ∷ []) u → IsOver (all_called d (made d calls (contents_of u.seen)) u))
+      → ((u : Session) (inside : Inside (first ++ s ∷ []) u) → P (last_or inside.fine.last u.begun) u.seen → IsOver (all_called d (made d calls (contents_of u.seen)) u))
       → IsOver (all_called d (made d (Execute (Users s) ∷ calls) (contents_of t.seen)) t)
   own_taken first rest s calls t are own marked at more =
-      let up = fine_up d P start t at.fine (within_before first rest s t are at) in
+      let up = fine_up d P start t at.fine (within_before first rest s t at.fine.last are at) in
       deed_taken d (Users s) calls t IsOver true own
       (λ now went.
       let r = if_ok (λ r. record (contents_of t.seen) { users = r.0 }) (step User d s t.seen.users) now went in
       let u = after_deed (Users s) now (settled_up t) in
       let ran = ran_more first s t.seen.users r.0.0 r.0.1 at.ran r.1 ∙ ap (λ (e : Contents). Ok e.users) r.2 in
       let rows = sym (ap (λ (e : Contents). e.rows) r.2) ∙ at.rows in
-      let here = within u.seen (record { before = first; marked = s; after = rest; are = are; lock = at.lock; users = inr ran; rows = rows }) in
-      more (settled_up u) here (record {
+      let here = within (Some (Users s)) u.seen (record { before = first; marked = s; after = rest; are = are; lock = at.lock; users = inr (refl, ran); rows = rows }) in
+      more (settled_up u) (record {
         fine = fine_up d P start u (fine_deed d P (Users s) (with_contents t.seen now) start (settled_up t) (ap (if_accepted (with_contents t.seen)) went) up) here;
         ran = ran;
         rows = rows;
         by = mark_text stamp.who turn (suc (length first));
         lock = at.lock;
         bare = λ none. never_marked first s marked none;
-      }))
+      }) here)
       (λ reason went. refused_over first rest s t (settled_up t) reason are at.ran went up)
 
   -- and one that is marked, and committed by a call
   apart_taken : (first rest : List Statement) (s : Statement) (calls : List Call) (t : Session) → turn.statements ≡ first ++ s ∷ rest → is_own d (Users s) ≡ false → is_marked d turn s ≡ true → IsMarked first t
-      → ((u : Session) → P u.seen → Inside (first ++ s ∷ []) u → IsOver (all_called d (made d calls (contents_of u.seen)) u))
+      → ((u : Session) (inside : Inside (first ++ s ∷ []) u) → P (last_or inside.fine.last u.begun) u.seen → IsOver (all_called d (made d calls (contents_of u.seen)) u))
       → IsOver (all_called d (made d (Execute (Users s) ∷ calls) (contents_of t.seen)) t)
   apart_taken first rest s calls t are own marked at more =
       deed_taken d (Users s) calls t IsOver false own
@@ -196,14 +200,16 @@ module _ (d : Dialect) (P : Database → Type 0) (stamp : Stamp) (turn : Turn) (
       let u = after_deed (Users s) now t in
       let ran = ran_more first s t.seen.users r.0.0 r.0.1 at.ran r.1 ∙ ap (λ (e : Contents). Ok e.users) r.2 in
       let rows = sym (ap (λ (e : Contents). e.rows) r.2) ∙ at.rows in
-      more u (within u.seen (record { before = first; marked = s; after = rest; are = are; lock = at.lock; users = inr ran; rows = rows })) (record {
+      let text = mark_text stamp.who turn (suc (length first)) in
+      more u (record {
         fine = fine_deed d P (Users s) (with_contents t.seen now) start t (ap (if_accepted (with_contents t.seen)) went) at.fine;
         ran = ran;
         rows = rows;
         by = mark_text stamp.who turn (suc (length first));
         lock = at.lock;
         bare = λ none. never_marked first s marked none;
-      }))
+      })
+      (within (last_or at.fine.last u.begun) u.seen (record { before = first; marked = s; after = rest; are = are; lock = at.lock; users = inr (ap (marks_last text) (last_or_push at.fine.last t.begun (Users s)), ran); rows = rows })))
       (λ reason went. refused_over first rest s t t reason are at.ran went at.fine)
 
   -- all statements, and what comes after them
@@ -231,18 +237,18 @@ module _ (d : Dialect) (P : Database → Type 0) (stamp : Stamp) (turn : Turn) (
             → Goes (((if whole then (if own then mark stamp.who turn (suc (length first)) ∷ Execute (Users s) ∷ [] else Execute (Users s) ∷ []) else apart stamp.who turn (suc (length first)) s) ++ statement_calls d stamp.who turn (suc (suc (length first))) ss) ++ tail) t
         one_taken true true whole own more =
             mark_taken first (Execute (Users s) ∷ (statement_calls d stamp.who turn (suc (suc (length first))) ss ++ tail)) t inside
-            (λ u at. own_taken first ss s (statement_calls d stamp.who turn (suc (suc (length first))) ss ++ tail) u are own (ap (λ b. not b || commits_itself d s) whole ∙ own) at (λ v here now. more v now))
+            (λ u at. own_taken first ss s (statement_calls d stamp.who turn (suc (suc (length first))) ss ++ tail) u are own (ap (λ b. not b || commits_itself d s) whole ∙ own) at (λ v now here. more v now))
         one_taken true false whole own more = plain_taken first ss s (statement_calls d stamp.who turn (suc (suc (length first))) ss ++ tail) t are own inside more
         one_taken false true whole own more =
             let live = record t { is_open = true } in
             mark_taken first (Execute (Users s) ∷ Commit ∷ (statement_calls d stamp.who turn (suc (suc (length first))) ss ++ tail)) live (inside_at first t live refl (fine_open d P start t inside.fine) inside)
             (λ u at. own_taken first ss s (Commit ∷ (statement_calls d stamp.who turn (suc (suc (length first))) ss ++ tail)) u are own (ap (λ b. not b || commits_itself d s) whole) at
-            (λ v here now. more (closed v) (inside_at (first ++ s ∷ []) v (closed v) refl (fine_closed d P start v now.fine here) now)))
+            (λ v now here. more (closed v) (inside_at (first ++ s ∷ []) v (closed v) refl (fine_closed d P start v now.fine here) now)))
         one_taken false false whole own more =
             let live = record t { is_open = true } in
             mark_taken first (Execute (Users s) ∷ Commit ∷ (statement_calls d stamp.who turn (suc (suc (length first))) ss ++ tail)) live (inside_at first t live refl (fine_open d P start t inside.fine) inside)
             (λ u at. apart_taken first ss s (Commit ∷ (statement_calls d stamp.who turn (suc (suc (length first))) ss ++ tail)) u are own (ap (λ b. not b || commits_itself d s) whole) at
-            (λ v here now. more (closed v) (inside_at (first ++ s ∷ []) v (closed v) refl (fine_closed d P start v now.fine here) now)))
+            (λ v now here. more (closed v) (inside_at (first ++ s ∷ []) v (closed v) refl (fine_closed d P start v now.fine here) now)))
 
   -- a turn, from a session that sees its contents and holds the lock without a mark
   pub turn_stops : (s : Session) → Fine d P start s → contents_of s.seen ≡ c → s.seen.lock ≡ taken (pos stamp.reading) stamp.who → IsOver (all_called d (made d (turn_calls d stamp.who turn) c) s)

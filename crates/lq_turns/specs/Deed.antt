@@ -1,6 +1,6 @@
 -- The statements of a command: a user's, and the program's own on the tracking tables; and what each makes of a database.
 use Rattle.std.specs.List.{filter}
-use Rattle.std.specs.Prelude.{Bool, Err, List, Ok, Result, Some, [], false, if◌then◌else◌, length, map, nat_le, nat_lt, not, pos, true, ℕ, ◌++◌, ◌∷◌}
+use Rattle.std.specs.Prelude.{Bool, Err, List, Ok, Result, Some, [], if◌then◌else◌, length, map, nat_le, nat_lt, not, pos, true, ℕ, ◌++◌, ◌∷◌}
 use Rattle.lq_base.specs.declared.dialect.Dialect.{Dialect}
 use Rattle.lq_base.specs.declared.identity.Identity.{Identity}
 use Rattle.lq_base.specs.declared.reason.Reason.{Reason}

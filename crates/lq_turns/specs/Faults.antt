@@ -12,7 +12,7 @@ use Rattle.lq_turns.specs.declared.fault.Fault.TheVariants.{Changed, Twice}
 module _ {Key : Type 0} where
   abbrev pub changed_by : Set Key → Option (List ℕ) → List Fault
   changed_by x None = []
-  changed_by x (Some was) = if has_changed x (Some was) && not x.run_on_change then Changed x.identity was x.sum ∷ [] else []
+  changed_by x (Some was) = if has_changed x (Some was) && not x.run_on_change then Changed x.identity was (x.sum_like was) ∷ [] else []
 
   abbrev pub changed_at : Set Key → Option Tracked → List Fault
   changed_at x None = []

@@ -1,6 +1,6 @@
 -- A changeset and a changelog, as the commands see them.
-use Rattle.std.specs.List.{find, list_any}
-use Rattle.std.specs.Prelude.{Bool, List, Option, Result, codes, ℕ, ◌||◌}
+use Rattle.std.specs.List.{find, list_any, starts_with}
+use Rattle.std.specs.Prelude.{Bool, List, Option, Result, codes, eqb, if◌then◌else◌, ℕ, ◌||◌}
 use Rattle.lq_base.specs.Text.{is_text}
 use Rattle.lq_base.specs.declared.dialect.Dialect.{Dialect}
 use Rattle.lq_base.specs.declared.identity.Identity.{Identity}
@@ -51,6 +51,8 @@ pub record Set (Key : Type 0) : Type 0 where
   -- whether a stored sum is that of these changes, and whether it is of an old form
   pub is_own_sum : List ℕ → Bool
   pub is_old_sum : List ℕ → Bool
+  -- the sum of these changes in the form of a stored one
+  pub sum_like : List ℕ → List ℕ
   -- the texts of `validCheckSum`
   pub valid_sums : List (List ℕ)
   pub description : List ℕ
@@ -62,6 +64,14 @@ pub record Set (Key : Type 0) : Type 0 where
 pub record Changelog (Key : Type 0) : Type 0 where
   pub condition : Condition
   pub sets : List (Set Key)
+
+-- a stored sum in which the texts of SQL count to the letter
+abbrev pub is_old_form : List ℕ → Bool
+is_old_form sum = starts_with eqb sum (codes "P1:")
+
+-- of a sum in the old form and one in the new, the one of a stored sum's form
+abbrev pub sum_by_form : List ℕ → List ℕ → List ℕ → List ℕ
+sum_by_form old new stored = if is_old_form stored then old else new
 
 -- whose row is the changeset's
 abbrev pub row_at : Identity → List Tracked → Option Tracked

@@ -75,10 +75,13 @@ behind [] text = Some text
 behind (a ∷ front) [] = None
 behind (a ∷ front) (b ∷ text) = if a == b then behind front text else None
 
-abbrev pub is_mark_number : List ℕ → Bool
-is_mark_number text = elim (behind (codes "undo ") text) [ Some count ↦ is_count count | None ↦ is_count text ]
+abbrev pub counts_behind : List ℕ → List ℕ → Bool → Bool
+counts_behind front text other = elim (behind front text) [ Some count ↦ is_count count | None ↦ other ]
 
--- `WHO|IDENTITY|K` or `WHO|IDENTITY|undo K`
+abbrev pub is_mark_number : List ℕ → Bool
+is_mark_number text = counts_behind (codes "undo ") text (counts_behind (codes "back ") text (is_count text))
+
+-- `WHO|IDENTITY|K`, `WHO|IDENTITY|undo K` or `WHO|IDENTITY|back K`
 abbrev pub is_mark : List ℕ → Bool
 is_mark by = elim (at_last_bar by) [ Some parts ↦ is_some (at_last_bar parts.0) && is_mark_number parts.1 | None ↦ false ]
 

@@ -80,7 +80,7 @@ refused_calls = refl
 
 -- a sum that is filled in has its deed alone, as has the row of one that is marked
 pub fill_calls : update_calls Postgresql meaning stamp (changelog (one ∷ [])) (made_on (with_rows (row (codes "1") 1 Executed None ∷ [])))
-    ≡ Alone (Locks (Taken 1000 (codes "ci")) ∷ []) Ordinary ∷ Begin ∷ Execute (Rows (Filled (named (codes "1")) (codes "P1:new"))) ∷ Commit ∷ Alone (Locks Freed ∷ []) Release ∷ []
+    ≡ Alone (Locks (Taken 1000 (codes "ci")) ∷ []) Ordinary ∷ Begin ∷ Execute (Rows (Filled (named (codes "1")) (codes "P2:new"))) ∷ Commit ∷ Alone (Locks Freed ∷ []) Release ∷ []
 fill_calls = refl
 
 -- one that is skipped makes no call, but the command has its lock
@@ -90,7 +90,7 @@ skip_calls = refl
 
 -- without a turn there is no call, nor where the changelog's own condition halts
 
-pub idle_calls : update_calls Postgresql meaning stamp (changelog (one ∷ [])) (made_on (with_rows (row (codes "1") 1 Executed (Some (codes "P1:new")) ∷ []))) ≡ []
+pub idle_calls : update_calls Postgresql meaning stamp (changelog (one ∷ [])) (made_on (with_rows (row (codes "1") 1 Executed (Some (codes "P2:new")) ∷ []))) ≡ []
 idle_calls = refl
 
 pub halted_calls : update_calls Postgresql meaning stamp (record (changelog (one ∷ [])) { condition = told_so (Ok false) on_fail.Halt on_fail.Halt }) empty ≡ []

@@ -45,7 +45,7 @@ pub halt_told : told (settled (fails on_fail.Halt)) ≡ (Ran, codes "1") ∷ []
 unfolding decide into_kind
 halt_told = refl
 
-pub halt_rows : brief (settled (fails on_fail.Halt)).contents.rows ≡ (codes "1", 1, Executed, Some (codes "P1:new")) ∷ []
+pub halt_rows : brief (settled (fails on_fail.Halt)).contents.rows ≡ (codes "1", 1, Executed, Some (codes "P2:new")) ∷ []
 unfolding decide into_kind
 halt_rows = refl
 
@@ -63,7 +63,7 @@ pub continue_told : told (settled (fails on_fail.Continue)) ≡ (Ran, codes "1")
 unfolding decide into_kind
 continue_told = refl
 
-pub continue_rows : brief (settled (fails on_fail.Continue)).contents.rows ≡ (codes "1", 1, Executed, Some (codes "P1:new")) ∷ (codes "3", 2, Executed, Some (codes "P1:new")) ∷ []
+pub continue_rows : brief (settled (fails on_fail.Continue)).contents.rows ≡ (codes "1", 1, Executed, Some (codes "P2:new")) ∷ (codes "3", 2, Executed, Some (codes "P2:new")) ∷ []
 unfolding decide into_kind
 continue_rows = refl
 
@@ -77,7 +77,7 @@ pub mark_told : told (settled (fails on_fail.MarkRan)) ≡ (Ran, codes "1") ∷ 
 unfolding decide into_kind
 mark_told = refl
 
-pub mark_rows : brief (settled (errs on_fail.MarkRan)).contents.rows ≡ (codes "1", 1, Executed, Some (codes "P1:new")) ∷ (codes "2", 2, MarkRan, Some (codes "P1:new")) ∷ (codes "3", 3, Executed, Some (codes "P1:new")) ∷ []
+pub mark_rows : brief (settled (errs on_fail.MarkRan)).contents.rows ≡ (codes "1", 1, Executed, Some (codes "P2:new")) ∷ (codes "2", 2, MarkRan, Some (codes "P2:new")) ∷ (codes "3", 3, Executed, Some (codes "P2:new")) ∷ []
 unfolding decide into_kind
 mark_rows = refl
 

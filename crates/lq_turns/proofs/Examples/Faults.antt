@@ -28,38 +28,52 @@ unselected_twice = refl
 pub other_dialect : faults (record one { here = false } ∷ one ∷ []) [] ≡ []
 other_dialect = refl
 
-pub other_sum : faults (two ∷ one ∷ []) (rows (Some (codes "P1:old"))) ≡ Changed (named (codes "1")) (codes "P1:old") (codes "P1:new") ∷ []
+pub other_sum : faults (two ∷ one ∷ []) (rows (Some (codes "P2:old"))) ≡ Changed (named (codes "1")) (codes "P2:old") (codes "P2:new") ∷ []
 other_sum = refl
 
-pub own_sum : faults (one ∷ []) (rows (Some (codes "P1:new"))) ≡ []
+pub own_sum : faults (one ∷ []) (rows (Some (codes "P2:new"))) ≡ []
 own_sum = refl
 
 pub null_sum : faults (one ∷ []) (rows None) ≡ []
 null_sum = refl
 
-pub runs_on_change : faults (record one { run_on_change = true } ∷ []) (rows (Some (codes "P1:old"))) ≡ []
+pub runs_on_change : faults (record one { run_on_change = true } ∷ []) (rows (Some (codes "P2:old"))) ≡ []
 runs_on_change = refl
 
 -- runAlways does not excuse it
-pub always_runs : faults (record one { run_always = true } ∷ []) (rows (Some (codes "P1:old"))) ≡ Changed (named (codes "1")) (codes "P1:old") (codes "P1:new") ∷ []
+pub always_runs : faults (record one { run_always = true } ∷ []) (rows (Some (codes "P2:old"))) ≡ Changed (named (codes "1")) (codes "P2:old") (codes "P2:new") ∷ []
 always_runs = refl
 
-pub excused : faults (record one { valid_sums = codes "P1:old" ∷ [] } ∷ []) (rows (Some (codes "P1:old"))) ≡ []
+pub excused : faults (record one { valid_sums = codes "P2:old" ∷ [] } ∷ []) (rows (Some (codes "P2:old"))) ≡ []
 excused = refl
 
-pub any_sum : faults (record one { valid_sums = codes "ANY" ∷ [] } ∷ []) (rows (Some (codes "P1:old"))) ≡ []
+pub any_sum : faults (record one { valid_sums = codes "ANY" ∷ [] } ∷ []) (rows (Some (codes "P2:old"))) ≡ []
 any_sum = refl
 
-pub not_excused : faults (record one { valid_sums = codes "P1:older" ∷ [] } ∷ []) (rows (Some (codes "P1:old"))) ≡ Changed (named (codes "1")) (codes "P1:old") (codes "P1:new") ∷ []
+pub not_excused : faults (record one { valid_sums = codes "P2:older" ∷ [] } ∷ []) (rows (Some (codes "P2:old"))) ≡ Changed (named (codes "1")) (codes "P2:old") (codes "P2:new") ∷ []
 not_excused = refl
+
+-- a sum of the old form is held against the old sum, which the fault shows then
+
+pub old_own_sum : faults (one ∷ []) (rows (Some (codes "P1:new"))) ≡ []
+old_own_sum = refl
+
+pub other_old_sum : faults (one ∷ []) (rows (Some (codes "P1:old"))) ≡ Changed (named (codes "1")) (codes "P1:old") (codes "P1:new") ∷ []
+other_old_sum = refl
+
+pub old_excused : faults (record one { valid_sums = codes "P1:old" ∷ [] } ∷ []) (rows (Some (codes "P1:old"))) ≡ []
+old_excused = refl
 
 -- pending is what is new or runs again, and not what is filled in
 
-pub new_ones : pending (one ∷ two ∷ []) (rows (Some (codes "P1:new"))) ≡ named (codes "2") ∷ []
+pub new_ones : pending (one ∷ two ∷ []) (rows (Some (codes "P2:new"))) ≡ named (codes "2") ∷ []
 new_ones = refl
 
-pub one_again : pending (record one { run_always = true } ∷ two ∷ []) (rows (Some (codes "P1:new"))) ≡ named (codes "1") ∷ named (codes "2") ∷ []
+pub one_again : pending (record one { run_always = true } ∷ two ∷ []) (rows (Some (codes "P2:new"))) ≡ named (codes "1") ∷ named (codes "2") ∷ []
 one_again = refl
 
 pub null_sum_is_not_pending : pending (one ∷ []) (rows None) ≡ []
 null_sum_is_not_pending = refl
+
+pub old_sum_is_not_pending : pending (one ∷ []) (rows (Some (codes "P1:new"))) ≡ []
+old_sum_is_not_pending = refl

@@ -16,7 +16,7 @@ use Rattle.lq_model.specs.declared.statement.Statement.TheVariants.{CreateTable,
 use Rattle.lq_track.specs.Database.{Database}
 use Rattle.lq_track.specs.Lock.{free}
 use Rattle.lq_turns.specs.Contents.{Contents}
-use Rattle.lq_turns.specs.Set.{Changelog, Condition, Meaning, Set}
+use Rattle.lq_turns.specs.Set.{Changelog, Condition, Meaning, Set, is_old_form, sum_by_form}
 use Rattle.lq_base.specs.declared.run.OnFail.{OnFail}
 use Rattle.lq_base.specs.declared.run.OnFail.TheVariants.{Halt}
 use Rattle.lq_turns.specs.declared.stamp.Stamp.{Stamp}
@@ -62,6 +62,10 @@ told_so told on_fail on_error = record { told = λ c. told; on_fail = on_fail; o
 abbrev pub always : Condition
 always = told_so (Ok true) Halt Halt
 
+-- the sum of each changeset in the form of a stored one
+abbrev pub new_like : List ℕ → List ℕ
+new_like = sum_by_form (codes "P1:new") (codes "P2:new")
+
 abbrev pub changeset : List ℕ → List Given → Set Given
 changeset id changes = record {
   identity = named id;
@@ -74,9 +78,10 @@ changeset id changes = record {
   run_on_change = false;
   fail_on_error = true;
   in_transaction = true;
-  sum = codes "P1:new";
-  is_own_sum = is_text (codes "P1:new");
-  is_old_sum = λ s. false;
+  sum = codes "P2:new";
+  is_own_sum = λ stored. is_text stored (new_like stored);
+  is_old_sum = is_old_form;
+  sum_like = new_like;
   valid_sums = [];
   description = [];
   comments = [];

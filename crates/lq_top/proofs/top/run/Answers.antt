@@ -12,7 +12,7 @@ use Rattle.lq_top.proofs.OpensAgain.{crash_opens}
 use Rattle.lq_top.proofs.Resumed.{crash_marked, has_gone_on_back, has_resumed, leaves_marked}
 use Rattle.lq_top.proofs.Said.{has_said, said_in_part, succeeds}
 use Rattle.lq_top.proofs.SoakSays.{says_soak}
-use Rattle.lq_top.proofs.Written.{IsWritten, cause, ends_unread, gone_back, has_run, has_synced, has_updated, is_logged, is_logged_part, no_files_left, no_words, tag_so, tells_damage, was_over, written_fault}
+use Rattle.lq_top.proofs.Written.{IsWritten, cause, ends_in_vain, ends_unread, gone_back, had_missed, has_run, has_synced, has_updated, is_logged, is_logged_part, no_files_left, no_words, tag_so, tells_damage, was_over, written_fault}
 use Rattle.lq_top.proofs.top.run.Goals as goal
 use Rattle.lq_top.specs.Asks.{asked_tag}
 use Rattle.lq_top.specs.Run.{is_over}
@@ -50,7 +50,17 @@ returns-clause-damaged g c =
 pub returns-clause-damaged_only : goal.returns-clause-damaged_only
 returns-clause-damaged_only g c =
     let by : IsWritten c.work-disk.result.done c.tell-status.result = record { kind = c.work-disk.ensures.kind; ended = c.tell-status.ensures.status; cut = c.tell-status.ensures.cut; had = c.tell-status.ensures.had } in
-    λ line place is beside damaged. spares_damage place (g.D.Disk.told c.args.disk) c.work-disk.result.done (g.D.Disk.told c.work-disk.result.disk) c.tell-status.result by (c.work-disk.ensures.damaged_only line place is beside damaged)
+    λ line place is beside damaged. spares_damage line.job place (g.D.Disk.told c.args.disk) c.work-disk.result.done (g.D.Disk.told c.work-disk.result.disk) c.tell-status.result by (c.work-disk.ensures.damaged_only line place is beside damaged)
+
+pub returns-clause-missed : goal.returns-clause-missed
+returns-clause-missed g c =
+    let by : IsWritten c.work-disk.result.done c.tell-status.result = record { kind = c.work-disk.ensures.kind; ended = c.tell-status.ensures.status; cut = c.tell-status.ensures.cut; had = c.tell-status.ensures.had } in
+    λ line is_line missed. c.work-disk.ensures.missed line is_line (had_missed line.job c.work-disk.result.done c.tell-status.result by missed)
+
+pub returns-clause-in_vain : goal.returns-clause-in_vain
+returns-clause-in_vain g c =
+    let by : IsWritten c.work-disk.result.done c.tell-status.result = record { kind = c.work-disk.ensures.kind; ended = c.tell-status.ensures.status; cut = c.tell-status.ensures.cut; had = c.tell-status.ensures.had } in
+    λ asks. ends_in_vain c.work-disk.result.done c.tell-status.result by c.args.disk c.work-disk.result.disk (c.work-disk.ensures.in_vain asks)
 
 pub returns-clause-disk : goal.returns-clause-disk
 returns-clause-disk g c =

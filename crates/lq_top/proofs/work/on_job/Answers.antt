@@ -1,23 +1,13 @@
-use Rattle.std.proofs.Common.{ap, inr, subst, sym}
-use Rattle.std.specs.Prelude.{IfSome, ◌≤◌}
-use Rattle.lq_base.specs.Character.{char_count}
+use Rattle.std.proofs.Common.{ap, inr, subst, sym, ◌∙◌}
 use Rattle.lq_commands.specs.Stamp.{stamp_of}
+use Rattle.lq_top.proofs.InPart.{own_beside}
 use Rattle.lq_top.proofs.Loading.{soak_damage, soak_disk, soak_kind}
 use Rattle.lq_top.proofs.OnDatabases.{aside_worked}
 use Rattle.lq_top.proofs.SoakSays.{no_soak, soak_tells}
 use Rattle.lq_top.proofs.work.on_job.Goals as goal
 use Rattle.lq_top.specs.Bytes.{given_at}
-use Rattle.lq_top.specs.Jobs.{is_apart, is_command, is_on_file, job_tag}
+use Rattle.lq_top.specs.Jobs.{goes_on, is_apart, is_on_file, is_own}
 use Rattle.lq_top.specs.Worked.{WorkedOn}
-
-pub on_disk-requires-clause-tag : goal.on_disk-requires-clause-tag
-on_disk-requires-clause-tag g c = subst (λ job. IfSome (job_tag job) (λ tag. char_count tag ≤ 255)) c.in-Run.is c.requires.tag
-
-pub returns-in-Run-clause-worked : goal.returns-in-Run-clause-worked
-returns-in-Run-clause-worked g c =
-    let ran = c.on_disk in
-    subst (λ job. WorkedOn g.D.Disk.told g.D.Disk.faults g.D.Disk.crashes job (given_at c.args.asked (stamp_of c.args.who.now (g.C.Clock.last ran.new.clock))) c.args.disk ran.result.done ran.result.disk)
-    (sym c.in-Run.is) ran.ensures.worked
 
 pub returns-in-UpdateSql-clause-worked : goal.returns-in-UpdateSql-clause-worked
 returns-in-UpdateSql-clause-worked g c =
@@ -37,14 +27,15 @@ pub returns-in-Soak-clause-worked : goal.returns-in-Soak-clause-worked
 returns-in-Soak-clause-worked g c =
     let done = c.soak-done.result in
     let refuses = c.soak-done.ensures.refuses in
-    aside_worked g.D.Disk.told g.D.Disk.faults g.D.Disk.crashes c.args.job.now (given_at c.args.asked (stamp_of c.args.who.now (g.C.Clock.last c.soak-done.new.clock))) c.args.disk done (ap is_on_file c.in-Soak.is) (ap is_apart c.in-Soak.is) (ap is_command c.in-Soak.is)
+    aside_worked g.D.Disk.told g.D.Disk.faults g.D.Disk.crashes c.args.job.now (given_at c.args.asked (stamp_of c.args.who.now (g.C.Clock.last c.soak-done.new.clock))) c.args.disk done (ap is_on_file c.in-Soak.is) (ap is_apart c.in-Soak.is) (ap is_own c.in-Soak.is) (ap goes_on c.in-Soak.is)
     (soak_damage c.args.asked.options.dialect (g.D.Disk.told c.args.disk) done refuses) (soak_kind done refuses) (soak_disk done refuses)
 
 pub returns-in-Soak-clause-once : goal.returns-in-Soak-clause-once
 returns-in-Soak-clause-once g c = inr c.soak-done.ensures.once
 
-pub returns-in-Run-clause-soaks : goal.returns-in-Run-clause-soaks
-returns-in-Run-clause-soaks g c = no_soak c.args.job.now c.args.asked.options.dialect (stamp_of c.args.who.now (g.C.Clock.last c.on_disk.new.clock)) c.on_disk.result.done (ap is_apart c.in-Run.is)
+pub returns-then-is_own-clause-soaks : goal.returns-then-is_own-clause-soaks
+returns-then-is_own-clause-soaks g c =
+    no_soak c.args.job.now c.args.asked.options.dialect (stamp_of c.args.who.now (g.C.Clock.last c.on_disk.new.clock)) c.on_disk.result.done (own_beside c.args.job.now (sym c.is_own.ensures ∙ c.if-is_own.true))
 
 pub returns-in-UpdateSql-clause-soaks : goal.returns-in-UpdateSql-clause-soaks
 returns-in-UpdateSql-clause-soaks g c = no_soak c.args.job.now c.args.asked.options.dialect (stamp_of c.args.who.now (g.C.Clock.last c.printed.new.clock)) c.printed.result.done (ap is_apart c.in-UpdateSql.is)

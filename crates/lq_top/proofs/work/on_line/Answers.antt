@@ -5,8 +5,8 @@ use Rattle.lq_top.proofs.DrillLines.{meant_same, other_given}
 use Rattle.lq_top.proofs.work.on_line.Goals as goal
 use Rattle.lq_top.specs.Asks.{given_to, loaded}
 
-pub returns : goal.returns
-returns g c =
+pub returns-in_default : goal.returns-in_default
+returns-in_default g c =
     let line = c.args.line in
     let ran = c.on_command in
     record {

@@ -1,7 +1,8 @@
 use Rattle.lq_commands.specs.Stamp.{stamp_of}
 use Rattle.lq_top.proofs.DamagedFiles.{spares_by}
+use Rattle.lq_top.proofs.InPart.{no_goal}
 use Rattle.lq_top.proofs.LeftOnFile.{since_read}
-use Rattle.lq_top.proofs.Unchanged.{printed_does, prints_no_command, prints_on_file}
+use Rattle.lq_top.proofs.Unchanged.{printed_does, prints_no_command, prints_no_goal, prints_on_file}
 use Rattle.lq_top.proofs.work.printed.Goals as goal
 use Rattle.lq_top.specs.Bytes.{given_at}
 use Rattle.lq_top.specs.Copies.{job_of}
@@ -15,13 +16,14 @@ returns-clause-worked g c =
     record {
       used = record {
         damaged = ran.ensures.damaged;
-        spares = λ beside place damaged. spares_by place told ran.result (g.D.Disk.told ran.new.disk) (ran.ensures.fails place damaged) ran.ensures.told;
+        spares = λ beside place damaged. spares_by (job_of c.args.printing) place told ran.result (g.D.Disk.told ran.new.disk) (ran.ensures.fails place damaged) ran.ensures.told;
         safe = λ command finished. prints_no_command c.args.printing command;
         off = λ off. prints_on_file c.args.printing off;
         later = ran.ensures.later;
         fault = ran.ensures.fault;
       };
       kind = ran.ensures.kind;
+      has_part = no_goal (job_of c.args.printing) ran.result (prints_no_goal c.args.printing);
       does = λ on database opens.
           printed_does c.args.printing given database told ran.result (g.D.Disk.told ran.new.disk) opens (ran.ensures.answers database opens) (ran.ensures.tells database opens) ran.ensures.room ran.ensures.told;
       any_moment = λ on database opens.

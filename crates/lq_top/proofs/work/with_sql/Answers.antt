@@ -12,13 +12,13 @@ use Rattle.lq_top.specs.Asks.{loaded}
 use Rattle.lq_top.specs.Worked.{WorkedBy}
 
 pub returns-in-Ok-clause-read : goal.returns-in-Ok-clause-read
-returns-in-Ok-clause-read g c = λ is. absurd (no_read_fault c.on_job.result.done c.on_job.ensures.worked.kind is)
+returns-in-Ok-clause-read g c = λ is. absurd (no_read_fault c.on_part.result.done c.on_part.ensures.worked.kind is)
 
 pub returns-in-Ok-clause-worked : goal.returns-in-Ok-clause-worked
 returns-in-Ok-clause-worked g c =
-    let ran = c.on_job in
+    let ran = c.on_part in
     loaded_worked g.D.Disk.told g.D.Disk.faults g.D.Disk.crashes (g.F.Files.told c.args.files.now) (λ source. loaded source c.args.options.dialect c.args.given.now c.args.root.now) c.args.job.now c.args.options
-    (stamp_of c.args.who.now (g.C.Clock.last ran.new.clock)) c.args.disk c.in-Ok.changelog c.in-Ok.ensures.loaded c.in-Ok.ensures.read ran.result.done ran.result.disk ran.ensures.worked
+    (stamp_of c.args.who.now (g.C.Clock.last ran.new.clock)) c.args.disk c.in-Ok.changelog c.in-Ok.ensures.loaded ran.result.done ran.result.disk ran.ensures.worked
 
 pub returns-in-Err-clause-read : goal.returns-in-Err-clause-read
 returns-in-Err-clause-read g c = λ is. c.in-Err.ensures.failed (ap (λ (f : LoadFault). (let r : Loaded Changelog = Err f in r)) (is_read_fault c.in-Err.fault (ap failing (sym c.file_status.ensures) ∙ is)))

@@ -1,30 +1,33 @@
 use Rattle.std.proofs.Common.{ap, inl, inr, refl, subst, sym, ◌∙◌}
-use Rattle.std.specs.Prelude.{Err, List, None, Ok, Result, Some, false, map, string_bytes, true, ℕ, ◌≡◌}
+use Rattle.std.specs.Prelude.{Err, List, None, Ok, Result, Some, [], false, map, string_bytes, true, ℕ, ◌≡◌}
 use Rattle.lq_cli.specs.declared.line.Job.TheVariants.{Drill}
 use Rattle.lq_cli.specs.declared.line.Line.{Line}
+use Rattle.lq_commands.specs.Parts.{part_for}
 use Rattle.lq_commands.specs.Stamp.{stamp_of}
 use Rattle.lq_commands.specs.Works.{is_finished}
+use Rattle.lq_kinds.specs.declared.change_set.Changelog.{Changelog}
 use Rattle.lq_sources.specs.Answers.{IsTold, Source}
 use Rattle.lq_outside.specs.Crash.{Settled}
 use Rattle.lq_tell.specs.Texts.{status_done}
 use Rattle.lq_tell.specs.declared.done.Done.{Done}
 use Rattle.lq_tell.specs.declared.status.Status.{Status}
 use Rattle.lq_tell.specs.declared.status.Status.TheVariants as status
-use Rattle.lq_top.proofs.DamagedFiles.{memory_spares}
+use Rattle.lq_top.proofs.DamagedFiles.{memory_spares, spares_as}
 use Rattle.lq_top.proofs.DrillIdle.{unused_drill}
 use Rattle.lq_top.proofs.DrillLines.{by_job, drill_given, fault_given, fault_there}
 use Rattle.lq_top.proofs.Handing.{line_crashes, unused_crashes}
+use Rattle.lq_top.proofs.InPart.{in_vain_goes_on, no_goal}
 use Rattle.lq_top.proofs.Loading.{false_true, is_failed, is_usage, line_does, line_fails, memory_no_changelog, no_line, no_usage, not_less, of_line_is, other, refused_kind, refused_whole, words_kind}
 use Rattle.lq_top.proofs.Readings.{at_most_once, unread}
 use Rattle.lq_top.proofs.ShortTag.{short_tag}
 use Rattle.lq_top.proofs.SoakSays.{refused_tells}
 use Rattle.lq_top.proofs.work.work.Goals as goal
-use Rattle.lq_top.specs.Asks.{asked_tag, asks_drill, given_to}
+use Rattle.lq_top.specs.Asks.{HasNoPart, asked_tag, asks_drill, given_to}
 use Rattle.lq_top.specs.Bytes.{IsDamagedAt, TellsDamage}
 use Rattle.lq_top.specs.Drilled.{DoesDrill, IsFormless, IsSettled}
 use Rattle.lq_top.specs.Drills.{drill_of}
-use Rattle.lq_top.specs.Jobs.{is_apart, is_command, is_on_file}
-use Rattle.lq_top.specs.Worked.{Spares}
+use Rattle.lq_top.specs.Jobs.{goes_on, is_apart, is_on_file, is_own}
+use Rattle.lq_top.specs.Worked.{InVain, Spares, has_missed}
 use Rattle.lq_top.specs.Soaked.{TellsSoakOf}
 use Rattle.lq_top.specs.declared.drilling.Drilling.{Drilling}
 
@@ -57,7 +60,7 @@ returns-in-Ok-clause-kind g c = by_job c.in-Ok.line.job (λ no. words_kind c.on_
 
 pub returns-in-Ok-clause-does : goal.returns-in-Ok-clause-does
 returns-in-Ok-clause-does g c = λ asks. line_does (map (λ word. string_bytes word) c.args.words.now) (g.F.Files.told c.args.files.now) c.in-Ok.line c.in-Ok.ensures.line (stamp_of c.args.who.now (g.C.Clock.last c.on_line.new.clock)) (g.D.Disk.told c.args.disk) c.on_line.result.done (g.D.Disk.told c.on_line.result.disk)
-    (by_job c.in-Ok.line.job (λ no. (c.on_line.ensures.worked no).does) (λ runs drill source g told gives on. absurd (false_true (sym (ap is_on_file drill) ∙ on)))) asks
+    (by_job c.in-Ok.line.job (λ no. (c.on_line.ensures.worked no).does) (λ runs drill source whole g told gives is_part on. absurd (false_true (sym (ap is_on_file drill) ∙ on)))) asks
 
 pub returns-in-Ok-clause-untouched : goal.returns-in-Ok-clause-untouched
 returns-in-Ok-clause-untouched g c = by_job c.in-Ok.line.job (λ no. (c.on_line.ensures.worked no).untouched) (λ runs drill files. (c.on_line.ensures.drilled runs drill).untouched (inl files))
@@ -65,12 +68,12 @@ returns-in-Ok-clause-untouched g c = by_job c.in-Ok.line.job (λ no. (c.on_line.
 pub returns-in-Ok-clause-any_moment : goal.returns-in-Ok-clause-any_moment
 returns-in-Ok-clause-any_moment g c = λ asks.
     line_crashes (map (λ word. string_bytes word) c.args.words.now) (g.F.Files.told c.args.files.now) c.in-Ok.line c.in-Ok.ensures.line (stamp_of c.args.who.now (g.C.Clock.last c.on_line.new.clock)) (g.D.Disk.told c.args.disk) (g.D.Disk.crashes c.args.disk) (g.D.Disk.crashes c.on_line.result.disk)
-    (by_job c.in-Ok.line.job (λ no. (c.on_line.ensures.worked no).any_moment) (λ runs drill source g told gives on. absurd (false_true (sym (ap is_on_file drill) ∙ on)))) (g.met.D.Disk.sound c.args.disk) asks
+    (by_job c.in-Ok.line.job (λ no. (c.on_line.ensures.worked no).any_moment) (λ runs drill source whole g told gives is_part on. absurd (false_true (sym (ap is_on_file drill) ∙ on)))) (g.met.D.Disk.sound c.args.disk) asks
 
 pub returns-in-Ok-clause-safe : goal.returns-in-Ok-clause-safe
 returns-in-Ok-clause-safe g c = λ asks.
-    of_line_is (map (λ word. string_bytes word) c.args.words.now) (g.F.Files.told c.args.files.now) c.in-Ok.line c.in-Ok.ensures.line (λ (l : Line). is_command l.job ≡ true → is_finished (status_done c.on_line.result.done) ≡ true → Settled (g.D.Disk.told c.on_line.result.disk) (g.D.Disk.crashes c.on_line.result.disk))
-    (by_job c.in-Ok.line.job (λ no. (c.on_line.ensures.worked no).used.safe) (λ runs drill command. absurd (false_true (sym (ap is_command drill) ∙ command)))) asks.line asks.is_line
+    of_line_is (map (λ word. string_bytes word) c.args.words.now) (g.F.Files.told c.args.files.now) c.in-Ok.line c.in-Ok.ensures.line (λ (l : Line). is_own l.job ≡ true → is_finished (status_done c.on_line.result.done) ≡ true → Settled (g.D.Disk.told c.on_line.result.disk) (g.D.Disk.crashes c.on_line.result.disk))
+    (by_job c.in-Ok.line.job (λ no. (c.on_line.ensures.worked no).used.safe) (λ runs drill command. absurd (false_true (sym (ap is_own drill) ∙ command)))) asks.line asks.is_line
 
 pub returns-in-Ok-clause-later : goal.returns-in-Ok-clause-later
 returns-in-Ok-clause-later g c = by_job c.in-Ok.line.job (λ no. (c.on_line.ensures.worked no).used.later) (λ runs drill. (c.on_line.ensures.drilled runs drill).used.later)
@@ -84,8 +87,30 @@ returns-in-Ok-clause-damaged g c = λ line is_line. of_line_is (map (λ word. st
 
 pub returns-in-Ok-clause-damaged_only : goal.returns-in-Ok-clause-damaged_only
 returns-in-Ok-clause-damaged_only g c = λ line place is_line. of_line_is (map (λ word. string_bytes word) c.args.words.now) (g.F.Files.told c.args.files.now) c.in-Ok.line c.in-Ok.ensures.line
-    (λ (l : Line). is_apart l.job ≡ false → IsDamagedAt l.options.dialect (g.D.Disk.told c.args.disk) place → Spares place (g.D.Disk.told c.args.disk) c.on_line.result.done (g.D.Disk.told c.on_line.result.disk))
-    (by_job c.in-Ok.line.job (λ no beside. (c.on_line.ensures.worked no).used.spares beside place) (λ runs drill beside. (c.on_line.ensures.drilled runs drill).used.spares refl place)) line is_line
+    (λ (l : Line). is_apart l.job ≡ false → IsDamagedAt l.options.dialect (g.D.Disk.told c.args.disk) place → Spares l.job place (g.D.Disk.told c.args.disk) c.on_line.result.done (g.D.Disk.told c.on_line.result.disk))
+    (by_job c.in-Ok.line.job (λ no beside. (c.on_line.ensures.worked no).used.spares beside place) (λ runs drill beside damaged. spares_as (Drill []) c.in-Ok.line.job place (g.D.Disk.told c.args.disk) c.on_line.result.done (g.D.Disk.told c.on_line.result.disk) refl ((c.on_line.ensures.drilled runs drill).used.spares refl place damaged))) line is_line
+
+pub returns-in-Ok-clause-missed : goal.returns-in-Ok-clause-missed
+returns-in-Ok-clause-missed g c = λ line is_line. of_line_is (map (λ word. string_bytes word) c.args.words.now) (g.F.Files.told c.args.files.now) c.in-Ok.line c.in-Ok.ensures.line
+    (λ (l : Line). has_missed l.job c.on_line.result.done ≡ true → HasNoPart (g.F.Files.told c.args.files.now) l × (c.on_line.result.disk ≡ c.args.disk))
+    (by_job c.in-Ok.line.job (λ no. (c.on_line.ensures.worked no).missed) (λ runs drill missed. absurd (false_true (sym (no_goal c.in-Ok.line.job c.on_line.result.done (ap goes_on drill)) ∙ missed)))) line is_line
+
+pub returns-in-Ok-clause-in_vain : goal.returns-in-Ok-clause-in_vain
+returns-in-Ok-clause-in_vain g c = λ asks. of_line_is (map (λ word. string_bytes word) c.args.words.now) (g.F.Files.told c.args.files.now) c.in-Ok.line c.in-Ok.ensures.line
+    (λ (l : Line). (source : Source) (whole : Changelog) → IsTold (g.F.Files.told c.args.files.now) source → given_to source l ≡ Ok whole → part_for l.job whole ≡ None → InVain c.on_line.result.done c.args.disk c.on_line.result.disk)
+    (by_job c.in-Ok.line.job (λ no. (c.on_line.ensures.worked no).in_vain) (λ runs drill source whole told gives none. absurd (false_true (sym (ap goes_on drill) ∙ in_vain_goes_on c.in-Ok.line.job whole none)))) asks.line asks.is_line asks.source asks.whole asks.told asks.gives asks.no_part
+
+pub returns-in-Err-Usage-clause-missed : goal.returns-in-Err-Usage-clause-missed
+returns-in-Err-Usage-clause-missed g c = λ line is_line. no_line (map (λ word. string_bytes word) c.args.words.now) line (c.in-Err-Usage.ensures.usage c.in-Err-Usage.field-0-is) is_line
+
+pub returns-in-Err-Usage-clause-in_vain : goal.returns-in-Err-Usage-clause-in_vain
+returns-in-Err-Usage-clause-in_vain g c = λ asks. no_line (map (λ word. string_bytes word) c.args.words.now) asks.line (c.in-Err-Usage.ensures.usage c.in-Err-Usage.field-0-is) asks.is_line
+
+pub returns-in-Err-OutOfMemory-clause-missed : goal.returns-in-Err-OutOfMemory-clause-missed
+returns-in-Err-OutOfMemory-clause-missed g c = λ line is_line missed. absurd (false_true (sym (ap (has_missed line.job) c.refused-in-Err-OutOfMemory.ensures.done) ∙ missed))
+
+pub returns-in-Err-OutOfMemory-clause-in_vain : goal.returns-in-Err-OutOfMemory-clause-in_vain
+returns-in-Err-OutOfMemory-clause-in_vain g c = λ asks. (inr (inr c.refused-in-Err-OutOfMemory.ensures.done), c.refused-in-Err-OutOfMemory.ensures.disk)
 
 pub returns-in-Ok-clause-off : goal.returns-in-Ok-clause-off
 returns-in-Ok-clause-off g c = λ line is_line. of_line_is (map (λ word. string_bytes word) c.args.words.now) (g.F.Files.told c.args.files.now) c.in-Ok.line c.in-Ok.ensures.line (λ (l : Line). is_apart l.job ≡ true → c.on_line.result.disk ≡ c.args.disk)
@@ -170,7 +195,7 @@ returns-in-Err-OutOfMemory-clause-damaged g c = λ line is_line. refused_whole l
 pub returns-in-Err-OutOfMemory-clause-damaged_only : goal.returns-in-Err-OutOfMemory-clause-damaged_only
 returns-in-Err-OutOfMemory-clause-damaged_only g c = λ line place is_line beside damaged.
     let ran = c.refused-in-Err-OutOfMemory in
-    memory_spares place (g.D.Disk.told c.args.disk) ran.result.done (g.D.Disk.told ran.result.disk) status.OutOfMemory refl ran.ensures.done (ap g.D.Disk.told ran.ensures.disk)
+    memory_spares line.job place (g.D.Disk.told c.args.disk) ran.result.done (g.D.Disk.told ran.result.disk) status.OutOfMemory refl ran.ensures.done (ap g.D.Disk.told ran.ensures.disk)
 
 pub returns-in-Err-OutOfMemory-clause-tag : goal.returns-in-Err-OutOfMemory-clause-tag
 returns-in-Err-OutOfMemory-clause-tag g c = inr c.refused-in-Err-OutOfMemory.ensures.done

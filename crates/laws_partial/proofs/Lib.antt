@@ -1,0 +1,4 @@
+pub mod AddColumn
+pub mod AddNotNull
+pub mod Loosened
+pub mod Singles

@@ -1,0 +1,7 @@
+pub mod LastText
+pub mod Marked
+pub mod Mended
+pub mod Parts
+pub mod Repaired
+pub mod Through
+pub mod Updates

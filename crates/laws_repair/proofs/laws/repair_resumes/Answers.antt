@@ -1,0 +1,5 @@
+use Rattle.laws_repair.proofs.Repaired as lemma
+use Rattle.laws_repair.proofs.laws.repair_resumes.Goals as goal
+
+pub returns : goal.returns
+returns c = lemma.repair_resumes

@@ -1,0 +1,6 @@
+use Rattle.lq_turns.specs.Promised.{meaning}
+use Rattle.laws_repair.proofs.Mended.{update_mends}
+use Rattle.laws_repair.proofs.laws.update_mends.Goals as goal
+
+pub returns : goal.returns
+returns g c = update_mends (meaning g.C.Change.is_for g.C.Change.gives g.C.Change.effect g.C.Change.fresh g.C.Change.inverse) (record { spelled = g.met.C.Change.spelled; does = g.met.C.Change.does; restores = g.met.C.Change.restores })

@@ -1,0 +1,3 @@
+pub mod LastText
+pub mod Mended
+pub mod Repair

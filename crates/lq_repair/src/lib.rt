@@ -1,0 +1,8 @@
+//! The calls that take back the part of a changeset that a stop left without a row.
+#![tactic(auto)]
+
+mod counting;
+mod laying;
+
+pub use counting::standing;
+pub use laying::{Unrecorded, repair_hand};
