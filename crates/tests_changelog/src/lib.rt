@@ -23,6 +23,8 @@ mod levels;
 #[cfg(test)]
 mod limits;
 #[cfg(test)]
+mod loads;
+#[cfg(test)]
 mod made;
 #[cfg(test)]
 mod names;

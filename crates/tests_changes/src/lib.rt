@@ -10,6 +10,8 @@ mod faults;
 #[cfg(test)]
 mod keys;
 #[cfg(test)]
+mod loads;
+#[cfg(test)]
 mod objects;
 #[cfg(test)]
 mod rows;

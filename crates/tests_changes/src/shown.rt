@@ -1,12 +1,14 @@
 ghost use Rattle.std.specs.List.{list_all};
 ghost use Rattle.std.specs.Prelude.{◌≡◌, IfOk, List, Some, true};
 ghost use Rattle.lq_kinds.specs.AnyChange.{is_for};
+ghost use Rattle.lq_load.specs.LoadData.{is_for as is_load_for};
 ghost use Rattle.lq_model.specs.Changes.{undoing_of};
 ghost use Rattle.lq_model.specs.Statement.{is_statement};
 ghost use Rattle.lq_model.specs.declared.statement.Statement.{Statement};
 
 use lq_base::{Dialect, Items, KindFault, NoMemory, Text};
 use lq_kinds::AnyChange;
+use lq_load::LoadData;
 use lq_model::{Canon, Change, SqlText, Statement, Undo};
 use lq_my::My;
 use lq_pg::Pg;
@@ -20,6 +22,16 @@ use std::test::Fail;
 #[derive(Clone, Copy)]
 pub struct Case<'a> {
     pub json: &'a str,
+    pub canonical: &'a str,
+    pub postgresql: &'a str,
+    pub mysql: &'a str,
+}
+
+/// What a load's node says, the bytes of its file, its canonical text, and what it says in each dialect.
+#[derive(Clone, Copy)]
+pub struct Load<'a> {
+    pub json: &'a str,
+    pub bytes: &'a [u8],
     pub canonical: &'a str,
     pub postgresql: &'a str,
     pub mysql: &'a str,
@@ -215,6 +227,70 @@ fn said<P: SqlText>(
 {
     let read = change_of(alloc, dialect, sql, json)?;
     Ok(shown(alloc, dialect, sql, read, canonical)?)
+}
+
+fn load_of(
+    alloc: Global,
+    dialect: Dialect,
+    json: &str,
+    bytes: &[u8],
+) -> Result<Result<LoadData, KindFault>, TreeFault>
+    ensures { IfOk result (λ read. IfOk read (λ change. is_load_for dialect change ≡ true)) }
+{
+    let node = read_json(alloc, json.as_bytes())?;
+    Ok(LoadData::read(alloc, &node, dialect, bytes))
+}
+
+fn loaded<P: SqlText>(
+    alloc: Global,
+    dialect: Dialect,
+    sql: &P,
+    json: &str,
+    bytes: &[u8],
+    canonical: &str,
+) -> Result<Text, Fail>
+    requires { P.dialect ≡ dialect }
+{
+    let read = load_of(alloc, dialect, json, bytes)?;
+    Ok(shown(alloc, dialect, sql, read, canonical)?)
+}
+
+/// Each load says what is wanted of it, in both dialects.
+pub fn each_load(rt: &impl Abort, alloc: Global, cases: &[Load<'_>]) -> Result<(), Fail> {
+    for case in cases {
+        let postgresql = loaded(
+            alloc,
+            Dialect::Postgresql,
+            &Pg,
+            case.json,
+            case.bytes,
+            case.canonical,
+        )?;
+        assert_eq!(rt; postgresql.as_str(), case.postgresql);
+        let mysql = loaded(
+            alloc,
+            Dialect::Mysql,
+            &My,
+            case.json,
+            case.bytes,
+            case.canonical,
+        )?;
+        assert_eq!(rt; mysql.as_str(), case.mysql);
+    }
+    Ok(())
+}
+
+/// Each load has the fault that is wanted.
+pub fn load_fails(
+    rt: &impl Abort,
+    alloc: Global,
+    cases: &[(&str, &[u8], &str)],
+) -> Result<(), Fail> {
+    for (json, bytes, fault) in cases {
+        let postgresql = loaded(alloc, Dialect::Postgresql, &Pg, json, bytes, "")?;
+        assert_eq!(rt; postgresql.as_str(), *fault);
+    }
+    Ok(())
 }
 
 fn said_in_postgresql(alloc: Global, json: &str, canonical: &str) -> Result<Text, Fail> {

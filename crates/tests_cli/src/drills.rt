@@ -138,7 +138,11 @@ fn wrong_lines_are_usage(rt: HostRuntime) -> Result<(), Fail> {
 
 #[test]
 fn other_commands_are_usage(rt: HostRuntime) -> Result<(), Fail> {
-    let files: [&[u8]; 9] = [
+    let files: [&[u8]; 13] = [
+        b"update-count --changelog-file=a --count=1\nsteps\n1\n",
+        b"update-to-tag --changelog-file=a --tag=t\nsteps\n1\n",
+        b"history\nsteps\n1\n",
+        b"release-locks\nhistory\nsteps\n1\n",
         b"update-sql --changelog-file=a\nsteps\n1\n",
         b"rollback-sql --changelog-file=a --count=1\nsteps\n1\n",
         b"drill --runs=r\nsteps\n1\n",

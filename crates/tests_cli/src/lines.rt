@@ -9,7 +9,7 @@ const FILE: &str = "--changelog-file=a.json";
 
 #[test]
 fn commands_are_read(rt: HostRuntime) -> Result<(), Fail> {
-    let cases: [(&[&str], &str); 27] = [
+    let cases: [(&[&str], &str); 33] = [
         (
             &["validate", URL, FILE],
             "Run(Validate) Postgresql db a.json",
@@ -46,6 +46,42 @@ fn commands_are_read(rt: HostRuntime) -> Result<(), Fail> {
             "Run(Update) Postgresql db ",
         ),
         (&["update-sql", URL, FILE], "UpdateSql Postgresql db a.json"),
+        (
+            &["update-count", URL, FILE, "--count=0"],
+            "UpdateCount(0) Postgresql db a.json",
+        ),
+        (
+            &["update-count", "--count", "4294967295", "-Dx=1", FILE, MY],
+            "UpdateCount(4294967295) Mysql a/b.db a.json x=1",
+        ),
+        (
+            &[
+                "update-count",
+                "--label-filter=l",
+                "--count=7",
+                "--context-filter=a,b",
+                URL,
+                FILE,
+            ],
+            "UpdateCount(7) Postgresql db a.json @a @b Name(l)",
+        ),
+        (
+            &["update-to-tag", URL, FILE, "--tag=v1", "-Dx=1"],
+            "UpdateTo(v1) Postgresql db a.json x=1",
+        ),
+        (
+            &[
+                "update-to-tag",
+                "--label-filter=l",
+                "--tag",
+                "v 1",
+                "--context-filter=a,b",
+                MY,
+                FILE,
+            ],
+            "UpdateTo(v 1) Mysql a/b.db a.json @a @b Name(l)",
+        ),
+        (&["history", MY], "History Mysql a/b.db -"),
         (
             &["changelog-sync", URL, FILE, "--context-filter=a"],
             "Run(Sync) Postgresql db a.json @a",
@@ -126,7 +162,7 @@ fn commands_are_read(rt: HostRuntime) -> Result<(), Fail> {
 
 #[test]
 fn other_words_are_usage(rt: HostRuntime) -> Result<(), Fail> {
-    let cases: [&[&str]; 56] = [
+    let cases: [&[&str]; 79] = [
         &[],
         &["updates", URL, FILE],
         &["Update", URL, FILE],
@@ -202,6 +238,29 @@ fn other_words_are_usage(rt: HostRuntime) -> Result<(), Fail> {
         &["drill", URL, "--runs=r", FILE],
         &["drills", URL, "--runs=r"],
         &["Drill", URL, "--runs=r"],
+        &["update-count"],
+        &["update-count", URL, FILE],
+        &["update-count", URL, "--count=1"],
+        &["update-count", FILE, "--count=1"],
+        &["update-count", URL, FILE, "--count="],
+        &["update-count", URL, FILE, "--count=-1"],
+        &["update-count", URL, FILE, "--count=+1"],
+        &["update-count", URL, FILE, "--count=01"],
+        &["update-count", URL, FILE, "--count=4294967296"],
+        &["update-count", URL, FILE, "--count=1", "--count=1"],
+        &["update-count", URL, FILE, "--count=1", "--tag=t"],
+        &["update-to-tag", URL, FILE],
+        &["update-to-tag", URL, "--tag=t"],
+        &["update-to-tag", URL, FILE, "--tag="],
+        &["update-to-tag", URL, FILE, "--tag=a\tb"],
+        &["update-to-tag", URL, FILE, "--tag=t", "--tag=t"],
+        &["update-to-tag", URL, FILE, "--tag=t", "--count=1"],
+        &["history"],
+        &["history", URL, URL],
+        &["history", URL, FILE],
+        &["history", URL, "-Dx=1"],
+        &["history", URL, "--context-filter=a"],
+        &["histories", URL],
     ];
     for words in cases {
         let text = told(rt.alloc(), words)?;

@@ -64,7 +64,10 @@ fn append_job(job: &Job, to: &mut Text) -> Result<(), NoMemory> {
     match job {
         Job::Run(command) => append_run(command, to),
         Job::UpdateSql => to.push_str("UpdateSql"),
+        Job::UpdateCount(count) => append_number("UpdateCount", i128::from(*count), to),
+        Job::UpdateTo(tag) => append_named("UpdateTo", tag, to),
         Job::RollbackSql(target) => append_back("RollbackSql", target, to),
+        Job::History => to.push_str("History"),
         Job::Drill(path) => append_named("Drill", path, to),
         Job::Soak { number, sets } => append_soak(*number, *sets, to),
     }

@@ -18,7 +18,7 @@ fn set_of<P: SqlText>(
 ) -> ChangeSet
     requires { P.dialect ≡ dialect }
 {
-    ChangeSet::read(alloc, node, dialect, "db/a.json", sql)
+    ChangeSet::read(alloc, node, dialect, "db/a.json", sql, &[])
         .expect(rt, "no fault")
         .expect(rt, "a changeset")
 }

@@ -23,6 +23,8 @@ mod statements;
 #[cfg(test)]
 mod stays;
 #[cfg(test)]
+mod sums;
+#[cfg(test)]
 mod validated;
 #[cfg(test)]
 mod written;

@@ -16,22 +16,22 @@ fn what_has_no_row_is_new(rt: HostRuntime) {
         },
         Case {
             sets: r#"[{"id":1,"author":"ann"}]"#,
-            rows: "2 ann db/a.json EXECUTED P1:d751713988987e9331980363e24189ce null 1 1",
+            rows: "2 ann db/a.json EXECUTED P2:d751713988987e9331980363e24189ce null 1 1",
             wanted: "\n0 new\npending db/a.json::1::ann",
         },
         Case {
             sets: r#"[{"id":1,"author":"ann"}]"#,
-            rows: "1 Ann db/a.json EXECUTED P1:d751713988987e9331980363e24189ce null 1 1",
+            rows: "1 Ann db/a.json EXECUTED P2:d751713988987e9331980363e24189ce null 1 1",
             wanted: "\n0 new\npending db/a.json::1::ann",
         },
         Case {
             sets: r#"[{"id":1,"author":"ann"}]"#,
-            rows: "1 ann db/b.json EXECUTED P1:d751713988987e9331980363e24189ce null 1 1",
+            rows: "1 ann db/b.json EXECUTED P2:d751713988987e9331980363e24189ce null 1 1",
             wanted: "\n0 new\npending db/a.json::1::ann",
         },
         Case {
             sets: r#"[{"id":1,"author":"ann","logicalFilePath":"db/b.json"}]"#,
-            rows: "1 ann db/b.json EXECUTED P1:d751713988987e9331980363e24189ce null 1 1",
+            rows: "1 ann db/b.json EXECUTED P2:d751713988987e9331980363e24189ce null 1 1",
             wanted: "",
         },
         Case {
@@ -53,12 +53,12 @@ fn what_has_a_row_runs_again(rt: HostRuntime) {
     let cases = [
         Case {
             sets: r#"[{"id":1,"author":"ann","runAlways":true}]"#,
-            rows: "1 ann db/a.json EXECUTED P1:d751713988987e9331980363e24189ce null 1 1",
+            rows: "1 ann db/a.json EXECUTED P2:d751713988987e9331980363e24189ce null 1 1",
             wanted: "\n0 again\npending db/a.json::1::ann",
         },
         Case {
             sets: r#"[{"id":1,"author":"ann","runAlways":true}]"#,
-            rows: "1 ann db/a.json MARK_RAN P1:d751713988987e9331980363e24189ce null 1 1",
+            rows: "1 ann db/a.json MARK_RAN P2:d751713988987e9331980363e24189ce null 1 1",
             wanted: "\n0 again\npending db/a.json::1::ann",
         },
         Case {
@@ -68,32 +68,32 @@ fn what_has_a_row_runs_again(rt: HostRuntime) {
         },
         Case {
             sets: r#"[{"id":1,"author":"ann","runAlways":true,"validCheckSum":"ANY"}]"#,
-            rows: "1 ann db/a.json EXECUTED P1:0 null 1 1",
+            rows: "1 ann db/a.json EXECUTED P2:0 null 1 1",
             wanted: "\n0 again\npending db/a.json::1::ann",
         },
         Case {
             sets: r#"[{"id":1,"author":"ann","runOnChange":true}]"#,
-            rows: "1 ann db/a.json EXECUTED P1:0 null 1 1",
+            rows: "1 ann db/a.json EXECUTED P2:0 null 1 1",
             wanted: "\n0 again\npending db/a.json::1::ann",
         },
         Case {
-            sets: r#"[{"id":1,"author":"ann","runOnChange":true,"validCheckSum":"P1:1"}]"#,
-            rows: "1 ann db/a.json EXECUTED P1:0 null 1 1",
+            sets: r#"[{"id":1,"author":"ann","runOnChange":true,"validCheckSum":"P2:1"}]"#,
+            rows: "1 ann db/a.json EXECUTED P2:0 null 1 1",
             wanted: "\n0 again\npending db/a.json::1::ann",
         },
         Case {
             sets: r#"[{"id":1,"author":"ann","runOnChange":true}]"#,
-            rows: "1 ann db/a.json EXECUTED P1:d751713988987e9331980363e24189ce null 1 1",
+            rows: "1 ann db/a.json EXECUTED P2:d751713988987e9331980363e24189ce null 1 1",
             wanted: "",
         },
         Case {
-            sets: r#"[{"id":1,"author":"ann","runOnChange":true,"validCheckSum":"P1:0"}]"#,
-            rows: "1 ann db/a.json EXECUTED P1:0 null 1 1",
+            sets: r#"[{"id":1,"author":"ann","runOnChange":true,"validCheckSum":"P2:0"}]"#,
+            rows: "1 ann db/a.json EXECUTED P2:0 null 1 1",
             wanted: "",
         },
         Case {
             sets: r#"[{"id":1,"author":"ann","runOnChange":true,"validCheckSum":"ANY"}]"#,
-            rows: "1 ann db/a.json EXECUTED P1:0 null 1 1",
+            rows: "1 ann db/a.json EXECUTED P2:0 null 1 1",
             wanted: "",
         },
     ];
@@ -132,7 +132,7 @@ fn a_null_sum_is_filled_in(rt: HostRuntime) {
 fn turns_follow_the_changelog(rt: HostRuntime) {
     let cases = [Case {
         sets: r#"[{"id":1,"author":"ann"},{"id":2,"author":"ann"},{"id":3,"author":"ann","runAlways":true},{"id":4,"author":"ann"},{"id":5,"author":"ann","runOnChange":true},{"id":6,"author":"ann"}]"#,
-        rows: "2 ann db/a.json EXECUTED P1:d751713988987e9331980363e24189ce null 1 1\n3 ann db/a.json EXECUTED P1:d751713988987e9331980363e24189ce null 1 2\n4 ann db/a.json EXECUTED null null 1 3\n5 ann db/a.json EXECUTED P1:0 null 1 4\n9 ann db/a.json EXECUTED P1:d751713988987e9331980363e24189ce null 1 5",
+        rows: "2 ann db/a.json EXECUTED P2:d751713988987e9331980363e24189ce null 1 1\n3 ann db/a.json EXECUTED P2:d751713988987e9331980363e24189ce null 1 2\n4 ann db/a.json EXECUTED null null 1 3\n5 ann db/a.json EXECUTED P2:0 null 1 4\n9 ann db/a.json EXECUTED P2:d751713988987e9331980363e24189ce null 1 5",
         wanted: "\n0 new\n2 again\n3 fill\n4 again\n5 new\npending db/a.json::1::ann\npending db/a.json::3::ann\npending db/a.json::5::ann\npending db/a.json::6::ann",
     }];
     plan(&rt, rt.alloc(), &cases)
@@ -144,8 +144,8 @@ fn filters_pass_over_changesets(rt: HostRuntime) {
     let cases = [
         Case {
             sets: r#"[{"id":1,"author":"ann"},{"id":2,"author":"ann","context":"prod"},{"id":3,"author":"ann","context":"test"},{"id":4,"author":"ann","labels":"v1"},{"id":5,"author":"ann","labels":"v2"},{"id":6,"author":"ann","context":"test","runAlways":true},{"id":7,"author":"ann","labels":"v1"},{"id":8,"author":"ann","context":"!test"}]"#,
-            rows: "6 ann db/a.json EXECUTED P1:d751713988987e9331980363e24189ce null 1 1\n7 ann db/a.json EXECUTED null null 1 2\n8 ann db/a.json EXECUTED P1:0 null 1 3",
-            wanted: "\nchanged db/a.json::8::ann from P1:0 to P1:d751713988987e9331980363e24189ce\n0 new\n2 new\n4 new\n5 again\npending db/a.json::1::ann\npending db/a.json::3::ann\npending db/a.json::5::ann\npending db/a.json::6::ann",
+            rows: "6 ann db/a.json EXECUTED P2:d751713988987e9331980363e24189ce null 1 1\n7 ann db/a.json EXECUTED null null 1 2\n8 ann db/a.json EXECUTED P2:0 null 1 3",
+            wanted: "\nchanged db/a.json::8::ann from P2:0 to P2:d751713988987e9331980363e24189ce\n0 new\n2 new\n4 new\n5 again\npending db/a.json::1::ann\npending db/a.json::3::ann\npending db/a.json::5::ann\npending db/a.json::6::ann",
         },
         Case {
             sets: r#"[{"id":1,"author":"ann","context":"prod"},{"id":1,"author":"ann","context":"prod"}]"#,

@@ -2,7 +2,7 @@ ghost use Rattle.std.specs.Option.{ForSome};
 ghost use Rattle.std.specs.Prelude.{IfOk};
 ghost use Rattle.lq_base.specs.Moment.{IsMoment};
 
-use lq_base::{Did, Happened, Identity, Items, Lock, NoMemory, Printed, Text};
+use lq_base::{Did, Exec, Happened, Identity, Items, Lock, NoMemory, Printed, Text, Tracked, both};
 use std::alloc::Global;
 
 /// The changeset of this id by `ann` in `db/a.json`.
@@ -57,5 +57,47 @@ pub fn lock(alloc: Global, by: &str) -> Result<Lock, NoMemory>
         locked: true,
         granted: Some(1000),
         by: Some(Text::new(alloc, by)?),
+    })
+}
+
+fn copied(alloc: Global, text: Option<&str>) -> Result<Option<Text>, NoMemory> {
+    match text {
+        Some(text) => Ok(Some(Text::new(alloc, text)?)),
+        None => Ok(None),
+    }
+}
+
+/// The row of the changeset of this id.
+pub fn tracked(
+    alloc: Global,
+    id: &str,
+    order: u32,
+    date: i64,
+    exec: Exec,
+    tag: Option<&str>,
+) -> Result<Tracked, NoMemory> {
+    let who = both(Text::new(alloc, id), Text::new(alloc, "ann"));
+    let from = both(Text::new(alloc, "db/a.json"), copied(alloc, tag));
+    let told = both(Text::new(alloc, ""), Text::new(alloc, ""));
+    let by = both(Text::new(alloc, ""), Text::new(alloc, ""));
+    let for_whom = both(Text::new(alloc, ""), Text::new(alloc, ""));
+    let all = both(both(who, from), both(told, both(by, for_whom)));
+    let (((id, author), (filename, tag)), ((description, comments), (by, for_whom))) = all?;
+    let ((tool, deployment), (contexts, labels)) = (by, for_whom);
+    Ok(Tracked {
+        id,
+        author,
+        filename,
+        date,
+        order,
+        exec,
+        md5sum: None,
+        description,
+        comments,
+        tag,
+        tool,
+        contexts,
+        labels,
+        deployment,
     })
 }

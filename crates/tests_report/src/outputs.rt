@@ -1,8 +1,8 @@
-use crate::made::{happened, identities, lock, printed};
-use lq_base::{Did, NoMemory, Text};
+use crate::made::{happened, identities, lock, printed, tracked};
+use lq_base::{Did, Exec, Items, NoMemory, Text};
 use lq_report::{
-    Soaked, release_text, rollback_text, soak_text, sql_text, status_text, sync_text, tagged_text,
-    update_text, validated_text,
+    Soaked, history_text, release_text, rollback_text, soak_text, sql_text, status_text, sync_text,
+    tagged_text, update_text, validated_text,
 };
 use std::alloc::Global;
 use std::test::Fail;
@@ -14,6 +14,8 @@ enum Output {
     Update,
     NoUpdate,
     UpdateSql,
+    History,
+    NoHistory,
     Tag,
     Rollback,
     RollbackSql,
@@ -71,6 +73,21 @@ fn pending(alloc: Global) -> Result<Text, NoMemory> {
     status_text(alloc, made.as_slice())
 }
 
+// The place, the moment, how it came to be, the id and the tag of each row.
+const ROWS: [(u32, i64, Exec, &str, Option<&str>); 3] = [
+    (1, 1000, Exec::Executed, "1", None),
+    (2, 2500, Exec::Reran, "2", Some("v 1")),
+    (12, -1, Exec::MarkRan, "3", Some("é")),
+];
+
+fn listed(alloc: Global, all: &[(u32, i64, Exec, &str, Option<&str>)]) -> Result<Text, NoMemory> {
+    let mut rows = Items::new(alloc);
+    for (order, date, exec, id, tag) in all {
+        rows.push(tracked(alloc, id, *order, *date, *exec, *tag)?)?;
+    }
+    history_text(alloc, rows.as_slice())
+}
+
 fn sql(alloc: Global, undo: bool) -> Result<Text, NoMemory> {
     let made = printed(alloc, "1", &["DROP TABLE \"a\"", "DROP TABLE \"b\""])?;
     sql_text(alloc, undo, made.as_slice())
@@ -83,6 +100,8 @@ fn made(alloc: Global, output: Output) -> Result<Text, NoMemory> {
         Output::Update => updated(alloc, &ALL, 7),
         Output::NoUpdate => updated(alloc, &[], 0),
         Output::UpdateSql => sql(alloc, false),
+        Output::History => listed(alloc, &ROWS),
+        Output::NoHistory => listed(alloc, &[]),
         Output::Tag => tagged_text(alloc, "v1"),
         Output::Rollback => back(alloc),
         Output::RollbackSql => sql(alloc, true),
@@ -114,6 +133,11 @@ fn commands_write_their_texts(rt: HostRuntime) -> Result<(), Fail> {
             Output::UpdateSql,
             "-- Changeset db/a.json::1::ann\nDROP TABLE \"a\";\nDROP TABLE \"b\";\n",
         ),
+        (
+            Output::History,
+            "1 1970-01-01 00:00:01.000 EXECUTED db/a.json::1::ann\n2 1970-01-01 00:00:02.500 RERAN db/a.json::2::ann tag v 1\n12 1969-12-31 23:59:59.999 MARK_RAN db/a.json::3::ann tag é\n",
+        ),
+        (Output::NoHistory, ""),
         (Output::Tag, "tagged v1\n"),
         (
             Output::Rollback,

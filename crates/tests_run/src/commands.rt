@@ -106,7 +106,7 @@ fn three_changesets_there_and_back(rt: HostRuntime) {
     let _left = play(&rt, rt.alloc(), &[SHOP], b"", &THERE_AND_BACK);
 }
 
-const TAGGED: [Step; 2] = [
+const TAGGED: [Step; 3] = [
     Step {
         words: UPDATE,
         code: 0,
@@ -117,6 +117,12 @@ const TAGGED: [Step; 2] = [
         words: "tag --url=postgresql:db --tag=v1",
         code: 0,
         out: "tagged v1\n",
+        log: "",
+    },
+    Step {
+        words: "history --url=postgresql:db",
+        code: 0,
+        out: "1 1970-01-01 00:00:01.000 EXECUTED db/a.json::1::ann tag v1\n",
         log: "",
     },
 ];

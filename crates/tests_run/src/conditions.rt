@@ -164,7 +164,7 @@ const EDITED_STEPS: [Step; 1] = [Step {
     words: UPDATE,
     code: 5,
     out: "",
-    log: "liquibase: checksum of db/a.json::1::ann was P1:d751713988987e9331980363e24189ce, is P1:191758431351e68dbdffd5a2f9aebcaf\n",
+    log: "liquibase: checksum of db/a.json::1::ann was P2:d751713988987e9331980363e24189ce, is P2:191758431351e68dbdffd5a2f9aebcaf\n",
 }];
 
 const AGAIN_STEPS: [Step; 2] = [

@@ -18,7 +18,11 @@ mod fresh;
 #[cfg(test)]
 mod full;
 #[cfg(test)]
+mod loads;
+#[cfg(test)]
 mod memory;
+#[cfg(test)]
+mod parts;
 #[cfg(test)]
 mod real;
 #[cfg(test)]

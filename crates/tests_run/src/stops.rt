@@ -27,12 +27,30 @@ fn stopped(rt: &impl Abort, alloc: Global) -> Vec<u8> {
     left
 }
 
-const RELEASED: [Step; 4] = [
+const RELEASED: [Step; 7] = [
     Step {
         words: UPDATE_MYSQL,
         code: 6,
         out: "",
         log: LOCKED,
+    },
+    Step {
+        words: "update-count --url=mysql:db --changelog-file=db/a.json --count=0",
+        code: 6,
+        out: "",
+        log: LOCKED,
+    },
+    Step {
+        words: "update-to-tag --url=mysql:db --changelog-file=db/a.json --tag=v1",
+        code: 9,
+        out: "",
+        log: "liquibase: no changeset has the tag v1\n",
+    },
+    Step {
+        words: "history --url=mysql:db",
+        code: 0,
+        out: "",
+        log: "",
     },
     Step {
         words: "release-locks --url=mysql:db",

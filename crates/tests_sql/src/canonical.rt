@@ -1,5 +1,7 @@
+ghost use Rattle.lq_model.specs.Canon.{IsFinished};
+
 use lq_base::{NoMemory, Text};
-use lq_canon::checksum;
+use lq_canon::{checksum, old_checksum};
 use lq_model::Canon;
 use std::alloc::Global;
 use std::test::Fail;
@@ -79,14 +81,24 @@ fn writes_a_dropped_table(rt: HostRuntime) -> Result<(), Fail> {
     Ok(())
 }
 
-fn sum_of_no_changes(alloc: Global) -> Result<Text, NoMemory> {
+// The sum, and the one of the old form.
+fn both_sums(alloc: Global, changes: &Canon) -> Result<Text, NoMemory>
+    requires { IsFinished changes.now }
+{
+    let mut both = checksum(alloc, changes)?;
+    let old_sum = old_checksum(alloc, changes)?;
+    both.push_all(&[" ", old_sum.as_str()])?;
+    Ok(both)
+}
+
+fn sums_of_no_changes(alloc: Global) -> Result<Text, NoMemory> {
     let mut none = Canon::new(alloc);
     none.begin_list()?;
     none.end_list()?;
-    checksum(alloc, &none)
+    both_sums(alloc, &none)
 }
 
-fn sum_of_one_change(alloc: Global) -> Result<Text, NoMemory> {
+fn sums_of_one_change(alloc: Global) -> Result<Text, NoMemory> {
     let mut one = Canon::new(alloc);
     one.begin_list()?;
     one.key("dropTable")?;
@@ -95,14 +107,20 @@ fn sum_of_one_change(alloc: Global) -> Result<Text, NoMemory> {
     one.text("t")?;
     one.end_map()?;
     one.end_list()?;
-    checksum(alloc, &one)
+    both_sums(alloc, &one)
 }
 
 #[test]
 fn gives_known_checksums(rt: HostRuntime) -> Result<(), Fail> {
-    let none = sum_of_no_changes(rt.alloc())?;
-    assert_eq!(rt; none.as_str(), "P1:d751713988987e9331980363e24189ce");
-    let one = sum_of_one_change(rt.alloc())?;
-    assert_eq!(rt; one.as_str(), "P1:0f3ce696dcec492fb61d5b7e958b9a67");
+    let none = sums_of_no_changes(rt.alloc())?;
+    assert_eq!(rt;
+        none.as_str(),
+        "P2:d751713988987e9331980363e24189ce P1:d751713988987e9331980363e24189ce"
+    );
+    let one = sums_of_one_change(rt.alloc())?;
+    assert_eq!(rt;
+        one.as_str(),
+        "P2:0f3ce696dcec492fb61d5b7e958b9a67 P1:0f3ce696dcec492fb61d5b7e958b9a67"
+    );
     Ok(())
 }
