@@ -1,4 +1,3 @@
 pub mod Parts
 pub mod Passing
 pub mod Sums
-pub mod Uniform

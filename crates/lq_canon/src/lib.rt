@@ -3,7 +3,6 @@
 
 mod reading;
 mod rewriting;
-mod uniform;
 
 ghost use Rattle.std.specs.Prelude.{◌≡◌, ◌++◌, IfOk, List};
 ghost use Rattle.lq_canon.specs.Sums.{digits_of, old_sum_of, sum_of};
@@ -32,7 +31,9 @@ fn digits_behind(alloc: Global, form: &str, canonical: &[u8]) -> Result<Text, No
 /// The writer holds one whole list of changes, with nothing left open.
 pub fn checksum(alloc: Global, changes: &Canon) -> Result<Text, NoMemory>
     requires { IsFinished changes.now }
-    ensures { (cs : List CanonicalChange) → changes.now.written ≡ canonical_changes cs → IfOk result (λ sum. sum ≡ sum_of cs) }
+    ensures { (cs : List CanonicalChange)
+        → changes.now.written ≡ canonical_changes cs
+        → IfOk result (λ sum. sum ≡ sum_of cs) }
 {
     let uniform = rewritten(alloc, changes.written())?;
     digits_behind(alloc, "P2:", uniform.as_slice())
@@ -41,7 +42,9 @@ pub fn checksum(alloc: Global, changes: &Canon) -> Result<Text, NoMemory>
 /// The checksum of the old form: `P1:` and the digits of the MD5 of the canonical text as it is.
 pub fn old_checksum(alloc: Global, changes: &Canon) -> Result<Text, NoMemory>
     requires { IsFinished changes.now }
-    ensures { (cs : List CanonicalChange) → changes.now.written ≡ canonical_changes cs → IfOk result (λ sum. sum ≡ old_sum_of cs) }
+    ensures { (cs : List CanonicalChange)
+        → changes.now.written ≡ canonical_changes cs
+        → IfOk result (λ sum. sum ≡ old_sum_of cs) }
 {
     digits_behind(alloc, "P1:", changes.written())
 }

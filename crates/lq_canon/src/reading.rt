@@ -113,7 +113,8 @@ fn stepped(depth: usize, bytes: &[u8]) -> Option<Place<'_>>
     requires { depth + length bytes.now < 2 ^ 63 }
     ensures read { option_map place_of result ≡ stepped depth bytes.now }
     ensures shorter { IfSome result (λ place. length place.rest.now < length bytes.now) }
-    ensures within { IfSome result (λ place. place.depth + length place.rest.now ≤ depth + length bytes.now) }
+    ensures within { IfSome result
+        (λ place. place.depth + length place.rest.now ≤ depth + length bytes.now) }
 {
     let [first, rest @ ..] = bytes else {
         return None;
@@ -135,7 +136,9 @@ fn stepped(depth: usize, bytes: &[u8]) -> Option<Place<'_>>
 
 // What follows the value that stands first, of any depth.
 fn behind_value(bytes: &[u8]) -> Option<&[u8]>
-    ensures read { (v : CanonicalValue) (x : List ℕ) → bytes.now ≡ canonical v ++ x → option_map (λ rest. rest.now) result ≡ Some x }
+    ensures read { (v : CanonicalValue) (x : List ℕ)
+        → bytes.now ≡ canonical v ++ x
+        → option_map (λ rest. rest.now) result ≡ Some x }
     ensures shorter { IfSome result (λ rest. length rest.now < length bytes.now) }
 {
     let mut depth = 0;
@@ -152,7 +155,9 @@ fn behind_value(bytes: &[u8]) -> Option<&[u8]>
 
 // The value that stands first.
 fn value_at(bytes: &[u8]) -> Option<Part<'_>>
-    ensures read { (v : CanonicalValue) (x : List ℕ) → bytes.now ≡ canonical v ++ x → option_map part_of result ≡ Some (canonical v, x) }
+    ensures read { (v : CanonicalValue) (x : List ℕ)
+        → bytes.now ≡ canonical v ++ x
+        → option_map part_of result ≡ Some (canonical v, x) }
     ensures shorter { IfSome result (λ part. length part.rest.now < length bytes.now) }
 {
     let rest = behind_value(bytes)?;
@@ -162,7 +167,9 @@ fn value_at(bytes: &[u8]) -> Option<Part<'_>>
 
 /// The pair that stands first.
 pub fn pair_at(bytes: &[u8]) -> Option<Pair<'_>>
-    ensures read { (key : List ℕ) (v : CanonicalValue) (x : List ℕ) → bytes.now ≡ atom key ++ (canonical v ++ x) → option_map pair_of result ≡ Some (key, canonical v, x) }
+    ensures read { (key : List ℕ) (v : CanonicalValue) (x : List ℕ)
+        → bytes.now ≡ atom key ++ (canonical v ++ x)
+        → option_map pair_of result ≡ Some (key, canonical v, x) }
     ensures none { (x : List ℕ) → bytes.now ≡ codes "}" ++ x → result ≡ None }
     ensures shorter { IfSome result (λ pair. length pair.rest.now < length bytes.now) }
 {
@@ -181,7 +188,9 @@ pub fn pair_at(bytes: &[u8]) -> Option<Pair<'_>>
 
 /// The text that a value is.
 pub fn text_in(value: &[u8]) -> Option<&[u8]>
-    ensures { (v : CanonicalValue) → value.now ≡ canonical v → option_map (λ text. text.now) result ≡ text_in v }
+    ensures { (v : CanonicalValue)
+        → value.now ≡ canonical v
+        → option_map (λ text. text.now) result ≡ text_in v }
 {
     let [first, ..] = value else {
         return None;
@@ -197,7 +206,10 @@ pub fn text_in(value: &[u8]) -> Option<&[u8]>
 
 /// The name of the change that stands first, and what follows the beginning of its map.
 pub fn change_at(bytes: &[u8]) -> Option<Part<'_>>
-    ensures read { (change : CanonicalChange) (x : List ℕ) → bytes.now ≡ canonical_change change ++ x → option_map part_of result ≡ Some (change.name, canonical_pairs change.pairs ++ (codes "}" ++ x)) }
+    ensures read { (change : CanonicalChange) (x : List ℕ)
+        → bytes.now ≡ canonical_change change ++ x
+        → option_map part_of result
+        ≡ Some (change.name, canonical_pairs change.pairs ++ (codes "}" ++ x)) }
     ensures none { (x : List ℕ) → bytes.now ≡ codes "]" ++ x → result ≡ None }
     ensures shorter { IfSome result (λ part. length part.rest.now < length bytes.now) }
 {

@@ -3,11 +3,11 @@ ghost use Rattle.std.specs.Prelude.{◌≡◌, ◌&&◌, ◌++◌, ◌||◌, ◌
 ghost use Rattle.std.specs.Str.{bytes_eq};
 ghost use Rattle.lq_model.specs.Canon.{CanonicalChange, CanonicalPairs, CanonicalValue, atom, canonical, canonical_changes, canonical_each, canonical_pairs, map_of, numeral};
 ghost use Rattle.lq_canon.specs.Sums.{has_wide, is_replaced, is_sql_at, is_wide, uniform_pairs, uniform_value, uniformed};
-ghost use Rattle.lq_canon.specs.Uniform.{is_quote, is_space, uniform};
+ghost use Rattle.lq_uniform.specs.Uniform.{is_quote, is_space, uniform};
 
 use crate::reading::{Pair, Part, change_at, pair_at, text_in, without_first};
-use crate::uniform::{append_uniform, is_quote, is_space};
 use lq_base::NoMemory;
+use lq_uniform::{append_uniform, is_quote, is_space};
 use std::alloc::Global;
 
 fn is(text: &[u8], word: &str) -> bool
@@ -23,7 +23,9 @@ fn has_blank_or_quote(text: &[u8]) -> bool
 }
 
 fn is_wide(pair: Pair) -> bool
-    ensures { (v : CanonicalValue) → pair.entry.value.now ≡ canonical v → result ≡ is_wide pair.entry.key.now v }
+    ensures { (v : CanonicalValue)
+        → pair.entry.value.now ≡ canonical v
+        → result ≡ is_wide pair.entry.key.now v }
 {
     match text_in(pair.value) {
         Some(text) => is(pair.key, "endDelimiter") && has_blank_or_quote(text),
@@ -33,7 +35,8 @@ fn is_wide(pair: Pair) -> bool
 
 // Whether one of the pairs up to the end of their map is a wide end delimiter.
 fn has_wide(pairs: &[u8]) -> bool
-    ensures { (ps : CanonicalPairs) (x : List ℕ) → pairs.now ≡ canonical_pairs ps ++ (codes "}" ++ x) → result ≡ has_wide ps }
+    ensures { (ps : CanonicalPairs) (x : List ℕ)
+        → pairs.now ≡ canonical_pairs ps ++ (codes "}" ++ x) → result ≡ has_wide ps }
 {
     let mut rest = pairs;
     while let Some(pair) = pair_at(rest) {
@@ -84,7 +87,9 @@ fn append_uniform_text(to: &mut Vec<u8>, text: &[u8]) -> Result<(), NoMemory>
 }
 
 fn append_value(to: &mut Vec<u8>, replaced: bool, value: &[u8]) -> Result<(), NoMemory>
-    ensures { (v : CanonicalValue) → value.now ≡ canonical v → OnOk result (to.new.items ≡ to.old.items ++ canonical (uniform_value replaced v)) }
+    ensures { (v : CanonicalValue)
+        → value.now ≡ canonical v
+        → OnOk result (to.new.items ≡ to.old.items ++ canonical (uniform_value replaced v)) }
 {
     match text_in(value) {
         Some(text) if replaced => append_uniform_text(to, text),
@@ -96,7 +101,12 @@ fn append_value(to: &mut Vec<u8>, replaced: bool, value: &[u8]) -> Result<(), No
 }
 
 fn append_pair(to: &mut Vec<u8>, replaced: bool, pair: Pair) -> Result<(), NoMemory>
-    ensures { (v : CanonicalValue) → pair.entry.value.now ≡ canonical v → OnOk result (to.new.items ≡ to.old.items ++ (atom pair.entry.key.now ++ canonical (uniform_value replaced v))) }
+    ensures { (v : CanonicalValue)
+        → pair.entry.value.now ≡ canonical v
+        → OnOk result
+        (to.new.items
+        ≡ to.old.items
+        ++ (atom pair.entry.key.now ++ canonical (uniform_value replaced v))) }
 {
     append_atom(to, pair.key)?;
     append_value(to, replaced, pair.value)
@@ -109,8 +119,15 @@ fn append_pairs<'a>(
     name: &[u8],
     pairs: &'a [u8],
 ) -> Result<&'a [u8], NoMemory>
-    ensures written { (ps : CanonicalPairs) (x : List ℕ) → pairs.now ≡ canonical_pairs ps ++ (codes "}" ++ x) → OnOk result (to.new.items ≡ to.old.items ++ canonical_pairs (uniform_pairs wide name.now ps)) }
-    ensures read { (ps : CanonicalPairs) (x : List ℕ) → pairs.now ≡ canonical_pairs ps ++ (codes "}" ++ x) → IfOk result (λ rest. rest.now ≡ codes "}" ++ x) }
+    ensures written { (ps : CanonicalPairs) (x : List ℕ)
+        → pairs.now
+        ≡ canonical_pairs ps ++ (codes "}" ++ x) → OnOk result (to.new.items
+        ≡ to.old.items ++ canonical_pairs (uniform_pairs wide name.now ps)) }
+    ensures read { (ps : CanonicalPairs) (x : List ℕ)
+        → pairs.now
+        ≡ canonical_pairs ps
+        ++ (codes "}"
+        ++ x) → IfOk result (λ rest. rest.now ≡ codes "}" ++ x) }
     ensures shorter { IfOk result (λ rest. length rest.now ≤ length pairs.now) }
 {
     let mut rest = pairs;
@@ -124,8 +141,17 @@ fn append_pairs<'a>(
 // The change of which the name and what follows the beginning of its map are given; answers what
 // follows the change.
 fn append_change<'a>(to: &mut Vec<u8>, change: Part<'a>) -> Result<&'a [u8], NoMemory>
-    ensures written { (ps : CanonicalPairs) (x : List ℕ) → change.entry.rest.now ≡ canonical_pairs ps ++ (codes "}" ++ x) → OnOk result (to.new.items ≡ to.old.items ++ (atom change.entry.bytes.now ++ canonical (map_of (uniform_pairs (has_wide ps) change.entry.bytes.now ps)))) }
-    ensures read { (ps : CanonicalPairs) (x : List ℕ) → change.entry.rest.now ≡ canonical_pairs ps ++ (codes "}" ++ x) → IfOk result (λ rest. rest.now ≡ x) }
+    ensures written { (ps : CanonicalPairs) (x : List ℕ)
+        → change.entry.rest.now
+        ≡ canonical_pairs ps ++ (codes "}" ++ x) → OnOk result (to.new.items
+        ≡ to.old.items
+        ++
+        (atom change.entry.bytes.now
+        ++ canonical
+        (map_of (uniform_pairs (has_wide ps) change.entry.bytes.now ps)))) }
+    ensures read { (ps : CanonicalPairs) (x : List ℕ)
+        → change.entry.rest.now
+        ≡ canonical_pairs ps ++ (codes "}" ++ x) → IfOk result (λ rest. rest.now ≡ x) }
     ensures shorter { IfOk result (λ rest. length rest.now ≤ length change.entry.rest.now) }
 {
     append_atom(to, change.bytes)?;
@@ -136,7 +162,10 @@ fn append_change<'a>(to: &mut Vec<u8>, change: Part<'a>) -> Result<&'a [u8], NoM
 }
 
 fn append_each(to: &mut Vec<u8>, each: &[u8]) -> Result<(), NoMemory>
-    ensures { (cs : List CanonicalChange) (x : List ℕ) → each.now ≡ canonical_each cs ++ (codes "]" ++ x) → OnOk result (to.new.items ≡ to.old.items ++ canonical_each (map uniformed cs)) }
+    ensures { (cs : List CanonicalChange) (x : List ℕ)
+        → each.now
+        ≡ canonical_each cs ++ (codes "]" ++ x) → OnOk result (to.new.items
+        ≡ to.old.items ++ canonical_each (map uniformed cs)) }
 {
     let mut rest = each;
     while let Some(change) = change_at(rest) {
@@ -147,7 +176,9 @@ fn append_each(to: &mut Vec<u8>, each: &[u8]) -> Result<(), NoMemory>
 
 /// The canonical text of the changes with their texts of SQL uniform.
 pub fn rewritten(alloc: Global, text: &[u8]) -> Result<Vec<u8>, NoMemory>
-    ensures { (cs : List CanonicalChange) → text.now ≡ canonical_changes cs → IfOk result (λ made. made.items ≡ canonical_changes (map uniformed cs)) }
+    ensures { (cs : List CanonicalChange)
+        → text.now ≡ canonical_changes cs
+        → IfOk result (λ made. made.items ≡ canonical_changes (map uniformed cs)) }
 {
     let mut made = Vec::new(alloc);
     made.push(b'[')?;

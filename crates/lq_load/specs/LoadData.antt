@@ -1,14 +1,12 @@
 -- loadData: a table gets the rows of a file of separated fields.
 use Rattle.std.specs.List.{list_all}
 use Rattle.std.specs.Prelude.{Bool, Err, List, None, Ok, Option, Result, Some, [], codes, if◌then◌else◌, length, map, nat_eq, true, ℕ, ◌&&◌, ◌∷◌}
-use Rattle.std.specs.Str.{bytes_eq}
 use Rattle.lq_base.specs.Name.{is_name}
 use Rattle.lq_base.specs.declared.dialect.Dialect.{Dialect}
 use Rattle.lq_base.specs.declared.fault.KindFault.TheVariants.{Bad}
-use Rattle.lq_base.specs.declared.literal.Literal.{Literal}
-use Rattle.lq_base.specs.declared.literal.Literal.TheVariants as literal
 use Rattle.lq_base.specs.declared.name.Name.{Name}
 use Rattle.lq_base.specs.declared.reason.Reason.{Reason}
+use Rattle.lq_fields.specs.Literals.{literal_in}
 use Rattle.lq_model.specs.Canon.{CanonicalChange, CanonicalValues, list, no_values, text, value}
 use Rattle.lq_model.specs.Catalogue.{Catalogue, the_table, with_table}
 use Rattle.lq_model.specs.Effect.{effect_of}
@@ -42,10 +40,6 @@ abbrev pub is_for : Dialect → LoadData → Bool
 is_for d x = is_name x.table_name && (are_some is_name x.columns && list_all (λ row. nat_eq (length row) (length x.columns)) x.rows)
 
 -- what it does
-
--- the field `NULL` is null, also where it stood in quotes; any other is its text
-abbrev pub literal_in : List ℕ → Literal
-literal_in field = if bytes_eq field (codes "NULL") then literal.Null else literal.Text field
 
 abbrev pub insert_of : Name → List Name → List (List ℕ) → Statement
 insert_of table columns row = statement.Insert table columns (map literal_in row)

@@ -8,6 +8,7 @@ use Rattle.lq_base.specs.Name.{is_name}
 use Rattle.lq_base.specs.declared.dialect.Dialect.{Dialect}
 use Rattle.lq_base.specs.declared.literal.Literal.TheVariants as literal
 use Rattle.lq_base.specs.declared.name.Name.{Name}
+use Rattle.lq_fields.specs.Literals.{literal_in}
 use Rattle.lq_model.proofs.Effects.{Ran, does_so, ok_same, ran_first, restores_so, step_result}
 use Rattle.lq_model.proofs.Lists.{and_left, and_right, and_true}
 use Rattle.lq_model.proofs.Told.{keys_told, names_told, some_value, text_told}
@@ -23,7 +24,7 @@ use Rattle.lq_model.specs.Step.{run}
 use Rattle.lq_model.specs.Written.{nth_value}
 use Rattle.lq_model.specs.declared.caller.By.TheVariants.{User}
 use Rattle.lq_tree.specs.Items.{are_some}
-use Rattle.lq_load.specs.LoadData.{becomes, canonical_of, effect, gives, insert_of, inverse, is_for, is_fresh, lists, literal_in, rows, with_rows}
+use Rattle.lq_load.specs.LoadData.{becomes, canonical_of, effect, gives, insert_of, inverse, is_for, is_fresh, lists, rows, with_rows}
 use Rattle.lq_load.specs.Rows.{Records}
 use Rattle.lq_load.specs.declared.load_data.LoadData.{LoadData}
 

@@ -1,30 +1,11 @@
 //! The statements that put rows into a table.
 ghost use Rattle.std.specs.Prelude.{◌≡◌, ◌++◌, ◌∷◌, [], IfOk, OnErr, OnOk, map};
-ghost use Rattle.lq_load.specs.LoadData.{insert_of, literal_in};
+ghost use Rattle.lq_load.specs.LoadData.{insert_of};
 
-use lq_base::{Duplicate, Items, Literal, Name, NoMemory, Text, both, cut};
+use lq_base::{Duplicate, Items, Name, NoMemory, Text, both, cut};
+use lq_fields::literals_of;
 use lq_model::Statement;
 use std::alloc::Global;
-
-/// The field `NULL` is null, and any other its text.
-fn literal_of(alloc: Global, field: &str) -> Result<Literal, NoMemory>
-    ensures { IfOk result (λ made. made ≡ literal_in field.now) }
-{
-    if field == "NULL" {
-        return Ok(Literal::Null);
-    }
-    Ok(Literal::Text(Text::new(alloc, field)?))
-}
-
-fn literals_of(alloc: Global, row: &[Text]) -> Result<Items<Literal>, NoMemory>
-    ensures { IfOk result (λ literals. literals ≡ map literal_in row.now) }
-{
-    let mut literals = Items::new(alloc);
-    for field in row {
-        literals.push(literal_of(alloc, field.as_str())?)?;
-    }
-    Ok(literals)
-}
 
 fn insert_of(
     alloc: Global,

@@ -21,7 +21,9 @@ pub fn all_records(alloc: Global, separator: u8, bytes: &[u8]) -> Result<Vec<Byt
 
 // Bytes in memory are read without a fault but want of memory.
 fn records_of(alloc: Global, separator: u8, bytes: &[u8]) -> Result<Vec<ByteRecord>, Error>
-    ensures { IfOk result (λ v. AreRecords (config separator) st.StartRecord (strip_bom bytes.now) (map fields_of v.items)) }
+    ensures { IfOk result (λ v.
+        AreRecords (config separator) st.StartRecord (strip_bom bytes.now)
+        (map fields_of v.items)) }
 {
     let rdr = ReaderBuilder::new()
         .has_headers(false)

@@ -12,7 +12,8 @@ use lq_base::{Items, Name, NameFault, NoMemory, Text};
 use std::alloc::Global;
 
 fn as_text(bytes: &[u8]) -> Option<&str>
-    ensures { MatchOption result (is_utf8 bytes.now ≡ false) (λ text. (text.now ≡ bytes.now) × (is_utf8 bytes.now ≡ true)) }
+    ensures { MatchOption result (is_utf8 bytes.now ≡ false)
+        (λ text. (text.now ≡ bytes.now) × (is_utf8 bytes.now ≡ true)) }
 {
     match str::from_utf8(bytes) {
         Ok(text) => Some(text),
@@ -91,7 +92,8 @@ pub fn rows_of(
     records: &[ByteRecord],
     width: usize,
 ) -> Result<Option<Items<Items<Text>>>, NoMemory>
-    ensures { IfOk result (λ found. found ≡ if_so (list_all (is_row width)) (map fields_of records.now)) }
+    ensures { IfOk result
+        (λ found. found ≡ if_so (list_all (is_row width)) (map fields_of records.now)) }
 {
     let mut rows = Items::new(alloc);
     for fields in records {

@@ -14,7 +14,8 @@ pub struct RowsAt<'a> {
 }
 
 fn write_texts(to: &mut Canon, row: &[Text]) -> Result<(), NoMemory>
-    ensures written { OnOk result (to.new.written ≡ to.old.written ++ canonical_values (texts row.now)) }
+    ensures written { OnOk result
+        (to.new.written ≡ to.old.written ++ canonical_values (texts row.now)) }
     ensures begun { OnOk result (to.new.begun ≡ to.old.begun) }
     ensures front { OnErr result (GoesOn to.old to.new) }
 {
@@ -28,7 +29,8 @@ fn write_texts(to: &mut Canon, row: &[Text]) -> Result<(), NoMemory>
 }
 
 fn write_row(to: &mut Canon, row: &[Text]) -> Result<(), NoMemory>
-    ensures written { OnOk result (to.new.written ≡ to.old.written ++ canonical (list (texts row.now))) }
+    ensures written { OnOk result
+        (to.new.written ≡ to.old.written ++ canonical (list (texts row.now))) }
     ensures begun { OnOk result (to.new.begun ≡ to.old.begun) }
     ensures front { OnErr result (GoesOn to.old to.new) }
 {
@@ -39,7 +41,8 @@ fn write_row(to: &mut Canon, row: &[Text]) -> Result<(), NoMemory>
 
 // A loop, since a file may have more rows than a stack has room for calls.
 fn write_rows(to: &mut Canon, rows: &[Items<Text>]) -> Result<(), NoMemory>
-    ensures written { OnOk result (to.new.written ≡ to.old.written ++ canonical_values (lists rows.now)) }
+    ensures written { OnOk result
+        (to.new.written ≡ to.old.written ++ canonical_values (lists rows.now)) }
     ensures begun { OnOk result (to.new.begun ≡ to.old.begun) }
     ensures front { OnErr result (GoesOn to.old to.new) }
 {
@@ -50,7 +53,8 @@ fn write_rows(to: &mut Canon, rows: &[Items<Text>]) -> Result<(), NoMemory>
 }
 
 fn write_list(to: &mut Canon, rows: &[Items<Text>]) -> Result<(), NoMemory>
-    ensures written { OnOk result (to.new.written ≡ to.old.written ++ canonical (list (lists rows.now))) }
+    ensures written { OnOk result
+        (to.new.written ≡ to.old.written ++ canonical (list (lists rows.now))) }
     ensures begun { OnOk result (to.new.begun ≡ to.old.begun) }
     ensures front { OnErr result (GoesOn to.old to.new) }
 {

@@ -40,7 +40,9 @@ pub fn index_of<'a>(alloc: Global, rows: &'a [Tracked]) -> Result<RowIndex<'a>, 
 
 /// The row of the changeset.
 pub fn row_at<'a>(index: &RowIndex<'a>, of: &'a Identity) -> Option<&'a Tracked>
-    ensures { (rows : List Row) → HasRows rows index.now → option_map (λ row. row.now) result ≡ row_at of.now rows }
+    ensures { (rows : List Row)
+        → HasRows rows index.now
+        → option_map (λ row. row.now) result ≡ row_at of.now rows }
 {
     match index.get(&(of.file.as_str(), of.id.as_str(), of.author.as_str())) {
         Some(row) => Some(*row),

@@ -4,7 +4,7 @@ ghost use Rattle.std.specs.Prelude.{◌≡◌, ◌++◌, [], IfOk, List, OnOk, c
 ghost use Rattle.lq_base.specs.Text.{is_text};
 ghost use Rattle.lq_base.specs.declared.tracking.Tracked.{Tracked as Row};
 ghost use Rattle.lq_turns.specs.Pending.{if_pending, pending};
-ghost use Rattle.lq_turns.specs.Set.{excuses, is_old_form, sum_by_form};
+ghost use Rattle.lq_turns.specs.Set.{excuses, sum_by_form};
 ghost use Rattle.lq_turns.specs.Settle.{greatest, has_changed, is_to_fill, runs_again, what, what_by};
 ghost use Rattle.lq_plan.specs.Head.{headed};
 ghost use Rattle.lq_plan.specs.Index.{HasRows};
@@ -13,6 +13,7 @@ ghost use Rattle.lq_plan.specs.Work.{item_at, work};
 use crate::head::Head;
 use crate::row_index::{RowIndex, index_of, row_at};
 use lq_base::{Duplicate, Identity, Items, NoMemory, Text, Tracked};
+use lq_sums::{is_to_fill, sum_by_form};
 use lq_turns::What;
 use std::alloc::Global;
 
@@ -99,7 +100,7 @@ fn what_by(head: &Head<'_>, row: Option<&Tracked>) -> Option<What>
     };
     if runs_again(head, row) {
         Some(What::Again)
-    } else if is_to_fill(head, &row.md5sum) {
+    } else if is_filled(head, &row.md5sum) {
         Some(What::Fill)
     } else {
         None
@@ -112,27 +113,17 @@ fn runs_again(head: &Head<'_>, row: &Tracked) -> bool
     head.run_always || (head.run_on_change && has_changed(head, &row.md5sum))
 }
 
-/// Whether a stored checksum is of the old form, `P1:`.
-fn is_old_form(sum: &str) -> bool
-    ensures { result ≡ is_old_form sum.now }
-{
-    sum.as_bytes().starts_with(b"P1:")
-}
-
 /// The checksum of the changeset in the form of a stored one.
 pub fn sum_like<'a>(head: &Head<'a>, stored: &Text) -> &'a Text
     ensures { result.now ≡ sum_by_form head.now.old_sum.now head.now.sum.now stored.now }
 {
-    if is_old_form(stored.as_str()) {
-        head.old_sum
-    } else {
-        head.sum
-    }
+    sum_by_form(head.old_sum, head.sum, stored)
 }
 
 /// Whether a stored checksum is the changeset's own, in either form.
 fn is_own_sum(head: &Head<'_>, stored: &Text) -> bool
-    ensures { result ≡ is_text stored.now (sum_by_form head.now.old_sum.now head.now.sum.now stored.now) }
+    ensures { result
+        ≡ is_text stored.now (sum_by_form head.now.old_sum.now head.now.sum.now stored.now) }
 {
     *stored == *sum_like(head, stored)
 }
@@ -148,13 +139,10 @@ pub fn has_changed(head: &Head<'_>, stored: &Option<Text>) -> bool
 }
 
 /// Whether a stored checksum is null, or the changeset's own in the old form.
-fn is_to_fill(head: &Head<'_>, stored: &Option<Text>) -> bool
+fn is_filled(head: &Head<'_>, stored: &Option<Text>) -> bool
     ensures { result ≡ is_to_fill (headed head.now) stored.now }
 {
-    match stored {
-        Some(sum) => is_old_form(sum.as_str()) && is_own_sum(head, sum),
-        None => true,
-    }
+    is_to_fill(head.old_sum, stored)
 }
 
 /// Whether `validCheckSum` has the stored checksum.

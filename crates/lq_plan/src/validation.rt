@@ -42,7 +42,8 @@ fn add_twice(
     identity: &Identity,
     is_twice: bool,
 ) -> Result<(), NoMemory>
-    ensures { OnOk result (found.new ≡ found.old ++ (if is_twice then fault.Twice identity.now ∷ [] else [])) }
+    ensures { OnOk result
+        (found.new ≡ found.old ++ (if is_twice then fault.Twice identity.now ∷ [] else [])) }
 {
     if is_twice {
         found.push(Fault::Twice(identity.duplicate(alloc)?))?;
@@ -56,7 +57,9 @@ fn add_changed_at(
     head: &Head<'_>,
     row: Option<&Tracked>,
 ) -> Result<(), NoMemory>
-    ensures { OnOk result (found.new ≡ found.old ++ changed_at (headed head.now) (option_map (λ row. row.now) row.entry)) }
+    ensures { OnOk result
+        (found.new
+        ≡ found.old ++ changed_at (headed head.now) (option_map (λ row. row.now) row.entry)) }
 {
     match row {
         Some(row) => add_changed(alloc, found, head, &row.md5sum),
@@ -82,7 +85,10 @@ fn add_changed(
 }
 
 fn changed(alloc: Global, head: &Head<'_>, was: &Text) -> Result<Fault, NoMemory>
-    ensures { IfOk result (λ made. made ≡ fault.Changed head.now.identity.now was.now (sum_by_form head.now.old_sum.now head.now.sum.now was.now)) }
+    ensures { IfOk result (λ made.
+        made
+        ≡ fault.Changed head.now.identity.now was.now
+        (sum_by_form head.now.old_sum.now head.now.sum.now was.now)) }
 {
     Ok(Fault::Changed {
         identity: head.identity.duplicate(alloc)?,

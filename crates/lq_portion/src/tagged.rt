@@ -1,13 +1,13 @@
 ghost use Rattle.std.specs.List.{All, position};
-ghost use Rattle.std.specs.Prelude.{◌≡◌, IfSome, suc};
+ghost use Rattle.std.specs.Prelude.{◌≡◌, IfSome};
 ghost use Rattle.lq_base.specs.declared.dialect.Dialect.{Dialect};
 ghost use Rattle.lq_changelog.specs.ShortTexts.{HasShortTexts};
 ghost use Rattle.lq_kinds.specs.Dialects.{AreFor};
-ghost use Rattle.lq_portion.specs.Portion.{first_sets, sets_tag, up_to_tag};
+ghost use Rattle.lq_portion.specs.Portion.{sets_tag, up_to_tag};
 ghost use Rattle.lq_seen.specs.View.{tag_of};
 ghost use Rattle.lq_turns.specs.Rollback.{has_tag};
 
-use crate::sets::first_sets;
+use crate::sets::through;
 use lq_base::Text;
 use lq_kinds::{AnyChange, ChangeSet, Changelog};
 
@@ -16,7 +16,8 @@ use lq_kinds::{AnyChange, ChangeSet, Changelog};
 pub fn up_to_tag(changelog: Changelog, tag: &Text) -> Option<Changelog>
     ensures part { result ≡ up_to_tag tag.now changelog }
     ensures read { (d : Dialect) → AreFor d changelog → IfSome result (AreFor d) }
-    ensures short { All HasShortTexts changelog.sets → IfSome result (λ part. All HasShortTexts part.sets) }
+    ensures short { All HasShortTexts changelog.sets
+        → IfSome result (λ part. All HasShortTexts part.sets) }
 {
     match place_of(changelog.sets.as_slice(), tag) {
         Some(place) => Some(through(changelog, place)),
@@ -28,18 +29,6 @@ fn place_of(sets: &[ChangeSet], tag: &Text) -> Option<usize>
     ensures { result ≡ position (sets_tag tag.now) sets.now }
 {
     sets.iter().position(|set| sets_tag(set, tag))
-}
-
-fn through(changelog: Changelog, place: usize) -> Changelog
-    ensures part { result ≡ first_sets (suc place) changelog }
-    ensures read { (d : Dialect) → AreFor d changelog → AreFor d result }
-    ensures short { All HasShortTexts changelog.sets → All HasShortTexts result.sets }
-{
-    if place < changelog.sets.len() {
-        first_sets(changelog, place + 1)
-    } else {
-        changelog
-    }
 }
 
 fn sets_tag(set: &ChangeSet, tag: &Text) -> bool

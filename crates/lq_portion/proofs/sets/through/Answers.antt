@@ -1,0 +1,14 @@
+use Rattle.std.proofs.Common.{ap, subst, suc, sym, ◌∙◌}
+use Rattle.std.proofs.lemmas.List.Elements.{All-take}
+use Rattle.std.specs.List.{All, list_all}
+use Rattle.lq_changelog.specs.ShortTexts.{HasShortTexts}
+use Rattle.lq_kinds.specs.Dialects.{is_read_for}
+use Rattle.lq_kinds.specs.declared.change_set.Changelog.{Changelog}
+use Rattle.lq_portion.proofs.Parts.{all_first}
+use Rattle.lq_portion.proofs.sets.through.Goals as goal
+
+pub returns-clause-read : goal.returns-clause-read
+returns-clause-read c = λ d read. ap (λ (g : Changelog). list_all (is_read_for d) g.sets) c.keep_through_set.ensures ∙ all_first (is_read_for d) (suc c.args.place) c.args.changelog.sets read
+
+pub returns-clause-short : goal.returns-clause-short
+returns-clause-short c = λ short. subst (λ (g : Changelog). All HasShortTexts g.sets) (sym c.keep_through_set.ensures) (All-take HasShortTexts (suc c.args.place) c.args.changelog.sets short)
