@@ -27,7 +27,7 @@ use Rattle.lq_turns.specs.declared.deed.Deed.TheVariants.{Locks, Rows, Users}
 use Rattle.lq_turns.specs.declared.deed.OnLock.{OnLock}
 use Rattle.lq_turns.specs.declared.deed.OnLock.TheVariants as on_lock
 use Rattle.lq_turns.specs.declared.deed.OnRows.{OnRows}
-use Rattle.lq_turns.specs.declared.deed.OnRows.TheVariants.{Deleted, Filled, Inserted, Renewed, Tagged}
+use Rattle.lq_turns.specs.declared.deed.OnRows.TheVariants.{Cleared, Deleted, Filled, Inserted, Renewed, Tagged}
 use Rattle.lq_turns.proofs.Marks.{last_or_both}
 use Rattle.laws_repair.specs.LastText.{AreReadBack, IsReadBack, LastTextTells, is_mark_text, last_text, text_by}
 
@@ -67,6 +67,7 @@ row_not_mark (Renewed row) by is = other_table (ap table_in is)
 row_not_mark (Deleted of) by is = Prim.cc
 row_not_mark (Filled of sum) by is = other_table (ap table_in is)
 row_not_mark (Tagged of tag) by is = other_table (ap table_in is)
+row_not_mark Cleared by is = other_table (ap table_in is)
 
 three_one : {A : Type 0} → (let n : ℕ = 3 in n) ≡ 1 → A
 three_one is = Prim.cc

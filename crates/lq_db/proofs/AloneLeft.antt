@@ -34,7 +34,7 @@ pub at_rest : (d : Dialect) (h : Held) (es : Option (List Entry)) (lock : Lock) 
 at_rest d h es lock b is held = record { dialect_is = held.dialect_is; sound = held.sound_now; kept_is = closed_same d h lock b is held.begun_is }
 
 abbrev pub fresh : Running
-fresh = record { entries = []; entry = None; runs = 0 }
+fresh = record { entries = []; entry = None; runs = 0; texts = record { in_journal = None; waiting = None } }
 
 pub running_at_rest : (d : Dialect) (h : Held) → IsAtRest d h → IsRunning d h fresh
 running_at_rest d h rest = record {
@@ -43,6 +43,7 @@ running_at_rest d h rest = record {
   sound_cut = rest.sound;
   ran = ap Some (sym rest.kept_is);
   runs = refl;
+  last_is = record { in_journal = refl; waiting = refl };
   some = tt;
 }
 

@@ -5,11 +5,13 @@ use Rattle.lq_base.specs.declared.dialect.Dialect.{Dialect}
 use Rattle.lq_base.specs.declared.reason.Reason.{Reason}
 use Rattle.lq_db.specs.Alone.{IsClosed, IsDone, IsRunning, RanOne, TakesUp, cut, rewound, work}
 use Rattle.lq_db.specs.Db.{Stays}
+use Rattle.lq_db.specs.Last.{last_text}
 use Rattle.lq_entries.specs.Log.{entries_of}
 use Rattle.lq_session.specs.Session.{texts_in}
 use Rattle.lq_db.specs.declared.running.Running.{Running}
 use Rattle.lq_db.proofs.Commits.{if_any_is, run_more, run_one}
 use Rattle.lq_db.proofs.Executed.{ran_text, run_last}
+use Rattle.lq_db.proofs.Lasts.{added_last, closed_last, written_last}
 use Rattle.lq_db.proofs.RanItself.{run_two}
 use Rattle.lq_model.proofs.KeepsSound.{statement_keeps}
 use Rattle.lq_model.specs.Catalogue.{Catalogue}
@@ -60,7 +62,7 @@ module _ (d : Dialect) (by : By) (text : List ℕ) (s : Statement) (h k : Held) 
   stays = runs_stays h k k.now ran
 
   ran_itself : commits_itself d s ≡ true → TakesUp true text old new → (m : ℕ) × (outcome d by text (work h old) ≡ record { end = Ran m; work = work k new }) × Stays h k × IsRunning d k new
-  ran_itself itself (entries_are, (entry_is, runs_are)) =
+  ran_itself itself (entries_are, (entry_is, (runs_are, texts_are))) =
       let sound = statement_keeps d s by h.now k.now n is running.sound_now meant in (
         n,
         rw (spelled, itself, meant, entries_are, entry_is, runs_are, if_any_is old.entry running.some) refl,
@@ -71,12 +73,13 @@ module _ (d : Dialect) (by : By) (text : List ℕ) (s : Statement) (h k : Held) 
           sound_cut = rw runs_are sound;
           ran = rw (entries_are, append_assoc old.entries (entries_of old.entry) ((text ∷ []) ∷ []), stays.kept_is, runs_are) (run_more d old.entries (entries_of old.entry ++ (text ∷ []) ∷ []) (kept h) (cut h old) running.ran ∙ run_two d old.entry text (cut h old) h.now k.now running.runs (ran_text d by text s h.now k.now n spelled meant));
           runs = rw (entry_is, runs_are) refl;
+          last_is = written_last (old.entries ++ entries_of old.entry) new.entries new.entry text new.texts entries_are entry_is texts_are;
           some = rw entry_is tt;
         },
       )
 
   ran_within : commits_itself d s ≡ false → TakesUp false text old new → (m : ℕ) × (outcome d by text (work h old) ≡ record { end = Ran m; work = work k new }) × Stays h k × IsRunning d k new
-  ran_within itself (entries_are, (texts_are, (some, runs_are))) =
+  ran_within itself (entries_are, (texts_are, (some, (runs_are, lasts_are)))) =
       let sound = statement_keeps d s by h.now k.now n is running.sound_now meant in
       let cut_is : cut k new ≡ cut h old = ap (λ (h : Held). h.now) (rewound_more old.runs new.runs h k k.now ran runs_are) in (
         n,
@@ -87,6 +90,7 @@ module _ (d : Dialect) (by : By) (text : List ℕ) (s : Statement) (h k : Held) 
           sound_now = sound;
           sound_cut = subst (IsSound d) (sym cut_is) running.sound_cut;
           ran = rw (entries_are, stays.kept_is, cut_is) running.ran;
+          last_is = added_last old.entries new.entries (texts_in old.entry) (texts_in new.entry) text old.texts new.texts running.last_is entries_are texts_are lasts_are;
           runs = rw (texts_are, cut_is) (run_last d (texts_in old.entry) text (cut h old) h.now k.now running.runs (ran_text d by text s h.now k.now n spelled meant));
           some = some;
         },
@@ -121,6 +125,10 @@ closes d h old new running closed = record {
   sound = running.sound_now;
   stays = record { dialect_is = refl; kept_is = refl };
 }
+
+-- and of them the last text is known
+pub closes_last : (d : Dialect) (h : Held) (old new : Running) → IsRunning d h old → IsClosed old new → new.texts.in_journal ≡ last_text new.entries
+closes_last d h old new running closed = (closed_last old.entries new.entries old.entry new.entry old.texts new.texts running.last_is closed.entries_are closed.entry_is closed.texts_are).in_journal
 
 -- a text that is refused
 

@@ -5,3 +5,4 @@ pub mod AloneLeft
 pub mod RanItself
 pub mod TwinRows
 pub mod Loads
+pub mod Lasts

@@ -2,6 +2,7 @@
 use Rattle.std.specs.Prelude.{◌≡◌, ◌<◌, ◌+◌, ◌++◌, ◌∷◌, Bool, IfSome, List, None, Option, Some, Result, Ok, Err, [], false, length, suc, true, zero, ℕ}
 use Rattle.lq_base.specs.declared.dialect.Dialect.{Dialect}
 use Rattle.lq_db.specs.Db.{Stays}
+use Rattle.lq_db.specs.Last.{AreLast, last_text, with_all, with_entry, with_text}
 use Rattle.lq_entries.specs.Log.{entries_of}
 use Rattle.lq_session.specs.Session.{texts_in}
 use Rattle.lq_db.specs.Lock.{IsLockOf}
@@ -37,6 +38,7 @@ pub record IsRunning (d : Dialect) (h : Held) (t : Running) : Type 0 where
   pub sound_cut : IsSound d (cut h t)
   pub ran : run_entries d t.entries (kept h) ≡ Some (cut h t)
   pub runs : run_texts d (texts_in t.entry) (cut h t) ≡ Some h.now
+  pub last_is : AreLast t.entries (texts_in t.entry) t.texts
   pub some : IfSome t.entry (λ texts. 0 < length texts)
 
 -- the texts so far are a complete entry
@@ -44,11 +46,12 @@ pub record IsClosed (old new : Running) : Type 0 where
   pub entries_are : new.entries ≡ old.entries ++ entries_of old.entry
   pub entry_is : new.entry ≡ None
   pub runs_are : new.runs ≡ 0
+  pub texts_are : new.texts ≡ with_all old.texts
 
 -- the text of a statement that ran is taken up: by itself where it commits by itself
 abbrev pub TakesUp : Bool → List ℕ → Running → Running → Type 0
-TakesUp true text old new = (new.entries ≡ (old.entries ++ entries_of old.entry) ++ (text ∷ []) ∷ []) × ((new.entry ≡ None) × (new.runs ≡ 0))
-TakesUp false text old new = (new.entries ≡ old.entries) × ((texts_in new.entry ≡ texts_in old.entry ++ text ∷ []) × (IfSome new.entry (λ texts. 0 < length texts) × (new.runs ≡ old.runs + 1)))
+TakesUp true text old new = (new.entries ≡ (old.entries ++ entries_of old.entry) ++ (text ∷ []) ∷ []) × ((new.entry ≡ None) × ((new.runs ≡ 0) × (new.texts ≡ with_entry text)))
+TakesUp false text old new = (new.entries ≡ old.entries) × ((texts_in new.entry ≡ texts_in old.entry ++ text ∷ []) × (IfSome new.entry (λ texts. 0 < length texts) × ((new.runs ≡ old.runs + 1) × (new.texts ≡ with_text text old.texts))))
 
 abbrev pub ended_by : Ended → ℕ → End
 ended_by ended.Ran n = Ran n
@@ -66,14 +69,14 @@ pub record IsDone (d : Dialect) (end : End) (o : Outcome) (h k : Held) (entries 
 -- one text ran, or ended the run
 abbrev pub RanOne : Dialect → Outcome → Held → Result Ended StoreFault → Held → Running → Type 0
 RanOne d o h (Ok ended.Ran) k new = (n : ℕ) × (o ≡ record { end = Ran n; work = work k new }) × Stays h k × IsRunning d k new
-RanOne d o h (Ok (ended.Stopped reason)) k new = IsDone d (Stopped reason) o h k new.entries
+RanOne d o h (Ok (ended.Stopped reason)) k new = IsDone d (Stopped reason) o h k new.entries × (new.texts.in_journal ≡ last_text new.entries)
 RanOne d o h (Err NotSql) k new = (o.end ≡ NoStatement) × Stays h k
 RanOne d o h (Err OutOfMemory) k new = Stays h k
 RanOne d o h (Err _) k new = ⊥
 
 -- they all ran, or the first that did not ended the run
 abbrev pub RanAll : Dialect → Outcome → Held → Result Ended StoreFault → Held → Running → Type 0
-RanAll d o h (Ok end) k new = IsDone d (ended_by end 0) o h k new.entries
+RanAll d o h (Ok end) k new = IsDone d (ended_by end 0) o h k new.entries × (new.texts.in_journal ≡ last_text new.entries)
 RanAll d o h (Err NotSql) k new = (o.end ≡ NoStatement) × Stays h k
 RanAll d o h (Err OutOfMemory) k new = Stays h k
 RanAll d o h (Err _) k new = ⊥
@@ -86,7 +89,7 @@ pub record IsAtRest (d : Dialect) (h : Held) : Type 0 where
 
 -- the entries to write, and the lock that is committed with them
 abbrev pub MayPrepare : Dialect → Outcome → Held → Result Prepared StoreFault → Held → Type 0
-MayPrepare d o h (Ok prepared) k = IsDone d (ended_by prepared.ended 0) o h k prepared.entries × (prepared.size ≡ size_of_all prepared.entries) × IsLockOf d k.now prepared.lock
+MayPrepare d o h (Ok prepared) k = IsDone d (ended_by prepared.ended 0) o h k prepared.entries × (prepared.size ≡ size_of_all prepared.entries) × IsLockOf d k.now prepared.lock × (prepared.last ≡ last_text prepared.entries)
 MayPrepare d o h (Err NotSql) k = (o.end ≡ NoStatement) × Stays h k
 MayPrepare d o h (Err OutOfMemory) k = Stays h k
 MayPrepare d o h (Err _) k = ⊥

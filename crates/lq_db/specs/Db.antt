@@ -3,6 +3,7 @@ use Rattle.std.specs.Prelude.{◌≡◌, Bool, false, true, IfSome, List, None, 
 use Rattle.lq_base.specs.declared.dialect.Dialect.{Dialect}
 use Rattle.lq_base.specs.declared.reason.Reason.{Reason}
 use Rattle.lq_base.specs.declared.tracking.Lock.{Lock}
+use Rattle.lq_db.specs.Last.{TellLast}
 use Rattle.lq_db.specs.Lock.{IsLockOf}
 use Rattle.lq_entries.specs.Log.{IsWhole, crashes_in, entries_in}
 use Rattle.lq_db.specs.declared.db.Db.{Db}
@@ -65,6 +66,7 @@ pub record IsDb {D P E : Type 0} (d : Dialect) (told : Option (List ℕ)) (disk 
   pub sql_is : d ≡ db.dialect
   pub journal_is : dialect_of db.journal ≡ db.dialect
   pub is_held : IsHeld db.dialect h (entries_in (dialect_of db.journal) (limit_of db.journal) told) db.lock db.begun
+  pub last_is : TellLast (entries_in (dialect_of db.journal) (limit_of db.journal) told) db.begun db.texts
 
 -- It is as its calls leave it: its journal is always one of its dialect.
 pub record IsValid {D P E : Type 0} (d : Dialect) (told : Option (List ℕ)) (disk : DiskCrashes) (h : Held) (db : Db D P E) : Type 0 where

@@ -3,10 +3,11 @@ ghost use Rattle.lq_db.specs.Alone.{IsAtRest, IsRunning, MayPrepare, RanAll, Ran
 ghost use Rattle.lq_store.specs.Executor.{kept};
 ghost use Rattle.lq_store.specs.Work.{outcome, outcome_all, work_in};
 
+use crate::last_texts::LastTexts;
 use crate::locking::lock_now;
 use crate::running::{Ended, Running, close, rewind, take_up};
 use crate::taking::commits_itself;
-use lq_base::{Dialect, Items, Lock};
+use lq_base::{Dialect, Items, Lock, Text};
 use lq_entries::size_of_all;
 use lq_frames::EncodedEntry;
 use lq_model::{ByText, ParseFault, SqlText, StoreFault};
@@ -25,7 +26,9 @@ fn run_one<P: SqlText, E: Executor>(
 ) -> Result<Ended, StoreFault>
     requires sql { P.dialect ≡ dialect }
     requires running { IsRunning dialect (E.held engine.old) running.old }
-    ensures { RanOne dialect (outcome dialect text.now.by text.now.text (work (E.held engine.old) running.old)) (E.held engine.old) result (E.held engine.new) running.new }
+    ensures { RanOne dialect
+        (outcome dialect text.now.by text.now.text (work (E.held engine.old) running.old))
+        (E.held engine.old) result (E.held engine.new) running.new }
 {
     let statement = match sql.parse(alloc, text.text.as_str()) {
         Ok(statement) => statement,
@@ -64,7 +67,8 @@ fn run_all<P: SqlText, E: Executor>(
 ) -> Result<Ended, StoreFault>
     requires sql { P.dialect ≡ dialect }
     requires running { IsRunning dialect (E.held engine.old) running.old }
-    ensures { RanAll dialect (outcome_all dialect texts.now (work (E.held engine.old) running.old)) (E.held engine.old) result (E.held engine.new) running.new }
+    ensures { RanAll dialect (outcome_all dialect texts.now (work (E.held engine.old) running.old))
+        (E.held engine.old) result (E.held engine.new) running.new }
 {
     for text in texts {
         match run_one(alloc, sql, engine, running, dialect, text) {
@@ -88,6 +92,8 @@ pub struct Prepared {
     /// How many bytes of the journal they take.
     pub size: u64,
     pub lock: Lock,
+    /// The last text of the entries.
+    pub last: Option<Text>,
 }
 
 /// Runs the texts in the engine, which then has what is committed with the entries.
@@ -100,12 +106,18 @@ pub fn prepare<P: SqlText, E: Executor>(
 ) -> Result<Prepared, StoreFault>
     requires sql { P.dialect ≡ dialect }
     requires ready { IsAtRest dialect (E.held engine.old) }
-    ensures { MayPrepare dialect (outcome_all dialect texts.now (work_in None (kept (E.held engine.old)))) (E.held engine.old) result (E.held engine.new) }
+    ensures { MayPrepare dialect
+        (outcome_all dialect texts.now (work_in None (kept (E.held engine.old))))
+        (E.held engine.old) result (E.held engine.new) }
 {
     let mut running = Running {
         entries: Items::new(alloc),
         entry: None,
         runs: 0,
+        texts: LastTexts {
+            in_journal: None,
+            waiting: None,
+        },
     };
     let ended = match run_all(alloc, sql, engine, &mut running, dialect, texts) {
         Ok(ended) => ended,
@@ -118,10 +130,12 @@ pub fn prepare<P: SqlText, E: Executor>(
     let Some(size) = size_of_all(running.entries.as_slice()) else {
         return Err(StoreFault::OutOfMemory);
     };
+    let Running { entries, texts, .. } = running;
     Ok(Prepared {
         ended,
-        entries: running.entries,
+        entries,
         size,
         lock,
+        last: texts.in_journal,
     })
 }

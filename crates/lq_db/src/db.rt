@@ -1,5 +1,7 @@
+ghost use Rattle.std.specs.Option.{option_copied};
 ghost use Rattle.std.specs.Prelude.{◌≡◌, ◌≤◌, IfOk, IfErr, IfSome, MatchResult, Ok, true};
 ghost use Rattle.lq_db.specs.Db.{lives};
+ghost use Rattle.lq_db.specs.Last.{last_text};
 ghost use Rattle.lq_db.specs.Load.{IsDbFault};
 ghost use Rattle.lq_entries.specs.Load.{catalogue_of, is_clean};
 ghost use Rattle.lq_outside.specs.Crash.{LeavesOnly};
@@ -7,10 +9,11 @@ ghost use Rattle.lq_store.specs.Executor.{kept};
 
 use crate::alone::prepare;
 use crate::itself::run_itself;
+use crate::last_texts::{LastTexts, last_of};
 use crate::loading::{Raised, raise};
 use crate::running::Ended;
 use crate::taking::{commits_itself, take};
-use lq_base::{Dialect, Lock};
+use lq_base::{Dialect, Lock, Text};
 use lq_entries::append_all;
 use lq_journal::{AppendFault, Journal, LoadFault};
 use lq_model::{By, ByText, ParseFault, Room, SqlText, StoreFault};
@@ -29,13 +32,15 @@ pub struct Db<D: Disk, P: SqlText + Drop, E: Executor + Drop> {
     engine: E,
     /// The committed lock.
     lock: Lock,
+    /// The last text of the journal, and of the open transaction.
+    texts: LastTexts,
     begun: Option<Open>,
     /// No call has met a disk fault.
     live: bool,
 }
 
 impl<D: Disk, P: SqlText + Drop, E: Executor + Drop> Db<D, P, E> {
-    ghost use Rattle.lq_db.specs.Db.{IsDb, IsNew, disk_in, engine_in};
+    ghost use Rattle.lq_db.specs.Db.{IsDb, IsNew, disk_in, engine_in, state};
 
     /// Opens the database in a journal. A refusal hands the disk back, and changes no byte.
     ///
@@ -50,18 +55,29 @@ impl<D: Disk, P: SqlText + Drop, E: Executor + Drop> Db<D, P, E> {
         requires limit_least { 8192 ≤ limit }
         requires limit_most { limit ≤ 268435456 }
         requires sql { P.dialect ≡ dialect }
-        ensures valid { IfOk result (λ db. IsDb P.dialect (D.told (disk_in db)) (D.crashes (disk_in db)) (E.held (engine_in db)) db) }
+        ensures valid { IfOk result (λ db.
+            IsDb P.dialect (D.told (disk_in db)) (D.crashes (disk_in db)) (E.held (engine_in db))
+            db) }
         ensures new { IfOk result (λ db. IsNew dialect limit db) }
-        ensures catalogue { IfOk result (λ db. IfSome (D.told disk) (λ bytes. catalogue_of dialect limit bytes ≡ Ok (kept (E.held (engine_in db))))) }
+        ensures catalogue { IfOk result (λ db.
+            IfSome (D.told disk)
+            (λ bytes. catalogue_of dialect limit bytes ≡ Ok (kept (E.held (engine_in db))))) }
         ensures clean { IfOk result (λ db. is_clean dialect (kept (E.held (engine_in db))) ≡ true) }
-        ensures told { MatchResult result (λ db. D.told (disk_in db) ≡ D.told disk) (λ refused. D.told refused.disk ≡ D.told disk) }
+        ensures told { MatchResult result (λ db. D.told (disk_in db) ≡ D.told disk)
+            (λ refused. D.told refused.disk ≡ D.told disk) }
 
         // Each fault has its cause.
-        ensures fault { IfErr result (λ refused. IsDbFault dialect limit (D.told disk) (D.faults disk) (D.faults refused.disk) refused.fault) }
-        ensures later { MatchResult result (λ db. D.faults disk ≤ D.faults (disk_in db)) (λ refused. D.faults disk ≤ D.faults refused.disk) }
+        ensures fault { IfErr result (λ refused.
+            IsDbFault dialect limit (D.told disk) (D.faults disk) (D.faults refused.disk)
+            refused.fault) }
+        ensures later { MatchResult result (λ db. D.faults disk ≤ D.faults (disk_in db))
+            (λ refused. D.faults disk ≤ D.faults refused.disk) }
 
         // At each moment of it a crash leaves what one before it might have left.
-        ensures any_moment { MatchResult result (λ db. LeavesOnly (D.crashes disk) (D.crashes (disk_in db)) (D.crashes disk).leaves) (λ refused. LeavesOnly (D.crashes disk) (D.crashes refused.disk) (D.crashes disk).leaves) }
+        ensures any_moment { MatchResult result
+            (λ db. LeavesOnly (D.crashes disk) (D.crashes (disk_in db)) (D.crashes disk).leaves)
+            (λ refused.
+            LeavesOnly (D.crashes disk) (D.crashes refused.disk) (D.crashes disk).leaves) }
     {
         match Journal::load(alloc, disk, dialect, limit) {
             Err(refused) => Err(refused),
@@ -74,6 +90,10 @@ impl<D: Disk, P: SqlText + Drop, E: Executor + Drop> Db<D, P, E> {
                     }),
                     Ok(raised) => {
                         let Raised { engine, lock } = raised;
+                        let texts = LastTexts {
+                            in_journal: last_of(entries),
+                            waiting: None,
+                        };
                         Ok(Db {
                             alloc,
                             dialect,
@@ -81,6 +101,7 @@ impl<D: Disk, P: SqlText + Drop, E: Executor + Drop> Db<D, P, E> {
                             sql,
                             engine,
                             lock,
+                            texts,
                             begun: None,
                             live: true,
                         })
@@ -88,6 +109,17 @@ impl<D: Disk, P: SqlText + Drop, E: Executor + Drop> Db<D, P, E> {
                 }
             }
         }
+    }
+
+    /// The last text of the last entry: nothing where the journal has no entry.
+    pub fn last_text(&self) -> Option<&Text>
+        requires valid { IsDb P.dialect (D.told (disk_in self.now)) (D.crashes (disk_in self.now))
+            (E.held (engine_in self.now)) self.now }
+        ensures { IfSome
+            (state (D.told (disk_in self.now)) (E.held (engine_in self.now)) self.now).entries
+            (λ there. option_copied result ≡ last_text there) }
+    {
+        self.texts.in_journal.as_ref()
     }
 
     /// The disk as it is: an open transaction leaves nothing on it but what was committed.
@@ -145,6 +177,7 @@ impl<D: Disk, P: SqlText + Drop, E: Executor + Drop> Store for Db<D, P, E> {
         if let Some(open) = &self.begun {
             return Err(StoreFault::Busy(open.session));
         }
+        self.texts.waiting = None;
         self.begun = Some(Open {
             session,
             entry: None,
@@ -158,6 +191,9 @@ impl<D: Disk, P: SqlText + Drop, E: Executor + Drop> Store for Db<D, P, E> {
             Ok(statement) => statement,
             Err(ParseFault::NotSql) => return Err(StoreFault::NotSql),
             Err(ParseFault::OutOfMemory) => return Err(StoreFault::OutOfMemory),
+        };
+        let Ok(copy) = Text::new(self.alloc, text) else {
+            return Err(StoreFault::OutOfMemory);
         };
         match &mut self.begun {
             // No call comes here: the session has one open.
@@ -175,9 +211,10 @@ impl<D: Disk, P: SqlText + Drop, E: Executor + Drop> Store for Db<D, P, E> {
                         text,
                         &statement,
                     );
+                    self.texts.note_itself(done, copy);
                     note(&mut self.live, done)
                 } else {
-                    take(
+                    let done = take(
                         self.alloc,
                         &mut self.engine,
                         begun,
@@ -185,7 +222,9 @@ impl<D: Disk, P: SqlText + Drop, E: Executor + Drop> Store for Db<D, P, E> {
                         by,
                         text,
                         &statement,
-                    )
+                    );
+                    self.texts.note_taken(done, copy);
+                    done
                 }
             }
         }
@@ -200,7 +239,10 @@ impl<D: Disk, P: SqlText + Drop, E: Executor + Drop> Store for Db<D, P, E> {
                 &mut open,
                 &mut self.lock,
             ) {
-                Ok(()) => Ok(()),
+                Ok(()) => {
+                    self.texts.commit();
+                    Ok(())
+                }
                 Err(AppendFault::Disk) => {
                     self.live = false;
                     Err(StoreFault::Disk)
@@ -235,6 +277,7 @@ impl<D: Disk, P: SqlText + Drop, E: Executor + Drop> Store for Db<D, P, E> {
                 Ok(()) => {
                     self.engine.forget();
                     self.lock = prepared.lock;
+                    self.texts.renew(prepared.last);
                     match prepared.ended {
                         Ended::Ran => Ok(()),
                         Ended::Stopped(reason) => Err(StoreFault::Refused(reason)),

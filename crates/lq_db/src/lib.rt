@@ -4,6 +4,7 @@
 mod alone;
 mod db;
 mod itself;
+mod last_texts;
 mod loading;
 mod locking;
 mod running;

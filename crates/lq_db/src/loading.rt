@@ -22,7 +22,8 @@ fn run_text<P: SqlText, E: Executor>(
     text: &str,
 ) -> Result<bool, NoMemory>
     requires { IsAt P.dialect (E.held engine.old).now (E.held engine.old) }
-    ensures { Ran P.dialect (run_text P.dialect text.now (E.held engine.old).now) result (E.held engine.new) }
+    ensures { Ran P.dialect (run_text P.dialect text.now (E.held engine.old).now) result
+        (E.held engine.new) }
 {
     match sql.parse(alloc, text) {
         Ok(statement) => match engine.run(By::Program, &statement) {
@@ -43,7 +44,8 @@ fn run_texts<P: SqlText, E: Executor>(
     texts: &[Text],
 ) -> Result<bool, NoMemory>
     requires { IsAt P.dialect (E.held engine.old).now (E.held engine.old) }
-    ensures { Ran P.dialect (run_texts P.dialect texts.now (E.held engine.old).now) result (E.held engine.new) }
+    ensures { Ran P.dialect (run_texts P.dialect texts.now (E.held engine.old).now) result
+        (E.held engine.new) }
 {
     for text in texts {
         if !run_text(alloc, sql, engine, text.as_str())? {
@@ -61,7 +63,8 @@ fn run_entries<P: SqlText, E: Executor>(
     entries: &[Entry],
 ) -> Result<(), LoadFault>
     requires { IsAt P.dialect (E.held engine.old).now (E.held engine.old) }
-    ensures { Folds P.dialect (folded P.dialect entries.now (E.held engine.old).now) result (E.held engine.new) }
+    ensures { Folds P.dialect (folded P.dialect entries.now (E.held engine.old).now) result
+        (E.held engine.new) }
 {
     for entry in entries {
         match run_texts(alloc, sql, engine, entry.texts.as_slice()) {
@@ -145,7 +148,9 @@ pub fn raise<P: SqlText, E: Executor + Drop>(
 ) -> Result<Raised<E>, LoadFault>
     requires dialect { P.dialect ≡ dialect }
     requires used { used ≡ used_by entries.now }
-    ensures { MatchResult result (λ raised. IsRaised P.dialect entries.now (E.held raised.engine) raised.lock) (λ fault. MayNotRaise P.dialect entries.now fault) }
+    ensures { MatchResult result
+        (λ raised. IsRaised P.dialect entries.now (E.held raised.engine) raised.lock)
+        (λ fault. MayNotRaise P.dialect entries.now fault) }
 {
     let mut engine = E::new(alloc, dialect);
     match run_entries(alloc, sql, &mut engine, entries) {

@@ -1,8 +1,9 @@
 ghost use Rattle.std.specs.Prelude.{◌≡◌, ◌++◌, ◌∷◌, [], IfSome, OnOk, ◌<◌, length};
 ghost use Rattle.lq_db.specs.Alone.{IsClosed, TakesUp, rewound};
 
+use crate::last_texts::LastTexts;
 use crate::taking::push_text;
-use lq_base::{Items, NoMemory, Reason};
+use lq_base::{Items, NoMemory, Reason, Text};
 use lq_frames::EncodedEntry;
 use lq_store::Executor;
 use std::alloc::Global;
@@ -16,6 +17,8 @@ pub struct Running {
     pub entry: Option<EncodedEntry>,
     /// How many they are.
     pub runs: u64,
+    /// The last text of the complete entries, and of those since then.
+    pub texts: LastTexts,
 }
 
 /// How such texts end.
@@ -33,6 +36,7 @@ pub fn close(running: &mut Running) -> Result<(), NoMemory>
         running.entries.push(entry)?;
     }
     running.runs = 0;
+    running.texts.commit();
     Ok(())
 }
 
@@ -46,10 +50,12 @@ pub fn take_up(
     requires some { IfSome running.old.entry (λ texts. 0 < length texts) }
     ensures { OnOk result (TakesUp itself text.now running.old running.new) }
 {
+    let copy = Text::new(alloc, text)?;
     if itself {
         close(running)?;
         let entry = EncodedEntry::new(alloc, text)?;
         running.entries.push(entry)?;
+        running.texts.write(copy);
         return Ok(());
     }
     push_text(alloc, &mut running.entry, text)?;
@@ -58,6 +64,7 @@ pub fn take_up(
         return Err(NoMemory);
     };
     running.runs = runs;
+    running.texts.add(copy);
     Ok(())
 }
 

@@ -20,7 +20,9 @@ pub fn push_text(
     text: &str,
 ) -> Result<(), NoMemory>
     ensures texts { OnOk result (texts_in entry.new ≡ texts_in entry.old ++ text.now ∷ []) }
-    ensures some { OnOk result (IfSome entry.old (λ texts. 0 < length texts) → IfSome entry.new (λ texts. 0 < length texts)) }
+    ensures some { OnOk result
+        (IfSome entry.old (λ texts. 0 < length texts)
+        → IfSome entry.new (λ texts. 0 < length texts)) }
     ensures same { OnErr result (entry.new ≡ entry.old) }
 {
     match entry {
@@ -41,7 +43,8 @@ fn add<E: Executor>(
     text: &str,
 ) -> Result<(), NoMemory>
     requires some { IfSome begun.old.entry (λ texts. 0 < length texts) }
-    ensures added { OnOk result (IsAdded dialect text.now (E.held engine.now).now begun.old begun.new) }
+    ensures added { OnOk result
+        (IsAdded dialect text.now (E.held engine.now).now begun.old begun.new) }
     ensures same { OnErr result (begun.new ≡ begun.old) }
 {
     let lock = lock_now(alloc, dialect, engine)?;
@@ -63,7 +66,8 @@ pub fn take<E: Executor>(
     requires statement { is_statement (E.held engine.old).dialect statement.now ≡ true }
     requires dialect { (E.held engine.old).dialect ≡ dialect }
     requires some { IfSome begun.old.entry (λ texts. 0 < length texts) }
-    ensures { MayTake dialect text.now (step by dialect statement.now (E.held engine.old).now) (E.held engine.old) begun.old result (E.held engine.new) begun.new }
+    ensures { MayTake dialect text.now (step by dialect statement.now (E.held engine.old).now)
+        (E.held engine.old) begun.old result (E.held engine.new) begun.new }
 {
     match engine.run(by, statement) {
         Ok(count) => match add(alloc, dialect, engine, begun, text) {

@@ -28,7 +28,9 @@ fn key_of(alloc: Global, row: &Tracked) -> Result<IdentityKey, NoMemory>
 
 // Adds a row, and answers whether one of the rows before has its identity or its order.
 fn see(alloc: Global, seen: &mut Seen, row: &Tracked) -> Result<bool, NoMemory>
-    ensures { (rows : List TrackedValue) → IsSeen rows seen.old → Sees row.now rows result seen.new }
+    ensures { (rows : List TrackedValue)
+        → IsSeen rows seen.old
+        → Sees row.now rows result seen.new }
 {
     let key = key_of(alloc, row)?;
     let Ok(is_new) = seen.identities.insert(key) else {

@@ -1,10 +1,9 @@
 -- The calls that take statements back, laid down one after another.
-use Rattle.std.proofs.Common.{ap, arith, refl, subst, sym, ◌∙◌}
-use Rattle.std.proofs.lemmas.List.{append_assoc}
-use Rattle.std.specs.List.{list_all}
+use Rattle.std.proofs.Common.{ap, refl, ◌∙◌}
+use Rattle.std.proofs.lemmas.List.{append-nil}
 use Rattle.std.specs.Ordering.{int_eq}
-use Rattle.std.specs.Prelude.{Bool, List, None, Option, Some, [], false, length, not, pos, reverse, suc, true, ℕ, ◌&&◌, ◌++◌, ◌∷◌, ◌≡◌}
-use Rattle.laws_repair.specs.Repair.{back_calls, marked_text, undo_calls}
+use Rattle.std.specs.Prelude.{Bool, List, None, Option, Some, [], false, not, pos, reverse, true, ℕ, ◌&&◌, ◌++◌, ◌∷◌, ◌≡◌}
+use Rattle.laws_repair.specs.Repair.{back_calls, marked_text}
 use Rattle.lq_base.specs.declared.dialect.Dialect.{Dialect}
 use Rattle.lq_base.specs.declared.dialect.Dialect.TheVariants.{Mysql, Postgresql}
 use Rattle.lq_base.specs.Kind.{is_kind}
@@ -13,7 +12,7 @@ use Rattle.lq_base.specs.declared.identity.Identity.{Identity}
 use Rattle.lq_base.specs.declared.literal.Literal.TheVariants as literal
 use Rattle.lq_base.specs.declared.name.Name.{Name}
 use Rattle.lq_hand.proofs.Laying.{then_lays}
-use Rattle.lq_hand.specs.Hand.{AreTurns, opens}
+use Rattle.lq_hand.specs.Hand.{AreTurns}
 use Rattle.lq_hand.specs.TurnCalls.{Lays}
 use Rattle.lq_model.proofs.Lists.{and_left, and_right, and_true}
 use Rattle.lq_model.specs.Literals.{literal_of}
@@ -30,17 +29,6 @@ use Rattle.lq_turns.specs.declared.call.Call.TheVariants.{Begin, Commit, Execute
 use Rattle.lq_turns.specs.declared.deed.Deed.TheVariants.{Locks, Users}
 use Rattle.lq_turns.specs.declared.deed.OnLock.TheVariants.{Marked}
 
--- one more statement is laid down
-pub one_more : (d : Dialect) (who : List ℕ) (of : Identity) (n m : ℕ) (s : Statement) (rest after all : List Statement) (old new : List Call) → m ≡ suc n → rest ≡ s ∷ after
-    → undo_calls d who of (suc n) rest ++ reverse old ≡ undo_calls d who of 1 all → Lays (back_calls who of m (back d s)) old new
-    → undo_calls d who of (suc m) after ++ reverse new ≡ undo_calls d who of 1 all
-one_more d who of n m s rest after all old new next first so lays =
-    subst (λ k. undo_calls d who of (suc k) after ++ reverse new ≡ undo_calls d who of 1 all) (sym next)
-    (ap (λ cs. undo_calls d who of (suc (suc n)) after ++ cs) (subst (λ k. Lays (back_calls who of k (back d s)) old new) next lays)
-    ∙ sym (append_assoc (undo_calls d who of (suc (suc n)) after) (back_calls who of (suc n) (back d s)) (reverse old))
-    ∙ ap (λ ss. undo_calls d who of (suc n) ss ++ reverse old) (sym first)
-    ∙ so)
-
 -- the last of a transaction's calls is laid first
 pub transaction_laid : (who : List ℕ) (of : Identity) (n : ℕ) (s : Statement) (a b c e f : List Call) → Lays (Commit ∷ []) a b → Lays (Execute (Users s) ∷ []) b c
     → Lays (Execute (Locks (Marked (marked_text true who of n))) ∷ []) c e → Lays (Begin ∷ []) e f → Lays (back_calls who of n (Some s)) a f
@@ -51,7 +39,7 @@ transaction_laid who of n s a b c e f first second third fourth =
 
 -- what takes a statement back is of its dialect
 
-abbrev IsSpelled : Dialect → Option Statement → Type 0
+abbrev pub IsSpelled : Dialect → Option Statement → Type 0
 IsSpelled d None = Unit {0}
 IsSpelled d (Some s) = is_statement d s ≡ true
 
@@ -71,7 +59,7 @@ index_named t i is = and_left (is_name i.name) (is_name_list i.columns) (and_rig
 foreign_named : (t : Name) (f : ForeignKey) → (is_name t && is_foreign f) ≡ true → (is_name t && is_name f.name) ≡ true
 foreign_named t f is = both_names (is_name t) (is_name f.name) (is_name_list f.columns && (is_name f.table && is_name_list f.targets)) is
 
-back_spelled : (d : Dialect) (s : Statement) → is_statement d s ≡ true → IsSpelled d (back d s)
+pub back_spelled : (d : Dialect) (s : Statement) → is_statement d s ≡ true → IsSpelled d (back d s)
 back_spelled d (CreateTable t defs key uniques foreign) is = and_left (is_name t) _ is
 back_spelled d (CreateView v q replace) is = and_left (is_name v) (is_query q) is
 back_spelled d (CreateSequence s start size) is = both_names (is_pg d) (is_name s) (is_literal (literal.Int start) && (is_literal (literal.Int size) && not (int_eq size (pos 0)))) is
@@ -94,24 +82,13 @@ back_spelled Postgresql (AddForeignKey t f) is = foreign_named t f is
 back_spelled Mysql (AddForeignKey t f) is = foreign_named t f is
 back_spelled d s is = tt
 
--- each is a transaction
+-- it is a transaction
+pub one_turn : (d : Dialect) (who : List ℕ) (of : Identity) (k : ℕ) (s : Statement) → is_statement d s ≡ true → AreTurns d false (back_calls who of k (back d s))
+one_turn d who of k s is = by (back d s) (back_spelled d s is) where
+  by : (o : Option Statement) → IsSpelled d o → AreTurns d false (back_calls who of k o)
+  by None is = refl
+  by (Some s) is = (refl, ((refl, tt), ((refl, is), (refl, refl))))
 
-turns_both : (d : Dialect) (opened : Bool) (first second : List Call) → AreTurns d opened first → AreTurns d false second → AreTurns d opened (first ++ second)
-turns_both d opened [] second closed well = subst (λ o. AreTurns d o second) (sym closed) well
-turns_both d opened (call ∷ first) second next well = (next.0, turns_both d (opens call) first second next.1 well)
-
-one_turn : (d : Dialect) (who : List ℕ) (of : Identity) (k : ℕ) (o : Option Statement) → IsSpelled d o → AreTurns d false (back_calls who of k o)
-one_turn d who of k None is = refl
-one_turn d who of k (Some s) is = (refl, ((refl, tt), ((refl, is), (refl, refl))))
-
-pub are_turns : (d : Dialect) (who : List ℕ) (of : Identity) (k : ℕ) (ss : List Statement) → list_all (is_statement d) ss ≡ true → AreTurns d false (undo_calls d who of k ss)
-are_turns d who of k [] all = refl
-are_turns d who of k (s ∷ ss) all =
-    turns_both d false (undo_calls d who of (suc k) ss) (back_calls who of k (back d s))
-    (are_turns d who of (suc k) ss (and_right (is_statement d s) _ all))
-    (one_turn d who of k (back d s) (back_spelled d s (and_left (is_statement d s) _ all)))
-
--- with nothing behind them
-pub none_left : (d : Dialect) (who : List ℕ) (of : Identity) (n : ℕ) (rest : List Statement) (calls all : List Call) → length rest ≡ 0 → undo_calls d who of (suc n) rest ++ reverse calls ≡ all → reverse calls ≡ all
-none_left d who of n [] calls all none so = so
-none_left d who of n (s ∷ rest) calls all none so = absurd (omega (arith, none))
+-- laid down where nothing lies
+pub alone : (calls before after : List Call) → before ≡ [] → Lays calls before after → reverse after ≡ calls
+alone calls before after none lays = lays ∙ (ap (λ cs. calls ++ reverse cs) none ∙ append-nil calls)

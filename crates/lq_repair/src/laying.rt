@@ -1,6 +1,5 @@
-ghost use Rattle.std.specs.List.{list_all};
-ghost use Rattle.std.specs.Prelude.{◌≡◌, ◌∷◌, [], IfOk, OnOk, Some, false, reverse, true};
-ghost use Rattle.laws_repair.specs.Repair.{back_calls, marked_text, undo_calls};
+ghost use Rattle.std.specs.Prelude.{◌≡◌, ◌∷◌, [], IfOk, OnOk, Some, false, true};
+ghost use Rattle.laws_repair.specs.Repair.{back_calls, marked_text};
 ghost use Rattle.lq_hand.specs.Hand.{AreTurns, calls_left};
 ghost use Rattle.lq_hand.specs.TurnCalls.{Lays};
 ghost use Rattle.lq_hand.specs.declared.hand.Phase.TheVariants.{Inside};
@@ -26,46 +25,27 @@ pub struct Unrecorded<'a> {
     pub identity: &'a Identity,
 }
 
-/// The calls that take back these statements, which are the changeset's first ones, the last of
-/// them first: each in a transaction with its mark. Nothing is made for a statement that nothing
-/// takes back.
-pub fn repair_hand(
+/// The calls that take back a changeset's statement of this number, in a transaction with its mark;
+/// none where nothing takes it back.
+pub fn back_hand(
     alloc: Global,
     of: &Unrecorded<'_>,
-    statements: &[Statement],
+    number: usize,
+    statement: &Statement,
 ) -> Result<Hand, NoMemory>
-    requires statements { list_all (is_statement of.now.dialect) statements.now ≡ true }
+    requires statement { is_statement of.now.dialect statement.now ≡ true }
     ensures inside { IfOk result (λ hand. hand.phase ≡ Inside) }
-    ensures calls { IfOk result (λ hand. calls_left hand ≡ undo_calls of.now.dialect of.now.who.now of.now.identity.now 1 statements.now) }
+    ensures calls { IfOk result (λ hand. calls_left hand
+        ≡ back_calls of.now.who.now of.now.identity.now number (back of.now.dialect statement.now)) }
     ensures turns { IfOk result (λ hand. AreTurns of.now.dialect false (calls_left hand)) }
 {
-    let calls = lay_all(alloc, of, statements)?;
-    let _count = calls.len();
+    let mut calls = Items::new(alloc);
+    push_back(alloc, of, number, statement, &mut calls)?;
     Ok(Hand {
         phase: Phase::Inside,
         calls,
         goes_on: false,
     })
-}
-
-// All calls, the last first.
-fn lay_all(
-    alloc: Global,
-    of: &Unrecorded<'_>,
-    statements: &[Statement],
-) -> Result<Items<Call>, NoMemory>
-    ensures { IfOk result (λ calls. reverse calls ≡ undo_calls of.now.dialect of.now.who.now of.now.identity.now 1 statements.now) }
-{
-    let _count = statements.len();
-    let mut calls = Items::new(alloc);
-    let mut rest = statements;
-    let mut number = 0;
-    while let Some((statement, after)) = rest.split_first() {
-        number += 1;
-        push_back(alloc, of, number, statement, &mut calls)?;
-        rest = after;
-    }
-    Ok(calls)
 }
 
 // What takes the statement back, where something does.
@@ -77,7 +57,10 @@ fn push_back(
     statement: &Statement,
     calls: &mut Items<Call>,
 ) -> Result<(), NoMemory>
-    ensures { OnOk result (Lays (back_calls of.now.who.now of.now.identity.now number (back of.now.dialect statement.now)) calls.old calls.new) }
+    ensures { OnOk result
+        (Lays
+        (back_calls of.now.who.now of.now.identity.now number
+        (back of.now.dialect statement.now)) calls.old calls.new) }
 {
     let undoing = back(alloc, of.dialect, statement)?;
     push_undoing(alloc, of, number, undoing, calls)
@@ -90,7 +73,8 @@ fn push_undoing(
     undoing: Option<Statement>,
     calls: &mut Items<Call>,
 ) -> Result<(), NoMemory>
-    ensures { OnOk result (Lays (back_calls of.now.who.now of.now.identity.now number undoing) calls.old calls.new) }
+    ensures { OnOk result
+        (Lays (back_calls of.now.who.now of.now.identity.now number undoing) calls.old calls.new) }
 {
     match undoing {
         Some(undoing) => push_transaction(alloc, of, number, undoing, calls),
@@ -107,7 +91,9 @@ fn push_transaction(
     undoing: Statement,
     calls: &mut Items<Call>,
 ) -> Result<(), NoMemory>
-    ensures { OnOk result (Lays (back_calls of.now.who.now of.now.identity.now number (Some undoing)) calls.old calls.new) }
+    ensures { OnOk result
+        (Lays (back_calls of.now.who.now of.now.identity.now number (Some undoing)) calls.old
+        calls.new) }
 {
     push(calls, Call::Commit)?;
     push(calls, Call::Execute(Deed::Users(undoing)))?;
@@ -122,7 +108,13 @@ fn push_mark(
     number: usize,
     calls: &mut Items<Call>,
 ) -> Result<(), NoMemory>
-    ensures { OnOk result (Lays (call.Execute (deed.Locks (on_lock.Marked (marked_text true of.now.who.now of.now.identity.now number))) ∷ []) calls.old calls.new) }
+    ensures { OnOk result
+        (Lays
+        (call.Execute
+        (deed.Locks
+        (on_lock.Marked
+        (marked_text true of.now.who.now of.now.identity.now number)))
+        ∷ []) calls.old calls.new) }
 {
     let text = back_mark(alloc, of, number)?;
     push(calls, Call::Execute(Deed::Locks(OnLock::Marked(text))))
@@ -130,7 +122,8 @@ fn push_mark(
 
 // `WHO|IDENTITY|back NUMBER`.
 fn back_mark(alloc: Global, of: &Unrecorded<'_>, number: usize) -> Result<Text, NoMemory>
-    ensures { IfOk result (λ text. text ≡ marked_text true of.now.who.now of.now.identity.now number) }
+    ensures { IfOk result
+        (λ text. text ≡ marked_text true of.now.who.now of.now.identity.now number) }
 {
     let mut text = of.who.copy(alloc)?;
     text.push_str("|")?;

@@ -5,4 +5,4 @@ mod counting;
 mod laying;
 
 pub use counting::standing;
-pub use laying::{Unrecorded, repair_hand};
+pub use laying::{Unrecorded, back_hand};

@@ -1,6 +1,7 @@
 use Rattle.std.proofs.Common.{◌∙◌, refl, sym, ap}
 use Rattle.lq_journal.specs.State.{dialect_of, limit_of, disk_of}
 use Rattle.lq_db.proofs.Loads.{db_fault, raised_catalogue, raised_clean, raised_held, undamaged}
+use Rattle.lq_db.proofs.Lasts.{loaded_last}
 use Rattle.lq_db.proofs.db.Db.load.Goals as goal
 
 pub returns-in-Err-raise-clause-fault : goal.returns-in-Err-raise-clause-fault
@@ -19,6 +20,7 @@ returns-in-Ok-raise-clause-valid g c =
       sql_is = c.requires.sql;
       journal_is = e.dialect;
       is_held = raised_held g.P.SqlText.dialect c.args.dialect (dialect_of c.in-Ok.journal) c.args.limit (limit_of c.in-Ok.journal) _ _ _ c.as_slice.result.now (g.E.Executor.held c.in-Ok-raise.raised.engine) c.in-Ok-raise.raised.lock c.requires.sql e.dialect e.limit e.told c.as_slice.ensures e.entries c.in-Ok-raise.ensures;
+      last_is = loaded_last c.args.dialect (dialect_of c.in-Ok.journal) c.args.limit (limit_of c.in-Ok.journal) _ _ _ _ e.dialect e.limit e.told e.entries c.last_of.ensures;
     }
 
 pub returns-in-Ok-raise-clause-catalogue : goal.returns-in-Ok-raise-clause-catalogue

@@ -3,6 +3,7 @@ use Rattle.lq_db.specs.Alone.{ended_by}
 use Rattle.lq_store.specs.Executor.{kept}
 use Rattle.lq_store.specs.Work.{outcome_all, work_in}
 use Rattle.lq_db.proofs.AloneLeft.{done_held}
+use Rattle.lq_db.proofs.Lasts.{renewed_last}
 use Rattle.lq_db.proofs.db.DbStore.alone.Goals as goal
 
 pub returns-in-Ran-clause-valid : goal.returns-in-Ran-clause-valid
@@ -18,6 +19,7 @@ returns-in-Ran-clause-valid g c =
         sql_is = is.sql_is;
         journal_is = journal;
         is_held = rw c.forget.ensures (done_held _ (ended_by c.in-Ok.prepared.ended 0) (outcome_all c.args.self.now.dialect c.args.texts.now (work_in None (kept (g.E.Executor.held c.args.self.now.engine)))) (g.E.Executor.held c.args.self.now.engine) (g.E.Executor.held c.prepare.new.engine) c.in-Ok.prepared.entries _ _ _ c.in-Ok.prepared.lock _ c.in_default.is meant.0 meant.2 (rw c.as_slice.ensures at (ap (λ l. l.entries) log)) is.is_held);
+        last_is = renewed_last _ _ c.in-Ok.prepared.entries _ c.in-Ok.prepared.last _ _ c.in_default.is meant.3 (rw c.as_slice.ensures at (ap (λ l. l.entries) log)) c.renew.ensures is.last_is;
       };
     }
 
@@ -34,6 +36,7 @@ returns-in-Ok-append_all-clause-valid g c =
         sql_is = is.sql_is;
         journal_is = journal;
         is_held = rw c.forget.ensures (done_held _ (ended_by c.in-Ok.prepared.ended 0) (outcome_all c.args.self.now.dialect c.args.texts.now (work_in None (kept (g.E.Executor.held c.args.self.now.engine)))) (g.E.Executor.held c.args.self.now.engine) (g.E.Executor.held c.prepare.new.engine) c.in-Ok.prepared.entries _ _ _ c.in-Ok.prepared.lock _ c.in_default.is meant.0 meant.2 (rw c.as_slice.ensures at (ap (λ l. l.entries) log)) is.is_held);
+        last_is = renewed_last _ _ c.in-Ok.prepared.entries _ c.in-Ok.prepared.last _ _ c.in_default.is meant.3 (rw c.as_slice.ensures at (ap (λ l. l.entries) log)) c.renew.ensures is.last_is;
       };
     }
 

@@ -1,7 +1,9 @@
-use Rattle.std.proofs.Common.{◌∙◌, sym, ap}
+use Rattle.std.proofs.Common.{◌∙◌, refl, sym, ap}
 use Rattle.lq_entries.specs.Log.{log_of}
 use Rattle.lq_journal.specs.State.{disk_of}
-use Rattle.lq_db.proofs.Commits.{committed_ok, failed, held_ok, open_is, uncommitted, uncommitted_held, written_is}
+use Rattle.lq_session.specs.declared.open.Open.{Open}
+use Rattle.lq_db.proofs.Commits.{begun_same, committed_ok, failed, held_ok, open_is, uncommitted, uncommitted_held, written_is}
+use Rattle.lq_db.proofs.Lasts.{committed_last, same_last}
 use Rattle.lq_db.proofs.db.DbStore.commit.Goals as goal
 
 pub returns-in-Ok-clause-does : goal.returns-in-Ok-clause-does
@@ -24,6 +26,7 @@ returns-in-Ok-clause-valid g c =
         sql_is = is.sql_is;
         journal_is = journal;
         is_held = held_ok _ (g.E.Executor.held c.args.self.now.engine) (g.E.Executor.held c.commit.new.engine) _ _ _ _ _ _ _ begun c.take.ensures.after c.in-Ok.ensures.kept (ap (λ l. l.entries) log) c.in-Ok.ensures.lock is.is_held;
+        last_is = rw c.commit-in-Ok.ensures (committed_last _ _ _ _ _ _ begun c.take.ensures.after (ap (λ l. l.entries) log) is.last_is);
       };
     }
 
@@ -76,5 +79,6 @@ returns-in-Err-Full-clause-valid g c =
         sql_is = is.sql_is;
         journal_is = journal;
         is_held = uncommitted_held _ (g.E.Executor.held c.args.self.now.engine) (g.E.Executor.held c.commit.new.engine) _ _ _ _ _ _ _ begun (ap (λ l. l.entries) log) c.in-Err-Full.ensures.back is.is_held;
+        last_is = same_last _ _ _ _ _ _ _ begun refl (ap (λ (o : Open). o.entry) (begun_same _ _ c.in-Err-Full.ensures.back)) (ap (λ l. l.entries) log) is.last_is;
       };
     }

@@ -4,6 +4,7 @@ use Rattle.lq_db.specs.Db.{lives}
 use Rattle.lq_entries.specs.Log.{log_of}
 use Rattle.lq_db.proofs.Commits.{open_is}
 use Rattle.lq_db.proofs.Executed.{taken_held}
+use Rattle.lq_db.proofs.Lasts.{itself_last, taken_last}
 use Rattle.lq_db.proofs.RanItself.{itself_held, itself_written, ran_itself, same_opening, whole_lives}
 use Rattle.lq_entries.proofs.Moments.{stood}
 use Rattle.lq_db.proofs.db.DbStore.execute.Goals as goal
@@ -19,7 +20,8 @@ returns-clause-valid g c =
         whole = is.whole;
         sql_is = is.sql_is;
         journal_is = is.journal_is;
-        is_held = taken_held _ _ _ _ (g.E.Executor.held c.args.self.now.engine) (g.E.Executor.held c.take.new.engine) _ _ _ _ _ _ c.in-Some.is spelled stated c.take.ensures is.is_held;
+        is_held = taken_held _ _ _ _ (g.E.Executor.held c.args.self.now.engine) (g.E.Executor.held c.take-done.new.engine) _ _ _ _ _ _ c.in-Some.is spelled stated c.take-done.ensures is.is_held;
+        last_is = taken_last _ _ _ (g.E.Executor.held c.args.self.now.engine) (g.E.Executor.held c.take-done.new.engine) _ _ _ _ _ _ _ c.in-Some.is c.take-done.ensures (rw c.in-Ok-new.ensures at c.note_taken.ensures) is.last_is;
       };
     }
 
@@ -54,6 +56,7 @@ returns-then-commits_itself-clause-valid g c =
             sql_is = is.sql_is;
             journal_is = opening.0 ∙ is.journal_is;
             is_held = itself_held _ _ _ _ (g.E.Executor.held c.args.self.now.engine) (g.E.Executor.held c.run_itself-done.new.engine) _ _ _ _ _ x y _ alive c.in-Some.is spelled stated c.run_itself-done.ensures.does is.is_held;
+            last_is = itself_last _ _ _ (g.E.Executor.held c.args.self.now.engine) (g.E.Executor.held c.run_itself-done.new.engine) _ _ _ _ _ x y _ _ _ alive c.in-Some.is c.run_itself-done.ensures.does (rw c.in-Ok-new.ensures at c.note_itself.ensures) is.last_is;
           };
     }
 
@@ -68,3 +71,6 @@ returns-then-commits_itself-clause-crash g c =
 
 pub returns-in-Err-NotSql-clause-crash : goal.returns-in-Err-NotSql-clause-crash
 returns-in-Err-NotSql-clause-crash g c = stood _ _ _ _ _ _ _ (g.met.D.Disk.sound _) (c.requires.valid.lives c.requires.live).whole.settled refl refl
+
+pub returns-in_default-clause-crash : goal.returns-in_default-clause-crash
+returns-in_default-clause-crash g c = stood _ _ _ _ _ _ _ (g.met.D.Disk.sound _) (c.requires.valid.lives c.requires.live).whole.settled refl refl

@@ -1,0 +1,136 @@
+-- The store and its database, as one that stands for a session.
+use Rattle.std.proofs.Common.{ap, inl, inr, refl, rules, subst, sym, ◌∙◌}
+use Rattle.std.proofs.lemmas.List.{append-nil}
+use Rattle.std.specs.Option.{option_map}
+use Rattle.std.specs.Prelude.{Err, List, None, Ok, Option, Result, Some, [], false, if◌then◌else◌, map, true, ℕ, ◌+◌, ◌++◌, ◌∷◌, ◌≡◌, ◌⊎◌}
+use Rattle.lq_base.specs.declared.dialect.Dialect.{Dialect}
+use Rattle.lq_base.specs.declared.identity.Identity.{Identity}
+use Rattle.lq_base.specs.declared.reason.Reason.{Reason}
+use Rattle.lq_model.proofs.Lists.{and_left}
+use Rattle.lq_model.specs.declared.caller.Room.{Room}
+use Rattle.lq_model.specs.declared.caller.Room.TheVariants.{Ordinary, Release}
+use Rattle.lq_model.specs.declared.fault.StoreFault.{StoreFault}
+use Rattle.lq_model.specs.declared.fault.StoreFault.TheVariants as fault
+use Rattle.lq_store.specs.Calls.{Fails}
+use Rattle.lq_store.specs.Journal.{Entry, size_of_all}
+use Rattle.lq_store.specs.State.{State, Transaction}
+use Rattle.lq_track.specs.Database.{Database}
+use Rattle.lq_turns.specs.Contents.{contents_of, with_contents}
+use Rattle.lq_turns.specs.Deed.{all_done, done, lock_after}
+use Rattle.lq_turns.specs.Held.{StandsFor, all_fit}
+use Rattle.lq_turns.specs.Script.{clear_calls, clearing, closing, opening, release_calls, tag_calls, tag_of}
+use Rattle.lq_turns.specs.Session.{Session, accepted, all_called, all_executed, all_executed_as, called, session_on}
+use Rattle.lq_turns.specs.declared.call.Call.{Call}
+use Rattle.lq_turns.specs.declared.call.Call.TheVariants.{Alone}
+use Rattle.lq_turns.specs.declared.deed.Deed.{Deed}
+use Rattle.lq_turns.specs.declared.deed.Deed.TheVariants.{Locks, Rows}
+use Rattle.lq_turns.specs.declared.deed.OnLock.{OnLock}
+use Rattle.lq_turns.specs.declared.deed.OnLock.TheVariants.{Freed}
+use Rattle.lq_turns.specs.declared.deed.OnRows.TheVariants.{Cleared, Tagged}
+use Rattle.lq_turns.specs.declared.stamp.Stamp.{Stamp}
+use Rattle.lq_beside.specs.Replays.{calls_fit}
+use Rattle.lq_mending.proofs.Full.{full_once}
+use Rattle.lq_mending.proofs.Grows.{closing_entry}
+use Rattle.lq_run.proofs.Rooms.{no_entries}
+use Rattle.lq_run.specs.Commands.{HasDatabase, Leaves}
+use Rattle.lq_run.specs.Does.{AloneFor, Breaks, DoesAlone, HasNoRoom}
+use Rattle.lq_run.specs.Left.{LeavesCleared, LeavesOnce, LeavesOpened, LeavesReleased, LeavesTagged}
+use Rattle.lq_run.specs.Opens.{TakesLock}
+use Rattle.lq_run.specs.Stands.{HadRoom, IsBegun, Stands, entries_of}
+
+not_true : false ≡ true → ⊥
+not_true h = Prim.cc
+
+pub ok_err : {database : Database} {reason : Reason} → (let r : Result Database Reason = Ok database in r) ≡ Err reason → ⊥
+ok_err h = Prim.cc
+
+none_open : (d : Dialect) (number : ℕ) (s : Session) (o : Option Transaction) → IsBegun d number s o → s.is_open ≡ false → o ≡ None
+none_open d number s None begun shut = refl
+none_open d number s (Some t) begun shut = absurd (not_true (sym shut ∙ begun.0))
+
+no_more : (o : Option (List Entry)) → o ≡ option_map (λ (entries : List Entry). entries ++ []) o
+no_more None = refl
+no_more (Some entries) = ap Some (sym (append-nil entries))
+
+-- nothing refuses the deeds that take the lock
+pub all_taken : (d : Dialect) (ws : List OnLock) (database : Database) → (now : Database) × (all_done d (map Locks ws) database ≡ Ok now)
+all_taken d [] database = (database, refl)
+all_taken d (w ∷ ws) database = all_taken d ws (with_contents (lock_after w database) (contents_of database))
+
+-- a call of its own leaves no transaction open
+executes_shut : (d : Dialect) (deeds : List Deed) (s : Session) → (all_executed d deeds s).is_open ≡ false
+executes_shut d [] s = refl
+executes_shut d (deed ∷ deeds) s = elim (done d deed s.seen) as (λ r. (all_executed_as d deed s (all_executed d deeds) r).is_open ≡ false) [
+  | Ok now ↦ executes_shut d deeds (accepted d deed now s)
+  | Err reason ↦ refl
+]
+
+module _ (d : Dialect) (number : ℕ) (x : State) (database : Database) (has : HasDatabase d x database) where
+  pub stands_there : Stands x number x (session_on database)
+  stands_there = record {
+    dialect = refl;
+    limit = refl;
+    live = has.live;
+    committed = subst (λ e. StandsFor e x.committed database) (sym has.dialect) has.committed;
+    begun = subst (IsBegun x.dialect number (session_on database)) (sym has.shut) (refl, refl, refl);
+    entries = no_more x.entries;
+    used = search rules;
+    room = no_entries x.dialect x.limit x.used;
+  }
+
+  pub leaves_so : (calls : List Call) (y : State) → (all_called d calls (session_on database)).is_open ≡ false → Stands x number y (all_called d calls (session_on database)) → Leaves d calls database x y
+  leaves_so calls y shut stands =
+      let last = all_called d calls (session_on database) in
+      record {
+        database_is = record {
+          dialect = stands.dialect ∙ has.dialect;
+          live = stands.live;
+          shut = none_open x.dialect number last y.begun stands.begun shut;
+          committed = subst (λ e. StandsFor e y.committed last.committed) has.dialect stands.committed;
+        };
+        limit = stands.limit;
+        entries = subst (λ e. y.entries ≡ option_map (λ entries. entries ++ entries_of e last.entries) x.entries) has.dialect stands.entries;
+        used = subst (λ e. y.used ≡ x.used + size_of_all (entries_of e last.entries)) has.dialect stands.used;
+        room = subst (λ e. HadRoom e x.limit x.used last.entries) has.dialect stands.room;
+      }
+
+  module _ (deeds : List Deed) (room : Room) (y : State) (which : (room ≡ Ordinary) ⊎ ((called d (Alone deeds room) (session_on database)).entries ≡ (Locks Freed ∷ []) ∷ [])) (never : (reason : Reason) → all_done d deeds database ≡ Err reason → ⊥) where
+    pub leaves_once : (result : Result (Unit {0}) StoreFault) → DoesAlone x number x (session_on database) deeds room result y → LeavesOnce d (Alone deeds room ∷ []) database x result y
+    leaves_once (Ok u) does = leaves_so (Alone deeds room ∷ []) y (executes_shut d deeds (session_on database)) (subst (λ e. Stands x number y (called e (Alone deeds room) (session_on database))) has.dialect does.2)
+    leaves_once (Err fault.Disk) does =
+        let breaks = subst (λ e. Breaks e (Alone deeds room) (session_on database) x y) has.dialect does in
+        subst (λ w. Fails w x y) (breaks.appends.texts ∙ ap (entries_of d) (sym breaks.appends.entries)) breaks.fails
+    leaves_once (Err (fault.Full used next)) does = (does.1, full_once d database x (Alone deeds room) room used next (subst (λ e. HasNoRoom e room (Alone deeds room) (session_on database) x used next) has.dialect does.0) which)
+    leaves_once (Err fault.OutOfMemory) does = does
+    leaves_once (Err (fault.Busy n)) does = does
+    leaves_once (Err fault.NotSql) does = does
+    leaves_once (Err (fault.Refused reason)) does = never reason (subst (λ e. all_done e deeds database ≡ Err reason) has.dialect does.0)
+
+module _ (d : Dialect) (number : ℕ) (x y : State) (result : Result (Unit {0}) StoreFault) where
+  pub opening_leaves : (stamp : Stamp) → TakesLock d stamp number x result y → LeavesOpened d stamp x result y
+  opening_leaves stamp takes database has =
+      let it = all_taken d (opening stamp database) database in
+      leaves_once d number x database has (map Locks (opening stamp database)) Ordinary y (inl refl) (λ reason is. ok_err (sym it.1 ∙ is)) result (takes x (session_on database) has.dialect (stands_there d number x database has))
+
+  alone_leaves : (deeds : List Deed) (room : Room) (database : Database) (has : HasDatabase d x database) → ((room ≡ Ordinary) ⊎ ((called d (Alone deeds room) (session_on database)).entries ≡ (Locks Freed ∷ []) ∷ []))
+      → ((reason : Reason) → all_done d deeds database ≡ Err reason → ⊥) → calls_fit d (Alone deeds room ∷ []) (session_on database) ≡ true → AloneFor d number deeds room x result y → LeavesOnce d (Alone deeds room ∷ []) database x result y
+  alone_leaves deeds room database has which never fits alone =
+      leaves_once d number x database has deeds room y which never result (alone x (session_on database) has.dialect (stands_there d number x database has) (and_left (all_fit d deeds database) true fits))
+
+  pub tag_leaves : (of : Identity) (tag : List ℕ) → AloneFor d number (Rows (Tagged of tag) ∷ []) Ordinary x result y → LeavesTagged d of tag x result y
+  tag_leaves of tag alone database row has last is fits =
+      let same : tag_calls tag database ≡ Alone (Rows (Tagged of tag) ∷ []) Ordinary ∷ [] = ap (tag_of tag) last ∙ ap (λ i. Alone (Rows (Tagged i tag) ∷ []) Ordinary ∷ []) is in
+      subst (λ calls. LeavesOnce d calls database x result y) (sym same)
+      (alone_leaves (Rows (Tagged of tag) ∷ []) Ordinary database has (inl refl) (λ reason refused. ok_err refused) (subst (λ calls. calls_fit d calls (session_on database) ≡ true) same fits) alone)
+
+  pub clear_leaves : AloneFor d number (Rows Cleared ∷ []) Ordinary x result y → LeavesCleared d x result y
+  clear_leaves alone database has some fits =
+      let same : clear_calls database ≡ clearing ∷ [] = ap (λ b. if b then [] else clearing ∷ []) some in
+      subst (λ calls. LeavesOnce d calls database x result y) (sym same)
+      (alone_leaves (Rows Cleared ∷ []) Ordinary database has (inl refl) (λ reason refused. ok_err refused) (subst (λ calls. calls_fit d calls (session_on database) ≡ true) same fits) alone)
+
+  pub release_leaves : AloneFor d number (Locks Freed ∷ []) Release x result y → LeavesReleased d x result y
+  release_leaves alone database has locked fits =
+      let same : release_calls database ≡ closing ∷ [] = ap (λ b. if b then closing ∷ [] else []) locked in
+      subst (λ calls. LeavesOnce d calls database x result y) (sym same)
+      (alone_leaves (Locks Freed ∷ []) Release database has (inr (closing_entry d (session_on database) refl)) (λ reason refused. ok_err refused) (subst (λ calls. calls_fit d calls (session_on database) ≡ true) same fits) alone)

@@ -1,0 +1,14 @@
+pub mod Making
+pub mod Onward
+pub mod Crashed
+pub mod Taken
+pub mod Fitting
+pub mod Behind
+pub mod Freed
+pub mod Whole
+pub mod Stated
+pub mod Grows
+pub mod Full
+pub mod Left
+pub mod Counting
+pub mod Replayed
