@@ -35,7 +35,8 @@ fn column_nodes(
     key: Option<&Key>,
     columns: &[Column],
 ) -> Result<Items<Node>, NoMemory>
-    ensures { IfOk result (λ nodes. nodes ≡ map (column_tree dialect (option_copied key.entry)) columns.now) }
+    ensures { IfOk result
+        (λ nodes. nodes ≡ map (column_tree dialect (option_copied key.entry)) columns.now) }
 {
     let mut nodes = Items::new(alloc);
     for column in columns {
@@ -50,7 +51,8 @@ fn column_node(
     key: Option<&Key>,
     column: &Column,
 ) -> Result<Node, NoMemory>
-    ensures { IfOk result (λ node. node ≡ column_tree dialect (option_copied key.entry) column.now) }
+    ensures { IfOk result
+        (λ node. node ≡ column_tree dialect (option_copied key.entry) column.now) }
 {
     let shown = column_map(alloc, dialect, key, column)?;
     under(alloc, "column", shown)
@@ -62,7 +64,8 @@ fn column_map(
     key: Option<&Key>,
     column: &Column,
 ) -> Result<Node, NoMemory>
-    ensures { IfOk result (λ node. node ≡ map_node (column_rows dialect (option_copied key.entry) column.now)) }
+    ensures { IfOk result
+        (λ node. node ≡ map_node (column_rows dialect (option_copied key.entry) column.now)) }
 {
     let constraints = constraints_node(alloc, dialect, key, column)?;
     let numbered = with_some(
@@ -83,7 +86,8 @@ fn with_type(
     entries: Items<(Text, Node)>,
     column: &Column,
 ) -> Result<Items<(Text, Node)>, NoMemory>
-    ensures { IfOk result (λ more. more ≡ entries ++ (codes "type", TextNode (type_text column.now.kind)) ∷ []) }
+    ensures { IfOk result
+        (λ more. more ≡ entries ++ (codes "type", TextNode (type_text column.now.kind)) ∷ []) }
 {
     let text = type_text(alloc, column.kind)?;
     let typed = with_node(alloc, entries, "type", Node::Text(text))?;
@@ -109,7 +113,8 @@ fn constraints_node(
     key: Option<&Key>,
     column: &Column,
 ) -> Result<Option<Node>, NoMemory>
-    ensures { IfOk result (λ node. node ≡ constraints_at dialect (option_copied key.entry) column.now) }
+    ensures { IfOk result
+        (λ node. node ≡ constraints_at dialect (option_copied key.entry) column.now) }
 {
     if column.nullable && !column.numbered {
         return Ok(None);
@@ -139,7 +144,8 @@ fn constraints_map(
     key: Option<&Key>,
     column: &Column,
 ) -> Result<Node, NoMemory>
-    ensures { IfOk result (λ node. node ≡ map_node (constraints_rows dialect (option_copied key.entry) column.now)) }
+    ensures { IfOk result
+        (λ node. node ≡ map_node (constraints_rows dialect (option_copied key.entry) column.now)) }
 {
     let firm = with_some(
         alloc,

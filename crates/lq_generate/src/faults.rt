@@ -133,7 +133,8 @@ fn own_key_fault<'a>(entry: &'a (Name, Held)) -> Option<Place<'a>>
 }
 
 fn unique_fault<'a>(table: &'a Name, uniques: &'a [Unique]) -> Option<Place<'a>>
-    ensures { option_map place_in result ≡ first_of (λ u. listed_fault table.now u.columns) uniques.now }
+    ensures { option_map place_in result
+        ≡ first_of (λ u. listed_fault table.now u.columns) uniques.now }
 {
     for unique in uniques {
         if let Some(place) = listed_fault(table, unique.columns.as_slice()) {
@@ -225,7 +226,8 @@ fn first_of_tables<'a>(tables: &[&'a (Name, Held)]) -> Option<Place<'a>>
 
 /// What cannot be written, the first in the output's order.
 pub fn first_fault<'a>(parts: &'a Parts, tables: &[&'a (Name, Held)]) -> Option<Place<'a>>
-    ensures { option_map place_in result ≡ first_fault (with_tables parts.now.now (tables_in tables.now)) }
+    ensures { option_map place_in result
+        ≡ first_fault (with_tables parts.now.now (tables_in tables.now)) }
 {
     if let Some(place) = first_sequence(parts.sequences()) {
         return Some(place);

@@ -50,7 +50,10 @@ fn first_sets(
     tables: &[&(Name, Held)],
     author: &str,
 ) -> Result<Items<Node>, NoMemory>
-    ensures { IfOk result (λ sets. sets ≡ set_trees author.now (first_sets dialect (with_tables parts.now.now (tables_in tables.now)))) }
+    ensures { IfOk result (λ sets.
+        sets
+        ≡ set_trees author.now
+        (first_sets dialect (with_tables parts.now.now (tables_in tables.now)))) }
 {
     let sequences = sequence_items(alloc, parts.sequences())?;
     let first = with_set(alloc, Items::new(alloc), "1", author, sequences)?;
@@ -68,7 +71,9 @@ fn generated_tree(
     tables: &[&(Name, Held)],
     author: &str,
 ) -> Result<Node, NoMemory>
-    ensures { IfOk result (λ tree. tree ≡ generated_tree dialect author.now (with_tables parts.now.now (tables_in tables.now))) }
+    ensures { IfOk result (λ tree.
+        tree
+        ≡ generated_tree dialect author.now (with_tables parts.now.now (tables_in tables.now))) }
 {
     let third = first_sets(alloc, dialect, parts, tables, author)?;
     let foreign = all_foreign(alloc, tables)?;
@@ -109,9 +114,12 @@ fn hindered(
     author: &str,
     place: Place<'_>,
 ) -> Result<Text, GenerateFault>
-    requires { Some (place_in place) ≡ first_fault (with_tables parts.now.now (tables_in tables.now)) }
-    ensures generates { Generates dialect author.now (with_tables parts.now.now (tables_in tables.now)) result }
-    ensures reads { IfOk result (λ text. IsReadBack dialect author.now (with_tables parts.now.now (tables_in tables.now)) text) }
+    requires { Some (place_in place)
+        ≡ first_fault (with_tables parts.now.now (tables_in tables.now)) }
+    ensures generates { Generates dialect author.now
+        (with_tables parts.now.now (tables_in tables.now)) result }
+    ensures reads { IfOk result (λ text.
+        IsReadBack dialect author.now (with_tables parts.now.now (tables_in tables.now)) text) }
 {
     let _ = dialect;
     let _ = parts;
@@ -128,8 +136,10 @@ fn unhindered(
     author: &str,
 ) -> Result<Text, GenerateFault>
     requires { None ≡ first_fault (with_tables parts.now.now (tables_in tables.now)) }
-    ensures generates { Generates dialect author.now (with_tables parts.now.now (tables_in tables.now)) result }
-    ensures reads { IfOk result (λ text. IsReadBack dialect author.now (with_tables parts.now.now (tables_in tables.now)) text) }
+    ensures generates { Generates dialect author.now
+        (with_tables parts.now.now (tables_in tables.now)) result }
+    ensures reads { IfOk result (λ text.
+        IsReadBack dialect author.now (with_tables parts.now.now (tables_in tables.now)) text) }
 {
     let tree = generated_tree(alloc, dialect, parts, tables, author)?;
     sized(alloc, &tree)
@@ -142,8 +152,10 @@ fn generated(
     tables: &[&(Name, Held)],
     author: &str,
 ) -> Result<Text, GenerateFault>
-    ensures generates { Generates dialect author.now (with_tables parts.now.now (tables_in tables.now)) result }
-    ensures reads { IfOk result (λ text. IsReadBack dialect author.now (with_tables parts.now.now (tables_in tables.now)) text) }
+    ensures generates { Generates dialect author.now
+        (with_tables parts.now.now (tables_in tables.now)) result }
+    ensures reads { IfOk result (λ text.
+        IsReadBack dialect author.now (with_tables parts.now.now (tables_in tables.now)) text) }
 {
     match first_fault(parts, tables) {
         Some(place) => hindered(alloc, dialect, parts, tables, author, place),
@@ -163,7 +175,8 @@ pub fn generate(
 ) -> Result<Text, GenerateFault>
     requires { IsOrdered parts.now.now.tables }
     ensures generates { Generates dialect author.now (users_of parts.now.now) result }
-    ensures reads { IfOk result (λ text. IsReadBack dialect author.now (users_of parts.now.now) text) }
+    ensures reads { IfOk result
+        (λ text. IsReadBack dialect author.now (users_of parts.now.now) text) }
 {
     let tables = users_tables(alloc, parts)?;
     generated(alloc, dialect, parts, tables.as_slice(), author)

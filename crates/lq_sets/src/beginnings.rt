@@ -43,7 +43,8 @@ fn push_change(
     change: usize,
     count: usize,
 ) -> Result<(), NoMemory>
-    ensures { OnOk result (reverse beginnings.new ≡ begins_at change count ++ reverse beginnings.old) }
+    ensures { OnOk result
+        (reverse beginnings.new ≡ begins_at change count ++ reverse beginnings.old) }
 {
     if count == 0 {
         return Ok(());

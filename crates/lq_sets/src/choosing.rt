@@ -36,7 +36,10 @@ fn tested(
     on_error: OnFail,
     answer: Result<bool, CondFault>,
 ) -> Result<Choice, NoMemory>
-    ensures { IfOk result (λ made. (meant : Result Bool Reason) (d : Dialect) (asked : Cond) → IsTold meant answer → made ≡ tested what (condition_of d asked on_fail on_error) meant) }
+    ensures { IfOk result (λ made.
+        (meant : Result Bool Reason) (d : Dialect) (asked : Cond)
+        → IsTold meant answer
+        → made ≡ tested what (condition_of d asked on_fail on_error) meant) }
 {
     match answer {
         Ok(true) => Ok(Choice::Runs(what, None)),
@@ -56,7 +59,12 @@ fn by_condition<K: Look>(
     rows: &[Tracked],
 ) -> Result<Choice, NoMemory>
     requires { is_fill what ≡ false }
-    ensures { IfOk result (λ made. (options : Options) (database : Database) → options.dialect ≡ dialect → StandsFor dialect (K.catalogue look.now) database → Suffice dialect set.now.cond database rows.now → made ≡ choice_of (view options set.now) (contents_of database) (Some what)) }
+    ensures { IfOk result (λ made.
+        (options : Options) (database : Database)
+        → options.dialect ≡ dialect
+        → StandsFor dialect (K.catalogue look.now) database
+        → Suffice dialect set.now.cond database rows.now
+        → made ≡ choice_of (view options set.now) (contents_of database) (Some what)) }
 {
     let answer = holds(alloc, &set.cond, dialect, look, rows);
     let made = tested(what, set.on_fail, set.on_error, answer)?;
@@ -74,7 +82,12 @@ pub fn choice<K: Look>(
     look: &K,
     rows: &[Tracked],
 ) -> Result<Choice, NoMemory>
-    ensures { IfOk result (λ made. (options : Options) (database : Database) → options.dialect ≡ dialect → StandsFor dialect (K.catalogue look.now) database → Suffice dialect set.now.cond database rows.now → made ≡ choice_of (view options set.now) (contents_of database) (Some what)) }
+    ensures { IfOk result (λ made.
+        (options : Options) (database : Database)
+        → options.dialect ≡ dialect
+        → StandsFor dialect (K.catalogue look.now) database
+        → Suffice dialect set.now.cond database rows.now
+        → made ≡ choice_of (view options set.now) (contents_of database) (Some what)) }
 {
     match what {
         What::Fill => Ok(Choice::Fills),
@@ -91,7 +104,11 @@ pub fn own_choice<K: Look>(
     look: &K,
     rows: &[Tracked],
 ) -> Result<Choice, NoMemory>
-    ensures { IfOk result (λ made. (options : Options) (database : Database) → options.dialect ≡ dialect → IsSeen dialect (K.catalogue look.now) rows.now database → made ≡ own_choice (view_log options changelog.now) (contents_of database)) }
+    ensures { IfOk result (λ made.
+        (options : Options) (database : Database)
+        → options.dialect ≡ dialect
+        → IsSeen dialect (K.catalogue look.now) rows.now database
+        → made ≡ own_choice (view_log options changelog.now) (contents_of database)) }
 {
     let answer = holds(alloc, &changelog.cond, dialect, look, rows);
     let made = tested(What::New, changelog.on_fail, changelog.on_error, answer)?;

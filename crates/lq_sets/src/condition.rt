@@ -17,7 +17,9 @@ pub fn holds<K: Look>(
     look: &K,
     rows: &[Tracked],
 ) -> Result<bool, CondFault>
-    ensures { (database : Database) → StandsFor dialect (K.catalogue look.now) database → IsTold (told dialect asked.now database.users rows.now) result }
+    ensures { (database : Database)
+        → StandsFor dialect (K.catalogue look.now) database
+        → IsTold (told dialect asked.now database.users rows.now) result }
 {
     check(alloc, asked, dialect, look, rows)
 }

@@ -52,8 +52,11 @@ impl InHand {
     /// A statement of the changeset comes next, and this is what it will see.
     pub fn looks<K: Look>(&mut self, dialect: Dialect, set: &ChangeSet, look: &K)
         requires read { list_all (is_for dialect) set.now.changes ≡ true }
-        ensures same { (self.new.identity ≡ self.old.identity) × (self.new.choice ≡ self.old.choice) × (self.new.stops ≡ self.old.stops) }
-        ensures looked { HasLooked dialect set.now.changes (K.catalogue look.now) self.old self.new }
+        ensures same { (self.new.identity ≡ self.old.identity)
+            × (self.new.choice ≡ self.old.choice)
+            × (self.new.stops ≡ self.old.stops) }
+        ensures looked { HasLooked dialect set.now.changes (K.catalogue look.now) self.old
+            self.new }
     {
         let beginning = next_beginning(&mut self.beginnings);
         let stale = stale_at(dialect, set, beginning, look);

@@ -20,7 +20,8 @@ pub fn faults_of(
     changelog: &Changelog,
     rows: &[Tracked],
 ) -> Result<Items<Fault>, NoMemory>
-    ensures { IfOk result (λ found. found ≡ faults (view_log options.now changelog.now).sets rows.now) }
+    ensures { IfOk result
+        (λ found. found ≡ faults (view_log options.now changelog.now).sets rows.now) }
 {
     let heads = heads_of(alloc, options, changelog.sets.as_slice())?;
     let found = faults(alloc, heads.as_slice(), rows)?;
@@ -34,7 +35,8 @@ pub fn work_of(
     changelog: &Changelog,
     rows: &[Tracked],
 ) -> Result<Items<Item>, NoMemory>
-    ensures { IfOk result (λ items. items ≡ work (view_log options.now changelog.now).sets rows.now) }
+    ensures { IfOk result
+        (λ items. items ≡ work (view_log options.now changelog.now).sets rows.now) }
 {
     let heads = heads_of(alloc, options, changelog.sets.as_slice())?;
     let items = work(alloc, heads.as_slice(), rows)?;
@@ -48,7 +50,8 @@ pub fn pending_of(
     changelog: &Changelog,
     rows: &[Tracked],
 ) -> Result<Items<Identity>, NoMemory>
-    ensures { IfOk result (λ found. found ≡ pending (view_log options.now changelog.now).sets rows.now) }
+    ensures { IfOk result
+        (λ found. found ≡ pending (view_log options.now changelog.now).sets rows.now) }
 {
     let heads = heads_of(alloc, options, changelog.sets.as_slice())?;
     let found = pending(alloc, heads.as_slice(), rows)?;

@@ -27,7 +27,11 @@ pub fn seen_choice<K: Look>(
     dialect: Dialect,
     look: &K,
 ) -> Result<Choice, NoMemory>
-    ensures { IfOk result (λ made. (options : Options) (database : Database) → options.dialect ≡ dialect → StandsFor dialect (K.catalogue look.now) database → made ≡ choice_of (view options set.now) (contents_of database) (Some what)) }
+    ensures { IfOk result (λ made.
+        (options : Options) (database : Database)
+        → options.dialect ≡ dialect
+        → StandsFor dialect (K.catalogue look.now) database
+        → made ≡ choice_of (view options set.now) (contents_of database) (Some what)) }
 {
     if is_empty(&set.cond) {
         return Ok(unasked(what));
@@ -61,7 +65,10 @@ fn unasked(what: What) -> Choice
 
 /// The rows of a database in which the tracking tables, where they are there, are as they are made.
 fn rows_seen<K: Look>(alloc: Global, dialect: Dialect, look: &K) -> Result<Items<Tracked>, NoMemory>
-    ensures { IfOk result (λ rows. (database : Database) → StandsFor dialect (K.catalogue look.now) database → database.rows ≡ rows) }
+    ensures { IfOk result (λ rows.
+        (database : Database)
+        → StandsFor dialect (K.catalogue look.now) database
+        → database.rows ≡ rows) }
 {
     match read_rows(alloc, dialect, look) {
         Ok(rows) => Ok(rows),

@@ -48,8 +48,10 @@ pub fn hand_for<P: SqlText>(
     requires moment { making.now.stamp.now.reading ≤ 253402300799999 }
     requires room { making.now.last ≤ 2147483647 }
     requires turn { has_turn choice ≡ true }
-    ensures hand { IfOk result (λ hand. IsInHand making.now.dialect making.now.stamp.now set.now making.now.last choice hand) }
-    ensures texts { OnOk result (texts.new ≡ texts.old ++ texts_by making.now.prints making.now.dialect set.now choice) }
+    ensures hand { IfOk result (λ hand.
+        IsInHand making.now.dialect making.now.stamp.now set.now making.now.last choice hand) }
+    ensures texts { OnOk result
+        (texts.new ≡ texts.old ++ texts_by making.now.prints making.now.dialect set.now choice) }
 {
     let turn = turn_for(alloc, making, set, choice)?;
     keep_texts(
@@ -74,7 +76,12 @@ fn keep_texts<P: SqlText>(
     texts: &mut Items<Printed>,
 ) -> Result<(), NoMemory>
     requires { list_all (is_statement P.dialect) statements.now ≡ true }
-    ensures { OnOk result (texts.new ≡ texts.old ++ (if prints then with_texts P.dialect (identity.now, statements.now) ∷ [] else [])) }
+    ensures { OnOk result
+        (texts.new
+        ≡ texts.old
+        ++
+        (if prints then with_texts P.dialect (identity.now, statements.now)
+        ∷ [] else [])) }
 {
     if prints {
         print(alloc, sql, identity, statements, texts)?;
@@ -100,7 +107,12 @@ fn turn_for(
     requires moment { making.now.stamp.now.reading ≤ 253402300799999 }
     requires room { making.now.last ≤ 2147483647 }
     requires turn { has_turn choice ≡ true }
-    ensures made { IfOk result (λ turn. (options : Options) (rows : List Row) → greatest rows ≡ making.now.last → turn_by making.now.dialect any_meaning making.now.stamp.now (view options set.now) rows choice ≡ Some turn) }
+    ensures made { IfOk result (λ turn.
+        (options : Options) (rows : List Row)
+        → greatest rows ≡ making.now.last
+        → turn_by making.now.dialect any_meaning making.now.stamp.now (view options set.now) rows
+        choice
+        ≡ Some turn) }
 {
     let reading = making.stamp.reading;
     match choice {

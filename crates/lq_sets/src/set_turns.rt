@@ -29,6 +29,7 @@ use lq_kinds::{ChangeSet, Changelog};
 use lq_model::{Look, SqlText};
 use lq_plan::{Item, greatest};
 use lq_seen::{Outcome, take_back, tell};
+use lq_shared::Shared;
 use lq_turns::{Choice, Stamp, What};
 use std::alloc::Global;
 
@@ -38,8 +39,8 @@ const LAST_PLACE: u32 = 2147483647;
 /// The turns of an update, changeset after changeset (Liquibase's documentation, "update").
 #[derive(Drop)]
 pub struct SetTurns {
-    changelog: Changelog,
-    options: Options,
+    changelog: Shared<Changelog>,
+    options: Shared<Options>,
     /// The changesets that have a turn still to come, the next one last.
     items: Items<Item>,
     /// The place behind the last changeset whose turn came, from 0.
@@ -76,10 +77,42 @@ impl SetTurns {
         requires read { AreFor options.dialect changelog }
         requires faultless { faults (view_log options changelog).sets rows.now ≡ [] }
         ensures reads { IfOk result (λ source. IsReadFor source options.dialect) }
-        ensures left { IfOk result (λ source. sets_left source ≡ (view_log options changelog).sets) }
-        ensures knows { IfOk result (λ source. (d : Spoken) (stamp : Clocked) (c : Contents) → c.rows ≡ rows.now → greatest rows.now ≤ 2147483647 → Knows source d stamp (of_sets prints d stamp.reading (view_log options changelog).sets c) c) }
+        ensures left { IfOk result
+            (λ source. sets_left source ≡ (view_log options changelog).sets) }
+        ensures knows { IfOk result (λ source.
+            (d : Spoken) (stamp : Clocked) (c : Contents)
+            → c.rows ≡ rows.now
+            → greatest rows.now ≤ 2147483647
+            → Knows source d stamp
+            (of_sets prints d stamp.reading (view_log options changelog).sets c) c) }
     {
-        let items = planned(alloc, &options, &changelog, rows)?;
+        let changelog = Shared::new(alloc, changelog)?;
+        let options = Shared::new(alloc, options)?;
+        let turns = SetTurns::of_shared(alloc, changelog, options, rows, prints)?;
+        Ok(turns)
+    }
+
+    /// The same of a changelog that others read as well.
+    pub fn of_shared(
+        alloc: Global,
+        changelog: Shared<Changelog>,
+        options: Shared<Options>,
+        rows: &[Tracked],
+        prints: bool,
+    ) -> Result<SetTurns, NoMemory>
+        requires read { AreFor options.dialect changelog }
+        requires faultless { faults (view_log options changelog).sets rows.now ≡ [] }
+        ensures reads { IfOk result (λ source. IsReadFor source options.dialect) }
+        ensures left { IfOk result
+            (λ source. sets_left source ≡ (view_log options changelog).sets) }
+        ensures knows { IfOk result (λ source.
+            (d : Spoken) (stamp : Clocked) (c : Contents)
+            → c.rows ≡ rows.now
+            → greatest rows.now ≤ 2147483647
+            → Knows source d stamp
+            (of_sets prints d stamp.reading (view_log options changelog).sets c) c) }
+    {
+        let items = planned(alloc, options.get(), changelog.get(), rows)?;
         let last = greatest(rows).min(LAST_PLACE);
         let outcome = Outcome::new(alloc);
         Ok(SetTurns {
@@ -109,12 +142,14 @@ impl SetTurns {
         requires sql { P.dialect ≡ dialect }
         requires moment { stamp.now.reading ≤ 253402300799999 }
         requires place { item.index < length self.old.changelog.sets }
-        ensures came { CameTo dialect stamp.now (K.catalogue look.now) self.old self.new item result }
+        ensures came { CameTo dialect stamp.now (K.catalogue look.now) self.old self.new item
+            result }
         ensures reads { IsReadFor self.new dialect }
         ensures items { self.new.items ≡ self.old.items }
     {
-        let next = place_behind(&self.changelog, item.index);
-        let Some(set) = self.changelog.sets.get(item.index) else {
+        let changelog = self.changelog.get();
+        let next = place_behind(changelog, item.index);
+        let Some(set) = changelog.sets.get(item.index) else {
             unreachable!();
         };
         let Ok(choice) = choose(alloc, item.what, set, dialect, look, &mut self.outcome) else {
@@ -141,7 +176,8 @@ fn planned(
     changelog: &Changelog,
     rows: &[Tracked],
 ) -> Result<Items<Item>, NoMemory>
-    ensures { IfOk result (λ items. reverse items ≡ work (view_log options.now changelog.now).sets rows.now) }
+    ensures { IfOk result
+        (λ items. reverse items ≡ work (view_log options.now changelog.now).sets rows.now) }
 {
     let items = work_of(alloc, options, changelog, rows)?;
     let turned = next_last(alloc, items)?;
@@ -168,7 +204,11 @@ fn choose<K: Look>(
     look: &K,
     outcome: &mut Outcome,
 ) -> Result<Choice, NoMemory>
-    ensures choice { IfOk result (λ made. (options : Given) (database : Database) → options.dialect ≡ dialect → StandsFor dialect (K.catalogue look.now) database → made ≡ choice_of (view options set.now) (contents_of database) (Some what)) }
+    ensures choice { IfOk result (λ made.
+        (options : Given) (database : Database)
+        → options.dialect ≡ dialect
+        → StandsFor dialect (K.catalogue look.now) database
+        → made ≡ choice_of (view options set.now) (contents_of database) (Some what)) }
     ensures told { IfOk result (λ made. outcome.new ≡ told_by set.now.identity made outcome.old) }
 {
     let choice = seen_choice(alloc, what, set, dialect, look)?;
@@ -199,9 +239,11 @@ fn act<P: SqlText>(
     requires read { list_all (is_for making.now.dialect) set.now.changes ≡ true }
     requires moment { making.now.stamp.now.reading ≤ 253402300799999 }
     requires room { making.now.last ≤ 2147483647 }
-    ensures came { CameBy making.now.dialect making.now.stamp.now set.now making.now.last choice result }
+    ensures came { CameBy making.now.dialect making.now.stamp.now set.now making.now.last choice
+        result }
     ensures kept { IsKeptBy making.now.dialect set.now choice result turn.new }
-    ensures texts { KeepsTexts making.now.prints making.now.dialect set.now choice result texts.old texts.new }
+    ensures texts { KeepsTexts making.now.prints making.now.dialect set.now choice result texts.old
+        texts.new }
 {
     match choice {
         Choice::Passes => Tried::Skipped,
@@ -228,9 +270,11 @@ fn try_turn<P: SqlText>(
     requires moment { making.now.stamp.now.reading ≤ 253402300799999 }
     requires room { making.now.last ≤ 2147483647 }
     requires turn { has_turn choice ≡ true }
-    ensures came { CameBy making.now.dialect making.now.stamp.now set.now making.now.last choice result }
+    ensures came { CameBy making.now.dialect making.now.stamp.now set.now making.now.last choice
+        result }
     ensures kept { IsKeptBy making.now.dialect set.now choice result turn.new }
-    ensures texts { KeepsTexts making.now.prints making.now.dialect set.now choice result texts.old texts.new }
+    ensures texts { KeepsTexts making.now.prints making.now.dialect set.now choice result texts.old
+        texts.new }
 {
     let Ok(in_hand) = InHand::new(alloc, making.dialect, set, choice) else {
         return Tried::Lack;
@@ -244,7 +288,9 @@ fn try_turn<P: SqlText>(
 
 /// The texts that were kept last were those of a turn that is not done.
 fn forget_texts(prints: bool, choice: Choice, texts: &mut Items<Printed>)
-    ensures { (before : List Shown) (its : Shown) → texts.old ≡ before ++ if_kept prints choice its → texts.new ≡ before }
+    ensures { (before : List Shown) (its : Shown)
+        → texts.old ≡ before ++ if_kept prints choice its
+        → texts.new ≡ before }
 {
     if keeps(prints, choice) {
         texts.pop();
@@ -274,8 +320,11 @@ fn look_at<K: Look>(
     look: &K,
 )
     requires read { AreFor dialect changelog.now }
-    ensures same { (turn.new.identity ≡ turn.old.identity) × (turn.new.choice ≡ turn.old.choice) × (turn.new.stops ≡ turn.old.stops) }
-    ensures looked { HasLooked dialect (changes_before changelog.now.sets next) (K.catalogue look.now) turn.old turn.new }
+    ensures same { (turn.new.identity ≡ turn.old.identity)
+        × (turn.new.choice ≡ turn.old.choice)
+        × (turn.new.stops ≡ turn.old.stops) }
+    ensures looked { HasLooked dialect (changes_before changelog.now.sets next)
+        (K.catalogue look.now) turn.old turn.new }
 {
     match changelog.sets.get(next.saturating_sub(1)) {
         Some(set) => turn.looks(dialect, set, look),
@@ -326,7 +375,7 @@ impl Source for SetTurns {
 
     fn looks<K: Look>(&mut self, dialect: Dialect, look: &K) {
         match &mut self.turn {
-            Some(turn) => look_at(&self.changelog, self.next, turn, dialect, look),
+            Some(turn) => look_at(self.changelog.get(), self.next, turn, dialect, look),
             None => {}
         }
     }

@@ -1,0 +1,4 @@
+pub mod AddedAs
+pub mod Changes
+pub mod CreatedAs
+pub mod Written

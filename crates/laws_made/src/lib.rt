@@ -1,0 +1,2 @@
+//! What a generated changelog does: laws, and no code.
+#![tactic(auto)]

@@ -1,0 +1,11 @@
+pub mod Stages
+pub mod Accepted
+pub mod StageSound
+pub mod TableAccepted
+pub mod OneNumber
+pub mod SameTable
+pub mod Woven
+pub mod Filled
+pub mod Foreign
+pub mod Loops
+pub mod Ends
