@@ -2,7 +2,7 @@ mod Indexed
 mod Laid
 mod RowEntered
 mod RowsBack
-mod Spelled
+pub mod Spelled
 mod Synced
 mod Undone
-mod Ways
+pub mod Ways

@@ -41,7 +41,7 @@ use Rattle.lq_turns.specs.Turn.{Ending, Finished, Refused, ending, turn_calls}
 use Rattle.lq_turns.specs.declared.call.Call.{Call}
 use Rattle.lq_turns.specs.declared.deed.Deed.TheVariants.{Rows}
 use Rattle.lq_turns.specs.declared.deed.OnRows.{OnRows}
-use Rattle.lq_turns.specs.declared.deed.OnRows.TheVariants.{Deleted, Filled, Inserted, Renewed, Tagged}
+use Rattle.lq_turns.specs.declared.deed.OnRows.TheVariants.{Cleared, Deleted, Filled, Inserted, Renewed, Tagged}
 use Rattle.lq_turns.specs.declared.stamp.Stamp.{Stamp}
 use Rattle.lq_turns.specs.declared.stop.Stop.TheVariants.{Refused as Stopped}
 use Rattle.lq_turns.specs.declared.turn.Turn.{Turn}
@@ -170,6 +170,7 @@ deleted d (Inserted row) is = absurd Prim.cc
 deleted d (Renewed row) is = absurd Prim.cc
 deleted d (Filled of sum) is = absurd Prim.cc
 deleted d (Tagged of tag) is = absurd Prim.cc
+deleted d Cleared is = absurd Prim.cc
 
 pub row_written : (d : Dialect) (turn : Turn) → goes_back d turn ≡ true → IsWritable d (Rows turn.row)
 row_written d turn back = deleted d turn.row (and_left (is_deletion turn.row) _ back)

@@ -48,7 +48,7 @@ pub undone_by : (d : Dialect) (r : Option (List AnyChange)) (xs : List AnyChange
 undone_by d (Some block) xs = refl
 undone_by d None xs = have_inverses d xs
 
-undoable : (o : Options) (x : ChangeSet) → is_undoable x ≡ is_some (undoing o.dialect any_meaning (view o x))
+pub undoable : (o : Options) (x : ChangeSet) → is_undoable x ≡ is_some (undoing o.dialect any_meaning (view o x))
 undoable o x = undone_by o.dialect x.rollback x.changes
 
 -- the changeset of a row

@@ -7,7 +7,7 @@ use Rattle.lq_base.specs.declared.run.Happened.{Happened}
 use Rattle.lq_base.specs.declared.run.Printed.{Printed}
 use Rattle.lq_model.specs.Statement.{is_statement}
 use Rattle.lq_turns.specs.declared.deed.OnRows.{OnRows}
-use Rattle.lq_turns.specs.declared.deed.OnRows.TheVariants.{Deleted, Filled, Inserted, Renewed, Tagged}
+use Rattle.lq_turns.specs.declared.deed.OnRows.TheVariants.{Cleared, Deleted, Filled, Inserted, Renewed, Tagged}
 use Rattle.lq_hand.specs.Way.{Way}
 use Rattle.lq_seen.specs.Printing.{Account, shown, with_texts}
 use Rattle.lq_seen.specs.Telling.{Leads, Reports}
@@ -25,6 +25,7 @@ is_deletion (Inserted row) = false
 is_deletion (Renewed row) = false
 is_deletion (Filled of sum) = false
 is_deletion (Tagged of tag) = false
+is_deletion Cleared = false
 
 -- it deletes its row, and its statements are of the dialect
 abbrev pub goes_back : Dialect → Turn → Bool

@@ -25,7 +25,7 @@ pub enum TakenBack {
 }
 
 /// Whether the changeset says what takes it back, or that is generated for each of its changes.
-fn is_undoable(set: &ChangeSet) -> bool
+pub fn is_undoable(set: &ChangeSet) -> bool
     ensures { result ≡ is_undoable set.now }
 {
     set.rollback.is_some() || have_inverses(set.changes.as_slice())
@@ -46,7 +46,10 @@ fn is_marked(row: &Tracked) -> bool
 /// How the row is taken back, where something takes it back.
 fn way_of<'a>(index: &SetIndex<'a>, row: &'a Tracked) -> Option<TakenBack>
     ensures way { (xs : List OneSet) → HasSets xs index.now → result ≡ taken_back xs row.now }
-    ensures none { (xs : List OneSet) (options : Options) → HasSets xs index.now → is_none result ≡ is_none (undo_turn options.dialect any_meaning (views options xs) row.now) }
+    ensures none { (xs : List OneSet) (options : Options)
+        → HasSets xs index.now
+        → is_none result
+        ≡ is_none (undo_turn options.dialect any_meaning (views options xs) row.now) }
 {
     if is_marked(row) {
         return Some(TakenBack::Alone);
@@ -58,7 +61,8 @@ fn way_of<'a>(index: &SetIndex<'a>, row: &'a Tracked) -> Option<TakenBack>
 }
 
 fn by_set(place: Place<'_>) -> Option<TakenBack>
-    ensures { result ≡ (if is_undoable place.entry.set.now then Some (By place.entry.index) else None) }
+    ensures { result
+        ≡ (if is_undoable place.entry.set.now then Some (By place.entry.index) else None) }
 {
     if is_undoable(place.set) {
         Some(TakenBack::By(place.index))
@@ -96,7 +100,10 @@ pub fn reversible(
     rows: &[Tracked],
 ) -> Result<Items<TakenBack>, ReverseFault>
     ensures ways { IfOk result (λ ways. AreWays changelog.now.sets rows.now ways) }
-    ensures reversed { (options : Options) → IsReversed (not_reversible options.dialect any_meaning (views options changelog.now.sets) (reverse rows.now)) result }
+    ensures reversed { (options : Options)
+        → IsReversed
+        (not_reversible options.dialect any_meaning (views options changelog.now.sets)
+        (reverse rows.now)) result }
 {
     let index = index_of(alloc, changelog.sets.as_slice())?;
     let mut ways = Items::new(alloc);

@@ -44,7 +44,9 @@ fn turn_by(
 ) -> Result<Turn, NoMemory>
     requires read { is_read_for dialect set.now ≡ true }
     requires undoable { is_undoable set.now ≡ true }
-    ensures { IfOk result (λ turn. (options : Options) → undo_by dialect any_meaning (identity_of row.now) (view options set.now) ≡ Some turn) }
+    ensures { IfOk result (λ turn.
+        (options : Options)
+        → undo_by dialect any_meaning (identity_of row.now) (view options set.now) ≡ Some turn) }
 {
     let made = undoing(alloc, dialect, set)?;
     let Some(statements) = made else {
@@ -64,7 +66,9 @@ fn turn_at(
 ) -> Result<Turn, NoMemory>
     requires read { AreFor dialect changelog.now }
     requires way { taken_back changelog.now.sets row.now ≡ Some (By place) }
-    ensures { IfOk result (λ turn. (options : Options) → undo_turn dialect any_meaning (views options changelog.now.sets) row.now ≡ Some turn) }
+    ensures { IfOk result (λ turn.
+        (options : Options)
+        → undo_turn dialect any_meaning (views options changelog.now.sets) row.now ≡ Some turn) }
 {
     let Some(set) = changelog.sets.get(place) else {
         unreachable!()
@@ -83,7 +87,9 @@ fn undo_turn(
 ) -> Result<Turn, NoMemory>
     requires read { AreFor dialect changelog.now }
     requires way { taken_back changelog.now.sets row.now ≡ Some way }
-    ensures { IfOk result (λ turn. (options : Options) → undo_turn dialect any_meaning (views options changelog.now.sets) row.now ≡ Some turn) }
+    ensures { IfOk result (λ turn.
+        (options : Options)
+        → undo_turn dialect any_meaning (views options changelog.now.sets) row.now ≡ Some turn) }
 {
     match way {
         TakenBack::Alone => {
@@ -105,7 +111,10 @@ pub fn undo_turns(
 ) -> Result<Items<Turn>, NoMemory>
     requires read { AreFor dialect changelog.now }
     requires ways { AreWays changelog.now.sets rows.now ways.now }
-    ensures { IfOk result (λ turns. (options : Options) → undo_turns dialect any_meaning (views options changelog.now.sets) (reverse rows.now) ≡ Some (reverse turns)) }
+    ensures { IfOk result (λ turns.
+        (options : Options)
+        → undo_turns dialect any_meaning (views options changelog.now.sets) (reverse rows.now)
+        ≡ Some (reverse turns)) }
 {
     let mut turns = Items::new(alloc);
     let mut rest = rows;

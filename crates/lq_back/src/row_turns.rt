@@ -46,9 +46,15 @@ impl RowTurns {
     ) -> Result<RowTurns, NoMemory>
         requires read { AreFor dialect changelog.now }
         requires ways { AreWays changelog.now.sets rows.now ways.now }
-        ensures turns { IfOk result (λ source. (options : Options) → undo_turns dialect any_meaning (views options changelog.now.sets) (reverse rows.now) ≡ Some (reverse source.turns)) }
-        ensures reads { IfOk result (λ source. list_all (goes_back dialect) (reverse source.turns) ≡ true) }
-        ensures knows { IfOk result (λ source. (c : Contents) → LeadsBack source dialect (of_turns prints dialect (reverse source.turns) c) c) }
+        ensures turns { IfOk result (λ source.
+            (options : Options)
+            → undo_turns dialect any_meaning (views options changelog.now.sets) (reverse rows.now)
+            ≡ Some (reverse source.turns)) }
+        ensures reads { IfOk result
+            (λ source. list_all (goes_back dialect) (reverse source.turns) ≡ true) }
+        ensures knows { IfOk result (λ source.
+            (c : Contents)
+            → LeadsBack source dialect (of_turns prints dialect (reverse source.turns) c) c) }
     {
         let turns = undo_turns(alloc, dialect, changelog, rows, ways)?;
         let outcome = Outcome::new(alloc);
@@ -119,10 +125,16 @@ fn tell<P: SqlText>(
     outcome: &mut Outcome,
 ) -> Result<(), NoMemory>
     requires spelled { list_all (is_statement P.dialect) turn.now.statements ≡ true }
-    ensures happened { OnOk result (outcome.new.happened ≡ outcome.old.happened ++ rolled_back turn.now ∷ []) }
-    ensures printed { OnOk result (outcome.new.printed ≡ outcome.old.printed ++ (if prints then printed P.dialect turn.now ∷ [] else [])) }
+    ensures happened { OnOk result
+        (outcome.new.happened ≡ outcome.old.happened ++ rolled_back turn.now ∷ []) }
+    ensures printed { OnOk result
+        (outcome.new.printed
+        ≡ outcome.old.printed ++ (if prints then printed P.dialect turn.now ∷ [] else [])) }
     ensures not_fresh { OnOk result (outcome.new.not_fresh ≡ outcome.old.not_fresh) }
-    ensures others { OnOk result ((outcome.new.warned ≡ outcome.old.warned) × (outcome.new.halted ≡ outcome.old.halted) × (outcome.new.stopped_at ≡ outcome.old.stopped_at)) }
+    ensures others { OnOk result
+        ((outcome.new.warned ≡ outcome.old.warned)
+        × (outcome.new.halted ≡ outcome.old.halted)
+        × (outcome.new.stopped_at ≡ outcome.old.stopped_at)) }
 {
     if prints {
         print_turn(alloc, sql, turn, &mut outcome.printed)?;
@@ -155,10 +167,15 @@ fn print_turn<P: SqlText>(
 
 /// The turn that was told last stops the command, and is not done.
 fn take_back(prints: bool, outcome: &mut Outcome)
-    ensures told { (before : List Event) (last : Event) → outcome.old.happened ≡ before ++ last ∷ [] → (outcome.new.happened ≡ before) × (outcome.new.stopped_at ≡ Some last.identity) }
-    ensures printed { (before : List Shown) (last : Shown) → outcome.old.printed ≡ before ++ (if prints then last ∷ [] else []) → outcome.new.printed ≡ before }
+    ensures told { (before : List Event) (last : Event)
+        → outcome.old.happened ≡ before ++ last ∷ []
+        → (outcome.new.happened ≡ before) × (outcome.new.stopped_at ≡ Some last.identity) }
+    ensures printed { (before : List Shown) (last : Shown)
+        → outcome.old.printed ≡ before ++ (if prints then last ∷ [] else [])
+        → outcome.new.printed ≡ before }
     ensures not_fresh { outcome.new.not_fresh ≡ outcome.old.not_fresh }
-    ensures others { (outcome.new.warned ≡ outcome.old.warned) × (outcome.new.halted ≡ outcome.old.halted) }
+    ensures others { (outcome.new.warned ≡ outcome.old.warned)
+        × (outcome.new.halted ≡ outcome.old.halted) }
 {
     forget_texts(prints, &mut outcome.printed);
     if let Some(happened) = outcome.happened.pop() {
@@ -168,7 +185,9 @@ fn take_back(prints: bool, outcome: &mut Outcome)
 
 /// The texts that were kept last were those of a turn that is not done.
 fn forget_texts(prints: bool, texts: &mut Items<Printed>)
-    ensures { (before : List Shown) (last : Shown) → texts.old ≡ before ++ (if prints then last ∷ [] else []) → texts.new ≡ before }
+    ensures { (before : List Shown) (last : Shown)
+        → texts.old ≡ before ++ (if prints then last ∷ [] else [])
+        → texts.new ≡ before }
 {
     if prints {
         texts.pop();

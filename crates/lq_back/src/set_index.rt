@@ -55,7 +55,10 @@ pub fn index_of<'a>(alloc: Global, sets: &'a [ChangeSet]) -> Result<SetIndex<'a>
 
 /// The changeset whose row it is, with its place.
 pub fn place_of<'a>(index: &SetIndex<'a>, row: &'a Tracked) -> Option<Place<'a>>
-    ensures { (xs : List OneSet) → HasSets xs index.now → option_map (λ place. (place.index, place.set.now)) result ≡ found_at (identity_of row.now) xs }
+    ensures { (xs : List OneSet)
+        → HasSets xs index.now
+        → option_map (λ place. (place.index, place.set.now)) result
+        ≡ found_at (identity_of row.now) xs }
 {
     match index.get(&(row.filename.as_str(), row.id.as_str(), row.author.as_str())) {
         Some(place) => Some(*place),

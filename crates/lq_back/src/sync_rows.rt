@@ -41,7 +41,8 @@ pub fn rows_to_sync<'a>(
     reading: u64,
 ) -> Result<Items<Tracked>, NoMemory>
     requires moment { reading ≤ 253402300799999 }
-    ensures rows { IfOk result (λ made. made ≡ rows_to_sync reading (view_log options.now changelog.now).sets rows.now) }
+    ensures rows { IfOk result
+        (λ made. made ≡ rows_to_sync reading (view_log options.now changelog.now).sets rows.now) }
     ensures dated { IfOk result (λ made. AreDated made) }
 {
     let index = index_of(alloc, rows)?;
@@ -82,7 +83,11 @@ fn add_unless_there<'a>(
     made: &mut Made<'a>,
 ) -> Result<(), NoMemory>
     requires moment { reading ≤ 253402300799999 }
-    ensures { OnOk result ((rows : List Row) → HasRows rows index.now → IsAt rows made.old → Adds options.now reading rows set.now made.old made.new) }
+    ensures { OnOk result
+        ((rows : List Row)
+        → HasRows rows index.now
+        → IsAt rows made.old
+        → Adds options.now reading rows set.now made.old made.new) }
 {
     if has_no_row(options, index, set) {
         add(alloc, set, reading, made)?;
@@ -94,7 +99,9 @@ fn add_unless_there<'a>(
 
 /// Whether the changeset is selected, and has no row in the index.
 fn has_no_row<'a>(options: &Options, index: &RowIndex<'a>, set: &'a ChangeSet) -> bool
-    ensures { (rows : List Row) → HasRows rows index.now → result ≡ has_no_row options.now rows set.now }
+    ensures { (rows : List Row)
+        → HasRows rows index.now
+        → result ≡ has_no_row options.now rows set.now }
 {
     is_selected(set, options) && is_missing(index, &set.identity)
 }
@@ -113,7 +120,11 @@ fn add<'a>(
     made: &mut Made<'a>,
 ) -> Result<(), NoMemory>
     requires moment { reading ≤ 253402300799999 }
-    ensures { OnOk result ((options : Chosen) (rows : List Row) → has_no_row options rows set.now ≡ true → IsAt rows made.old → Adds options reading rows set.now made.old made.new) }
+    ensures { OnOk result
+        ((options : Chosen) (rows : List Row)
+        → has_no_row options rows set.now ≡ true
+        → IsAt rows made.old
+        → Adds options reading rows set.now made.old made.new) }
 {
     let is_new = keep(&mut made.seen, &set.identity)?;
     if is_new {
@@ -126,7 +137,8 @@ fn add<'a>(
 
 /// Whether the identity is new in the set, which has it afterwards.
 fn keep<'a>(seen: &mut BTreeSet<IdentityKey<'a>>, of: &'a Identity) -> Result<bool, NoMemory>
-    ensures { IfOk result (λ is_new. (rows : List Row) → HasIdentities rows seen.old → Keeps rows of.now is_new seen.new) }
+    ensures { IfOk result (λ is_new.
+        (rows : List Row) → HasIdentities rows seen.old → Keeps rows of.now is_new seen.new) }
 {
     match seen.insert(key_of(of)) {
         Ok(is_new) => Ok(is_new),
@@ -141,7 +153,11 @@ fn push_row(
     made: &mut Made<'_>,
 ) -> Result<(), NoMemory>
     requires moment { reading ≤ 253402300799999 }
-    ensures rows { OnOk result ((options : Chosen) → made.new.rows ≡ made.old.rows ++ row_for reading (made.old.last + 1) Executed (view options set.now) ∷ []) }
+    ensures rows { OnOk result
+        ((options : Chosen)
+        → made.new.rows
+        ≡ made.old.rows
+        ++ row_for reading (made.old.last + 1) Executed (view options set.now) ∷ []) }
     ensures last { OnOk result (made.new.last ≡ made.old.last + 1) }
     ensures seen { made.new.seen ≡ made.old.seen }
 {

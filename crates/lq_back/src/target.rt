@@ -7,7 +7,9 @@ use lq_kept::{NoTag, suffix};
 /// The rows that a rollback to the target takes back: those after the ones that stay. The rows are in
 /// run order.
 pub fn rows_to_undo<'a>(rows: &'a [Tracked], target: &Target) -> Result<&'a [Tracked], NoTag>
-    ensures undone { IfOk result (λ left. option_map (λ stay. rows_undone stay rows.now) (rows_kept target.now rows.now) ≡ Some (reverse left.now)) }
+    ensures undone { IfOk result (λ left.
+        option_map (λ stay. rows_undone stay rows.now) (rows_kept target.now rows.now)
+        ≡ Some (reverse left.now)) }
     ensures missing { OnErr result (rows_kept target.now rows.now ≡ None) }
 {
     let stay = suffix(rows, target)?;

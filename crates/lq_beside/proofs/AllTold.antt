@@ -8,11 +8,11 @@ use Rattle.lq_model.specs.declared.caller.By.TheVariants.{Program}
 use Rattle.lq_track.specs.Database.{Database}
 use Rattle.lq_turns.specs.declared.deed.Deed.TheVariants.{Locks, Rows, Users}
 use Rattle.lq_turns.specs.declared.deed.OnRows.{OnRows}
-use Rattle.lq_turns.specs.declared.deed.OnRows.TheVariants.{Deleted, Filled, Inserted, Renewed, Tagged}
+use Rattle.lq_turns.specs.declared.deed.OnRows.TheVariants.{Cleared, Deleted, Filled, Inserted, Renewed, Tagged}
 use Rattle.lq_turns.specs.Deed.{done, row_statement}
 use Rattle.lq_turns.specs.Held.{Agrees, StandsFor, StatementsTell, fits_rows}
 use Rattle.lq_beside.proofs.LockDeeds.{locks_told}
-use Rattle.lq_beside.proofs.RowDeeds.{deleted_told, filled_told, tagged_told}
+use Rattle.lq_beside.proofs.RowDeeds.{cleared_told, deleted_told, filled_told, tagged_told}
 use Rattle.lq_beside.proofs.RowTold.{inserted_told, renewed_told}
 use Rattle.lq_beside.proofs.TakesNone.{takes_none}
 use Rattle.lq_beside.proofs.Tell.{users_tell}
@@ -23,6 +23,7 @@ rows_told d c database stands has (Renewed row) fit = renewed_told d c database 
 rows_told d c database stands has (Deleted of) fit = deleted_told d c database stands has of
 rows_told d c database stands has (Filled of sum) fit = filled_told d c database stands has of sum fit
 rows_told d c database stands has (Tagged of tag) fit = tagged_told d c database stands has of tag fit
+rows_told d c database stands has Cleared fit = cleared_told d c database stands has
 
 pub statements_tell : (d : Dialect) → StatementsTell d
 statements_tell d (Users s) c database stands fit = users_tell d (takes_none d) s c database stands fit

@@ -19,7 +19,7 @@ use Rattle.lq_turns.specs.Deed.{filled, is_of, others, renewed, rows_after, thei
 use Rattle.lq_turns.specs.Session.{before}
 use Rattle.lq_turns.specs.Set.{row_at}
 use Rattle.lq_turns.specs.declared.deed.OnRows.{OnRows}
-use Rattle.lq_turns.specs.declared.deed.OnRows.TheVariants.{Deleted, Filled, Inserted, Renewed, Tagged}
+use Rattle.lq_turns.specs.declared.deed.OnRows.TheVariants.{Cleared, Deleted, Filled, Inserted, Renewed, Tagged}
 use Rattle.lq_turns.specs.declared.turn.Turn.{Turn}
 use Rattle.lq_turns.specs.Turn.{Course, Ending, Finished, Stuck, Through, contents_in, course, ending, is_marked, kept, refused, row_ending}
 
@@ -91,6 +91,7 @@ abbrev pub IsRight : OnRows → List Tracked → Type 0
 IsRight (Inserted row) rows = row_at (identity_of row) rows ≡ None
 IsRight (Deleted of) rows = ⊥
 IsRight (Tagged of tag) rows = ⊥
+IsRight Cleared rows = ⊥
 IsRight (Renewed row) rows = Unit {0}
 IsRight (Filled of sum) rows = Unit {0}
 
@@ -107,6 +108,7 @@ once_after (Renewed row) rows now right once is = by (nat_le row.order 214748364
 once_after (Filled of sum) rows now right once is = subst Once (ok_same is) (filled_once of sum rows once)
 once_after (Deleted of) rows now right once is = absurd right
 once_after (Tagged of tag) rows now right once is = absurd right
+once_after Cleared rows now right once is = absurd right
 
 pub once_ending : (d : Dialect) (turn : Turn) (c : Contents) → IsRight turn.row c.rows → Once c.rows → Once (contents_in (ending d turn c)).rows
 once_ending d turn c right once = by (course d turn.statements c.users) where

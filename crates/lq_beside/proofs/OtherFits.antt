@@ -1,4 +1,4 @@
--- The calls of a changelog-sync, a rollback, a tag and a release-locks fit.
+-- The calls of a changelog-sync, a rollback, a tag, a clear-checksums and a release-locks fit.
 use Rattle.std.proofs.Common.{ap, rules, subst, sym, tests, ◌∙◌}
 use Rattle.std.specs.List.{All, list_all}
 use Rattle.std.specs.Prelude.{Bool, Err, List, None, Ok, Option, Result, Some, [], false, if◌then◌else◌, is_some, length, map, nat_le, nat_lt, not, option_and_then, option_map, refl, true, ℕ, ◌&&◌, ◌+◌, ◌++◌, ◌∷◌, ◌≡◌}
@@ -21,7 +21,7 @@ use Rattle.lq_turns.specs.Contents.{Contents, contents_of}
 use Rattle.lq_turns.specs.Deed.{contents_after, has_place, if_accepted}
 use Rattle.lq_turns.specs.Held.{fits_rows}
 use Rattle.lq_turns.specs.Rollback.{calls_if_finished, turns_made}
-use Rattle.lq_turns.specs.Script.{closing, last_row, rows_to_sync, sync_of, tag_of}
+use Rattle.lq_turns.specs.Script.{clearing, closing, last_row, rows_to_sync, sync_of, tag_of}
 use Rattle.lq_turns.specs.Session.{Session, all_called, session_on}
 use Rattle.lq_turns.specs.Set.{Set, has_row}
 use Rattle.lq_turns.specs.Settle.{greatest, row_for}
@@ -30,12 +30,12 @@ use Rattle.lq_turns.specs.declared.call.Call.{Call}
 use Rattle.lq_turns.specs.declared.call.Call.TheVariants.{Begin, Commit, Execute}
 use Rattle.lq_turns.specs.declared.deed.Deed.TheVariants.{Rows}
 use Rattle.lq_turns.specs.declared.deed.OnRows.{OnRows}
-use Rattle.lq_turns.specs.declared.deed.OnRows.TheVariants.{Deleted, Filled, Inserted, Renewed, Tagged}
+use Rattle.lq_turns.specs.declared.deed.OnRows.TheVariants.{Cleared, Deleted, Filled, Inserted, Renewed, Tagged}
 use Rattle.lq_turns.specs.declared.stamp.Stamp.{Stamp}
 use Rattle.lq_turns.specs.declared.turn.Turn.{Turn}
 use Rattle.lq_turns.proofs.Made.{At}
 use Rattle.lq_turns.proofs.TurnLeft.{turn_taken, twice}
-use Rattle.lq_beside.specs.Fitting.{HasTexts, IsTime, ReleaseFits, RollbackFits, SyncFits, TagFits, is_deleted, is_return}
+use Rattle.lq_beside.specs.Fitting.{ClearFits, HasTexts, IsTime, ReleaseFits, RollbackFits, SyncFits, TagFits, is_deleted, is_return}
 use Rattle.lq_beside.specs.Replays.{calls_fit}
 use Rattle.lq_beside.proofs.Characters.{at_most}
 use Rattle.lq_beside.proofs.Opened.{BothHave, calls_have, fits_both, locked_fits}
@@ -101,6 +101,7 @@ deleted_fits (Inserted row) rows is = true_false is refl
 deleted_fits (Renewed row) rows is = true_false is refl
 deleted_fits (Filled of sum) rows is = true_false is refl
 deleted_fits (Tagged of tag) rows is = true_false is refl
+deleted_fits Cleared rows is = true_false is refl
 
 turns_fit : (d : Dialect) (who : List ℕ) (turns : List Turn) (c : Contents) (s : Session) → list_all (is_return d) turns ≡ true → At s (twice c) → BothHave d s → calls_fit d (turns_made d who turns c) s ≡ true
 turns_fit d who [] c s all at has = refl
@@ -120,7 +121,7 @@ rollback_fits d stamp [] database time all = refl
 rollback_fits d stamp (turn ∷ turns) database time all = locked_fits d stamp database (turns_made d stamp.who (turn ∷ turns) (contents_of database)) time
     (λ s at has. turns_fit d stamp.who (turn ∷ turns) (contents_of database) s all at has)
 
--- a tag and a release-locks, on what a catalogue stands for
+-- a tag, a clear-checksums and a release-locks, on what a catalogue stands for
 
 some_same : {A : Type 0} {x y : A} → (let o : Option A = Some x in o) ≡ Some y → x ≡ y
 some_same e = Prim.cc
@@ -179,6 +180,14 @@ tag_fits d tag c database stands short = by (last_row database.rows) refl where
       let parts = parts_of d c database stands.is in
       let first = last_is database.rows row at in
       tag_fits_rows d tag database row (parts.has_log ∙ logged (table_of c log_table) first.0 first.1 (parts.rows ∙ ap Some first.2)) (at_most (char_count tag) 255 short)
+
+pub clear_fits : ClearFits
+clear_fits d c database stands = by database.rows refl where
+  by : (rows : List Tracked) → database.rows ≡ rows → calls_fit d (if is_empty rows then [] else clearing ∷ []) (session_on database) ≡ true
+  by [] at = refl
+  by (row ∷ rows) at =
+      let parts = parts_of d c database stands.is in
+      and_true _ _ (and_true _ _ (and_true _ _ (parts.has_log ∙ logged (table_of c log_table) row rows (parts.rows ∙ ap Some at)) refl) refl) refl
 
 -- where the lock is held, it has its row
 held_row : (d : Dialect) (it : Option Table) (lock : Lock) → lock_from d it ≡ Some lock → lock.locked ≡ true → has_rows it ≡ true

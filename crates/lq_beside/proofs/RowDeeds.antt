@@ -35,11 +35,11 @@ use Rattle.lq_model.specs.declared.test.Test.{And, Test}
 use Rattle.lq_track.specs.Database.{Database, in_run_order, placed, rows_from}
 use Rattle.lq_track.specs.Lock.{lock_table}
 use Rattle.lq_track.specs.Log.{log_column, log_name, log_order, log_table}
-use Rattle.lq_track.specs.Statements.{log_holds, row_deleted, row_test, sum_filled, tag_set}
+use Rattle.lq_track.specs.Statements.{log_holds, row_deleted, row_test, sum_filled, sums_cleared, tag_set}
 use Rattle.lq_track.specs.declared.log_column.LogColumn.TheVariants as log
 use Rattle.lq_turns.specs.declared.deed.Deed.TheVariants.{Rows}
-use Rattle.lq_turns.specs.declared.deed.OnRows.TheVariants.{Deleted, Filled, Tagged}
-use Rattle.lq_turns.specs.Deed.{done, is_of, others}
+use Rattle.lq_turns.specs.declared.deed.OnRows.TheVariants.{Cleared, Deleted, Filled, Tagged}
+use Rattle.lq_turns.specs.Deed.{done, is_of, others, without_sum}
 use Rattle.lq_turns.specs.Held.{Agrees, StandsFor, fits_rows}
 use Rattle.lq_beside.specs.Beside.{IsBeside, is_harmless, users}
 use Rattle.lq_beside.proofs.AsMade.{log_at, log_columns, log_row, log_rows}
@@ -142,6 +142,11 @@ module _ (of : Identity) where
         one : (b : Bool) → cond b (set_all sets log_columns (log_row r)) (log_row r) ≡ log_row (cond b (f r) r)
         one true = is r
         one false = refl
+
+-- without a test every row is changed in its place
+every_row : (sets : List (Name × Literal)) (f : Tracked → Tracked) → ((r : Tracked) → set_all sets log_columns (log_row r) ≡ log_row (f r)) → (rows : List Tracked) → map (λ r. cond (takes None log_columns r) (set_all sets log_columns r) r) (log_rows rows) ≡ log_rows (map f rows)
+every_row sets f is [] = refl
+every_row sets f is (r ∷ rows) = ap (λ vs. set_all sets log_columns (log_row r) ∷ vs) (every_row sets f is rows) ∙ ap (λ v. v ∷ log_rows (map f rows)) (is r)
 
 -- rows that keep their places
 same_place : (f : Tracked → Tracked) → ((r : Tracked) → (f r).order ≡ r.order) → (r : Tracked) (rs : List Tracked) → placed (f r) (map f rs) ≡ map f (placed r rs)
@@ -290,6 +295,18 @@ module _ (d : Dialect) (c : Catalogue) (database : Database) (stands : StandsFor
   pub deleted_told : (of : Identity) → Agrees d (done d (Rows (Deleted of)) database) (step Program d (row_deleted of) c)
   deleted_told of = delete_told of is_stored
 
+  -- UPDATE of rows that keep their places
+  module _ (sets : List (Name × Literal)) (test : Option Test) (f : Tracked → Tracked) (keeps : (r : Tracked) → (f r).order ≡ r.order) (so : IsStored)
+      (edits : Edits sets test (log_at so.next (log_rows so.stored)) (log_at so.next (log_rows (map f so.stored)))) where
+    edits_told : Agrees d (Ok (record database { rows = map f database.rows })) (step Program d (Update log_table sets test) c)
+    edits_told =
+        let rows = map f so.stored in
+        let fine = all_mapped f keeps so.stored so.placed in
+        let few : nat_le (length rows) 100000 ≡ true = ap (λ n. nat_le n 100000) (map_length f so.stored) ∙ few_stored so in
+        let ran = updates d c log_table (log_at so.next (log_rows so.stored)) (log_at so.next (log_rows rows)) so.there (after_settled so rows fine few) sets test edits in
+        subst (Agrees d (Ok (record database { rows = map f database.rows }))) (sym ran.1)
+        (subst (λ rs. StandsFor d (with_table c log_table (log_at so.next (log_rows rows))) (record database { rows = rs })) (map_ran f keeps so.stored ∙ ap (map f) so.ran) (after_stands so rows fine few))
+
   -- UPDATE of a text in its column, in the rows of the identity
   module _ (of : Identity) (sets : List (Name × Literal)) (f : Tracked → Tracked) (keeps : (r : Tracked) → (f r).order ≡ r.order) (so : IsStored)
       (edits : Edits sets (Some (row_test of)) (log_at so.next (log_rows so.stored)) (log_at so.next (log_rows (map (changed of f) so.stored)))) where
@@ -297,13 +314,7 @@ module _ (d : Dialect) (c : Catalogue) (database : Database) (stands : StandsFor
     keeps_place r = elim (is_of of r) as (λ b. (let x : Tracked = cond b (f r) r in x).order ≡ r.order) [ true ↦ keeps r | false ↦ refl ]
 
     set_told : Agrees d (Ok (record database { rows = map (changed of f) database.rows })) (step Program d (Update log_table sets (Some (row_test of))) c)
-    set_told =
-        let rows = map (changed of f) so.stored in
-        let fine = all_mapped (changed of f) keeps_place so.stored so.placed in
-        let few : nat_le (length rows) 100000 ≡ true = ap (λ n. nat_le n 100000) (map_length (changed of f) so.stored) ∙ few_stored so in
-        let ran = updates d c log_table (log_at so.next (log_rows so.stored)) (log_at so.next (log_rows rows)) so.there (after_settled so rows fine few) sets (Some (row_test of)) edits in
-        subst (Agrees d (Ok (record database { rows = map (changed of f) database.rows }))) (sym ran.1)
-        (subst (λ rs. StandsFor d (with_table c log_table (log_at so.next (log_rows rows))) (record database { rows = rs })) (map_ran (changed of f) keeps_place so.stored ∙ ap (map (changed of f)) so.ran) (after_stands so rows fine few))
+    set_told = edits_told sets (Some (row_test of)) (changed of f) keeps_place so edits
 
   tag_edits : (of : Identity) (tag : List ℕ) → into_kind (literal.Text tag) (kind.Varchar 255) ≡ Ok (value.Text tag) → (so : IsStored) → Edits ((log_name log.Tag, literal.Text tag) ∷ []) (Some (row_test of)) (log_at so.next (log_rows so.stored)) (log_at so.next (log_rows (map (changed of (λ r. record r { tag = Some tag })) so.stored)))
   unfolding log_column log_order
@@ -330,3 +341,16 @@ module _ (d : Dialect) (c : Catalogue) (database : Database) (stands : StandsFor
 
   pub filled_told : (of : Identity) (sum : List ℕ) → fits_rows (Filled of sum) database.rows ≡ true → Agrees d (done d (Rows (Filled of sum)) database) (step Program d (sum_filled of sum) c)
   filled_told of sum fit = set_told of ((log_name log.Md5Sum, literal.Text sum) ∷ []) (λ r. record r { md5sum = Some sum }) (λ r. refl) is_stored (sum_edits of sum (text_goes sum 35 fit) is_stored)
+
+  sums_edits : (so : IsStored) → Edits ((log_name log.Md5Sum, literal.Null) ∷ []) None (log_at so.next (log_rows so.stored)) (log_at so.next (log_rows (map without_sum so.stored)))
+  unfolding log_column log_order into_kind
+  sums_edits so = record {
+    is = ap (log_at so.next) (every_row ((log_name log.Md5Sum, literal.Null) ∷ []) without_sum (λ r. refl) so.stored);
+    missing = refl;
+    exists = refl;
+    wrong = refl;
+    wide = refl;
+  }
+
+  pub cleared_told : Agrees d (done d (Rows Cleared) database) (step Program d sums_cleared c)
+  cleared_told = edits_told ((log_name log.Md5Sum, literal.Null) ∷ []) None without_sum (λ r. refl) is_stored (sums_edits is_stored)

@@ -11,11 +11,11 @@ use Rattle.lq_track.specs.Database.{Database, has_twin_rows}
 use Rattle.lq_turns.specs.Held.{StandsFor}
 use Rattle.lq_turns.specs.Laws.{AreRead}
 use Rattle.lq_turns.specs.Rollback.{rollback_of}
-use Rattle.lq_turns.specs.Script.{release_calls, sync_calls, tag_calls, update_calls}
+use Rattle.lq_turns.specs.Script.{clear_calls, release_calls, sync_calls, tag_calls, update_calls}
 use Rattle.lq_turns.specs.Session.{session_on}
 use Rattle.lq_turns.specs.Set.{Changelog, Meaning, Set}
 use Rattle.lq_turns.specs.declared.deed.OnRows.{OnRows}
-use Rattle.lq_turns.specs.declared.deed.OnRows.TheVariants.{Deleted, Filled, Inserted, Renewed, Tagged}
+use Rattle.lq_turns.specs.declared.deed.OnRows.TheVariants.{Cleared, Deleted, Filled, Inserted, Renewed, Tagged}
 use Rattle.lq_turns.specs.declared.stamp.Stamp.{Stamp}
 use Rattle.lq_turns.specs.declared.turn.Turn.{Turn}
 use Rattle.lq_beside.specs.Replays.{calls_fit}
@@ -51,6 +51,7 @@ is_deleted (Inserted row) = false
 is_deleted (Renewed row) = false
 is_deleted (Filled of sum) = false
 is_deleted (Tagged of tag) = false
+is_deleted Cleared = false
 
 -- a turn that takes a row back by statements of the dialect
 abbrev pub is_return : Dialect → Turn → Bool
@@ -63,6 +64,9 @@ RollbackFits = (d : Dialect) (stamp : Stamp) (turns : List Turn) (database : Dat
 abbrev pub TagFits : Type 0
 TagFits = (d : Dialect) (tag : List ℕ) (c : Catalogue) (database : Database) → StandsFor d c database → char_count tag ≤ 255
     → calls_fit d (tag_calls tag database) (session_on database) ≡ true
+
+abbrev pub ClearFits : Type 0
+ClearFits = (d : Dialect) (c : Catalogue) (database : Database) → StandsFor d c database → calls_fit d (clear_calls database) (session_on database) ≡ true
 
 abbrev pub ReleaseFits : Type 0
 ReleaseFits = (d : Dialect) (c : Catalogue) (database : Database) → StandsFor d c database → calls_fit d (release_calls database) (session_on database) ≡ true

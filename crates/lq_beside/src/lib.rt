@@ -4,6 +4,6 @@
 mod laws;
 
 pub use laws::{
-    journal_replays, nothing_stands, queries_see, release_fits, rollback_fits, statements_tell,
-    sync_fits, tag_fits, update_fits, users_beside,
+    clear_fits, journal_replays, nothing_stands, queries_see, release_fits, rollback_fits,
+    statements_tell, sync_fits, tag_fits, update_fits, users_beside,
 };

@@ -34,7 +34,8 @@ impl<'a> Chosen<'a> {
     /// The options of a command, from the words after its name.
     #[tactic(auto, unfolding(crate::specs::Options::given_in))]
     pub fn read(alloc: Global, verb: Verb, words: &'a [String]) -> Result<Chosen<'a>, WordsFault>
-        ensures { Gives (given_in (form_of verb) (map (λ word. string_bytes word) words.entry.now)) result }
+        ensures { Gives (given_in (form_of verb) (map (λ word. string_bytes word) words.entry.now))
+            result }
     {
         if !are_plain(words) {
             return Err(WordsFault::Usage);
@@ -52,7 +53,8 @@ impl<'a> Chosen<'a> {
 
     /// The values of `-D`, in order.
     pub fn definitions(&self) -> Option<&[&'a str]>
-        ensures { option_map (λ texts. map (λ text. text.now) texts.now) result ≡ definitions self.now }
+        ensures { option_map (λ texts. map (λ text. text.now) texts.now) result
+            ≡ definitions self.now }
     {
         self.matches.get_strs("define")
     }
@@ -82,7 +84,8 @@ fn is_plain(word: &str) -> bool
 
 fn matched<'a>(command: Command<'a>, words: &'a [String]) -> Result<Chosen<'a>, WordsFault>
     requires { is_simple_and_free (app_of command) ≡ true }
-    ensures { Gives (matched (app_of command.entry) (map (λ word. string_bytes word) words.entry.now)) result }
+    ensures { Gives
+        (matched (app_of command.entry) (map (λ word. string_bytes word) words.entry.now)) result }
 {
     match command.try_get_matches_from(words) {
         Ok(matches) => Ok(Chosen { matches }),

@@ -135,7 +135,8 @@ fn soak(given: &Chosen) -> Result<Job, WordsFault>
 }
 
 fn number_in(given: &Chosen) -> Option<u64>
-    ensures { result ≡ option_and_then (number_from 0 18446744073709551615) (value given.now number) }
+    ensures { result
+        ≡ option_and_then (number_from 0 18446744073709551615) (value given.now number) }
 {
     number_from(0, u64::MAX, given.value("number")?)
 }

@@ -21,7 +21,8 @@ use std::alloc::Global;
 ///
 /// The commands and options are those of Liquibase's documentation, "Liquibase commands".
 pub fn read_words(alloc: Global, words: &[String]) -> Result<Line, WordsFault>
-    ensures line { IfOk result (λ line. line_of (map (λ word. string_bytes word) words.now) ≡ Some line) }
+    ensures line { IfOk result
+        (λ line. line_of (map (λ word. string_bytes word) words.now) ≡ Some line) }
     ensures usage { IfErr result (λ fault. fault ≡ WordsFault.Usage
         → line_of (map (λ word. string_bytes word) words.now) ≡ None) }
 {
@@ -90,7 +91,8 @@ fn line_with(alloc: Global, verb: Verb, given: &Chosen) -> Result<Line, WordsFau
 }
 
 fn place_of<'a>(given: &Chosen<'a>) -> Option<(Dialect, &'a str)>
-    ensures { option_map (λ place. (place.0, place.1.now)) result ≡ option_and_then url_of (value given.now url_name) }
+    ensures { option_map (λ place. (place.0, place.1.now)) result
+        ≡ option_and_then url_of (value given.now url_name) }
 {
     url_of(given.value("url")?)
 }
@@ -106,7 +108,8 @@ fn copied(alloc: Global, text: Option<&str>) -> Result<Option<Text>, NoMemory>
 
 #[tactic(auto, unfolding(crate::specs::Values::properties_of))]
 fn properties_of(alloc: Global, texts: Option<&[&str]>) -> Result<Items<(Text, Text)>, WordsFault>
-    ensures { Gives (properties_of (option_map (λ ts. map (λ t. t.now) ts.now) texts.entry)) result }
+    ensures { Gives (properties_of (option_map (λ ts. map (λ t. t.now) ts.now) texts.entry))
+        result }
 {
     match texts {
         Some(texts) => each_definition(alloc, texts),

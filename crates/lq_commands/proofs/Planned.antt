@@ -33,7 +33,7 @@ use Rattle.lq_turns.specs.Turn.{made}
 use Rattle.lq_turns.specs.declared.call.Call.{Call}
 use Rattle.lq_turns.specs.declared.choice.What.{What}
 use Rattle.lq_turns.specs.declared.deed.OnRows.{OnRows}
-use Rattle.lq_turns.specs.declared.deed.OnRows.TheVariants.{Deleted, Filled, Inserted, Renewed, Tagged}
+use Rattle.lq_turns.specs.declared.deed.OnRows.TheVariants.{Cleared, Deleted, Filled, Inserted, Renewed, Tagged}
 use Rattle.lq_turns.specs.declared.stamp.Stamp.{Stamp}
 use Rattle.lq_turns.specs.declared.turn.Turn.{Turn}
 use Rattle.lq_commands.specs.Scripts.{log_in, rollback_script, rollback_to, sets_in, sync_script, taking_back, update_script}
@@ -113,6 +113,7 @@ deleted_too (Inserted row) is = is
 deleted_too (Renewed row) is = is
 deleted_too (Filled of sum) is = is
 deleted_too (Tagged of tag) is = is
+deleted_too Cleared is = is
 
 pub return_too : (d : Dialect) (turns : List Turn) → list_all (goes_back d) turns ≡ true → list_all (is_return d) turns ≡ true
 return_too d [] all = refl

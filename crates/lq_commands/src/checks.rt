@@ -41,7 +41,8 @@ pub fn rows_in<S: Store>(
 ) -> Result<Items<Tracked>, Status>
     requires valid { S.valid store.now }
     requires ready { IsReady dialect (S.state store.now) }
-    ensures rows { IfOk result (λ rows. OnIts dialect (S.state store.now) (λ database. database.rows ≡ rows)) }
+    ensures rows { IfOk result
+        (λ rows. OnIts dialect (S.state store.now) (λ database. database.rows ≡ rows)) }
     ensures passes { Passes None result }
 {
     match store.look(SESSION) {
@@ -73,9 +74,13 @@ pub fn check_own<S: Store>(
 ) -> Result<Option<Why>, Status>
     requires valid { S.valid store.now }
     requires ready { IsReady given.now.options.dialect (S.state store.now) }
-    requires rows { OnIts given.now.options.dialect (S.state store.now) (λ database. database.rows ≡ rows.now) }
-    ensures passes { OnIts given.now.options.dialect (S.state store.now) (λ database. Passes (own_halt given.now database) result) }
-    ensures own { IfOk result (λ own. OnIts given.now.options.dialect (S.state store.now) (λ database. own ≡ own_warning given.now database)) }
+    requires rows { OnIts given.now.options.dialect (S.state store.now)
+        (λ database. database.rows ≡ rows.now) }
+    ensures passes { OnIts given.now.options.dialect (S.state store.now)
+        (λ database. Passes (own_halt given.now database) result) }
+    ensures own { IfOk result (λ own.
+        OnIts given.now.options.dialect (S.state store.now)
+        (λ database. own ≡ own_warning given.now database)) }
 {
     match store.look(SESSION) {
         Ok(view) => {
@@ -103,8 +108,11 @@ fn own_answer(choice: Choice) -> Result<Option<Why>, Status>
 
 /// The rows that a rollback to the target takes back.
 pub fn check_target<'a>(rows: &'a [Tracked], target: &Target) -> Result<&'a [Tracked], Status>
-    ensures undone { IfOk result (λ left. option_map (λ stay. rows_undone stay rows.now) (rows_kept target.now rows.now) ≡ Some (reverse left.now)) }
-    ensures missing { IfErr result (λ status. (status ≡ NoTarget) × (rows_kept target.now rows.now ≡ None)) }
+    ensures undone { IfOk result (λ left.
+        option_map (λ stay. rows_undone stay rows.now) (rows_kept target.now rows.now)
+        ≡ Some (reverse left.now)) }
+    ensures missing { IfErr result
+        (λ status. (status ≡ NoTarget) × (rows_kept target.now rows.now ≡ None)) }
 {
     match rows_to_undo(rows, target) {
         Ok(undone) => Ok(undone),
@@ -161,9 +169,11 @@ pub fn checked_rows<S: Store>(
 ) -> Result<Items<Tracked>, Status>
     requires valid { S.valid store.now }
     requires ready { IsReady given.now.options.dialect (S.state store.now) }
-    ensures rows { IfOk result (λ rows. OnIts given.now.options.dialect (S.state store.now) (λ database. database.rows ≡ rows)) }
+    ensures rows { IfOk result (λ rows.
+        OnIts given.now.options.dialect (S.state store.now) (λ database. database.rows ≡ rows)) }
     ensures valid { IfOk result (λ rows. faults (sets_in given.now) rows ≡ []) }
-    ensures passes { OnIts given.now.options.dialect (S.state store.now) (λ database. Passes (unready given.now database) result) }
+    ensures passes { OnIts given.now.options.dialect (S.state store.now)
+        (λ database. Passes (unready given.now database) result) }
 {
     check_lock(alloc, given.options.dialect, store)?;
     valid_rows(alloc, given, store)
@@ -177,9 +187,11 @@ pub fn valid_rows<S: Store>(
 ) -> Result<Items<Tracked>, Status>
     requires valid { S.valid store.now }
     requires ready { IsReady given.now.options.dialect (S.state store.now) }
-    ensures rows { IfOk result (λ rows. OnIts given.now.options.dialect (S.state store.now) (λ database. database.rows ≡ rows)) }
+    ensures rows { IfOk result (λ rows.
+        OnIts given.now.options.dialect (S.state store.now) (λ database. database.rows ≡ rows)) }
     ensures valid { IfOk result (λ rows. faults (sets_in given.now) rows ≡ []) }
-    ensures passes { OnIts given.now.options.dialect (S.state store.now) (λ database. Passes (invalid given.now database.rows) result) }
+    ensures passes { OnIts given.now.options.dialect (S.state store.now)
+        (λ database. Passes (invalid given.now database.rows) result) }
 {
     let rows = rows_in(alloc, given.options.dialect, store)?;
     check_faults(alloc, given, rows.as_slice())?;

@@ -54,12 +54,19 @@ pub fn run_command<S: Store, P: SqlText>(
     requires moment { given.stamp.reading ≤ 253402300799999 }
     requires name { is_mark given.stamp.who ≡ false }
     ensures valid { S.valid store.new }
-    ensures answers { OnIts given.options.dialect (S.state store.old) (λ database. Answers (refusal command.now given database) result) }
-    ensures refused { OnIts given.options.dialect (S.state store.old) (λ database. IsKept (refusal command.now given database) store.old store.new) }
+    ensures answers { OnIts given.options.dialect (S.state store.old)
+        (λ database. Answers (refusal command.now given database) result) }
+    ensures refused { OnIts given.options.dialect (S.state store.old)
+        (λ database. IsKept (refusal command.now given database) store.old store.new) }
     ensures reads { only_reads command.now ≡ true → store.new ≡ store.old }
-    ensures works { OnIts given.options.dialect (S.state store.old) (λ database. Works given.options.dialect (script command.now given database) database (S.state store.old) result (S.state store.new)) }
-    ensures any_moment { OnIts given.options.dialect (S.state store.old) (λ database. CrashesIn given.options.dialect (script command.now given database) database (S.state store.old) (S.crashes store.old) (S.crashes store.new)) }
-    ensures tells { OnIts given.options.dialect (S.state store.old) (λ database. TellsJob (job.Run command.now) given database result) }
+    ensures works { OnIts given.options.dialect (S.state store.old) (λ database.
+        Works given.options.dialect (script command.now given database) database (S.state store.old)
+        result (S.state store.new)) }
+    ensures any_moment { OnIts given.options.dialect (S.state store.old) (λ database.
+        CrashesIn given.options.dialect (script command.now given database) database
+        (S.state store.old) (S.crashes store.old) (S.crashes store.new)) }
+    ensures tells { OnIts given.options.dialect (S.state store.old)
+        (λ database. TellsJob (job.Run command.now) given database result) }
     ensures later { S.faults store.old ≤ S.faults store.new }
     ensures disk { result ≡ Err DiskFault → Rose (S.faults store.old) (S.faults store.new) }
 {
@@ -118,12 +125,19 @@ fn run_at_once<S: Store, P: SqlText>(
     requires tag { IfSome (tag_in command.now) (λ tag. char_count tag ≤ 255) }
     requires at_once { is_at_once command.now ≡ true }
     ensures valid { S.valid store.new }
-    ensures answers { OnIts given.now.options.dialect (S.state store.old) (λ database. Answers (refusal command.now given.now database) result) }
-    ensures refused { OnIts given.now.options.dialect (S.state store.old) (λ database. IsKept (refusal command.now given.now database) store.old store.new) }
+    ensures answers { OnIts given.now.options.dialect (S.state store.old)
+        (λ database. Answers (refusal command.now given.now database) result) }
+    ensures refused { OnIts given.now.options.dialect (S.state store.old)
+        (λ database. IsKept (refusal command.now given.now database) store.old store.new) }
     ensures reads { only_reads command.now ≡ true → store.new ≡ store.old }
-    ensures works { OnIts given.now.options.dialect (S.state store.old) (λ database. Works given.now.options.dialect (script command.now given.now database) database (S.state store.old) result (S.state store.new)) }
-    ensures any_moment { OnIts given.now.options.dialect (S.state store.old) (λ database. CrashesIn given.now.options.dialect (script command.now given.now database) database (S.state store.old) (S.crashes store.old) (S.crashes store.new)) }
-    ensures tells { OnIts given.now.options.dialect (S.state store.old) (λ database. TellsJob (job.Run command.now) given.now database result) }
+    ensures works { OnIts given.now.options.dialect (S.state store.old) (λ database.
+        Works given.now.options.dialect (script command.now given.now database) database
+        (S.state store.old) result (S.state store.new)) }
+    ensures any_moment { OnIts given.now.options.dialect (S.state store.old) (λ database.
+        CrashesIn given.now.options.dialect (script command.now given.now database) database
+        (S.state store.old) (S.crashes store.old) (S.crashes store.new)) }
+    ensures tells { OnIts given.now.options.dialect (S.state store.old)
+        (λ database. TellsJob (job.Run command.now) given.now database result) }
     ensures later { S.faults store.old ≤ S.faults store.new }
     ensures disk { result ≡ Err DiskFault → Rose (S.faults store.old) (S.faults store.new) }
 {
@@ -152,9 +166,14 @@ pub fn print_update<S: Store, P: SqlText>(
     requires short { All HasShortTexts given.changelog.sets }
     requires moment { given.stamp.reading ≤ 253402300799999 }
     requires name { is_mark given.stamp.who ≡ false }
-    ensures answers { OnIts given.options.dialect (S.state store.old) (λ database. Answers (print_update given database) result) }
-    ensures tells { OnIts given.options.dialect (S.state store.old) (λ database. TellsJob job.UpdateSql given database result) }
-    ensures room { IfOk result (λ done. OnIts given.options.dialect (S.state store.old) (λ database. TellsRoom given.options.dialect (printed_script command.Update given database) database (S.state store.old) done.status)) }
+    ensures answers { OnIts given.options.dialect (S.state store.old)
+        (λ database. Answers (print_update given database) result) }
+    ensures tells { OnIts given.options.dialect (S.state store.old)
+        (λ database. TellsJob job.UpdateSql given database result) }
+    ensures room { IfOk result (λ done.
+        OnIts given.options.dialect (S.state store.old) (λ database.
+        TellsRoom given.options.dialect (printed_script command.Update given database) database
+        (S.state store.old) done.status)) }
 {
     let rows = valid_rows(alloc, &given, store)?;
     check_own(alloc, &given, store, rows.as_slice())?;
@@ -175,10 +194,16 @@ fn free_and_update<S: Store, P: SqlText>(
     requires short { All HasShortTexts given.changelog.sets }
     requires moment { given.stamp.reading ≤ 253402300799999 }
     requires name { is_mark given.stamp.who ≡ false }
-    requires passes { OnIts given.options.dialect (S.state store.old) (λ database. print_update given database ≡ None) }
-    ensures answers { OnIts given.options.dialect (S.state store.old) (λ database. Answers (print_update given database) result) }
-    ensures tells { OnIts given.options.dialect (S.state store.old) (λ database. TellsJob job.UpdateSql given database result) }
-    ensures room { IfOk result (λ done. OnIts given.options.dialect (S.state store.old) (λ database. TellsRoom given.options.dialect (printed_script command.Update given database) database (S.state store.old) done.status)) }
+    requires passes { OnIts given.options.dialect (S.state store.old)
+        (λ database. print_update given database ≡ None) }
+    ensures answers { OnIts given.options.dialect (S.state store.old)
+        (λ database. Answers (print_update given database) result) }
+    ensures tells { OnIts given.options.dialect (S.state store.old)
+        (λ database. TellsJob job.UpdateSql given database result) }
+    ensures room { IfOk result (λ done.
+        OnIts given.options.dialect (S.state store.old) (λ database.
+        TellsRoom given.options.dialect (printed_script command.Update given database) database
+        (S.state store.old) done.status)) }
 {
     match free(alloc, &given, store, sql) {
         Ok(()) => update(alloc, given, store, sql, true),
@@ -201,9 +226,15 @@ pub fn print_rollback<S: Store, P: SqlText>(
     requires read { AreFor given.options.dialect given.changelog }
     requires moment { given.stamp.reading ≤ 253402300799999 }
     requires name { is_mark given.stamp.who ≡ false }
-    ensures answers { OnIts given.options.dialect (S.state store.old) (λ database. Answers (print_rollback given target.now database) result) }
-    ensures tells { OnIts given.options.dialect (S.state store.old) (λ database. TellsJob (job.RollbackSql target.now) given database result) }
-    ensures room { IfOk result (λ done. OnIts given.options.dialect (S.state store.old) (λ database. TellsRoom given.options.dialect (printed_script (command.Rollback target.now) given database) database (S.state store.old) done.status)) }
+    ensures answers { OnIts given.options.dialect (S.state store.old)
+        (λ database. Answers (print_rollback given target.now database) result) }
+    ensures tells { OnIts given.options.dialect (S.state store.old)
+        (λ database. TellsJob (job.RollbackSql target.now) given database result) }
+    ensures room { IfOk result (λ done.
+        OnIts given.options.dialect (S.state store.old) (λ database.
+        TellsRoom given.options.dialect
+        (printed_script (command.Rollback target.now) given database) database (S.state store.old)
+        done.status)) }
 {
     let rows = valid_rows(alloc, &given, store)?;
     check_back(alloc, &given, target, rows.as_slice())?;
@@ -233,10 +264,17 @@ fn free_and_rollback<S: Store, P: SqlText>(
     requires read { AreFor given.options.dialect given.changelog }
     requires moment { given.stamp.reading ≤ 253402300799999 }
     requires name { is_mark given.stamp.who ≡ false }
-    requires passes { OnIts given.options.dialect (S.state store.old) (λ database. print_rollback given target.now database ≡ None) }
-    ensures answers { OnIts given.options.dialect (S.state store.old) (λ database. Answers (print_rollback given target.now database) result) }
-    ensures tells { OnIts given.options.dialect (S.state store.old) (λ database. TellsJob (job.RollbackSql target.now) given database result) }
-    ensures room { IfOk result (λ done. OnIts given.options.dialect (S.state store.old) (λ database. TellsRoom given.options.dialect (printed_script (command.Rollback target.now) given database) database (S.state store.old) done.status)) }
+    requires passes { OnIts given.options.dialect (S.state store.old)
+        (λ database. print_rollback given target.now database ≡ None) }
+    ensures answers { OnIts given.options.dialect (S.state store.old)
+        (λ database. Answers (print_rollback given target.now database) result) }
+    ensures tells { OnIts given.options.dialect (S.state store.old)
+        (λ database. TellsJob (job.RollbackSql target.now) given database result) }
+    ensures room { IfOk result (λ done.
+        OnIts given.options.dialect (S.state store.old) (λ database.
+        TellsRoom given.options.dialect
+        (printed_script (command.Rollback target.now) given database) database (S.state store.old)
+        done.status)) }
 {
     match free(alloc, &given, store, sql) {
         Ok(()) => rollback(alloc, given, target, store, sql, true),

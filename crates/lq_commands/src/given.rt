@@ -39,7 +39,8 @@ pub fn stamped<C: Clock>(
     who: &str,
     clock: &mut C,
 ) -> Result<Given, Status>
-    ensures given { IfOk result (λ given. (given.changelog ≡ asked.changelog) × (given.options ≡ asked.options)) }
+    ensures given { IfOk result
+        (λ given. (given.changelog ≡ asked.changelog) × (given.options ≡ asked.options)) }
     ensures stamp { IfOk result (λ given. given.stamp ≡ stamp_of who.now (C.last clock.new)) }
     ensures moment { IfOk result (λ given. given.stamp.reading ≤ 253402300799999) }
     ensures name { IfOk result (λ given. is_mark given.stamp.who ≡ false) }

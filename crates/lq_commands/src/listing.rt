@@ -21,8 +21,11 @@ use std::alloc::Global;
 pub fn validate<S: Store>(alloc: Global, given: &Given, store: &S) -> Result<Done, Status>
     requires valid { S.valid store.now }
     requires ready { IsReady given.now.options.dialect (S.state store.now) }
-    ensures answers { OnIts given.now.options.dialect (S.state store.now) (λ database. Answers (invalid given.now database.rows) result) }
-    ensures works { OnIts given.now.options.dialect (S.state store.now) (λ database. Works given.now.options.dialect [] database (S.state store.now) result (S.state store.now)) }
+    ensures answers { OnIts given.now.options.dialect (S.state store.now)
+        (λ database. Answers (invalid given.now database.rows) result) }
+    ensures works { OnIts given.now.options.dialect (S.state store.now) (λ database.
+        Works given.now.options.dialect [] database (S.state store.now) result
+        (S.state store.now)) }
     ensures sure { result ≡ Err DiskFault → ⊥ }
     ensures tells { IfOk result (λ done. TellsText validated_text done) }
 {
@@ -44,17 +47,23 @@ fn validated(alloc: Global) -> Result<Done, Status>
 pub fn status<S: Store>(alloc: Global, given: &Given, store: &S) -> Result<Done, Status>
     requires valid { S.valid store.now }
     requires ready { IsReady given.now.options.dialect (S.state store.now) }
-    ensures answers { OnIts given.now.options.dialect (S.state store.now) (λ database. Answers (invalid given.now database.rows) result) }
-    ensures works { OnIts given.now.options.dialect (S.state store.now) (λ database. Works given.now.options.dialect [] database (S.state store.now) result (S.state store.now)) }
+    ensures answers { OnIts given.now.options.dialect (S.state store.now)
+        (λ database. Answers (invalid given.now database.rows) result) }
+    ensures works { OnIts given.now.options.dialect (S.state store.now) (λ database.
+        Works given.now.options.dialect [] database (S.state store.now) result
+        (S.state store.now)) }
     ensures sure { result ≡ Err DiskFault → ⊥ }
-    ensures tells { IfOk result (λ done. OnIts given.now.options.dialect (S.state store.now) (λ database. TellsText (status_text (pending (sets_in given.now) database.rows)) done)) }
+    ensures tells { IfOk result (λ done.
+        OnIts given.now.options.dialect (S.state store.now)
+        (λ database. TellsText (status_text (pending (sets_in given.now) database.rows)) done)) }
 {
     let rows = valid_rows(alloc, given, store)?;
     listed(alloc, given, rows.as_slice())
 }
 
 fn listed(alloc: Global, given: &Given, rows: &[Tracked]) -> Result<Done, Status>
-    ensures out { IfOk result (λ done. done.out ≡ Some (status_text (pending (sets_in given.now) rows.now))) }
+    ensures out { IfOk result
+        (λ done. done.out ≡ Some (status_text (pending (sets_in given.now) rows.now))) }
     ensures done { IfOk result (λ done. done.status ≡ Whole) }
     ensures quiet { IfOk result IsQuiet }
     ensures fault { IfErr result (λ s. s ≡ OutOfMemory) }
@@ -69,9 +78,12 @@ pub fn history<S: Store>(alloc: Global, dialect: Dialect, store: &S) -> Result<D
     requires valid { S.valid store.now }
     requires ready { IsReady dialect (S.state store.now) }
     ensures answers { Answers None result }
-    ensures works { OnIts dialect (S.state store.now) (λ database. Works dialect [] database (S.state store.now) result (S.state store.now)) }
+    ensures works { OnIts dialect (S.state store.now)
+        (λ database. Works dialect [] database (S.state store.now) result (S.state store.now)) }
     ensures sure { result ≡ Err DiskFault → ⊥ }
-    ensures tells { IfOk result (λ done. OnIts dialect (S.state store.now) (λ database. TellsText (history_text database.rows) done)) }
+    ensures tells { IfOk result (λ done.
+        OnIts dialect (S.state store.now)
+        (λ database. TellsText (history_text database.rows) done)) }
 {
     let rows = rows_in(alloc, dialect, store)?;
     told_rows(alloc, rows.as_slice())

@@ -14,6 +14,7 @@ use crate::given::Given;
 use crate::update::update;
 use lq_model::SqlText;
 use lq_portion::counted;
+use lq_sets::work_of;
 use lq_store::Store;
 use lq_tell::{Done, Status};
 use std::alloc::Global;
@@ -36,17 +37,19 @@ pub fn update_count<S: Store, P: SqlText>(
     requires moment { given.stamp.reading ≤ 253402300799999 }
     requires name { is_mark given.stamp.who ≡ false }
     ensures valid { S.valid store.new }
-    ensures did { DidJob S.state S.crashes (job.UpdateCount count) given store.old result store.new }
+    ensures did { DidJob S.state S.crashes (job.UpdateCount count) given store.old result
+        store.new }
     ensures later { S.faults store.old ≤ S.faults store.new }
     ensures disk { result ≡ Err DiskFault → Rose (S.faults store.old) (S.faults store.new) }
 {
     let rows = rows_in(alloc, given.options.dialect, store)?;
+    let turns = work_of(alloc, &given.options, &given.changelog, rows.as_slice())?;
     let Given {
         changelog,
         options,
         stamp,
     } = given;
-    let changelog = counted(alloc, changelog, &options, count, rows.as_slice())?;
+    let changelog = counted(changelog, count, turns.as_slice());
     let given = Given {
         changelog,
         options,

@@ -32,11 +32,19 @@ pub fn release<S: Store, P: SqlText>(
     requires ready { IsReady given.now.options.dialect (S.state store.old) }
     requires sql { P.dialect ≡ given.now.options.dialect }
     ensures valid { S.valid store.new }
-    ensures tells { IfOk result (λ done. OnIts given.now.options.dialect (S.state store.old) (λ database. IfFinished done (TellsText (released_text database.lock) done))) }
-    ensures answers { OnIts given.now.options.dialect (S.state store.old) (λ database. Answers (refusal command.Release given.now database) result) }
-    ensures refused { OnIts given.now.options.dialect (S.state store.old) (λ database. IsKept (refusal command.Release given.now database) store.old store.new) }
-    ensures works { OnIts given.now.options.dialect (S.state store.old) (λ database. Works given.now.options.dialect (release_calls database) database (S.state store.old) result (S.state store.new)) }
-    ensures any_moment { OnIts given.now.options.dialect (S.state store.old) (λ database. CrashesIn given.now.options.dialect (release_calls database) database (S.state store.old) (S.crashes store.old) (S.crashes store.new)) }
+    ensures tells { IfOk result (λ done.
+        OnIts given.now.options.dialect (S.state store.old)
+        (λ database. IfFinished done (TellsText (released_text database.lock) done))) }
+    ensures answers { OnIts given.now.options.dialect (S.state store.old)
+        (λ database. Answers (refusal command.Release given.now database) result) }
+    ensures refused { OnIts given.now.options.dialect (S.state store.old)
+        (λ database. IsKept (refusal command.Release given.now database) store.old store.new) }
+    ensures works { OnIts given.now.options.dialect (S.state store.old) (λ database.
+        Works given.now.options.dialect (release_calls database) database (S.state store.old) result
+        (S.state store.new)) }
+    ensures any_moment { OnIts given.now.options.dialect (S.state store.old) (λ database.
+        CrashesIn given.now.options.dialect (release_calls database) database (S.state store.old)
+        (S.crashes store.old) (S.crashes store.new)) }
     ensures later { S.faults store.old ≤ S.faults store.new }
     ensures disk { result ≡ Err DiskFault → Rose (S.faults store.old) (S.faults store.new) }
 {
@@ -58,10 +66,20 @@ pub fn free<S: Store, P: SqlText>(
     requires ready { IsReady given.now.options.dialect (S.state store.old) }
     requires sql { P.dialect ≡ given.now.options.dialect }
     ensures valid { S.valid store.new }
-    ensures leaves { OnOk result (OnIts given.now.options.dialect (S.state store.old) (λ database. Leaves given.now.options.dialect (release_calls database) database (S.state store.old) (S.state store.new))) }
-    ensures behind { OnIts given.now.options.dialect (S.state store.old) (λ database. LeftBehind given.now.options.dialect (release_calls database) database (S.state store.old) (S.state store.new)) }
-    ensures full { IfErr result (λ fault. OnIts given.now.options.dialect (S.state store.old) (λ database. SaysFull given.now.options.dialect (release_calls database) database (S.state store.old) (fault_status fault))) }
-    ensures any_moment { OnIts given.now.options.dialect (S.state store.old) (λ database. CrashesIn given.now.options.dialect (release_calls database) database (S.state store.old) (S.crashes store.old) (S.crashes store.new)) }
+    ensures leaves { OnOk result
+        (OnIts given.now.options.dialect (S.state store.old) (λ database.
+        Leaves given.now.options.dialect (release_calls database) database (S.state store.old)
+        (S.state store.new))) }
+    ensures behind { OnIts given.now.options.dialect (S.state store.old) (λ database.
+        LeftBehind given.now.options.dialect (release_calls database) database (S.state store.old)
+        (S.state store.new)) }
+    ensures full { IfErr result (λ fault.
+        OnIts given.now.options.dialect (S.state store.old) (λ database.
+        SaysFull given.now.options.dialect (release_calls database) database (S.state store.old)
+        (fault_status fault))) }
+    ensures any_moment { OnIts given.now.options.dialect (S.state store.old) (λ database.
+        CrashesIn given.now.options.dialect (release_calls database) database (S.state store.old)
+        (S.crashes store.old) (S.crashes store.new)) }
     ensures faults { CountsDisk result (S.faults store.old) (S.faults store.new) }
 {
     let dialect = given.options.dialect;

@@ -47,11 +47,21 @@ pub fn rollback<S: Store, P: SqlText>(
     requires moment { given.stamp.reading ≤ 253402300799999 }
     requires name { is_mark given.stamp.who ≡ false }
     ensures valid { S.valid store.new }
-    ensures tells { IfOk result (λ done. OnIts given.options.dialect (S.state store.old) (λ database. IfFinished done (TellsRollback prints (rolled_to prints given (rows_kept target.now database.rows) database) done))) }
-    ensures answers { OnIts given.options.dialect (S.state store.old) (λ database. Answers (refusal (command.Rollback target.now) given database) result) }
-    ensures refused { OnIts given.options.dialect (S.state store.old) (λ database. IsKept (refusal (command.Rollback target.now) given database) store.old store.new) }
-    ensures works { OnIts given.options.dialect (S.state store.old) (λ database. Works given.options.dialect (rollback_script given target.now database) database (S.state store.old) result (S.state store.new)) }
-    ensures any_moment { OnIts given.options.dialect (S.state store.old) (λ database. CrashesIn given.options.dialect (rollback_script given target.now database) database (S.state store.old) (S.crashes store.old) (S.crashes store.new)) }
+    ensures tells { IfOk result (λ done.
+        OnIts given.options.dialect (S.state store.old) (λ database.
+        IfFinished done
+        (TellsRollback prints (rolled_to prints given (rows_kept target.now database.rows) database)
+        done))) }
+    ensures answers { OnIts given.options.dialect (S.state store.old)
+        (λ database. Answers (refusal (command.Rollback target.now) given database) result) }
+    ensures refused { OnIts given.options.dialect (S.state store.old) (λ database.
+        IsKept (refusal (command.Rollback target.now) given database) store.old store.new) }
+    ensures works { OnIts given.options.dialect (S.state store.old) (λ database.
+        Works given.options.dialect (rollback_script given target.now database) database
+        (S.state store.old) result (S.state store.new)) }
+    ensures any_moment { OnIts given.options.dialect (S.state store.old) (λ database.
+        CrashesIn given.options.dialect (rollback_script given target.now database) database
+        (S.state store.old) (S.crashes store.old) (S.crashes store.new)) }
     ensures later { S.faults store.old ≤ S.faults store.new }
     ensures disk { result ≡ Err status.DiskFault → Rose (S.faults store.old) (S.faults store.new) }
 {
@@ -75,13 +85,22 @@ fn rollback_rows<S: Store, P: SqlText>(
     requires read { AreFor given.options.dialect given.changelog }
     requires moment { given.stamp.reading ≤ 253402300799999 }
     requires name { is_mark given.stamp.who ≡ false }
-    requires rows { OnIts given.options.dialect (S.state store.old) (λ database. database.rows ≡ rows.now) }
+    requires rows { OnIts given.options.dialect (S.state store.old)
+        (λ database. database.rows ≡ rows.now) }
     ensures valid { S.valid store.new }
-    ensures tells { IfOk result (λ done. OnIts given.options.dialect (S.state store.old) (λ database. IfFinished done (TellsRollback prints (rolled_to prints given (rows_kept target.now database.rows) database) done))) }
+    ensures tells { IfOk result (λ done.
+        OnIts given.options.dialect (S.state store.old) (λ database.
+        IfFinished done
+        (TellsRollback prints (rolled_to prints given (rows_kept target.now database.rows) database)
+        done))) }
     ensures answers { Answers (no_way_back given target.now rows.now) result }
     ensures refused { IsKept (no_way_back given target.now rows.now) store.old store.new }
-    ensures works { OnIts given.options.dialect (S.state store.old) (λ database. Works given.options.dialect (rollback_script given target.now database) database (S.state store.old) result (S.state store.new)) }
-    ensures any_moment { OnIts given.options.dialect (S.state store.old) (λ database. CrashesIn given.options.dialect (rollback_script given target.now database) database (S.state store.old) (S.crashes store.old) (S.crashes store.new)) }
+    ensures works { OnIts given.options.dialect (S.state store.old) (λ database.
+        Works given.options.dialect (rollback_script given target.now database) database
+        (S.state store.old) result (S.state store.new)) }
+    ensures any_moment { OnIts given.options.dialect (S.state store.old) (λ database.
+        CrashesIn given.options.dialect (rollback_script given target.now database) database
+        (S.state store.old) (S.crashes store.old) (S.crashes store.new)) }
     ensures later { S.faults store.old ≤ S.faults store.new }
     ensures disk { result ≡ Err status.DiskFault → Rose (S.faults store.old) (S.faults store.new) }
 {
@@ -108,10 +127,17 @@ fn take_back<S: Store, P: SqlText>(
     requires name { is_mark given.stamp.who ≡ false }
     requires ways { AreWays given.changelog.sets undone.now ways.now }
     ensures valid { S.valid store.new }
-    ensures tells { IfOk result (λ done. OnIts given.options.dialect (S.state store.old) (λ database. IfFinished done (TellsRollback prints (rolled_back prints given (reverse undone.now) database) done))) }
+    ensures tells { IfOk result (λ done.
+        OnIts given.options.dialect (S.state store.old) (λ database.
+        IfFinished done
+        (TellsRollback prints (rolled_back prints given (reverse undone.now) database) done))) }
     ensures answers { Answers None result }
-    ensures works { OnIts given.options.dialect (S.state store.old) (λ database. Works given.options.dialect (taking_back given (reverse undone.now) database) database (S.state store.old) result (S.state store.new)) }
-    ensures any_moment { OnIts given.options.dialect (S.state store.old) (λ database. CrashesIn given.options.dialect (taking_back given (reverse undone.now) database) database (S.state store.old) (S.crashes store.old) (S.crashes store.new)) }
+    ensures works { OnIts given.options.dialect (S.state store.old) (λ database.
+        Works given.options.dialect (taking_back given (reverse undone.now) database) database
+        (S.state store.old) result (S.state store.new)) }
+    ensures any_moment { OnIts given.options.dialect (S.state store.old) (λ database.
+        CrashesIn given.options.dialect (taking_back given (reverse undone.now) database) database
+        (S.state store.old) (S.crashes store.old) (S.crashes store.new)) }
     ensures later { S.faults store.old ≤ S.faults store.new }
     ensures disk { result ≡ Err status.DiskFault → Rose (S.faults store.old) (S.faults store.new) }
 {
@@ -152,15 +178,28 @@ fn run<S: Store, P: SqlText>(
     requires ready { IsReady given.options.dialect (S.state store.old) }
     requires sql { P.dialect ≡ given.options.dialect }
     requires back { list_all (goes_back given.options.dialect) (reverse source.turns) ≡ true }
-    requires knows { (c : Contents) → LeadsBack source given.options.dialect (of_turns prints given.options.dialect (reverse source.turns) c) c }
+    requires knows { (c : Contents)
+        → LeadsBack source given.options.dialect
+        (of_turns prints given.options.dialect (reverse source.turns) c) c }
     requires some { reverse source.turns ≢ [] }
     requires moment { given.stamp.reading ≤ 253402300799999 }
     requires name { is_mark given.stamp.who ≡ false }
     ensures valid { S.valid store.new }
-    ensures tells { IfOk result (λ done. OnIts given.options.dialect (S.state store.old) (λ database. IfFinished done (TellsRollback prints (of_turns prints given.options.dialect (reverse source.turns) (contents_of database)) done))) }
+    ensures tells { IfOk result (λ done.
+        OnIts given.options.dialect (S.state store.old) (λ database.
+        IfFinished done
+        (TellsRollback prints
+        (of_turns prints given.options.dialect (reverse source.turns) (contents_of database))
+        done))) }
     ensures answers { Answers None result }
-    ensures works { OnIts given.options.dialect (S.state store.old) (λ database. Works given.options.dialect (rollback_of given.options.dialect given.stamp (reverse source.turns) database) database (S.state store.old) result (S.state store.new)) }
-    ensures any_moment { OnIts given.options.dialect (S.state store.old) (λ database. CrashesIn given.options.dialect (rollback_of given.options.dialect given.stamp (reverse source.turns) database) database (S.state store.old) (S.crashes store.old) (S.crashes store.new)) }
+    ensures works { OnIts given.options.dialect (S.state store.old) (λ database.
+        Works given.options.dialect
+        (rollback_of given.options.dialect given.stamp (reverse source.turns) database) database
+        (S.state store.old) result (S.state store.new)) }
+    ensures any_moment { OnIts given.options.dialect (S.state store.old) (λ database.
+        CrashesIn given.options.dialect
+        (rollback_of given.options.dialect given.stamp (reverse source.turns) database) database
+        (S.state store.old) (S.crashes store.old) (S.crashes store.new)) }
     ensures later { S.faults store.old ≤ S.faults store.new }
     ensures disk { result ≡ Err status.DiskFault → Rose (S.faults store.old) (S.faults store.new) }
 {
@@ -173,7 +212,9 @@ fn run<S: Store, P: SqlText>(
 fn ended(alloc: Global, outcome: Outcome, end: End, prints: bool) -> Result<Done, Status>
     requires lock { KeptLock end }
     requires stopped { NamesStop end outcome.stopped_at }
-    ensures tells { (account : Account) → HasTold outcome account end → IfOk result (λ done. IfFinished done (TellsRollback prints account done)) }
+    ensures tells { (account : Account)
+        → HasTold outcome account end
+        → IfOk result (λ done. IfFinished done (TellsRollback prints account done)) }
     ensures fault { IfErr result IsFault }
     ensures ends { IfOk result (λ done. ends done.status ≡ true) }
     ensures whole { IfOk result (λ done. is_finished done.status ≡ true → is_whole end ≡ true) }
@@ -208,7 +249,8 @@ fn text_of(
     happened: &[Happened],
     printed: &[Printed],
 ) -> Result<Option<Text>, NoMemory>
-    ensures { IfOk result (λ text. is_finished by.now ≡ true → text ≡ Some (rollback_output prints happened.now printed.now)) }
+    ensures { IfOk result (λ text.
+        is_finished by.now ≡ true → text ≡ Some (rollback_output prints happened.now printed.now)) }
 {
     if by.has_output() {
         let text = output(alloc, prints, happened, printed)?;

@@ -92,14 +92,31 @@ pub fn run_turns<T: Source + Drop, S: Store, P: SqlText>(
     requires sql { P.dialect ≡ dialect }
     requires moment { stamp.reading ≤ 253402300799999 }
     requires name { is_mark stamp.who ≡ false }
-    requires may_run { OnIts dialect (S.state store.old) (λ database. (told : T.Told) × MayTurn dialect T.meaning stamp (T.left source) (T.way source dialect stamp) database told) }
+    requires may_run { OnIts dialect (S.state store.old) (λ database.
+        (told : T.Told)
+        × MayTurn dialect T.meaning stamp (T.left source) (T.way source dialect stamp) database
+        told) }
     ensures valid { S.valid store.new }
-    ensures leaves { OnIts dialect (S.state store.old) (λ database. LeavesAs dialect (turns_script dialect T.meaning stamp (T.left source) database) database (S.state store.old) result.end (S.state store.new)) }
-    ensures left { OnIts dialect (S.state store.old) (λ database. LeftBehind dialect (turns_script dialect T.meaning stamp (T.left source) database) database (S.state store.old) (S.state store.new)) }
-    ensures full { OnIts dialect (S.state store.old) (λ database. FullAs dialect (turns_script dialect T.meaning stamp (T.left source) database) database (S.state store.old) result.end) }
-    ensures any_moment { OnIts dialect (S.state store.old) (λ database. CrashesIn dialect (turns_script dialect T.meaning stamp (T.left source) database) database (S.state store.old) (S.crashes store.old) (S.crashes store.new)) }
-    ensures tells { OnIts dialect (S.state store.old) (λ database. (told : T.Told) → MayTurn dialect T.meaning stamp (T.left source) (T.way source dialect stamp) database told → TellsAs (T.way result.source dialect stamp told) result.end) }
-    ensures stops { OnIts dialect (S.state store.old) (λ database. (told : T.Told) → MayTurn dialect T.meaning stamp (T.left source) (T.way source dialect stamp) database told → YieldedAt T.way dialect stamp told result.end) }
+    ensures leaves { OnIts dialect (S.state store.old) (λ database.
+        LeavesAs dialect (turns_script dialect T.meaning stamp (T.left source) database) database
+        (S.state store.old) result.end (S.state store.new)) }
+    ensures left { OnIts dialect (S.state store.old) (λ database.
+        LeftBehind dialect (turns_script dialect T.meaning stamp (T.left source) database) database
+        (S.state store.old) (S.state store.new)) }
+    ensures full { OnIts dialect (S.state store.old) (λ database.
+        FullAs dialect (turns_script dialect T.meaning stamp (T.left source) database) database
+        (S.state store.old) result.end) }
+    ensures any_moment { OnIts dialect (S.state store.old) (λ database.
+        CrashesIn dialect (turns_script dialect T.meaning stamp (T.left source) database) database
+        (S.state store.old) (S.crashes store.old) (S.crashes store.new)) }
+    ensures tells { OnIts dialect (S.state store.old) (λ database.
+        (told : T.Told)
+        → MayTurn dialect T.meaning stamp (T.left source) (T.way source dialect stamp) database told
+        → TellsAs (T.way result.source dialect stamp told) result.end) }
+    ensures stops { OnIts dialect (S.state store.old) (λ database.
+        (told : T.Told)
+        → MayTurn dialect T.meaning stamp (T.left source) (T.way source dialect stamp) database told
+        → YieldedAt T.way dialect stamp told result.end) }
     ensures later { S.faults store.old ≤ S.faults store.new }
     ensures rose { is_disk_end result.end ≡ true → Rose (S.faults store.old) (S.faults store.new) }
 {
@@ -129,13 +146,31 @@ pub fn run_hand<S: Store, P: SqlText>(
     requires turn { AreTurns dialect false (calls_left hand) }
     requires stops { hand.goes_on ≡ false }
     requires holds { AllHoldOn stamp.who (calls_left hand) }
-    requires fits { OnIts dialect (S.state store.old) (λ database. calls_fit dialect (with_lock stamp database (made dialect (calls_left hand) (contents_of database))) (session_on database) ≡ true) }
+    requires fits { OnIts dialect (S.state store.old) (λ database.
+        calls_fit dialect
+        (with_lock stamp database (made dialect (calls_left hand) (contents_of database)))
+        (session_on database)
+        ≡ true) }
     ensures valid { S.valid store.new }
-    ensures leaves { OnIts dialect (S.state store.old) (λ database. LeavesAs dialect (with_lock stamp database (made dialect (calls_left hand) (contents_of database))) database (S.state store.old) result (S.state store.new)) }
-    ensures left { OnIts dialect (S.state store.old) (λ database. LeftBehind dialect (with_lock stamp database (made dialect (calls_left hand) (contents_of database))) database (S.state store.old) (S.state store.new)) }
-    ensures full { OnIts dialect (S.state store.old) (λ database. FullAs dialect (with_lock stamp database (made dialect (calls_left hand) (contents_of database))) database (S.state store.old) result) }
-    ensures any_moment { OnIts dialect (S.state store.old) (λ database. CrashesIn dialect (with_lock stamp database (made dialect (calls_left hand) (contents_of database))) database (S.state store.old) (S.crashes store.old) (S.crashes store.new)) }
-    ensures tells { OnIts dialect (S.state store.old) (λ database. TellsAs (one_way (refused_in dialect (calls_left hand) no_progress (contents_of database))) result) }
+    ensures leaves { OnIts dialect (S.state store.old) (λ database.
+        LeavesAs dialect
+        (with_lock stamp database (made dialect (calls_left hand) (contents_of database))) database
+        (S.state store.old) result (S.state store.new)) }
+    ensures left { OnIts dialect (S.state store.old) (λ database.
+        LeftBehind dialect
+        (with_lock stamp database (made dialect (calls_left hand) (contents_of database))) database
+        (S.state store.old) (S.state store.new)) }
+    ensures full { OnIts dialect (S.state store.old) (λ database.
+        FullAs dialect
+        (with_lock stamp database (made dialect (calls_left hand) (contents_of database))) database
+        (S.state store.old) result) }
+    ensures any_moment { OnIts dialect (S.state store.old) (λ database.
+        CrashesIn dialect
+        (with_lock stamp database (made dialect (calls_left hand) (contents_of database))) database
+        (S.state store.old) (S.crashes store.old) (S.crashes store.new)) }
+    ensures tells { OnIts dialect (S.state store.old) (λ database.
+        TellsAs (one_way (refused_in dialect (calls_left hand) no_progress (contents_of database)))
+        result) }
     ensures later { S.faults store.old ≤ S.faults store.new }
     ensures rose { is_disk_end result ≡ true → Rose (S.faults store.old) (S.faults store.new) }
 {
@@ -157,7 +192,8 @@ pub fn run_status(
     ensures answers { is_whole end ≡ true → IsOk result }
     ensures ends { IfOk result (λ status. ends status ≡ true) }
     ensures whole { IfOk result (λ status. is_finished status ≡ true → is_whole end ≡ true) }
-    ensures tells { IfOk result (λ status. is_finished status ≡ true → status ≡ status_by (stop_by halted stopped_at end)) }
+    ensures tells { IfOk result
+        (λ status. is_finished status ≡ true → status ≡ status_by (stop_by halted stopped_at end)) }
     ensures full { IfOk result (TellsFull end) }
     ensures disk { result ≡ Err DiskFault → is_disk_end end ≡ true }
 {

@@ -56,11 +56,19 @@ pub fn sync<S: Store, P: SqlText>(
     requires moment { given.stamp.reading ≤ 253402300799999 }
     requires name { is_mark given.stamp.who ≡ false }
     ensures valid { S.valid store.new }
-    ensures tells { IfOk result (λ done. OnIts given.options.dialect (S.state store.old) (λ database. IfFinished done (TellsSync (synced_in given database) done))) }
-    ensures answers { OnIts given.options.dialect (S.state store.old) (λ database. Answers (refusal command.Sync given database) result) }
-    ensures refused { OnIts given.options.dialect (S.state store.old) (λ database. IsKept (refusal command.Sync given database) store.old store.new) }
-    ensures works { OnIts given.options.dialect (S.state store.old) (λ database. Works given.options.dialect (sync_script given database) database (S.state store.old) result (S.state store.new)) }
-    ensures any_moment { OnIts given.options.dialect (S.state store.old) (λ database. CrashesIn given.options.dialect (sync_script given database) database (S.state store.old) (S.crashes store.old) (S.crashes store.new)) }
+    ensures tells { IfOk result (λ done.
+        OnIts given.options.dialect (S.state store.old)
+        (λ database. IfFinished done (TellsSync (synced_in given database) done))) }
+    ensures answers { OnIts given.options.dialect (S.state store.old)
+        (λ database. Answers (refusal command.Sync given database) result) }
+    ensures refused { OnIts given.options.dialect (S.state store.old)
+        (λ database. IsKept (refusal command.Sync given database) store.old store.new) }
+    ensures works { OnIts given.options.dialect (S.state store.old) (λ database.
+        Works given.options.dialect (sync_script given database) database (S.state store.old) result
+        (S.state store.new)) }
+    ensures any_moment { OnIts given.options.dialect (S.state store.old) (λ database.
+        CrashesIn given.options.dialect (sync_script given database) database (S.state store.old)
+        (S.crashes store.old) (S.crashes store.new)) }
     ensures later { S.faults store.old ≤ S.faults store.new }
     ensures disk { result ≡ Err status.DiskFault → Rose (S.faults store.old) (S.faults store.new) }
 {
@@ -72,7 +80,8 @@ pub fn sync<S: Store, P: SqlText>(
 
 fn new_rows(alloc: Global, given: &Given, rows: &[Tracked]) -> Result<Items<Tracked>, NoMemory>
     requires moment { given.now.stamp.reading ≤ 253402300799999 }
-    ensures rows { IfOk result (λ made. made ≡ rows_to_sync given.now.stamp.reading (sets_in given.now) rows.now) }
+    ensures rows { IfOk result
+        (λ made. made ≡ rows_to_sync given.now.stamp.reading (sets_in given.now) rows.now) }
     ensures dated { IfOk result (λ made. AreDated made) }
 {
     let reading = given.stamp.reading;
@@ -94,14 +103,21 @@ fn insert<S: Store, P: SqlText>(
     requires short { All HasShortTexts given.changelog.sets }
     requires moment { given.stamp.reading ≤ 253402300799999 }
     requires name { is_mark given.stamp.who ≡ false }
-    requires before { OnIts given.options.dialect (S.state store.old) (λ database. database.rows ≡ before.now) }
+    requires before { OnIts given.options.dialect (S.state store.old)
+        (λ database. database.rows ≡ before.now) }
     requires rows { made ≡ rows_to_sync given.stamp.reading (sets_in given) before.now }
     requires dated { AreDated made }
     ensures valid { S.valid store.new }
-    ensures tells { IfOk result (λ done. OnIts given.options.dialect (S.state store.old) (λ database. IfFinished done (TellsSync (synced_in given database) done))) }
+    ensures tells { IfOk result (λ done.
+        OnIts given.options.dialect (S.state store.old)
+        (λ database. IfFinished done (TellsSync (synced_in given database) done))) }
     ensures answers { Answers None result }
-    ensures works { OnIts given.options.dialect (S.state store.old) (λ database. Works given.options.dialect (sync_script given database) database (S.state store.old) result (S.state store.new)) }
-    ensures any_moment { OnIts given.options.dialect (S.state store.old) (λ database. CrashesIn given.options.dialect (sync_script given database) database (S.state store.old) (S.crashes store.old) (S.crashes store.new)) }
+    ensures works { OnIts given.options.dialect (S.state store.old) (λ database.
+        Works given.options.dialect (sync_script given database) database (S.state store.old) result
+        (S.state store.new)) }
+    ensures any_moment { OnIts given.options.dialect (S.state store.old) (λ database.
+        CrashesIn given.options.dialect (sync_script given database) database (S.state store.old)
+        (S.crashes store.old) (S.crashes store.new)) }
     ensures later { S.faults store.old ≤ S.faults store.new }
     ensures disk { result ≡ Err status.DiskFault → Rose (S.faults store.old) (S.faults store.new) }
 {
@@ -136,15 +152,22 @@ fn insert_some<S: Store, P: SqlText>(
     requires short { All HasShortTexts given.changelog.sets }
     requires moment { given.stamp.reading ≤ 253402300799999 }
     requires name { is_mark given.stamp.who ≡ false }
-    requires before { OnIts given.options.dialect (S.state store.old) (λ database. database.rows ≡ before.now) }
+    requires before { OnIts given.options.dialect (S.state store.old)
+        (λ database. database.rows ≡ before.now) }
     requires rows { made ≡ rows_to_sync given.stamp.reading (sets_in given) before.now }
     requires dated { AreDated made }
     requires some { made ≢ [] }
     ensures valid { S.valid store.new }
-    ensures tells { IfOk result (λ done. OnIts given.options.dialect (S.state store.old) (λ database. IfFinished done (TellsSync (synced_in given database) done))) }
+    ensures tells { IfOk result (λ done.
+        OnIts given.options.dialect (S.state store.old)
+        (λ database. IfFinished done (TellsSync (synced_in given database) done))) }
     ensures answers { Answers None result }
-    ensures works { OnIts given.options.dialect (S.state store.old) (λ database. Works given.options.dialect (sync_script given database) database (S.state store.old) result (S.state store.new)) }
-    ensures any_moment { OnIts given.options.dialect (S.state store.old) (λ database. CrashesIn given.options.dialect (sync_script given database) database (S.state store.old) (S.crashes store.old) (S.crashes store.new)) }
+    ensures works { OnIts given.options.dialect (S.state store.old) (λ database.
+        Works given.options.dialect (sync_script given database) database (S.state store.old) result
+        (S.state store.new)) }
+    ensures any_moment { OnIts given.options.dialect (S.state store.old) (λ database.
+        CrashesIn given.options.dialect (sync_script given database) database (S.state store.old)
+        (S.crashes store.old) (S.crashes store.new)) }
     ensures later { S.faults store.old ≤ S.faults store.new }
     ensures disk { result ≡ Err status.DiskFault → Rose (S.faults store.old) (S.faults store.new) }
 {
@@ -170,18 +193,29 @@ fn run<S: Store, P: SqlText>(
     requires short { All HasShortTexts given.changelog.sets }
     requires moment { given.stamp.reading ≤ 253402300799999 }
     requires name { is_mark given.stamp.who ≡ false }
-    requires before { OnIts given.options.dialect (S.state store.old) (λ database. database.rows ≡ before.now) }
+    requires before { OnIts given.options.dialect (S.state store.old)
+        (λ database. database.rows ≡ before.now) }
     requires rows { made ≡ rows_to_sync given.stamp.reading (sets_in given) before.now }
     requires dated { AreDated made }
     requires some { made ≢ [] }
     ensures valid { S.valid store.new }
-    ensures leaves { IfOk result (λ e. OnIts given.options.dialect (S.state store.old) (λ database. LeavesAs given.options.dialect (sync_script given database) database (S.state store.old) e (S.state store.new))) }
-    ensures left { OnIts given.options.dialect (S.state store.old) (λ database. LeftBehind given.options.dialect (sync_script given database) database (S.state store.old) (S.state store.new)) }
-    ensures full { IfOk result (λ e. OnIts given.options.dialect (S.state store.old) (λ database. FullAs given.options.dialect (sync_script given database) database (S.state store.old) e)) }
-    ensures any_moment { OnIts given.options.dialect (S.state store.old) (λ database. CrashesIn given.options.dialect (sync_script given database) database (S.state store.old) (S.crashes store.old) (S.crashes store.new)) }
+    ensures leaves { IfOk result (λ e.
+        OnIts given.options.dialect (S.state store.old) (λ database.
+        LeavesAs given.options.dialect (sync_script given database) database (S.state store.old) e
+        (S.state store.new))) }
+    ensures left { OnIts given.options.dialect (S.state store.old) (λ database.
+        LeftBehind given.options.dialect (sync_script given database) database (S.state store.old)
+        (S.state store.new)) }
+    ensures full { IfOk result (λ e.
+        OnIts given.options.dialect (S.state store.old) (λ database.
+        FullAs given.options.dialect (sync_script given database) database (S.state store.old) e)) }
+    ensures any_moment { OnIts given.options.dialect (S.state store.old) (λ database.
+        CrashesIn given.options.dialect (sync_script given database) database (S.state store.old)
+        (S.crashes store.old) (S.crashes store.new)) }
     ensures tells { IfOk result (EndsWithRows made before.now) }
     ensures later { S.faults store.old ≤ S.faults store.new }
-    ensures rose { IfOk result (λ e. is_disk_end e ≡ true → Rose (S.faults store.old) (S.faults store.new)) }
+    ensures rose { IfOk result
+        (λ e. is_disk_end e ≡ true → Rose (S.faults store.old) (S.faults store.new)) }
 {
     let hand = sync_hand(alloc, made)?;
     let dialect = given.options.dialect;
@@ -201,7 +235,8 @@ fn ended(
     ensures ends { IfOk result (λ done. ends done.status ≡ true) }
     ensures whole { IfOk result (λ done. is_finished done.status ≡ true → is_whole end ≡ true) }
     ensures full { IfOk result (λ done. TellsFull end done.status) }
-    ensures tells { IfOk result (λ done. is_finished done.status ≡ true → done.status ≡ status_by (stop_by None of end)) }
+    ensures tells { IfOk result
+        (λ done. is_finished done.status ≡ true → done.status ≡ status_by (stop_by None of end)) }
     ensures out { IfOk result (λ done. done.out ≡ sync_out done.status happened.now) }
     ensures quiet { IfOk result IsQuiet }
     ensures disk { result ≡ Err status.DiskFault → is_disk_end end ≡ true }
@@ -245,7 +280,8 @@ fn refused_row(
 
 // The first of these rows that does not go in behind those before.
 fn first_out<'a>(before: &[Tracked], rows: &'a [Tracked]) -> Option<&'a Tracked>
-    ensures { option_map identity_of (option_copied result) ≡ refused_at (insert_stop rows.now before.now) }
+    ensures { option_map identity_of (option_copied result)
+        ≡ refused_at (insert_stop rows.now before.now) }
 {
     let mut count = before.len();
     let mut rest = rows;

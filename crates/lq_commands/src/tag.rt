@@ -36,10 +36,16 @@ pub fn tag<S: Store, P: SqlText>(
     requires short { char_count tag.now ≤ 255 }
     ensures valid { S.valid store.new }
     ensures tells { IfOk result (λ done. IfFinished done (TellsText (tagged_text tag.now) done)) }
-    ensures answers { OnIts given.now.options.dialect (S.state store.old) (λ database. Answers (refusal (command.Tag tag.now) given.now database) result) }
-    ensures refused { OnIts given.now.options.dialect (S.state store.old) (λ database. IsKept (refusal (command.Tag tag.now) given.now database) store.old store.new) }
-    ensures works { OnIts given.now.options.dialect (S.state store.old) (λ database. Works given.now.options.dialect (tag_calls tag.now database) database (S.state store.old) result (S.state store.new)) }
-    ensures any_moment { OnIts given.now.options.dialect (S.state store.old) (λ database. CrashesIn given.now.options.dialect (tag_calls tag.now database) database (S.state store.old) (S.crashes store.old) (S.crashes store.new)) }
+    ensures answers { OnIts given.now.options.dialect (S.state store.old)
+        (λ database. Answers (refusal (command.Tag tag.now) given.now database) result) }
+    ensures refused { OnIts given.now.options.dialect (S.state store.old) (λ database.
+        IsKept (refusal (command.Tag tag.now) given.now database) store.old store.new) }
+    ensures works { OnIts given.now.options.dialect (S.state store.old) (λ database.
+        Works given.now.options.dialect (tag_calls tag.now database) database (S.state store.old)
+        result (S.state store.new)) }
+    ensures any_moment { OnIts given.now.options.dialect (S.state store.old) (λ database.
+        CrashesIn given.now.options.dialect (tag_calls tag.now database) database
+        (S.state store.old) (S.crashes store.old) (S.crashes store.new)) }
     ensures later { S.faults store.old ≤ S.faults store.new }
     ensures disk { result ≡ Err DiskFault → Rose (S.faults store.old) (S.faults store.new) }
 {
@@ -67,8 +73,12 @@ fn tag_rows<S: Store, P: SqlText>(
     ensures tells { IfOk result (λ done. IfFinished done (TellsText (tagged_text tag.now) done)) }
     ensures answers { Answers (untagged rows.now) result }
     ensures refused { IsKept (untagged rows.now) store.old store.new }
-    ensures works { OnIts dialect (S.state store.old) (λ database. Works dialect (tag_calls tag.now database) database (S.state store.old) result (S.state store.new)) }
-    ensures any_moment { OnIts dialect (S.state store.old) (λ database. CrashesIn dialect (tag_calls tag.now database) database (S.state store.old) (S.crashes store.old) (S.crashes store.new)) }
+    ensures works { OnIts dialect (S.state store.old) (λ database.
+        Works dialect (tag_calls tag.now database) database (S.state store.old) result
+        (S.state store.new)) }
+    ensures any_moment { OnIts dialect (S.state store.old) (λ database.
+        CrashesIn dialect (tag_calls tag.now database) database (S.state store.old)
+        (S.crashes store.old) (S.crashes store.new)) }
     ensures later { S.faults store.old ≤ S.faults store.new }
     ensures disk { result ≡ Err DiskFault → Rose (S.faults store.old) (S.faults store.new) }
 {
@@ -89,12 +99,17 @@ fn tag_last<S: Store, P: SqlText>(
     requires ready { IsReady dialect (S.state store.old) }
     requires sql { P.dialect ≡ dialect }
     requires short { char_count tag.now ≤ 255 }
-    requires last { OnIts dialect (S.state store.old) (λ database. option_map identity_of (last_row database.rows) ≡ Some of) }
+    requires last { OnIts dialect (S.state store.old)
+        (λ database. option_map identity_of (last_row database.rows) ≡ Some of) }
     ensures valid { S.valid store.new }
     ensures tells { IfOk result (λ done. IfFinished done (TellsText (tagged_text tag.now) done)) }
     ensures answers { Answers None result }
-    ensures works { OnIts dialect (S.state store.old) (λ database. Works dialect (tag_calls tag.now database) database (S.state store.old) result (S.state store.new)) }
-    ensures any_moment { OnIts dialect (S.state store.old) (λ database. CrashesIn dialect (tag_calls tag.now database) database (S.state store.old) (S.crashes store.old) (S.crashes store.new)) }
+    ensures works { OnIts dialect (S.state store.old) (λ database.
+        Works dialect (tag_calls tag.now database) database (S.state store.old) result
+        (S.state store.new)) }
+    ensures any_moment { OnIts dialect (S.state store.old) (λ database.
+        CrashesIn dialect (tag_calls tag.now database) database (S.state store.old)
+        (S.crashes store.old) (S.crashes store.new)) }
     ensures later { S.faults store.old ≤ S.faults store.new }
     ensures disk { result ≡ Err DiskFault → Rose (S.faults store.old) (S.faults store.new) }
 {

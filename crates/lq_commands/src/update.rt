@@ -48,11 +48,19 @@ pub fn update<S: Store, P: SqlText>(
     requires moment { given.stamp.reading ≤ 253402300799999 }
     requires name { is_mark given.stamp.who ≡ false }
     ensures valid { S.valid store.new }
-    ensures tells { IfOk result (λ done. OnIts given.options.dialect (S.state store.old) (λ database. IfFinished done (TellsUpdate prints (updated_in prints given database) done))) }
-    ensures answers { OnIts given.options.dialect (S.state store.old) (λ database. Answers (refusal command.Update given database) result) }
-    ensures refused { OnIts given.options.dialect (S.state store.old) (λ database. IsKept (refusal command.Update given database) store.old store.new) }
-    ensures works { OnIts given.options.dialect (S.state store.old) (λ database. Works given.options.dialect (update_script given database) database (S.state store.old) result (S.state store.new)) }
-    ensures any_moment { OnIts given.options.dialect (S.state store.old) (λ database. CrashesIn given.options.dialect (update_script given database) database (S.state store.old) (S.crashes store.old) (S.crashes store.new)) }
+    ensures tells { IfOk result (λ done.
+        OnIts given.options.dialect (S.state store.old) (λ database.
+        IfFinished done (TellsUpdate prints (updated_in prints given database) done))) }
+    ensures answers { OnIts given.options.dialect (S.state store.old)
+        (λ database. Answers (refusal command.Update given database) result) }
+    ensures refused { OnIts given.options.dialect (S.state store.old)
+        (λ database. IsKept (refusal command.Update given database) store.old store.new) }
+    ensures works { OnIts given.options.dialect (S.state store.old) (λ database.
+        Works given.options.dialect (update_script given database) database (S.state store.old)
+        result (S.state store.new)) }
+    ensures any_moment { OnIts given.options.dialect (S.state store.old) (λ database.
+        CrashesIn given.options.dialect (update_script given database) database (S.state store.old)
+        (S.crashes store.old) (S.crashes store.new)) }
     ensures later { S.faults store.old ≤ S.faults store.new }
     ensures disk { result ≡ Err status.DiskFault → Rose (S.faults store.old) (S.faults store.new) }
 {
@@ -78,15 +86,23 @@ fn update_on<S: Store, P: SqlText>(
     requires short { All HasShortTexts given.changelog.sets }
     requires moment { given.stamp.reading ≤ 253402300799999 }
     requires name { is_mark given.stamp.who ≡ false }
-    requires rows { OnIts given.options.dialect (S.state store.old) (λ database. database.rows ≡ rows.now) }
+    requires rows { OnIts given.options.dialect (S.state store.old)
+        (λ database. database.rows ≡ rows.now) }
     requires faultless { faults (sets_in given) rows.now ≡ [] }
-    requires goes { OnIts given.options.dialect (S.state store.old) (λ database. is_halt (own_choice (log_in given) (contents_of database)) ≡ false) }
+    requires goes { OnIts given.options.dialect (S.state store.old)
+        (λ database. is_halt (own_choice (log_in given) (contents_of database)) ≡ false) }
     ensures valid { S.valid store.new }
-    ensures tells { IfOk result (λ done. OnIts given.options.dialect (S.state store.old) (λ database. IfFinished done (TellsUpdate prints (settled_in prints given database) done))) }
+    ensures tells { IfOk result (λ done.
+        OnIts given.options.dialect (S.state store.old) (λ database.
+        IfFinished done (TellsUpdate prints (settled_in prints given database) done))) }
     ensures own { IfOk result (λ done. done.own ≡ None) }
     ensures answers { Answers None result }
-    ensures works { OnIts given.options.dialect (S.state store.old) (λ database. Works given.options.dialect (update_script given database) database (S.state store.old) result (S.state store.new)) }
-    ensures any_moment { OnIts given.options.dialect (S.state store.old) (λ database. CrashesIn given.options.dialect (update_script given database) database (S.state store.old) (S.crashes store.old) (S.crashes store.new)) }
+    ensures works { OnIts given.options.dialect (S.state store.old) (λ database.
+        Works given.options.dialect (update_script given database) database (S.state store.old)
+        result (S.state store.new)) }
+    ensures any_moment { OnIts given.options.dialect (S.state store.old) (λ database.
+        CrashesIn given.options.dialect (update_script given database) database (S.state store.old)
+        (S.crashes store.old) (S.crashes store.new)) }
     ensures later { S.faults store.old ≤ S.faults store.new }
     ensures disk { result ≡ Err status.DiskFault → Rose (S.faults store.old) (S.faults store.new) }
 {
@@ -124,16 +140,24 @@ fn run<S: Store, P: SqlText>(
     requires short { All HasShortTexts given.changelog.sets }
     requires moment { given.stamp.reading ≤ 253402300799999 }
     requires name { is_mark given.stamp.who ≡ false }
-    requires rows { OnIts given.options.dialect (S.state store.old) (λ database. database.rows ≡ rows.now) }
+    requires rows { OnIts given.options.dialect (S.state store.old)
+        (λ database. database.rows ≡ rows.now) }
     requires faultless { faults (sets_in given) rows.now ≡ [] }
-    requires goes { OnIts given.options.dialect (S.state store.old) (λ database. is_halt (own_choice (log_in given) (contents_of database)) ≡ false) }
+    requires goes { OnIts given.options.dialect (S.state store.old)
+        (λ database. is_halt (own_choice (log_in given) (contents_of database)) ≡ false) }
     requires work { has_work (sets_in given) rows.now ≡ true }
     ensures valid { S.valid store.new }
-    ensures tells { IfOk result (λ done. OnIts given.options.dialect (S.state store.old) (λ database. IfFinished done (TellsUpdate prints (settled_in prints given database) done))) }
+    ensures tells { IfOk result (λ done.
+        OnIts given.options.dialect (S.state store.old) (λ database.
+        IfFinished done (TellsUpdate prints (settled_in prints given database) done))) }
     ensures own { IfOk result (λ done. done.own ≡ None) }
     ensures answers { Answers None result }
-    ensures works { OnIts given.options.dialect (S.state store.old) (λ database. Works given.options.dialect (update_script given database) database (S.state store.old) result (S.state store.new)) }
-    ensures any_moment { OnIts given.options.dialect (S.state store.old) (λ database. CrashesIn given.options.dialect (update_script given database) database (S.state store.old) (S.crashes store.old) (S.crashes store.new)) }
+    ensures works { OnIts given.options.dialect (S.state store.old) (λ database.
+        Works given.options.dialect (update_script given database) database (S.state store.old)
+        result (S.state store.new)) }
+    ensures any_moment { OnIts given.options.dialect (S.state store.old) (λ database.
+        CrashesIn given.options.dialect (update_script given database) database (S.state store.old)
+        (S.crashes store.old) (S.crashes store.new)) }
     ensures later { S.faults store.old ≤ S.faults store.new }
     ensures disk { result ≡ Err status.DiskFault → Rose (S.faults store.old) (S.faults store.new) }
 {
@@ -152,7 +176,9 @@ fn run<S: Store, P: SqlText>(
 fn ended(alloc: Global, outcome: Outcome, end: End, prints: bool) -> Result<Done, Status>
     requires lock { KeptLock end }
     requires stopped { NamesStop end outcome.stopped_at }
-    ensures tells { (account : Account) → HasTold outcome account end → IfOk result (λ done. IfFinished done (TellsUpdate prints account done)) }
+    ensures tells { (account : Account)
+        → HasTold outcome account end
+        → IfOk result (λ done. IfFinished done (TellsUpdate prints account done)) }
     ensures own { IfOk result (λ done. done.own ≡ None) }
     ensures fault { IfErr result IsFault }
     ensures ends { IfOk result (λ done. ends done.status ≡ true) }
@@ -189,7 +215,9 @@ fn text_of(
     not_fresh: u64,
     printed: &[Printed],
 ) -> Result<Option<Text>, NoMemory>
-    ensures { IfOk result (λ text. is_finished by.now ≡ true → text ≡ Some (update_output prints happened.now not_fresh printed.now)) }
+    ensures { IfOk result (λ text.
+        is_finished by.now ≡ true
+        → text ≡ Some (update_output prints happened.now not_fresh printed.now)) }
 {
     if by.has_output() {
         let text = output(alloc, prints, happened, not_fresh, printed)?;

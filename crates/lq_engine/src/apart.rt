@@ -70,7 +70,8 @@ fn is_tracking_table(name: &Name) -> bool
 }
 
 fn key_named(sought: Sought, key: Option<&Key>) -> bool
-    ensures { result ≡ list_any (λ k. is_sought sought k.name) (key_list (option_copied key.entry)) }
+    ensures { result
+        ≡ list_any (λ k. is_sought sought k.name) (key_list (option_copied key.entry)) }
 {
     match key {
         None => false,
@@ -125,19 +126,24 @@ fn users_table_named(sought: Sought, table: &Name) -> bool
 }
 
 fn users_key_named(table: &Name, held: &Held) -> bool
-    ensures { result ≡ (not (is_tracking_table table.now) && list_any (is_named lock_key) (inner_names held.now.now)) }
+    ensures { result
+        ≡
+        (not (is_tracking_table table.now)
+        && list_any (is_named lock_key) (inner_names held.now.now)) }
 {
     !is_tracking_table(table) & inner_named(Sought::LockKey, held)
 }
 
 fn users_within_named(table: &Name, held: &Held) -> bool
-    ensures { result ≡ (not (is_tracking_table table.now) && list_any is_tracking (names_within held.now.now)) }
+    ensures { result
+        ≡ (not (is_tracking_table table.now) && list_any is_tracking (names_within held.now.now)) }
 {
     !is_tracking_table(table) & within_named(held)
 }
 
 fn one_table(sought: Sought, entries: &[(Name, Held)]) -> bool
-    ensures { result ≡ list_any (λ e. not (is_tracking_table e.0) && is_sought sought e.0) entries.now }
+    ensures { result
+        ≡ list_any (λ e. not (is_tracking_table e.0) && is_sought sought e.0) entries.now }
 {
     entries
         .iter()
@@ -145,7 +151,10 @@ fn one_table(sought: Sought, entries: &[(Name, Held)]) -> bool
 }
 
 fn one_key(entries: &[(Name, Held)]) -> bool
-    ensures { result ≡ list_any (λ e. not (is_tracking_table e.0) && list_any (is_named lock_key) (inner_names e.1.now)) entries.now }
+    ensures { result
+        ≡ list_any
+        (λ e. not (is_tracking_table e.0) && list_any (is_named lock_key) (inner_names e.1.now))
+        entries.now }
 {
     entries
         .iter()
@@ -153,7 +162,9 @@ fn one_key(entries: &[(Name, Held)]) -> bool
 }
 
 fn one_within(entries: &[(Name, Held)]) -> bool
-    ensures { result ≡ list_any (λ e. not (is_tracking_table e.0) && list_any is_tracking (names_within e.1.now)) entries.now }
+    ensures { result
+        ≡ list_any (λ e. not (is_tracking_table e.0) && list_any is_tracking (names_within e.1.now))
+        entries.now }
 {
     entries
         .iter()
@@ -182,21 +193,27 @@ fn one_sequence(sought: Sought, entries: &[(Name, Sequence)]) -> bool
 
 #[tactic(auto, using(lq_model::proofs::Lists::any_mapped))]
 fn table_named(sought: Sought, parts: &Parts) -> bool
-    ensures { result ≡ list_any (λ e. not (is_tracking_table e.0) && is_sought sought e.0) parts.now.now.tables }
+    ensures { result
+        ≡ list_any (λ e. not (is_tracking_table e.0) && is_sought sought e.0) parts.now.now.tables }
 {
     one_table(sought, parts.tables())
 }
 
 #[tactic(auto, using(lq_model::proofs::Lists::any_mapped))]
 fn table_has_key(parts: &Parts) -> bool
-    ensures { result ≡ list_any (λ e. not (is_tracking_table e.0) && list_any (is_named lock_key) (inner_names e.1)) parts.now.now.tables }
+    ensures { result
+        ≡ list_any
+        (λ e. not (is_tracking_table e.0) && list_any (is_named lock_key) (inner_names e.1))
+        parts.now.now.tables }
 {
     one_key(parts.tables())
 }
 
 #[tactic(auto, using(lq_model::proofs::Lists::any_mapped))]
 fn table_names_tracking(parts: &Parts) -> bool
-    ensures { result ≡ list_any (λ e. not (is_tracking_table e.0) && list_any is_tracking (names_within e.1)) parts.now.now.tables }
+    ensures { result
+        ≡ list_any (λ e. not (is_tracking_table e.0) && list_any is_tracking (names_within e.1))
+        parts.now.now.tables }
 {
     one_within(parts.tables())
 }

@@ -4,6 +4,7 @@ ghost use Rattle.lq_model.specs.Sound.{IsSound};
 ghost use Rattle.lq_model.specs.Statement.{is_statement};
 ghost use Rattle.lq_model.specs.Step.{step};
 ghost use Rattle.lq_engine.specs.State.{Runs, back, oldest, state};
+ghost use Rattle.lq_parts.specs.Entries.{IsOrdered};
 
 use crate::arms::carry_out;
 use lq_base::Dialect;
@@ -60,12 +61,21 @@ impl Engine {
         let _ = &self.dialect;
     }
 
+    /// The objects, as they are kept.
+    pub fn parts(&self) -> &Parts
+        ensures now { result.now.now ≡ self.now.now }
+        ensures ordered { IsOrdered result.now.now.tables }
+    {
+        &self.parts
+    }
+
     /// Runs a statement of the engine's dialect on someone's behalf, and answers how many rows it changed.
     /// A fault changes nothing.
     #[tactic(auto, using(crate::proofs::Marks::newest))]
     pub fn run(&mut self, by: By, statement: &Statement) -> Result<u64, RunFault>
         requires { is_statement self.old.dialect statement.now ≡ true }
-        ensures { Runs (step by self.old.dialect statement.now self.old.now) self.old self.new result }
+        ensures { Runs (step by self.old.dialect statement.now self.old.now) self.old self.new
+            result }
     {
         self.starts.reserve(1)?;
         let mark = self.parts.mark();

@@ -27,7 +27,8 @@ pub fn read_lines(
 ) -> Result<Lines, LinesFault>
     ensures lines { IfOk result (λ lines. lines_of dialect path.now file.now ≡ Some lines) }
     ensures form { IfOk result (λ lines. HasForm lines) }
-    ensures usage { IfErr result (λ fault. fault ≡ LinesFault.Usage → lines_of dialect path.now file.now ≡ None) }
+    ensures usage { IfErr result
+        (λ fault. fault ≡ LinesFault.Usage → lines_of dialect path.now file.now ≡ None) }
 {
     match lines_of(alloc, dialect, path, file) {
         Ok(lines) => Ok(lines),
@@ -101,7 +102,9 @@ fn is_steps(line: &str) -> bool
 #[tactic(auto, unfolding(crate::specs::File::lines_with))]
 fn lines_with(alloc: Global, url: &str, lines: &[&str], place: usize) -> Result<Lines, LinesFault>
     requires { place < length lines.now }
-    ensures { Gives (lines_with url.now (take place (map (λ line. line.now) lines.now)) (drop (place + 1) (map (λ line. line.now) lines.now))) result }
+    ensures { Gives
+        (lines_with url.now (take place (map (λ line. line.now) lines.now))
+        (drop (place + 1) (map (λ line. line.now) lines.now))) result }
 {
     if 1 <= place && place <= 64 {
         both_of(alloc, url, lines, place)
@@ -114,7 +117,9 @@ fn lines_with(alloc: Global, url: &str, lines: &[&str], place: usize) -> Result<
 fn both_of(alloc: Global, url: &str, lines: &[&str], place: usize) -> Result<Lines, LinesFault>
     requires within { place < length lines.now }
     requires few { place ≤ 64 }
-    ensures { Gives (both_of url.now (take place (map (λ line. line.now) lines.now)) (drop (place + 1) (map (λ line. line.now) lines.now))) result }
+    ensures { Gives
+        (both_of url.now (take place (map (λ line. line.now) lines.now))
+        (drop (place + 1) (map (λ line. line.now) lines.now))) result }
 {
     let commands = each_command(alloc, url, &lines[..place])?;
     let steps = steps_of(alloc, place as u32, &lines[place + 1..])?;

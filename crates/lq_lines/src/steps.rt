@@ -23,7 +23,8 @@ pub fn steps_of(alloc: Global, count: u32, lines: &[&str]) -> Result<Items<u32>,
 }
 
 fn each_line(alloc: Global, count: u32, lines: &[&str]) -> Result<Items<u32>, LinesFault>
-    ensures { Gives (each (step_of count) (flat_map numbers_in (map (λ line. line.now) lines.now))) result }
+    ensures { Gives (each (step_of count) (flat_map numbers_in (map (λ line. line.now) lines.now)))
+        result }
 {
     let mut steps = Items::new(alloc);
     for line in lines {
@@ -39,21 +40,25 @@ fn with_line(
     line: &str,
     steps: Items<u32>,
 ) -> Result<Items<u32>, LinesFault>
-    ensures { Gives (option_map (λ more. steps ++ more) (each (step_of count) (numbers_in line.now))) result }
+    ensures { Gives
+        (option_map (λ more. steps ++ more) (each (step_of count) (numbers_in line.now))) result }
 {
     let parts = parts_of(alloc, line.as_bytes())?;
     with_parts(count, &parts, steps)
 }
 
 fn parts_of(alloc: Global, line: &[u8]) -> Result<Vec<&[u8]>, AllocError>
-    ensures { IfOk result (λ parts. map (λ part. part.now) parts.items ≡ slice_split is_blank line.now) }
+    ensures { IfOk result
+        (λ parts. map (λ part. part.now) parts.items ≡ slice_split is_blank line.now) }
 {
     line.split(|byte| *byte == b' ' || *byte == b'\t')
         .collect(alloc)
 }
 
 fn with_parts(count: u32, parts: &[&[u8]], mut steps: Items<u32>) -> Result<Items<u32>, LinesFault>
-    ensures { Gives (option_map (λ more. steps ++ more) (each (step_of count) (filter is_word (map (λ part. part.now) parts.now)))) result }
+    ensures { Gives
+        (option_map (λ more. steps ++ more)
+        (each (step_of count) (filter is_word (map (λ part. part.now) parts.now)))) result }
 {
     for part in parts {
         if part.is_empty() {

@@ -36,7 +36,7 @@ use Rattle.lq_turns.specs.Session.{session_on}
 use Rattle.lq_turns.specs.Set.{Set}
 use Rattle.lq_turns.specs.declared.answer.Answer.TheVariants.{Done}
 use Rattle.lq_turns.specs.declared.call.Call.{Call}
-use Rattle.lq_turns.specs.declared.deed.OnRows.TheVariants.{Deleted, Filled, Inserted, Renewed, Tagged}
+use Rattle.lq_turns.specs.declared.deed.OnRows.TheVariants.{Cleared, Deleted, Filled, Inserted, Renewed, Tagged}
 use Rattle.lq_turns.specs.declared.deed.OnRows.{OnRows}
 use Rattle.lq_turns.specs.declared.stamp.Stamp.{Stamp}
 use Rattle.lq_turns.specs.declared.stop.Refusal.{Refusal}
@@ -50,6 +50,7 @@ deleted_too (Inserted row) is = is
 deleted_too (Renewed row) is = is
 deleted_too (Filled of sum) is = is
 deleted_too (Tagged of tag) is = is
+deleted_too Cleared is = is
 
 return_too : (d : Dialect) (turns : List Turn) → list_all (goes_back d) turns ≡ true → list_all (is_return d) turns ≡ true
 return_too d [] all = refl

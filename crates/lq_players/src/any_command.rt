@@ -57,7 +57,8 @@ impl AnyCommand {
         requires short { All HasShortTexts changelog.sets }
         requires tag { HasShortTag command }
         ensures unstarted { IsUnstarted dialect result }
-        ensures job { (command_stands result).job ≡ work_of dialect (task_for command options changelog stamp) }
+        ensures job { (command_stands result).job
+            ≡ work_of dialect (task_for command options changelog stamp) }
         ensures owns { (lock : Lock) → (command_stands result).owns lock → IsHeld stamp lock }
     {
         start(alloc, dialect, stamp, command, changelog, options)
@@ -85,10 +86,13 @@ impl AnyCommand {
         requires live { IsTrue (S.state store.old).live }
         requires sql { P.dialect ≡ (command_stands self.old).dialect }
         requires ready { (command_stands self.old).ready }
-        requires opens { is_open session (S.state store.old).begun ≡ (command_stands self.old).opens }
+        requires opens { is_open session (S.state store.old).begun
+            ≡ (command_stands self.old).opens }
         requires going { (command_stands self.old).answer ≡ None }
         ensures valid { S.valid store.new }
-        ensures took { Took session (command_stands self.old) (command_stands self.new) (S.state store.old) (S.state store.new) (S.crashes store.old) (S.crashes store.new) result }
+        ensures took { Took session (command_stands self.old) (command_stands self.new)
+            (S.state store.old) (S.state store.new) (S.crashes store.old) (S.crashes store.new)
+            result }
         ensures later { S.faults store.old ≤ S.faults store.new }
         ensures rose { result ≡ Err drill.Disk → Rose (S.faults store.old) (S.faults store.new) }
     {

@@ -44,7 +44,8 @@ impl AtOnce {
         look: &K,
     ) -> Result<Verdict, NoMemory>
         requires { HasShortTag (command_of self.now.command) }
-        ensures { IfOk result (λ v. (stamp : Clocked) → OnceChecked dialect stamp self.now (K.catalogue look.now) v) }
+        ensures { IfOk result
+            (λ v. (stamp : Clocked) → OnceChecked dialect stamp self.now (K.catalogue look.now) v) }
     {
         match &self.command {
             OneStep::Validate | OneStep::Status => self.compare(alloc, dialect, look),
@@ -61,7 +62,8 @@ impl AtOnce {
         look: &K,
     ) -> Result<Verdict, NoMemory>
         requires { only_looks self.now.command ≡ true }
-        ensures { IfOk result (λ v. (stamp : Clocked) → OnceChecked dialect stamp self.now (K.catalogue look.now) v) }
+        ensures { IfOk result
+            (λ v. (stamp : Clocked) → OnceChecked dialect stamp self.now (K.catalogue look.now) v) }
     {
         let rows = rows_in(alloc, dialect, look)?;
         let found = faults_of(alloc, &self.options, &self.changelog, rows.as_slice())?;
@@ -78,7 +80,8 @@ impl AtOnce {
     ) -> Result<Verdict, NoMemory>
         requires command { self.now.command ≡ step.Tag name.now }
         requires short { char_count name.now ≤ 255 }
-        ensures { IfOk result (λ v. (stamp : Clocked) → OnceChecked dialect stamp self.now (K.catalogue look.now) v) }
+        ensures { IfOk result
+            (λ v. (stamp : Clocked) → OnceChecked dialect stamp self.now (K.catalogue look.now) v) }
     {
         let rows = rows_in(alloc, dialect, look)?;
         tagging(alloc, rows.as_slice(), name)
@@ -92,7 +95,8 @@ impl AtOnce {
         look: &K,
     ) -> Result<Verdict, NoMemory>
         requires { self.now.command ≡ step.Release }
-        ensures { IfOk result (λ v. (stamp : Clocked) → OnceChecked dialect stamp self.now (K.catalogue look.now) v) }
+        ensures { IfOk result
+            (λ v. (stamp : Clocked) → OnceChecked dialect stamp self.now (K.catalogue look.now) v) }
     {
         let lock = lock_in(alloc, dialect, look)?;
         releasing(alloc, lock.locked)

@@ -38,7 +38,9 @@ pub fn judge<T: Checks, S: Store, P: SqlText>(
     requires reads { T.reads source.old dialect }
     requires sql { P.dialect ≡ dialect }
     requires moment { stamp.now.reading ≤ 253402300799999 }
-    ensures judged { Judged dialect T.meaning stamp.now T.way T.ends (T.job source.old dialect stamp.now) (T.left source.new) source.new session (S.state store.now) result }
+    ensures judged { Judged dialect T.meaning stamp.now T.way T.ends
+        (T.job source.old dialect stamp.now) (T.left source.new) source.new session
+        (S.state store.now) result }
     ensures reads { T.reads source.new dialect }
 {
     if is_kept_out(source, store) {
@@ -68,7 +70,9 @@ fn busy(fault: StoreFault) -> Verdict
 fn is_kept_out<T: Checks, S: Store>(source: &T, store: &S) -> bool
     requires valid { S.valid store.now }
     requires live { IsTrue (S.state store.now).live }
-    ensures { (d : Kind) (stamp : Clocked) → IfSome (lock_of (S.state store.now).dialect (S.state store.now).committed) (λ lock. result ≡ ((T.job source.now d stamp).needs_lock && lock.locked)) }
+    ensures { (d : Kind) (stamp : Clocked)
+        → IfSome (lock_of (S.state store.now).dialect (S.state store.now).committed)
+        (λ lock. result ≡ ((T.job source.now d stamp).needs_lock && lock.locked)) }
 {
     let needs = source.needs_lock();
     needs_held(needs, store.lock())
@@ -106,9 +110,12 @@ pub fn call_once<S: Store, P: SqlText>(
     requires fills { MayFill call.room call.deeds }
     ensures valid { S.valid store.new }
     ensures calls { CallsOnce dialect session call (S.state store.old) result (S.state store.new) }
-    ensures beside { Beside session (is_disk_answer result) (S.state store.old) (S.state store.new) }
-    ensures crash { CrashesFor dialect session (Alone call.deeds call.room) (S.state store.old) (S.crashes store.old) (S.crashes store.new) }
-    ensures shuts { (S.state store.new).live ≡ true → is_open session (S.state store.new).begun ≡ false }
+    ensures beside { Beside session (is_disk_answer result) (S.state store.old)
+        (S.state store.new) }
+    ensures crash { CrashesFor dialect session (Alone call.deeds call.room) (S.state store.old)
+        (S.crashes store.old) (S.crashes store.new) }
+    ensures shuts { (S.state store.new).live ≡ true
+        → is_open session (S.state store.new).begun ≡ false }
     ensures later { S.faults store.old ≤ S.faults store.new }
     ensures rose { result ≡ Err drill.Disk → Rose (S.faults store.old) (S.faults store.new) }
 {
@@ -141,7 +148,8 @@ pub fn fault_of(fault: StoreFault) -> DrillFault
 pub fn answer_at<T: Checks>(source: &T, end: End) -> Result<Answer, DrillFault>
     ensures own { IfOk result (λ a. is_failure a ≡ false) }
     ensures whole { IfOk result (λ a. is_failed_end end ≡ false) }
-    ensures ends { IfOk result (λ a. is_told_end end ≡ true → a ≡ T.ends source.now (refusal_in end)) }
+    ensures ends { IfOk result
+        (λ a. is_told_end end ≡ true → a ≡ T.ends source.now (refusal_in end)) }
     ensures locked { IfOk result (λ a. is_told_end end ≡ false → tells_locked a ≡ true) }
     ensures fails { IfErr result (FailsAs end) }
     ensures disk { result ≡ Err drill.Disk → is_disk_end end ≡ true }

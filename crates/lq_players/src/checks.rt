@@ -63,7 +63,9 @@ pub trait Checks: Source {
         requires reads { Self.reads self.old dialect }
         requires sql { P.dialect ≡ dialect }
         requires moment { stamp.now.reading ≤ 253402300799999 }
-        ensures checked { Checked dialect Self.meaning stamp.now Self.way ends (job self.old dialect stamp.now) (Self.left self.new) self.new (K.catalogue look.now) result }
+        ensures checked { Checked dialect Self.meaning stamp.now Self.way ends
+            (job self.old dialect stamp.now) (Self.left self.new) self.new (K.catalogue look.now)
+            result }
         ensures reads { Self.reads self.new dialect };
 
     /// What it answers after its last call.

@@ -53,7 +53,8 @@ pub fn after_fault(
     ensures same { fault ≡ None → result ≡ answer }
     ensures locked { is_some fault ≡ true → IfOk result (λ a. tells_locked a ≡ true) }
     ensures kept { IfOk result (λ a. answer ≡ Ok a) }
-    ensures fails { IfErr result (λ why. (answer ≡ Err why) ⊎ ((met : Fault) × (fault ≡ Some met) × (fault_of met ≡ why))) }
+    ensures fails { IfErr result
+        (λ why. (answer ≡ Err why) ⊎ ((met : Fault) × (fault ≡ Some met) × (fault_of met ≡ why))) }
     ensures disk { disk_failed fault ≡ false → result ≡ Err drill.Disk → answer ≡ Err drill.Disk }
 {
     match fault {
@@ -88,7 +89,8 @@ fn stands<S: Store>(stamp: &Stamp, store: &S) -> Holding
     requires valid { S.valid store.now }
     requires live { IsTrue (S.state store.now).live }
     requires moment { stamp.now.reading ≤ 253402300799999 }
-    ensures { IfSome (lock_of (S.state store.now).dialect (S.state store.now).committed) (λ lock. Holds stamp.now lock result) }
+    ensures { IfSome (lock_of (S.state store.now).dialect (S.state store.now).committed)
+        (λ lock. Holds stamp.now lock result) }
 {
     lock_held(stamp, store.lock())
 }
@@ -97,7 +99,8 @@ fn stands<S: Store>(stamp: &Stamp, store: &S) -> Holding
 fn lost<S: Store>(alloc: Global, store: &S) -> Result<Answer, DrillFault>
     requires valid { S.valid store.now }
     requires live { IsTrue (S.state store.now).live }
-    ensures tells { IfSome (lock_of (S.state store.now).dialect (S.state store.now).committed) (λ lock. TellsLost lock result) }
+    ensures tells { IfSome (lock_of (S.state store.now).dialect (S.state store.now).committed)
+        (λ lock. TellsLost lock result) }
     ensures own { IfOk result (λ a. is_failure a ≡ false) }
     ensures fault { IfErr result (λ why. why ≡ drill.OutOfMemory) }
 {

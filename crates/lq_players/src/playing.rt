@@ -38,11 +38,14 @@ impl<T: Checks + Drop> Playing<T> {
     pub fn new(alloc: Global, dialect: Dialect, stamp: Stamp, command: T) -> Playing<T>
         requires reads { T.reads command dialect }
         requires moment { stamp.reading ≤ 253402300799999 }
-        ensures new { (n : ℕ) → IsNew n (stands T.meaning T.left T.way T.reads T.job T.ends result) }
+        ensures new { (n : ℕ)
+            → IsNew n (stands T.meaning T.left T.way T.reads T.job T.ends result) }
         ensures ready { (stands T.meaning T.left T.way T.reads T.job T.ends result).ready }
-        ensures dialect { (stands T.meaning T.left T.way T.reads T.job T.ends result).dialect ≡ dialect }
+        ensures dialect { (stands T.meaning T.left T.way T.reads T.job T.ends result).dialect
+            ≡ dialect }
         ensures stamp { result.runner.stamp ≡ stamp }
-        ensures job { (stands T.meaning T.left T.way T.reads T.job T.ends result).job ≡ T.job command dialect stamp }
+        ensures job { (stands T.meaning T.left T.way T.reads T.job T.ends result).job
+            ≡ T.job command dialect stamp }
     {
         Playing {
             runner: Runner::new(alloc, dialect, stamp, command),
@@ -62,10 +65,13 @@ impl<T: Checks + Drop> Playing<T> {
         requires live { IsTrue (S.state store.old).live }
         requires sql { P.dialect ≡ self.old.runner.dialect }
         requires ready { (stands T.meaning T.left T.way T.reads T.job T.ends self.old).ready }
-        requires opens { is_open session (S.state store.old).begun ≡ opens_as self.old.begun self.old.runner.hand }
+        requires opens { is_open session (S.state store.old).begun
+            ≡ opens_as self.old.begun self.old.runner.hand }
         requires going { self.old.answer ≡ None }
         ensures valid { S.valid store.new }
-        ensures took { Took session (stands T.meaning T.left T.way T.reads T.job T.ends self.old) (stands T.meaning T.left T.way T.reads T.job T.ends self.new) (S.state store.old) (S.state store.new) (S.crashes store.old) (S.crashes store.new) result }
+        ensures took { Took session (stands T.meaning T.left T.way T.reads T.job T.ends self.old)
+            (stands T.meaning T.left T.way T.reads T.job T.ends self.new) (S.state store.old)
+            (S.state store.new) (S.crashes store.old) (S.crashes store.new) result }
         ensures later { S.faults store.old ≤ S.faults store.new }
         ensures rose { result ≡ Err drill.Disk → Rose (S.faults store.old) (S.faults store.new) }
     {
@@ -91,7 +97,9 @@ impl<T: Checks + Drop> Playing<T> {
         requires closed { is_open session (S.state store.old).begun ≡ false }
         requires going { self.old.answer ≡ None }
         ensures valid { S.valid store.new }
-        ensures took { Took session (stands T.meaning T.left T.way T.reads T.job T.ends self.old) (stands T.meaning T.left T.way T.reads T.job T.ends self.new) (S.state store.old) (S.state store.new) (S.crashes store.old) (S.crashes store.new) result }
+        ensures took { Took session (stands T.meaning T.left T.way T.reads T.job T.ends self.old)
+            (stands T.meaning T.left T.way T.reads T.job T.ends self.new) (S.state store.old)
+            (S.state store.new) (S.crashes store.old) (S.crashes store.new) result }
         ensures later { S.faults store.old ≤ S.faults store.new }
         ensures rose { result ≡ Err drill.Disk → Rose (S.faults store.old) (S.faults store.new) }
     {
@@ -134,10 +142,15 @@ impl<T: Checks + Drop> Playing<T> {
         requires closed { is_open session (S.state store.old).begun ≡ false }
         ensures valid { S.valid store.new }
         ensures same { self.new.runner ≡ self.old.runner }
-        ensures begins { Begins self.old.runner.dialect self.old.runner.stamp session (S.state store.old) (S.state store.new) self.old.begun self.old.answer self.old.faulted self.new.begun self.new.answer self.new.faulted result }
-        ensures beside { Beside session (is_disk_answer result) (S.state store.old) (S.state store.new) }
-        ensures crash { CrashesOpening self.old.runner.dialect self.old.runner.stamp session (S.state store.old) (S.crashes store.old) (S.crashes store.new) }
-        ensures shuts { (S.state store.new).live ≡ true → is_open session (S.state store.new).begun ≡ false }
+        ensures begins { Begins self.old.runner.dialect self.old.runner.stamp session
+            (S.state store.old) (S.state store.new) self.old.begun self.old.answer self.old.faulted
+            self.new.begun self.new.answer self.new.faulted result }
+        ensures beside { Beside session (is_disk_answer result) (S.state store.old)
+            (S.state store.new) }
+        ensures crash { CrashesOpening self.old.runner.dialect self.old.runner.stamp session
+            (S.state store.old) (S.crashes store.old) (S.crashes store.new) }
+        ensures shuts { (S.state store.new).live ≡ true
+            → is_open session (S.state store.new).begun ≡ false }
         ensures later { S.faults store.old ≤ S.faults store.new }
         ensures rose { result ≡ Err drill.Disk → Rose (S.faults store.old) (S.faults store.new) }
     {
@@ -160,7 +173,8 @@ impl<T: Checks + Drop> Playing<T> {
     fn fail(&mut self, fault: StoreFault) -> Result<(), DrillFault>
         ensures runner { self.new.runner ≡ self.old.runner }
         ensures begun { self.new.begun ≡ self.old.begun }
-        ensures answers { Answers (Err (fault_of fault)) self.old.faulted self.new.answer self.new.faulted result }
+        ensures answers { Answers (Err (fault_of fault)) self.old.faulted self.new.answer
+            self.new.faulted result }
     {
         self.finish(Err(fault_of(fault)))
     }
@@ -196,10 +210,13 @@ impl<T: Checks + Drop> Playing<T> {
         requires sql { P.dialect ≡ self.old.runner.dialect }
         requires begun { self.old.begun ≡ true }
         requires ready { IsGoing T.reads self.old.faulted self.old.runner }
-        requires opens { is_open session (S.state store.old).begun ≡ asks_open self.old.runner.hand }
+        requires opens { is_open session (S.state store.old).begun
+            ≡ asks_open self.old.runner.hand }
         requires going { self.old.answer ≡ None }
         ensures valid { S.valid store.new }
-        ensures took { Took session (stands T.meaning T.left T.way T.reads T.job T.ends self.old) (stands T.meaning T.left T.way T.reads T.job T.ends self.new) (S.state store.old) (S.state store.new) (S.crashes store.old) (S.crashes store.new) result }
+        ensures took { Took session (stands T.meaning T.left T.way T.reads T.job T.ends self.old)
+            (stands T.meaning T.left T.way T.reads T.job T.ends self.new) (S.state store.old)
+            (S.state store.new) (S.crashes store.old) (S.crashes store.new) result }
         ensures later { S.faults store.old ≤ S.faults store.new }
         ensures rose { result ≡ Err drill.Disk → Rose (S.faults store.old) (S.faults store.new) }
     {
@@ -231,11 +248,15 @@ impl<T: Checks + Drop> Playing<T> {
         requires sql { P.dialect ≡ self.old.runner.dialect }
         requires begun { self.old.begun ≡ true }
         requires ready { IsGoing T.reads self.old.faulted self.old.runner }
-        requires opens { is_open session (S.state store.old).begun ≡ asks_open self.old.runner.hand }
+        requires opens { is_open session (S.state store.old).begun
+            ≡ asks_open self.old.runner.hand }
         requires going { self.old.answer ≡ None }
-        requires free { IsFree self.old.runner.dialect self.old.runner.stamp session (asks_open self.old.runner.hand) (S.state store.old) }
+        requires free { IsFree self.old.runner.dialect self.old.runner.stamp session
+            (asks_open self.old.runner.hand) (S.state store.old) }
         ensures valid { S.valid store.new }
-        ensures took { Took session (stands T.meaning T.left T.way T.reads T.job T.ends self.old) (stands T.meaning T.left T.way T.reads T.job T.ends self.new) (S.state store.old) (S.state store.new) (S.crashes store.old) (S.crashes store.new) result }
+        ensures took { Took session (stands T.meaning T.left T.way T.reads T.job T.ends self.old)
+            (stands T.meaning T.left T.way T.reads T.job T.ends self.new) (S.state store.old)
+            (S.state store.new) (S.crashes store.old) (S.crashes store.new) result }
         ensures later { S.faults store.old ≤ S.faults store.new }
         ensures rose { result ≡ Err drill.Disk → Rose (S.faults store.old) (S.faults store.new) }
     {

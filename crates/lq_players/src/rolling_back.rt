@@ -47,7 +47,9 @@ impl RollingBack {
     pub fn new(alloc: Global, changelog: Changelog, options: Options, target: Target) -> RollingBack
         requires read { AreFor options.dialect changelog }
         ensures read { IsRead result options.dialect }
-        ensures job { (dialect : Kind) (stamp : Clocked) → back_job result dialect stamp ≡ work_of dialect (task_for (Rollback target) options changelog stamp) }
+        ensures job { (dialect : Kind) (stamp : Clocked)
+            → back_job result dialect stamp
+            ≡ work_of dialect (task_for (Rollback target) options changelog stamp) }
     {
         RollingBack {
             alloc,
@@ -66,7 +68,9 @@ impl RollingBack {
         look: &K,
     ) -> Result<Option<RowTurns>, Verdict>
         requires read { IsRead self.now dialect }
-        ensures plans { (database : Database) → StandsFor dialect (K.catalogue look.now) database → Plans self.now dialect database.rows result }
+        ensures plans { (database : Database)
+            → StandsFor dialect (K.catalogue look.now) database
+            → Plans self.now dialect database.rows result }
         ensures new { IfOk result (AreNew dialect) }
         ensures refusal { IfErr result IsRefusal }
     {
@@ -100,8 +104,11 @@ impl RollingBack {
         rows: &[Tracked],
     ) -> Result<Option<RowTurns>, Verdict>
         requires read { IsRead self.now dialect }
-        ensures passes { Passes (unreachable_by dialect (view_log self.now.options self.now.changelog) (rows_kept self.now.target rows.now) rows.now) result }
-        ensures turns { IfOk result (λ turns. back_turns self.now dialect rows.now ≡ Some (turns_in turns)) }
+        ensures passes { Passes
+            (unreachable_by dialect (view_log self.now.options self.now.changelog)
+            (rows_kept self.now.target rows.now) rows.now) result }
+        ensures turns { IfOk result
+            (λ turns. back_turns self.now dialect rows.now ≡ Some (turns_in turns)) }
         ensures new { IfOk result (AreNew dialect) }
         ensures refusal { IfErr result IsRefusal }
     {
@@ -113,8 +120,11 @@ impl RollingBack {
 
 // The rows that a rollback to the target takes back.
 fn rows_behind<'a>(rows: &'a [Tracked], target: &Target) -> Result<&'a [Tracked], Verdict>
-    ensures undone { IfOk result (λ left. option_map (λ stay. rows_undone stay rows.now) (rows_kept target.now rows.now) ≡ Some (reverse left.now)) }
-    ensures missing { IfErr result (λ v. (v ≡ verdict.Answer NoTarget) × (rows_kept target.now rows.now ≡ None)) }
+    ensures undone { IfOk result (λ left.
+        option_map (λ stay. rows_undone stay rows.now) (rows_kept target.now rows.now)
+        ≡ Some (reverse left.now)) }
+    ensures missing { IfErr result
+        (λ v. (v ≡ verdict.Answer NoTarget) × (rows_kept target.now rows.now ≡ None)) }
 {
     match rows_to_undo(rows, target) {
         Ok(undone) => Ok(undone),
@@ -129,7 +139,11 @@ fn ways_of(
     rows: &[Tracked],
 ) -> Result<Items<TakenBack>, Verdict>
     ensures ways { IfOk result (λ ways. AreWays changelog.now.sets rows.now ways) }
-    ensures passes { (options : Asked) → Passes (if_not (not_reversible options.dialect any_meaning (views options changelog.now.sets) (reverse rows.now))) result }
+    ensures passes { (options : Asked)
+        → Passes
+        (if_not
+        (not_reversible options.dialect any_meaning (views options changelog.now.sets)
+        (reverse rows.now))) result }
     ensures refusal { IfErr result IsRefusal }
 {
     match reversible(alloc, changelog, rows) {
@@ -149,7 +163,10 @@ fn turns_of(
 ) -> Result<Option<RowTurns>, Verdict>
     requires read { AreFor dialect changelog.now }
     requires ways { AreWays changelog.now.sets rows.now ways.now }
-    ensures turns { IfOk result (λ turns. (options : Asked) → undo_turns dialect any_meaning (views options changelog.now.sets) (reverse rows.now) ≡ Some (turns_in turns)) }
+    ensures turns { IfOk result (λ turns.
+        (options : Asked)
+        → undo_turns dialect any_meaning (views options changelog.now.sets) (reverse rows.now)
+        ≡ Some (turns_in turns)) }
     ensures new { IfOk result (AreNew dialect) }
     ensures lack { IfErr result (λ v. v ≡ verdict.Lack) }
 {

@@ -86,7 +86,9 @@ fn seen_plan<K: Look>(
     look: &K,
 ) -> Result<Plan, NoMemory>
     requires { reading ≤ 253402300799999 }
-    ensures { IfOk result (λ plan. PlansOn dialect reading (view_log options.now changelog.now).sets (K.catalogue look.now) plan) }
+    ensures { IfOk result (λ plan.
+        PlansOn dialect reading (view_log options.now changelog.now).sets (K.catalogue look.now)
+        plan) }
 {
     let rows = rows_in(alloc, dialect, look)?;
     rows_plan(alloc, reading, options, changelog, rows.as_slice())
@@ -101,7 +103,8 @@ fn rows_plan(
     rows: &[Tracked],
 ) -> Result<Plan, NoMemory>
     requires { reading ≤ 253402300799999 }
-    ensures { IfOk result (λ plan. PlansFor reading (view_log options.now changelog.now).sets rows.now plan) }
+    ensures { IfOk result
+        (λ plan. PlansFor reading (view_log options.now changelog.now).sets rows.now plan) }
 {
     let found = faults_of(alloc, options, changelog, rows)?;
     if !found.is_empty() {
@@ -143,7 +146,8 @@ fn refused_row(
 
 // The first of these rows that does not go in behind those before.
 fn first_out<'a>(before: &[Tracked], rows: &'a [Tracked]) -> Option<&'a Tracked>
-    ensures { option_map identity_of (option_copied result) ≡ refused_at (insert_stop rows.now before.now) }
+    ensures { option_map identity_of (option_copied result)
+        ≡ refused_at (insert_stop rows.now before.now) }
 {
     let mut count = before.len();
     let mut rest = rows;

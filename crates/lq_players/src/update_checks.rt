@@ -57,7 +57,9 @@ fn plan_on<K: Look>(
     rows: &[Tracked],
 ) -> Result<SetTurns, Verdict>
     requires asked { IsAskedFor asked dialect }
-    requires rows { (database : Database) → StandsFor dialect (K.catalogue look.now) database → database.rows ≡ rows.now }
+    requires rows { (database : Database)
+        → StandsFor dialect (K.catalogue look.now) database
+        → database.rows ≡ rows.now }
     ensures reads { IfOk result (λ source. IsReadFor source dialect) }
     ensures plans { Plans dialect asked (K.catalogue look.now) result }
     ensures refusal { IfErr result IsRefusal }
@@ -80,7 +82,10 @@ fn check_turns<K: Look>(
 ) -> Result<(), Verdict>
     requires asked { IsAskedFor asked.now dialect }
     ensures turns { IfOk result (λ u. HaveTurns (log_of asked.now).sets rows.now) }
-    ensures comes { (database : Database) → StandsFor dialect (K.catalogue look.now) database → database.rows ≡ rows.now → Comes dialect asked.now database result }
+    ensures comes { (database : Database)
+        → StandsFor dialect (K.catalogue look.now) database
+        → database.rows ≡ rows.now
+        → Comes dialect asked.now database result }
     ensures refusal { IfErr result IsRefusal }
 {
     check_faults(alloc, &asked.options, &asked.changelog, rows)?;
@@ -97,7 +102,10 @@ fn check_own<K: Look>(
     rows: &[Tracked],
 ) -> Result<(), Verdict>
     requires dialect { asked.now.options.dialect ≡ dialect }
-    ensures passes { (database : Database) → StandsFor dialect (K.catalogue look.now) database → database.rows ≡ rows.now → Passes (own_halt (log_of asked.now) database) result }
+    ensures passes { (database : Database)
+        → StandsFor dialect (K.catalogue look.now) database
+        → database.rows ≡ rows.now
+        → Passes (own_halt (log_of asked.now) database) result }
     ensures refusal { IfErr result IsRefusal }
 {
     match own_choice(alloc, &asked.changelog, dialect, look, rows) {

@@ -40,7 +40,9 @@ impl Updating {
         requires read { AreFor options.dialect changelog }
         requires texts { All HasTexts (view_log options changelog).sets }
         ensures reads { IsUpdateFor result options.dialect }
-        ensures job { (d : Kind) (stamp : Clocked) → update_job result d stamp ≡ work_of d (task_for command.Update options changelog stamp) }
+        ensures job { (d : Kind) (stamp : Clocked)
+            → update_job result d stamp
+            ≡ work_of d (task_for command.Update options changelog stamp) }
     {
         Updating {
             alloc,

@@ -52,6 +52,9 @@ no_tag_line tag = log_line (codes "no changeset has the tag " ++ tag)
 unfoldable pub not_reversible_line : Identity → List ℕ
 not_reversible_line identity = log_line (codes "no rollback for " ++ identity_text identity)
 
+unfoldable pub not_writable_line : List ℕ → List ℕ
+not_writable_line at = log_line (codes "cannot write " ++ at)
+
 unfoldable pub damaged_line : ℕ → List ℕ
 damaged_line at = said (codes "database damaged at " ++ decimal at)
 

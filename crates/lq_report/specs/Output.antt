@@ -71,6 +71,10 @@ tagged_text tag = codes "tagged " ++ tag ++ codes "\n"
 abbrev pub validated_text : List ℕ
 validated_text = codes "no validation faults\n"
 
+-- clear-checksums: how many rows there are
+abbrev pub cleared_text : ℕ → List ℕ
+cleared_text count = codes "checksums cleared: " ++ decimal count ++ codes "\n"
+
 -- undo-unrecorded: the changeset, and how many of its statements were taken back
 unfoldable pub undone_text : Identity → ℕ → List ℕ
 undone_text identity count = codes "undone " ++ identity_text identity ++ codes ", " ++ decimal count ++ codes " statements\n"

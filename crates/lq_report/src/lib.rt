@@ -2,6 +2,7 @@
 #![tactic(auto)]
 
 mod changelog_log;
+mod cleared;
 mod drill;
 mod fixed;
 mod happened;
@@ -20,6 +21,7 @@ mod validation_log;
 pub use changelog_log::{
     append_dialect_fault, append_file_fault, append_key_fault, append_line_fault, append_no_file,
 };
+pub use cleared::cleared_text;
 pub use drill::{Drilled, drill_text};
 pub use fixed::{FixedLine, validated_text};
 pub use happened::{rollback_text, sync_text, update_text};
@@ -29,7 +31,7 @@ pub use mark::{Mark, mark_of};
 pub use printed::sql_text;
 pub use run_log::{
     append_busy, append_damaged, append_full, append_halted, append_no_tag, append_not_reversible,
-    append_refused, append_warning,
+    append_not_writable, append_refused, append_warning,
 };
 pub use soak::{Soaked, soak_text};
 pub use status::{status_text, tagged_text, undone_text};

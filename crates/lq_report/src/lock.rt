@@ -12,7 +12,8 @@ use lq_words::append_held;
 use std::alloc::Global;
 
 fn mark_in(lock: &Lock) -> Option<Mark<'_>>
-    ensures { option_map (λ mark. (mark.identity.now, mark.form, mark.statement.now)) result ≡ lock_mark lock.now }
+    ensures { option_map (λ mark. (mark.identity.now, mark.form, mark.statement.now)) result
+        ≡ lock_mark lock.now }
 {
     match &lock.by {
         Some(by) => mark_of(by.as_str()),
@@ -21,7 +22,13 @@ fn mark_in(lock: &Lock) -> Option<Mark<'_>>
 }
 
 fn append_mark_log(alloc: Global, mark: &Mark, to: &mut Text) -> Result<(), NoMemory>
-    ensures { OnOk result (to.new ≡ to.old ++ log_line (codes "unrecorded: " ++ mark_text (mark.now.identity.now, mark.now.form, mark.now.statement.now))) }
+    ensures { OnOk result
+        (to.new
+        ≡ to.old
+        ++ log_line
+        (codes "unrecorded: "
+        ++ mark_text
+        (mark.now.identity.now, mark.now.form, mark.now.statement.now))) }
 {
     let mut text = Text::new(alloc, "")?;
     append_mark("unrecorded: ", mark, "", &mut text)?;

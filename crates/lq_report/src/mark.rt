@@ -52,7 +52,8 @@ fn statement_of(text: &str) -> (Form, &str)
 /// `WHO|IDENTITY|back K`, in which WHO has no `|` and K is a whole number from 1 in decimal digits without leading zeros.
 #[tactic(auto, unfolding(crate::specs::Mark::mark_of))]
 pub fn mark_of(by: &str) -> Option<Mark<'_>>
-    ensures { option_map (λ mark. (mark.identity.now, mark.form, mark.statement.now)) result ≡ mark_of by.now }
+    ensures { option_map (λ mark. (mark.identity.now, mark.form, mark.statement.now)) result
+        ≡ mark_of by.now }
 {
     let (_, marked) = by.split_once('|')?;
     let (identity, end) = at_last_bar(marked)?;
@@ -74,7 +75,15 @@ pub(crate) fn append_mark(
     after: &str,
     to: &mut Text,
 ) -> Result<(), NoMemory>
-    ensures { OnOk result (to.new ≡ to.old ++ (before.now ++ (mark_text (mark.now.identity.now, mark.now.form, mark.now.statement.now) ++ after.now))) }
+    ensures { OnOk result
+        (to.new
+        ≡ to.old
+        ++
+        (before.now
+        ++
+        (mark_text
+        (mark.now.identity.now, mark.now.form, mark.now.statement.now)
+        ++ after.now))) }
 {
     let kind = match mark.form {
         Form::Run => ", statement ",

@@ -12,7 +12,8 @@ pub(crate) fn append_named(
     after: &str,
     to: &mut Text,
 ) -> Result<(), NoMemory>
-    ensures { OnOk result (to.new ≡ to.old ++ (before.now ++ (identity_text identity.now ++ after.now))) }
+    ensures { OnOk result
+        (to.new ≡ to.old ++ (before.now ++ (identity_text identity.now ++ after.now))) }
 {
     to.push_str(before)?;
     identity.append_to(to)?;
@@ -40,7 +41,8 @@ pub(crate) fn append_place(
     after: &str,
     to: &mut Text,
 ) -> Result<(), NoMemory>
-    ensures { OnOk result (to.new ≡ to.old ++ (before.now ++ (place_text place.entry ++ after.now))) }
+    ensures { OnOk result
+        (to.new ≡ to.old ++ (before.now ++ (place_text place.entry ++ after.now))) }
 {
     match place {
         Some(identity) => append_named(before, identity, after, to),

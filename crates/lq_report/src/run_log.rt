@@ -1,5 +1,5 @@
 ghost use Rattle.std.specs.Prelude.{◌≡◌, ◌++◌, OnOk};
-ghost use Rattle.lq_report.specs.Log.{warning_line, halted_line, refused_line, no_tag_line, not_reversible_line, damaged_line, full_line, busy_line};
+ghost use Rattle.lq_report.specs.Log.{warning_line, halted_line, refused_line, no_tag_line, not_reversible_line, not_writable_line, damaged_line, full_line, busy_line};
 
 use crate::log_line::{append_line, append_parts};
 use crate::parts::{append_counted, append_named, append_place, append_why};
@@ -79,6 +79,14 @@ pub fn append_not_reversible(
     let mut text = Text::new(alloc, "no rollback for ")?;
     identity.append_to(&mut text)?;
     append_line(alloc, text.as_str(), to)
+}
+
+/// Appends the line for what a generated changelog cannot say.
+#[tactic(auto, unfolding(crate::specs::Log::not_writable_line))]
+pub fn append_not_writable(alloc: Global, at: &str, to: &mut Text) -> Result<(), NoMemory>
+    ensures { OnOk result (to.new ≡ to.old ++ not_writable_line at.now) }
+{
+    append_parts(alloc, &["cannot write ", at], to)
 }
 
 /// Appends the line for a database file that is damaged from this byte on.

@@ -16,7 +16,7 @@ use Rattle.lq_store.specs.Calls.{Fails}
 use Rattle.lq_store.specs.Journal.{Entry}
 use Rattle.lq_store.specs.State.{State}
 use Rattle.lq_track.specs.Database.{Database}
-use Rattle.lq_turns.specs.Script.{closing, opening, release_calls, tag_calls}
+use Rattle.lq_turns.specs.Script.{clear_calls, closing, opening, release_calls, tag_calls}
 use Rattle.lq_turns.specs.Session.{Session, all_called, called, session_on}
 use Rattle.lq_turns.specs.Set.{Meaning}
 use Rattle.lq_turns.specs.Stops.{Journal, has_mark, is_mark}
@@ -30,10 +30,10 @@ use Rattle.lq_run.proofs.Replayed.{in_closed, in_closing, in_front, none_in}
 use Rattle.lq_run.proofs.Since.{front_of_map}
 use Rattle.lq_run.proofs.Stopped.{fails}
 use Rattle.lq_run.specs.Commands.{HasDatabase, Leaves, RunsWhole, script}
-use Rattle.lq_run.specs.Crashes.{BehindAll, BehindOpened, BehindReleased, BehindTagged, LeftBehind, LeftInCommand}
+use Rattle.lq_run.specs.Crashes.{BehindAll, BehindCleared, BehindOpened, BehindReleased, BehindTagged, LeftBehind, LeftInCommand}
 use Rattle.lq_run.specs.Ends.{BreaksBefore, EndsAs, IsBefore, StandsBefore}
 use Rattle.lq_run.specs.Holds.{IsBare}
-use Rattle.lq_run.specs.Left.{LeavesOnce, LeavesOpened, LeavesReleased, LeavesTagged}
+use Rattle.lq_run.specs.Left.{LeavesCleared, LeavesOnce, LeavesOpened, LeavesReleased, LeavesTagged}
 use Rattle.lq_run.specs.Stands.{Stands, entries_of, entry_of}
 use Rattle.lq_run.specs.Steps.{Standing, place}
 use Rattle.lq_run.specs.declared.runner.End.{End}
@@ -94,6 +94,9 @@ module _ (read : StatementsReadBack) (d : Dialect) (x y : State) (result : Resul
 
   pub tag_behind : (of : Identity) (tag : List ℕ) → LeavesTagged d of tag x result y → BehindTagged d of tag x y
   tag_behind of tag leaves database row has last_is of_is fit = once_behind read d (tag_calls tag database) database x y fit has result (leaves database row has last_is of_is fit)
+
+  pub clear_behind : LeavesCleared d x result y → BehindCleared d x y
+  clear_behind leaves database has some fit = once_behind read d (clear_calls database) database x y fit has result (leaves database has some fit)
 
   pub release_behind : LeavesReleased d x result y → BehindReleased d x y
   release_behind leaves database has locked fit = once_behind read d (release_calls database) database x y fit has result (leaves database has locked fit)

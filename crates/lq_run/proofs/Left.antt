@@ -18,7 +18,7 @@ use Rattle.lq_track.specs.Database.{Database}
 use Rattle.lq_turns.specs.Contents.{contents_of, with_contents}
 use Rattle.lq_turns.specs.Deed.{all_done, done, lock_after}
 use Rattle.lq_turns.specs.Held.{StandsFor, all_fit}
-use Rattle.lq_turns.specs.Script.{closing, opening, release_calls, tag_calls, tag_of}
+use Rattle.lq_turns.specs.Script.{clear_calls, clearing, closing, opening, release_calls, tag_calls, tag_of}
 use Rattle.lq_turns.specs.Session.{Session, accepted, all_called, all_executed, all_executed_as, called, session_on}
 use Rattle.lq_turns.specs.declared.call.Call.{Call}
 use Rattle.lq_turns.specs.declared.call.Call.TheVariants.{Alone}
@@ -26,7 +26,7 @@ use Rattle.lq_turns.specs.declared.deed.Deed.{Deed}
 use Rattle.lq_turns.specs.declared.deed.Deed.TheVariants.{Locks, Rows}
 use Rattle.lq_turns.specs.declared.deed.OnLock.{OnLock}
 use Rattle.lq_turns.specs.declared.deed.OnLock.TheVariants.{Freed}
-use Rattle.lq_turns.specs.declared.deed.OnRows.TheVariants.{Tagged}
+use Rattle.lq_turns.specs.declared.deed.OnRows.TheVariants.{Cleared, Tagged}
 use Rattle.lq_turns.specs.declared.stamp.Stamp.{Stamp}
 use Rattle.lq_beside.specs.Replays.{calls_fit}
 use Rattle.lq_run.proofs.Full.{full_once}
@@ -34,7 +34,7 @@ use Rattle.lq_run.proofs.Grows.{closing_entry}
 use Rattle.lq_run.proofs.Rooms.{no_entries}
 use Rattle.lq_run.specs.Commands.{HasDatabase, Leaves}
 use Rattle.lq_run.specs.Does.{AloneFor, Breaks, DoesAlone, HasNoRoom}
-use Rattle.lq_run.specs.Left.{LeavesOnce, LeavesOpened, LeavesReleased, LeavesTagged}
+use Rattle.lq_run.specs.Left.{LeavesCleared, LeavesOnce, LeavesOpened, LeavesReleased, LeavesTagged}
 use Rattle.lq_run.specs.Opens.{TakesLock}
 use Rattle.lq_run.specs.Stands.{HadRoom, IsBegun, Stands, entries_of}
 
@@ -122,6 +122,12 @@ module _ (d : Dialect) (number : ℕ) (x y : State) (result : Result (Unit {0}) 
       let same : tag_calls tag database ≡ Alone (Rows (Tagged of tag) ∷ []) Ordinary ∷ [] = ap (tag_of tag) last ∙ ap (λ i. Alone (Rows (Tagged i tag) ∷ []) Ordinary ∷ []) is in
       subst (λ calls. LeavesOnce d calls database x result y) (sym same)
       (alone_leaves (Rows (Tagged of tag) ∷ []) Ordinary database has (inl refl) (λ reason refused. ok_err refused) (subst (λ calls. calls_fit d calls (session_on database) ≡ true) same fits) alone)
+
+  pub clear_leaves : AloneFor d number (Rows Cleared ∷ []) Ordinary x result y → LeavesCleared d x result y
+  clear_leaves alone database has some fits =
+      let same : clear_calls database ≡ clearing ∷ [] = ap (λ b. if b then [] else clearing ∷ []) some in
+      subst (λ calls. LeavesOnce d calls database x result y) (sym same)
+      (alone_leaves (Rows Cleared ∷ []) Ordinary database has (inl refl) (λ reason refused. ok_err refused) (subst (λ calls. calls_fit d calls (session_on database) ≡ true) same fits) alone)
 
   pub release_leaves : AloneFor d number (Locks Freed ∷ []) Release x result y → LeavesReleased d x result y
   release_leaves alone database has locked fits =

@@ -34,9 +34,9 @@ use Rattle.lq_turns.specs.declared.call.Call.TheVariants.{Abort, Alone, Begin, C
 use Rattle.lq_turns.specs.declared.deed.Deed.{Deed}
 use Rattle.lq_turns.specs.declared.deed.Deed.TheVariants.{Locks, Rows, Users}
 use Rattle.lq_turns.specs.declared.deed.OnLock.TheVariants.{Freed, LockMade, LockRowMade, LogMade, Marked, Taken}
-use Rattle.lq_turns.specs.declared.deed.OnRows.TheVariants.{Deleted, Filled, Inserted, Renewed, Tagged}
+use Rattle.lq_turns.specs.declared.deed.OnRows.TheVariants.{Cleared, Deleted, Filled, Inserted, Renewed, Tagged}
 use Rattle.lq_run.proofs.Grows.{closing_entry}
-use Rattle.lq_run.proofs.Stated.{stated_again, stated_deleted, stated_filled, stated_freed, stated_inserted, stated_lock, stated_lock_row, stated_log, stated_marked, stated_tagged, stated_taken}
+use Rattle.lq_run.proofs.Stated.{stated_again, stated_cleared, stated_deleted, stated_filled, stated_freed, stated_inserted, stated_lock, stated_lock_row, stated_log, stated_marked, stated_tagged, stated_taken}
 use Rattle.lq_run.specs.Crashes.{LeftInCommand}
 use Rattle.lq_run.specs.Ends.{CameFrom, IsBefore}
 use Rattle.lq_run.specs.Stands.{deed_text, entries_of, entry_of}
@@ -72,6 +72,7 @@ module _ (d : Dialect) where
   is_stated (Rows (Deleted of)) a b fit is = stated_deleted d of
   is_stated (Rows (Filled of sum)) a b fit is = stated_filled d of sum
   is_stated (Rows (Tagged of tag)) a b fit is = stated_tagged d of tag
+  is_stated (Rows Cleared) a b fit is = stated_cleared d
   is_stated (Locks LogMade) a b fit is = stated_log d
   is_stated (Locks LockMade) a b fit is = stated_lock d
   is_stated (Locks LockRowMade) a b fit is = stated_lock_row d

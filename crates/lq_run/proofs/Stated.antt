@@ -14,7 +14,7 @@ use Rattle.lq_model.specs.declared.statement.Statement.{Statement}
 use Rattle.lq_track.specs.Columns.{text_or_null}
 use Rattle.lq_track.specs.Lock.{lock_column, lock_key_name, lock_order, lock_table, lock_value}
 use Rattle.lq_track.specs.Log.{again_order, log_column, log_order, log_table, log_value}
-use Rattle.lq_track.specs.Statements.{lock_freed, lock_made, lock_marked, lock_row_made, lock_taken, log_made, row_again, row_deleted, row_inserted, sum_filled, tag_set}
+use Rattle.lq_track.specs.Statements.{lock_freed, lock_made, lock_marked, lock_row_made, lock_taken, log_made, row_again, row_deleted, row_inserted, sum_filled, sums_cleared, tag_set}
 
 -- what is made of memory that there is
 pub if_made : {F : Type 0} (d : Dialect) (result : Result Statement F) (made : Statement) → IfOk result (λ s. s ≡ made) → is_statement d made ≡ true → IfOk result (λ s. is_statement d s ≡ true)
@@ -76,3 +76,7 @@ stated_filled d of sum = refl
 pub stated_tagged : (d : Dialect) (of : Identity) (tag : List ℕ) → is_statement d (tag_set of tag) ≡ true
 unfolding log_table log_column Rattle.lq_model.specs.declared.test.Test.TheBlock.hidden-the_row-Test-0 denote.Hole.Carrier.hidden
 stated_tagged d of tag = refl
+
+pub stated_cleared : (d : Dialect) → is_statement d sums_cleared ≡ true
+unfolding log_table log_column
+stated_cleared d = refl

@@ -15,7 +15,7 @@ use Rattle.lq_store.specs.State.{State}
 use Rattle.lq_track.specs.Database.{Database}
 use Rattle.lq_turns.specs.Held.{all_fit}
 use Rattle.lq_turns.specs.Rest.{rest}
-use Rattle.lq_turns.specs.Script.{closing, opening, release_calls, tag_calls, tag_of}
+use Rattle.lq_turns.specs.Script.{clear_calls, clearing, closing, opening, release_calls, tag_calls, tag_of}
 use Rattle.lq_turns.specs.Session.{Session, all_called, called, session_on}
 use Rattle.lq_turns.specs.Set.{Meaning}
 use Rattle.lq_turns.specs.Stops.{Journal, has_mark, is_mark}
@@ -24,7 +24,7 @@ use Rattle.lq_turns.specs.declared.call.Call.TheVariants.{Alone}
 use Rattle.lq_turns.specs.declared.deed.Deed.{Deed}
 use Rattle.lq_turns.specs.declared.deed.Deed.TheVariants.{Locks, Rows}
 use Rattle.lq_turns.specs.declared.deed.OnLock.TheVariants.{Freed}
-use Rattle.lq_turns.specs.declared.deed.OnRows.TheVariants.{Tagged}
+use Rattle.lq_turns.specs.declared.deed.OnRows.TheVariants.{Cleared, Tagged}
 use Rattle.lq_turns.specs.declared.stamp.Stamp.{Stamp}
 use Rattle.lq_beside.specs.Replays.{calls_fit}
 use Rattle.lq_run.proofs.Begins.{ends_script, first_session}
@@ -35,7 +35,7 @@ use Rattle.lq_run.proofs.Replayed.{in_closed, in_front}
 use Rattle.lq_run.proofs.Since.{leave_then, leave_wider}
 use Rattle.lq_run.proofs.Whole.{is_taken}
 use Rattle.lq_run.specs.Commands.{HasDatabase, IsNew, MayRun, both_on, script}
-use Rattle.lq_run.specs.Crashes.{CrashesAll, CrashesLeave, CrashesOpened, CrashesReleased, CrashesTagged, LeftInCommand}
+use Rattle.lq_run.specs.Crashes.{CrashesAll, CrashesCleared, CrashesLeave, CrashesOpened, CrashesReleased, CrashesTagged, LeftInCommand}
 use Rattle.lq_run.specs.Crashing.{CrashesFor, CrashesOn, CrashesOpening, LeftInCall, LeftInRun}
 use Rattle.lq_run.specs.Ends.{CameFrom, IsBefore, at_end}
 use Rattle.lq_run.specs.Holds.{IsBare}
@@ -69,6 +69,12 @@ module _ (read : StatementsReadBack) (d : Dialect) (number : ℕ) (x : State) (a
       let same : tag_calls tag database ≡ Alone (Rows (Tagged of tag) ∷ []) Ordinary ∷ [] = ap (tag_of tag) last ∙ ap (λ i. Alone (Rows (Tagged i tag) ∷ []) Ordinary ∷ []) is in
       subst (λ calls. CrashesLeave x.entries (LeftInCommand d calls database) a b) (sym same)
       (once (Rows (Tagged of tag) ∷ []) Ordinary database has (subst (λ calls. calls_fit d calls (session_on database) ≡ true) same fits) crash)
+
+  pub cleared : CrashesFor d number clearing x a b → CrashesCleared d x a b
+  cleared crash database has some fits =
+      let same : clear_calls database ≡ clearing ∷ [] = ap (λ b. if b then [] else clearing ∷ []) some in
+      subst (λ calls. CrashesLeave x.entries (LeftInCommand d calls database) a b) (sym same)
+      (once (Rows Cleared ∷ []) Ordinary database has (subst (λ calls. calls_fit d calls (session_on database) ≡ true) same fits) crash)
 
   pub released : CrashesFor d number closing x a b → CrashesReleased d x a b
   released crash database has locked fits =

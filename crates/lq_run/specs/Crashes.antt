@@ -4,6 +4,7 @@ use Rattle.lq_base.specs.declared.dialect.Dialect.{Dialect}
 use Rattle.lq_base.specs.declared.identity.Identity.{Identity}
 use Rattle.lq_base.specs.declared.tracking.Tracked.{Tracked}
 use Rattle.lq_model.specs.Catalogue.{Catalogue}
+use Rattle.lq_model.specs.Names.{is_empty}
 use Rattle.lq_model.specs.declared.caller.Room.TheVariants.{Ordinary}
 use Rattle.lq_store.specs.Crashes.{Crashes}
 pub use Rattle.lq_store.specs.Crashes.{CrashesLeave, Since}
@@ -13,7 +14,7 @@ use Rattle.lq_track.specs.Database.{Database}
 use Rattle.lq_track.specs.Log.{identity_of}
 use Rattle.lq_turns.specs.Deed.{all_done}
 use Rattle.lq_turns.specs.Held.{StandsFor}
-use Rattle.lq_turns.specs.Script.{last_row, opening, release_calls, tag_calls}
+use Rattle.lq_turns.specs.Script.{clear_calls, last_row, opening, release_calls, tag_calls}
 use Rattle.lq_turns.specs.Session.{session_on}
 use Rattle.lq_turns.specs.Set.{Meaning}
 use Rattle.lq_turns.specs.Stops.{IsLeft, Journal, is_mark, joined}
@@ -51,6 +52,11 @@ abbrev pub CrashesTagged : Dialect → Identity → List ℕ → State → Crash
 CrashesTagged d of tag x before now = (database : Database) (row : Tracked) → HasDatabase d x database → last_row database.rows ≡ Some row → identity_of row ≡ of
     → calls_fit d (tag_calls tag database) (session_on database) ≡ true → CrashesLeave x.entries (LeftInCommand d (tag_calls tag database) database) before now
 
+-- a clear-checksums', on every database with rows
+abbrev pub CrashesCleared : Dialect → State → Crashes → Crashes → Type 0
+CrashesCleared d x before now = (database : Database) → HasDatabase d x database → is_empty database.rows ≡ false
+    → calls_fit d (clear_calls database) (session_on database) ≡ true → CrashesLeave x.entries (LeftInCommand d (clear_calls database) database) before now
+
 -- a release-locks', on every database whose lock is held
 abbrev pub CrashesReleased : Dialect → State → Crashes → Crashes → Type 0
 CrashesReleased d x before now = (database : Database) → HasDatabase d x database → database.lock.locked ≡ true
@@ -70,6 +76,10 @@ BehindOpened d stamp x y = (database : Database) → HasDatabase d x database �
 abbrev pub BehindTagged : Dialect → Identity → List ℕ → State → State → Type 0
 BehindTagged d of tag x y = (database : Database) (row : Tracked) → HasDatabase d x database → last_row database.rows ≡ Some row → identity_of row ≡ of
     → calls_fit d (tag_calls tag database) (session_on database) ≡ true → LeftBehind d (tag_calls tag database) database x y
+
+-- of a clear-checksums
+abbrev pub BehindCleared : Dialect → State → State → Type 0
+BehindCleared d x y = (database : Database) → HasDatabase d x database → is_empty database.rows ≡ false → calls_fit d (clear_calls database) (session_on database) ≡ true → LeftBehind d (clear_calls database) database x y
 
 -- of a release-locks
 abbrev pub BehindReleased : Dialect → State → State → Type 0

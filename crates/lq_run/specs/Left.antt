@@ -4,6 +4,7 @@ use Rattle.std.specs.Prelude.{Err, List, Ok, Result, Some, [], false, map, true,
 use Rattle.lq_base.specs.declared.dialect.Dialect.{Dialect}
 use Rattle.lq_base.specs.declared.identity.Identity.{Identity}
 use Rattle.lq_base.specs.declared.tracking.Tracked.{Tracked}
+use Rattle.lq_model.specs.Names.{is_empty}
 use Rattle.lq_model.specs.declared.caller.Room.{Room}
 use Rattle.lq_model.specs.declared.caller.Room.TheVariants.{Ordinary}
 use Rattle.lq_model.specs.declared.fault.StoreFault.{StoreFault}
@@ -14,7 +15,7 @@ use Rattle.lq_store.specs.State.{State}
 use Rattle.lq_track.specs.Database.{Database}
 use Rattle.lq_track.specs.Log.{identity_of}
 use Rattle.lq_turns.specs.Deed.{all_done}
-use Rattle.lq_turns.specs.Script.{last_row, opening, release_calls, tag_calls}
+use Rattle.lq_turns.specs.Script.{clear_calls, last_row, opening, release_calls, tag_calls}
 use Rattle.lq_turns.specs.Session.{all_called, session_on}
 use Rattle.lq_turns.specs.Set.{Meaning}
 use Rattle.lq_turns.specs.Stops.{IsLeft, Journal, is_mark, joined}
@@ -60,6 +61,11 @@ LeavesOpened d stamp x result y = (database : Database) → HasDatabase d x data
 abbrev pub LeavesTagged : Dialect → Identity → List ℕ → State → Result (Unit {0}) StoreFault → State → Type 0
 LeavesTagged d of tag x result y = (database : Database) (row : Tracked) → HasDatabase d x database → last_row database.rows ≡ Some row → identity_of row ≡ of
     → calls_fit d (tag_calls tag database) (session_on database) ≡ true → LeavesOnce d (tag_calls tag database) database x result y
+
+-- a clear-checksums', on every database with rows
+abbrev pub LeavesCleared : Dialect → State → Result (Unit {0}) StoreFault → State → Type 0
+LeavesCleared d x result y = (database : Database) → HasDatabase d x database → is_empty database.rows ≡ false
+    → calls_fit d (clear_calls database) (session_on database) ≡ true → LeavesOnce d (clear_calls database) database x result y
 
 -- a release-locks', on every database whose lock is held
 abbrev pub LeavesReleased : Dialect → State → Result (Unit {0}) StoreFault → State → Type 0

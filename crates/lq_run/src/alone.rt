@@ -1,18 +1,18 @@
 ghost use Rattle.std.specs.Prelude.{◌≡◌, ◌++◌, ◌∷◌, ◌≤◌, [], IfErr, IfOk, IsTrue, OnOk, false, is_some, map, nat_lt, option_map, true, unwrap_or};
 ghost use Rattle.lq_model.specs.Catalogue.{table_of};
 ghost use Rattle.lq_run.specs.Beside.{Beside, is_disk_result};
-ghost use Rattle.lq_run.specs.Crashes.{BehindOpened, BehindReleased, BehindTagged, CrashesOpened, CrashesReleased, CrashesTagged};
+ghost use Rattle.lq_run.specs.Crashes.{BehindCleared, BehindOpened, BehindReleased, BehindTagged, CrashesCleared, CrashesOpened, CrashesReleased, CrashesTagged};
 ghost use Rattle.lq_run.specs.Crashing.{CrashesFor, CrashesOpening};
 ghost use Rattle.lq_store.specs.Crashes.{CrashesLeave, Keeps};
 ghost use Rattle.lq_run.specs.Does.{AllWritable, AloneFor};
-ghost use Rattle.lq_run.specs.Left.{LeavesOpened, LeavesReleased, LeavesTagged};
+ghost use Rattle.lq_run.specs.Left.{LeavesCleared, LeavesOpened, LeavesReleased, LeavesTagged};
 ghost use Rattle.lq_run.specs.Opens.{FailsFirst, OpensOn, TakesLock, opening_by};
 ghost use Rattle.lq_store.specs.Calls.{CountsDisk};
 ghost use Rattle.lq_store.specs.State.{is_open, seen};
 ghost use Rattle.lq_track.specs.Database.{has_rows};
 ghost use Rattle.lq_track.specs.Lock.{lock_table};
 ghost use Rattle.lq_track.specs.Log.{log_table};
-ghost use Rattle.lq_turns.specs.Script.{closing, if_missing};
+ghost use Rattle.lq_turns.specs.Script.{clearing, closing, if_missing};
 ghost use Rattle.lq_model.specs.declared.caller.Room.TheVariants as room;
 ghost use Rattle.lq_model.specs.declared.fault.StoreFault.TheVariants as fault;
 ghost use Rattle.lq_turns.specs.declared.call.Call.TheVariants as call;
@@ -52,15 +52,21 @@ pub fn take_lock<S: Store, P: SqlText>(
     requires sql { P.dialect ≡ dialect }
     requires moment { stamp.now.reading ≤ 253402300799999 }
     ensures valid { S.valid store.new }
-    ensures does { TakesLock dialect stamp.now session (S.state store.old) result (S.state store.new) }
+    ensures does { TakesLock dialect stamp.now session (S.state store.old) result
+        (S.state store.new) }
     ensures leaves { LeavesOpened dialect stamp.now (S.state store.old) result (S.state store.new) }
     ensures behind { BehindOpened dialect stamp.now (S.state store.old) (S.state store.new) }
-    ensures crash { CrashesOpening dialect stamp.now session (S.state store.old) (S.crashes store.old) (S.crashes store.new) }
-    ensures any_moment { CrashesOpened dialect stamp.now (S.state store.old) (S.crashes store.old) (S.crashes store.new) }
+    ensures crash { CrashesOpening dialect stamp.now session (S.state store.old)
+        (S.crashes store.old) (S.crashes store.new) }
+    ensures any_moment { CrashesOpened dialect stamp.now (S.state store.old) (S.crashes store.old)
+        (S.crashes store.new) }
     ensures faults { CountsDisk result (S.faults store.old) (S.faults store.new) }
-    ensures beside { Beside session (is_disk_result result) (S.state store.old) (S.state store.new) }
-    ensures keeps { CrashesLeave (S.state store.old).entries Keeps (S.crashes store.old) (S.crashes store.new) }
-    ensures shuts { (S.state store.new).live ≡ true → is_open session (S.state store.new).begun ≡ false }
+    ensures beside { Beside session (is_disk_result result) (S.state store.old)
+        (S.state store.new) }
+    ensures keeps { CrashesLeave (S.state store.old).entries Keeps (S.crashes store.old)
+        (S.crashes store.new) }
+    ensures shuts { (S.state store.new).live ≡ true
+        → is_open session (S.state store.new).begun ≡ false }
 {
     statements_read_back();
     match first_deeds(alloc, session, store, dialect, stamp) {
@@ -92,15 +98,22 @@ pub fn tag_row<S: Store, P: SqlText>(
     requires closed { is_open session (S.state store.old).begun ≡ false }
     requires sql { P.dialect ≡ dialect }
     ensures valid { S.valid store.new }
-    ensures does { AloneFor dialect session (deed.Rows (on_rows.Tagged of tag) ∷ []) room.Ordinary (S.state store.old) result (S.state store.new) }
+    ensures does { AloneFor dialect session (deed.Rows (on_rows.Tagged of tag) ∷ []) room.Ordinary
+        (S.state store.old) result (S.state store.new) }
     ensures leaves { LeavesTagged dialect of tag (S.state store.old) result (S.state store.new) }
     ensures behind { BehindTagged dialect of tag (S.state store.old) (S.state store.new) }
-    ensures crash { CrashesFor dialect session (call.Alone (deed.Rows (on_rows.Tagged of tag) ∷ []) room.Ordinary) (S.state store.old) (S.crashes store.old) (S.crashes store.new) }
-    ensures any_moment { CrashesTagged dialect of tag (S.state store.old) (S.crashes store.old) (S.crashes store.new) }
+    ensures crash { CrashesFor dialect session
+        (call.Alone (deed.Rows (on_rows.Tagged of tag) ∷ []) room.Ordinary) (S.state store.old)
+        (S.crashes store.old) (S.crashes store.new) }
+    ensures any_moment { CrashesTagged dialect of tag (S.state store.old) (S.crashes store.old)
+        (S.crashes store.new) }
     ensures faults { CountsDisk result (S.faults store.old) (S.faults store.new) }
-    ensures beside { Beside session (is_disk_result result) (S.state store.old) (S.state store.new) }
-    ensures keeps { CrashesLeave (S.state store.old).entries Keeps (S.crashes store.old) (S.crashes store.new) }
-    ensures shuts { (S.state store.new).live ≡ true → is_open session (S.state store.new).begun ≡ false }
+    ensures beside { Beside session (is_disk_result result) (S.state store.old)
+        (S.state store.new) }
+    ensures keeps { CrashesLeave (S.state store.old).entries Keeps (S.crashes store.old)
+        (S.crashes store.new) }
+    ensures shuts { (S.state store.new).live ≡ true
+        → is_open session (S.state store.new).begun ≡ false }
 {
     statements_read_back();
     do_alone(
@@ -110,6 +123,47 @@ pub fn tag_row<S: Store, P: SqlText>(
         sql,
         dialect,
         &[Deed::Rows(OnRows::Tagged(of, tag))],
+        Room::Ordinary,
+    )
+}
+
+/// Takes the checksum of every row.
+pub fn clear_rows<S: Store, P: SqlText>(
+    alloc: Global,
+    session: u32,
+    store: &mut S,
+    sql: &P,
+    dialect: Dialect,
+) -> Result<(), StoreFault>
+    requires valid { S.valid store.old }
+    requires live { IsTrue (S.state store.old).live }
+    requires closed { is_open session (S.state store.old).begun ≡ false }
+    requires sql { P.dialect ≡ dialect }
+    ensures valid { S.valid store.new }
+    ensures does { AloneFor dialect session (deed.Rows on_rows.Cleared ∷ []) room.Ordinary
+        (S.state store.old) result (S.state store.new) }
+    ensures leaves { LeavesCleared dialect (S.state store.old) result (S.state store.new) }
+    ensures behind { BehindCleared dialect (S.state store.old) (S.state store.new) }
+    ensures crash { CrashesFor dialect session clearing
+        (S.state store.old) (S.crashes store.old) (S.crashes store.new) }
+    ensures any_moment { CrashesCleared dialect
+        (S.state store.old) (S.crashes store.old) (S.crashes store.new) }
+    ensures faults { CountsDisk result (S.faults store.old) (S.faults store.new) }
+    ensures beside { Beside session (is_disk_result result)
+        (S.state store.old) (S.state store.new) }
+    ensures keeps { CrashesLeave (S.state store.old).entries Keeps
+        (S.crashes store.old) (S.crashes store.new) }
+    ensures shuts { (S.state store.new).live ≡ true
+        → is_open session (S.state store.new).begun ≡ false }
+{
+    statements_read_back();
+    do_alone(
+        alloc,
+        session,
+        store,
+        sql,
+        dialect,
+        &[Deed::Rows(OnRows::Cleared)],
         Room::Ordinary,
     )
 }
@@ -127,15 +181,21 @@ pub fn free_lock<S: Store, P: SqlText>(
     requires closed { is_open session (S.state store.old).begun ≡ false }
     requires sql { P.dialect ≡ dialect }
     ensures valid { S.valid store.new }
-    ensures does { AloneFor dialect session (deed.Locks on_lock.Freed ∷ []) room.Release (S.state store.old) result (S.state store.new) }
+    ensures does { AloneFor dialect session (deed.Locks on_lock.Freed ∷ []) room.Release
+        (S.state store.old) result (S.state store.new) }
     ensures leaves { LeavesReleased dialect (S.state store.old) result (S.state store.new) }
     ensures behind { BehindReleased dialect (S.state store.old) (S.state store.new) }
-    ensures crash { CrashesFor dialect session closing (S.state store.old) (S.crashes store.old) (S.crashes store.new) }
-    ensures any_moment { CrashesReleased dialect (S.state store.old) (S.crashes store.old) (S.crashes store.new) }
+    ensures crash { CrashesFor dialect session closing (S.state store.old) (S.crashes store.old)
+        (S.crashes store.new) }
+    ensures any_moment { CrashesReleased dialect (S.state store.old) (S.crashes store.old)
+        (S.crashes store.new) }
     ensures faults { CountsDisk result (S.faults store.old) (S.faults store.new) }
-    ensures beside { Beside session (is_disk_result result) (S.state store.old) (S.state store.new) }
-    ensures keeps { CrashesLeave (S.state store.old).entries Keeps (S.crashes store.old) (S.crashes store.new) }
-    ensures shuts { (S.state store.new).live ≡ true → is_open session (S.state store.new).begun ≡ false }
+    ensures beside { Beside session (is_disk_result result) (S.state store.old)
+        (S.state store.new) }
+    ensures keeps { CrashesLeave (S.state store.old).entries Keeps (S.crashes store.old)
+        (S.crashes store.new) }
+    ensures shuts { (S.state store.new).live ≡ true
+        → is_open session (S.state store.new).begun ≡ false }
 {
     statements_read_back();
     do_alone(
@@ -159,7 +219,8 @@ fn first_deeds<S: Store>(
     requires valid { S.valid store.now }
     requires live { IsTrue (S.state store.now).live }
     requires moment { stamp.now.reading ≤ 253402300799999 }
-    ensures opens { IfOk result (λ deeds. OpensOn dialect stamp.now (seen session (S.state store.now)) deeds) }
+    ensures opens { IfOk result
+        (λ deeds. OpensOn dialect stamp.now (seen session (S.state store.now)) deeds) }
     ensures writable { IfOk result (λ deeds. AllWritable dialect deeds) }
     ensures fails { IfErr result (λ why. FailsFirst session (S.state store.now) why) }
 {
@@ -204,9 +265,12 @@ pub fn opening<K: Look>(
 }
 
 fn seen_tables<K: Look>(alloc: Global, look: &K) -> Result<Tables, NoMemory>
-    ensures log { IfOk result (λ there. there.log ≡ is_some (table_of (K.catalogue look.now) log_table)) }
-    ensures lock { IfOk result (λ there. there.lock ≡ is_some (table_of (K.catalogue look.now) lock_table)) }
-    ensures lock_row { IfOk result (λ there. there.lock_row ≡ has_rows (table_of (K.catalogue look.now) lock_table)) }
+    ensures log { IfOk result
+        (λ there. there.log ≡ is_some (table_of (K.catalogue look.now) log_table)) }
+    ensures lock { IfOk result
+        (λ there. there.lock ≡ is_some (table_of (K.catalogue look.now) lock_table)) }
+    ensures lock_row { IfOk result
+        (λ there. there.lock_row ≡ has_rows (table_of (K.catalogue look.now) lock_table)) }
 {
     let log = has_log(alloc, look)?;
     let name = lock_name(alloc)?;
@@ -277,7 +341,8 @@ fn push_missing(is_there: bool, on: OnLock, deeds: &mut Items<Deed>) -> Result<(
 }
 
 fn push_taken(alloc: Global, stamp: &Stamp, deeds: &mut Items<Deed>) -> Result<(), NoMemory>
-    ensures { OnOk result (deeds.new ≡ deeds.old ++ deed.Locks (on_lock.Taken stamp.now.reading stamp.now.who) ∷ []) }
+    ensures { OnOk result
+        (deeds.new ≡ deeds.old ++ deed.Locks (on_lock.Taken stamp.now.reading stamp.now.who) ∷ []) }
 {
     let who = stamp.who.copy(alloc)?;
     push(Deed::Locks(OnLock::Taken(stamp.reading, who)), deeds)

@@ -32,11 +32,15 @@ pub fn do_deed<S: Store>(
     requires reads { Reads dialect (made_of dialect deed.now).1 text.now }
     ensures valid { S.valid store.new }
     ensures does { DoesFor dialect session deed.now (S.state store.old) result (S.state store.new) }
-    ensures crash { CrashesFor dialect session (call.Execute deed.now) (S.state store.old) (S.crashes store.old) (S.crashes store.new) }
+    ensures crash { CrashesFor dialect session (call.Execute deed.now) (S.state store.old)
+        (S.crashes store.old) (S.crashes store.new) }
     ensures faults { CountsDisk result (S.faults store.old) (S.faults store.new) }
-    ensures beside { Beside session (is_disk_result result) (S.state store.old) (S.state store.new) }
-    ensures keeps { CrashesLeave (S.state store.old).entries Keeps (S.crashes store.old) (S.crashes store.new) }
-    ensures leaves_open { (S.state store.new).live ≡ true → is_open session (S.state store.new).begun ≡ true }
+    ensures beside { Beside session (is_disk_result result) (S.state store.old)
+        (S.state store.new) }
+    ensures keeps { CrashesLeave (S.state store.old).entries Keeps (S.crashes store.old)
+        (S.crashes store.new) }
+    ensures leaves_open { (S.state store.new).live ≡ true
+        → is_open session (S.state store.new).begun ≡ true }
 {
     match store.execute(session, caller(deed), text) {
         Ok(_) => Ok(()),
@@ -51,11 +55,15 @@ pub fn commit<S: Store>(session: u32, store: &mut S, dialect: Dialect) -> Result
     requires open_here { is_open session (S.state store.old).begun ≡ true }
     ensures valid { S.valid store.new }
     ensures does { CommitFor dialect session (S.state store.old) result (S.state store.new) }
-    ensures crash { CrashesFor dialect session call.Commit (S.state store.old) (S.crashes store.old) (S.crashes store.new) }
+    ensures crash { CrashesFor dialect session call.Commit (S.state store.old) (S.crashes store.old)
+        (S.crashes store.new) }
     ensures faults { CountsDisk result (S.faults store.old) (S.faults store.new) }
-    ensures beside { Beside session (is_disk_result result) (S.state store.old) (S.state store.new) }
-    ensures keeps { CrashesLeave (S.state store.old).entries Keeps (S.crashes store.old) (S.crashes store.new) }
-    ensures leaves_open { (S.state store.new).live ≡ true → is_open session (S.state store.new).begun ≡ open_after (moved_of result) call.Commit }
+    ensures beside { Beside session (is_disk_result result) (S.state store.old)
+        (S.state store.new) }
+    ensures keeps { CrashesLeave (S.state store.old).entries Keeps (S.crashes store.old)
+        (S.crashes store.new) }
+    ensures leaves_open { (S.state store.new).live ≡ true
+        → is_open session (S.state store.new).begun ≡ open_after (moved_of result) call.Commit }
 {
     store.commit(session)
 }
@@ -67,11 +75,15 @@ pub fn begin<S: Store>(session: u32, store: &mut S, dialect: Dialect) -> Result<
     requires closed { is_open session (S.state store.old).begun ≡ false }
     ensures valid { S.valid store.new }
     ensures does { BeginFor dialect session (S.state store.old) result (S.state store.new) }
-    ensures crash { CrashesLeave (S.state store.old).entries LeftAlone (S.crashes store.old) (S.crashes store.new) }
+    ensures crash { CrashesLeave (S.state store.old).entries LeftAlone (S.crashes store.old)
+        (S.crashes store.new) }
     ensures faults { CountsDisk result (S.faults store.old) (S.faults store.new) }
-    ensures beside { Beside session (is_disk_result result) (S.state store.old) (S.state store.new) }
-    ensures keeps { CrashesLeave (S.state store.old).entries Keeps (S.crashes store.old) (S.crashes store.new) }
-    ensures leaves_open { other session (S.state store.old) ≡ None → is_open session (S.state store.new).begun ≡ true }
+    ensures beside { Beside session (is_disk_result result) (S.state store.old)
+        (S.state store.new) }
+    ensures keeps { CrashesLeave (S.state store.old).entries Keeps (S.crashes store.old)
+        (S.crashes store.new) }
+    ensures leaves_open { other session (S.state store.old) ≡ None
+        → is_open session (S.state store.new).begun ≡ true }
 {
     store.begin(session)
 }
@@ -83,10 +95,12 @@ pub fn abort<S: Store>(session: u32, store: &mut S, dialect: Dialect)
     requires open_here { is_open session (S.state store.old).begun ≡ true }
     ensures valid { S.valid store.new }
     ensures does { AbortFor dialect session (S.state store.old) (S.state store.new) }
-    ensures crash { CrashesLeave (S.state store.old).entries LeftAlone (S.crashes store.old) (S.crashes store.new) }
+    ensures crash { CrashesLeave (S.state store.old).entries LeftAlone (S.crashes store.old)
+        (S.crashes store.new) }
     ensures faults { S.faults store.new ≡ S.faults store.old }
     ensures beside { Beside session false (S.state store.old) (S.state store.new) }
-    ensures keeps { CrashesLeave (S.state store.old).entries Keeps (S.crashes store.old) (S.crashes store.new) }
+    ensures keeps { CrashesLeave (S.state store.old).entries Keeps (S.crashes store.old)
+        (S.crashes store.new) }
     ensures shuts { is_open session (S.state store.new).begun ≡ false }
 {
     store.abort(session);
@@ -110,12 +124,17 @@ pub fn do_alone<S: Store, P: SqlText>(
     requires writable { AllWritable dialect deeds.now }
     requires fills { MayFill room deeds.now }
     ensures valid { S.valid store.new }
-    ensures does { AloneFor dialect session deeds.now room (S.state store.old) result (S.state store.new) }
-    ensures crash { CrashesFor dialect session (call.Alone deeds.now room) (S.state store.old) (S.crashes store.old) (S.crashes store.new) }
+    ensures does { AloneFor dialect session deeds.now room (S.state store.old) result
+        (S.state store.new) }
+    ensures crash { CrashesFor dialect session (call.Alone deeds.now room) (S.state store.old)
+        (S.crashes store.old) (S.crashes store.new) }
     ensures faults { CountsDisk result (S.faults store.old) (S.faults store.new) }
-    ensures beside { Beside session (is_disk_result result) (S.state store.old) (S.state store.new) }
-    ensures keeps { CrashesLeave (S.state store.old).entries Keeps (S.crashes store.old) (S.crashes store.new) }
-    ensures shuts { (S.state store.new).live ≡ true → is_open session (S.state store.new).begun ≡ false }
+    ensures beside { Beside session (is_disk_result result) (S.state store.old)
+        (S.state store.new) }
+    ensures keeps { CrashesLeave (S.state store.old).entries Keeps (S.crashes store.old)
+        (S.crashes store.new) }
+    ensures shuts { (S.state store.new).live ≡ true
+        → is_open session (S.state store.new).begun ≡ false }
 {
     let mut texts = Items::new(alloc);
     let Ok(()) = print_all(alloc, sql, dialect, deeds, &mut texts) else {

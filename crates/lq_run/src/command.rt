@@ -33,15 +33,24 @@ pub fn run_command<T: Source + Drop, S: Store, P: SqlText>(
     requires reads { T.reads runner.old.source runner.old.dialect }
     requires sql { P.dialect ≡ runner.old.dialect }
     requires moment { runner.old.stamp.reading ≤ 253402300799999 }
-    requires new { IsNew runner.old.dialect T.meaning runner.old.stamp (standing T.left T.way runner.old) }
-    requires may_run { SomeMayRun runner.old.dialect T.meaning runner.old.stamp session (standing T.left T.way runner.old) (S.state store.old) }
+    requires new { IsNew runner.old.dialect T.meaning runner.old.stamp
+        (standing T.left T.way runner.old) }
+    requires may_run { SomeMayRun runner.old.dialect T.meaning runner.old.stamp session
+        (standing T.left T.way runner.old) (S.state store.old) }
     ensures valid { S.valid store.new }
-    ensures ends { RunsWhole runner.old.dialect T.meaning runner.old.stamp session (standing T.left T.way runner.old) (S.state store.old) result (S.state store.new) }
-    ensures leaves { LeavesAll runner.old.dialect T.meaning runner.old.stamp (standing T.left T.way runner.old) (S.state store.old) result (S.state store.new) }
-    ensures left { LeftAll runner.old.dialect T.meaning runner.old.stamp (standing T.left T.way runner.old) (S.state store.old) result (S.state store.new) }
-    ensures behind { BehindAll runner.old.dialect T.meaning runner.old.stamp (standing T.left T.way runner.old) (S.state store.old) (S.state store.new) }
-    ensures any_moment { CrashesAll runner.old.dialect T.meaning runner.old.stamp (standing T.left T.way runner.old) (S.state store.old) (S.crashes store.old) (S.crashes store.new) }
-    ensures tells { TellsAll runner.old.dialect T.meaning runner.old.stamp (standing T.left T.way runner.old) (S.state store.old) result (T.way runner.new.source) }
+    ensures ends { RunsWhole runner.old.dialect T.meaning runner.old.stamp session
+        (standing T.left T.way runner.old) (S.state store.old) result (S.state store.new) }
+    ensures leaves { LeavesAll runner.old.dialect T.meaning runner.old.stamp
+        (standing T.left T.way runner.old) (S.state store.old) result (S.state store.new) }
+    ensures left { LeftAll runner.old.dialect T.meaning runner.old.stamp
+        (standing T.left T.way runner.old) (S.state store.old) result (S.state store.new) }
+    ensures behind { BehindAll runner.old.dialect T.meaning runner.old.stamp
+        (standing T.left T.way runner.old) (S.state store.old) (S.state store.new) }
+    ensures any_moment { CrashesAll runner.old.dialect T.meaning runner.old.stamp
+        (standing T.left T.way runner.old) (S.state store.old) (S.crashes store.old)
+        (S.crashes store.new) }
+    ensures tells { TellsAll runner.old.dialect T.meaning runner.old.stamp
+        (standing T.left T.way runner.old) (S.state store.old) result (T.way runner.new.source) }
     ensures later { S.faults store.old ≤ S.faults store.new }
     ensures rose { is_disk_end result ≡ true → Rose (S.faults store.old) (S.faults store.new) }
 {

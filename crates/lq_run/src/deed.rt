@@ -11,8 +11,8 @@ use lq_base::{Dialect, NoMemory, Text};
 use lq_model::{By, SqlText, Statement};
 use lq_statement::laws::statements_read_back;
 use lq_track::{
-    again_row, delete_row, fill_sum, free_lock, insert_row, make_lock, make_lock_row, make_log,
-    mark_lock, set_tag, take_lock,
+    again_row, clear_sums, delete_row, fill_sum, free_lock, insert_row, make_lock, make_lock_row,
+    make_log, mark_lock, set_tag, take_lock,
 };
 use lq_turns::{Deed, OnLock, OnRows};
 use std::alloc::Global;
@@ -63,6 +63,7 @@ fn row_statement(alloc: Global, dialect: Dialect, on: &OnRows) -> Result<Stateme
         OnRows::Deleted(of) => delete_row(alloc, of),
         OnRows::Filled(of, sum) => fill_sum(alloc, of, sum),
         OnRows::Tagged(of, tag) => set_tag(alloc, of, tag),
+        OnRows::Cleared => clear_sums(alloc),
     }
 }
 

@@ -46,18 +46,26 @@ pub fn take<T: Source, S: Store, P: SqlText>(
     requires sql { P.dialect ≡ dialect }
     requires inside { hand.old.phase ≡ phase.Inside }
     requires left { hand.old.calls ≢ [] }
-    requires turns { AreTurns dialect (is_open session (S.state store.old).begun) (calls_left hand.old) }
+    requires turns { AreTurns dialect (is_open session (S.state store.old).begun)
+        (calls_left hand.old) }
     ensures valid { S.valid store.new }
-    ensures takes { (stamp : Stamp) → Takes dialect T.meaning stamp session hand.old (S.state store.old) result hand.new (S.state store.new) }
-    ensures crash { (stamp : Stamp) → CrashesTaken dialect T.meaning stamp session hand.old (S.state store.old) (S.crashes store.old) (S.crashes store.new) }
+    ensures takes { (stamp : Stamp)
+        → Takes dialect T.meaning stamp session hand.old (S.state store.old) result hand.new
+        (S.state store.new) }
+    ensures crash { (stamp : Stamp)
+        → CrashesTaken dialect T.meaning stamp session hand.old (S.state store.old)
+        (S.crashes store.old) (S.crashes store.new) }
     ensures same { hand.new.goes_on ≡ hand.old.goes_on }
     ensures phase { MovesTo result hand.new.phase }
     ensures lack { WasOpen session (S.state store.old) result (S.state store.new) }
     ensures later { S.faults store.old ≤ S.faults store.new }
     ensures rose { is_disk_move result ≡ true → Rose (S.faults store.old) (S.faults store.new) }
     ensures beside { Beside session (is_disk_move result) (S.state store.old) (S.state store.new) }
-    ensures keeps { CrashesLeave (S.state store.old).entries Keeps (S.crashes store.old) (S.crashes store.new) }
-    ensures asks { other session (S.state store.old) ≡ None → (S.state store.new).live ≡ true → AsksNext dialect result hand.new (is_open session (S.state store.new).begun) }
+    ensures keeps { CrashesLeave (S.state store.old).entries Keeps (S.crashes store.old)
+        (S.crashes store.new) }
+    ensures asks { other session (S.state store.old) ≡ None
+        → (S.state store.new).live ≡ true
+        → AsksNext dialect result hand.new (is_open session (S.state store.new).begun) }
 {
     let Some(call) = hand.calls.pop() else {
         unreachable!();
@@ -87,14 +95,20 @@ fn make<T: Source, S: Store, P: SqlText>(
     requires sql { P.dialect ≡ dialect }
     requires turn { IsNext dialect (is_open session (S.state store.old).begun) call.now }
     ensures valid { S.valid store.new }
-    ensures makes { (stamp : Stamp) → Makes dialect T.meaning stamp session call.now (S.state store.old) result (S.state store.new) }
-    ensures crash { CrashesFor dialect session call.now (S.state store.old) (S.crashes store.old) (S.crashes store.new) }
+    ensures makes { (stamp : Stamp)
+        → Makes dialect T.meaning stamp session call.now (S.state store.old) result
+        (S.state store.new) }
+    ensures crash { CrashesFor dialect session call.now (S.state store.old) (S.crashes store.old)
+        (S.crashes store.new) }
     ensures lack { WasOpen session (S.state store.old) result (S.state store.new) }
     ensures later { S.faults store.old ≤ S.faults store.new }
     ensures rose { is_disk_move result ≡ true → Rose (S.faults store.old) (S.faults store.new) }
     ensures beside { Beside session (is_disk_move result) (S.state store.old) (S.state store.new) }
-    ensures keeps { CrashesLeave (S.state store.old).entries Keeps (S.crashes store.old) (S.crashes store.new) }
-    ensures leaves_open { other session (S.state store.old) ≡ None → (S.state store.new).live ≡ true → is_open session (S.state store.new).begun ≡ open_after result call.now }
+    ensures keeps { CrashesLeave (S.state store.old).entries Keeps (S.crashes store.old)
+        (S.crashes store.new) }
+    ensures leaves_open { other session (S.state store.old) ≡ None
+        → (S.state store.new).live ≡ true
+        → is_open session (S.state store.new).begun ≡ open_after result call.now }
 {
     match call {
         Call::Begin => move_of(begin(session, store, dialect)),
@@ -118,14 +132,19 @@ fn execute<T: Source, S: Store, P: SqlText>(
     requires open_here { is_open session (S.state store.old).begun ≡ true }
     requires writable { IsWritable dialect deed.now }
     ensures valid { S.valid store.new }
-    ensures makes { (stamp : Stamp) → Makes dialect T.meaning stamp session (call.Execute deed.now) (S.state store.old) result (S.state store.new) }
-    ensures crash { CrashesFor dialect session (call.Execute deed.now) (S.state store.old) (S.crashes store.old) (S.crashes store.new) }
+    ensures makes { (stamp : Stamp)
+        → Makes dialect T.meaning stamp session (call.Execute deed.now) (S.state store.old) result
+        (S.state store.new) }
+    ensures crash { CrashesFor dialect session (call.Execute deed.now) (S.state store.old)
+        (S.crashes store.old) (S.crashes store.new) }
     ensures lack { WasOpen session (S.state store.old) result (S.state store.new) }
     ensures later { S.faults store.old ≤ S.faults store.new }
     ensures rose { is_disk_move result ≡ true → Rose (S.faults store.old) (S.faults store.new) }
     ensures beside { Beside session (is_disk_move result) (S.state store.old) (S.state store.new) }
-    ensures keeps { CrashesLeave (S.state store.old).entries Keeps (S.crashes store.old) (S.crashes store.new) }
-    ensures leaves_open { (S.state store.new).live ≡ true → is_open session (S.state store.new).begun ≡ true }
+    ensures keeps { CrashesLeave (S.state store.old).entries Keeps (S.crashes store.old)
+        (S.crashes store.new) }
+    ensures leaves_open { (S.state store.new).live ≡ true
+        → is_open session (S.state store.new).begun ≡ true }
 {
     match print(alloc, sql, dialect, deed) {
         Ok(text) => move_of(do_deed(session, store, dialect, deed, text.as_str())),

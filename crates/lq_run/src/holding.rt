@@ -77,7 +77,8 @@ fn name_held(who: &str, by: &str) -> Holding
 
 // What stands behind the name.
 fn behind<'a>(who: &str, by: &'a str) -> Option<&'a str>
-    ensures { MatchOption result ((rest : List ℕ) → by.now ≢ who.now ++ rest) (λ rest. by.now ≡ who.now ++ rest.now) }
+    ensures { MatchOption result ((rest : List ℕ) → by.now ≢ who.now ++ rest)
+        (λ rest. by.now ≡ who.now ++ rest.now) }
 {
     by.strip_prefix(who)
 }

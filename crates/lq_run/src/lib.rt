@@ -11,7 +11,7 @@ mod no_turns;
 mod runner;
 mod running;
 
-pub use alone::{Tables, free_lock, opening, tag_row, take_lock};
+pub use alone::{Tables, clear_rows, free_lock, opening, tag_row, take_lock};
 pub use calls::{abort, begin, commit, do_alone};
 pub use command::run_command;
 pub use hand::{Moved, take};

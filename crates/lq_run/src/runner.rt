@@ -100,23 +100,32 @@ impl<T: Source + Drop> Runner<T> {
         requires sql { P.dialect ≡ self.old.dialect }
         requires moment { self.old.stamp.reading ≤ 253402300799999 }
         requires begun { is_over self.old.hand.phase ≡ false }
-        requires ready { IsReady self.old.dialect (is_open session (S.state store.old).begun) (place (standing T.left T.way self.old)) }
+        requires ready { IsReady self.old.dialect (is_open session (S.state store.old).begun)
+            (place (standing T.left T.way self.old)) }
         requires disk { disk_failed self.old.fault ≡ false }
         ensures valid { S.valid store.new }
         ensures same { (self.new.dialect ≡ self.old.dialect) × (self.new.stamp ≡ self.old.stamp) }
         ensures reads { T.reads self.new.source self.new.dialect }
-        ensures steps { Steps self.old.dialect T.meaning self.old.stamp session (standing T.left T.way self.old) (standing T.left T.way self.new) (S.state store.old) result (S.state store.new) }
-        ensures crash { CrashesStep self.old.dialect T.meaning self.old.stamp session (standing T.left T.way self.old) self.new.fault (S.state store.old) (S.crashes store.old) (S.crashes store.new) }
-        ensures lost { Loses self.old.dialect self.old.stamp self.old.hand (S.state store.old) result (S.state store.new) }
+        ensures steps { Steps self.old.dialect T.meaning self.old.stamp session
+            (standing T.left T.way self.old) (standing T.left T.way self.new) (S.state store.old)
+            result (S.state store.new) }
+        ensures crash { CrashesStep self.old.dialect T.meaning self.old.stamp session
+            (standing T.left T.way self.old) self.new.fault (S.state store.old)
+            (S.crashes store.old) (S.crashes store.new) }
+        ensures lost { Loses self.old.dialect self.old.stamp self.old.hand (S.state store.old)
+            result (S.state store.new) }
         ensures disk { disk_failed self.new.fault ≡ false }
         ensures later { S.faults store.old ≤ S.faults store.new }
         ensures rose { is_disk_step result ≡ true → Rose (S.faults store.old) (S.faults store.new) }
         ensures going { GoesOn result self.new.hand.phase }
-        ensures beside { Beside session (is_disk_step result) (S.state store.old) (S.state store.new) }
-        ensures keeps { CrashesLeave (S.state store.old).entries Keeps (S.crashes store.old) (S.crashes store.new) }
+        ensures beside { Beside session (is_disk_step result) (S.state store.old)
+            (S.state store.new) }
+        ensures keeps { CrashesLeave (S.state store.old).entries Keeps (S.crashes store.old)
+            (S.crashes store.new) }
         ensures stays { is_some self.old.fault ≡ true → is_some self.new.fault ≡ true }
         ensures stops { is_some self.new.fault ≡ true → StopsAs self.old.fault result }
-        ensures asks { IsSet self.old.dialect session self.new.hand (S.state store.old) (S.state store.new) }
+        ensures asks { IsSet self.old.dialect session self.new.hand (S.state store.old)
+            (S.state store.new) }
     {
         match self.hand.phase {
             Phase::Inside => self.go_on(session, store, sql),
@@ -133,23 +142,32 @@ impl<T: Source + Drop> Runner<T> {
         requires sql { P.dialect ≡ self.old.dialect }
         requires moment { self.old.stamp.reading ≤ 253402300799999 }
         requires inside { self.old.hand.phase ≡ phase.Inside }
-        requires turns { AreTurns self.old.dialect (is_open session (S.state store.old).begun) (calls_left self.old.hand) }
+        requires turns { AreTurns self.old.dialect (is_open session (S.state store.old).begun)
+            (calls_left self.old.hand) }
         requires disk { disk_failed self.old.fault ≡ false }
         ensures valid { S.valid store.new }
         ensures same { (self.new.dialect ≡ self.old.dialect) × (self.new.stamp ≡ self.old.stamp) }
         ensures reads { T.reads self.new.source self.new.dialect }
-        ensures steps { Steps self.old.dialect T.meaning self.old.stamp session (standing T.left T.way self.old) (standing T.left T.way self.new) (S.state store.old) result (S.state store.new) }
-        ensures crash { CrashesStep self.old.dialect T.meaning self.old.stamp session (standing T.left T.way self.old) self.new.fault (S.state store.old) (S.crashes store.old) (S.crashes store.new) }
-        ensures lost { Loses self.old.dialect self.old.stamp self.old.hand (S.state store.old) result (S.state store.new) }
+        ensures steps { Steps self.old.dialect T.meaning self.old.stamp session
+            (standing T.left T.way self.old) (standing T.left T.way self.new) (S.state store.old)
+            result (S.state store.new) }
+        ensures crash { CrashesStep self.old.dialect T.meaning self.old.stamp session
+            (standing T.left T.way self.old) self.new.fault (S.state store.old)
+            (S.crashes store.old) (S.crashes store.new) }
+        ensures lost { Loses self.old.dialect self.old.stamp self.old.hand (S.state store.old)
+            result (S.state store.new) }
         ensures disk { disk_failed self.new.fault ≡ false }
         ensures later { S.faults store.old ≤ S.faults store.new }
         ensures rose { is_disk_step result ≡ true → Rose (S.faults store.old) (S.faults store.new) }
         ensures going { GoesOn result self.new.hand.phase }
-        ensures beside { Beside session (is_disk_step result) (S.state store.old) (S.state store.new) }
-        ensures keeps { CrashesLeave (S.state store.old).entries Keeps (S.crashes store.old) (S.crashes store.new) }
+        ensures beside { Beside session (is_disk_step result) (S.state store.old)
+            (S.state store.new) }
+        ensures keeps { CrashesLeave (S.state store.old).entries Keeps (S.crashes store.old)
+            (S.crashes store.new) }
         ensures stays { is_some self.old.fault ≡ true → is_some self.new.fault ≡ true }
         ensures stops { is_some self.new.fault ≡ true → StopsAs self.old.fault result }
-        ensures asks { IsSet self.old.dialect session self.new.hand (S.state store.old) (S.state store.new) }
+        ensures asks { IsSet self.old.dialect session self.new.hand (S.state store.old)
+            (S.state store.new) }
     {
         if self.hand.calls.is_empty() {
             self.between(session, store, sql)
@@ -166,23 +184,32 @@ impl<T: Source + Drop> Runner<T> {
         requires sql { P.dialect ≡ self.old.dialect }
         requires inside { self.old.hand.phase ≡ phase.Inside }
         requires left { self.old.hand.calls ≢ [] }
-        requires turns { AreTurns self.old.dialect (is_open session (S.state store.old).begun) (calls_left self.old.hand) }
+        requires turns { AreTurns self.old.dialect (is_open session (S.state store.old).begun)
+            (calls_left self.old.hand) }
         requires disk { disk_failed self.old.fault ≡ false }
         ensures valid { S.valid store.new }
         ensures same { (self.new.dialect ≡ self.old.dialect) × (self.new.stamp ≡ self.old.stamp) }
         ensures reads { T.reads self.new.source self.new.dialect }
-        ensures steps { Steps self.old.dialect T.meaning self.old.stamp session (standing T.left T.way self.old) (standing T.left T.way self.new) (S.state store.old) result (S.state store.new) }
-        ensures crash { CrashesNext self.old.dialect T.meaning self.old.stamp session (place (standing T.left T.way self.old)) (S.state store.old) (S.crashes store.old) (S.crashes store.new) }
-        ensures lost { Loses self.old.dialect self.old.stamp self.old.hand (S.state store.old) result (S.state store.new) }
+        ensures steps { Steps self.old.dialect T.meaning self.old.stamp session
+            (standing T.left T.way self.old) (standing T.left T.way self.new) (S.state store.old)
+            result (S.state store.new) }
+        ensures crash { CrashesNext self.old.dialect T.meaning self.old.stamp session
+            (place (standing T.left T.way self.old)) (S.state store.old) (S.crashes store.old)
+            (S.crashes store.new) }
+        ensures lost { Loses self.old.dialect self.old.stamp self.old.hand (S.state store.old)
+            result (S.state store.new) }
         ensures disk { disk_failed self.new.fault ≡ false }
         ensures later { S.faults store.old ≤ S.faults store.new }
         ensures rose { is_disk_step result ≡ true → Rose (S.faults store.old) (S.faults store.new) }
         ensures going { GoesOn result self.new.hand.phase }
-        ensures beside { Beside session (is_disk_step result) (S.state store.old) (S.state store.new) }
-        ensures keeps { CrashesLeave (S.state store.old).entries Keeps (S.crashes store.old) (S.crashes store.new) }
+        ensures beside { Beside session (is_disk_step result) (S.state store.old)
+            (S.state store.new) }
+        ensures keeps { CrashesLeave (S.state store.old).entries Keeps (S.crashes store.old)
+            (S.crashes store.new) }
         ensures stays { is_some self.old.fault ≡ true → is_some self.new.fault ≡ true }
         ensures stops { is_some self.new.fault ≡ true → StopsAs self.old.fault result }
-        ensures asks { IsSet self.old.dialect session self.new.hand (S.state store.old) (S.state store.new) }
+        ensures asks { IsSet self.old.dialect session self.new.hand (S.state store.old)
+            (S.state store.new) }
     {
         let call = next_coming(self.dialect, &self.hand);
         show(&mut self.source, call, self.dialect, session, store);
@@ -202,23 +229,31 @@ impl<T: Source + Drop> Runner<T> {
         requires sql { P.dialect ≡ self.old.dialect }
         requires inside { self.old.hand.phase ≡ phase.Inside }
         requires left { self.old.hand.calls ≢ [] }
-        requires turns { AreTurns self.old.dialect (is_open session (S.state store.old).begun) (calls_left self.old.hand) }
+        requires turns { AreTurns self.old.dialect (is_open session (S.state store.old).begun)
+            (calls_left self.old.hand) }
         requires call { call ≡ first_coming self.old.dialect (calls_left self.old.hand) }
         requires disk { disk_failed self.old.fault ≡ false }
         ensures valid { S.valid store.new }
         ensures same { (self.new.dialect ≡ self.old.dialect) × (self.new.stamp ≡ self.old.stamp) }
         ensures reads { T.reads self.new.source self.new.dialect }
-        ensures steps { StepsShown self.old.dialect T.meaning self.old.stamp session (standing T.left T.way self.old) (standing T.left T.way self.new) (S.state store.old) result (S.state store.new) }
-        ensures crash { CrashesNext self.old.dialect T.meaning self.old.stamp session (place (standing T.left T.way self.old)) (S.state store.old) (S.crashes store.old) (S.crashes store.new) }
+        ensures steps { StepsShown self.old.dialect T.meaning self.old.stamp session
+            (standing T.left T.way self.old) (standing T.left T.way self.new) (S.state store.old)
+            result (S.state store.new) }
+        ensures crash { CrashesNext self.old.dialect T.meaning self.old.stamp session
+            (place (standing T.left T.way self.old)) (S.state store.old) (S.crashes store.old)
+            (S.crashes store.new) }
         ensures disk { disk_failed self.new.fault ≡ false }
         ensures later { S.faults store.old ≤ S.faults store.new }
         ensures rose { is_disk_step result ≡ true → Rose (S.faults store.old) (S.faults store.new) }
         ensures going { GoesOn result self.new.hand.phase }
-        ensures beside { Beside session (is_disk_step result) (S.state store.old) (S.state store.new) }
-        ensures keeps { CrashesLeave (S.state store.old).entries Keeps (S.crashes store.old) (S.crashes store.new) }
+        ensures beside { Beside session (is_disk_step result) (S.state store.old)
+            (S.state store.new) }
+        ensures keeps { CrashesLeave (S.state store.old).entries Keeps (S.crashes store.old)
+            (S.crashes store.new) }
         ensures stays { is_some self.old.fault ≡ true → is_some self.new.fault ≡ true }
         ensures stops { is_some self.new.fault ≡ true → StopsAs self.old.fault result }
-        ensures asks { IsSet self.old.dialect session self.new.hand (S.state store.old) (S.state store.new) }
+        ensures asks { IsSet self.old.dialect session self.new.hand (S.state store.old)
+            (S.state store.new) }
     {
         match take::<T, S, P>(
             &mut self.hand,
@@ -285,12 +320,14 @@ impl<T: Source + Drop> Runner<T> {
         ensures fault { self.new.fault ≡ Some fault.OutOfMemory }
         ensures hand { self.new.hand ≡ no_turn }
         ensures aborts { AbortFor self.old.dialect session (S.state store.old) (S.state store.new) }
-        ensures crash { CrashesLeave (S.state store.old).entries LeftAlone (S.crashes store.old) (S.crashes store.new) }
+        ensures crash { CrashesLeave (S.state store.old).entries LeftAlone (S.crashes store.old)
+            (S.crashes store.new) }
         ensures disk { disk_failed self.new.fault ≡ false }
         ensures faults { S.faults store.new ≡ S.faults store.old }
         ensures going { GoesOn result self.new.hand.phase }
         ensures beside { Beside session false (S.state store.old) (S.state store.new) }
-        ensures keeps { CrashesLeave (S.state store.old).entries Keeps (S.crashes store.old) (S.crashes store.new) }
+        ensures keeps { CrashesLeave (S.state store.old).entries Keeps (S.crashes store.old)
+            (S.crashes store.new) }
         ensures shuts { is_open session (S.state store.new).begun ≡ false }
     {
         abort(session, store, self.dialect);
@@ -310,18 +347,26 @@ impl<T: Source + Drop> Runner<T> {
         ensures valid { S.valid store.new }
         ensures same { (self.new.dialect ≡ self.old.dialect) × (self.new.stamp ≡ self.old.stamp) }
         ensures reads { T.reads self.new.source self.new.dialect }
-        ensures steps { Steps self.old.dialect T.meaning self.old.stamp session (standing T.left T.way self.old) (standing T.left T.way self.new) (S.state store.old) result (S.state store.new) }
-        ensures crash { CrashesStep self.old.dialect T.meaning self.old.stamp session (standing T.left T.way self.old) self.new.fault (S.state store.old) (S.crashes store.old) (S.crashes store.new) }
-        ensures lost { Loses self.old.dialect self.old.stamp self.old.hand (S.state store.old) result (S.state store.new) }
+        ensures steps { Steps self.old.dialect T.meaning self.old.stamp session
+            (standing T.left T.way self.old) (standing T.left T.way self.new) (S.state store.old)
+            result (S.state store.new) }
+        ensures crash { CrashesStep self.old.dialect T.meaning self.old.stamp session
+            (standing T.left T.way self.old) self.new.fault (S.state store.old)
+            (S.crashes store.old) (S.crashes store.new) }
+        ensures lost { Loses self.old.dialect self.old.stamp self.old.hand (S.state store.old)
+            result (S.state store.new) }
         ensures disk { disk_failed self.new.fault ≡ false }
         ensures later { S.faults store.old ≤ S.faults store.new }
         ensures rose { is_disk_step result ≡ true → Rose (S.faults store.old) (S.faults store.new) }
         ensures going { GoesOn result self.new.hand.phase }
-        ensures beside { Beside session (is_disk_step result) (S.state store.old) (S.state store.new) }
-        ensures keeps { CrashesLeave (S.state store.old).entries Keeps (S.crashes store.old) (S.crashes store.new) }
+        ensures beside { Beside session (is_disk_step result) (S.state store.old)
+            (S.state store.new) }
+        ensures keeps { CrashesLeave (S.state store.old).entries Keeps (S.crashes store.old)
+            (S.crashes store.new) }
         ensures stays { is_some self.old.fault ≡ true → is_some self.new.fault ≡ true }
         ensures stops { is_some self.new.fault ≡ true → StopsAs self.old.fault result }
-        ensures asks { IsSet self.old.dialect session self.new.hand (S.state store.old) (S.state store.new) }
+        ensures asks { IsSet self.old.dialect session self.new.hand (S.state store.old)
+            (S.state store.new) }
     {
         abort(session, store, self.dialect);
         self.hand = no_turn(self.alloc);
@@ -343,18 +388,26 @@ impl<T: Source + Drop> Runner<T> {
         ensures valid { S.valid store.new }
         ensures same { (self.new.dialect ≡ self.old.dialect) × (self.new.stamp ≡ self.old.stamp) }
         ensures reads { T.reads self.new.source self.new.dialect }
-        ensures steps { Steps self.old.dialect T.meaning self.old.stamp session (standing T.left T.way self.old) (standing T.left T.way self.new) (S.state store.old) result (S.state store.new) }
-        ensures crash { CrashesStep self.old.dialect T.meaning self.old.stamp session (standing T.left T.way self.old) self.new.fault (S.state store.old) (S.crashes store.old) (S.crashes store.new) }
-        ensures lost { Loses self.old.dialect self.old.stamp self.old.hand (S.state store.old) result (S.state store.new) }
+        ensures steps { Steps self.old.dialect T.meaning self.old.stamp session
+            (standing T.left T.way self.old) (standing T.left T.way self.new) (S.state store.old)
+            result (S.state store.new) }
+        ensures crash { CrashesStep self.old.dialect T.meaning self.old.stamp session
+            (standing T.left T.way self.old) self.new.fault (S.state store.old)
+            (S.crashes store.old) (S.crashes store.new) }
+        ensures lost { Loses self.old.dialect self.old.stamp self.old.hand (S.state store.old)
+            result (S.state store.new) }
         ensures disk { disk_failed self.new.fault ≡ false }
         ensures later { S.faults store.old ≤ S.faults store.new }
         ensures rose { is_disk_step result ≡ true → Rose (S.faults store.old) (S.faults store.new) }
         ensures going { GoesOn result self.new.hand.phase }
-        ensures beside { Beside session (is_disk_step result) (S.state store.old) (S.state store.new) }
-        ensures keeps { CrashesLeave (S.state store.old).entries Keeps (S.crashes store.old) (S.crashes store.new) }
+        ensures beside { Beside session (is_disk_step result) (S.state store.old)
+            (S.state store.new) }
+        ensures keeps { CrashesLeave (S.state store.old).entries Keeps (S.crashes store.old)
+            (S.crashes store.new) }
         ensures stays { is_some self.old.fault ≡ true → is_some self.new.fault ≡ true }
         ensures stops { is_some self.new.fault ≡ true → StopsAs self.old.fault result }
-        ensures asks { IsSet self.old.dialect session self.new.hand (S.state store.old) (S.state store.new) }
+        ensures asks { IsSet self.old.dialect session self.new.hand (S.state store.old)
+            (S.state store.new) }
     {
         match stands(&self.stamp, store) {
             Holding::Bare => self.held(session, store, sql, false),
@@ -381,22 +434,30 @@ impl<T: Source + Drop> Runner<T> {
         requires inside { self.old.hand.phase ≡ phase.Inside }
         requires none_left { self.old.hand.calls ≡ [] }
         requires closed { is_open session (S.state store.old).begun ≡ false }
-        requires lock { IfSome (lock_of (S.state store.old).dialect (S.state store.old).committed) (λ lock. HoldsAs self.old.stamp lock is_marked) }
+        requires lock { IfSome (lock_of (S.state store.old).dialect (S.state store.old).committed)
+            (λ lock. HoldsAs self.old.stamp lock is_marked) }
         requires disk { disk_failed self.old.fault ≡ false }
         ensures valid { S.valid store.new }
         ensures same { (self.new.dialect ≡ self.old.dialect) × (self.new.stamp ≡ self.old.stamp) }
         ensures reads { T.reads self.new.source self.new.dialect }
-        ensures steps { Steps self.old.dialect T.meaning self.old.stamp session (standing T.left T.way self.old) (standing T.left T.way self.new) (S.state store.old) result (S.state store.new) }
-        ensures crash { CrashesStep self.old.dialect T.meaning self.old.stamp session (standing T.left T.way self.old) self.new.fault (S.state store.old) (S.crashes store.old) (S.crashes store.new) }
+        ensures steps { Steps self.old.dialect T.meaning self.old.stamp session
+            (standing T.left T.way self.old) (standing T.left T.way self.new) (S.state store.old)
+            result (S.state store.new) }
+        ensures crash { CrashesStep self.old.dialect T.meaning self.old.stamp session
+            (standing T.left T.way self.old) self.new.fault (S.state store.old)
+            (S.crashes store.old) (S.crashes store.new) }
         ensures disk { disk_failed self.new.fault ≡ false }
         ensures later { S.faults store.old ≤ S.faults store.new }
         ensures rose { is_disk_step result ≡ true → Rose (S.faults store.old) (S.faults store.new) }
         ensures going { GoesOn result self.new.hand.phase }
-        ensures beside { Beside session (is_disk_step result) (S.state store.old) (S.state store.new) }
-        ensures keeps { CrashesLeave (S.state store.old).entries Keeps (S.crashes store.old) (S.crashes store.new) }
+        ensures beside { Beside session (is_disk_step result) (S.state store.old)
+            (S.state store.new) }
+        ensures keeps { CrashesLeave (S.state store.old).entries Keeps (S.crashes store.old)
+            (S.crashes store.new) }
         ensures stays { is_some self.old.fault ≡ true → is_some self.new.fault ≡ true }
         ensures stops { is_some self.new.fault ≡ true → StopsAs self.old.fault result }
-        ensures asks { IsSet self.old.dialect session self.new.hand (S.state store.old) (S.state store.new) }
+        ensures asks { IsSet self.old.dialect session self.new.hand (S.state store.old)
+            (S.state store.new) }
     {
         if may_enter(self.fault, self.refused) {
             self.enter(session, store, sql, is_marked)
@@ -421,22 +482,30 @@ impl<T: Source + Drop> Runner<T> {
         requires none_left { self.old.hand.calls ≡ [] }
         requires closed { is_open session (S.state store.old).begun ≡ false }
         requires enters { enters_turns self.old.fault self.old.refused ≡ true }
-        requires lock { IfSome (lock_of (S.state store.old).dialect (S.state store.old).committed) (λ lock. HoldsAs self.old.stamp lock is_marked) }
+        requires lock { IfSome (lock_of (S.state store.old).dialect (S.state store.old).committed)
+            (λ lock. HoldsAs self.old.stamp lock is_marked) }
         requires disk { disk_failed self.old.fault ≡ false }
         ensures valid { S.valid store.new }
         ensures same { (self.new.dialect ≡ self.old.dialect) × (self.new.stamp ≡ self.old.stamp) }
         ensures reads { T.reads self.new.source self.new.dialect }
-        ensures steps { Steps self.old.dialect T.meaning self.old.stamp session (standing T.left T.way self.old) (standing T.left T.way self.new) (S.state store.old) result (S.state store.new) }
-        ensures crash { CrashesStep self.old.dialect T.meaning self.old.stamp session (standing T.left T.way self.old) self.new.fault (S.state store.old) (S.crashes store.old) (S.crashes store.new) }
+        ensures steps { Steps self.old.dialect T.meaning self.old.stamp session
+            (standing T.left T.way self.old) (standing T.left T.way self.new) (S.state store.old)
+            result (S.state store.new) }
+        ensures crash { CrashesStep self.old.dialect T.meaning self.old.stamp session
+            (standing T.left T.way self.old) self.new.fault (S.state store.old)
+            (S.crashes store.old) (S.crashes store.new) }
         ensures disk { disk_failed self.new.fault ≡ false }
         ensures later { S.faults store.old ≤ S.faults store.new }
         ensures rose { is_disk_step result ≡ true → Rose (S.faults store.old) (S.faults store.new) }
         ensures going { GoesOn result self.new.hand.phase }
-        ensures beside { Beside session (is_disk_step result) (S.state store.old) (S.state store.new) }
-        ensures keeps { CrashesLeave (S.state store.old).entries Keeps (S.crashes store.old) (S.crashes store.new) }
+        ensures beside { Beside session (is_disk_step result) (S.state store.old)
+            (S.state store.new) }
+        ensures keeps { CrashesLeave (S.state store.old).entries Keeps (S.crashes store.old)
+            (S.crashes store.new) }
         ensures stays { is_some self.old.fault ≡ true → is_some self.new.fault ≡ true }
         ensures stops { is_some self.new.fault ≡ true → StopsAs self.old.fault result }
-        ensures asks { IsSet self.old.dialect session self.new.hand (S.state store.old) (S.state store.new) }
+        ensures asks { IsSet self.old.dialect session self.new.hand (S.state store.old)
+            (S.state store.new) }
     {
         match next(
             &mut self.source,
@@ -473,23 +542,31 @@ impl<T: Source + Drop> Runner<T> {
         requires live { IsTrue (S.state store.old).live }
         requires sql { P.dialect ≡ self.old.dialect }
         requires closed { is_open session (S.state store.old).begun ≡ false }
-        requires lock { IfSome (lock_of (S.state store.old).dialect (S.state store.old).committed) (λ lock. HoldsAs self.old.stamp lock is_marked) }
+        requires lock { IfSome (lock_of (S.state store.old).dialect (S.state store.old).committed)
+            (λ lock. HoldsAs self.old.stamp lock is_marked) }
         requires disk { disk_failed self.old.fault ≡ false }
         ensures valid { S.valid store.new }
         ensures same { (self.new.dialect ≡ self.old.dialect) × (self.new.stamp ≡ self.old.stamp) }
         ensures reads { T.reads self.new.source self.new.dialect }
-        ensures ends { EndsFor self.old.dialect T.meaning self.old.stamp session self.old.fault self.old.refused (S.state store.old) result (S.state store.new) }
-        ensures crash { CrashesClosing self.old.dialect self.old.stamp session self.old.fault (S.state store.old) (S.crashes store.old) (S.crashes store.new) }
+        ensures ends { EndsFor self.old.dialect T.meaning self.old.stamp session self.old.fault
+            self.old.refused (S.state store.old) result (S.state store.new) }
+        ensures crash { CrashesClosing self.old.dialect self.old.stamp session self.old.fault
+            (S.state store.old) (S.crashes store.old) (S.crashes store.new) }
         ensures source { self.new.source ≡ self.old.source }
         ensures disk { disk_failed self.new.fault ≡ false }
         ensures later { S.faults store.old ≤ S.faults store.new }
         ensures rose { is_disk_step result ≡ true → Rose (S.faults store.old) (S.faults store.new) }
         ensures going { GoesOn result self.new.hand.phase }
-        ensures beside { Beside session (is_disk_step result) (S.state store.old) (S.state store.new) }
-        ensures keeps { CrashesLeave (S.state store.old).entries Keeps (S.crashes store.old) (S.crashes store.new) }
+        ensures beside { Beside session (is_disk_step result) (S.state store.old)
+            (S.state store.new) }
+        ensures keeps { CrashesLeave (S.state store.old).entries Keeps (S.crashes store.old)
+            (S.crashes store.new) }
         ensures stays { is_some self.old.fault ≡ true → is_some self.new.fault ≡ true }
-        ensures stops { (before : Option Fault) → is_some self.new.fault ≡ true → StopsAs before result }
-        ensures asks { IsSet self.old.dialect session self.new.hand (S.state store.old) (S.state store.new) }
+        ensures stops { (before : Option Fault)
+            → is_some self.new.fault ≡ true
+            → StopsAs before result }
+        ensures asks { IsSet self.old.dialect session self.new.hand (S.state store.old)
+            (S.state store.new) }
     {
         match self.fault {
             None => self.close(session, store, sql),
@@ -511,24 +588,32 @@ impl<T: Source + Drop> Runner<T> {
         requires live { IsTrue (S.state store.old).live }
         requires sql { P.dialect ≡ self.old.dialect }
         requires closed { is_open session (S.state store.old).begun ≡ false }
-        requires lock { IfSome (lock_of (S.state store.old).dialect (S.state store.old).committed) (λ lock. HoldsAs self.old.stamp lock is_marked) }
+        requires lock { IfSome (lock_of (S.state store.old).dialect (S.state store.old).committed)
+            (λ lock. HoldsAs self.old.stamp lock is_marked) }
         requires fault { self.old.fault ≡ Some fault }
         requires disk { disk_failed self.old.fault ≡ false }
         ensures valid { S.valid store.new }
         ensures same { (self.new.dialect ≡ self.old.dialect) × (self.new.stamp ≡ self.old.stamp) }
         ensures reads { T.reads self.new.source self.new.dialect }
-        ensures ends { EndsFor self.old.dialect T.meaning self.old.stamp session (Some fault) self.old.refused (S.state store.old) result (S.state store.new) }
-        ensures crash { CrashesClosing self.old.dialect self.old.stamp session (Some fault) (S.state store.old) (S.crashes store.old) (S.crashes store.new) }
+        ensures ends { EndsFor self.old.dialect T.meaning self.old.stamp session (Some fault)
+            self.old.refused (S.state store.old) result (S.state store.new) }
+        ensures crash { CrashesClosing self.old.dialect self.old.stamp session (Some fault)
+            (S.state store.old) (S.crashes store.old) (S.crashes store.new) }
         ensures source { self.new.source ≡ self.old.source }
         ensures disk { disk_failed self.new.fault ≡ false }
         ensures later { S.faults store.old ≤ S.faults store.new }
         ensures rose { is_disk_step result ≡ true → Rose (S.faults store.old) (S.faults store.new) }
         ensures going { GoesOn result self.new.hand.phase }
-        ensures beside { Beside session (is_disk_step result) (S.state store.old) (S.state store.new) }
-        ensures keeps { CrashesLeave (S.state store.old).entries Keeps (S.crashes store.old) (S.crashes store.new) }
+        ensures beside { Beside session (is_disk_step result) (S.state store.old)
+            (S.state store.new) }
+        ensures keeps { CrashesLeave (S.state store.old).entries Keeps (S.crashes store.old)
+            (S.crashes store.new) }
         ensures stays { is_some self.old.fault ≡ true → is_some self.new.fault ≡ true }
-        ensures stops { (before : Option Fault) → is_some self.new.fault ≡ true → StopsAs before result }
-        ensures asks { IsSet self.old.dialect session self.new.hand (S.state store.old) (S.state store.new) }
+        ensures stops { (before : Option Fault)
+            → is_some self.new.fault ≡ true
+            → StopsAs before result }
+        ensures asks { IsSet self.old.dialect session self.new.hand (S.state store.old)
+            (S.state store.new) }
     {
         if is_marked {
             self.hand.phase = Phase::Over;
@@ -547,18 +632,26 @@ impl<T: Source + Drop> Runner<T> {
         ensures valid { S.valid store.new }
         ensures same { (self.new.dialect ≡ self.old.dialect) × (self.new.stamp ≡ self.old.stamp) }
         ensures reads { T.reads self.new.source self.new.dialect }
-        ensures closes { ClosesFor self.old.dialect T.meaning self.old.stamp session (last_end self.old.fault self.old.refused) (S.state store.old) result (S.state store.new) }
-        ensures crash { CrashesFor self.old.dialect session closing (S.state store.old) (S.crashes store.old) (S.crashes store.new) }
+        ensures closes { ClosesFor self.old.dialect T.meaning self.old.stamp session
+            (last_end self.old.fault self.old.refused) (S.state store.old) result
+            (S.state store.new) }
+        ensures crash { CrashesFor self.old.dialect session closing (S.state store.old)
+            (S.crashes store.old) (S.crashes store.new) }
         ensures source { self.new.source ≡ self.old.source }
         ensures disk { disk_failed self.new.fault ≡ false }
         ensures later { S.faults store.old ≤ S.faults store.new }
         ensures rose { is_disk_step result ≡ true → Rose (S.faults store.old) (S.faults store.new) }
         ensures going { GoesOn result self.new.hand.phase }
-        ensures beside { Beside session (is_disk_step result) (S.state store.old) (S.state store.new) }
-        ensures keeps { CrashesLeave (S.state store.old).entries Keeps (S.crashes store.old) (S.crashes store.new) }
+        ensures beside { Beside session (is_disk_step result) (S.state store.old)
+            (S.state store.new) }
+        ensures keeps { CrashesLeave (S.state store.old).entries Keeps (S.crashes store.old)
+            (S.crashes store.new) }
         ensures stays { is_some self.old.fault ≡ true → is_some self.new.fault ≡ true }
-        ensures stops { (before : Option Fault) → is_some self.new.fault ≡ true → StopsAs before result }
-        ensures asks { IsSet self.old.dialect session self.new.hand (S.state store.old) (S.state store.new) }
+        ensures stops { (before : Option Fault)
+            → is_some self.new.fault ≡ true
+            → StopsAs before result }
+        ensures asks { IsSet self.old.dialect session self.new.hand (S.state store.old)
+            (S.state store.new) }
     {
         self.hand.phase = Phase::Over;
         match do_alone(
@@ -590,7 +683,9 @@ fn next<T: Source, S: Store, P: SqlText>(
     requires reads { T.reads source.old dialect }
     requires sql { P.dialect ≡ dialect }
     requires moment { stamp.now.reading ≤ 253402300799999 }
-    ensures enters { Enters dialect T.meaning stamp.now (T.left source.old) (T.way source.old dialect stamp.now) (seen session (S.state store.now)) result (T.left source.new) (T.way source.new dialect stamp.now) }
+    ensures enters { Enters dialect T.meaning stamp.now (T.left source.old)
+        (T.way source.old dialect stamp.now) (seen session (S.state store.now)) result
+        (T.left source.new) (T.way source.new dialect stamp.now) }
     ensures reads { T.reads source.new dialect }
 {
     match store.look(session) {
@@ -611,7 +706,10 @@ fn show<T: Source, S: Store>(
     requires live { IsTrue (S.state store.now).live }
     requires reads { T.reads source.old dialect }
     ensures left { T.left source.new ≡ T.left source.old }
-    ensures shows { IsShowing session (S.state store.now) → (stamp : Clocked) (told : T.Told) → Shows dialect call (seen session (S.state store.now)) (T.way source.old dialect stamp told) (T.way source.new dialect stamp told) }
+    ensures shows { IsShowing session (S.state store.now)
+        → (stamp : Clocked) (told : T.Told)
+        → Shows dialect call (seen session (S.state store.now))
+        (T.way source.old dialect stamp told) (T.way source.new dialect stamp told) }
     ensures reads { T.reads source.new dialect }
 {
     if is_statement(call) {
@@ -625,7 +723,10 @@ fn look_at<T: Source, S: Store>(source: &mut T, dialect: Dialect, session: u32, 
     requires live { IsTrue (S.state store.now).live }
     requires reads { T.reads source.old dialect }
     ensures left { T.left source.new ≡ T.left source.old }
-    ensures looks { IsShowing session (S.state store.now) → (stamp : Clocked) (told : T.Told) → Looks dialect (seen session (S.state store.now)) (T.way source.old dialect stamp told) (T.way source.new dialect stamp told) }
+    ensures looks { IsShowing session (S.state store.now)
+        → (stamp : Clocked) (told : T.Told)
+        → Looks dialect (seen session (S.state store.now)) (T.way source.old dialect stamp told)
+        (T.way source.new dialect stamp told) }
     ensures reads { T.reads source.new dialect }
 {
     match store.look(session) {
@@ -646,7 +747,10 @@ fn is_statement(call: Coming) -> bool
 // A call of the turn in hand was accepted, perhaps its last.
 fn taken<T: Source>(source: &mut T, hand: &Hand)
     ensures left { T.left source.new ≡ T.left source.old }
-    ensures knows { (d : Dialect) (stamp : Clocked) (told : T.Told) (goes_on : Bool) (p : Counted) (x : Both) → Expects d (T.way source.old d stamp told) goes_on (calls_left hand.now) p x → KnownIn d (T.way source.new d stamp told) goes_on (calls_left hand.now) p x }
+    ensures knows { (d : Dialect) (stamp : Clocked) (told : T.Told) (goes_on : Bool) (p : Counted)
+        (x : Both)
+        → Expects d (T.way source.old d stamp told) goes_on (calls_left hand.now) p x
+        → KnownIn d (T.way source.new d stamp told) goes_on (calls_left hand.now) p x }
     ensures reads { (d : Dialect) → T.reads source.old d → T.reads source.new d }
 {
     if !hand.calls.is_empty() {
@@ -670,7 +774,8 @@ fn stands<S: Store>(stamp: &Stamp, store: &S) -> Holding
     requires valid { S.valid store.now }
     requires live { IsTrue (S.state store.now).live }
     requires moment { stamp.now.reading ≤ 253402300799999 }
-    ensures { IfSome (lock_of (S.state store.now).dialect (S.state store.now).committed) (λ lock. Holds stamp.now lock result) }
+    ensures { IfSome (lock_of (S.state store.now).dialect (S.state store.now).committed)
+        (λ lock. Holds stamp.now lock result) }
 {
     lock_held(stamp, store.lock())
 }
@@ -678,7 +783,8 @@ fn stands<S: Store>(stamp: &Stamp, store: &S) -> Holding
 fn locked<S: Store>(alloc: Global, store: &S) -> Step
     requires valid { S.valid store.now }
     requires live { IsTrue (S.state store.now).live }
-    ensures tells { IfSome (lock_of (S.state store.now).dialect (S.state store.now).committed) (λ lock. TellsLock lock result) }
+    ensures tells { IfSome (lock_of (S.state store.now).dialect (S.state store.now).committed)
+        (λ lock. TellsLock lock result) }
     ensures told { is_disk_step result ≡ false }
     ensures stops { (before : Option Fault) → is_some before ≡ true → StopsAs before result }
     ensures over { GoesOn result phase.Over }

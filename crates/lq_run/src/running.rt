@@ -28,11 +28,16 @@ pub fn run_on<T: Source + Drop, S: Store, P: SqlText>(
     requires sql { P.dialect ≡ runner.old.dialect }
     requires moment { runner.old.stamp.reading ≤ 253402300799999 }
     requires begun { is_over runner.old.hand.phase ≡ false }
-    requires runs { Runs runner.old.dialect T.meaning runner.old.stamp session (standing T.left T.way runner.old) (S.state store.old) }
+    requires runs { Runs runner.old.dialect T.meaning runner.old.stamp session
+        (standing T.left T.way runner.old) (S.state store.old) }
     ensures valid { S.valid store.new }
-    ensures ends { RunsOn runner.old.dialect T.meaning runner.old.stamp session (standing T.left T.way runner.old) (S.state store.old) result (S.state store.new) }
-    ensures crash { CrashesOn runner.old.dialect T.meaning runner.old.stamp session (standing T.left T.way runner.old) (S.state store.old) (S.crashes store.old) (S.crashes store.new) }
-    ensures tells { TellsOn runner.old.dialect T.meaning runner.old.stamp session (standing T.left T.way runner.old) (S.state store.old) result (T.way runner.new.source) }
+    ensures ends { RunsOn runner.old.dialect T.meaning runner.old.stamp session
+        (standing T.left T.way runner.old) (S.state store.old) result (S.state store.new) }
+    ensures crash { CrashesOn runner.old.dialect T.meaning runner.old.stamp session
+        (standing T.left T.way runner.old) (S.state store.old) (S.crashes store.old)
+        (S.crashes store.new) }
+    ensures tells { TellsOn runner.old.dialect T.meaning runner.old.stamp session
+        (standing T.left T.way runner.old) (S.state store.old) result (T.way runner.new.source) }
     ensures later { S.faults store.old ≤ S.faults store.new }
     ensures rose { is_disk_end result ≡ true → Rose (S.faults store.old) (S.faults store.new) }
 {

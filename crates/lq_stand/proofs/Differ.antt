@@ -16,12 +16,12 @@ use Rattle.lq_track.specs.Database.{has_twin_rows, same_identity}
 use Rattle.lq_track.specs.Log.{identity_of}
 use Rattle.lq_turns.proofs.RowsFound.{same_is}
 use Rattle.lq_turns.specs.Contents.{Contents}
-use Rattle.lq_turns.specs.Deed.{filled, has_place, is_of, others, renewed, rows_after, tagged, theirs}
+use Rattle.lq_turns.specs.Deed.{filled, has_place, is_of, others, renewed, rows_after, tagged, theirs, without_sum}
 use Rattle.lq_turns.specs.Set.{has_row}
 use Rattle.lq_turns.specs.Settle.{greatest}
 use Rattle.lq_turns.specs.Turn.{Course, Ending, Finished, Stuck, Through, contents_in, course, ending, is_marked, kept, refused, row_ending}
 use Rattle.lq_turns.specs.declared.deed.OnRows.{OnRows}
-use Rattle.lq_turns.specs.declared.deed.OnRows.TheVariants.{Deleted, Filled, Inserted, Renewed, Tagged}
+use Rattle.lq_turns.specs.declared.deed.OnRows.TheVariants.{Cleared, Deleted, Filled, Inserted, Renewed, Tagged}
 use Rattle.lq_turns.specs.declared.turn.Turn.{Turn}
 use Rattle.lq_beside.proofs.OneRow.{once_apart}
 
@@ -119,6 +119,7 @@ Adds (Renewed row) rows = greatest rows < row.order
 Adds (Deleted of) rows = Unit {0}
 Adds (Filled of sum) rows = Unit {0}
 Adds (Tagged of tag) rows = Unit {0}
+Adds Cleared rows = Unit {0}
 
 filled_differ : (of : Identity) (sum : List ℕ) (rows : List Tracked) → has_twin_rows (map (filled of sum) rows) ≡ has_twin_rows rows
 filled_differ of sum rows = changed_same (filled of sum)
@@ -129,6 +130,9 @@ pub tagged_differ : (of : Identity) (tag : List ℕ) (rows : List Tracked) → h
 tagged_differ of tag rows = changed_same (tagged of tag)
     (λ r. elim (is_of of r) as (λ b. identity_of (if b then record r { tag = Some tag } else r) ≡ identity_of r) [ true ↦ refl | false ↦ refl ])
     (λ r. elim (is_of of r) as (λ b. (if b then record r { tag = Some tag } else r).order ≡ r.order) [ true ↦ refl | false ↦ refl ]) rows
+
+cleared_differ : (rows : List Tracked) → has_twin_rows (map without_sum rows) ≡ has_twin_rows rows
+cleared_differ rows = changed_same without_sum (λ r. refl) (λ r. refl) rows
 
 pub differ_after : (w : OnRows) (rows now : List Tracked) → Adds w rows → has_twin_rows rows ≡ false → rows_after w rows ≡ Ok now → has_twin_rows now ≡ false
 differ_after (Inserted row) rows now adds differ is = by (has_place row) (nat_lt (length rows) 100000) is where
@@ -143,6 +147,7 @@ differ_after (Renewed row) rows now adds differ is = by (has_place row) is where
 differ_after (Deleted of) rows now adds differ is = ap has_twin_rows (sym (ok_same is)) ∙ fewer_differ (λ r. not (is_of of r)) rows differ
 differ_after (Filled of sum) rows now adds differ is = ap has_twin_rows (sym (ok_same is)) ∙ filled_differ of sum rows ∙ differ
 differ_after (Tagged of tag) rows now adds differ is = ap has_twin_rows (sym (ok_same is)) ∙ tagged_differ of tag rows ∙ differ
+differ_after Cleared rows now adds differ is = ap has_twin_rows (sym (ok_same is)) ∙ cleared_differ rows ∙ differ
 
 -- and a turn that does it
 pub differ_ending : (d : Dialect) (turn : Turn) (c : Contents) → Adds turn.row c.rows → has_twin_rows c.rows ≡ false → has_twin_rows (contents_in (ending d turn c)).rows ≡ false

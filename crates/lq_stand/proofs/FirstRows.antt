@@ -16,6 +16,7 @@ use Rattle.lq_base.specs.declared.tracking.Tracked.{Tracked}
 use Rattle.lq_model.proofs.Lists.{all-append, and_left, and_right, and_true, true_false}
 use Rattle.lq_model.specs.Catalogue.{Catalogue}
 use Rattle.lq_model.specs.Commits.{commits_itself}
+use Rattle.lq_model.specs.Names.{is_empty}
 use Rattle.lq_model.specs.Sound.{IsSound}
 use Rattle.lq_model.specs.Step.{step}
 use Rattle.lq_model.specs.declared.caller.By.TheVariants.{User}
@@ -31,7 +32,7 @@ use Rattle.lq_turns.specs.Deed.{contents_after, done, has_place, if_accepted, is
 use Rattle.lq_turns.specs.Effects.{undoing}
 use Rattle.lq_turns.specs.Laws.{AreRead}
 use Rattle.lq_turns.specs.Rollback.{calls_if_finished, is_mark_ran, rollback_of, set_of, turns_made, undo_by, undo_turn, undo_turns}
-use Rattle.lq_turns.specs.Script.{calls_of_turn, calls_unless, closing, has_work, last_row, opening, rows_to_sync, set_calls, sets_calls, sync_of, tag_of, turn_by, with_lock}
+use Rattle.lq_turns.specs.Script.{calls_of_turn, calls_unless, clearing, closing, has_work, last_row, opening, rows_to_sync, set_calls, sets_calls, sync_of, tag_of, turn_by, with_lock}
 use Rattle.lq_turns.specs.Session.{Session, all_called, all_executed, before, called, closed, executed, executed_as, is_own, session_on, settled_if}
 use Rattle.lq_turns.specs.Set.{IsKept, Meaning, Set, has_row, row_at}
 use Rattle.lq_turns.specs.Settle.{choice, choice_of, exec_of, fill_turn, greatest, is_halt, is_to_fill, mark_turn, own_choice, reacted, record_in, row_for, run_turn, runs_again, settle, tested, what, what_by}
@@ -47,13 +48,13 @@ use Rattle.lq_turns.specs.declared.deed.Deed.TheVariants.{Locks, Rows, Users}
 use Rattle.lq_turns.specs.declared.deed.OnLock.{OnLock}
 use Rattle.lq_turns.specs.declared.deed.OnLock.TheVariants.{Marked}
 use Rattle.lq_turns.specs.declared.deed.OnRows.{OnRows}
-use Rattle.lq_turns.specs.declared.deed.OnRows.TheVariants.{Deleted, Filled, Inserted, Renewed, Tagged}
+use Rattle.lq_turns.specs.declared.deed.OnRows.TheVariants.{Cleared, Deleted, Filled, Inserted, Renewed, Tagged}
 use Rattle.lq_turns.specs.declared.stamp.Stamp.{Stamp}
 use Rattle.lq_turns.specs.declared.stop.Stop.{Stop}
 use Rattle.lq_turns.specs.declared.turn.Turn.{Turn}
 use Rattle.lq_beside.specs.Fitting.{is_deleted}
 use Rattle.lq_stand.specs.First.{call_is_first, calls_are_first, deed_is_first, deeds_are_first, is_first}
-use Rattle.lq_stand.specs.Stays.{ReleaseIsFirst, RollbackIsFirst, SyncIsFirst, TagIsFirst, UpdateIsFirst}
+use Rattle.lq_stand.specs.Stays.{ClearIsFirst, ReleaseIsFirst, RollbackIsFirst, SyncIsFirst, TagIsFirst, UpdateIsFirst}
 
 ok_same : {A : Type 0} {x y : A} → (let r : Result A Reason = Ok x in r) ≡ Ok y → x ≡ y
 ok_same e = Prim.cc
@@ -299,6 +300,7 @@ deleted_first (Inserted row) rows is = true_false is refl
 deleted_first (Renewed row) rows is = true_false is refl
 deleted_first (Filled of sum) rows is = refl
 deleted_first (Tagged of tag) rows is = refl
+deleted_first Cleared rows is = refl
 
 turns_first : (d : Dialect) (who : List ℕ) (turns : List Turn) (c : Contents) (s : Session) → list_all deletes turns ≡ true → At s (twice c) → calls_are_first d (turns_made d who turns c) s ≡ true
 turns_first d who [] c s all at = refl
@@ -354,13 +356,19 @@ module _ {Key : Type 0} (d : Dialect) (m : Meaning Key) where
   pub undone_is_first : (stamp : Stamp) (xs : List (Set Key)) (rows : List Tracked) (turns : List Turn) (database : Database) → undo_turns d m xs rows ≡ Some turns → calls_are_first d (rollback_of d stamp turns database) (session_on database) ≡ true
   undone_is_first stamp xs rows turns database is = rollback_is_first d stamp turns database (subst AllDelete is (undone_delete xs rows))
 
--- a tag and a release-locks
+-- a tag, a clear-checksums and a release-locks
 
 pub tag_is_first : TagIsFirst
 tag_is_first d tag database = by (last_row database.rows) where
   by : (o : Option Tracked) → calls_are_first d (tag_of tag o) (session_on database) ≡ true
   by None = refl
   by (Some row) = refl
+
+pub clear_is_first : ClearIsFirst
+clear_is_first d database = by (is_empty database.rows) where
+  by : (b : Bool) → calls_are_first d (if b then [] else clearing ∷ []) (session_on database) ≡ true
+  by true = refl
+  by false = refl
 
 pub release_is_first : ReleaseIsFirst
 release_is_first d database = by database.lock.locked where

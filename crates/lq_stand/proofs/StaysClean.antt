@@ -27,7 +27,7 @@ use Rattle.lq_turns.specs.declared.deed.Deed.{Deed}
 use Rattle.lq_turns.specs.declared.deed.Deed.TheVariants.{Locks, Rows, Users}
 use Rattle.lq_turns.specs.declared.deed.OnLock.TheVariants.{Freed}
 use Rattle.lq_turns.specs.declared.deed.OnRows.{OnRows}
-use Rattle.lq_turns.specs.declared.deed.OnRows.TheVariants.{Deleted, Filled, Inserted, Renewed, Tagged}
+use Rattle.lq_turns.specs.declared.deed.OnRows.TheVariants.{Cleared, Deleted, Filled, Inserted, Renewed, Tagged}
 use Rattle.lq_beside.proofs.TablesRead.{not_is}
 use Rattle.lq_store.specs.Apart.{names_tracking}
 use Rattle.lq_entries.specs.Load.{is_clean_database}
@@ -67,6 +67,7 @@ adds_of (Renewed row) rows first = less (greatest rows) row.order first
 adds_of (Deleted of) rows first = tt
 adds_of (Filled of sum) rows first = tt
 adds_of (Tagged of tag) rows first = tt
+adds_of Cleared rows first = tt
 
 pub deed_fine : (d : Dialect) (deed : Deed) (x now : Database) → deed_is_first deed x ≡ true → done d deed x ≡ Ok now → IsFine x → IsFine now
 deed_fine d (Users s) x now first is fine = users_fine d s x now is fine

@@ -13,7 +13,7 @@ use Rattle.lq_turns.specs.declared.call.Call.TheVariants.{Abort, Alone, Begin, C
 use Rattle.lq_turns.specs.declared.deed.Deed.{Deed}
 use Rattle.lq_turns.specs.declared.deed.Deed.TheVariants.{Locks, Rows, Users}
 use Rattle.lq_turns.specs.declared.deed.OnRows.{OnRows}
-use Rattle.lq_turns.specs.declared.deed.OnRows.TheVariants.{Deleted, Filled, Inserted, Renewed, Tagged}
+use Rattle.lq_turns.specs.declared.deed.OnRows.TheVariants.{Cleared, Deleted, Filled, Inserted, Renewed, Tagged}
 
 -- a row that is put in is the first of its identity; it, and one that is renewed, has a place behind all others
 abbrev pub is_first : OnRows → List Tracked → Bool
@@ -22,6 +22,7 @@ is_first (Renewed row) rows = nat_lt (greatest rows) row.order
 is_first (Deleted of) rows = true
 is_first (Filled of sum) rows = true
 is_first (Tagged of tag) rows = true
+is_first Cleared rows = true
 
 -- of a deed, in a database
 abbrev pub deed_is_first : Deed → Database → Bool

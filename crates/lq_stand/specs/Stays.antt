@@ -13,7 +13,7 @@ use Rattle.lq_turns.specs.Deed.{all_done}
 use Rattle.lq_turns.specs.Held.{StandsFor}
 use Rattle.lq_turns.specs.Laws.{AreRead}
 use Rattle.lq_turns.specs.Rollback.{rollback_of}
-use Rattle.lq_turns.specs.Script.{release_calls, sync_calls, tag_calls, update_calls}
+use Rattle.lq_turns.specs.Script.{clear_calls, release_calls, sync_calls, tag_calls, update_calls}
 use Rattle.lq_turns.specs.Session.{left_by, session_on}
 use Rattle.lq_turns.specs.Set.{Changelog, Meaning}
 use Rattle.lq_turns.specs.Stops.{IsLeft, Journal, joined}
@@ -63,6 +63,9 @@ RollbackIsFirst = (d : Dialect) (stamp : Stamp) (turns : List Turn) (database : 
 
 abbrev pub TagIsFirst : Type 0
 TagIsFirst = (d : Dialect) (tag : List ℕ) (database : Database) → calls_are_first d (tag_calls tag database) (session_on database) ≡ true
+
+abbrev pub ClearIsFirst : Type 0
+ClearIsFirst = (d : Dialect) (database : Database) → calls_are_first d (clear_calls database) (session_on database) ≡ true
 
 abbrev pub ReleaseIsFirst : Type 0
 ReleaseIsFirst = (d : Dialect) (database : Database) → calls_are_first d (release_calls database) (session_on database) ≡ true

@@ -1,6 +1,6 @@
 ghost use Rattle.lq_stand.specs.Clean.{CleanStands};
 ghost use Rattle.lq_stand.specs.Places.{PlacesAreSmall};
-ghost use Rattle.lq_stand.specs.Stays.{CallsStayClean, CleanIsFound, ReleaseIsFirst, RollbackIsFirst, StatementsStayApart, StopsStayClean, SyncIsFirst, TagIsFirst, UpdateIsFirst};
+ghost use Rattle.lq_stand.specs.Stays.{CallsStayClean, CleanIsFound, ClearIsFirst, ReleaseIsFirst, RollbackIsFirst, StatementsStayApart, StopsStayClean, SyncIsFirst, TagIsFirst, UpdateIsFirst};
 ghost use Rattle.lq_turns.specs.Promised.{meaning};
 
 use lq_model::Change;
@@ -54,6 +54,11 @@ pub fn rollback_is_first()
 /// A tag has none.
 pub fn tag_is_first()
     ensures { TagIsFirst }
+{}
+
+/// A clear-checksums has none.
+pub fn clear_is_first()
+    ensures { ClearIsFirst }
 {}
 
 /// A release-locks has none.

@@ -23,7 +23,8 @@ pub fn lone_line(status: &Status) -> &'static str
 
 fn write_line<L: Sink>(line: &str, log: &mut L) -> Result<(), SinkFailed>
     ensures part { IsPart line.now (L.told log.old) (L.told log.new) }
-    ensures whole { OnOk result (L.told log.new ≡ option_map (λ before. before ++ line.now) (L.told log.old)) }
+    ensures whole { OnOk result
+        (L.told log.new ≡ option_map (λ before. before ++ line.now) (L.told log.old)) }
     ensures stays { OnOk result (L.faults log.new ≡ L.faults log.old) }
     ensures failed { OnErr result (Rose (L.faults log.old) (L.faults log.new)) }
 {
@@ -32,7 +33,9 @@ fn write_line<L: Sink>(line: &str, log: &mut L) -> Result<(), SinkFailed>
 
 fn write_lines<L: Sink>(warnings: &str, lines: &str, log: &mut L) -> Result<(), SinkFailed>
     ensures part { IsPart (warnings.now ++ lines.now) (L.told log.old) (L.told log.new) }
-    ensures whole { OnOk result (L.told log.new ≡ option_map (λ before. before ++ (warnings.now ++ lines.now)) (L.told log.old)) }
+    ensures whole { OnOk result
+        (L.told log.new
+        ≡ option_map (λ before. before ++ (warnings.now ++ lines.now)) (L.told log.old)) }
     ensures failed { OnErr result (Rose (L.faults log.old) (L.faults log.new)) }
 {
     match write_line(warnings, log) {
@@ -44,7 +47,9 @@ fn write_lines<L: Sink>(warnings: &str, lines: &str, log: &mut L) -> Result<(), 
 /// Writes warnings to the log and then a status's lines. That the log fails is dropped.
 pub fn log_lines<L: Sink>(warnings: &str, lines: &str, log: &mut L)
     ensures part { IsPart (warnings.now ++ lines.now) (L.told log.old) (L.told log.new) }
-    ensures whole { (Rose (L.faults log.old) (L.faults log.new) → ⊥) → L.told log.new ≡ option_map (λ before. before ++ (warnings.now ++ lines.now)) (L.told log.old) }
+    ensures whole { (Rose (L.faults log.old) (L.faults log.new) → ⊥)
+        → L.told log.new
+        ≡ option_map (λ before. before ++ (warnings.now ++ lines.now)) (L.told log.old) }
 {
     let _ = write_lines(warnings, lines, log);
 }

@@ -68,7 +68,8 @@ fn tell_with(
     ensures status { IfOk result (λ told. told.status ≡ status) }
     ensures out { IfOk result (λ told. told.out ≡ out) }
     ensures warnings { IfOk result (λ told. told.warnings ≡ warning_lines own warned.now) }
-    ensures lines { IfOk result (λ told. told.lines ≡ status_lines (option_copied tag.entry) status) }
+    ensures lines { IfOk result
+        (λ told. told.lines ≡ status_lines (option_copied tag.entry) status) }
     ensures no_memory { IfErr result (λ fault. fault ≡ Status.OutOfMemory) }
 {
     let warnings = warning_lines(alloc, own, warned)?;

@@ -28,14 +28,22 @@ pub fn tell<O: Sink, L: Sink>(
     log: &mut L,
 ) -> Status
     ensures status { EndsAs (status_done done) result }
-    ensures write { result ≡ Status.WriteFault → (status_done done ≡ Status.WriteFault) ⊎ Rose (O.faults out.old) (O.faults out.new) }
-    ensures cut { result ≡ Status.WriteFault → (status_done done ≡ Status.WriteFault) ⊎ IsTrue (has_output (status_done done)) }
-    ensures had { result ≡ Status.WriteFault → (status_done done ≡ Status.WriteFault) ⊎ IsTrue (is_some (out_of done)) }
+    ensures write { result ≡ Status.WriteFault
+        → (status_done done ≡ Status.WriteFault) ⊎ Rose (O.faults out.old) (O.faults out.new) }
+    ensures cut { result ≡ Status.WriteFault
+        → (status_done done ≡ Status.WriteFault) ⊎ IsTrue (has_output (status_done done)) }
+    ensures had { result ≡ Status.WriteFault
+        → (status_done done ≡ Status.WriteFault) ⊎ IsTrue (is_some (out_of done)) }
     ensures silent { IsSilent result → O.told out.new ≡ O.told out.old }
-    ensures whole { IsTrue (has_output result) → O.told out.new ≡ option_map (λ before. before ++ out_text done) (O.told out.old) }
+    ensures whole { IsTrue (has_output result)
+        → O.told out.new ≡ option_map (λ before. before ++ out_text done) (O.told out.old) }
     ensures part { IsPart (out_text done) (O.told out.old) (O.told out.new) }
-    ensures logged { (Rose (L.faults log.old) (L.faults log.new) → ⊥) → L.told log.new ≡ option_map (λ before. before ++ log_text (option_copied tag.entry) done result) (L.told log.old) }
-    ensures log_part { IsPart (log_text (option_copied tag.entry) done result) (L.told log.old) (L.told log.new) }
+    ensures logged { (Rose (L.faults log.old) (L.faults log.new) → ⊥)
+        → L.told log.new
+        ≡ option_map (λ before. before ++ log_text (option_copied tag.entry) done result)
+        (L.told log.old) }
+    ensures log_part { IsPart (log_text (option_copied tag.entry) done result) (L.told log.old)
+        (L.told log.new) }
 {
     match told_of(alloc, done, tag) {
         Ok(told) => write_told(told, out, log),
@@ -48,14 +56,24 @@ pub fn tell<O: Sink, L: Sink>(
 
 fn write_told<O: Sink, L: Sink>(told: Told, out: &mut O, log: &mut L) -> Status
     ensures status { (result ≡ told.status) ⊎ (result ≡ Status.WriteFault) }
-    ensures write { result ≡ Status.WriteFault → (told.status ≡ Status.WriteFault) ⊎ Rose (O.faults out.old) (O.faults out.new) }
-    ensures cut { result ≡ Status.WriteFault → (told.status ≡ Status.WriteFault) ⊎ IsTrue (has_output told.status) }
-    ensures had { result ≡ Status.WriteFault → (told.status ≡ Status.WriteFault) ⊎ IsTrue (is_some told.out) }
+    ensures write { result ≡ Status.WriteFault
+        → (told.status ≡ Status.WriteFault) ⊎ Rose (O.faults out.old) (O.faults out.new) }
+    ensures cut { result ≡ Status.WriteFault
+        → (told.status ≡ Status.WriteFault) ⊎ IsTrue (has_output told.status) }
+    ensures had { result ≡ Status.WriteFault
+        → (told.status ≡ Status.WriteFault) ⊎ IsTrue (is_some told.out) }
     ensures silent { IsSilent result → O.told out.new ≡ O.told out.old }
-    ensures whole { IsTrue (has_output result) → O.told out.new ≡ option_map (λ before. before ++ text_or_none told.out) (O.told out.old) }
+    ensures whole { IsTrue (has_output result)
+        → O.told out.new ≡ option_map (λ before. before ++ text_or_none told.out) (O.told out.old) }
     ensures part { IsPart (text_or_none told.out) (O.told out.old) (O.told out.new) }
-    ensures logged { (tag : Option (List ℕ)) (done : Result Done Status) → HasTexts tag done told → (Rose (L.faults log.old) (L.faults log.new) → ⊥) → L.told log.new ≡ option_map (λ before. before ++ log_text tag done result) (L.told log.old) }
-    ensures log_part { (tag : Option (List ℕ)) (done : Result Done Status) → HasTexts tag done told → IsPart (log_text tag done result) (L.told log.old) (L.told log.new) }
+    ensures logged { (tag : Option (List ℕ)) (done : Result Done Status)
+        → HasTexts tag done told
+        → (Rose (L.faults log.old) (L.faults log.new) → ⊥)
+        → L.told log.new
+        ≡ option_map (λ before. before ++ log_text tag done result) (L.told log.old) }
+    ensures log_part { (tag : Option (List ℕ)) (done : Result Done Status)
+        → HasTexts tag done told
+        → IsPart (log_text tag done result) (L.told log.old) (L.told log.new) }
 {
     let Told {
         status,
@@ -77,9 +95,13 @@ fn write_told<O: Sink, L: Sink>(told: Told, out: &mut O, log: &mut L) -> Status
 
 // Writes the text for the output, where the status is one with an output.
 fn write_text<O: Sink>(status: &Status, text: &Option<Text>, out: &mut O) -> Result<(), SinkFailed>
-    ensures silent { has_output status.now ≡ false → (result ≡ Ok tt) × (O.told out.new ≡ O.told out.old) }
+    ensures silent { has_output status.now ≡ false
+        → (result ≡ Ok tt) × (O.told out.new ≡ O.told out.old) }
     ensures none { is_some text.now ≡ false → result ≡ Ok tt }
-    ensures whole { has_output status.now ≡ true → OnOk result (O.told out.new ≡ option_map (λ before. before ++ text_or_none text.now) (O.told out.old)) }
+    ensures whole { has_output status.now ≡ true
+        → OnOk result
+        (O.told out.new
+        ≡ option_map (λ before. before ++ text_or_none text.now) (O.told out.old)) }
     ensures part { IsPart (text_or_none text.now) (O.told out.old) (O.told out.new) }
     ensures failed { OnErr result (Rose (O.faults out.old) (O.faults out.new)) }
 {
@@ -92,7 +114,8 @@ fn write_text<O: Sink>(status: &Status, text: &Option<Text>, out: &mut O) -> Res
 
 fn write_some<O: Sink>(text: &Option<Text>, out: &mut O) -> Result<(), SinkFailed>
     ensures none { is_some text.now ≡ false → result ≡ Ok tt }
-    ensures whole { OnOk result (O.told out.new ≡ option_map (λ before. before ++ text_or_none text.now) (O.told out.old)) }
+    ensures whole { OnOk result
+        (O.told out.new ≡ option_map (λ before. before ++ text_or_none text.now) (O.told out.old)) }
     ensures part { IsPart (text_or_none text.now) (O.told out.old) (O.told out.new) }
     ensures failed { OnErr result (Rose (O.faults out.old) (O.faults out.new)) }
 {

@@ -31,7 +31,8 @@ pub fn changelog_of<F: Files, P: SqlText>(
     given: &[(Text, Text)],
 ) -> Result<Changelog, LoadFault>
     requires same { P.dialect ≡ dialect }
-    ensures loaded { Finds (F.told files.old) (λ source. loaded source dialect given.now root.now) result }
+    ensures loaded { Finds (F.told files.old) (λ source. loaded source dialect given.now root.now)
+        result }
     ensures read { IfOk result (λ g. AreFor dialect g) }
     ensures short { IfOk result (λ g. All HasShortTexts g.sets) }
     ensures told { F.told files.new ≡ F.told files.old }
@@ -60,7 +61,8 @@ fn no_changelog(alloc: Global) -> Changelog
 pub fn part_for(job: &Job, changelog: Changelog) -> Option<Changelog>
     ensures part { result ≡ part_for job.now changelog }
     ensures read { (d : AnyDialect) → AreFor d changelog → IfSome result (AreFor d) }
-    ensures short { All HasShortTexts changelog.sets → IfSome result (λ part. All HasShortTexts part.sets) }
+    ensures short { All HasShortTexts changelog.sets
+        → IfSome result (λ part. All HasShortTexts part.sets) }
 {
     match job {
         Job::UpdateTo(tag) => up_to_tag(changelog, tag),

@@ -59,13 +59,25 @@ pub fn on_copy<D: Disk, C: Clock, P: SqlText + Drop + Copy>(
     requires sql { P.dialect ≡ asked.options.dialect }
     requires read { AreFor asked.options.dialect asked.changelog }
     requires short { All HasShortTexts asked.changelog.sets }
-    ensures answers { OnFile asked.options.dialect (D.told disk.old) (λ database. Answers (job_refusal (job_of printing.entry) (given_at asked (stamp_of who.now (C.last clock.new))) database) result) }
-    ensures tells { OnFile asked.options.dialect (D.told disk.old) (λ database. TellsJob (job_of printing.entry) (given_at asked (stamp_of who.now (C.last clock.new))) database result) }
-    ensures room { IfOk result (λ done. OnFile asked.options.dialect (D.told disk.old) (λ database. TellsRoomOn asked.options.dialect (job_calls (job_of printing.entry) (given_at asked (stamp_of who.now (C.last clock.new))) database) database (D.told disk.old) done.status)) }
+    ensures answers { OnFile asked.options.dialect (D.told disk.old) (λ database.
+        Answers
+        (job_refusal (job_of printing.entry) (given_at asked (stamp_of who.now (C.last clock.new)))
+        database) result) }
+    ensures tells { OnFile asked.options.dialect (D.told disk.old) (λ database.
+        TellsJob (job_of printing.entry) (given_at asked (stamp_of who.now (C.last clock.new)))
+        database result) }
+    ensures room { IfOk result (λ done.
+        OnFile asked.options.dialect (D.told disk.old) (λ database.
+        TellsRoomOn asked.options.dialect
+        (job_calls (job_of printing.entry) (given_at asked (stamp_of who.now (C.last clock.new)))
+        database) database (D.told disk.old) done.status)) }
     ensures told { D.told disk.new ≡ D.told disk.old }
-    ensures any_moment { LeavesOnly (D.crashes disk.old) (D.crashes disk.new) (D.crashes disk.old).leaves }
+    ensures any_moment { LeavesOnly (D.crashes disk.old) (D.crashes disk.new)
+        (D.crashes disk.old).leaves }
     ensures damaged { TellsDamage asked.options.dialect (D.told disk.old) result }
-    ensures fails { (at : ℕ) → IsDamagedAt asked.options.dialect (D.told disk.old) at → FailsAt at result }
+    ensures fails { (at : ℕ)
+        → IsDamagedAt asked.options.dialect (D.told disk.old) at
+        → FailsAt at result }
     ensures kind { IsOfDatabase result }
     ensures later { D.faults disk.old ≤ D.faults disk.new }
     ensures fault { result ≡ Err status.DiskFault → Rose (D.faults disk.old) (D.faults disk.new) }
@@ -90,11 +102,22 @@ fn on_bytes<D: Disk + Drop, C: Clock, P: SqlText + Drop + Copy>(
     requires sql { P.dialect ≡ asked.options.dialect }
     requires read { AreFor asked.options.dialect asked.changelog }
     requires short { All HasShortTexts asked.changelog.sets }
-    ensures answers { OnFile asked.options.dialect (D.told copy) (λ database. Answers (job_refusal (job_of printing.entry) (given_at asked (stamp_of who.now (C.last clock.new))) database) result) }
-    ensures tells { OnFile asked.options.dialect (D.told copy) (λ database. TellsJob (job_of printing.entry) (given_at asked (stamp_of who.now (C.last clock.new))) database result) }
-    ensures room { IfOk result (λ done. OnFile asked.options.dialect (D.told copy) (λ database. TellsRoomOn asked.options.dialect (job_calls (job_of printing.entry) (given_at asked (stamp_of who.now (C.last clock.new))) database) database (D.told copy) done.status)) }
+    ensures answers { OnFile asked.options.dialect (D.told copy) (λ database.
+        Answers
+        (job_refusal (job_of printing.entry) (given_at asked (stamp_of who.now (C.last clock.new)))
+        database) result) }
+    ensures tells { OnFile asked.options.dialect (D.told copy) (λ database.
+        TellsJob (job_of printing.entry) (given_at asked (stamp_of who.now (C.last clock.new)))
+        database result) }
+    ensures room { IfOk result (λ done.
+        OnFile asked.options.dialect (D.told copy) (λ database.
+        TellsRoomOn asked.options.dialect
+        (job_calls (job_of printing.entry) (given_at asked (stamp_of who.now (C.last clock.new)))
+        database) database (D.told copy) done.status)) }
     ensures damaged { TellsDamage asked.options.dialect (D.told copy) result }
-    ensures fails { (at : ℕ) → IsDamagedAt asked.options.dialect (D.told copy) at → FailsAt at result }
+    ensures fails { (at : ℕ)
+        → IsDamagedAt asked.options.dialect (D.told copy) at
+        → FailsAt at result }
     ensures kind { IsOfDatabase result }
     ensures sure { result ≡ Err status.DiskFault → ⊥ }
     ensures once { ReadAtMostOnce (C.to_come clock.old) (C.to_come clock.new) (C.last clock.new) }
@@ -114,14 +137,29 @@ fn on_loaded<D: Disk + Drop, C: Clock, P: SqlText + Drop + Copy, E: Executor + D
     who: &str,
     clock: &mut C,
 ) -> Result<Done, Status>
-    requires valid { IsDb P.dialect (D.told (disk_in db)) (D.crashes (disk_in db)) (E.held (engine_in db)) db }
-    requires ready { IsReady asked.options.dialect (state (D.told (disk_in db)) (E.held (engine_in db)) db) }
+    requires valid { IsDb P.dialect (D.told (disk_in db)) (D.crashes (disk_in db))
+        (E.held (engine_in db)) db }
+    requires ready { IsReady asked.options.dialect
+        (state (D.told (disk_in db)) (E.held (engine_in db)) db) }
     requires sql { P.dialect ≡ asked.options.dialect }
     requires read { AreFor asked.options.dialect asked.changelog }
     requires short { All HasShortTexts asked.changelog.sets }
-    ensures answers { OnIts asked.options.dialect (state (D.told (disk_in db)) (E.held (engine_in db)) db) (λ database. Answers (job_refusal (job_of printing.entry) (given_at asked (stamp_of who.now (C.last clock.new))) database) result) }
-    ensures tells { OnIts asked.options.dialect (state (D.told (disk_in db)) (E.held (engine_in db)) db) (λ database. TellsJob (job_of printing.entry) (given_at asked (stamp_of who.now (C.last clock.new))) database result) }
-    ensures room { IfOk result (λ done. OnIts asked.options.dialect (state (D.told (disk_in db)) (E.held (engine_in db)) db) (λ database. TellsRoom asked.options.dialect (job_calls (job_of printing.entry) (given_at asked (stamp_of who.now (C.last clock.new))) database) database (state (D.told (disk_in db)) (E.held (engine_in db)) db) done.status)) }
+    ensures answers { OnIts asked.options.dialect
+        (state (D.told (disk_in db)) (E.held (engine_in db)) db) (λ database.
+        Answers
+        (job_refusal (job_of printing.entry)
+        (given_at asked (stamp_of who.now (C.last clock.new))) database) result) }
+    ensures tells { OnIts asked.options.dialect
+        (state (D.told (disk_in db)) (E.held (engine_in db)) db) (λ database.
+        TellsJob (job_of printing.entry) (given_at asked (stamp_of who.now (C.last clock.new)))
+        database result) }
+    ensures room { IfOk result (λ done.
+        OnIts asked.options.dialect (state (D.told (disk_in db)) (E.held (engine_in db)) db)
+        (λ database.
+        TellsRoom asked.options.dialect
+        (job_calls (job_of printing.entry)
+        (given_at asked (stamp_of who.now (C.last clock.new))) database) database
+        (state (D.told (disk_in db)) (E.held (engine_in db)) db) done.status)) }
     ensures whole { (told : Option (List ℕ)) → TellsDamage asked.options.dialect told result }
     ensures kind { IsOfDatabase result }
     ensures sure { result ≡ Err status.DiskFault → ⊥ }
@@ -148,9 +186,14 @@ fn print_on<S: Store, P: SqlText>(
     requires short { All HasShortTexts given.changelog.sets }
     requires moment { given.stamp.reading ≤ 253402300799999 }
     requires name { is_mark given.stamp.who ≡ false }
-    ensures answers { OnIts given.options.dialect (S.state store.old) (λ database. Answers (job_refusal (job_of printing.entry) given database) result) }
-    ensures tells { OnIts given.options.dialect (S.state store.old) (λ database. TellsJob (job_of printing.entry) given database result) }
-    ensures room { IfOk result (λ done. OnIts given.options.dialect (S.state store.old) (λ database. TellsRoom given.options.dialect (job_calls (job_of printing.entry) given database) database (S.state store.old) done.status)) }
+    ensures answers { OnIts given.options.dialect (S.state store.old)
+        (λ database. Answers (job_refusal (job_of printing.entry) given database) result) }
+    ensures tells { OnIts given.options.dialect (S.state store.old)
+        (λ database. TellsJob (job_of printing.entry) given database result) }
+    ensures room { IfOk result (λ done.
+        OnIts given.options.dialect (S.state store.old) (λ database.
+        TellsRoom given.options.dialect (job_calls (job_of printing.entry) given database) database
+        (S.state store.old) done.status)) }
 {
     match printing {
         Printing::Update => print_update(alloc, given, store, sql),
@@ -160,11 +203,15 @@ fn print_on<S: Store, P: SqlText>(
 
 fn in_memory(done: Result<Done, Status>) -> Result<Done, Status>
     ensures refused { (refused : Option Status) → Answers refused done → Answers refused result }
-    ensures tells { (job : Job) (given : Given) (database : Database) → TellsJob job given database done → TellsJob job given database result }
+    ensures tells { (job : Job) (given : Given) (database : Database)
+        → TellsJob job given database done
+        → TellsJob job given database result }
     ensures ended { (ended : Done) → result ≡ Ok ended → done ≡ Ok ended }
     ensures sure { result ≡ Err status.DiskFault → ⊥ }
     ensures kind { IsOfDatabase done → IsOfDatabase result }
-    ensures whole { (dialect : Dialect) (told : Option (List ℕ)) → TellsDamage dialect told done → TellsDamage dialect told result }
+    ensures whole { (dialect : Dialect) (told : Option (List ℕ))
+        → TellsDamage dialect told done
+        → TellsDamage dialect told result }
 {
     match done {
         Ok(done) => Ok(done),
@@ -185,10 +232,12 @@ pub fn copy_status(status: Status) -> Status
 // A disk in memory with the same bytes. A file that is longer than a journal may be is damaged there,
 // and not read.
 fn copy_of<D: Disk>(alloc: Global, disk: &mut D) -> Result<SureDisk, Status>
-    ensures copied { IfOk result (λ copy. IfSome (D.told disk.old) (λ bytes. ⟦<SureDisk as Disk>⟧.told copy ≡ Some bytes)) }
+    ensures copied { IfOk result
+        (λ copy. IfSome (D.told disk.old) (λ bytes. ⟦<SureDisk as Disk>⟧.told copy ≡ Some bytes)) }
     ensures refused { IfErr result (IsNoCopy (D.told disk.old)) }
     ensures told { D.told disk.new ≡ D.told disk.old }
-    ensures any_moment { LeavesOnly (D.crashes disk.old) (D.crashes disk.new) (D.crashes disk.old).leaves }
+    ensures any_moment { LeavesOnly (D.crashes disk.old) (D.crashes disk.new)
+        (D.crashes disk.old).leaves }
     ensures later { D.faults disk.old ≤ D.faults disk.new }
     ensures failed { result ≡ Err status.DiskFault → Rose (D.faults disk.old) (D.faults disk.new) }
 {
@@ -200,10 +249,12 @@ fn copy_of<D: Disk>(alloc: Global, disk: &mut D) -> Result<SureDisk, Status>
 
 fn copy_sized<D: Disk>(alloc: Global, disk: &mut D, size: u64) -> Result<SureDisk, Status>
     requires size { IfSome (D.told disk.old) (λ bytes. size ≡ length bytes) }
-    ensures copied { IfOk result (λ copy. IfSome (D.told disk.old) (λ bytes. ⟦<SureDisk as Disk>⟧.told copy ≡ Some bytes)) }
+    ensures copied { IfOk result
+        (λ copy. IfSome (D.told disk.old) (λ bytes. ⟦<SureDisk as Disk>⟧.told copy ≡ Some bytes)) }
     ensures refused { IfErr result (IsNoCopy (D.told disk.old)) }
     ensures told { D.told disk.new ≡ D.told disk.old }
-    ensures any_moment { LeavesOnly (D.crashes disk.old) (D.crashes disk.new) (D.crashes disk.old).leaves }
+    ensures any_moment { LeavesOnly (D.crashes disk.old) (D.crashes disk.new)
+        (D.crashes disk.old).leaves }
     ensures later { D.faults disk.old ≤ D.faults disk.new }
     ensures failed { result ≡ Err status.DiskFault → Rose (D.faults disk.old) (D.faults disk.new) }
 {
@@ -220,7 +271,8 @@ fn read_whole<D: Disk>(alloc: Global, disk: &mut D, size: u64) -> Result<Vec<u8>
     ensures bytes { IfOk result (λ bytes. IfSome (D.told disk.old) (λ told. told ≡ bytes.items)) }
     ensures refused { IfErr result (IsNoCopy (D.told disk.old)) }
     ensures told { D.told disk.new ≡ D.told disk.old }
-    ensures any_moment { LeavesOnly (D.crashes disk.old) (D.crashes disk.new) (D.crashes disk.old).leaves }
+    ensures any_moment { LeavesOnly (D.crashes disk.old) (D.crashes disk.new)
+        (D.crashes disk.old).leaves }
     ensures later { D.faults disk.old ≤ D.faults disk.new }
     ensures failed { result ≡ Err status.DiskFault → Rose (D.faults disk.old) (D.faults disk.new) }
 {

@@ -80,8 +80,10 @@ pub fn drill<F: Files, D: Disk, C: Clock>(
     disk: D,
     clock: &mut C,
 ) -> Worked<D>
-    ensures read { result.done ≡ Err status.ReadFault → Rose (F.faults files.old) (F.faults files.new) }
-    ensures drilled { DrilledBy D.told D.faults D.crashes (F.told files.old) dialect path.now runs.now who.now (C.to_come clock.old) (C.to_come clock.new) disk result.done result.disk }
+    ensures read { result.done ≡ Err status.ReadFault
+        → Rose (F.faults files.old) (F.faults files.new) }
+    ensures drilled { DrilledBy D.told D.faults D.crashes (F.told files.old) dialect path.now
+        runs.now who.now (C.to_come clock.old) (C.to_come clock.new) disk result.done result.disk }
 {
     match dialect {
         Dialect::Postgresql => with_sql(alloc, dialect, Pg, path, runs, who, files, disk, clock),
@@ -101,8 +103,10 @@ fn with_sql<F: Files, D: Disk, C: Clock, P: SqlText + Drop + Copy>(
     clock: &mut C,
 ) -> Worked<D>
     requires sql { P.dialect ≡ dialect }
-    ensures read { result.done ≡ Err status.ReadFault → Rose (F.faults files.old) (F.faults files.new) }
-    ensures drilled { DrilledBy D.told D.faults D.crashes (F.told files.old) dialect path.now runs.now who.now (C.to_come clock.old) (C.to_come clock.new) disk result.done result.disk }
+    ensures read { result.done ≡ Err status.ReadFault
+        → Rose (F.faults files.old) (F.faults files.new) }
+    ensures drilled { DrilledBy D.told D.faults D.crashes (F.told files.old) dialect path.now
+        runs.now who.now (C.to_come clock.old) (C.to_come clock.new) disk result.done result.disk }
 {
     match read_drill(alloc, files, dialect, path, runs, &sql) {
         Ok(drilling) => on_disk(alloc, disk, dialect, sql, drilling, who, clock),
@@ -123,9 +127,11 @@ fn read_drill<F: Files, P: SqlText>(
     sql: &P,
 ) -> Result<Drilling, Status>
     requires same { P.dialect ≡ dialect }
-    ensures finds { FindsDrill (F.told files.old) (λ source. drill_of source dialect path.now runs.now) result }
+    ensures finds { FindsDrill (F.told files.old)
+        (λ source. drill_of source dialect path.now runs.now) result }
     ensures is { IfOk result (IsDrill dialect) }
-    ensures failed { result ≡ Err status.ReadFault → Rose (F.faults files.old) (F.faults files.new) }
+    ensures failed { result ≡ Err status.ReadFault
+        → Rose (F.faults files.old) (F.faults files.new) }
 {
     match read_runs(alloc, files, runs) {
         Ok(bytes) => drill_by(alloc, files, dialect, path, bytes.as_slice(), sql),
@@ -135,7 +141,8 @@ fn read_drill<F: Files, P: SqlText>(
 
 // The bytes of the file of a drill.
 fn read_runs<F: Files>(alloc: Global, files: &mut F, runs: &str) -> Result<Items<u8>, LoadFault>
-    ensures found { Finds (F.told files.old) (λ source. runs_in runs.now (source.content runs.now)) result }
+    ensures found { Finds (F.told files.old) (λ source. runs_in runs.now (source.content runs.now))
+        result }
     ensures told { F.told files.new ≡ F.told files.old }
     ensures later { F.faults files.old ≤ F.faults files.new }
     ensures failed { result ≡ Err load.Read → Rose (F.faults files.old) (F.faults files.new) }
@@ -156,10 +163,12 @@ fn drill_by<F: Files, P: SqlText>(
     sql: &P,
 ) -> Result<Drilling, Status>
     requires same { P.dialect ≡ dialect }
-    ensures finds { FindsDrill (F.told files.old) (λ source. drill_in source dialect (lines_of dialect path.now bytes.now)) result }
+    ensures finds { FindsDrill (F.told files.old)
+        (λ source. drill_in source dialect (lines_of dialect path.now bytes.now)) result }
     ensures is { IfOk result (IsDrill dialect) }
     ensures later { F.faults files.old ≤ F.faults files.new }
-    ensures failed { result ≡ Err status.ReadFault → Rose (F.faults files.old) (F.faults files.new) }
+    ensures failed { result ≡ Err status.ReadFault
+        → Rose (F.faults files.old) (F.faults files.new) }
 {
     match read_lines(alloc, dialect, path, bytes) {
         Ok(lines) => drill_with(alloc, files, dialect, lines, sql),
@@ -180,10 +189,12 @@ fn drill_with<F: Files, P: SqlText>(
     requires runs { All (λ line. is_run line.job ≡ true) lines.lines }
     requires short { All (λ line. HasShortTag (command_in line.job)) lines.lines }
     requires steps { All (IsInRange 1 (length lines.lines)) lines.steps }
-    ensures finds { FindsDrill (F.told files.old) (λ source. drill_in source dialect (Some lines)) result }
+    ensures finds { FindsDrill (F.told files.old) (λ source. drill_in source dialect (Some lines))
+        result }
     ensures is { IfOk result (IsDrill dialect) }
     ensures later { F.faults files.old ≤ F.faults files.new }
-    ensures failed { result ≡ Err status.ReadFault → Rose (F.faults files.old) (F.faults files.new) }
+    ensures failed { result ≡ Err status.ReadFault
+        → Rose (F.faults files.old) (F.faults files.new) }
 {
     let Lines { lines, steps } = lines;
     match entrants_of(alloc, files, dialect, lines, sql) {
@@ -290,7 +301,8 @@ fn on_disk<D: Disk, C: Clock, P: SqlText + Drop + Copy>(
 ) -> Worked<D>
     requires sql { P.dialect ≡ dialect }
     requires is { IsDrill dialect drilling }
-    ensures worked { WorkedDrill D.told D.faults D.crashes dialect who.now drilling (C.to_come clock.old) (C.to_come clock.new) disk result.done result.disk }
+    ensures worked { WorkedDrill D.told D.faults D.crashes dialect who.now drilling
+        (C.to_come clock.old) (C.to_come clock.new) disk result.done result.disk }
 {
     match Db::<D, P, Engine>::load(alloc, disk, dialect, sql, LIMIT) {
         Ok(db) => on_database(alloc, db, dialect, sql, drilling, who, clock),
@@ -313,13 +325,16 @@ fn on_database<D: Disk, C: Clock, P: SqlText + Drop + Copy, E: Executor + Drop>(
     who: &str,
     clock: &mut C,
 ) -> Worked<D>
-    requires valid { IsDb P.dialect (D.told (disk_in db)) (D.crashes (disk_in db)) (E.held (engine_in db)) db }
+    requires valid { IsDb P.dialect (D.told (disk_in db)) (D.crashes (disk_in db))
+        (E.held (engine_in db)) db }
     requires ready { IsReady dialect (state (D.told (disk_in db)) (E.held (engine_in db)) db) }
     requires new { IsNew dialect most_bytes db }
-    requires catalogue { IfSome (D.told (disk_in db)) (λ bytes. catalogue_of dialect most_bytes bytes ≡ Ok (kept (E.held (engine_in db)))) }
+    requires catalogue { IfSome (D.told (disk_in db))
+        (λ bytes. catalogue_of dialect most_bytes bytes ≡ Ok (kept (E.held (engine_in db)))) }
     requires sql { P.dialect ≡ dialect }
     requires is { IsDrill dialect drilling }
-    ensures worked { WorkedDrill D.told D.faults D.crashes dialect who.now drilling (C.to_come clock.old) (C.to_come clock.new) (disk_in db) result.done result.disk }
+    ensures worked { WorkedDrill D.told D.faults D.crashes dialect who.now drilling
+        (C.to_come clock.old) (C.to_come clock.new) (disk_in db) result.done result.disk }
 {
     turns_back_are_spelled();
     let mut db = db;
@@ -349,7 +364,8 @@ fn cast_of<C: Clock>(
 ) -> Result<Cast, NoMemory>
     requires each { All (IsEntrant dialect) entrants }
     requires few { length entrants ≤ 64 }
-    ensures begun { Begun dialect (clean who.now) entrants (C.to_come clock.old) (C.to_come clock.new) result }
+    ensures begun { Begun dialect (clean who.now) entrants (C.to_come clock.old)
+        (C.to_come clock.new) result }
 {
     let name = clean(alloc, who)?;
     cast_named(alloc, dialect, &name, entrants, clock)
@@ -364,7 +380,8 @@ fn cast_named<C: Clock>(
 ) -> Result<Cast, NoMemory>
     requires each { All (IsEntrant dialect) entrants }
     requires few { length entrants ≤ 64 }
-    ensures begun { Begun dialect name.now entrants (C.to_come clock.old) (C.to_come clock.new) result }
+    ensures begun { Begun dialect name.now entrants (C.to_come clock.old) (C.to_come clock.new)
+        result }
 {
     let mut entrants = entrants;
     let mut cast = Cast {
@@ -446,7 +463,8 @@ fn play<S: Store, P: SqlText>(
     requires steps { All (λ n. (1 ≤ n) × (n ≤ length cast.players.items)) steps.now }
     requires commands { length cast.commands ≡ length cast.players.items }
     ensures valid { S.valid store.new }
-    ensures plays { Plays cast.players.items cast.commands steps.now (S.state store.old) (S.state store.new) (S.crashes store.old) (S.crashes store.new) result }
+    ensures plays { Plays cast.players.items cast.commands steps.now (S.state store.old)
+        (S.state store.new) (S.crashes store.old) (S.crashes store.new) result }
     ensures later { S.faults store.old ≤ S.faults store.new }
     ensures rose { result ≡ Err status.DiskFault → Rose (S.faults store.old) (S.faults store.new) }
 {
@@ -461,7 +479,9 @@ fn play<S: Store, P: SqlText>(
 // How far each command came.
 fn tell(alloc: Global, commands: Items<Command>, players: &[AnyCommand]) -> Result<Done, Status>
     requires { length commands ≡ length players.now }
-    ensures done { IfOk result (λ done. (done.status ≡ status.Done) × (done.out ≡ Some (drill_text (drilled commands (answers_in players.now))))) }
+    ensures done { IfOk result (λ done.
+        (done.status ≡ status.Done)
+        × (done.out ≡ Some (drill_text (drilled commands (answers_in players.now))))) }
     ensures no_memory { IfErr result (λ s. s ≡ status.OutOfMemory) }
 {
     let all = drilled_of(alloc, commands, players)?;

@@ -61,7 +61,8 @@ pub fn on_disk<D: Disk, C: Clock, P: SqlText + Drop + Copy>(
     requires short { All HasShortTexts asked.changelog.sets }
     requires own { is_own job.now ≡ true }
     requires tag { IfSome (job_tag job.now) (λ tag. char_count tag ≤ 255) }
-    ensures worked { WorkedOn D.told D.faults D.crashes job.now (given_at asked (stamp_of who.now (C.last clock.new))) disk result.done result.disk }
+    ensures worked { WorkedOn D.told D.faults D.crashes job.now
+        (given_at asked (stamp_of who.now (C.last clock.new))) disk result.done result.disk }
     ensures once { ReadAtMostOnce (C.to_come clock.old) (C.to_come clock.new) (C.last clock.new) }
 {
     match Db::<D, P, Engine>::load(alloc, disk, asked.options.dialect, sql, LIMIT) {
@@ -85,16 +86,21 @@ fn on_database<D: Disk, C: Clock, P: SqlText + Drop + Copy, E: Executor + Drop>(
     who: &str,
     clock: &mut C,
 ) -> Worked<D>
-    requires valid { IsDb P.dialect (D.told (disk_in db)) (D.crashes (disk_in db)) (E.held (engine_in db)) db }
-    requires ready { IsReady asked.options.dialect (state (D.told (disk_in db)) (E.held (engine_in db)) db) }
+    requires valid { IsDb P.dialect (D.told (disk_in db)) (D.crashes (disk_in db))
+        (E.held (engine_in db)) db }
+    requires ready { IsReady asked.options.dialect
+        (state (D.told (disk_in db)) (E.held (engine_in db)) db) }
     requires new { IsNew asked.options.dialect most_bytes db }
-    requires catalogue { IfSome (D.told (disk_in db)) (λ bytes. catalogue_of asked.options.dialect most_bytes bytes ≡ Ok (kept (E.held (engine_in db)))) }
+    requires catalogue { IfSome (D.told (disk_in db)) (λ bytes.
+        catalogue_of asked.options.dialect most_bytes bytes ≡ Ok (kept (E.held (engine_in db)))) }
     requires sql { P.dialect ≡ asked.options.dialect }
     requires read { AreFor asked.options.dialect asked.changelog }
     requires short { All HasShortTexts asked.changelog.sets }
     requires own { is_own job.now ≡ true }
     requires tag { IfSome (job_tag job.now) (λ tag. char_count tag ≤ 255) }
-    ensures worked { WorkedOn D.told D.faults D.crashes job.now (given_at asked (stamp_of who.now (C.last clock.new))) (disk_in db) result.done result.disk }
+    ensures worked { WorkedOn D.told D.faults D.crashes job.now
+        (given_at asked (stamp_of who.now (C.last clock.new))) (disk_in db) result.done
+        result.disk }
     ensures once { ReadOnce (C.to_come clock.old) (C.to_come clock.new) (C.last clock.new) }
 {
     let mut db = db;

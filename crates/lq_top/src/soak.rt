@@ -69,7 +69,8 @@ pub fn soak<C: Clock, P: SqlText + Drop + Copy>(
 ) -> Result<Done, Status>
     requires sql { P.dialect ≡ dialect }
     ensures refuses { Refuses is_diskless result }
-    ensures tells { TellsSoak dialect seed.number seed.sets (stamp_of who.now (C.last clock.new)) result }
+    ensures tells { TellsSoak dialect seed.number seed.sets (stamp_of who.now (C.last clock.new))
+        result }
     ensures once { ReadOnce (C.to_come clock.old) (C.to_come clock.new) (C.last clock.new) }
 {
     let reading = clock.now();
@@ -92,7 +93,9 @@ fn there_and_back<P: SqlText + Drop + Copy>(
     requires { P.dialect ≡ soaker.dialect }
     ensures stops { IfErr result (λ s. is_diskless s ≡ true) }
     ensures undone { IfErr result (λ s. is_done s ≡ false) }
-    ensures soaks { IfOk result (λ text. Soaks soaker.entry.dialect soaker.entry.seed.number soaker.entry.seed.sets (stamp_of soaker.entry.who.now soaker.entry.reading) text) }
+    ensures soaks { IfOk result (λ text.
+        Soaks soaker.entry.dialect soaker.entry.seed.number soaker.entry.seed.sets
+        (stamp_of soaker.entry.who.now soaker.entry.reading) text) }
 {
     let empty = SureDisk::new(Vec::new(alloc));
     let update = Command::Update;
@@ -114,7 +117,10 @@ fn back_text<P: SqlText + Drop + Copy>(
     requires { P.dialect ≡ soaker.dialect }
     ensures stops { IfErr result (λ s. is_diskless s ≡ true) }
     ensures undone { IfErr result (λ s. is_done s ≡ false) }
-    ensures back { IfOk result (λ text. TakenBack soaker.entry.dialect soaker.entry.seed.number soaker.entry.seed.sets (stamp_of soaker.entry.who.now soaker.entry.reading) (⟦<SureDisk as Disk>⟧.told there.disk) there.entries there.used sum text) }
+    ensures back { IfOk result (λ text.
+        TakenBack soaker.entry.dialect soaker.entry.seed.number soaker.entry.seed.sets
+        (stamp_of soaker.entry.who.now soaker.entry.reading) (⟦<SureDisk as Disk>⟧.told there.disk)
+        there.entries there.used sum text) }
 {
     let Measured {
         entries,
@@ -175,7 +181,11 @@ fn disk_after<P: SqlText + Drop + Copy>(
     requires tag { IfSome (tag_in command.now) (λ tag. char_count tag ≤ 255) }
     ensures stops { IfErr result (λ s. is_diskless s ≡ true) }
     ensures undone { IfErr result (λ s. is_done s ≡ false) }
-    ensures did { IfOk result (λ after. Did soaker.entry.dialect soaker.entry.seed.number soaker.entry.seed.sets (stamp_of soaker.entry.who.now soaker.entry.reading) command.now (⟦<SureDisk as Disk>⟧.told disk) (⟦<SureDisk as Disk>⟧.told after.disk) after.left.rows after.left.tables) }
+    ensures did { IfOk result (λ after.
+        Did soaker.entry.dialect soaker.entry.seed.number soaker.entry.seed.sets
+        (stamp_of soaker.entry.who.now soaker.entry.reading) command.now
+        (⟦<SureDisk as Disk>⟧.told disk) (⟦<SureDisk as Disk>⟧.told after.disk) after.left.rows
+        after.left.tables) }
 {
     let given = given_by(alloc, &sql, soaker)?;
     match Db::<SureDisk, P, Engine>::load(alloc, disk, given.options.dialect, sql, LIMIT) {
@@ -192,8 +202,10 @@ fn on_loaded<D: Disk + Drop, P: SqlText + Drop + Copy, E: Executor + Drop>(
     given: Given,
     sets: u64,
 ) -> Result<After<D>, Status>
-    requires valid { IsDb P.dialect (D.told (disk_in db)) (D.crashes (disk_in db)) (E.held (engine_in db)) db }
-    requires ready { IsReady given.options.dialect (state (D.told (disk_in db)) (E.held (engine_in db)) db) }
+    requires valid { IsDb P.dialect (D.told (disk_in db)) (D.crashes (disk_in db))
+        (E.held (engine_in db)) db }
+    requires ready { IsReady given.options.dialect
+        (state (D.told (disk_in db)) (E.held (engine_in db)) db) }
     requires new { IsNew given.options.dialect most_bytes db }
     requires sql { P.dialect ≡ given.options.dialect }
     requires read { AreFor given.options.dialect given.changelog }
@@ -203,7 +215,9 @@ fn on_loaded<D: Disk + Drop, P: SqlText + Drop + Copy, E: Executor + Drop>(
     requires name { is_mark given.stamp.who ≡ false }
     ensures stops { IfErr result (λ s. is_diskless s ≡ true) }
     ensures undone { IfErr result (λ s. is_done s ≡ false) }
-    ensures did { IfOk result (λ after. DidOnEach given command.now sets (D.told (disk_in db)) (D.told after.disk) after.left.rows after.left.tables) }
+    ensures did { IfOk result (λ after.
+        DidOnEach given command.now sets (D.told (disk_in db)) (D.told after.disk) after.left.rows
+        after.left.tables) }
 {
     let mut db = db;
     let dialect = given.options.dialect;
@@ -232,7 +246,10 @@ fn done_on<S: Store, P: SqlText>(
     requires moment { given.stamp.reading ≤ 253402300799999 }
     requires name { is_mark given.stamp.who ≡ false }
     ensures valid { S.valid store.new }
-    ensures leaves { OnOk result (OnIts given.options.dialect (S.state store.old) (λ database. Leaves given.options.dialect (script command.now given database) database (S.state store.old) (S.state store.new))) }
+    ensures leaves { OnOk result
+        (OnIts given.options.dialect (S.state store.old) (λ database.
+        Leaves given.options.dialect (script command.now given database) database
+        (S.state store.old) (S.state store.new))) }
     ensures live { OnOk result (IsTrue (S.state store.new).live) }
     ensures stops { IfErr result (λ s. is_diskless s ≡ true) }
     ensures undone { IfErr result (λ s. is_done s ≡ false) }
@@ -262,8 +279,13 @@ fn given_by<P: SqlText>(alloc: Global, sql: &P, soaker: Soaker<'_>) -> Result<Gi
     ensures short { IfOk result (λ given. All HasShortTexts given.changelog.sets) }
     ensures moment { IfOk result (λ given. given.stamp.reading ≤ 253402300799999) }
     ensures name { IfOk result (λ given. is_mark given.stamp.who ≡ false) }
-    ensures given { IfOk result (λ given. given ≡ soak_given soaker.entry.dialect given.changelog (stamp_of soaker.entry.who.now soaker.entry.reading)) }
-    ensures made { IfOk result (λ given. IsMade soaker.entry.dialect soaker.entry.seed.number soaker.entry.seed.sets given.changelog) }
+    ensures given { IfOk result (λ given.
+        given
+        ≡ soak_given soaker.entry.dialect given.changelog
+        (stamp_of soaker.entry.who.now soaker.entry.reading)) }
+    ensures made { IfOk result (λ given.
+        IsMade soaker.entry.dialect soaker.entry.seed.number soaker.entry.seed.sets
+        given.changelog) }
 {
     let stamp = stamp_of(alloc, soaker.who, soaker.reading)?;
     let changelog = made_changelog(alloc, sql, soaker.dialect, soaker.seed)?;
@@ -299,7 +321,9 @@ fn made_changelog<P: SqlText>(
 }
 
 fn made_files(alloc: Global, seed: Seed) -> Result<SureFiles, NoMemory>
-    ensures { IfOk result (λ files. ⟦<SureFiles as Files>⟧.told files ≡ Some (held_in ((soak_path, soak_changelog seed.number seed.sets) ∷ []))) }
+    ensures { IfOk result (λ files.
+        ⟦<SureFiles as Files>⟧.told files
+        ≡ Some (held_in ((soak_path, soak_changelog seed.number seed.sets) ∷ []))) }
 {
     let text = soak_changelog(alloc, seed.number, seed.sets)?;
     let bytes = Items::from_slice(alloc, text.as_str().as_bytes())?;
@@ -319,8 +343,10 @@ struct Measured {
 }
 
 fn measure(alloc: Global, dialect: Dialect, disk: SureDisk) -> Result<Measured, NoMemory>
-    ensures told { IfOk result (λ there. ⟦<SureDisk as Disk>⟧.told there.disk ≡ ⟦<SureDisk as Disk>⟧.told disk) }
-    ensures measured { IfOk result (λ there. IsMeasured dialect (⟦<SureDisk as Disk>⟧.told disk) there.entries there.used) }
+    ensures told { IfOk result
+        (λ there. ⟦<SureDisk as Disk>⟧.told there.disk ≡ ⟦<SureDisk as Disk>⟧.told disk) }
+    ensures measured { IfOk result
+        (λ there. IsMeasured dialect (⟦<SureDisk as Disk>⟧.told disk) there.entries there.used) }
 {
     match Journal::load(alloc, disk, dialect, LIMIT) {
         Ok((journal, entries)) => Ok(Measured {
@@ -352,7 +378,10 @@ fn left_on<S: Store>(
 ) -> Result<Left, NoMemory>
     requires valid { S.valid store.now }
     requires live { IsTrue (S.state store.now).live }
-    ensures { IfOk result (λ left. (database : Database) → HasDatabase dialect (S.state store.now) database → IsLeft sets database left.rows left.tables) }
+    ensures { IfOk result (λ left.
+        (database : Database)
+        → HasDatabase dialect (S.state store.now) database
+        → IsLeft sets database left.rows left.tables) }
 {
     match store.look(SESSION) {
         Ok(view) => counted(alloc, dialect, sets, view),
@@ -361,7 +390,10 @@ fn left_on<S: Store>(
 }
 
 fn counted<K: Look>(alloc: Global, dialect: Dialect, sets: u64, look: &K) -> Result<Left, NoMemory>
-    ensures rows { IfOk result (λ left. (rows : List Tracked) → rows_of (K.catalogue look.now) ≡ Some rows → left.rows ≡ length rows) }
+    ensures rows { IfOk result (λ left.
+        (rows : List Tracked)
+        → rows_of (K.catalogue look.now) ≡ Some rows
+        → left.rows ≡ length rows) }
     ensures tables { IfOk result (λ left. left.tables ≡ tables_there (K.catalogue look.now) sets) }
 {
     let Ok(rows) = read_rows(alloc, dialect, look) else {
@@ -392,7 +424,8 @@ fn one_if(is: bool) -> u64
 }
 
 fn is_there<K: Look>(alloc: Global, place: u64, look: &K) -> Result<bool, NoMemory>
-    ensures { IfOk result (λ is. is ≡ is_some (table_of (K.catalogue look.now) (table_name place))) }
+    ensures { IfOk result
+        (λ is. is ≡ is_some (table_of (K.catalogue look.now) (table_name place))) }
 {
     let text = table_name(alloc, place)?;
     match Name::new(alloc, text.as_str()) {

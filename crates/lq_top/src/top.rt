@@ -56,66 +56,143 @@ pub fn run<F: Files, D: Disk, C: Clock, O: Sink, L: Sink>(
     log: &mut L,
 ) -> Ended<D>
     // Each status by its cause.
-    ensures usage { result.status ≡ status.Usage → IsUsage (map (λ word. string_bytes word) words.now) (F.told files.old) }
-    ensures usage_only { line_of (map (λ word. string_bytes word) words.now) ≡ None → (result.status ≡ status.Usage) ⊎ (result.status ≡ status.OutOfMemory) }
-    ensures formless { HasNoForm (map (λ word. string_bytes word) words.now) (F.told files.old) → (result.status ≡ status.Usage) ⊎ (result.status ≡ status.ReadFault) ⊎ (result.status ≡ status.OutOfMemory) }
-    ensures read { result.status ≡ status.ReadFault → Rose (F.faults files.old) (F.faults files.new) }
-    ensures changelog { (fault : LoadFault) → result.status ≡ status.Changelog fault → IsFaultOf (map (λ word. string_bytes word) words.now) (F.told files.old) fault }
-    ensures changelog_only { (fault : LoadFault) → HasFault (map (λ word. string_bytes word) words.now) (F.told files.old) fault → EndsUnread fault result.status }
-    ensures missed { (line : Line) → line_of (map (λ word. string_bytes word) words.now) ≡ Some line → misses line.job result.status ≡ true → HasNoPart (F.told files.old) line × (result.disk ≡ disk) }
-    ensures in_vain { AsksInVain (map (λ word. string_bytes word) words.now) (F.told files.old) → EndsInVain result.status disk result.disk }
-    ensures damaged { (line : Line) → line_of (map (λ word. string_bytes word) words.now) ≡ Some line → IsDamage line.options.dialect (D.told disk) result.status }
-    ensures damaged_only { (line : Line) (at : ℕ) → line_of (map (λ word. string_bytes word) words.now) ≡ Some line → is_apart line.job ≡ false → IsDamagedAt line.options.dialect (D.told disk) at → SparesDamage line.job at result.status (D.told disk) (D.told result.disk) }
+    ensures usage { result.status ≡ status.Usage
+        → IsUsage (map (λ word. string_bytes word) words.now) (F.told files.old) }
+    ensures usage_only { line_of (map (λ word. string_bytes word) words.now) ≡ None
+        → (result.status ≡ status.Usage) ⊎ (result.status ≡ status.OutOfMemory) }
+    ensures formless { HasNoForm (map (λ word. string_bytes word) words.now) (F.told files.old)
+        → (result.status ≡ status.Usage)
+        ⊎ (result.status ≡ status.ReadFault)
+        ⊎ (result.status ≡ status.OutOfMemory) }
+    ensures read { result.status ≡ status.ReadFault
+        → Rose (F.faults files.old) (F.faults files.new) }
+    ensures changelog { (fault : LoadFault)
+        → result.status ≡ status.Changelog fault
+        → IsFaultOf (map (λ word. string_bytes word) words.now) (F.told files.old) fault }
+    ensures changelog_only { (fault : LoadFault)
+        → HasFault (map (λ word. string_bytes word) words.now) (F.told files.old) fault
+        → EndsUnread fault result.status }
+    ensures missed { (line : Line)
+        → line_of (map (λ word. string_bytes word) words.now) ≡ Some line
+        → misses line.job result.status ≡ true
+        → HasNoPart (F.told files.old) line × (result.disk ≡ disk) }
+    ensures in_vain { AsksInVain (map (λ word. string_bytes word) words.now) (F.told files.old)
+        → EndsInVain result.status disk result.disk }
+    ensures damaged { (line : Line)
+        → line_of (map (λ word. string_bytes word) words.now) ≡ Some line
+        → IsDamage line.options.dialect (D.told disk) result.status }
+    ensures damaged_only { (line : Line) (at : ℕ)
+        → line_of (map (λ word. string_bytes word) words.now) ≡ Some line
+        → is_apart line.job ≡ false
+        → IsDamagedAt line.options.dialect (D.told disk) at
+        → SparesDamage line.job at result.status (D.told disk) (D.told result.disk) }
     ensures disk { result.status ≡ status.DiskFault → Rose (D.faults disk) (D.faults result.disk) }
     ensures write { result.status ≡ status.WriteFault → Rose (O.faults out.old) (O.faults out.new) }
 
     // What a command is refused for, in the order of its checks, and what its calls leave; a refusal writes nothing.
-    ensures runs { (asks : Asks (map (λ word. string_bytes word) words.now) (F.told files.old)) → Runs asks (stamp_of who.now (C.last clock.new)) (D.told disk) result.status (D.told result.disk) }
+    ensures runs { (asks : Asks (map (λ word. string_bytes word) words.now) (F.told files.old))
+        → Runs asks (stamp_of who.now (C.last clock.new)) (D.told disk) result.status
+        (D.told result.disk) }
     ensures untouched { IsUnread result.status → result.disk ≡ disk }
     // A crash of the machine at any moment, how what it left is opened, and after the end.
-    ensures any_moment { (asks : Asks (map (λ word. string_bytes word) words.now) (F.told files.old)) → Crashes asks (stamp_of who.now (C.last clock.new)) (D.told disk) (D.crashes disk) (D.crashes result.disk) }
-    ensures opens_at_crash { (asks : Asks (map (λ word. string_bytes word) words.now) (F.told files.old)) → AreFor asks.line.options.dialect asks.changelog → (bytes : List ℕ) → OpensAtCrash asks (stamp_of who.now (C.last clock.new)) (D.told disk) bytes }
-    ensures safe { (asks : Asks (map (λ word. string_bytes word) words.now) (F.told files.old)) → IsSafe asks result.status (D.told result.disk) (D.crashes result.disk) }
-    ensures soak { (line : Line) → line_of (map (λ word. string_bytes word) words.now) ≡ Some line → is_apart line.job ≡ true → result.disk ≡ disk }
+    ensures any_moment { (asks : Asks (map (λ word. string_bytes word) words.now)
+        (F.told files.old))
+        → Crashes asks (stamp_of who.now (C.last clock.new)) (D.told disk) (D.crashes disk)
+        (D.crashes result.disk) }
+    ensures opens_at_crash { (asks : Asks (map (λ word. string_bytes word) words.now)
+        (F.told files.old))
+        → AreFor asks.line.options.dialect asks.changelog
+        → (bytes : List ℕ)
+        → OpensAtCrash asks (stamp_of who.now (C.last clock.new)) (D.told disk) bytes }
+    ensures safe { (asks : Asks (map (λ word. string_bytes word) words.now) (F.told files.old))
+        → IsSafe asks result.status (D.told result.disk) (D.crashes result.disk) }
+    ensures soak { (line : Line)
+        → line_of (map (λ word. string_bytes word) words.now) ≡ Some line
+        → is_apart line.job ≡ true
+        → result.disk ≡ disk }
 
     // What an update, a rollback and a changelog-sync say that come to their end: by their turns and rows.
-    ensures says { (asks : Asks (map (λ word. string_bytes word) words.now) (F.told files.old)) → Said asks (stamp_of who.now (C.last clock.new)) (D.told disk) result.status (O.told out.old) (O.told out.new) }
+    ensures says { (asks : Asks (map (λ word. string_bytes word) words.now) (F.told files.old))
+        → Said asks (stamp_of who.now (C.last clock.new)) (D.told disk) result.status
+        (O.told out.old) (O.told out.new) }
 
     // Where the output failed it got a front of that text.
-    ensures says_part { (asks : Asks (map (λ word. string_bytes word) words.now) (F.told files.old)) → result.status ≡ status.WriteFault → SaidInPart asks (stamp_of who.now (C.last clock.new)) (D.told disk) (O.told out.old) (O.told out.new) }
+    ensures says_part { (asks : Asks (map (λ word. string_bytes word) words.now) (F.told files.old))
+        → result.status ≡ status.WriteFault
+        → SaidInPart asks (stamp_of who.now (C.last clock.new)) (D.told disk) (O.told out.old)
+        (O.told out.new) }
 
     // What a soak says: the function of its number, its changesets, who runs it and the reading that its definition states.
-    ensures soaks { (line : Line) → line_of (map (λ word. string_bytes word) words.now) ≡ Some line → (number sets : ℕ) → line.job ≡ job.Soak number sets → SaysSoak line.options.dialect number sets (stamp_of who.now (C.last clock.new)) result.status (O.told out.old) (O.told out.new) }
+    ensures soaks { (line : Line)
+        → line_of (map (λ word. string_bytes word) words.now) ≡ Some line
+        → (number sets : ℕ)
+        → line.job ≡ job.Soak number sets
+        → SaysSoak line.options.dialect number sets (stamp_of who.now (C.last clock.new))
+        result.status (O.told out.old) (O.told out.new) }
 
     // The headline.
-    ensures success { GoesBack (map (λ word. string_bytes word) words.now) (F.told files.old) (D.told disk) → IsTaken result.status }
-    ensures rollback { (back : GoesBack (map (λ word. string_bytes word) words.now) (F.told files.old) (D.told disk)) → GoneBack back result.status (D.told result.disk) }
-    ensures update { (asks : Asks (map (λ word. string_bytes word) words.now) (F.told files.old)) → HasUpdated asks (stamp_of who.now (C.last clock.new)) (D.told disk) result.status (D.told result.disk) }
-    ensures sync { (asks : Asks (map (λ word. string_bytes word) words.now) (F.told files.old)) → HasSynced asks (stamp_of who.now (C.last clock.new)) (D.told disk) result.status (D.told result.disk) }
+    ensures success { GoesBack (map (λ word. string_bytes word) words.now) (F.told files.old)
+        (D.told disk)
+        → IsTaken result.status }
+    ensures rollback { (back : GoesBack (map (λ word. string_bytes word) words.now)
+        (F.told files.old) (D.told disk))
+        → GoneBack back result.status (D.told result.disk) }
+    ensures update { (asks : Asks (map (λ word. string_bytes word) words.now) (F.told files.old))
+        → HasUpdated asks (stamp_of who.now (C.last clock.new)) (D.told disk) result.status
+        (D.told result.disk) }
+    ensures sync { (asks : Asks (map (λ word. string_bytes word) words.now) (F.told files.old))
+        → HasSynced asks (stamp_of who.now (C.last clock.new)) (D.told disk) result.status
+        (D.told result.disk) }
 
     // A steady update, and a rollback by tag or date, that were stopped any number of times, in postgresql.
-    ensures resumed_update { (asks : Asks (map (λ word. string_bytes word) words.now) (F.told files.old)) → UpdateResumes asks (stamp_of who.now (C.last clock.new)) (D.told disk) result.status (D.told result.disk) }
-    ensures resumed_rollback { (asks : Asks (map (λ word. string_bytes word) words.now) (F.told files.old)) → RollbackResumes asks (stamp_of who.now (C.last clock.new)) (D.told disk) result.status (D.told result.disk) }
+    ensures resumed_update { (asks : Asks (map (λ word. string_bytes word) words.now)
+        (F.told files.old))
+        → UpdateResumes asks (stamp_of who.now (C.last clock.new)) (D.told disk) result.status
+        (D.told result.disk) }
+    ensures resumed_rollback { (asks : Asks (map (λ word. string_bytes word) words.now)
+        (F.told files.old))
+        → RollbackResumes asks (stamp_of who.now (C.last clock.new)) (D.told disk) result.status
+        (D.told result.disk) }
 
     // What a stop leaves that holds the lock: in the end, and on any bytes that a crash of the machine left.
-    ensures marked { (asks : Asks (map (λ word. string_bytes word) words.now) (F.told files.old)) → LeavesMarked asks (stamp_of who.now (C.last clock.new)) (D.told disk) (D.told result.disk) }
-    ensures marked_at_crash { (asks : Asks (map (λ word. string_bytes word) words.now) (F.told files.old)) → AreFor asks.line.options.dialect asks.changelog → (bytes : List ℕ) → LeavesMarked asks (stamp_of who.now (C.last clock.new)) (D.told disk) (Some bytes) }
+    ensures marked { (asks : Asks (map (λ word. string_bytes word) words.now) (F.told files.old))
+        → LeavesMarked asks (stamp_of who.now (C.last clock.new)) (D.told disk)
+        (D.told result.disk) }
+    ensures marked_at_crash { (asks : Asks (map (λ word. string_bytes word) words.now)
+        (F.told files.old))
+        → AreFor asks.line.options.dialect asks.changelog
+        → (bytes : List ℕ)
+        → LeavesMarked asks (stamp_of who.now (C.last clock.new)) (D.told disk) (Some bytes) }
 
     // A command by itself takes the steps of a schedule of this one runner, until it answers.
-    ensures alone { (asks : Asks (map (λ word. string_bytes word) words.now) (F.told files.old)) → TakesSteps asks (stamp_of who.now (C.last clock.new)) (D.told disk) result.status (D.told result.disk) }
+    ensures alone { (asks : Asks (map (λ word. string_bytes word) words.now) (F.told files.old))
+        → TakesSteps asks (stamp_of who.now (C.last clock.new)) (D.told disk) result.status
+        (D.told result.disk) }
 
     // A drill: its commands take their steps as the runners of the machine do, each with its own reading of the clock.
-    ensures drill { (asks : AsksDrill (map (λ word. string_bytes word) words.now) (F.told files.old)) → RunsDrill asks who.now (C.to_come clock.old) (C.to_come clock.new) (D.told disk) (D.crashes disk) result.status (D.told result.disk) (D.crashes result.disk) (O.told out.old) (O.told out.new) }
+    ensures drill { (asks : AsksDrill (map (λ word. string_bytes word) words.now)
+        (F.told files.old))
+        → RunsDrill asks who.now (C.to_come clock.old) (C.to_come clock.new) (D.told disk)
+        (D.crashes disk) result.status (D.told result.disk) (D.crashes result.disk)
+        (O.told out.old) (O.told out.new) }
 
     // The clock is read at most once, and by a drill for each of its commands.
-    ensures once { asks_drill (line_of (map (λ word. string_bytes word) words.now)) ≡ false → ReadAtMostOnce (C.to_come clock.old) (C.to_come clock.new) (C.last clock.new) }
+    ensures once { asks_drill (line_of (map (λ word. string_bytes word) words.now)) ≡ false
+        → ReadAtMostOnce (C.to_come clock.old) (C.to_come clock.new) (C.last clock.new) }
     ensures reads { ReadUpTo 64 (C.to_come clock.old) (C.to_come clock.new) }
 
     // Without an end in the run there is no output. The log gets the lines of the status, behind those of warnings, of which there are none without an end in the run. Of a command that came to its end it is known which: those of an update's turns, the changelog's own first.
     ensures silent { IsSilent result.status → O.told out.new ≡ O.told out.old }
-    ensures logged { (Rose (L.faults log.old) (L.faults log.new) → ⊥) → IsLogged (asked_tag (line_of (map (λ word. string_bytes word) words.now))) result.status (L.told log.old) (L.told log.new) }
-    ensures warns { (asks : Asks (map (λ word. string_bytes word) words.now) (F.told files.old)) → (Rose (L.faults log.old) (L.faults log.new) → ⊥) → Warns asks (stamp_of who.now (C.last clock.new)) (D.told disk) result.status (L.told log.old) (L.told log.new) }
-    ensures log_part { IsLoggedInPart (asked_tag (line_of (map (λ word. string_bytes word) words.now))) result.status (L.told log.old) (L.told log.new) }
+    ensures logged { (Rose (L.faults log.old) (L.faults log.new) → ⊥)
+        → IsLogged (asked_tag (line_of (map (λ word. string_bytes word) words.now))) result.status
+        (L.told log.old) (L.told log.new) }
+    ensures warns { (asks : Asks (map (λ word. string_bytes word) words.now) (F.told files.old))
+        → (Rose (L.faults log.old) (L.faults log.new) → ⊥)
+        → Warns asks (stamp_of who.now (C.last clock.new)) (D.told disk) result.status
+        (L.told log.old) (L.told log.new) }
+    ensures log_part { IsLoggedInPart
+        (asked_tag (line_of (map (λ word. string_bytes word) words.now))) result.status
+        (L.told log.old) (L.told log.new) }
 {
     let Ending { disk, done, tag } = work(alloc, words, who, files, disk, clock);
     let status = tell(alloc, done, text_of(&tag), out, log);

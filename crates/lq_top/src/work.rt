@@ -60,30 +60,73 @@ pub fn work<F: Files, D: Disk, C: Clock>(
     disk: D,
     clock: &mut C,
 ) -> Ending<D>
-    ensures usage { result.done ≡ Err status.Usage → IsUsage (map (λ word. string_bytes word) words.now) (F.told files.old) × (result.disk ≡ disk) }
-    ensures usage_only { line_of (map (λ word. string_bytes word) words.now) ≡ None → (result.done ≡ Err status.Usage) ⊎ (result.done ≡ Err status.OutOfMemory) }
-    ensures formless { HasNoForm (map (λ word. string_bytes word) words.now) (F.told files.old) → IsFormless result.done }
-    ensures read { result.done ≡ Err status.ReadFault → Rose (F.faults files.old) (F.faults files.new) }
-    ensures changelog { (fault : Fault) → result.done ≡ Err (status.Changelog fault) → IsFaultOf (map (λ word. string_bytes word) words.now) (F.told files.old) fault }
-    ensures not_loaded { (fault : Fault) → HasFault (map (λ word. string_bytes word) words.now) (F.told files.old) fault → IsNotLoaded fault result.done }
+    ensures usage { result.done ≡ Err status.Usage
+        → IsUsage (map (λ word. string_bytes word) words.now) (F.told files.old)
+        × (result.disk ≡ disk) }
+    ensures usage_only { line_of (map (λ word. string_bytes word) words.now) ≡ None
+        → (result.done ≡ Err status.Usage) ⊎ (result.done ≡ Err status.OutOfMemory) }
+    ensures formless { HasNoForm (map (λ word. string_bytes word) words.now) (F.told files.old)
+        → IsFormless result.done }
+    ensures read { result.done ≡ Err status.ReadFault
+        → Rose (F.faults files.old) (F.faults files.new) }
+    ensures changelog { (fault : Fault)
+        → result.done ≡ Err (status.Changelog fault)
+        → IsFaultOf (map (λ word. string_bytes word) words.now) (F.told files.old) fault }
+    ensures not_loaded { (fault : Fault)
+        → HasFault (map (λ word. string_bytes word) words.now) (F.told files.old) fault
+        → IsNotLoaded fault result.done }
     ensures kind { IsOfWords result.done }
     ensures untouched { IsOfFiles result.done → result.disk ≡ disk }
-    ensures does { (asks : Asks (map (λ word. string_bytes word) words.now) (F.told files.old)) → DoesLine asks.line.job (given_at (asked_by asks.line.options asks.changelog) (stamp_of who.now (C.last clock.new))) (D.told disk) result.done (D.told result.disk) }
-    ensures any_moment { (asks : Asks (map (λ word. string_bytes word) words.now) (F.told files.old)) → Crashes asks (stamp_of who.now (C.last clock.new)) (D.told disk) (D.crashes disk) (D.crashes result.disk) }
-    ensures safe { (asks : Asks (map (λ word. string_bytes word) words.now) (F.told files.old)) → is_own asks.line.job ≡ true → is_finished (status_done result.done) ≡ true → Settled (D.told result.disk) (D.crashes result.disk) }
-    ensures damaged { (line : Line) → line_of (map (λ word. string_bytes word) words.now) ≡ Some line → TellsDamage line.options.dialect (D.told disk) result.done }
-    ensures damaged_only { (line : Line) (at : ℕ) → line_of (map (λ word. string_bytes word) words.now) ≡ Some line → is_apart line.job ≡ false → IsDamagedAt line.options.dialect (D.told disk) at → Spares line.job at (D.told disk) result.done (D.told result.disk) }
-    ensures missed { (line : Line) → line_of (map (λ word. string_bytes word) words.now) ≡ Some line → has_missed line.job result.done ≡ true → HasNoPart (F.told files.old) line × (result.disk ≡ disk) }
-    ensures in_vain { AsksInVain (map (λ word. string_bytes word) words.now) (F.told files.old) → InVain result.done disk result.disk }
-    ensures soaks { (line : Line) → line_of (map (λ word. string_bytes word) words.now) ≡ Some line → TellsSoakOf line.job line.options.dialect (stamp_of who.now (C.last clock.new)) result.done }
-    ensures off { (line : Line) → line_of (map (λ word. string_bytes word) words.now) ≡ Some line → is_apart line.job ≡ true → result.disk ≡ disk }
-    ensures tag { (result.tag ≡ asked_tag (line_of (map (λ word. string_bytes word) words.now))) ⊎ (result.done ≡ Err status.OutOfMemory) }
+    ensures does { (asks : Asks (map (λ word. string_bytes word) words.now) (F.told files.old))
+        → DoesLine asks.line.job
+        (given_at (asked_by asks.line.options asks.changelog)
+        (stamp_of who.now (C.last clock.new))) (D.told disk) result.done
+        (D.told result.disk) }
+    ensures any_moment { (asks : Asks (map (λ word. string_bytes word) words.now)
+        (F.told files.old))
+        → Crashes asks (stamp_of who.now (C.last clock.new)) (D.told disk) (D.crashes disk)
+        (D.crashes result.disk) }
+    ensures safe { (asks : Asks (map (λ word. string_bytes word) words.now) (F.told files.old))
+        → is_own asks.line.job ≡ true
+        → is_finished (status_done result.done) ≡ true
+        → Settled (D.told result.disk) (D.crashes result.disk) }
+    ensures damaged { (line : Line)
+        → line_of (map (λ word. string_bytes word) words.now) ≡ Some line
+        → TellsDamage line.options.dialect (D.told disk) result.done }
+    ensures damaged_only { (line : Line) (at : ℕ)
+        → line_of (map (λ word. string_bytes word) words.now) ≡ Some line
+        → is_apart line.job ≡ false
+        → IsDamagedAt line.options.dialect (D.told disk) at
+        → Spares line.job at (D.told disk) result.done (D.told result.disk) }
+    ensures missed { (line : Line)
+        → line_of (map (λ word. string_bytes word) words.now) ≡ Some line
+        → has_missed line.job result.done ≡ true
+        → HasNoPart (F.told files.old) line × (result.disk ≡ disk) }
+    ensures in_vain { AsksInVain (map (λ word. string_bytes word) words.now) (F.told files.old)
+        → InVain result.done disk result.disk }
+    ensures soaks { (line : Line)
+        → line_of (map (λ word. string_bytes word) words.now) ≡ Some line
+        → TellsSoakOf line.job line.options.dialect (stamp_of who.now (C.last clock.new))
+        result.done }
+    ensures off { (line : Line)
+        → line_of (map (λ word. string_bytes word) words.now) ≡ Some line
+        → is_apart line.job ≡ true
+        → result.disk ≡ disk }
+    ensures tag { (result.tag ≡ asked_tag (line_of (map (λ word. string_bytes word) words.now)))
+        ⊎ (result.done ≡ Err status.OutOfMemory) }
     ensures later { D.faults disk ≤ D.faults result.disk }
-    ensures fault { result.done ≡ Err status.DiskFault → Rose (D.faults disk) (D.faults result.disk) }
-    ensures once { asks_drill (line_of (map (λ word. string_bytes word) words.now)) ≡ false → ReadAtMostOnce (C.to_come clock.old) (C.to_come clock.new) (C.last clock.new) }
+    ensures fault { result.done ≡ Err status.DiskFault
+        → Rose (D.faults disk) (D.faults result.disk) }
+    ensures once { asks_drill (line_of (map (λ word. string_bytes word) words.now)) ≡ false
+        → ReadAtMostOnce (C.to_come clock.old) (C.to_come clock.new) (C.last clock.new) }
     ensures reads { ReadUpTo 64 (C.to_come clock.old) (C.to_come clock.new) }
-    ensures drills { (asks : AsksDrill (map (λ word. string_bytes word) words.now) (F.told files.old)) → DoesDrill asks.line.options.dialect who.now asks.drill (C.to_come clock.old) (C.to_come clock.new) (D.told disk) (D.crashes disk) result.done (D.told result.disk) (D.crashes result.disk) }
-    ensures settled { AsksDrill (map (λ word. string_bytes word) words.now) (F.told files.old) → IsSettled D.told D.faults D.crashes result.done result.disk }
+    ensures drills { (asks : AsksDrill (map (λ word. string_bytes word) words.now)
+        (F.told files.old))
+        → DoesDrill asks.line.options.dialect who.now asks.drill (C.to_come clock.old)
+        (C.to_come clock.new) (D.told disk) (D.crashes disk) result.done (D.told result.disk)
+        (D.crashes result.disk) }
+    ensures settled { AsksDrill (map (λ word. string_bytes word) words.now) (F.told files.old)
+        → IsSettled D.told D.faults D.crashes result.done result.disk }
 {
     match read_words(alloc, words) {
         Ok(line) => on_line(alloc, line, who, files, disk, clock),
@@ -113,12 +156,21 @@ fn on_line<F: Files, D: Disk, C: Clock>(
     clock: &mut C,
 ) -> Ending<D>
     requires tag { IfSome (job_tag line.job) (λ tag. char_count tag ≤ 255) }
-    ensures read { result.done ≡ Err status.ReadFault → Rose (F.faults files.old) (F.faults files.new) }
-    ensures worked { is_drill line.job ≡ false → WorkedBy D.told D.faults D.crashes (F.told files.old) (λ source. given_to source line) line.job line.options (stamp_of who.now (C.last clock.new)) disk result.done result.disk }
-    ensures drilled { (runs : List ℕ) → line.job ≡ job.Drill runs → DrilledBy D.told D.faults D.crashes (F.told files.old) line.options.dialect line.path runs who.now (C.to_come clock.old) (C.to_come clock.new) disk result.done result.disk }
-    ensures soaks { TellsSoakOf line.job line.options.dialect (stamp_of who.now (C.last clock.new)) result.done }
+    ensures read { result.done ≡ Err status.ReadFault
+        → Rose (F.faults files.old) (F.faults files.new) }
+    ensures worked { is_drill line.job ≡ false
+        → WorkedBy D.told D.faults D.crashes (F.told files.old) (λ source. given_to source line)
+        line.job line.options (stamp_of who.now (C.last clock.new)) disk result.done
+        result.disk }
+    ensures drilled { (runs : List ℕ)
+        → line.job ≡ job.Drill runs
+        → DrilledBy D.told D.faults D.crashes (F.told files.old) line.options.dialect line.path runs
+        who.now (C.to_come clock.old) (C.to_come clock.new) disk result.done result.disk }
+    ensures soaks { TellsSoakOf line.job line.options.dialect (stamp_of who.now (C.last clock.new))
+        result.done }
     ensures tag { result.tag ≡ goal_of line.job }
-    ensures once { is_drill line.job ≡ false → ReadAtMostOnce (C.to_come clock.old) (C.to_come clock.new) (C.last clock.new) }
+    ensures once { is_drill line.job ≡ false
+        → ReadAtMostOnce (C.to_come clock.old) (C.to_come clock.new) (C.last clock.new) }
 {
     let Line {
         job,
@@ -174,9 +226,13 @@ fn on_command<F: Files, D: Disk, C: Clock>(
 ) -> Ending<D>
     requires tag { IfSome (job_tag job) (λ tag. char_count tag ≤ 255) }
     requires no_drill { is_drill job ≡ false }
-    ensures read { result.done ≡ Err status.ReadFault → Rose (F.faults files.old) (F.faults files.new) }
-    ensures worked { WorkedBy D.told D.faults D.crashes (F.told files.old) (λ source. loaded source options.dialect given.now root.now) job options (stamp_of who.now (C.last clock.new)) disk result.done result.disk }
-    ensures soaks { TellsSoakOf job options.dialect (stamp_of who.now (C.last clock.new)) result.done }
+    ensures read { result.done ≡ Err status.ReadFault
+        → Rose (F.faults files.old) (F.faults files.new) }
+    ensures worked { WorkedBy D.told D.faults D.crashes (F.told files.old)
+        (λ source. loaded source options.dialect given.now root.now) job options
+        (stamp_of who.now (C.last clock.new)) disk result.done result.disk }
+    ensures soaks { TellsSoakOf job options.dialect (stamp_of who.now (C.last clock.new))
+        result.done }
     ensures tag { result.tag ≡ goal_of job }
     ensures once { ReadAtMostOnce (C.to_come clock.old) (C.to_come clock.new) (C.last clock.new) }
 {
@@ -203,9 +259,13 @@ fn in_dialect<F: Files, D: Disk, C: Clock>(
 ) -> Worked<D>
     requires tag { IfSome (job_tag job.now) (λ tag. char_count tag ≤ 255) }
     requires no_drill { is_drill job.now ≡ false }
-    ensures read { result.done ≡ Err status.ReadFault → Rose (F.faults files.old) (F.faults files.new) }
-    ensures worked { WorkedBy D.told D.faults D.crashes (F.told files.old) (λ source. loaded source options.dialect given.now root.now) job.now options (stamp_of who.now (C.last clock.new)) disk result.done result.disk }
-    ensures soaks { TellsSoakOf job.now options.dialect (stamp_of who.now (C.last clock.new)) result.done }
+    ensures read { result.done ≡ Err status.ReadFault
+        → Rose (F.faults files.old) (F.faults files.new) }
+    ensures worked { WorkedBy D.told D.faults D.crashes (F.told files.old)
+        (λ source. loaded source options.dialect given.now root.now) job.now options
+        (stamp_of who.now (C.last clock.new)) disk result.done result.disk }
+    ensures soaks { TellsSoakOf job.now options.dialect (stamp_of who.now (C.last clock.new))
+        result.done }
     ensures once { ReadAtMostOnce (C.to_come clock.old) (C.to_come clock.new) (C.last clock.new) }
 {
     match options.dialect {
@@ -233,9 +293,13 @@ fn with_sql<F: Files, D: Disk, C: Clock, P: SqlText + Drop + Copy>(
     requires sql { P.dialect ≡ options.dialect }
     requires tag { IfSome (job_tag job.now) (λ tag. char_count tag ≤ 255) }
     requires no_drill { is_drill job.now ≡ false }
-    ensures read { result.done ≡ Err status.ReadFault → Rose (F.faults files.old) (F.faults files.new) }
-    ensures worked { WorkedBy D.told D.faults D.crashes (F.told files.old) (λ source. loaded source options.dialect given.now root.now) job.now options (stamp_of who.now (C.last clock.new)) disk result.done result.disk }
-    ensures soaks { TellsSoakOf job.now options.dialect (stamp_of who.now (C.last clock.new)) result.done }
+    ensures read { result.done ≡ Err status.ReadFault
+        → Rose (F.faults files.old) (F.faults files.new) }
+    ensures worked { WorkedBy D.told D.faults D.crashes (F.told files.old)
+        (λ source. loaded source options.dialect given.now root.now) job.now options
+        (stamp_of who.now (C.last clock.new)) disk result.done result.disk }
+    ensures soaks { TellsSoakOf job.now options.dialect (stamp_of who.now (C.last clock.new))
+        result.done }
     ensures once { ReadAtMostOnce (C.to_come clock.old) (C.to_come clock.new) (C.last clock.new) }
 {
     match changelog_of(alloc, files, root, options.dialect, &sql, given) {
@@ -263,8 +327,10 @@ fn on_part<D: Disk, C: Clock, P: SqlText + Drop + Copy>(
     requires short { All HasShortTexts changelog.sets }
     requires tag { IfSome (job_tag job.now) (λ tag. char_count tag ≤ 255) }
     requires no_drill { is_drill job.now ≡ false }
-    ensures worked { WorkedWith D.told D.faults D.crashes job.now options changelog (stamp_of who.now (C.last clock.new)) disk result.done result.disk }
-    ensures soaks { TellsSoakOf job.now options.dialect (stamp_of who.now (C.last clock.new)) result.done }
+    ensures worked { WorkedWith D.told D.faults D.crashes job.now options changelog
+        (stamp_of who.now (C.last clock.new)) disk result.done result.disk }
+    ensures soaks { TellsSoakOf job.now options.dialect (stamp_of who.now (C.last clock.new))
+        result.done }
     ensures once { ReadAtMostOnce (C.to_come clock.old) (C.to_come clock.new) (C.last clock.new) }
 {
     match part_for(job, changelog) {
@@ -293,8 +359,10 @@ fn on_job<D: Disk, C: Clock, P: SqlText + Drop + Copy>(
     requires short { All HasShortTexts asked.changelog.sets }
     requires tag { IfSome (job_tag job.now) (λ tag. char_count tag ≤ 255) }
     requires no_drill { is_drill job.now ≡ false }
-    ensures worked { WorkedOn D.told D.faults D.crashes job.now (given_at asked (stamp_of who.now (C.last clock.new))) disk result.done result.disk }
-    ensures soaks { TellsSoakOf job.now asked.options.dialect (stamp_of who.now (C.last clock.new)) result.done }
+    ensures worked { WorkedOn D.told D.faults D.crashes job.now
+        (given_at asked (stamp_of who.now (C.last clock.new))) disk result.done result.disk }
+    ensures soaks { TellsSoakOf job.now asked.options.dialect (stamp_of who.now (C.last clock.new))
+        result.done }
     ensures once { ReadAtMostOnce (C.to_come clock.old) (C.to_come clock.new) (C.last clock.new) }
 {
     if is_own(job) {
@@ -340,7 +408,8 @@ fn printed<D: Disk, C: Clock, P: SqlText + Drop + Copy>(
     requires sql { P.dialect ≡ asked.options.dialect }
     requires read { AreFor asked.options.dialect asked.changelog }
     requires short { All HasShortTexts asked.changelog.sets }
-    ensures worked { WorkedOn D.told D.faults D.crashes (job_of printing.entry) (given_at asked (stamp_of who.now (C.last clock.new))) disk result.done result.disk }
+    ensures worked { WorkedOn D.told D.faults D.crashes (job_of printing.entry)
+        (given_at asked (stamp_of who.now (C.last clock.new))) disk result.done result.disk }
     ensures once { ReadAtMostOnce (C.to_come clock.old) (C.to_come clock.new) (C.last clock.new) }
 {
     let mut disk = disk;

@@ -69,6 +69,10 @@ tag_set of tag = row_set log.Tag tag of
 abbrev pub sum_filled : Identity → List ℕ → Statement
 sum_filled of sum = row_set log.Md5Sum sum of
 
+-- each row's sum becomes null
+abbrev pub sums_cleared : Statement
+sums_cleared = Update log_table ((log_name log.Md5Sum, literal.Null) ∷ []) None
+
 -- the columns of the lock's row become those of the lock
 abbrev pub lock_set : List LockColumn → Lock → Statement
 lock_set columns l = Update lock_table (map (λ c. (lock_name c, lock_value l c)) columns) (Some lock_test)

@@ -42,7 +42,8 @@ fn is_lock<K: Look>(
     look: &K,
     table: &Name,
 ) -> Result<bool, NoMemory>
-    ensures { IfOk result (λ is. is ≡ passes (is_lock dialect) (table_of (K.catalogue look.now) table.now)) }
+    ensures { IfOk result
+        (λ is. is ≡ passes (is_lock dialect) (table_of (K.catalogue look.now) table.now)) }
 {
     let Some(columns) = look.columns(table) else {
         return Ok(false);

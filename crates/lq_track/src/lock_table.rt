@@ -48,7 +48,13 @@ fn set_lock(
     granted: Literal,
     by: Literal,
 ) -> Result<Statement, NoMemory>
-    ensures { IfOk result (λ s. s ≡ statement.Update lock_table ((lock_name lock.Locked, literal.Bool locked) ∷ (lock_name lock.LockGranted, granted) ∷ (lock_name lock.LockedBy, by) ∷ []) (Some lock_test)) }
+    ensures { IfOk result (λ s.
+        s
+        ≡ statement.Update lock_table
+        ((lock_name lock.Locked, literal.Bool locked)
+        ∷ (lock_name lock.LockGranted, granted)
+        ∷ (lock_name lock.LockedBy, by)
+        ∷ []) (Some lock_test)) }
 {
     let mut sets = Items::new(alloc);
     sets.push((LockColumn::Locked.name(alloc)?, Literal::Bool(locked)))?;

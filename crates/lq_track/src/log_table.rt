@@ -1,7 +1,7 @@
 ghost use Rattle.std.specs.Prelude.{◌≡◌, map, IfOk, Some};
 ghost use Rattle.lq_track.specs.Log.{log_column, log_name, log_table, log_value, log_set};
 ghost use Rattle.lq_base.specs.Moment.{IsMoment};
-ghost use Rattle.lq_track.specs.Statements.{log_holds, row_test, row_inserted, row_again, row_deleted, row_set, tag_set, sum_filled};
+ghost use Rattle.lq_track.specs.Statements.{log_holds, row_test, row_inserted, row_again, row_deleted, row_set, tag_set, sum_filled, sums_cleared};
 ghost use Rattle.lq_model.specs.declared.test.Test.TheVariants.{And};
 
 use crate::literals::{holds, moment_literal, text_literal, text_or_null};
@@ -69,6 +69,20 @@ pub fn fill_sum(alloc: Global, of: &Identity, sum: &Text) -> Result<Statement, N
     set_text(alloc, of, LogColumn::Md5Sum, sum)
 }
 
+/// Takes the checksum of every row: a later update fills each in (Liquibase's documentation,
+/// "clear-checksums").
+pub fn clear_sums(alloc: Global) -> Result<Statement, NoMemory>
+    ensures { IfOk result (λ s. s ≡ sums_cleared) }
+{
+    let mut sets = Items::new(alloc);
+    sets.push((LogColumn::Md5Sum.name(alloc)?, Literal::Null))?;
+    Ok(Statement::Update {
+        table: log_table(alloc)?,
+        sets,
+        test: None,
+    })
+}
+
 fn set_text(
     alloc: Global,
     of: &Identity,
@@ -93,7 +107,8 @@ fn set_text(
 
 /// That a row is the changeset's.
 fn row_test(alloc: Global, id: &Text, author: &Text, file: &Text) -> Result<Test, NoMemory>
-    ensures { IfOk result (λ test. test ≡ row_test (record { file = file.now; id = id.now; author = author.now })) }
+    ensures { IfOk result
+        (λ test. test ≡ row_test (record { file = file.now; id = id.now; author = author.now })) }
 {
     let id = log_holds(alloc, LogColumn::Id, id);
     let author = log_holds(alloc, LogColumn::Author, author);

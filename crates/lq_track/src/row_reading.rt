@@ -151,7 +151,20 @@ fn details_of(
     labels: &Text,
     deployment: &Text,
 ) -> Result<Option<Details>, NoMemory>
-    ensures { IfOk result (λ d. d ≡ option_and_then (λ m. option_map (λ t. record { md5sum = m; description = description.now; comments = comments.now; tag = t; tool = tool.now; contexts = contexts.now; labels = labels.now; deployment = deployment.now }) (text_in tag.now)) (text_in md5sum.now)) }
+    ensures { IfOk result (λ d.
+        d
+        ≡ option_and_then (λ m.
+        option_map (λ t.
+        record {
+          md5sum = m;
+          description = description.now;
+          comments = comments.now;
+          tag = t;
+          tool = tool.now;
+          contexts = contexts.now;
+          labels = labels.now;
+          deployment = deployment.now;
+        }) (text_in tag.now)) (text_in md5sum.now)) }
 {
     let Some(md5sum) = text_in(alloc, md5sum)? else {
         return Ok(None);

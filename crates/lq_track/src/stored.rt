@@ -83,7 +83,8 @@ pub fn all_rows<K: Look>(
     look: &K,
     table: Name,
 ) -> Result<Items<Items<Value>>, NoMemory>
-    ensures { IfOk result (λ rows. IfSome (table_of (K.catalogue look.now) table) (λ it. rows ≡ it.rows)) }
+    ensures { IfOk result
+        (λ rows. IfSome (table_of (K.catalogue look.now) table) (λ it. rows ≡ it.rows)) }
 {
     let query = Query {
         wanted: Wanted::All,

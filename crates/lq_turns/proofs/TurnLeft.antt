@@ -24,7 +24,7 @@ use Rattle.lq_turns.specs.declared.call.Call.TheVariants.{Begin, Commit, Execute
 use Rattle.lq_turns.specs.declared.deed.Deed.TheVariants.{Locks, Rows, Users}
 use Rattle.lq_turns.specs.declared.deed.OnLock.TheVariants.{Marked}
 use Rattle.lq_turns.specs.declared.deed.OnRows.{OnRows}
-use Rattle.lq_turns.specs.declared.deed.OnRows.TheVariants.{Deleted, Filled, Inserted, Renewed, Tagged}
+use Rattle.lq_turns.specs.declared.deed.OnRows.TheVariants.{Cleared, Deleted, Filled, Inserted, Renewed, Tagged}
 use Rattle.lq_turns.specs.declared.turn.Turn.{Turn}
 use Rattle.lq_turns.specs.Turn.{Course, Ending, Finished, Stuck, Through, apart, contents_in, course, ending, is_marked, kept, led_by, made, mark, mark_text, refused, row_calls, row_ending, run_on, statement_calls, turn_calls, unmark, up_to_last, within}
 use Rattle.lq_turns.proofs.Made.{At, is_turns, takes, with_users}
@@ -44,6 +44,7 @@ row_not_own Mysql (Renewed row) = refl
 row_not_own Mysql (Deleted of) = refl
 row_not_own Mysql (Filled of sum) = refl
 row_not_own Mysql (Tagged of tag) = refl
+row_not_own Mysql Cleared = refl
 
 abbrev kept_if : Bool → Catalogue → Catalogue → Catalogue
 kept_if true a b = b

@@ -1,6 +1,6 @@
 -- The statements of a command: a user's, and the program's own on the tracking tables; and what each makes of a database.
 use Rattle.std.specs.List.{filter}
-use Rattle.std.specs.Prelude.{Bool, Err, List, Ok, Result, Some, [], if◌then◌else◌, length, map, nat_le, nat_lt, not, pos, true, ℕ, ◌++◌, ◌∷◌}
+use Rattle.std.specs.Prelude.{Bool, Err, List, None, Ok, Result, Some, [], if◌then◌else◌, length, map, nat_le, nat_lt, not, pos, true, ℕ, ◌++◌, ◌∷◌}
 use Rattle.lq_base.specs.declared.dialect.Dialect.{Dialect}
 use Rattle.lq_base.specs.declared.identity.Identity.{Identity}
 use Rattle.lq_base.specs.declared.reason.Reason.{Reason}
@@ -14,13 +14,13 @@ use Rattle.lq_track.specs.Database.{Database, same_identity}
 use Rattle.lq_track.specs.Lock.{free, taken}
 use Rattle.lq_track.specs.Log.{identity_of}
 use Rattle.lq_turns.specs.Contents.{Contents, contents_of, with_contents}
-use Rattle.lq_track.specs.Statements.{lock_freed, lock_made, lock_marked, lock_row_made, lock_taken, log_made, row_again, row_deleted, row_inserted, sum_filled, tag_set}
+use Rattle.lq_track.specs.Statements.{lock_freed, lock_made, lock_marked, lock_row_made, lock_taken, log_made, row_again, row_deleted, row_inserted, sum_filled, sums_cleared, tag_set}
 use Rattle.lq_turns.specs.declared.deed.Deed.{Deed}
 use Rattle.lq_turns.specs.declared.deed.Deed.TheVariants.{Locks, Rows, Users}
 use Rattle.lq_turns.specs.declared.deed.OnLock.{OnLock}
 use Rattle.lq_turns.specs.declared.deed.OnLock.TheVariants.{Freed, LockMade, LockRowMade, LogMade, Marked, Taken}
 use Rattle.lq_turns.specs.declared.deed.OnRows.{OnRows}
-use Rattle.lq_turns.specs.declared.deed.OnRows.TheVariants.{Deleted, Filled, Inserted, Renewed, Tagged}
+use Rattle.lq_turns.specs.declared.deed.OnRows.TheVariants.{Cleared, Deleted, Filled, Inserted, Renewed, Tagged}
 
 abbrev pub row_statement : OnRows → Statement
 row_statement (Inserted row) = row_inserted row
@@ -28,6 +28,7 @@ row_statement (Renewed row) = row_again row
 row_statement (Deleted of) = row_deleted of
 row_statement (Filled of sum) = sum_filled of sum
 row_statement (Tagged of tag) = tag_set of tag
+row_statement Cleared = sums_cleared
 
 abbrev pub lock_statement : Dialect → OnLock → Statement
 lock_statement d LogMade = log_made
@@ -63,6 +64,9 @@ filled of sum row = if is_of of row then record row { md5sum = Some sum } else r
 abbrev pub tagged : Identity → List ℕ → Tracked → Tracked
 tagged of tag row = if is_of of row then record row { tag = Some tag } else row
 
+abbrev pub without_sum : Tracked → Tracked
+without_sum row = record row { md5sum = None }
+
 -- a place in run order has 31 bits
 abbrev pub has_place : Tracked → Bool
 has_place row = nat_le row.order 2147483647
@@ -74,6 +78,7 @@ rows_after (Renewed row) rows = if has_place row then Ok (others (identity_of ro
 rows_after (Deleted of) rows = Ok (others of rows)
 rows_after (Filled of sum) rows = Ok (map (filled of sum) rows)
 rows_after (Tagged of tag) rows = Ok (map (tagged of tag) rows)
+rows_after Cleared rows = Ok (map without_sum rows)
 
 abbrev pub lock_after : OnLock → Database → Database
 lock_after LogMade database = record database { has_log = true }

@@ -28,7 +28,7 @@ use Rattle.lq_turns.specs.declared.deed.Deed.TheVariants.{Locks, Rows, Users}
 use Rattle.lq_turns.specs.declared.deed.OnLock.{OnLock}
 use Rattle.lq_turns.specs.declared.deed.OnLock.TheVariants.{Freed, LockMade, LockRowMade, LogMade, Marked, Taken}
 use Rattle.lq_turns.specs.declared.deed.OnRows.{OnRows}
-use Rattle.lq_turns.specs.declared.deed.OnRows.TheVariants.{Deleted, Filled, Inserted, Renewed, Tagged}
+use Rattle.lq_turns.specs.declared.deed.OnRows.TheVariants.{Cleared, Deleted, Filled, Inserted, Renewed, Tagged}
 use Rattle.lq_turns.specs.Settle.{greatest}
 
 -- statements in order, each on behalf of its own caller, or the first reason
@@ -69,6 +69,7 @@ fits_rows (Renewed row) rows = is_stamped row && (nat_lt (greatest rows) row.ord
 fits_rows (Deleted of) rows = true
 fits_rows (Filled of sum) rows = nat_le (char_count sum) 35
 fits_rows (Tagged of tag) rows = nat_le (char_count tag) 255
+fits_rows Cleared rows = true
 
 abbrev pub fits_lock : OnLock → Database → Bool
 fits_lock LogMade database = not database.has_log

@@ -1,9 +1,10 @@
--- The writing calls of an update, a changelog-sync, a tag and a release-locks that run alone.
+-- The writing calls of an update, a changelog-sync, a tag, a clear-checksums and a release-locks that run alone.
 use Rattle.std.specs.List.{list_any}
 use Rattle.std.specs.Prelude.{Bool, List, None, Option, Some, [], false, if◌then◌else◌, is_some, map, not, true, ℕ, ◌&&◌, ◌+◌, ◌++◌, ◌∷◌}
 use Rattle.lq_base.specs.declared.dialect.Dialect.{Dialect}
 use Rattle.lq_base.specs.declared.tracking.Exec.TheVariants as exec
 use Rattle.lq_base.specs.declared.tracking.Tracked.{Tracked}
+use Rattle.lq_model.specs.Names.{is_empty}
 use Rattle.lq_model.specs.declared.caller.Room.TheVariants.{Ordinary, Release}
 use Rattle.lq_track.specs.Database.{Database}
 use Rattle.lq_track.specs.Log.{identity_of}
@@ -17,7 +18,7 @@ use Rattle.lq_turns.specs.declared.choice.Choice.TheVariants.{Fills, Halts, Mark
 use Rattle.lq_turns.specs.declared.deed.Deed.TheVariants.{Locks, Rows}
 use Rattle.lq_turns.specs.declared.deed.OnLock.{OnLock}
 use Rattle.lq_turns.specs.declared.deed.OnLock.TheVariants.{Freed, LockMade, LockRowMade, LogMade, Taken}
-use Rattle.lq_turns.specs.declared.deed.OnRows.TheVariants.{Inserted, Tagged}
+use Rattle.lq_turns.specs.declared.deed.OnRows.TheVariants.{Cleared, Inserted, Tagged}
 use Rattle.lq_turns.specs.declared.stamp.Stamp.{Stamp}
 use Rattle.lq_turns.specs.declared.stop.Stop.{Stop}
 use Rattle.lq_turns.specs.declared.turn.Turn.{Turn}
@@ -102,6 +103,13 @@ tag_of tag (Some row) = Alone (Rows (Tagged (identity_of row) tag) ∷ []) Ordin
 
 abbrev pub tag_calls : List ℕ → Database → List Call
 tag_calls tag database = tag_of tag (last_row database.rows)
+
+abbrev pub clearing : Call
+clearing = Alone (Rows Cleared ∷ []) Ordinary
+
+-- each row's sum is taken, where there is a row
+abbrev pub clear_calls : Database → List Call
+clear_calls database = if is_empty database.rows then [] else clearing ∷ []
 
 abbrev pub release_calls : Database → List Call
 release_calls database = if database.lock.locked then closing ∷ [] else []

@@ -12,6 +12,8 @@ pub enum OnRows {
     Filled(Identity, Text),
     /// The row gets this tag.
     Tagged(Identity, Text),
+    /// Each row loses its checksum.
+    Cleared,
 }
 
 // Written out, so that each place that lets one go is one call.
@@ -29,6 +31,7 @@ impl Drop for OnRows {
                 drop(a);
                 drop(b);
             }
+            OnRows::Cleared => (),
         }
     }
 }

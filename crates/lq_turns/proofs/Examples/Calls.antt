@@ -11,7 +11,7 @@ use Rattle.lq_model.specs.Plan.{decide}
 use Rattle.lq_model.specs.declared.caller.Room.TheVariants.{Ordinary, Release}
 use Rattle.lq_track.specs.Database.{Database}
 use Rattle.lq_track.specs.Lock.{free, taken}
-use Rattle.lq_turns.specs.Script.{release_calls, sync_calls, tag_calls, update_calls}
+use Rattle.lq_turns.specs.Script.{clear_calls, release_calls, sync_calls, tag_calls, update_calls}
 use Rattle.lq_turns.specs.Session.{all_called, session_on}
 use Rattle.lq_turns.specs.Set.{Set}
 use Rattle.lq_turns.specs.Settle.{row_for}
@@ -20,7 +20,7 @@ use Rattle.lq_base.specs.declared.run.OnFail.TheVariants as on_fail
 use Rattle.lq_turns.specs.declared.deed.Deed.{Deed}
 use Rattle.lq_turns.specs.declared.deed.Deed.TheVariants.{Locks, Rows, Users}
 use Rattle.lq_turns.specs.declared.deed.OnLock.TheVariants.{Freed, LockMade, LockRowMade, LogMade, Marked, Taken}
-use Rattle.lq_turns.specs.declared.deed.OnRows.TheVariants.{Filled, Inserted, Tagged}
+use Rattle.lq_turns.specs.declared.deed.OnRows.TheVariants.{Cleared, Filled, Inserted, Tagged}
 use Rattle.lq_turns.proofs.Examples.Given.{Given, changelog, changeset, made_on, makes, meaning, named, nothing, row, row_into, stamp, table, told_so, with_rows}
 
 -- the database in which nothing was made
@@ -121,6 +121,13 @@ tag_of_last = refl
 
 pub tag_of_none : tag_calls (codes "v1") empty ≡ []
 tag_of_none = refl
+
+-- one call takes the sums of all rows
+pub clear_of_rows : clear_calls (made_on (with_rows (row (codes "2") 5 Executed None ∷ row (codes "1") 7 Executed (Some (codes "P2:new")) ∷ []))) ≡ Alone (Rows Cleared ∷ []) Ordinary ∷ []
+clear_of_rows = refl
+
+pub clear_of_none : clear_calls empty ≡ []
+clear_of_none = refl
 
 pub release_of_held : release_calls (record empty { lock = taken (pos 1) (codes "ci") }) ≡ Alone (Locks Freed ∷ []) Release ∷ []
 release_of_held = refl

@@ -1,5 +1,5 @@
 use Rattle.std.proofs.Common.{arith, rules, ◌<◌, ◌^◌}
-use Rattle.lq_run.proofs.Stated.{if_made, stated_again, stated_deleted, stated_filled, stated_inserted, stated_tagged}
+use Rattle.lq_run.proofs.Stated.{if_made, stated_again, stated_cleared, stated_deleted, stated_filled, stated_inserted, stated_tagged}
 use Rattle.lq_run.proofs.deed.row_statement.Goals as goal
 
 pub returns-in-Inserted-clause-stated : goal.returns-in-Inserted-clause-stated
@@ -20,3 +20,6 @@ returns-in-Filled-clause-stated c = if_made c.args.dialect _ _ c.fill_sum.ensure
 
 pub returns-in-Tagged-clause-stated : goal.returns-in-Tagged-clause-stated
 returns-in-Tagged-clause-stated c = if_made c.args.dialect _ _ c.set_tag.ensures (stated_tagged c.args.dialect c.in-Tagged.of c.in-Tagged.tag)
+
+pub returns-in-Cleared-clause-stated : goal.returns-in-Cleared-clause-stated
+returns-in-Cleared-clause-stated c = if_made c.args.dialect _ _ c.clear_sums.ensures (stated_cleared c.args.dialect)
