@@ -13,7 +13,8 @@ use std::collections::BTreeSet;
 /// Whether the name was known. It is afterwards.
 fn was_known<'a>(known: &mut BTreeSet<&'a Name>, name: &'a Name) -> Result<bool, NoMemory>
     ensures was { IfOk result (λ was. was ≡ has_name known.old name.now) }
-    ensures also { OnOk result ((n : Bytes) → has_name known.new n ≡ (is_named n name.now || has_name known.old n)) }
+    ensures also { OnOk result
+        ((n : Bytes) → has_name known.new n ≡ (is_named n name.now || has_name known.old n)) }
 {
     match known.insert(name) {
         Ok(new) => Ok(!new),
@@ -37,7 +38,8 @@ pub fn repeats(alloc: Global, names: &[Name]) -> Result<bool, NoMemory>
 
 /// The names of the columns, for looking up.
 fn names_of<'a>(alloc: Global, columns: &'a [Column]) -> Result<BTreeSet<&'a Name>, NoMemory>
-    ensures { IfOk result (λ known. (n : Bytes) → has_name known n ≡ spaces.is_in n (map (λ c. c.name) columns.now)) }
+    ensures { IfOk result
+        (λ known. (n : Bytes) → has_name known n ≡ spaces.is_in n (map (λ c. c.name) columns.now)) }
 {
     let mut known = BTreeSet::new(alloc);
     for column in columns {
@@ -63,7 +65,8 @@ pub fn lacks_column<'a>(
     columns: &'a [Column],
     names: &'a [Name],
 ) -> Result<bool, NoMemory>
-    ensures { IfOk result (λ lacks. lacks ≡ list_any (λ n. not (spaces.is_in n (map (λ c. c.name) columns.now))) names.now) }
+    ensures { IfOk result (λ lacks.
+        lacks ≡ list_any (λ n. not (spaces.is_in n (map (λ c. c.name) columns.now))) names.now) }
 {
     let known = names_of(alloc, columns)?;
     Ok(lacks_known(&known, names))

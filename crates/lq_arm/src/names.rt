@@ -85,7 +85,8 @@ fn one_is_foreign(entry: &(Name, Held), name: &Name) -> bool
 
 /// Whether a foreign key of one of the tables has the name.
 pub fn any_is_foreign(tables: &[(Name, Held)], name: &Name) -> bool
-    ensures { result ≡ list_any (λ e. list_any (λ f. is_named name.now f.name) e.1.now.foreign) tables.now }
+    ensures { result
+        ≡ list_any (λ e. list_any (λ f. is_named name.now f.name) e.1.now.foreign) tables.now }
 {
     tables.iter().any(|entry| one_is_foreign(entry, name))
 }

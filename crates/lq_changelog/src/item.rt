@@ -113,7 +113,8 @@ fn set_by<P: SqlText>(
 ) -> Result<Option<ChangeSet>, Lack>
     requires same { P.dialect ≡ dialect }
     requires label { is_label path.now ≡ true }
-    ensures made { IsGathered (set_by (format_of path.now) dialect given.now path.now node.now) result }
+    ensures made { IsGathered (set_by (format_of path.now) dialect given.now path.now node.now)
+        result }
     ensures right { IfOk result (λ set. if_there (is_read_for dialect) set ≡ true) }
     ensures short { IfOk result (λ set. IfSome set HasShortTexts) }
 {

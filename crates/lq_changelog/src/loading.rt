@@ -31,7 +31,8 @@ pub fn load<F: Files, P: SqlText>(
     given: &[(Text, Text)],
 ) -> Result<Changelog, LoadFault>
     requires same { P.dialect ≡ dialect }
-    ensures loaded { Finds (F.told files.old) (λ source. changelog source root.now dialect given.now) result }
+    ensures loaded { Finds (F.told files.old)
+        (λ source. changelog source root.now dialect given.now) result }
     ensures right { IfOk result (λ g. AreFor dialect g) }
     ensures short { IfOk result (λ g. All HasShortTexts g.sets) }
     ensures told { F.told files.new ≡ F.told files.old }

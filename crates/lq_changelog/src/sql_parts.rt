@@ -60,7 +60,8 @@ fn is_idle(alloc: Global, changes: &[AnyChange], dialect: Dialect) -> Result<boo
 /// The changeset without its changes.
 fn emptied(alloc: Global, set: ChangeSet) -> Result<ChangeSet, NoMemory>
     requires { HasShortTexts set }
-    ensures made { IfOk result (λ made. made ≡ record set { changes = []; sum = sum_of []; old_sum = old_sum_of [] }) }
+    ensures made { IfOk result
+        (λ made. made ≡ record set { changes = []; sum = sum_of []; old_sum = old_sum_of [] }) }
     ensures short { IfOk result HasShortTexts }
 {
     let sums = sums_of(alloc, &[])?;

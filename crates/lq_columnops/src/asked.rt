@@ -21,7 +21,10 @@ fn is_missing(parts: &Parts, table: &Name) -> bool
 
 /// Whether the table is not there, or lacks the column.
 fn is_column_missing(parts: &Parts, table: &Name, column: &Name) -> bool
-    ensures { result ≡ (is_none (table_of parts.now.now table.now) || not (has_column (the_table parts.now.now table.now) column.now)) }
+    ensures { result
+        ≡
+        (is_none (table_of parts.now.now table.now)
+        || not (has_column (the_table parts.now.now table.now) column.now)) }
 {
     match parts.table(table) {
         None => true,

@@ -63,7 +63,8 @@ fn changed_column(
     name: &Name,
     change: &Change,
 ) -> Result<Column, NoMemory>
-    ensures { IfOk result (λ changed. changed ≡ changed_at name.now (applied change.now) column.now) }
+    ensures { IfOk result
+        (λ changed. changed ≡ changed_at name.now (applied change.now) column.now) }
 {
     let copy = column.duplicate(alloc)?;
     if *name != column.name {
@@ -78,7 +79,8 @@ fn changed_columns(
     name: &Name,
     change: &Change,
 ) -> Result<Items<Column>, NoMemory>
-    ensures { IfOk result (λ all. all ≡ map (changed_at name.now (applied change.now)) columns.now) }
+    ensures { IfOk result
+        (λ all. all ≡ map (changed_at name.now (applied change.now)) columns.now) }
 {
     let mut all = Items::new(alloc);
     for column in columns {
@@ -112,7 +114,12 @@ fn change_column(
     change: &Change,
 ) -> Result<(), NoMemory>
     requires { is_some (table_of parts.old.now table.now) ≡ true }
-    ensures ok { OnOk result (parts.new ≡ changed parts.old (with_table parts.old.now table.now (with_changed column.now (applied change.now) (the_table parts.old.now table.now)))) }
+    ensures ok { OnOk result
+        (parts.new
+        ≡ changed parts.old
+        (with_table parts.old.now table.now
+        (with_changed column.now (applied change.now)
+        (the_table parts.old.now table.now)))) }
     ensures err { OnErr result (parts.new ≡ parts.old) }
 {
     let mut shape = copied_shape(parts, alloc, table)?;
@@ -131,7 +138,10 @@ pub fn change_unless(
     change: &Change,
 ) -> Result<u64, RunFault>
     requires { tests.now.missing ≡ false → is_some (table_of parts.old.now table.now) ≡ true }
-    ensures { Done tests.now (with_table parts.old.now table.now (with_changed column.now (applied change.now) (the_table parts.old.now table.now))) parts.old parts.new result }
+    ensures { Done tests.now
+        (with_table parts.old.now table.now
+        (with_changed column.now (applied change.now) (the_table parts.old.now table.now)))
+        parts.old parts.new result }
 {
     match tests.verdict() {
         Ok(()) => {}

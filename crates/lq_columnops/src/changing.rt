@@ -32,7 +32,8 @@ pub fn drop_not_null(
     column: &Name,
 ) -> Result<u64, RunFault>
     requires { IsSound dialect parts.old.now }
-    ensures { Answers (decide (spec.drop_not_null by dialect table.now column.now parts.old.now)) parts.old parts.new result }
+    ensures { Answers (decide (spec.drop_not_null by dialect table.now column.now parts.old.now))
+        parts.old parts.new result }
 {
     let tests = Tests {
         depends: is_in_key(parts, table, column),
@@ -51,7 +52,8 @@ pub fn drop_default(
     column: &Name,
 ) -> Result<u64, RunFault>
     requires { IsSound dialect parts.old.now }
-    ensures { Answers (decide (spec.drop_default by dialect table.now column.now parts.old.now)) parts.old parts.new result }
+    ensures { Answers (decide (spec.drop_default by dialect table.now column.now parts.old.now))
+        parts.old parts.new result }
 {
     let tests = column_tests(parts, by, table, column);
     change_unless(parts, alloc, &tests, table, column, &Change::Default(None))
@@ -89,7 +91,9 @@ fn numbers(columns: &[Column], name: &Name) -> bool
 
 /// Whether the column is there and is numbered.
 fn is_numbered(parts: &Parts, table: &Name, column: &Name) -> bool
-    ensures { result ≡ list_any (λ e. is_named column.now e.name && e.numbered) (the_table parts.now.now table.now).columns }
+    ensures { result
+        ≡ list_any (λ e. is_named column.now e.name && e.numbered)
+        (the_table parts.now.now table.now).columns }
 {
     match parts.table(table) {
         None => false,
@@ -109,7 +113,9 @@ pub fn set_default(
     value: &Literal,
 ) -> Result<u64, RunFault>
     requires { IsSound dialect parts.old.now }
-    ensures { Answers (decide (spec.set_default by dialect table.now column.now value.now parts.old.now)) parts.old parts.new result }
+    ensures { Answers
+        (decide (spec.set_default by dialect table.now column.now value.now parts.old.now))
+        parts.old parts.new result }
 {
     let stated = convert(alloc, value, the_kind(parts, table, column))?;
     let tests = Tests {
@@ -142,7 +148,8 @@ pub fn set_not_null(
     column: &Name,
 ) -> Result<u64, RunFault>
     requires { IsSound dialect parts.old.now }
-    ensures { Answers (decide (spec.set_not_null by dialect table.now column.now parts.old.now)) parts.old parts.new result }
+    ensures { Answers (decide (spec.set_not_null by dialect table.now column.now parts.old.now))
+        parts.old parts.new result }
 {
     let tests = Tests {
         nulls: has_null(parts, table, column),
@@ -194,7 +201,9 @@ fn is_row_wide(columns: &[Column], row: &Row, column: &Name, kind: Kind) -> bool
 }
 
 fn one_wrong(held: &Held, column: &Name, kind: Kind) -> bool
-    ensures { result ≡ list_any (λ r. not (spec.is_variant kind (by_name held.now.now.columns r column.now))) held.now.now.rows }
+    ensures { result
+        ≡ list_any (λ r. not (spec.is_variant kind (by_name held.now.now.columns r column.now)))
+        held.now.now.rows }
 {
     for row in held.rows().iter() {
         if is_row_wrong(held.columns(), row, column, kind) {
@@ -205,7 +214,9 @@ fn one_wrong(held: &Held, column: &Name, kind: Kind) -> bool
 }
 
 fn one_wide(held: &Held, column: &Name, kind: Kind) -> bool
-    ensures { result ≡ list_any (λ r. not (is_value_of kind (by_name held.now.now.columns r column.now))) held.now.now.rows }
+    ensures { result
+        ≡ list_any (λ r. not (is_value_of kind (by_name held.now.now.columns r column.now)))
+        held.now.now.rows }
 {
     for row in held.rows().iter() {
         if is_row_wide(held.columns(), row, column, kind) {
@@ -217,7 +228,12 @@ fn one_wide(held: &Held, column: &Name, kind: Kind) -> bool
 
 /// Whether a row's value in the column is of another sort than the kind's.
 fn are_wrong(parts: &Parts, table: &Name, column: &Name, kind: Kind) -> bool
-    ensures { result ≡ list_any (λ r. not (spec.is_variant kind (by_name (the_table parts.now.now table.now).columns r column.now))) (the_table parts.now.now table.now).rows }
+    ensures { result
+        ≡ list_any (λ r.
+        not
+        (spec.is_variant kind
+        (by_name (the_table parts.now.now table.now).columns r column.now)))
+        (the_table parts.now.now table.now).rows }
 {
     match parts.table(table) {
         None => false,
@@ -227,7 +243,11 @@ fn are_wrong(parts: &Parts, table: &Name, column: &Name, kind: Kind) -> bool
 
 /// Whether a row's value in the column is not one of the kind.
 fn are_wide(parts: &Parts, table: &Name, column: &Name, kind: Kind) -> bool
-    ensures { result ≡ list_any (λ r. not (is_value_of kind (by_name (the_table parts.now.now table.now).columns r column.now))) (the_table parts.now.now table.now).rows }
+    ensures { result
+        ≡ list_any (λ r.
+        not
+        (is_value_of kind (by_name (the_table parts.now.now table.now).columns r column.now)))
+        (the_table parts.now.now table.now).rows }
 {
     match parts.table(table) {
         None => false,
@@ -248,7 +268,8 @@ fn kind_of(columns: &[Column], name: &Name) -> Option<Kind>
 }
 
 fn is_of_kind(parts: &Parts, table: &Name, column: &Name, kind: Kind) -> bool
-    ensures { result ≡ same_kind (kind_of column.now (the_table parts.now.now table.now).columns) (Some kind) }
+    ensures { result
+        ≡ same_kind (kind_of column.now (the_table parts.now.now table.now).columns) (Some kind) }
 {
     match parts.table(table) {
         None => false,
@@ -277,7 +298,9 @@ pub fn modify(
     nullable: bool,
 ) -> Result<u64, RunFault>
     requires { IsSound dialect parts.old.now }
-    ensures { Answers (decide (spec.modify by dialect table.now column.now kind nullable parts.old.now)) parts.old parts.new result }
+    ensures { Answers
+        (decide (spec.modify by dialect table.now column.now kind nullable parts.old.now)) parts.old
+        parts.new result }
 {
     let tests = Tests {
         depends: (nullable & is_in_key(parts, table, column))

@@ -32,7 +32,10 @@ fn drop_unless(
     column: &Name,
 ) -> Result<u64, RunFault>
     requires { tests.now.missing ≡ false → is_some (table_of parts.old.now table.now) ≡ true }
-    ensures { Done tests.now (with_table parts.old.now table.now (spec.without_column column.now (the_table parts.old.now table.now))) parts.old parts.new result }
+    ensures { Done tests.now
+        (with_table parts.old.now table.now
+        (spec.without_column column.now (the_table parts.old.now table.now))) parts.old
+        parts.new result }
 {
     match tests.verdict() {
         Ok(()) => {}
@@ -76,7 +79,8 @@ pub fn drop_column(
     column: &Name,
 ) -> Result<u64, RunFault>
     requires { IsSound dialect parts.old.now }
-    ensures { Answers (decide (spec.drop_column by dialect table.now column.now parts.old.now)) parts.old parts.new result }
+    ensures { Answers (decide (spec.drop_column by dialect table.now column.now parts.old.now))
+        parts.old parts.new result }
 {
     let tests = Tests {
         depends: is_shown(parts, table, column)
@@ -97,7 +101,10 @@ fn add_unless(
     column: Column,
 ) -> Result<u64, RunFault>
     requires { tests.now.missing ≡ false → is_some (table_of parts.old.now table.now) ≡ true }
-    ensures { Done tests.now (with_table parts.old.now table.now (spec.with_column column (the_table parts.old.now table.now))) parts.old parts.new result }
+    ensures { Done tests.now
+        (with_table parts.old.now table.now
+        (spec.with_column column (the_table parts.old.now table.now))) parts.old parts.new
+        result }
 {
     match tests.verdict() {
         Ok(()) => {}
@@ -153,7 +160,8 @@ pub fn add_column(
     def: &ColumnDef,
 ) -> Result<u64, RunFault>
     requires { IsSound dialect parts.old.now }
-    ensures { Answers (decide (spec.add_column by dialect table.now def.now parts.old.now)) parts.old parts.new result }
+    ensures { Answers (decide (spec.add_column by dialect table.now def.now parts.old.now))
+        parts.old parts.new result }
 {
     let new = new_column(alloc, def)?;
     let tests = Tests {

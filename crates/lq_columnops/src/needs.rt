@@ -30,7 +30,8 @@ pub fn is_in_key(parts: &Parts, table: &Name, column: &Name) -> bool
 }
 
 fn key_has(key: Option<&Key>, column: &Name) -> bool
-    ensures { result ≡ list_any (λ k. is_in column.now k.columns) (key_list (option_copied key.entry)) }
+    ensures { result
+        ≡ list_any (λ k. is_in column.now k.columns) (key_list (option_copied key.entry)) }
 {
     match key {
         None => false,
@@ -102,7 +103,8 @@ fn has_aim(table: &Name, column: &Name, held: &Held) -> bool
 }
 
 fn one_aims(table: &Name, column: &Name, entries: &[(Name, Held)]) -> bool
-    ensures { result ≡ list_any (λ e. list_any (aims_at table.now column.now) e.1.now.foreign) entries.now }
+    ensures { result
+        ≡ list_any (λ e. list_any (aims_at table.now column.now) e.1.now.foreign) entries.now }
 {
     entries.iter().any(|entry| has_aim(table, column, &entry.1))
 }

@@ -94,7 +94,8 @@ fn all_less(
     rows: &Chain<Row>,
     name: &Name,
 ) -> Result<Vec<Option<Row>>, NoMemory>
-    ensures { IfOk result (λ by. by.items ≡ map (λ r. Some (row_without name.now columns.now r)) rows.now.now) }
+    ensures { IfOk result
+        (λ by. by.items ≡ map (λ r. Some (row_without name.now columns.now r)) rows.now.now) }
 {
     let mut by = Vec::new(alloc);
     for row in rows.iter() {
@@ -104,7 +105,8 @@ fn all_less(
 }
 
 fn all_more(alloc: Global, rows: &Chain<Row>, column: &Column) -> Result<Vec<Option<Row>>, NoMemory>
-    ensures { IfOk result (λ by. by.items ≡ map (λ r. Some (r ++ default_value column.now ∷ [])) rows.now.now) }
+    ensures { IfOk result
+        (λ by. by.items ≡ map (λ r. Some (r ++ default_value column.now ∷ [])) rows.now.now) }
 {
     let mut by = Vec::new(alloc);
     for row in rows.iter() {
@@ -120,7 +122,10 @@ pub fn rows_less(
     table: &Name,
     column: &Name,
 ) -> Result<Vec<Option<Row>>, NoMemory>
-    ensures { IfOk result (λ by. by.items ≡ map (λ r. Some (row_without column.now (the_table parts.now.now table.now).columns r)) (the_table parts.now.now table.now).rows) }
+    ensures { IfOk result (λ by.
+        by.items
+        ≡ map (λ r. Some (row_without column.now (the_table parts.now.now table.now).columns r))
+        (the_table parts.now.now table.now).rows) }
 {
     match parts.table(table) {
         None => Ok(Vec::new(alloc)),
@@ -135,7 +140,10 @@ pub fn rows_more(
     table: &Name,
     column: &Column,
 ) -> Result<Vec<Option<Row>>, NoMemory>
-    ensures { IfOk result (λ by. by.items ≡ map (λ r. Some (r ++ default_value column.now ∷ [])) (the_table parts.now.now table.now).rows) }
+    ensures { IfOk result (λ by.
+        by.items
+        ≡ map (λ r. Some (r ++ default_value column.now ∷ []))
+        (the_table parts.now.now table.now).rows) }
 {
     match parts.table(table) {
         None => Ok(Vec::new(alloc)),
@@ -153,7 +161,11 @@ pub fn reshape(
 ) -> Result<(), NoMemory>
     requires there { is_some (table_of parts.old.now table.now) ≡ true }
     requires each { length by.items ≡ length (the_table parts.old.now table.now).rows }
-    ensures ok { OnOk result (parts.new.now ≡ with_table parts.old.now table.now (with_all (replaced by.items) (with_shape shape (the_table parts.old.now table.now)))) }
+    ensures ok { OnOk result
+        (parts.new.now
+        ≡ with_table parts.old.now table.now
+        (with_all (replaced by.items)
+        (with_shape shape (the_table parts.old.now table.now)))) }
     ensures goes { Continues parts.old parts.new }
 {
     parts.shape_table(table, shape)?;

@@ -84,7 +84,9 @@ fn is_answered<K: Look>(
 }
 
 fn has_count<K: Look>(look: &K, table: &Name, expected: i128) -> Result<bool, CondFault>
-    ensures { IsTold (map_told (λ count. int_eq (pos count) expected) (count_of (K.catalogue look.now) table.now)) result }
+    ensures { IsTold
+        (map_told (λ count. int_eq (pos count) expected)
+        (count_of (K.catalogue look.now) table.now)) result }
 {
     is_count(count_of(look, table), expected)
 }
@@ -132,13 +134,15 @@ fn has_foreign_key<K: Look>(look: &K, table: &Name, foreign: &Name) -> bool
 }
 
 fn has_key<K: Look>(look: &K, table: &Name, name: &Option<Name>) -> bool
-    ensures { result ≡ has table.now (key_named name.now (key_at (K.catalogue look.now) table.now)) }
+    ensures { result
+        ≡ has table.now (key_named name.now (key_at (K.catalogue look.now) table.now)) }
 {
     !is_tracking(table) && is_key_named(name, look.key(table))
 }
 
 fn is_empty<K: Look>(look: &K, table: &Name) -> Result<bool, CondFault>
-    ensures { IsTold (map_told (λ count. count == 0) (count_of (K.catalogue look.now) table.now)) result }
+    ensures { IsTold (map_told (λ count. count == 0) (count_of (K.catalogue look.now) table.now))
+        result }
 {
     is_zero(count_of(look, table))
 }

@@ -57,7 +57,8 @@ fn in_items<P: SqlText>(
     levels: u32,
     sql: &P,
 ) -> Result<Items<Cond>, KindFault>
-    ensures { Reads (each_item 0 (cond_at P.dialect (conditions P.dialect levels)) nodes.now) result }
+    ensures { Reads (each_item 0 (cond_at P.dialect (conditions P.dialect levels)) nodes.now)
+        result }
 {
     let mut conds = Items::new(alloc);
     for (place, node) in nodes.iter().enumerate() {
@@ -75,7 +76,9 @@ fn at_place<P: SqlText>(
     levels: u32,
     sql: &P,
 ) -> Result<Items<Cond>, KindFault>
-    ensures { Reads (within (item_path [] place) (an_item (cond_at P.dialect (conditions P.dialect levels)) node.now)) result }
+    ensures { Reads
+        (within (item_path [] place)
+        (an_item (cond_at P.dialect (conditions P.dialect levels)) node.now)) result }
 {
     match in_item(alloc, node, levels, sql) {
         Ok(conds) => Ok(conds),
@@ -105,7 +108,8 @@ fn at_keys<P: SqlText>(
     levels: u32,
     sql: &P,
 ) -> Result<Items<Cond>, KindFault>
-    ensures { Reads (each_key (cond_at P.dialect (conditions P.dialect levels)) entries.now) result }
+    ensures { Reads (each_key (cond_at P.dialect (conditions P.dialect levels)) entries.now)
+        result }
 {
     let mut conds = Items::new(alloc);
     for entry in entries {

@@ -19,7 +19,8 @@ fn at_keys<P: SqlText>(
     before: Stated,
     sql: &P,
 ) -> Result<Stated, KindFault>
-    ensures { Reads (map_found (and_more before) (each_key (setting_at P.dialect) entries.now)) result }
+    ensures { Reads (map_found (and_more before) (each_key (setting_at P.dialect) entries.now))
+        result }
 {
     let mut stated = before;
     for entry in entries {
@@ -50,7 +51,9 @@ fn at_place<P: SqlText>(
     before: Stated,
     sql: &P,
 ) -> Result<Stated, KindFault>
-    ensures { Reads (within (item_path [] place) (map_found (and_more before) (an_item (setting_at P.dialect) node.now))) result }
+    ensures { Reads
+        (within (item_path [] place)
+        (map_found (and_more before) (an_item (setting_at P.dialect) node.now))) result }
 {
     match in_item(alloc, node, before, sql) {
         Ok(stated) => Ok(stated),
@@ -65,7 +68,8 @@ fn in_items<P: SqlText>(
     before: Stated,
     sql: &P,
 ) -> Result<Stated, KindFault>
-    ensures { Reads (map_found (and_more before) (each_item 0 (setting_at P.dialect) nodes.now)) result }
+    ensures { Reads (map_found (and_more before) (each_item 0 (setting_at P.dialect) nodes.now))
+        result }
 {
     let mut stated = before;
     for (place, node) in nodes.iter().enumerate() {

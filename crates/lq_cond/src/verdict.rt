@@ -18,7 +18,9 @@ fn each_told<K: Look>(
     look: &K,
     rows: &[Tracked],
 ) -> Result<Items<bool>, CondFault>
-    ensures { IsTold (each_told (map (λ cond. told dialect cond (K.catalogue look.now) rows.now) conds.now)) result }
+    ensures { IsTold
+        (each_told (map (λ cond. told dialect cond (K.catalogue look.now) rows.now) conds.now))
+        result }
 {
     let mut all = Items::new(alloc);
     for cond in conds {

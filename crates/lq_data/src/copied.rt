@@ -56,7 +56,8 @@ fn create_table(
     uniques: &Items<Unique>,
     foreign: &Items<ForeignKey>,
 ) -> Result<Statement, NoMemory>
-    ensures { IfOk result (λ made. made ≡ statement.CreateTable table.now columns.now key.now uniques.now foreign.now) }
+    ensures { IfOk result (λ made.
+        made ≡ statement.CreateTable table.now columns.now key.now uniques.now foreign.now) }
 {
     let (columns, key) = two(alloc, columns, key)?;
     let (table, uniques, foreign) = three(alloc, table, uniques, foreign)?;

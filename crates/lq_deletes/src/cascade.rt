@@ -47,7 +47,9 @@ fn losses(
     requires linked { IsLinked parts.now.now }
     requires there { is_some (table_of parts.now.now table.now) ≡ true }
     ensures marked { IfOk result (λ all. AreMarked (map marks_of all.items) parts.now.now.tables) }
-    ensures thinned { IfOk result (λ all. with_thinned (map marks_of all.items) parts.now.now ≡ deleted table.now test.now parts.now.now) }
+    ensures thinned { IfOk result (λ all.
+        with_thinned (map marks_of all.items) parts.now.now
+        ≡ deleted table.now test.now parts.now.now) }
 {
     let marks = gone(alloc, parts, table, test)?;
     let all = losses_in(alloc, parts.tables(), &marks)?;

@@ -63,7 +63,8 @@ fn left(
     columns: &[Column],
     rows: &Chain<Row>,
 ) -> Result<Vec<bool>, NoMemory>
-    ensures { IfOk result (λ marks. marks.items ≡ map (λ row. not (takes test.now columns.now row)) rows.now.now) }
+    ensures { IfOk result
+        (λ marks. marks.items ≡ map (λ row. not (takes test.now columns.now row)) rows.now.now) }
 {
     let mut marks = Vec::new(alloc);
     for row in rows.iter() {
@@ -79,7 +80,10 @@ fn left_in(
     table: &Name,
     test: &Option<Test>,
 ) -> Result<Vec<bool>, NoMemory>
-    ensures { IfOk result (λ marks. marks.items ≡ map (λ row. not (takes test.now (the_table parts.now.now table.now).columns row)) (the_table parts.now.now table.now).rows) }
+    ensures { IfOk result (λ marks.
+        marks.items
+        ≡ map (λ row. not (takes test.now (the_table parts.now.now table.now).columns row))
+        (the_table parts.now.now table.now).rows) }
 {
     match parts.table(table) {
         Some(held) => left(alloc, test, held.columns(), held.rows()),
@@ -91,7 +95,11 @@ fn left_in(
 #[tactic(auto, using(crate::proofs::Thinned::kept_by_marks, crate::proofs::Thinned::as_many))]
 fn take(parts: &mut Parts, alloc: Global, table: &Name, test: &Option<Test>) -> Result<(), NoMemory>
     requires { is_some (table_of parts.old.now table.now) ≡ true }
-    ensures ok { OnOk result (parts.new ≡ changed parts.old (with_table parts.old.now table.now (spec.without_taken test.now (the_table parts.old.now table.now)))) }
+    ensures ok { OnOk result
+        (parts.new
+        ≡ changed parts.old
+        (with_table parts.old.now table.now
+        (spec.without_taken test.now (the_table parts.old.now table.now)))) }
     ensures err { OnErr result (parts.new ≡ parts.old) }
 {
     let marks = left_in(alloc, parts, table, test)?;
@@ -123,7 +131,9 @@ fn aim_at(table: &Name, keys: &[ForeignKey]) -> bool
 
 /// Whether a foreign key of one of these tables aims at the table.
 fn one_aims(entries: &[(Name, Held)], table: &Name) -> bool
-    ensures { result ≡ list_any (λ e. list_any (λ f. is_named table.now f.table) e.1.foreign) (tables_of entries.now) }
+    ensures { result
+        ≡ list_any (λ e. list_any (λ f. is_named table.now f.table) e.1.foreign)
+        (tables_of entries.now) }
 {
     for entry in entries {
         if aim_at(table, entry.1.foreign_keys()) {
@@ -152,7 +162,9 @@ fn cascade_at(table: &Name, keys: &[ForeignKey]) -> bool
 
 /// Whether a foreign key of one of these tables aims at the table and cascades.
 fn one_cascades(entries: &[(Name, Held)], table: &Name) -> bool
-    ensures { result ≡ list_any (λ e. list_any (λ f. f.cascade && is_named table.now f.table) e.1.foreign) (tables_of entries.now) }
+    ensures { result
+        ≡ list_any (λ e. list_any (λ f. f.cascade && is_named table.now f.table) e.1.foreign)
+        (tables_of entries.now) }
 {
     for entry in entries {
         if cascade_at(table, entry.1.foreign_keys()) {
@@ -218,7 +230,8 @@ pub fn delete_from(
     test: &Option<Test>,
 ) -> Result<u64, RunFault>
     requires { IsSound dialect parts.old.now }
-    ensures { Carries (decide (spec.delete by dialect table.now test.now parts.old.now)) parts.old parts.new result }
+    ensures { Carries (decide (spec.delete by dialect table.now test.now parts.old.now)) parts.old
+        parts.new result }
 {
     let tests = stated(parts, by, table, test);
     match tests.verdict() {

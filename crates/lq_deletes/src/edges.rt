@@ -37,7 +37,8 @@ fn place_of(
     end: usize,
 ) -> Result<Option<usize>, NoMemory>
     requires { ArePlaces end places.now }
-    ensures place { IfOk result (λ place. place ≡ get values_cmp places.now (picked columns.now names.now row.now)) }
+    ensures place { IfOk result
+        (λ place. place ≡ get values_cmp places.now (picked columns.now names.now row.now)) }
     ensures below { IfOk result (λ place. IfSome place (λ n. n < end)) }
 {
     let values = Values::new(picked(alloc, columns, names, row)?);
@@ -52,7 +53,11 @@ fn add_edge(
     node: usize,
 ) -> Result<(), NoMemory>
     requires { IfSome place (λ n. n < vec_len edges.old) }
-    ensures ok { OnOk result ((x : ℕ) → children_of edges.new.items x ≡ cond (is_place place x) (children_of edges.old.items x ++ node ∷ []) (children_of edges.old.items x)) }
+    ensures ok { OnOk result
+        ((x : ℕ)
+        → children_of edges.new.items x
+        ≡ cond (is_place place x) (children_of edges.old.items x ++ node ∷ [])
+        (children_of edges.old.items x)) }
     ensures len { vec_len edges.new ≡ vec_len edges.old }
 {
     let Some(place) = place else {
@@ -75,7 +80,11 @@ fn link(
 ) -> Result<(), NoMemory>
     requires numbers { first + length rows.now.now ≤ vec_len edges.old }
     requires places { ArePlaces (vec_len edges.old) places.now }
-    ensures ok { OnOk result (Gains (linked (get values_cmp places.now) first (map (picked columns.now names.now) rows.now.now)) edges.old.items edges.new.items) }
+    ensures ok { OnOk result
+        (Gains
+        (linked (get values_cmp places.now) first
+        (map (picked columns.now names.now) rows.now.now)) edges.old.items
+        edges.new.items) }
     ensures len { vec_len edges.new ≡ vec_len edges.old }
 {
     let mut at = first;
@@ -98,7 +107,9 @@ fn link_key(
 ) -> Result<(), NoMemory>
     requires total { row_total (tables_of entries.now) ≡ vec_len edges.old }
     requires numbers { first + length held.now.now.rows ≤ vec_len edges.old }
-    ensures ok { OnOk result (Gains (key_linked (tables_of entries.now) first held.now.now key.now) edges.old.items edges.new.items) }
+    ensures ok { OnOk result
+        (Gains (key_linked (tables_of entries.now) first held.now.now key.now) edges.old.items
+        edges.new.items) }
     ensures len { vec_len edges.new ≡ vec_len edges.old }
 {
     if !key.cascade {
@@ -129,7 +140,9 @@ fn link_keys(
 ) -> Result<(), NoMemory>
     requires total { row_total (tables_of entries.now) ≡ vec_len edges.old }
     requires numbers { first + length held.now.now.rows ≤ vec_len edges.old }
-    ensures ok { OnOk result (Gains (keys_linked (tables_of entries.now) first held.now.now keys.now) edges.old.items edges.new.items) }
+    ensures ok { OnOk result
+        (Gains (keys_linked (tables_of entries.now) first held.now.now keys.now) edges.old.items
+        edges.new.items) }
     ensures len { vec_len edges.new ≡ vec_len edges.old }
 {
     for key in keys {
@@ -147,7 +160,8 @@ pub fn edges_of(
 ) -> Result<Vec<Items<usize>>, NoMemory>
     requires { row_total (tables_of entries.now) ≡ count }
     ensures len { IfOk result (λ edges. vec_len edges ≡ count) }
-    ensures all { IfOk result (λ edges. Gains (tables_linked (tables_of entries.now) 0 (tables_of entries.now)) [] edges.items) }
+    ensures all { IfOk result (λ edges.
+        Gains (tables_linked (tables_of entries.now) 0 (tables_of entries.now)) [] edges.items) }
 {
     let mut edges = bare(alloc, count)?;
     let mut first = 0;

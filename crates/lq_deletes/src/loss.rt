@@ -46,7 +46,8 @@ fn loss_of(alloc: Global, name: &Name, marks: &[bool]) -> Result<Loss, NoMemory>
 
 /// Adds which rows of a table stay, where one does not.
 fn add_loss(alloc: Global, all: &mut Vec<Loss>, name: &Name, marks: &[bool]) -> Result<(), NoMemory>
-    ensures { OnOk result (map marks_of all.new.items ≡ map marks_of all.old.items ++ lost_in name.now marks.now) }
+    ensures { OnOk result
+        (map marks_of all.new.items ≡ map marks_of all.old.items ++ lost_in name.now marks.now) }
 {
     if !has_mark(marks) {
         return Ok(());
@@ -63,7 +64,8 @@ pub fn losses_in(
     marks: &[bool],
 ) -> Result<Vec<Loss>, NoMemory>
     requires { row_total (tables_of entries.now) ≤ length marks.now }
-    ensures { IfOk result (λ all. map marks_of all.items ≡ losses marks.now (tables_of entries.now)) }
+    ensures { IfOk result
+        (λ all. map marks_of all.items ≡ losses marks.now (tables_of entries.now)) }
 {
     let mut all = Vec::new(alloc);
     let mut rest = marks;
@@ -84,7 +86,8 @@ fn copied(alloc: Global, marks: &[bool]) -> Result<Vec<bool>, AllocError>
 /// Takes the rows that do not stay out of their tables. At a fault some may be gone.
 pub fn thin(parts: &mut Parts, alloc: Global, losses: &[Loss]) -> Result<(), NoMemory>
     requires { AreMarked (map marks_of losses.now) parts.old.now.tables }
-    ensures ok { OnOk result (parts.new.now ≡ with_thinned (map marks_of losses.now) parts.old.now) }
+    ensures ok { OnOk result
+        (parts.new.now ≡ with_thinned (map marks_of losses.now) parts.old.now) }
     ensures goes { Continues parts.old parts.new }
 {
     for loss in losses {

@@ -15,7 +15,9 @@ use std::collections::BTreeSet;
 
 /// The values of the rows that a foreign key aims at, in its targets.
 pub fn parents(alloc: Global, parts: &Parts, key: &ForeignKey) -> Result<BTreeSet<Values>, NoMemory>
-    ensures { IfOk result (λ set. ShowsRows (the_table parts.now.now key.now.table).columns key.now.targets (the_table parts.now.now key.now.table).rows set) }
+    ensures { IfOk result (λ set.
+        ShowsRows (the_table parts.now.now key.now.table).columns key.now.targets
+        (the_table parts.now.now key.now.table).rows set) }
 {
     match parts.table(&key.table) {
         None => Ok(BTreeSet::new(alloc)),
@@ -32,7 +34,8 @@ fn is_orphan(
     rows: &Chain<Row>,
     key: &ForeignKey,
 ) -> Result<bool, NoMemory>
-    ensures { IfOk result (λ found. found ≡ list_any (spec.lacks_parent parts.now.now columns.now key.now) rows.now.now) }
+    ensures { IfOk result (λ found.
+        found ≡ list_any (spec.lacks_parent parts.now.now columns.now key.now) rows.now.now) }
 {
     let set = parents(alloc, parts, key)?;
     lacks_one(alloc, columns, key.columns.as_slice(), rows, &set)
@@ -46,7 +49,10 @@ fn has_orphan(
     rows: &Chain<Row>,
     keys: &[ForeignKey],
 ) -> Result<bool, NoMemory>
-    ensures { IfOk result (λ found. found ≡ list_any (λ f. list_any (spec.lacks_parent parts.now.now columns.now f) rows.now.now) keys.now) }
+    ensures { IfOk result (λ found.
+        found
+        ≡ list_any (λ f. list_any (spec.lacks_parent parts.now.now columns.now f) rows.now.now)
+        keys.now) }
 {
     for key in keys {
         if is_orphan(alloc, parts, columns, rows, key)? {
@@ -70,7 +76,8 @@ fn has_orphan_in(alloc: Global, parts: &Parts, held: &Held) -> Result<bool, NoMe
 
 /// Whether a row of one of the tables has no parent.
 pub fn has_orphans(alloc: Global, parts: &Parts, entries: &[(Name, Held)]) -> Result<bool, NoMemory>
-    ensures { IfOk result (λ found. found ≡ list_any (λ e. spec.has_orphan parts.now.now e.1) (tables_of entries.now)) }
+    ensures { IfOk result (λ found.
+        found ≡ list_any (λ e. spec.has_orphan parts.now.now e.1) (tables_of entries.now)) }
 {
     for entry in entries {
         if has_orphan_in(alloc, parts, &entry.1)? {

@@ -23,7 +23,11 @@ fn put_place(
     row: &[Value],
     at: usize,
 ) -> Result<(), NoMemory>
-    ensures { OnOk result ((values : List Kept) → get values_cmp places.new values ≡ cond (same_values values (picked columns.now names.now row.now)) (Some at) (get values_cmp places.old values)) }
+    ensures { OnOk result
+        ((values : List Kept)
+        → get values_cmp places.new values
+        ≡ cond (same_values values (picked columns.now names.now row.now)) (Some at)
+        (get values_cmp places.old values)) }
 {
     let values = picked(alloc, columns, names, row)?;
     if has_null(values.as_slice()) {

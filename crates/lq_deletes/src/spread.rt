@@ -8,7 +8,8 @@ use lq_base::{Items, NoMemory};
 use std::alloc::Global;
 
 fn push_if(work: &mut Vec<usize>, mark: bool, node: usize) -> Result<(), NoMemory>
-    ensures { OnOk result (work.new.items ≡ cond mark (work.old.items ++ node ∷ []) work.old.items) }
+    ensures { OnOk result
+        (work.new.items ≡ cond mark (work.old.items ++ node ∷ []) work.old.items) }
 {
     if !mark {
         return Ok(());
@@ -40,7 +41,8 @@ fn children(edges: &[Items<usize>], node: usize) -> &[usize]
 /// Marks the nodes, and those that were not marked are to be looked at.
 fn note_all(marks: &mut Vec<bool>, work: &mut Vec<usize>, nodes: &[usize]) -> Result<(), NoMemory>
     requires { are_below (vec_len marks.old) nodes.now ≡ true }
-    ensures { OnOk result ((marks.new.items, work.new.items) ≡ notes nodes.now (marks.old.items, work.old.items)) }
+    ensures { OnOk result
+        ((marks.new.items, work.new.items) ≡ notes nodes.now (marks.old.items, work.old.items)) }
 {
     for node in nodes {
         if !marks[*node] {

@@ -36,7 +36,10 @@ fn take_rows(
     columns: &[Column],
     rows: &Chain<Row>,
 ) -> Result<(), NoMemory>
-    ensures { OnOk result (marks.new.items ≡ marks.old.items ++ map (λ row. is_its && takes test.now columns.now row) rows.now.now) }
+    ensures { OnOk result
+        (marks.new.items
+        ≡ marks.old.items
+        ++ map (λ row. is_its && takes test.now columns.now row) rows.now.now) }
 {
     for row in rows.iter() {
         marks.push(is_row_taken(is_its, test, columns, row.as_slice()))?;
@@ -53,7 +56,9 @@ fn take_in(
     name: &Name,
     held: &Held,
 ) -> Result<(), NoMemory>
-    ensures { OnOk result (marks.new.items ≡ marks.old.items ++ taken_in table.now test.now columns.now (name.now, held.now.now)) }
+    ensures { OnOk result
+        (marks.new.items
+        ≡ marks.old.items ++ taken_in table.now test.now columns.now (name.now, held.now.now)) }
 {
     let is_its = *table == *name;
     take_rows(marks, is_its, test, columns, held.rows())?;
@@ -68,7 +73,8 @@ pub fn taken(
     test: &Option<Test>,
     columns: &[Column],
 ) -> Result<Vec<bool>, NoMemory>
-    ensures { IfOk result (λ marks. marks.items ≡ flat_map (taken_in table.now test.now columns.now) (tables_of entries.now)) }
+    ensures { IfOk result (λ marks.
+        marks.items ≡ flat_map (taken_in table.now test.now columns.now) (tables_of entries.now)) }
 {
     let mut marks = Vec::new(alloc);
     for entry in entries {

@@ -9,7 +9,8 @@ use lq_query::{kinds_agree, lacks_column};
 
 /// Whether the test names a column that is not among these.
 pub fn lacks_tested(columns: &[Column], test: &Option<Test>) -> bool
-    ensures { result ≡ list_any (λ n. not (is_in n (map (λ c. c.name) columns.now))) (names_in test.now) }
+    ensures { result
+        ≡ list_any (λ n. not (is_in n (map (λ c. c.name) columns.now))) (names_in test.now) }
 {
     match test {
         Some(test) => lacks_column(columns, test),

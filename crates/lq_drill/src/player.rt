@@ -53,14 +53,19 @@ pub trait Player {
         ensures live { result ≡ Ok tt → IsTrue (S.state store.new).live }
         ensures dialect { (standing self.new).dialect ≡ (standing self.old).dialect }
         ensures ready { (standing self.new).ready }
-        ensures opens { (S.state store.new).live ≡ true → is_open session (S.state store.new).begun ≡ (standing self.new).opens }
+        ensures opens { (S.state store.new).live ≡ true
+            → is_open session (S.state store.new).begun ≡ (standing self.new).opens }
         ensures lets_be { LetsBe session (S.state store.old) (S.state store.new) }
-        ensures owns { (lock : Lock) → (standing self.new).owns lock → (standing self.old).owns lock }
+        ensures owns { (lock : Lock)
+            → (standing self.new).owns lock
+            → (standing self.old).owns lock }
         ensures faulted { (standing self.old).faulted ≡ true → (standing self.new).faulted ≡ true }
         ensures met { HasMet failed session (standing self.new) }
         ensures ends { EndsBy failed (standing self.new) result }
-        ensures moves { Moves failed session (standing self.old) (standing self.new) (S.state store.old) result (S.state store.new) }
-        ensures crash { MovesSafely failed session (standing self.old) (standing self.new) (S.state store.old) (S.crashes store.old) (S.crashes store.new) }
+        ensures moves { Moves failed session (standing self.old) (standing self.new)
+            (S.state store.old) result (S.state store.new) }
+        ensures crash { MovesSafely failed session (standing self.old) (standing self.new)
+            (S.state store.old) (S.crashes store.old) (S.crashes store.new) }
         ensures later { S.faults store.old ≤ S.faults store.new }
         ensures rose { result ≡ Err fault.Disk → Rose (S.faults store.old) (S.faults store.new) };
 

@@ -18,12 +18,15 @@ pub fn append_one<D: Disk>(
     room: Room,
 ) -> Result<(), AppendFault>
     requires whole { IsWhole (D.told (disk_of to.old)) (D.crashes (disk_of to.old)) to.old }
-    ensures does { MayAppend room (entry.now ∷ []) (log_of (D.told (disk_of to.old)) to.old) result (log_of (D.told (disk_of to.new)) to.new) }
-    ensures whole { UnlessDisk result (IsWhole (D.told (disk_of to.new)) (D.crashes (disk_of to.new)) to.new) }
+    ensures does { MayAppend room (entry.now ∷ []) (log_of (D.told (disk_of to.old)) to.old) result
+        (log_of (D.told (disk_of to.new)) to.new) }
+    ensures whole { UnlessDisk result
+        (IsWhole (D.told (disk_of to.new)) (D.crashes (disk_of to.new)) to.new) }
     ensures crash { LeavesFront (log_of (D.told (disk_of to.old)) to.old).entries (entry.now ∷ [])
         (crashes_in (dialect_of to.old) (limit_of to.old) (D.crashes (disk_of to.old))) (crashes_in (dialect_of to.new) (limit_of to.new) (D.crashes (disk_of to.new))) }
     ensures later { D.faults (disk_of to.old) ≤ D.faults (disk_of to.new) }
-    ensures rose { result ≡ Err AppendFault.Disk → Rose (D.faults (disk_of to.old)) (D.faults (disk_of to.new)) }
+    ensures rose { result ≡ Err AppendFault.Disk
+        → Rose (D.faults (disk_of to.old)) (D.faults (disk_of to.new)) }
 {
     match to.prepare() {
         Err(_) => Err(AppendFault::Disk),
@@ -42,12 +45,15 @@ pub fn append_open<D: Disk>(
     room: Room,
 ) -> Result<(), AppendFault>
     requires whole { IsWhole (D.told (disk_of to.old)) (D.crashes (disk_of to.old)) to.old }
-    ensures does { MayAppend room (entries_of entry.now) (log_of (D.told (disk_of to.old)) to.old) result (log_of (D.told (disk_of to.new)) to.new) }
-    ensures whole { UnlessDisk result (IsWhole (D.told (disk_of to.new)) (D.crashes (disk_of to.new)) to.new) }
+    ensures does { MayAppend room (entries_of entry.now) (log_of (D.told (disk_of to.old)) to.old)
+        result (log_of (D.told (disk_of to.new)) to.new) }
+    ensures whole { UnlessDisk result
+        (IsWhole (D.told (disk_of to.new)) (D.crashes (disk_of to.new)) to.new) }
     ensures crash { LeavesFront (log_of (D.told (disk_of to.old)) to.old).entries (entries_of entry.now)
         (crashes_in (dialect_of to.old) (limit_of to.old) (D.crashes (disk_of to.old))) (crashes_in (dialect_of to.new) (limit_of to.new) (D.crashes (disk_of to.new))) }
     ensures later { D.faults (disk_of to.old) ≤ D.faults (disk_of to.new) }
-    ensures rose { result ≡ Err AppendFault.Disk → Rose (D.faults (disk_of to.old)) (D.faults (disk_of to.new)) }
+    ensures rose { result ≡ Err AppendFault.Disk
+        → Rose (D.faults (disk_of to.old)) (D.faults (disk_of to.new)) }
 {
     match entry {
         None => Ok(()),
@@ -91,12 +97,15 @@ pub fn append_both<D: Disk>(
     second: &EncodedEntry,
 ) -> Result<(), StoreFault>
     requires whole { IsWhole (D.told (disk_of to.old)) (D.crashes (disk_of to.old)) to.old }
-    ensures does { MayWrite Ordinary (entries_of first.now ++ second.now ∷ []) (log_of (D.told (disk_of to.old)) to.old) result (log_of (D.told (disk_of to.new)) to.new) }
-    ensures whole { UnlessFailed result (IsWhole (D.told (disk_of to.new)) (D.crashes (disk_of to.new)) to.new) }
+    ensures does { MayWrite Ordinary (entries_of first.now ++ second.now ∷ [])
+        (log_of (D.told (disk_of to.old)) to.old) result (log_of (D.told (disk_of to.new)) to.new) }
+    ensures whole { UnlessFailed result
+        (IsWhole (D.told (disk_of to.new)) (D.crashes (disk_of to.new)) to.new) }
     ensures crash { LeavesFront (log_of (D.told (disk_of to.old)) to.old).entries (entries_of first.now ++ second.now ∷ [])
         (crashes_in (dialect_of to.old) (limit_of to.old) (D.crashes (disk_of to.old))) (crashes_in (dialect_of to.new) (limit_of to.new) (D.crashes (disk_of to.new))) }
     ensures later { D.faults (disk_of to.old) ≤ D.faults (disk_of to.new) }
-    ensures rose { result ≡ Err StoreFault.Disk → Rose (D.faults (disk_of to.old)) (D.faults (disk_of to.new)) }
+    ensures rose { result ≡ Err StoreFault.Disk
+        → Rose (D.faults (disk_of to.old)) (D.faults (disk_of to.new)) }
 {
     let Some(next) = size_of_both(first, second) else {
         return Err(StoreFault::OutOfMemory);
@@ -156,12 +165,15 @@ fn append_each<D: Disk>(
 ) -> Result<(), AppendFault>
     requires whole { IsWhole (D.told (disk_of to.old)) (D.crashes (disk_of to.old)) to.old }
     requires room { is_full (end_of room (limit_of to.old)) (used_of to.old) entries.now ≡ false }
-    ensures does { MayAppend room entries.now (log_of (D.told (disk_of to.old)) to.old) result (log_of (D.told (disk_of to.new)) to.new) }
-    ensures whole { UnlessDisk result (IsWhole (D.told (disk_of to.new)) (D.crashes (disk_of to.new)) to.new) }
+    ensures does { MayAppend room entries.now (log_of (D.told (disk_of to.old)) to.old) result
+        (log_of (D.told (disk_of to.new)) to.new) }
+    ensures whole { UnlessDisk result
+        (IsWhole (D.told (disk_of to.new)) (D.crashes (disk_of to.new)) to.new) }
     ensures crash { LeavesFront (log_of (D.told (disk_of to.old)) to.old).entries entries.now
         (crashes_in (dialect_of to.old) (limit_of to.old) (D.crashes (disk_of to.old))) (crashes_in (dialect_of to.new) (limit_of to.new) (D.crashes (disk_of to.new))) }
     ensures later { D.faults (disk_of to.old) ≤ D.faults (disk_of to.new) }
-    ensures rose { result ≡ Err AppendFault.Disk → Rose (D.faults (disk_of to.old)) (D.faults (disk_of to.new)) }
+    ensures rose { result ≡ Err AppendFault.Disk
+        → Rose (D.faults (disk_of to.old)) (D.faults (disk_of to.new)) }
 {
     for entry in entries {
         match append_one(to, entry, room) {
@@ -182,12 +194,15 @@ pub fn append_all<D: Disk>(
 ) -> Result<(), AppendFault>
     requires whole { IsWhole (D.told (disk_of to.old)) (D.crashes (disk_of to.old)) to.old }
     requires size { size ≡ size_of_all entries.now }
-    ensures does { MayAppend room entries.now (log_of (D.told (disk_of to.old)) to.old) result (log_of (D.told (disk_of to.new)) to.new) }
-    ensures whole { UnlessDisk result (IsWhole (D.told (disk_of to.new)) (D.crashes (disk_of to.new)) to.new) }
+    ensures does { MayAppend room entries.now (log_of (D.told (disk_of to.old)) to.old) result
+        (log_of (D.told (disk_of to.new)) to.new) }
+    ensures whole { UnlessDisk result
+        (IsWhole (D.told (disk_of to.new)) (D.crashes (disk_of to.new)) to.new) }
     ensures crash { LeavesFront (log_of (D.told (disk_of to.old)) to.old).entries entries.now
         (crashes_in (dialect_of to.old) (limit_of to.old) (D.crashes (disk_of to.old))) (crashes_in (dialect_of to.new) (limit_of to.new) (D.crashes (disk_of to.new))) }
     ensures later { D.faults (disk_of to.old) ≤ D.faults (disk_of to.new) }
-    ensures rose { result ≡ Err AppendFault.Disk → Rose (D.faults (disk_of to.old)) (D.faults (disk_of to.new)) }
+    ensures rose { result ≡ Err AppendFault.Disk
+        → Rose (D.faults (disk_of to.old)) (D.faults (disk_of to.new)) }
 {
     let used = to.used();
     if lacks_room(room, to.limit(), used, entries, size) {

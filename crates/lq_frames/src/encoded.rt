@@ -45,7 +45,8 @@ fn put(bytes: &mut Vec<u8>, more: &[u8])
 // Writes over the bytes at a place.
 fn overwrite(bytes: &mut Vec<u8>, at: usize, over: &[u8])
     requires { at + length over.now ≤ length bytes.old.items }
-    ensures { bytes.new.items ≡ take at bytes.old.items ++ over.now ++ drop (at + length over.now) bytes.old.items }
+    ensures { bytes.new.items
+        ≡ take at bytes.old.items ++ over.now ++ drop (at + length over.now) bytes.old.items }
 {
     bytes[at..at + over.len()].copy_from_slice(over);
 }
@@ -54,7 +55,9 @@ fn overwrite(bytes: &mut Vec<u8>, at: usize, over: &[u8])
 fn put_text(bytes: &mut Vec<u8>, text: &str)
     requires some { 5 < length bytes.old.items }
     requires room { vec_len bytes.old + (4 + length text.now) ≤ vec_capacity bytes.old }
-    ensures { (texts : List (List ℕ)) → bytes.old.items ≡ entry_of texts → bytes.new.items ≡ entry_of (texts ++ text.now ∷ []) }
+    ensures { (texts : List (List ℕ))
+        → bytes.old.items ≡ entry_of texts
+        → bytes.new.items ≡ entry_of (texts ++ text.now ∷ []) }
 {
     bytes.truncate(bytes.len() - 1);
     put(bytes, &number(text.len()));

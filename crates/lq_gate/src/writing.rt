@@ -16,7 +16,8 @@ pub fn write_synced<D: Disk>(disk: &mut D, at: u64, bytes: &[u8]) -> Result<(), 
     ensures written { OnOk result (Writes at bytes.now (D.told disk.old) (D.told disk.new)) }
     ensures torn { Tears at (length bytes.now) (D.told disk.old) (D.told disk.new) }
     ensures durable { OnOk result (Settled (D.told disk.new) (D.crashes disk.new)) }
-    ensures any_moment { LeavesOnly (D.crashes disk.old) (D.crashes disk.new) (Half (D.crashes disk.old).leaves (Torn at (length bytes.now))) }
+    ensures any_moment { LeavesOnly (D.crashes disk.old) (D.crashes disk.new)
+        (Half (D.crashes disk.old).leaves (Torn at (length bytes.now))) }
     ensures faults { CountsFault result (D.faults disk.old) (D.faults disk.new) }
 {
     disk.write_at(at, bytes)?;
@@ -40,11 +41,14 @@ pub fn write_entry<D: Disk>(
     ending: Ending,
     entry: &EncodedEntry,
 ) -> Result<(), DiskFailed>
-    requires stands { IfSome (D.told disk.old) (Stands true ending.dialect ending.limit ending.used) }
+    requires stands { IfSome (D.told disk.old)
+        (Stands true ending.dialect ending.limit ending.used) }
     requires used { 17 ≤ ending.used }
     requires limit { ending.limit ≤ 268435456 }
     requires fits { ending.used + size_of entry.now ≤ ending.limit }
-    ensures stands { OnOk result (IfSome (D.told disk.new) (Stands true ending.dialect ending.limit (ending.used + size_of entry.now))) }
+    ensures stands { OnOk result
+        (IfSome (D.told disk.new)
+        (Stands true ending.dialect ending.limit (ending.used + size_of entry.now))) }
     ensures added { OnOk result (option_map (journal_of ending.dialect ending.limit) (D.told disk.new)
         ≡ option_map (with_last ending.used entry.now) (option_map (journal_of ending.dialect ending.limit) (D.told disk.old))) }
 

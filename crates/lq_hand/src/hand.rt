@@ -51,8 +51,13 @@ impl Hand {
         ensures turn { IfOk result (λ hand. IsTurn dialect hand) }
         ensures calls { IfOk result (λ hand. calls_left hand ≡ turn_calls dialect who.now turn) }
         ensures goes_on { IfOk result (λ hand. hand.goes_on ≡ goes_on) }
-        ensures refused { IfOk result (λ hand. (c : Contents) → refused_in dialect (calls_left hand) no_progress c ≡ refusal_at_end (ending dialect turn c)) }
-        ensures seen { IfOk result (λ hand. (c : Contents) → sights dialect (calls_left hand) c ≡ seen_along dialect turn.statements c.users) }
+        ensures refused { IfOk result (λ hand.
+            (c : Contents)
+            → refused_in dialect (calls_left hand) no_progress c
+            ≡ refusal_at_end (ending dialect turn c)) }
+        ensures seen { IfOk result (λ hand.
+            (c : Contents)
+            → sights dialect (calls_left hand) c ≡ seen_along dialect turn.statements c.users) }
     {
         let calls = turn_calls(alloc, dialect, who, turn)?;
         let _count = calls.len();

@@ -18,7 +18,8 @@ pub struct Marking<'a> {
 
 /// `WHO|IDENTITY|NUMBER`, where a turn takes back `WHO|IDENTITY|undo NUMBER`.
 pub fn mark_text(alloc: Global, marking: &Marking<'_>, number: usize) -> Result<Text, NoMemory>
-    ensures { IfOk result (λ text. text ≡ mark_text marking.now.who.now (turn_of marking.now) number) }
+    ensures { IfOk result
+        (λ text. text ≡ mark_text marking.now.who.now (turn_of marking.now) number) }
 {
     let mut text = marking.who.copy(alloc)?;
     text.push_str("|")?;

@@ -58,25 +58,32 @@ pub trait Source {
         requires reads { reads self.old dialect }
         requires sql { P.dialect ≡ dialect }
         requires moment { stamp.now.reading ≤ 253402300799999 }
-        ensures enters { Enters dialect meaning stamp.now (left self.old) (way self.old dialect stamp.now) (K.catalogue look.now) result (left self.new) (way self.new dialect stamp.now) }
+        ensures enters { Enters dialect meaning stamp.now (left self.old)
+            (way self.old dialect stamp.now) (K.catalogue look.now) result (left self.new)
+            (way self.new dialect stamp.now) }
         ensures reads { reads self.new dialect };
 
     /// A user's statement of the turn in hand comes next, and this is what it will see.
     fn looks<K: Look>(&mut self, dialect: Dialect, look: &K)
         requires reads { reads self.old dialect }
         ensures left { left self.new ≡ left self.old }
-        ensures looks { (stamp : Stamp) (told : Told) → Looks dialect (K.catalogue look.now) (way self.old dialect stamp told) (way self.new dialect stamp told) }
+        ensures looks { (stamp : Stamp) (told : Told)
+            → Looks dialect (K.catalogue look.now) (way self.old dialect stamp told)
+            (way self.new dialect stamp told) }
         ensures reads { reads self.new dialect };
 
     /// The turn in hand has finished.
     fn finished(&mut self)
-        ensures knows { (d : Dialect) (stamp : Stamp) (told : Told) (c : Contents) → (way self.old d stamp told).awaits [] c → (way self.new d stamp told).knows c }
+        ensures knows { (d : Dialect) (stamp : Stamp) (told : Told) (c : Contents)
+            → (way self.old d stamp told).awaits [] c
+            → (way self.new d stamp told).knows c }
         ensures left { left self.new ≡ left self.old }
         ensures reads { (d : Dialect) → reads self.old d → reads self.new d };
 
     /// A statement of the turn in hand was refused, so the turn is taken back.
     fn refused(&mut self)
         ensures left { left self.new ≡ left self.old }
-        ensures gives_up { (d : Dialect) (stamp : Stamp) (told : Told) → GivesUp (way self.old d stamp told) (way self.new d stamp told) }
+        ensures gives_up { (d : Dialect) (stamp : Stamp) (told : Told)
+            → GivesUp (way self.old d stamp told) (way self.new d stamp told) }
         ensures reads { (d : Dialect) → reads self.old d → reads self.new d };
 }

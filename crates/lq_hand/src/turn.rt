@@ -64,7 +64,9 @@ fn push_parts(
     statements: &mut Items<Statement>,
     calls: &mut Items<Call>,
 ) -> Result<(), NoMemory>
-    ensures { OnOk result (Lays (begun_calls marking.now statements.old ++ call.Execute (deed.Rows row) ∷ []) calls.old calls.new) }
+    ensures { OnOk result
+        (Lays (begun_calls marking.now statements.old ++ call.Execute (deed.Rows row) ∷ [])
+        calls.old calls.new) }
 {
     push(calls, Call::Execute(Deed::Rows(row)))?;
     push_statements(alloc, marking, statements, calls)
@@ -79,7 +81,8 @@ fn push_end(
     turn: &Turn,
     calls: &mut Items<Call>,
 ) -> Result<(), NoMemory>
-    ensures { OnOk result (Lays (unmark dialect who.now turn.now ++ call.Commit ∷ []) calls.old calls.new) }
+    ensures { OnOk result
+        (Lays (unmark dialect who.now turn.now ++ call.Commit ∷ []) calls.old calls.new) }
 {
     push(calls, Call::Commit)?;
     push_unmark(alloc, who, has_marks(dialect, turn), calls)
@@ -92,7 +95,9 @@ fn push_unmark(
     has_marks: bool,
     calls: &mut Items<Call>,
 ) -> Result<(), NoMemory>
-    ensures { OnOk result (Lays (if_wanted has_marks (call.Execute (deed.Locks (on_lock.Marked who.now)))) calls.old calls.new) }
+    ensures { OnOk result
+        (Lays (if_wanted has_marks (call.Execute (deed.Locks (on_lock.Marked who.now)))) calls.old
+        calls.new) }
 {
     if has_marks {
         let name = who.copy(alloc)?;
@@ -216,7 +221,8 @@ fn push_last(
     calls: &mut Items<Call>,
 ) -> Result<bool, NoMemory>
     requires some { statements.old ≢ [] }
-    ensures { IfOk result (λ commits. LaysLast dialect statements.old calls.old statements.new calls.new commits) }
+    ensures { IfOk result
+        (λ commits. LaysLast dialect statements.old calls.old statements.new calls.new commits) }
 {
     let Some(statement) = statements.pop() else {
         unreachable!();
@@ -232,7 +238,8 @@ fn push_mark(
     number: usize,
     calls: &mut Items<Call>,
 ) -> Result<(), NoMemory>
-    ensures { OnOk result (Lays (mark marking.now.who.now (turn_of marking.now) number ∷ []) calls.old calls.new) }
+    ensures { OnOk result
+        (Lays (mark marking.now.who.now (turn_of marking.now) number ∷ []) calls.old calls.new) }
 {
     let text = mark_text(alloc, marking, number)?;
     push(calls, Call::Execute(Deed::Locks(OnLock::Marked(text))))

@@ -39,15 +39,22 @@ pub struct Journal<D: Disk> {
 // The bytes of the file, after a sync.
 fn contents<D: Disk>(alloc: Global, disk: &mut D, limit: u64) -> Result<Vec<u8>, LoadFault>
     ensures told { D.told disk.new ≡ D.told disk.old }
-    ensures bytes { IfOk result (λ bytes. IfSome (D.told disk.old) (λ before. before ≡ bytes.items)) }
+    ensures bytes { IfOk result
+        (λ bytes. IfSome (D.told disk.old) (λ before. before ≡ bytes.items)) }
     ensures within { IfOk result (λ bytes. length bytes.items ≤ limit) }
     ensures settled { OnOk result (Settled (D.told disk.old) (D.crashes disk.new)) }
-    ensures any_moment { LeavesOnly (D.crashes disk.old) (D.crashes disk.new) (D.crashes disk.old).leaves }
+    ensures any_moment { LeavesOnly (D.crashes disk.old) (D.crashes disk.new)
+        (D.crashes disk.old).leaves }
     ensures later { D.faults disk.old ≤ D.faults disk.new }
     ensures stays { OnOk result (D.faults disk.new ≡ D.faults disk.old) }
-    ensures fault { IfErr result (λ fault. IsSizeFault limit (D.told disk.old) (D.faults disk.old) (D.faults disk.new) fault) }
-    ensures too_long { IfSome (D.told disk.old) (λ before. limit < length before → IsErrAnd result (IsLengthFault limit (D.faults disk.old) (D.faults disk.new))) }
-    ensures synced { MatchResult result (λ bytes. HasSynced (D.crashes disk.old) (D.crashes disk.new)) (λ fault. HasSyncedBefore fault (D.crashes disk.old) (D.crashes disk.new)) }
+    ensures fault { IfErr result (λ fault.
+        IsSizeFault limit (D.told disk.old) (D.faults disk.old) (D.faults disk.new) fault) }
+    ensures too_long { IfSome (D.told disk.old) (λ before.
+        limit < length before
+        → IsErrAnd result (IsLengthFault limit (D.faults disk.old) (D.faults disk.new))) }
+    ensures synced { MatchResult result
+        (λ bytes. HasSynced (D.crashes disk.old) (D.crashes disk.new))
+        (λ fault. HasSyncedBefore fault (D.crashes disk.old) (D.crashes disk.new)) }
 {
     disk.sync()?;
     let size = disk.size()?;
@@ -69,12 +76,18 @@ fn look<D: Disk>(
     ensures told { D.told disk.new ≡ D.told disk.old }
     ensures found { IfOk result (λ found. FoundOn dialect limit (D.told disk.old) found) }
     ensures settled { OnOk result (Settled (D.told disk.old) (D.crashes disk.new)) }
-    ensures any_moment { LeavesOnly (D.crashes disk.old) (D.crashes disk.new) (D.crashes disk.old).leaves }
+    ensures any_moment { LeavesOnly (D.crashes disk.old) (D.crashes disk.new)
+        (D.crashes disk.old).leaves }
     ensures later { D.faults disk.old ≤ D.faults disk.new }
     ensures stays { OnOk result (D.faults disk.new ≡ D.faults disk.old) }
-    ensures fault { IfErr result (λ fault. IsLoadFault dialect limit (D.told disk.old) (D.faults disk.old) (D.faults disk.new) fault) }
-    ensures too_long { IfSome (D.told disk.old) (λ before. limit < length before → IsErrAnd result (IsLengthFault limit (D.faults disk.old) (D.faults disk.new))) }
-    ensures synced { MatchResult result (λ found. HasSynced (D.crashes disk.old) (D.crashes disk.new)) (λ fault. HasSyncedBefore fault (D.crashes disk.old) (D.crashes disk.new)) }
+    ensures fault { IfErr result (λ fault.
+        IsLoadFault dialect limit (D.told disk.old) (D.faults disk.old) (D.faults disk.new) fault) }
+    ensures too_long { IfSome (D.told disk.old) (λ before.
+        limit < length before
+        → IsErrAnd result (IsLengthFault limit (D.faults disk.old) (D.faults disk.new))) }
+    ensures synced { MatchResult result
+        (λ found. HasSynced (D.crashes disk.old) (D.crashes disk.new))
+        (λ fault. HasSyncedBefore fault (D.crashes disk.old) (D.crashes disk.new)) }
 {
     match contents(alloc, disk, limit) {
         Ok(bytes) => reading::read(alloc, dialect, limit, &bytes),
@@ -123,27 +136,41 @@ impl<D: Disk> Journal<D> {
     ) -> Result<(Journal<D>, Items<Entry>), LoadRefused<D, LoadFault>>
         requires limit_least { 8192 ≤ limit }
         requires limit_most { limit ≤ 268435456 }
-        ensures entries { IfOk result (λ loaded. IfSome (D.told disk) (λ bytes. journal_of dialect limit bytes ≡ Ok loaded.1)) }
+        ensures entries { IfOk result (λ loaded.
+            IfSome (D.told disk) (λ bytes. journal_of dialect limit bytes ≡ Ok loaded.1)) }
         ensures used { IfOk result (λ loaded. used_of loaded.0 ≡ used_by loaded.1) }
         ensures dialect { IfOk result (λ loaded. dialect_of loaded.0 ≡ dialect) }
         ensures limit { IfOk result (λ loaded. limit_of loaded.0 ≡ limit) }
         ensures loaded { IfOk result (λ loaded. IsLoaded (D.told (disk_of loaded.0)) loaded.0) }
-        ensures told { MatchResult result (λ loaded. D.told (disk_of loaded.0) ≡ D.told disk) (λ refused. D.told refused.disk ≡ D.told disk) }
+        ensures told { MatchResult result (λ loaded. D.told (disk_of loaded.0) ≡ D.told disk)
+            (λ refused. D.told refused.disk ≡ D.told disk) }
 
         // Each fault has its cause.
-        ensures fault { IfErr result (λ refused. IsLoadFault dialect limit (D.told disk) (D.faults disk) (D.faults refused.disk) refused.fault) }
-        ensures later { MatchResult result (λ loaded. D.faults disk ≤ D.faults (disk_of loaded.0)) (λ refused. D.faults disk ≤ D.faults refused.disk) }
+        ensures fault { IfErr result (λ refused.
+            IsLoadFault dialect limit (D.told disk) (D.faults disk) (D.faults refused.disk)
+            refused.fault) }
+        ensures later { MatchResult result (λ loaded. D.faults disk ≤ D.faults (disk_of loaded.0))
+            (λ refused. D.faults disk ≤ D.faults refused.disk) }
         ensures stays { IfOk result (λ loaded. D.faults (disk_of loaded.0) ≡ D.faults disk) }
 
         // A file that is longer than the limit is not taken into memory.
-        ensures too_long { IfSome (D.told disk) (λ bytes. limit < length bytes → IsErrAnd result (λ refused. IsLengthFault limit (D.faults disk) (D.faults refused.disk) refused.fault)) }
+        ensures too_long { IfSome (D.told disk) (λ bytes.
+            limit < length bytes
+            → IsErrAnd result (λ refused.
+            IsLengthFault limit (D.faults disk) (D.faults refused.disk) refused.fault)) }
 
         // It begins with a sync.
-        ensures synced { MatchResult result (λ loaded. HasSynced (D.crashes disk) (D.crashes (disk_of loaded.0))) (λ refused. HasSyncedBefore refused.fault (D.crashes disk) (D.crashes refused.disk)) }
+        ensures synced { MatchResult result
+            (λ loaded. HasSynced (D.crashes disk) (D.crashes (disk_of loaded.0)))
+            (λ refused. HasSyncedBefore refused.fault (D.crashes disk) (D.crashes refused.disk)) }
 
         // After it a crash leaves what a read gives, and at each moment of it what one before it might have left.
-        ensures settled { IfOk result (λ loaded. Settled (D.told (disk_of loaded.0)) (D.crashes (disk_of loaded.0))) }
-        ensures any_moment { MatchResult result (λ loaded. LeavesOnly (D.crashes disk) (D.crashes (disk_of loaded.0)) (D.crashes disk).leaves) (λ refused. LeavesOnly (D.crashes disk) (D.crashes refused.disk) (D.crashes disk).leaves) }
+        ensures settled { IfOk result
+            (λ loaded. Settled (D.told (disk_of loaded.0)) (D.crashes (disk_of loaded.0))) }
+        ensures any_moment { MatchResult result (λ loaded.
+            LeavesOnly (D.crashes disk) (D.crashes (disk_of loaded.0)) (D.crashes disk).leaves)
+            (λ refused.
+            LeavesOnly (D.crashes disk) (D.crashes refused.disk) (D.crashes disk).leaves) }
     {
         match look(alloc, &mut disk, dialect, limit) {
             Ok(found) => {
@@ -172,13 +199,19 @@ impl<D: Disk> Journal<D> {
         ensures ready { OnOk result (IsReady (D.told (disk_of self.new)) self.new) }
         ensures opening { SameOpening self.old self.new }
         ensures used { used_of self.new ≡ used_of self.old }
-        ensures same { option_map (journal_of (dialect_of self.old) (limit_of self.old)) (D.told (disk_of self.new)) ≡ option_map (journal_of (dialect_of self.old) (limit_of self.old)) (D.told (disk_of self.old)) }
+        ensures same { option_map (journal_of (dialect_of self.old) (limit_of self.old))
+            (D.told (disk_of self.new))
+            ≡ option_map (journal_of (dialect_of self.old) (limit_of self.old))
+            (D.told (disk_of self.old)) }
 
         // Where all is on the disk, a crash at any moment of the call leaves the entries, and after it all is.
         ensures any_moment { Settled (D.told (disk_of self.old)) (D.crashes (disk_of self.old)) → IfSome (D.told (disk_of self.old)) (λ before.
             LeavesOnly (D.crashes (disk_of self.old)) (D.crashes (disk_of self.new)) (StandsForSame (dialect_of self.old) (limit_of self.old) (journal_of (dialect_of self.old) (limit_of self.old) before))) }
-        ensures durable { OnOk result (Settled (D.told (disk_of self.old)) (D.crashes (disk_of self.old)) → Settled (D.told (disk_of self.new)) (D.crashes (disk_of self.new))) }
-        ensures faults { CountsFault result (D.faults (disk_of self.old)) (D.faults (disk_of self.new)) }
+        ensures durable { OnOk result
+            (Settled (D.told (disk_of self.old)) (D.crashes (disk_of self.old))
+            → Settled (D.told (disk_of self.new)) (D.crashes (disk_of self.new))) }
+        ensures faults { CountsFault result (D.faults (disk_of self.old))
+            (D.faults (disk_of self.new)) }
     {
         if self.prepared {
             return Ok(());
@@ -200,10 +233,12 @@ impl<D: Disk> Journal<D> {
             ≡ option_map (with_last (used_of self.old) entry.now) (option_map (journal_of (dialect_of self.old) (limit_of self.old)) (D.told (disk_of self.old)))) }
         ensures failed { OnErr result (IsSameOrMore (used_of self.old) entry.now (option_map (journal_of (dialect_of self.old) (limit_of self.old)) (D.told (disk_of self.old)))
             (option_map (journal_of (dialect_of self.old) (limit_of self.old)) (D.told (disk_of self.new)))) }
-        ensures durable { OnOk result (Settled (D.told (disk_of self.new)) (D.crashes (disk_of self.new))) }
+        ensures durable { OnOk result
+            (Settled (D.told (disk_of self.new)) (D.crashes (disk_of self.new))) }
         ensures any_moment { Settled (D.told (disk_of self.old)) (D.crashes (disk_of self.old)) → IfSome (D.told (disk_of self.old)) (λ before.
             LeavesOnly (D.crashes (disk_of self.old)) (D.crashes (disk_of self.new)) (StandsForSameOrMore (dialect_of self.old) (limit_of self.old) (used_of self.old) entry.now (journal_of (dialect_of self.old) (limit_of self.old) before))) }
-        ensures faults { CountsFault result (D.faults (disk_of self.old)) (D.faults (disk_of self.new)) }
+        ensures faults { CountsFault result (D.faults (disk_of self.old))
+            (D.faults (disk_of self.new)) }
     {
         let ending = Ending {
             dialect: self.dialect,
@@ -226,9 +261,12 @@ impl<D: Disk> Journal<D> {
             ≡ option_map (with_last (used_of self.old) entry.now) (option_map (journal_of (dialect_of self.old) (limit_of self.old)) (D.told (disk_of self.old)))) }
 
         // It is full exactly where the entry goes past the end that the room sets, and then nothing is changed.
-        ensures full { (end_of room (limit_of self.old) < used_of self.old + size_of entry.now) ↔ (result ≡ Err (Full (used_of self.old) (size_of entry.now))) }
+        ensures full { (end_of room (limit_of self.old) < used_of self.old + size_of entry.now) ↔
+            (result ≡ Err (Full (used_of self.old) (size_of entry.now))) }
         ensures unchanged { IfErr result (λ fault. IsFull fault → self.new ≡ self.old) }
-        ensures fault { IfErr result (λ fault. IsAppendFault (used_of self.old) (size_of entry.now) (D.faults (disk_of self.old)) (D.faults (disk_of self.new)) fault) }
+        ensures fault { IfErr result (λ fault.
+            IsAppendFault (used_of self.old) (size_of entry.now) (D.faults (disk_of self.old))
+            (D.faults (disk_of self.new)) fault) }
         ensures later { D.faults (disk_of self.old) ≤ D.faults (disk_of self.new) }
         ensures stays { OnOk result (D.faults (disk_of self.new) ≡ D.faults (disk_of self.old)) }
 
@@ -238,7 +276,8 @@ impl<D: Disk> Journal<D> {
 
         // After it a crash leaves what a read gives. Where that was so before, a crash at any moment of the
         // call leaves the entries before it, with the new one or without.
-        ensures durable { OnOk result (Settled (D.told (disk_of self.new)) (D.crashes (disk_of self.new))) }
+        ensures durable { OnOk result
+            (Settled (D.told (disk_of self.new)) (D.crashes (disk_of self.new))) }
         ensures any_moment { Settled (D.told (disk_of self.old)) (D.crashes (disk_of self.old)) → IfSome (D.told (disk_of self.old)) (λ before.
             LeavesOnly (D.crashes (disk_of self.old)) (D.crashes (disk_of self.new)) (StandsForSameOrMore (dialect_of self.old) (limit_of self.old) (used_of self.old) entry.now (journal_of (dialect_of self.old) (limit_of self.old) before))) }
     {

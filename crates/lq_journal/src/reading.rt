@@ -34,7 +34,8 @@ pub fn header(dialect: Dialect) -> &'static [u8]
 // The length that stands at the front.
 #[tactic(auto, unfolding(lq_frames::specs::Body::front_number))]
 fn front_number(bytes: &[u8]) -> Option<usize>
-    ensures { MatchOption result (length bytes.now < 4) (λ n. (n ≡ front_number bytes.now) × (n < 2 ^ 32) × (4 ≤ length bytes.now)) }
+    ensures { MatchOption result (length bytes.now < 4)
+        (λ n. (n ≡ front_number bytes.now) × (n < 2 ^ 32) × (4 ≤ length bytes.now)) }
 {
     match bytes {
         [a, b, c, d, ..] => Some(u32::from_be_bytes([*a, *b, *c, *d]) as usize),
@@ -46,7 +47,9 @@ fn front_number(bytes: &[u8]) -> Option<usize>
 #[tactic(auto, using(lq_frames::proofs::Texts::texts_short, crate::proofs::Read::text_far, crate::proofs::Read::text_there))]
 fn next_text(bytes: &[u8]) -> Option<(&[u8], &[u8])>
     requires { 0 < length bytes.now }
-    ensures { MatchOption result (texts_from 0 bytes.now ≡ None) (λ next. (texts_from 0 bytes.now ≡ with_text next.0.now (texts_from 0 next.1.now)) × (length next.1.now < length bytes.now)) }
+    ensures { MatchOption result (texts_from 0 bytes.now ≡ None) (λ next.
+        (texts_from 0 bytes.now ≡ with_text next.0.now (texts_from 0 next.1.now))
+        × (length next.1.now < length bytes.now)) }
 {
     let Some(len) = front_number(bytes) else {
         return None;
@@ -61,7 +64,9 @@ fn next_text(bytes: &[u8]) -> Option<(&[u8], &[u8])>
 // The bytes as a text, where they are UTF-8.
 #[tactic(auto, using(crate::proofs::Read::utf8_not, crate::proofs::Read::utf8_is))]
 fn read_text(alloc: Global, bytes: &[u8]) -> Result<Option<Text>, NoMemory>
-    ensures { IfOk result (λ text. MatchOption text (is_utf8 bytes.now ≡ false) (λ text. (text ≡ bytes.now) × (is_utf8 bytes.now ≡ true))) }
+    ensures { IfOk result (λ text.
+        MatchOption text (is_utf8 bytes.now ≡ false)
+        (λ text. (text ≡ bytes.now) × (is_utf8 bytes.now ≡ true))) }
 {
     match str::from_utf8(bytes) {
         Ok(text) => match Text::new(alloc, text) {
@@ -117,7 +122,10 @@ fn read_body(alloc: Global, body: &[u8]) -> Result<Option<Items<Text>>, NoMemory
 
 // The entry at the front, by its length alone, and what stands after it.
 fn front_entry(bytes: &[u8]) -> Option<(&[u8], &[u8])>
-    ensures { MatchOption result (length bytes.now ≤ entry_len bytes.now) (λ parts. (bytes.now ≡ parts.0.now ++ parts.1.now) × (length parts.0.now ≡ entry_len bytes.now) × (0 < length parts.1.now)) }
+    ensures { MatchOption result (length bytes.now ≤ entry_len bytes.now) (λ parts.
+        (bytes.now ≡ parts.0.now ++ parts.1.now)
+        × (length parts.0.now ≡ entry_len bytes.now)
+        × (0 < length parts.1.now)) }
 {
     let Some(len) = front_number(bytes) else {
         return None;
@@ -135,7 +143,8 @@ fn front_entry(bytes: &[u8]) -> Option<(&[u8], &[u8])>
 fn next_entry(alloc: Global, at: u64, bytes: &[u8]) -> Result<Option<(Entry, &[u8])>, LoadFault>
     requires some { 0 < length bytes.now }
     requires place { at + 1 < 2 ^ 64 }
-    ensures entry { IfOk result (λ next. ForSome next (λ parts. IsNext at bytes.now parts.0 parts.1.now)) }
+    ensures entry { IfOk result
+        (λ next. ForSome next (λ parts. IsNext at bytes.now parts.0 parts.1.now)) }
     ensures end { IfOk result (λ next. IsNone next → IsEnd bytes.now) }
     ensures fault { IfErr result (λ fault. IsStepFault at bytes.now fault) }
 {

@@ -76,7 +76,8 @@ fn values_of(alloc: Global, nodes: &[Node]) -> Result<Vec<Value>, NoMemory>
 
 #[cycle(value)]
 fn members_of(alloc: Global, entries: &[(Text, Node)]) -> Result<Map<String, Value>, NoMemory>
-    ensures { IfOk result (λ members. members_view members.entries ≡ members_from (map entry_data entries.now) no_members) }
+    ensures { IfOk result (λ members.
+        members_view members.entries ≡ members_from (map entry_data entries.now) no_members) }
 {
     let mut members = Map::new(alloc);
     for entry in entries {

@@ -18,7 +18,8 @@ use std::alloc::Global;
 
 /// The table's shape with one more unique constraint.
 fn with_unique(alloc: Global, held: &Held, unique: &Unique) -> Result<Shape, NoMemory>
-    ensures { IfOk result (λ shape. with_shape shape held.now.now ≡ spec.with_unique unique.now held.now.now) }
+    ensures { IfOk result
+        (λ shape. with_shape shape held.now.now ≡ spec.with_unique unique.now held.now.now) }
 {
     let mut shape = held.shape().duplicate(alloc)?;
     shape.uniques.push(unique.duplicate(alloc)?)?;
@@ -35,7 +36,8 @@ pub fn add_unique(
     unique: &Unique,
 ) -> Result<u64, RunFault>
     requires { IsSound dialect parts.old.now }
-    ensures { Answers (decide (spec.add_unique by dialect table.now unique.now parts.old.now)) parts.old parts.new result }
+    ensures { Answers (decide (spec.add_unique by dialect table.now unique.now parts.old.now))
+        parts.old parts.new result }
 {
     let reserved = are_reserved(by, table, &unique.name);
     let Some(held) = parts.table(table) else {
@@ -59,7 +61,8 @@ pub fn add_unique(
 
 /// The table's shape with one more index.
 fn with_index(alloc: Global, held: &Held, index: &Index) -> Result<Shape, NoMemory>
-    ensures { IfOk result (λ shape. with_shape shape held.now.now ≡ spec.with_index index.now held.now.now) }
+    ensures { IfOk result
+        (λ shape. with_shape shape held.now.now ≡ spec.with_index index.now held.now.now) }
 {
     let mut shape = held.shape().duplicate(alloc)?;
     shape.indexes.push(index.duplicate(alloc)?)?;
@@ -68,7 +71,8 @@ fn with_index(alloc: Global, held: &Held, index: &Index) -> Result<Shape, NoMemo
 
 /// Whether two rows are equal where the index lets none be.
 fn has_index_twins(alloc: Global, held: &Held, index: &Index) -> Result<bool, NoMemory>
-    ensures { IfOk result (λ found. found ≡ (index.now.unique && are_twins held.now.now index.now.columns)) }
+    ensures { IfOk result
+        (λ found. found ≡ (index.now.unique && are_twins held.now.now index.now.columns)) }
 {
     if !index.unique {
         return Ok(false);
@@ -86,7 +90,8 @@ pub fn create_index(
     index: &Index,
 ) -> Result<u64, RunFault>
     requires { IsSound dialect parts.old.now }
-    ensures { Answers (decide (spec.create_index by dialect table.now index.now parts.old.now)) parts.old parts.new result }
+    ensures { Answers (decide (spec.create_index by dialect table.now index.now parts.old.now))
+        parts.old parts.new result }
 {
     let reserved = are_reserved(by, table, &index.name);
     let Some(held) = parts.table(table) else {

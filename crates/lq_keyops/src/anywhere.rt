@@ -46,7 +46,11 @@ fn table_with<'a>(tables: &'a [(Name, Held)], name: &Name) -> Option<&'a Name>
 /// Takes the indexes of the name away from a table that is there.
 fn drop_there(parts: &mut Parts, alloc: Global, table: &Name, name: &Name) -> Result<(), NoMemory>
     requires { is_some (table_of parts.old.now table.now) ≡ true }
-    ensures ok { OnOk result (parts.new ≡ changed parts.old (with_table parts.old.now table.now (spec.without_index name.now (the_table parts.old.now table.now)))) }
+    ensures ok { OnOk result
+        (parts.new
+        ≡ changed parts.old
+        (with_table parts.old.now table.now
+        (spec.without_index name.now (the_table parts.old.now table.now)))) }
     ensures err { OnErr result (parts.new ≡ parts.old) }
 {
     let Some(held) = parts.table(table) else {
@@ -71,7 +75,8 @@ fn drop_everywhere(parts: &mut Parts, alloc: Global, name: &Name) -> Result<(), 
 }
 
 fn anywhere_tests(parts: &Parts, by: By, dialect: Dialect, name: &Name) -> Tests
-    ensures { verdict_of result ≡ verdict_of (tests_of (spec.drop_index by dialect name.now None parts.now.now) no_faults) }
+    ensures { verdict_of result
+        ≡ verdict_of (tests_of (spec.drop_index by dialect name.now None parts.now.now) no_faults) }
 {
     let _ = dialect;
     Tests {
@@ -90,7 +95,8 @@ fn drop_index_anywhere(
     name: &Name,
 ) -> Result<u64, RunFault>
     requires { IsSound dialect parts.old.now }
-    ensures { Answers (decide (spec.drop_index by dialect name.now None parts.old.now)) parts.old parts.new result }
+    ensures { Answers (decide (spec.drop_index by dialect name.now None parts.old.now)) parts.old
+        parts.new result }
 {
     let tests = anywhere_tests(parts, by, dialect, name);
     match tests.verdict() {
@@ -112,7 +118,8 @@ pub fn drop_index(
     table: &Option<Name>,
 ) -> Result<u64, RunFault>
     requires { IsSound dialect parts.old.now }
-    ensures { Answers (decide (spec.drop_index by dialect name.now table.now parts.old.now)) parts.old parts.new result }
+    ensures { Answers (decide (spec.drop_index by dialect name.now table.now parts.old.now))
+        parts.old parts.new result }
 {
     match table {
         Some(table) => drop_index_of(parts, alloc, by, dialect, name, table),

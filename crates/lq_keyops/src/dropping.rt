@@ -20,7 +20,8 @@ use std::alloc::Global;
 
 /// The table's shape without the foreign keys of the name.
 fn without_foreign(alloc: Global, held: &Held, name: &Name) -> Result<Shape, NoMemory>
-    ensures { IfOk result (λ shape. with_shape shape held.now.now ≡ spec.without_foreign name.now held.now.now) }
+    ensures { IfOk result
+        (λ shape. with_shape shape held.now.now ≡ spec.without_foreign name.now held.now.now) }
 {
     let mut shape = held.shape().duplicate(alloc)?;
     shape.foreign = foreign_without(alloc, held.foreign_keys(), name)?;
@@ -37,7 +38,8 @@ pub fn drop_foreign_key(
     name: &Name,
 ) -> Result<u64, RunFault>
     requires { IsSound dialect parts.old.now }
-    ensures { Answers (decide (spec.drop_foreign_key by dialect table.now name.now parts.old.now)) parts.old parts.new result }
+    ensures { Answers (decide (spec.drop_foreign_key by dialect table.now name.now parts.old.now))
+        parts.old parts.new result }
 {
     let reserved = are_reserved(by, table, name);
     let Some(held) = parts.table(table) else {
@@ -54,7 +56,8 @@ pub fn drop_foreign_key(
 
 /// The table's shape without the unique constraints of the name.
 fn without_unique(alloc: Global, held: &Held, name: &Name) -> Result<Shape, NoMemory>
-    ensures { IfOk result (λ shape. with_shape shape held.now.now ≡ spec.without_unique name.now held.now.now) }
+    ensures { IfOk result
+        (λ shape. with_shape shape held.now.now ≡ spec.without_unique name.now held.now.now) }
 {
     let mut shape = held.shape().duplicate(alloc)?;
     shape.uniques = uniques_without(alloc, held.uniques(), name)?;
@@ -71,7 +74,8 @@ pub fn drop_unique(
     name: &Name,
 ) -> Result<u64, RunFault>
     requires { IsSound dialect parts.old.now }
-    ensures { Answers (decide (spec.drop_unique by dialect table.now name.now parts.old.now)) parts.old parts.new result }
+    ensures { Answers (decide (spec.drop_unique by dialect table.now name.now parts.old.now))
+        parts.old parts.new result }
 {
     let reserved = are_reserved(by, table, name);
     let Some(held) = parts.table(table) else {
@@ -96,7 +100,8 @@ fn has_numbered(columns: &[Column]) -> bool
 
 /// The table's shape without its key.
 fn without_key(alloc: Global, held: &Held) -> Result<Shape, NoMemory>
-    ensures { IfOk result (λ shape. with_shape shape held.now.now ≡ spec.without_its_key held.now.now) }
+    ensures { IfOk result
+        (λ shape. with_shape shape held.now.now ≡ spec.without_its_key held.now.now) }
 {
     let mut shape = held.shape().duplicate(alloc)?;
     shape.key = None;
@@ -112,7 +117,8 @@ pub fn drop_primary_key(
     table: &Name,
 ) -> Result<u64, RunFault>
     requires { IsSound dialect parts.old.now }
-    ensures { Answers (decide (spec.drop_primary_key by dialect table.now parts.old.now)) parts.old parts.new result }
+    ensures { Answers (decide (spec.drop_primary_key by dialect table.now parts.old.now)) parts.old
+        parts.new result }
 {
     let reserved = is_reserved(by, table);
     let Some(held) = parts.table(table) else {
@@ -130,7 +136,8 @@ pub fn drop_primary_key(
 
 /// The table's shape without the constraints of the name.
 fn without_constraint(alloc: Global, held: &Held, name: &Name) -> Result<Shape, NoMemory>
-    ensures { IfOk result (λ shape. with_shape shape held.now.now ≡ spec.without_constraint name.now held.now.now) }
+    ensures { IfOk result
+        (λ shape. with_shape shape held.now.now ≡ spec.without_constraint name.now held.now.now) }
 {
     let mut shape = held.shape().duplicate(alloc)?;
     shape.key = key_without(alloc, held.key(), name)?;
@@ -149,7 +156,8 @@ pub fn drop_constraint(
     name: &Name,
 ) -> Result<u64, RunFault>
     requires { IsSound dialect parts.old.now }
-    ensures { Answers (decide (spec.drop_constraint by dialect table.now name.now parts.old.now)) parts.old parts.new result }
+    ensures { Answers (decide (spec.drop_constraint by dialect table.now name.now parts.old.now))
+        parts.old parts.new result }
 {
     let reserved = are_reserved(by, table, name);
     let Some(held) = parts.table(table) else {
@@ -168,7 +176,8 @@ pub fn drop_constraint(
 
 /// The table's shape without the indexes of the name.
 pub fn without_index(alloc: Global, held: &Held, name: &Name) -> Result<Shape, NoMemory>
-    ensures { IfOk result (λ shape. with_shape shape held.now.now ≡ spec.without_index name.now held.now.now) }
+    ensures { IfOk result
+        (λ shape. with_shape shape held.now.now ≡ spec.without_index name.now held.now.now) }
 {
     let mut shape = held.shape().duplicate(alloc)?;
     shape.indexes = indexes_without(alloc, held.indexes(), name)?;
@@ -185,7 +194,8 @@ pub fn drop_index_of(
     table: &Name,
 ) -> Result<u64, RunFault>
     requires { IsSound dialect parts.old.now }
-    ensures { Answers (decide (spec.drop_index by dialect name.now (Some table.now) parts.old.now)) parts.old parts.new result }
+    ensures { Answers (decide (spec.drop_index by dialect name.now (Some table.now) parts.old.now))
+        parts.old parts.new result }
 {
     let reserved = are_reserved(by, table, name);
     let Some(held) = parts.table(table) else {

@@ -29,7 +29,9 @@ pub fn nothing_there(reserved: bool) -> RunFault
 /// with the shape.
 pub fn reshape(parts: &mut Parts, table: &Name, tests: Tests, shape: Shape) -> Result<u64, RunFault>
     requires { is_some (table_of parts.old.now table.now) ≡ true }
-    ensures { (p : Plan) (x : Faults) → Reshapes p x tests table.now shape parts.old.now → Answers (decide p) parts.old parts.new result }
+    ensures { (p : Plan) (x : Faults)
+        → Reshapes p x tests table.now shape parts.old.now
+        → Answers (decide p) parts.old parts.new result }
 {
     match tests.verdict() {
         Ok(()) => {}

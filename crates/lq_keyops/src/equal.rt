@@ -26,8 +26,15 @@ fn was_met(
     names: &[Name],
     row: &[Value],
 ) -> Result<bool, NoMemory>
-    ensures was { IfOk result (λ was. HasNoNull met.old → was ≡ contains values_cmp met.old (picked columns.now names.now row.now)) }
-    ensures after { OnOk result ((values : List Data) → contains values_cmp met.new values ≡ (same_values values (picked columns.now names.now row.now) || contains values_cmp met.old values)) }
+    ensures was { IfOk result (λ was.
+        HasNoNull met.old
+        → was ≡ contains values_cmp met.old (picked columns.now names.now row.now)) }
+    ensures after { OnOk result
+        ((values : List Data)
+        → contains values_cmp met.new values
+        ≡
+        (same_values values (picked columns.now names.now row.now)
+        || contains values_cmp met.old values)) }
 {
     let values = picked(alloc, columns, names, row)?;
     if has_null(values.as_slice()) {
@@ -44,7 +51,8 @@ fn has_equals_in(
     names: &[Name],
     rows: &Chain<Row>,
 ) -> Result<bool, NoMemory>
-    ensures { IfOk result (λ found. found ≡ has_equals (map (picked columns.now names.now) rows.now.now)) }
+    ensures { IfOk result
+        (λ found. found ≡ has_equals (map (picked columns.now names.now) rows.now.now)) }
 {
     let mut met = BTreeSet::new(alloc);
     for row in rows.iter() {
@@ -103,7 +111,9 @@ fn has_null_at(columns: &[Column], names: &[Name], row: &[Value]) -> bool
 }
 
 fn null_found(columns: &[Column], names: &[Name], rows: &Chain<Row>) -> bool
-    ensures { result ≡ list_any (λ row. list_any (λ n. is_null (by_name columns.now row n)) names.now) rows.now.now }
+    ensures { result
+        ≡ list_any (λ row. list_any (λ n. is_null (by_name columns.now row n)) names.now)
+        rows.now.now }
 {
     for row in rows.iter() {
         if has_null_at(columns, names, row.as_slice()) {

@@ -51,7 +51,9 @@ fn same_kind(a: Option<Kind>, b: Option<Kind>) -> bool
 
 /// Whether columns and their targets are as many, and of the same kinds.
 fn same_kinds(columns: &[Column], names: &[Name], others: &[Column], targets: &[Name]) -> bool
-    ensures { result ≡ kinds.same_kinds (map (λ n. kinds.kind_of n columns.now) names.now) (map (λ n. kinds.kind_of n others.now) targets.now) }
+    ensures { result
+        ≡ kinds.same_kinds (map (λ n. kinds.kind_of n columns.now) names.now)
+        (map (λ n. kinds.kind_of n others.now) targets.now) }
 {
     let [name, names @ ..] = names else {
         return targets.is_empty();
@@ -73,7 +75,11 @@ fn is_unknown(
     names: &[Name],
     row: &[Value],
 ) -> Result<bool, NoMemory>
-    ensures { IfOk result (λ is. is ≡ (not (list_any is_null (picked columns.now names.now row.now)) && not (contains values_cmp known.now (picked columns.now names.now row.now)))) }
+    ensures { IfOk result (λ is.
+        is
+        ≡
+        (not (list_any is_null (picked columns.now names.now row.now))
+        && not (contains values_cmp known.now (picked columns.now names.now row.now)))) }
 {
     let own = picked(alloc, columns, names, row)?;
     if has_null(own.as_slice()) {
@@ -90,7 +96,11 @@ fn lacks_one_parent(
     names: &[Name],
     rows: &Chain<Row>,
 ) -> Result<bool, NoMemory>
-    ensures { IfOk result (λ found. found ≡ list_any (λ r. not (list_any is_null (picked columns.now names.now r)) && not (contains values_cmp known.now (picked columns.now names.now r))) rows.now.now) }
+    ensures { IfOk result (λ found.
+        found
+        ≡ list_any (λ r.
+        not (list_any is_null (picked columns.now names.now r))
+        && not (contains values_cmp known.now (picked columns.now names.now r))) rows.now.now) }
 {
     for row in rows.iter() {
         if is_unknown(alloc, known, columns, names, row.as_slice())? {
@@ -102,7 +112,10 @@ fn lacks_one_parent(
 
 /// Whether a row of the table has no parent by a foreign key: in O(n log n) of both tables.
 fn has_orphan(alloc: Global, held: &Held, key: &ForeignKey, target: &Held) -> Result<bool, NoMemory>
-    ensures { IfOk result (λ found. found ≡ list_any (lacks_parent_in target.now.now held.now.now.columns key.now) held.now.now.rows) }
+    ensures { IfOk result (λ found.
+        found
+        ≡ list_any (lacks_parent_in target.now.now held.now.now.columns key.now)
+        held.now.now.rows) }
 {
     let known = values_of(
         alloc,
@@ -122,7 +135,8 @@ fn has_orphan(alloc: Global, held: &Held, key: &ForeignKey, target: &Held) -> Re
 
 /// The table's shape with one more foreign key.
 fn with_foreign(alloc: Global, held: &Held, foreign: &ForeignKey) -> Result<Shape, NoMemory>
-    ensures { IfOk result (λ shape. with_shape shape held.now.now ≡ spec.with_foreign foreign.now held.now.now) }
+    ensures { IfOk result
+        (λ shape. with_shape shape held.now.now ≡ spec.with_foreign foreign.now held.now.now) }
 {
     let mut shape = held.shape().duplicate(alloc)?;
     shape.foreign.push(foreign.duplicate(alloc)?)?;
@@ -139,7 +153,8 @@ pub fn add_foreign_key(
     foreign: &ForeignKey,
 ) -> Result<u64, RunFault>
     requires { IsSound dialect parts.old.now }
-    ensures { Answers (decide (spec.add_foreign_key by dialect table.now foreign.now parts.old.now)) parts.old parts.new result }
+    ensures { Answers (decide (spec.add_foreign_key by dialect table.now foreign.now parts.old.now))
+        parts.old parts.new result }
 {
     let reserved = are_reserved(by, table, &foreign.name) | is_reserved(by, &foreign.table);
     let absent = nothing_there(reserved);

@@ -48,7 +48,8 @@ pub fn indexes_without(
     indexes: &[Index],
     name: &Name,
 ) -> Result<Items<Index>, NoMemory>
-    ensures { IfOk result (λ kept. kept ≡ filter (λ i. not (is_named name.now i.name)) indexes.now) }
+    ensures { IfOk result
+        (λ kept. kept ≡ filter (λ i. not (is_named name.now i.name)) indexes.now) }
 {
     let mut kept = Items::new(alloc);
     for index in indexes {

@@ -46,7 +46,8 @@ fn all_keyed(alloc: Global, columns: &[Column], key: &Key) -> Result<Items<Colum
 
 /// The table's shape with this key.
 fn with_key(alloc: Global, held: &Held, key: &Key) -> Result<Shape, NoMemory>
-    ensures { IfOk result (λ shape. with_shape shape held.now.now ≡ spec.with_key key.now held.now.now) }
+    ensures { IfOk result
+        (λ shape. with_shape shape held.now.now ≡ spec.with_key key.now held.now.now) }
 {
     let mut shape = held.shape().duplicate(alloc)?;
     shape.columns = all_keyed(alloc, held.columns(), key)?;
@@ -64,7 +65,8 @@ pub fn add_primary_key(
     key: &Key,
 ) -> Result<u64, RunFault>
     requires { IsSound dialect parts.old.now }
-    ensures { Answers (decide (spec.add_primary_key by dialect table.now key.now parts.old.now)) parts.old parts.new result }
+    ensures { Answers (decide (spec.add_primary_key by dialect table.now key.now parts.old.now))
+        parts.old parts.new result }
 {
     let reserved = are_reserved(by, table, &key.name);
     let Some(held) = parts.table(table) else {

@@ -25,7 +25,9 @@ pub fn same_names(a: &[Name], b: &[Name]) -> bool
 }
 
 fn is_of_key(targets: &[Name], key: Option<&Key>) -> bool
-    ensures { result ≡ list_any (λ k. spaces.same_names targets.now k.columns) (key_list (option_copied key.entry)) }
+    ensures { result
+        ≡ list_any (λ k. spaces.same_names targets.now k.columns)
+        (key_list (option_copied key.entry)) }
 {
     match key {
         Some(key) => same_names(targets, key.columns.as_slice()),
@@ -43,7 +45,11 @@ fn is_of_unique(targets: &[Name], uniques: &[Unique]) -> bool
 
 /// Whether a foreign key may target these columns of a table of this key and these unique constraints.
 pub fn is_target(targets: &[Name], key: Option<&Key>, uniques: &[Unique]) -> bool
-    ensures { result ≡ (list_any (λ k. spaces.same_names targets.now k.columns) (key_list (option_copied key.entry)) || list_any (λ u. spaces.same_names targets.now u.columns) uniques.now) }
+    ensures { result
+        ≡
+        (list_any (λ k. spaces.same_names targets.now k.columns)
+        (key_list (option_copied key.entry))
+        || list_any (λ u. spaces.same_names targets.now u.columns) uniques.now) }
 {
     is_of_key(targets, key) || is_of_unique(targets, uniques)
 }
@@ -77,7 +83,8 @@ fn entry_aims_in_vain(table: &Name, shape: &Shape, entry: &(Name, Held)) -> bool
 }
 
 fn one_aims_in_vain(table: &Name, shape: &Shape, tables: &[(Name, Held)]) -> bool
-    ensures { result ≡ list_any (λ e. any_aims_in_vain table.now shape.now e.0 e.1.now.foreign) tables.now }
+    ensures { result
+        ≡ list_any (λ e. any_aims_in_vain table.now shape.now e.0 e.1.now.foreign) tables.now }
 {
     tables
         .iter()
@@ -87,7 +94,9 @@ fn one_aims_in_vain(table: &Name, shape: &Shape, tables: &[(Name, Held)]) -> boo
 /// Whether a foreign key loses its targets where the table gets this shape. It looks at all tables.
 #[tactic(auto, using(lq_model::proofs::Lists::any_mapped))]
 pub fn loses_target(parts: &Parts, table: &Name, shape: &Shape) -> bool
-    ensures { result ≡ list_any (λ e. any_aims_in_vain table.now shape.now e.0 e.1.foreign) parts.now.now.tables }
+    ensures { result
+        ≡ list_any (λ e. any_aims_in_vain table.now shape.now e.0 e.1.foreign)
+        parts.now.now.tables }
 {
     one_aims_in_vain(table, shape, parts.tables())
 }

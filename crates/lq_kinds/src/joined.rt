@@ -66,7 +66,9 @@ fn joined_with(
     notes: Notes,
     sums: Sums,
 ) -> ChangeSet
-    ensures { sums.sum ≡ sum_of heading.changes → sums.old_sum ≡ old_sum_of heading.changes → result ≡ set_with heading selection running path notes }
+    ensures { sums.sum ≡ sum_of heading.changes
+        → sums.old_sum ≡ old_sum_of heading.changes
+        → result ≡ set_with heading selection running path notes }
 {
     let here = selection.here;
     let (id, author, changes) = heading.into_parts();

@@ -73,7 +73,8 @@ fn data_at(
     dialect: Dialect,
     bytes: &[u8],
 ) -> Result<LoadData, KindFault>
-    ensures read { Reads (within path.now (within (codes "loadData") (load_data bytes.now node.now))) result }
+    ensures read { Reads
+        (within path.now (within (codes "loadData") (load_data bytes.now node.now))) result }
     ensures right { IfOk result (λ x. is_load_for dialect x ≡ true) }
 {
     match data_named(alloc, node, dialect, bytes) {

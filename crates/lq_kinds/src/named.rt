@@ -54,7 +54,9 @@ fn create_table<P: SqlText>(
     dialect: Dialect,
     sql: &P,
 ) -> Result<AnyChange, KindFault>
-    ensures read { Reads (within (codes "createTable") (map_found (λ x. any.CreateTable x) (create_table.create_table node.now))) result }
+    ensures read { Reads
+        (within (codes "createTable")
+        (map_found (λ x. any.CreateTable x) (create_table.create_table node.now))) result }
     ensures right { IfOk result (λ x. is_for dialect x ≡ true) }
 {
     match CreateTable::read(alloc, node, dialect, sql) {
@@ -69,7 +71,9 @@ fn drop_table<P: SqlText>(
     dialect: Dialect,
     sql: &P,
 ) -> Result<AnyChange, KindFault>
-    ensures read { Reads (within (codes "dropTable") (map_found (λ x. any.DropTable x) (drop_table.drop_table node.now))) result }
+    ensures read { Reads
+        (within (codes "dropTable")
+        (map_found (λ x. any.DropTable x) (drop_table.drop_table node.now))) result }
     ensures right { IfOk result (λ x. is_for dialect x ≡ true) }
 {
     match DropTable::read(alloc, node, dialect, sql) {
@@ -84,7 +88,9 @@ fn rename_table<P: SqlText>(
     dialect: Dialect,
     sql: &P,
 ) -> Result<AnyChange, KindFault>
-    ensures read { Reads (within (codes "renameTable") (map_found (λ x. any.RenameTable x) (rename_table.rename_table node.now))) result }
+    ensures read { Reads
+        (within (codes "renameTable")
+        (map_found (λ x. any.RenameTable x) (rename_table.rename_table node.now))) result }
     ensures right { IfOk result (λ x. is_for dialect x ≡ true) }
 {
     match RenameTable::read(alloc, node, dialect, sql) {
@@ -99,7 +105,9 @@ fn add_column<P: SqlText>(
     dialect: Dialect,
     sql: &P,
 ) -> Result<AnyChange, KindFault>
-    ensures read { Reads (within (codes "addColumn") (map_found (λ x. any.AddColumn x) (add_column.add_column node.now))) result }
+    ensures read { Reads
+        (within (codes "addColumn")
+        (map_found (λ x. any.AddColumn x) (add_column.add_column node.now))) result }
     ensures right { IfOk result (λ x. is_for dialect x ≡ true) }
 {
     match AddColumn::read(alloc, node, dialect, sql) {
@@ -114,7 +122,9 @@ fn drop_column<P: SqlText>(
     dialect: Dialect,
     sql: &P,
 ) -> Result<AnyChange, KindFault>
-    ensures read { Reads (within (codes "dropColumn") (map_found (λ x. any.DropColumn x) (drop_column.drop_column node.now))) result }
+    ensures read { Reads
+        (within (codes "dropColumn")
+        (map_found (λ x. any.DropColumn x) (drop_column.drop_column node.now))) result }
     ensures right { IfOk result (λ x. is_for dialect x ≡ true) }
 {
     match DropColumn::read(alloc, node, dialect, sql) {
@@ -129,7 +139,9 @@ fn rename_column<P: SqlText>(
     dialect: Dialect,
     sql: &P,
 ) -> Result<AnyChange, KindFault>
-    ensures read { Reads (within (codes "renameColumn") (map_found (λ x. any.RenameColumn x) (rename_column.rename_column node.now))) result }
+    ensures read { Reads
+        (within (codes "renameColumn")
+        (map_found (λ x. any.RenameColumn x) (rename_column.rename_column node.now))) result }
     ensures right { IfOk result (λ x. is_for dialect x ≡ true) }
 {
     match RenameColumn::read(alloc, node, dialect, sql) {
@@ -144,7 +156,10 @@ fn add_primary_key<P: SqlText>(
     dialect: Dialect,
     sql: &P,
 ) -> Result<AnyChange, KindFault>
-    ensures read { Reads (within (codes "addPrimaryKey") (map_found (λ x. any.AddPrimaryKey x) (add_primary_key.add_primary_key node.now))) result }
+    ensures read { Reads
+        (within (codes "addPrimaryKey")
+        (map_found (λ x. any.AddPrimaryKey x) (add_primary_key.add_primary_key node.now)))
+        result }
     ensures right { IfOk result (λ x. is_for dialect x ≡ true) }
 {
     match AddPrimaryKey::read(alloc, node, dialect, sql) {
@@ -159,7 +174,10 @@ fn drop_primary_key<P: SqlText>(
     dialect: Dialect,
     sql: &P,
 ) -> Result<AnyChange, KindFault>
-    ensures read { Reads (within (codes "dropPrimaryKey") (map_found (λ x. any.DropPrimaryKey x) (drop_primary_key.drop_primary_key node.now))) result }
+    ensures read { Reads
+        (within (codes "dropPrimaryKey")
+        (map_found (λ x. any.DropPrimaryKey x) (drop_primary_key.drop_primary_key node.now)))
+        result }
     ensures right { IfOk result (λ x. is_for dialect x ≡ true) }
 {
     match DropPrimaryKey::read(alloc, node, dialect, sql) {
@@ -174,7 +192,10 @@ fn add_foreign_key<P: SqlText>(
     dialect: Dialect,
     sql: &P,
 ) -> Result<AnyChange, KindFault>
-    ensures read { Reads (within (codes "addForeignKeyConstraint") (map_found (λ x. any.AddForeignKeyConstraint x) (add_foreign_key.add_foreign_key node.now))) result }
+    ensures read { Reads
+        (within (codes "addForeignKeyConstraint")
+        (map_found (λ x. any.AddForeignKeyConstraint x)
+        (add_foreign_key.add_foreign_key node.now))) result }
     ensures right { IfOk result (λ x. is_for dialect x ≡ true) }
 {
     match AddForeignKeyConstraint::read(alloc, node, dialect, sql) {
@@ -189,7 +210,10 @@ fn drop_foreign_key<P: SqlText>(
     dialect: Dialect,
     sql: &P,
 ) -> Result<AnyChange, KindFault>
-    ensures read { Reads (within (codes "dropForeignKeyConstraint") (map_found (λ x. any.DropForeignKeyConstraint x) (drop_foreign_key.drop_foreign_key node.now))) result }
+    ensures read { Reads
+        (within (codes "dropForeignKeyConstraint")
+        (map_found (λ x. any.DropForeignKeyConstraint x)
+        (drop_foreign_key.drop_foreign_key node.now))) result }
     ensures right { IfOk result (λ x. is_for dialect x ≡ true) }
 {
     match DropForeignKeyConstraint::read(alloc, node, dialect, sql) {
@@ -204,7 +228,9 @@ fn add_unique<P: SqlText>(
     dialect: Dialect,
     sql: &P,
 ) -> Result<AnyChange, KindFault>
-    ensures read { Reads (within (codes "addUniqueConstraint") (map_found (λ x. any.AddUniqueConstraint x) (add_unique.add_unique node.now))) result }
+    ensures read { Reads
+        (within (codes "addUniqueConstraint")
+        (map_found (λ x. any.AddUniqueConstraint x) (add_unique.add_unique node.now))) result }
     ensures right { IfOk result (λ x. is_for dialect x ≡ true) }
 {
     match AddUniqueConstraint::read(alloc, node, dialect, sql) {
@@ -219,7 +245,10 @@ fn drop_unique<P: SqlText>(
     dialect: Dialect,
     sql: &P,
 ) -> Result<AnyChange, KindFault>
-    ensures read { Reads (within (codes "dropUniqueConstraint") (map_found (λ x. any.DropUniqueConstraint x) (drop_unique.drop_unique node.now))) result }
+    ensures read { Reads
+        (within (codes "dropUniqueConstraint")
+        (map_found (λ x. any.DropUniqueConstraint x) (drop_unique.drop_unique node.now)))
+        result }
     ensures right { IfOk result (λ x. is_for dialect x ≡ true) }
 {
     match DropUniqueConstraint::read(alloc, node, dialect, sql) {
@@ -234,7 +263,10 @@ fn add_not_null<P: SqlText>(
     dialect: Dialect,
     sql: &P,
 ) -> Result<AnyChange, KindFault>
-    ensures read { Reads (within (codes "addNotNullConstraint") (map_found (λ x. any.AddNotNullConstraint x) (add_not_null.add_not_null dialect node.now))) result }
+    ensures read { Reads
+        (within (codes "addNotNullConstraint")
+        (map_found (λ x. any.AddNotNullConstraint x)
+        (add_not_null.add_not_null dialect node.now))) result }
     ensures right { IfOk result (λ x. is_for dialect x ≡ true) }
 {
     match AddNotNullConstraint::read(alloc, node, dialect, sql) {
@@ -249,7 +281,10 @@ fn drop_not_null<P: SqlText>(
     dialect: Dialect,
     sql: &P,
 ) -> Result<AnyChange, KindFault>
-    ensures read { Reads (within (codes "dropNotNullConstraint") (map_found (λ x. any.DropNotNullConstraint x) (drop_not_null.drop_not_null dialect node.now))) result }
+    ensures read { Reads
+        (within (codes "dropNotNullConstraint")
+        (map_found (λ x. any.DropNotNullConstraint x)
+        (drop_not_null.drop_not_null dialect node.now))) result }
     ensures right { IfOk result (λ x. is_for dialect x ≡ true) }
 {
     match DropNotNullConstraint::read(alloc, node, dialect, sql) {
@@ -264,7 +299,10 @@ fn add_default_value<P: SqlText>(
     dialect: Dialect,
     sql: &P,
 ) -> Result<AnyChange, KindFault>
-    ensures read { Reads (within (codes "addDefaultValue") (map_found (λ x. any.AddDefaultValue x) (add_default_value.add_default_value node.now))) result }
+    ensures read { Reads
+        (within (codes "addDefaultValue")
+        (map_found (λ x. any.AddDefaultValue x) (add_default_value.add_default_value node.now)))
+        result }
     ensures right { IfOk result (λ x. is_for dialect x ≡ true) }
 {
     match AddDefaultValue::read(alloc, node, dialect, sql) {
@@ -279,7 +317,10 @@ fn drop_default_value<P: SqlText>(
     dialect: Dialect,
     sql: &P,
 ) -> Result<AnyChange, KindFault>
-    ensures read { Reads (within (codes "dropDefaultValue") (map_found (λ x. any.DropDefaultValue x) (drop_default_value.drop_default_value node.now))) result }
+    ensures read { Reads
+        (within (codes "dropDefaultValue")
+        (map_found (λ x. any.DropDefaultValue x)
+        (drop_default_value.drop_default_value node.now))) result }
     ensures right { IfOk result (λ x. is_for dialect x ≡ true) }
 {
     match DropDefaultValue::read(alloc, node, dialect, sql) {
@@ -294,7 +335,9 @@ fn create_index<P: SqlText>(
     dialect: Dialect,
     sql: &P,
 ) -> Result<AnyChange, KindFault>
-    ensures read { Reads (within (codes "createIndex") (map_found (λ x. any.CreateIndex x) (create_index.create_index node.now))) result }
+    ensures read { Reads
+        (within (codes "createIndex")
+        (map_found (λ x. any.CreateIndex x) (create_index.create_index node.now))) result }
     ensures right { IfOk result (λ x. is_for dialect x ≡ true) }
 {
     match CreateIndex::read(alloc, node, dialect, sql) {
@@ -309,7 +352,9 @@ fn drop_index<P: SqlText>(
     dialect: Dialect,
     sql: &P,
 ) -> Result<AnyChange, KindFault>
-    ensures read { Reads (within (codes "dropIndex") (map_found (λ x. any.DropIndex x) (drop_index.drop_index node.now))) result }
+    ensures read { Reads
+        (within (codes "dropIndex")
+        (map_found (λ x. any.DropIndex x) (drop_index.drop_index node.now))) result }
     ensures right { IfOk result (λ x. is_for dialect x ≡ true) }
 {
     match DropIndex::read(alloc, node, dialect, sql) {
@@ -325,7 +370,9 @@ fn create_view<P: SqlText>(
     sql: &P,
 ) -> Result<AnyChange, KindFault>
     requires same { P.dialect ≡ dialect }
-    ensures read { Reads (within (codes "createView") (map_found (λ x. any.CreateView x) (create_view.create_view dialect node.now))) result }
+    ensures read { Reads
+        (within (codes "createView")
+        (map_found (λ x. any.CreateView x) (create_view.create_view dialect node.now))) result }
     ensures right { IfOk result (λ x. is_for dialect x ≡ true) }
 {
     match CreateView::read(alloc, node, dialect, sql) {
@@ -340,7 +387,9 @@ fn drop_view<P: SqlText>(
     dialect: Dialect,
     sql: &P,
 ) -> Result<AnyChange, KindFault>
-    ensures read { Reads (within (codes "dropView") (map_found (λ x. any.DropView x) (drop_view.drop_view node.now))) result }
+    ensures read { Reads
+        (within (codes "dropView") (map_found (λ x. any.DropView x) (drop_view.drop_view node.now)))
+        result }
     ensures right { IfOk result (λ x. is_for dialect x ≡ true) }
 {
     match DropView::read(alloc, node, dialect, sql) {
@@ -355,7 +404,9 @@ fn rename_view<P: SqlText>(
     dialect: Dialect,
     sql: &P,
 ) -> Result<AnyChange, KindFault>
-    ensures read { Reads (within (codes "renameView") (map_found (λ x. any.RenameView x) (rename_view.rename_view node.now))) result }
+    ensures read { Reads
+        (within (codes "renameView")
+        (map_found (λ x. any.RenameView x) (rename_view.rename_view node.now))) result }
     ensures right { IfOk result (λ x. is_for dialect x ≡ true) }
 {
     match RenameView::read(alloc, node, dialect, sql) {
@@ -370,7 +421,10 @@ fn create_sequence<P: SqlText>(
     dialect: Dialect,
     sql: &P,
 ) -> Result<AnyChange, KindFault>
-    ensures read { Reads (within (codes "createSequence") (map_found (λ x. any.CreateSequence x) (create_sequence.create_sequence dialect node.now))) result }
+    ensures read { Reads
+        (within (codes "createSequence")
+        (map_found (λ x. any.CreateSequence x)
+        (create_sequence.create_sequence dialect node.now))) result }
     ensures right { IfOk result (λ x. is_for dialect x ≡ true) }
 {
     match CreateSequence::read(alloc, node, dialect, sql) {
@@ -385,7 +439,10 @@ fn drop_sequence<P: SqlText>(
     dialect: Dialect,
     sql: &P,
 ) -> Result<AnyChange, KindFault>
-    ensures read { Reads (within (codes "dropSequence") (map_found (λ x. any.DropSequence x) (drop_sequence.drop_sequence dialect node.now))) result }
+    ensures read { Reads
+        (within (codes "dropSequence")
+        (map_found (λ x. any.DropSequence x) (drop_sequence.drop_sequence dialect node.now)))
+        result }
     ensures right { IfOk result (λ x. is_for dialect x ≡ true) }
 {
     match DropSequence::read(alloc, node, dialect, sql) {
@@ -400,7 +457,10 @@ fn rename_sequence<P: SqlText>(
     dialect: Dialect,
     sql: &P,
 ) -> Result<AnyChange, KindFault>
-    ensures read { Reads (within (codes "renameSequence") (map_found (λ x. any.RenameSequence x) (rename_sequence.rename_sequence dialect node.now))) result }
+    ensures read { Reads
+        (within (codes "renameSequence")
+        (map_found (λ x. any.RenameSequence x)
+        (rename_sequence.rename_sequence dialect node.now))) result }
     ensures right { IfOk result (λ x. is_for dialect x ≡ true) }
 {
     match RenameSequence::read(alloc, node, dialect, sql) {
@@ -415,7 +475,9 @@ fn insert<P: SqlText>(
     dialect: Dialect,
     sql: &P,
 ) -> Result<AnyChange, KindFault>
-    ensures read { Reads (within (codes "insert") (map_found (λ x. any.Insert x) (insert.an_insert node.now))) result }
+    ensures read { Reads
+        (within (codes "insert") (map_found (λ x. any.Insert x) (insert.an_insert node.now)))
+        result }
     ensures right { IfOk result (λ x. is_for dialect x ≡ true) }
 {
     match Insert::read(alloc, node, dialect, sql) {
@@ -431,7 +493,9 @@ fn update<P: SqlText>(
     sql: &P,
 ) -> Result<AnyChange, KindFault>
     requires same { P.dialect ≡ dialect }
-    ensures read { Reads (within (codes "update") (map_found (λ x. any.Update x) (update.an_update dialect node.now))) result }
+    ensures read { Reads
+        (within (codes "update")
+        (map_found (λ x. any.Update x) (update.an_update dialect node.now))) result }
     ensures right { IfOk result (λ x. is_for dialect x ≡ true) }
 {
     match Update::read(alloc, node, dialect, sql) {
@@ -447,7 +511,9 @@ fn delete<P: SqlText>(
     sql: &P,
 ) -> Result<AnyChange, KindFault>
     requires same { P.dialect ≡ dialect }
-    ensures read { Reads (within (codes "delete") (map_found (λ x. any.Delete x) (delete.a_delete dialect node.now))) result }
+    ensures read { Reads
+        (within (codes "delete") (map_found (λ x. any.Delete x) (delete.a_delete dialect node.now)))
+        result }
     ensures right { IfOk result (λ x. is_for dialect x ≡ true) }
 {
     match Delete::read(alloc, node, dialect, sql) {
@@ -463,7 +529,9 @@ fn sql_text<P: SqlText>(
     sql: &P,
 ) -> Result<AnyChange, KindFault>
     requires same { P.dialect ≡ dialect }
-    ensures read { Reads (within (codes "sql") (map_found (λ x. any.Sql x) (sql_text.a_sql dialect node.now))) result }
+    ensures read { Reads
+        (within (codes "sql") (map_found (λ x. any.Sql x) (sql_text.a_sql dialect node.now)))
+        result }
     ensures right { IfOk result (λ x. is_for dialect x ≡ true) }
 {
     match Sql::read(alloc, node, dialect, sql) {
@@ -478,7 +546,9 @@ fn tag_database<P: SqlText>(
     dialect: Dialect,
     sql: &P,
 ) -> Result<AnyChange, KindFault>
-    ensures read { Reads (within (codes "tagDatabase") (map_found (λ x. any.TagDatabase x) (tag_database.a_tag_database node.now))) result }
+    ensures read { Reads
+        (within (codes "tagDatabase")
+        (map_found (λ x. any.TagDatabase x) (tag_database.a_tag_database node.now))) result }
     ensures right { IfOk result (λ x. is_for dialect x ≡ true) }
 {
     match TagDatabase::read(alloc, node, dialect, sql) {
@@ -493,7 +563,8 @@ fn empty<P: SqlText>(
     dialect: Dialect,
     sql: &P,
 ) -> Result<AnyChange, KindFault>
-    ensures read { Reads (within (codes "empty") (map_found (λ x. any.Empty x) (empty.an_empty node.now))) result }
+    ensures read { Reads
+        (within (codes "empty") (map_found (λ x. any.Empty x) (empty.an_empty node.now))) result }
     ensures right { IfOk result (λ x. is_for dialect x ≡ true) }
 {
     match Empty::read(alloc, node, dialect, sql) {

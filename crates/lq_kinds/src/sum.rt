@@ -17,7 +17,8 @@ pub struct Sums {
 }
 
 fn write_each(canon: &mut Canon, changes: &[AnyChange]) -> Result<(), NoMemory>
-    ensures written { OnOk result (canon.new.written ≡ canon.old.written ++ canonical_each (map canonical_of changes.now)) }
+    ensures written { OnOk result
+        (canon.new.written ≡ canon.old.written ++ canonical_each (map canonical_of changes.now)) }
     ensures begun { OnOk result (canon.new.begun ≡ canon.old.begun) }
 {
     let mut rest = changes;
@@ -29,7 +30,8 @@ fn write_each(canon: &mut Canon, changes: &[AnyChange]) -> Result<(), NoMemory>
 }
 
 fn canonical_text(alloc: Global, changes: &[AnyChange]) -> Result<Canon, NoMemory>
-    ensures written { IfOk result (λ canon. canon.written ≡ canonical_changes (map canonical_of changes.now)) }
+    ensures written { IfOk result
+        (λ canon. canon.written ≡ canonical_changes (map canonical_of changes.now)) }
     ensures finished { IfOk result IsFinished }
 {
     let mut canon = Canon::new(alloc);

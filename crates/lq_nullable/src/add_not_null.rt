@@ -75,7 +75,8 @@ impl AddNotNullConstraint {
 
     // Fills the nulls with the value.
     fn fill(&self, alloc: Global, value: &Text) -> Result<Statement, NoMemory>
-        ensures { IfOk result (λ made. fills self.now.table_name self.now.column_name (Some value.now) ≡ made ∷ []) }
+        ensures { IfOk result
+            (λ made. fills self.now.table_name self.now.column_name (Some value.now) ≡ made ∷ []) }
     {
         let names = both(
             self.table_name.duplicate(alloc),

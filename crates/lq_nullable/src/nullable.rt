@@ -33,7 +33,8 @@ pub(crate) fn allowing(
     stated: Option<Kind>,
     nullable: bool,
 ) -> Result<Statement, NoMemory>
-    ensures { IfOk result (λ made. made ≡ allowing dialect table.now column.now (kind_stated stated) nullable) }
+    ensures { IfOk result
+        (λ made. made ≡ allowing dialect table.now column.now (kind_stated stated) nullable) }
 {
     let (table, column) = both(table.duplicate(alloc), column.duplicate(alloc))?;
     match dialect {

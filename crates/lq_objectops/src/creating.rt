@@ -29,7 +29,8 @@ use std::alloc::Global;
 /// Whether a column that a view lists is not there.
 #[tactic(auto, using(lq_query::proofs::Listed::lacks_none))]
 fn lacks_listed(alloc: Global, columns: &[Column], wanted: &Wanted) -> Result<bool, NoMemory>
-    ensures { IfOk result (λ lacks. lacks ≡ query.lacks_column columns.now (query.listed wanted.now columns.now)) }
+    ensures { IfOk result
+        (λ lacks. lacks ≡ query.lacks_column columns.now (query.listed wanted.now columns.now)) }
 {
     match wanted {
         Wanted::All => Ok(false),
@@ -62,7 +63,10 @@ fn lacks_tested(columns: &[Column], test: &Option<Test>) -> bool
 
 /// Whether a view counts, or its test compares what may not be compared.
 fn is_wrong(columns: &[Column], query: &Query) -> bool
-    ensures { result ≡ (spec.is_count query.now.wanted || comparison.compares_wrongly columns.now query.now.test) }
+    ensures { result
+        ≡
+        (spec.is_count query.now.wanted
+        || comparison.compares_wrongly columns.now query.now.test) }
 {
     if matches!(query.wanted, Wanted::Count) {
         return true;
@@ -75,7 +79,12 @@ fn is_wrong(columns: &[Column], query: &Query) -> bool
 
 /// Whether a statement may not make the view: over a view that it replaces it makes no name.
 fn is_taken_view(parts: &Parts, by: By, dialect: Dialect, view: &Name, replace: bool) -> bool
-    ensures { result ≡ (not (replace && is_some (view_of parts.now.now view.now)) && (spaces.is_taken dialect view.now parts.now.now || reserved.takes_lock_key by dialect (view.now ∷ []))) }
+    ensures { result
+        ≡
+        (not (replace && is_some (view_of parts.now.now view.now))
+        &&
+        (spaces.is_taken dialect view.now parts.now.now
+        || reserved.takes_lock_key by dialect (view.now ∷ []))) }
 {
     if replace && parts.view(view).is_some() {
         return false;
@@ -93,7 +102,11 @@ fn create_tests(
     replace: bool,
 ) -> Result<Tests, NoMemory>
     requires { IsSound dialect parts.now.now }
-    ensures { IfOk result (λ tests. verdict_of tests ≡ verdict_of (tests_of (spec.create_view by dialect view.now query.now replace parts.now.now) no_faults)) }
+    ensures { IfOk result (λ tests.
+        verdict_of tests
+        ≡ verdict_of
+        (tests_of (spec.create_view by dialect view.now query.now replace parts.now.now)
+        no_faults)) }
 {
     let reserved = are_reserved(by, view, &query.table);
     let Some(held) = parts.table(&query.table) else {
@@ -152,7 +165,8 @@ fn view_on(alloc: Global, columns: &[Column], query: &Query) -> Result<View, NoM
 /// The view that the query makes.
 fn new_view(alloc: Global, parts: &Parts, query: &Query) -> Result<View, NoMemory>
     requires { is_some (table_of parts.now.now query.now.table) ≡ true }
-    ensures { IfOk result (λ view. view ≡ spec.new_view query.now (the_table parts.now.now query.now.table)) }
+    ensures { IfOk result
+        (λ view. view ≡ spec.new_view query.now (the_table parts.now.now query.now.table)) }
 {
     match parts.table(&query.table) {
         Some(held) => view_on(alloc, held.columns(), query),
@@ -186,7 +200,9 @@ pub fn create_view(
     replace: bool,
 ) -> Result<u64, RunFault>
     requires { IsSound dialect parts.old.now }
-    ensures { Answers (decide (spec.create_view by dialect view.now query.now replace parts.old.now)) parts.old parts.new result }
+    ensures { Answers
+        (decide (spec.create_view by dialect view.now query.now replace parts.old.now)) parts.old
+        parts.new result }
 {
     let tests = create_tests(parts, alloc, by, dialect, view, query, replace)?;
     match tests.verdict() {

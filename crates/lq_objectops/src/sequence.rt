@@ -16,7 +16,11 @@ use lq_query::is_reserved;
 use std::alloc::Global;
 
 fn create_tests(parts: &Parts, by: By, dialect: Dialect, name: &Name) -> Tests
-    ensures { (start step : ℤ) → verdict_of result ≡ verdict_of (tests_of (spec.create_sequence by dialect name.now start step parts.now.now) no_faults) }
+    ensures { (start step : ℤ)
+        → verdict_of result
+        ≡ verdict_of
+        (tests_of (spec.create_sequence by dialect name.now start step parts.now.now)
+        no_faults) }
 {
     Tests {
         reserved: is_reserved(by, name),
@@ -36,7 +40,8 @@ pub fn create_sequence(
     step: i128,
 ) -> Result<u64, RunFault>
     requires { IsSound dialect parts.old.now }
-    ensures { Answers (decide (spec.create_sequence by dialect name.now start step parts.old.now)) parts.old parts.new result }
+    ensures { Answers (decide (spec.create_sequence by dialect name.now start step parts.old.now))
+        parts.old parts.new result }
 {
     let tests = create_tests(parts, by, dialect, name);
     match tests.verdict() {
@@ -49,7 +54,8 @@ pub fn create_sequence(
 }
 
 fn drop_tests(parts: &Parts, by: By, dialect: Dialect, name: &Name) -> Tests
-    ensures { verdict_of result ≡ verdict_of (tests_of (spec.drop_sequence by dialect name.now parts.now.now) no_faults) }
+    ensures { verdict_of result
+        ≡ verdict_of (tests_of (spec.drop_sequence by dialect name.now parts.now.now) no_faults) }
 {
     let _ = dialect;
     Tests {
@@ -67,7 +73,8 @@ pub fn drop_sequence(
     name: &Name,
 ) -> Result<u64, RunFault>
     requires { IsSound dialect parts.old.now }
-    ensures { Answers (decide (spec.drop_sequence by dialect name.now parts.old.now)) parts.old parts.new result }
+    ensures { Answers (decide (spec.drop_sequence by dialect name.now parts.old.now)) parts.old
+        parts.new result }
 {
     let tests = drop_tests(parts, by, dialect, name);
     match tests.verdict() {
@@ -79,7 +86,9 @@ pub fn drop_sequence(
 }
 
 fn rename_tests(parts: &Parts, by: By, dialect: Dialect, name: &Name, to: &Name) -> Tests
-    ensures { verdict_of result ≡ verdict_of (tests_of (spec.rename_sequence by dialect name.now to.now parts.now.now) no_faults) }
+    ensures { verdict_of result
+        ≡ verdict_of
+        (tests_of (spec.rename_sequence by dialect name.now to.now parts.now.now) no_faults) }
 {
     Tests {
         reserved: are_reserved(by, name, to),
@@ -110,7 +119,8 @@ pub fn rename_sequence(
     to: &Name,
 ) -> Result<u64, RunFault>
     requires { IsSound dialect parts.old.now }
-    ensures { Answers (decide (spec.rename_sequence by dialect name.now to.now parts.old.now)) parts.old parts.new result }
+    ensures { Answers (decide (spec.rename_sequence by dialect name.now to.now parts.old.now))
+        parts.old parts.new result }
 {
     let tests = rename_tests(parts, by, dialect, name, to);
     match tests.verdict() {

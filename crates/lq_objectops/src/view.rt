@@ -17,7 +17,8 @@ use lq_query::is_reserved;
 use std::alloc::Global;
 
 fn drop_tests(parts: &Parts, by: By, dialect: Dialect, view: &Name) -> Tests
-    ensures { verdict_of result ≡ verdict_of (tests_of (spec.drop_view by dialect view.now parts.now.now) no_faults) }
+    ensures { verdict_of result
+        ≡ verdict_of (tests_of (spec.drop_view by dialect view.now parts.now.now) no_faults) }
 {
     let _ = dialect;
     Tests {
@@ -30,7 +31,8 @@ fn drop_tests(parts: &Parts, by: By, dialect: Dialect, view: &Name) -> Tests
 /// DROP VIEW on a sound catalogue, on someone's behalf.
 pub fn drop_view(parts: &mut Parts, by: By, dialect: Dialect, view: &Name) -> Result<u64, RunFault>
     requires { IsSound dialect parts.old.now }
-    ensures { Answers (decide (spec.drop_view by dialect view.now parts.old.now)) parts.old parts.new result }
+    ensures { Answers (decide (spec.drop_view by dialect view.now parts.old.now)) parts.old
+        parts.new result }
 {
     let tests = drop_tests(parts, by, dialect, view);
     match tests.verdict() {
@@ -42,7 +44,9 @@ pub fn drop_view(parts: &mut Parts, by: By, dialect: Dialect, view: &Name) -> Re
 }
 
 fn rename_tests(parts: &Parts, by: By, dialect: Dialect, view: &Name, to: &Name) -> Tests
-    ensures { verdict_of result ≡ verdict_of (tests_of (renaming.rename_view by dialect view.now to.now parts.now.now) no_faults) }
+    ensures { verdict_of result
+        ≡ verdict_of
+        (tests_of (renaming.rename_view by dialect view.now to.now parts.now.now) no_faults) }
 {
     Tests {
         reserved: are_reserved(by, view, to),
@@ -73,7 +77,8 @@ pub fn rename_view(
     to: &Name,
 ) -> Result<u64, RunFault>
     requires { IsSound dialect parts.old.now }
-    ensures { Answers (decide (renaming.rename_view by dialect view.now to.now parts.old.now)) parts.old parts.new result }
+    ensures { Answers (decide (renaming.rename_view by dialect view.now to.now parts.old.now))
+        parts.old parts.new result }
 {
     let tests = rename_tests(parts, by, dialect, view, to);
     match tests.verdict() {

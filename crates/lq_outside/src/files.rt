@@ -47,7 +47,8 @@ pub trait Files {
     /// folder and a `/`. The empty text is the current folder, under which lie the paths that do not
     /// begin with a `/`. The answer is empty where there is no such folder.
     fn list(&mut self, folder: &str) -> Result<Items<Text>, FilesFault>
-        ensures listing { IfSome (told self.old) (λ files. IfOk result (IsListing files folder.now)) }
+        ensures listing { IfSome (told self.old)
+            (λ files. IfOk result (IsListing files folder.now)) }
         ensures told { told self.new ≡ told self.old }
         ensures later { faults self.old ≤ faults self.new }
         ensures failed { IsErrOf result Failed → Rose (faults self.old) (faults self.new) }

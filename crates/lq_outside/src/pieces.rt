@@ -23,7 +23,8 @@ fn write_some<'a, S: Sink>(to: &mut S, piece: &'a [u8]) -> Result<&'a [u8], Sink
 /// written.
 #[tactic(auto, using(crate::proofs::Taking::took_more, crate::proofs::Taking::took_all, crate::proofs::Taking::took_part))]
 pub fn write_all<S: Sink>(to: &mut S, piece: &[u8]) -> Result<(), SinkFailed>
-    ensures whole { OnOk result (S.told to.new ≡ option_map (λ before. before ++ piece.now) (S.told to.old)) }
+    ensures whole { OnOk result
+        (S.told to.new ≡ option_map (λ before. before ++ piece.now) (S.told to.old)) }
     ensures part { IsPart piece.now (S.told to.old) (S.told to.new) }
     ensures faults { CountsFault result (S.faults to.old) (S.faults to.new) }
 {

@@ -37,9 +37,14 @@ impl Sink for SureSink {
     ghost faults = { λ sink. sink.faults };
 
     fn write(&mut self, piece: &[u8]) -> Result<usize, SinkFailed>
-        ensures told { IfOk result (λ taken. ⟦<SureSink as Sink>⟧.told self.new ≡ option_map (λ before. before ++ take taken piece.now) (⟦<SureSink as Sink>⟧.told self.old)) }
-        ensures failed { OnErr result (⟦<SureSink as Sink>⟧.told self.new ≡ ⟦<SureSink as Sink>⟧.told self.old) }
-        ensures faults { CountsFault result (⟦<SureSink as Sink>⟧.faults self.old) (⟦<SureSink as Sink>⟧.faults self.new) }
+        ensures told { IfOk result (λ taken.
+            ⟦<SureSink as Sink>⟧.told self.new
+            ≡ option_map (λ before. before ++ take taken piece.now)
+            (⟦<SureSink as Sink>⟧.told self.old)) }
+        ensures failed { OnErr result
+            (⟦<SureSink as Sink>⟧.told self.new ≡ ⟦<SureSink as Sink>⟧.told self.old) }
+        ensures faults { CountsFault result (⟦<SureSink as Sink>⟧.faults self.old)
+            (⟦<SureSink as Sink>⟧.faults self.new) }
         ensures whole { IfOk result (λ taken. taken ≡ length piece.now) }
     {
         if self.bytes.extend_from_slice(piece).is_err() {

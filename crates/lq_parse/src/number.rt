@@ -14,7 +14,8 @@ const MOST: u128 = 1 << 127;
 // The number that decimal digits write, where it is at most 2^127.
 fn magnitude_of(digits: &[u8]) -> Option<u128>
     requires { list_all is_ascii_digit digits.now ≡ true }
-    ensures { MatchOption result (2 ^ 127 < digits_value 10 digits.now) (λ n. (n ≡ digits_value 10 digits.now) × (n ≤ 2 ^ 127)) }
+    ensures { MatchOption result (2 ^ 127 < digits_value 10 digits.now)
+        (λ n. (n ≡ digits_value 10 digits.now) × (n ≤ 2 ^ 127)) }
 {
     let mut value: u128 = 0;
     let mut rest = digits;
@@ -33,7 +34,9 @@ fn magnitude_of(digits: &[u8]) -> Option<u128>
 
 fn signed_of(negative: bool, magnitude: u128) -> Option<i128>
     requires { magnitude ≤ 2 ^ 127 }
-    ensures { result ≡ cond (is_literal (constant.Int (signed negative magnitude))) (Some (signed negative magnitude)) None }
+    ensures { result
+        ≡ cond (is_literal (constant.Int (signed negative magnitude)))
+        (Some (signed negative magnitude)) None }
 {
     if magnitude == MOST {
         if negative { Some(i128::MIN) } else { None }

@@ -15,7 +15,9 @@ fn is_spelled(spelling: &[u8], bytes: &[u8]) -> bool
 }
 
 fn kind_in(mut spellings: &[(&[u8], WordKind)], other: WordKind, bytes: &[u8]) -> WordKind
-    ensures { result ≡ spec.kind_in (map (λ spelling. (spelling.0.now, spelling.1)) spellings.entry.now) other bytes.now }
+    ensures { result
+        ≡ spec.kind_in (map (λ spelling. (spelling.0.now, spelling.1)) spellings.entry.now) other
+        bytes.now }
 {
     while let [spelling, more @ ..] = spellings {
         if is_spelled(spelling.0, bytes) {

@@ -119,7 +119,9 @@ fn conjunction(
 ) -> Result<Boxed<Test>, ParseFault>
     requires bounded { turns ≤ 64 }
     requires deep { 64 ≤ levels left + turns }
-    ensures { ReadsUpTo 64 (joined test.And word.And (spec.term (spec.primary parentheses)) left words.old) result words.new }
+    ensures { ReadsUpTo 64
+        (joined test.And word.And (spec.term (spec.primary parentheses)) left words.old) result
+        words.new }
 {
     if !words.eat(WordKind::And) {
         return Ok(left);
@@ -155,7 +157,9 @@ fn disjunction(
 ) -> Result<Boxed<Test>, ParseFault>
     requires bounded { turns ≤ 64 }
     requires deep { 64 ≤ levels left + turns }
-    ensures { ReadsUpTo 64 (joined test.Or word.Or (spec.product (spec.primary parentheses)) left words.old) result words.new }
+    ensures { ReadsUpTo 64
+        (joined test.Or word.Or (spec.product (spec.primary parentheses)) left words.old) result
+        words.new }
 {
     if !words.eat(WordKind::Or) {
         return Ok(left);

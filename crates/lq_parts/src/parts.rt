@@ -150,7 +150,8 @@ impl Parts {
         columns: &[Name],
         values: &Values,
     ) -> Result<bool, NoMemory>
-        ensures found { IfOk result (λ found. found ≡ has_values_in columns.now values.now (the_table self.old.now table.now)) }
+        ensures found { IfOk result (λ found.
+            found ≡ has_values_in columns.now values.now (the_table self.old.now table.now)) }
         ensures same { self.new ≡ self.old }
     {
         self.tables.has_row(alloc, table, columns, values)
@@ -159,7 +160,8 @@ impl Parts {
     /// Whether a row of the table is equal to this one in a key, a unique constraint or a unique index.
     pub fn is_twin(&mut self, alloc: Global, table: &Name, row: &[Value]) -> Result<bool, NoMemory>
         requires { is_some (table_of self.old.now table.now) ≡ true }
-        ensures found { IfOk result (λ found. found ≡ is_twin (the_table self.old.now table.now) row.now) }
+        ensures found { IfOk result
+            (λ found. found ≡ is_twin (the_table self.old.now table.now) row.now) }
         ensures same { self.new ≡ self.old }
     {
         self.tables.is_twin(alloc, table, row)
@@ -175,7 +177,8 @@ impl Parts {
 
     /// Whether the key, a unique constraint or an index of one of the tables has the name.
     fn has_inner_name(&mut self, name: &Name) -> Result<bool, NoMemory>
-        ensures found { IfOk result (λ found. found ≡ is_in name.now (flat_map (λ e. inner_names e.1) self.old.now.tables)) }
+        ensures found { IfOk result (λ found.
+            found ≡ is_in name.now (flat_map (λ e. inner_names e.1) self.old.now.tables)) }
         ensures same { self.new ≡ self.old }
     {
         self.names.has_inner(self.tables.entries(), name)
@@ -194,14 +197,16 @@ impl Parts {
 
     /// Whether a foreign key of one of the tables has the name, as fast.
     pub fn has_foreign_name(&mut self, name: &Name) -> Result<bool, NoMemory>
-        ensures found { IfOk result (λ found. found ≡ is_in name.now (all_foreign_names self.old.now)) }
+        ensures found { IfOk result
+            (λ found. found ≡ is_in name.now (all_foreign_names self.old.now)) }
         ensures same { self.new ≡ self.old }
     {
         self.names.has_foreign(self.tables.entries(), name)
     }
 
     fn knows_inner_name(&self, name: &Name) -> Option<bool>
-        ensures { IfSome result (λ found. found ≡ is_in name.now (flat_map (λ e. inner_names e.1) self.now.now.tables)) }
+        ensures { IfSome result (λ found.
+            found ≡ is_in name.now (flat_map (λ e. inner_names e.1) self.now.now.tables)) }
     {
         self.names.knows_inner(name)
     }
@@ -231,7 +236,8 @@ impl Parts {
     /// Puts a new table at its name, or changes nothing.
     pub fn put_table(&mut self, name: Name, held: Held) -> Result<(), NoMemory>
         requires { table_of self.old.now name ≡ None }
-        ensures ok { OnOk result (self.new ≡ changed self.old (with_new self.old.now name held.now)) }
+        ensures ok { OnOk result
+            (self.new ≡ changed self.old (with_new self.old.now name held.now)) }
         ensures err { OnErr result (self.new ≡ self.old) }
     {
         self.done.reserve(1)?;
@@ -251,7 +257,8 @@ impl Parts {
     /// Takes the table of the name away, or changes nothing.
     pub fn take_table(&mut self, name: &Name) -> Result<(), NoMemory>
         requires { is_some (table_of self.old.now name.now) ≡ true }
-        ensures ok { OnOk result (self.new ≡ changed self.old (without_table self.old.now name.now)) }
+        ensures ok { OnOk result
+            (self.new ≡ changed self.old (without_table self.old.now name.now)) }
         ensures err { OnErr result (self.new ≡ self.old) }
     {
         self.done.reserve(1)?;
@@ -266,7 +273,8 @@ impl Parts {
     pub fn rename_table(&mut self, name: &Name, to: Name) -> Result<(), NoMemory>
         requires there { is_some (table_of self.old.now name.now) ≡ true }
         requires absent { table_of self.old.now to ≡ None }
-        ensures ok { OnOk result (self.new ≡ changed self.old (with_renamed self.old.now name.now to)) }
+        ensures ok { OnOk result
+            (self.new ≡ changed self.old (with_renamed self.old.now name.now to)) }
         ensures err { OnErr result (self.new ≡ self.old) }
     {
         self.done.reserve(1)?;
@@ -279,7 +287,11 @@ impl Parts {
     /// Gives the table other columns, constraints and indexes, its rows as they are, or changes nothing.
     pub fn shape_table(&mut self, name: &Name, shape: Shape) -> Result<(), NoMemory>
         requires { is_some (table_of self.old.now name.now) ≡ true }
-        ensures ok { OnOk result (self.new ≡ changed self.old (with_table self.old.now name.now (with_shape shape (the_table self.old.now name.now)))) }
+        ensures ok { OnOk result
+            (self.new
+            ≡ changed self.old
+            (with_table self.old.now name.now
+            (with_shape shape (the_table self.old.now name.now)))) }
         ensures err { OnErr result (self.new ≡ self.old) }
     {
         self.done.reserve(1)?;
@@ -305,7 +317,11 @@ impl Parts {
         next: u64,
     ) -> Result<(), NoMemory>
         requires { is_some (table_of self.old.now name.now) ≡ true }
-        ensures ok { OnOk result (self.new ≡ changed self.old (with_table self.old.now name.now (with_row row next (the_table self.old.now name.now)))) }
+        ensures ok { OnOk result
+            (self.new
+            ≡ changed self.old
+            (with_table self.old.now name.now
+            (with_row row next (the_table self.old.now name.now)))) }
         ensures err { OnErr result (self.new ≡ self.old) }
     {
         self.done.reserve(1)?;
@@ -323,7 +339,11 @@ impl Parts {
     ) -> Result<(), NoMemory>
         requires there { is_some (table_of self.old.now name.now) ≡ true }
         requires each { length by.items ≡ length (the_table self.old.now name.now).rows }
-        ensures ok { OnOk result (self.new ≡ changed self.old (with_table self.old.now name.now (with_all (replaced by.items) (the_table self.old.now name.now)))) }
+        ensures ok { OnOk result
+            (self.new
+            ≡ changed self.old
+            (with_table self.old.now name.now
+            (with_all (replaced by.items) (the_table self.old.now name.now)))) }
         ensures err { OnErr result (self.new ≡ self.old) }
     {
         self.done.reserve(1)?;
@@ -336,7 +356,11 @@ impl Parts {
     pub fn keep(&mut self, alloc: Global, name: &Name, marks: Vec<bool>) -> Result<(), NoMemory>
         requires there { is_some (table_of self.old.now name.now) ≡ true }
         requires each { length marks.items ≡ length (the_table self.old.now name.now).rows }
-        ensures ok { OnOk result (self.new ≡ changed self.old (with_table self.old.now name.now (with_all (kept_rows marks.items) (the_table self.old.now name.now)))) }
+        ensures ok { OnOk result
+            (self.new
+            ≡ changed self.old
+            (with_table self.old.now name.now
+            (with_all (kept_rows marks.items) (the_table self.old.now name.now)))) }
         ensures err { OnErr result (self.new ≡ self.old) }
     {
         self.done.reserve(1)?;
@@ -360,7 +384,8 @@ impl Parts {
     /// Takes the view of the name away, or changes nothing.
     pub fn take_view(&mut self, name: &Name) -> Result<(), NoMemory>
         requires { is_some (view_of self.old.now name.now) ≡ true }
-        ensures ok { OnOk result (self.new ≡ changed self.old (without_view self.old.now name.now)) }
+        ensures ok { OnOk result
+            (self.new ≡ changed self.old (without_view self.old.now name.now)) }
         ensures err { OnErr result (self.new ≡ self.old) }
     {
         self.done.reserve(1)?;
@@ -372,7 +397,8 @@ impl Parts {
     /// Puts a new sequence at its name, or changes nothing.
     pub fn put_sequence(&mut self, name: Name, sequence: Sequence) -> Result<(), NoMemory>
         requires { sequence_of self.old.now name ≡ None }
-        ensures ok { OnOk result (self.new ≡ changed self.old (with_sequence self.old.now name sequence)) }
+        ensures ok { OnOk result
+            (self.new ≡ changed self.old (with_sequence self.old.now name sequence)) }
         ensures err { OnErr result (self.new ≡ self.old) }
     {
         self.done.reserve(1)?;
@@ -384,7 +410,8 @@ impl Parts {
     /// Takes the sequence of the name away, or changes nothing.
     pub fn take_sequence(&mut self, name: &Name) -> Result<(), NoMemory>
         requires { is_some (sequence_of self.old.now name.now) ≡ true }
-        ensures ok { OnOk result (self.new ≡ changed self.old (without_sequence self.old.now name.now)) }
+        ensures ok { OnOk result
+            (self.new ≡ changed self.old (without_sequence self.old.now name.now)) }
         ensures err { OnErr result (self.new ≡ self.old) }
     {
         self.done.reserve(1)?;
@@ -433,7 +460,10 @@ impl Parts {
 /// What is known of the names inside the tables, after the table got the shape.
 fn learn_shape(names: &mut TakenNames, tables: &Tables, name: &Name, shape: &Shape)
     requires { is_some (lookup (is_named name.now) tables.now.now) ≡ true }
-    ensures { (it : Table) → shape.now ≡ shape_of it → AreKnown tables.now.now names.old → AreKnown (set_value (is_named name.now) tables.now.now it) names.new }
+    ensures { (it : Table)
+        → shape.now ≡ shape_of it
+        → AreKnown tables.now.now names.old
+        → AreKnown (set_value (is_named name.now) tables.now.now it) names.new }
 {
     match tables.get(name) {
         Some(held) => names.reshape(held.shape(), shape),

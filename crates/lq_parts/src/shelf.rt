@@ -71,7 +71,8 @@ impl<T: Drop> Shelf<T> {
     #[tactic(auto, using(crate::proofs::SlotLemmas::newest_first, crate::proofs::SlotLemmas::step_undone, crate::proofs::SlotLemmas::step_past, crate::proofs::SlotLemmas::undo_with_more))]
     pub fn put(&mut self, name: Name, item: T) -> Result<(), NoMemory>
         requires { lookup (is_named name) self.old.now ≡ None }
-        ensures ok { OnOk result (self.new ≡ changed self.old (insert_entry name_cmp self.old.now name item)) }
+        ensures ok { OnOk result
+            (self.new ≡ changed self.old (insert_entry name_cmp self.old.now name item)) }
         ensures err { OnErr result (self.new ≡ self.old) }
     {
         self.done.reserve(1)?;
@@ -84,7 +85,8 @@ impl<T: Drop> Shelf<T> {
     #[tactic(auto, using(crate::proofs::SlotLemmas::newest_first, crate::proofs::SlotLemmas::step_undone, crate::proofs::SlotLemmas::step_past, crate::proofs::SlotLemmas::undo_with_more))]
     pub fn take(&mut self, name: &Name) -> Result<(), NoMemory>
         requires { is_some (lookup (is_named name.now) self.old.now) ≡ true }
-        ensures ok { OnOk result (self.new ≡ changed self.old (remove_entry (is_named name.now) self.old.now)) }
+        ensures ok { OnOk result
+            (self.new ≡ changed self.old (remove_entry (is_named name.now) self.old.now)) }
         ensures err { OnErr result (self.new ≡ self.old) }
     {
         self.done.reserve(1)?;
@@ -116,7 +118,8 @@ fn put_in<T: Drop>(entries: &mut Vec<(Name, T)>, name: Name, item: T) -> Result<
     requires absent { lookup (is_named name) entries.old.items ≡ None }
     ensures back { IfOk result (λ slot. before slot entries.new.items ≡ entries.old.items) }
     ensures place { IfOk result (λ slot. HasPlace slot entries.new.items) }
-    ensures entries { OnOk result (entries.new.items ≡ insert_entry name_cmp entries.old.items name item) }
+    ensures entries { OnOk result
+        (entries.new.items ≡ insert_entry name_cmp entries.old.items name item) }
     ensures ordered { IsOrdered entries.new.items }
     ensures err { OnErr result (entries.new.items ≡ entries.old.items) }
     ensures capacity { vec_capacity entries.old ≤ vec_capacity entries.new }

@@ -60,7 +60,8 @@ impl Tables {
     /// The table of the name.
     #[tactic(auto, using(crate::proofs::StepLemmas::table_found))]
     pub fn get(&self, name: &Name) -> Option<&Held>
-        ensures { option_map (λ held. held.now.now) result ≡ lookup (is_named name.now) self.now.now }
+        ensures { option_map (λ held. held.now.now) result
+            ≡ lookup (is_named name.now) self.now.now }
     {
         find(&self.entries, name)
     }
@@ -80,7 +81,10 @@ impl Tables {
         columns: &[Name],
         values: &Values,
     ) -> Result<bool, NoMemory>
-        ensures found { IfOk result (λ found. found ≡ has_values_in columns.now values.now (unwrap_or (lookup (is_named table.now) self.old.now) no_table)) }
+        ensures found { IfOk result (λ found.
+            found
+            ≡ has_values_in columns.now values.now
+            (unwrap_or (lookup (is_named table.now) self.old.now) no_table)) }
         ensures same { self.new ≡ self.old }
     {
         if self.get(table).is_none() {
@@ -92,7 +96,9 @@ impl Tables {
     /// Whether a row of the table is equal to this one in a key, a unique constraint or a unique index.
     pub fn is_twin(&mut self, alloc: Global, table: &Name, row: &[Value]) -> Result<bool, NoMemory>
         requires { is_some (lookup (is_named table.now) self.old.now) ≡ true }
-        ensures found { IfOk result (λ found. found ≡ is_twin (unwrap_or (lookup (is_named table.now) self.old.now) no_table) row.now) }
+        ensures found { IfOk result (λ found.
+            found
+            ≡ is_twin (unwrap_or (lookup (is_named table.now) self.old.now) no_table) row.now) }
         ensures same { self.new ≡ self.old }
     {
         is_twin_of(&mut self.entries, alloc, table, row)
@@ -102,7 +108,8 @@ impl Tables {
     #[tactic(auto, using(crate::proofs::StepLemmas::newest_first, crate::proofs::StepLemmas::step_undone, crate::proofs::StepLemmas::step_past, crate::proofs::StepLemmas::undo_with_more))]
     pub fn put(&mut self, name: Name, held: Held) -> Result<(), NoMemory>
         requires { lookup (is_named name) self.old.now ≡ None }
-        ensures ok { OnOk result (self.new ≡ changed self.old (insert_entry name_cmp self.old.now name held.now)) }
+        ensures ok { OnOk result
+            (self.new ≡ changed self.old (insert_entry name_cmp self.old.now name held.now)) }
         ensures err { OnErr result (self.new ≡ self.old) }
     {
         self.done.reserve(1)?;
@@ -115,7 +122,8 @@ impl Tables {
     #[tactic(auto, using(crate::proofs::StepLemmas::newest_first, crate::proofs::StepLemmas::step_undone, crate::proofs::StepLemmas::step_past, crate::proofs::StepLemmas::undo_with_more))]
     pub fn take(&mut self, name: &Name) -> Result<(), NoMemory>
         requires { is_some (lookup (is_named name.now) self.old.now) ≡ true }
-        ensures ok { OnOk result (self.new ≡ changed self.old (remove_entry (is_named name.now) self.old.now)) }
+        ensures ok { OnOk result
+            (self.new ≡ changed self.old (remove_entry (is_named name.now) self.old.now)) }
         ensures err { OnErr result (self.new ≡ self.old) }
     {
         self.done.reserve(1)?;
@@ -129,7 +137,11 @@ impl Tables {
     pub fn rename(&mut self, name: &Name, to: Name) -> Result<(), NoMemory>
         requires there { is_some (lookup (is_named name.now) self.old.now) ≡ true }
         requires absent { lookup (is_named to) self.old.now ≡ None }
-        ensures ok { OnOk result (self.new ≡ changed self.old (insert_entry name_cmp (remove_entry (is_named name.now) self.old.now) to (unwrap_or (lookup (is_named name.now) self.old.now) no_table))) }
+        ensures ok { OnOk result
+            (self.new
+            ≡ changed self.old
+            (insert_entry name_cmp (remove_entry (is_named name.now) self.old.now) to
+            (unwrap_or (lookup (is_named name.now) self.old.now) no_table))) }
         ensures err { OnErr result (self.new ≡ self.old) }
     {
         self.done.reserve(1)?;
@@ -142,7 +154,12 @@ impl Tables {
     #[tactic(auto, using(crate::proofs::StepLemmas::newest_first, crate::proofs::StepLemmas::step_undone, crate::proofs::StepLemmas::step_past, crate::proofs::StepLemmas::undo_with_more))]
     pub fn shape(&mut self, name: &Name, shape: Shape) -> Result<(), NoMemory>
         requires { is_some (lookup (is_named name.now) self.old.now) ≡ true }
-        ensures ok { OnOk result (self.new ≡ changed self.old (set_value (is_named name.now) self.old.now (with_shape shape (unwrap_or (lookup (is_named name.now) self.old.now) no_table)))) }
+        ensures ok { OnOk result
+            (self.new
+            ≡ changed self.old
+            (set_value (is_named name.now) self.old.now
+            (with_shape shape
+            (unwrap_or (lookup (is_named name.now) self.old.now) no_table)))) }
         ensures err { OnErr result (self.new ≡ self.old) }
     {
         self.done.reserve(1)?;
@@ -161,7 +178,12 @@ impl Tables {
         next: u64,
     ) -> Result<(), NoMemory>
         requires { is_some (lookup (is_named name.now) self.old.now) ≡ true }
-        ensures ok { OnOk result (self.new ≡ changed self.old (set_value (is_named name.now) self.old.now (with_row row next (unwrap_or (lookup (is_named name.now) self.old.now) no_table)))) }
+        ensures ok { OnOk result
+            (self.new
+            ≡ changed self.old
+            (set_value (is_named name.now) self.old.now
+            (with_row row next
+            (unwrap_or (lookup (is_named name.now) self.old.now) no_table)))) }
         ensures err { OnErr result (self.new ≡ self.old) }
     {
         self.done.reserve(1)?;
@@ -179,8 +201,14 @@ impl Tables {
         by: Vec<Option<Row>>,
     ) -> Result<(), NoMemory>
         requires there { is_some (lookup (is_named name.now) self.old.now) ≡ true }
-        requires each { length by.items ≡ length (unwrap_or (lookup (is_named name.now) self.old.now) no_table).rows }
-        ensures ok { OnOk result (self.new ≡ changed self.old (set_value (is_named name.now) self.old.now (with_all (replaced by.items) (unwrap_or (lookup (is_named name.now) self.old.now) no_table)))) }
+        requires each { length by.items
+            ≡ length (unwrap_or (lookup (is_named name.now) self.old.now) no_table).rows }
+        ensures ok { OnOk result
+            (self.new
+            ≡ changed self.old
+            (set_value (is_named name.now) self.old.now
+            (with_all (replaced by.items)
+            (unwrap_or (lookup (is_named name.now) self.old.now) no_table)))) }
         ensures err { OnErr result (self.new ≡ self.old) }
     {
         self.done.reserve(1)?;
@@ -193,8 +221,14 @@ impl Tables {
     #[tactic(auto, using(crate::proofs::StepLemmas::newest_first, crate::proofs::StepLemmas::step_undone, crate::proofs::StepLemmas::step_past, crate::proofs::StepLemmas::undo_with_more))]
     pub fn keep(&mut self, alloc: Global, name: &Name, marks: Vec<bool>) -> Result<(), NoMemory>
         requires there { is_some (lookup (is_named name.now) self.old.now) ≡ true }
-        requires each { length marks.items ≡ length (unwrap_or (lookup (is_named name.now) self.old.now) no_table).rows }
-        ensures ok { OnOk result (self.new ≡ changed self.old (set_value (is_named name.now) self.old.now (with_all (kept_rows marks.items) (unwrap_or (lookup (is_named name.now) self.old.now) no_table)))) }
+        requires each { length marks.items
+            ≡ length (unwrap_or (lookup (is_named name.now) self.old.now) no_table).rows }
+        ensures ok { OnOk result
+            (self.new
+            ≡ changed self.old
+            (set_value (is_named name.now) self.old.now
+            (with_all (kept_rows marks.items)
+            (unwrap_or (lookup (is_named name.now) self.old.now) no_table)))) }
         ensures err { OnErr result (self.new ≡ self.old) }
     {
         self.done.reserve(1)?;
@@ -231,7 +265,9 @@ fn put_in(entries: &mut Vec<(Name, Held)>, name: Name, held: Held) -> Result<Ste
     requires absent { lookup (is_named name) (tables_of entries.old.items) ≡ None }
     ensures back { IfOk result (λ step. before step entries.new.items ≡ entries.old.items) }
     ensures place { IfOk result (λ step. HasPlace step entries.new.items) }
-    ensures tables { OnOk result (tables_of entries.new.items ≡ insert_entry name_cmp (tables_of entries.old.items) name held.now) }
+    ensures tables { OnOk result
+        (tables_of entries.new.items
+        ≡ insert_entry name_cmp (tables_of entries.old.items) name held.now) }
     ensures ordered { OnOk result (IsOrdered entries.new.items) }
     ensures err { OnErr result (entries.new.items ≡ entries.old.items) }
     ensures capacity { vec_capacity entries.old ≤ vec_capacity entries.new }
@@ -249,7 +285,8 @@ fn take_out(entries: &mut Vec<(Name, Held)>, name: &Name) -> Step
     requires there { is_some (lookup (is_named name.now) (tables_of entries.old.items)) ≡ true }
     ensures back { before result entries.new.items ≡ entries.old.items }
     ensures place { HasPlace result entries.new.items }
-    ensures tables { tables_of entries.new.items ≡ remove_entry (is_named name.now) (tables_of entries.old.items) }
+    ensures tables { tables_of entries.new.items
+        ≡ remove_entry (is_named name.now) (tables_of entries.old.items) }
     ensures ordered { IsOrdered entries.new.items }
     ensures capacity { vec_capacity entries.old ≡ vec_capacity entries.new }
     ensures room { length entries.old.items ≤ vec_capacity entries.new }
@@ -266,7 +303,9 @@ fn rename_in(entries: &mut Vec<(Name, Held)>, name: &Name, to: Name) -> Step
     requires absent { lookup (is_named to) (tables_of entries.old.items) ≡ None }
     ensures back { before result entries.new.items ≡ entries.old.items }
     ensures place { HasPlace result entries.new.items }
-    ensures tables { tables_of entries.new.items ≡ insert_entry name_cmp (remove_entry (is_named name.now) (tables_of entries.old.items)) to (unwrap_or (lookup (is_named name.now) (tables_of entries.old.items)) no_table) }
+    ensures tables { tables_of entries.new.items
+        ≡ insert_entry name_cmp (remove_entry (is_named name.now) (tables_of entries.old.items)) to
+        (unwrap_or (lookup (is_named name.now) (tables_of entries.old.items)) no_table) }
     ensures ordered { IsOrdered entries.new.items }
     ensures capacity { vec_capacity entries.old ≡ vec_capacity entries.new }
     ensures room { length entries.old.items ≤ vec_capacity entries.new }
@@ -284,7 +323,10 @@ fn shape_in(entries: &mut Vec<(Name, Held)>, name: &Name, shape: Shape) -> Step
     requires there { is_some (lookup (is_named name.now) (tables_of entries.old.items)) ≡ true }
     ensures back { before result entries.new.items ≡ entries.old.items }
     ensures place { HasPlace result entries.new.items }
-    ensures tables { tables_of entries.new.items ≡ set_value (is_named name.now) (tables_of entries.old.items) (with_shape shape (unwrap_or (lookup (is_named name.now) (tables_of entries.old.items)) no_table)) }
+    ensures tables { tables_of entries.new.items
+        ≡ set_value (is_named name.now) (tables_of entries.old.items)
+        (with_shape shape
+        (unwrap_or (lookup (is_named name.now) (tables_of entries.old.items)) no_table)) }
     ensures ordered { IsOrdered entries.new.items }
     ensures capacity { vec_capacity entries.old ≡ vec_capacity entries.new }
     ensures room { length entries.old.items ≤ vec_capacity entries.new }
@@ -307,7 +349,12 @@ fn append_in(
     requires there { is_some (lookup (is_named name.now) (tables_of entries.old.items)) ≡ true }
     ensures back { IfOk result (λ step. before step entries.new.items ≡ entries.old.items) }
     ensures place { IfOk result (λ step. HasPlace step entries.new.items) }
-    ensures tables { OnOk result (tables_of entries.new.items ≡ set_value (is_named name.now) (tables_of entries.old.items) (with_row row next (unwrap_or (lookup (is_named name.now) (tables_of entries.old.items)) no_table))) }
+    ensures tables { OnOk result
+        (tables_of entries.new.items
+        ≡ set_value (is_named name.now) (tables_of entries.old.items)
+        (with_row row next
+        (unwrap_or (lookup (is_named name.now) (tables_of entries.old.items))
+        no_table))) }
     ensures ordered { OnOk result (IsOrdered entries.new.items) }
     ensures err { OnErr result (entries.new.items ≡ entries.old.items) }
     ensures capacity { vec_capacity entries.old ≡ vec_capacity entries.new }
@@ -334,10 +381,17 @@ fn replace_in(
 ) -> Result<Step, NoMemory>
     requires ordered { IsOrdered entries.old.items }
     requires there { is_some (lookup (is_named name.now) (tables_of entries.old.items)) ≡ true }
-    requires each { length by.items ≡ length (unwrap_or (lookup (is_named name.now) (tables_of entries.old.items)) no_table).rows }
+    requires each { length by.items
+        ≡ length
+        (unwrap_or (lookup (is_named name.now) (tables_of entries.old.items)) no_table).rows }
     ensures back { IfOk result (λ step. before step entries.new.items ≡ entries.old.items) }
     ensures place { IfOk result (λ step. HasPlace step entries.new.items) }
-    ensures tables { OnOk result (tables_of entries.new.items ≡ set_value (is_named name.now) (tables_of entries.old.items) (with_all (replaced by.items) (unwrap_or (lookup (is_named name.now) (tables_of entries.old.items)) no_table))) }
+    ensures tables { OnOk result
+        (tables_of entries.new.items
+        ≡ set_value (is_named name.now) (tables_of entries.old.items)
+        (with_all (replaced by.items)
+        (unwrap_or (lookup (is_named name.now) (tables_of entries.old.items))
+        no_table))) }
     ensures ordered { OnOk result (IsOrdered entries.new.items) }
     ensures err { OnErr result (entries.new.items ≡ entries.old.items) }
     ensures capacity { vec_capacity entries.old ≡ vec_capacity entries.new }
@@ -360,10 +414,17 @@ fn keep_in(
 ) -> Result<Step, NoMemory>
     requires ordered { IsOrdered entries.old.items }
     requires there { is_some (lookup (is_named name.now) (tables_of entries.old.items)) ≡ true }
-    requires each { length marks.items ≡ length (unwrap_or (lookup (is_named name.now) (tables_of entries.old.items)) no_table).rows }
+    requires each { length marks.items
+        ≡ length
+        (unwrap_or (lookup (is_named name.now) (tables_of entries.old.items)) no_table).rows }
     ensures back { IfOk result (λ step. before step entries.new.items ≡ entries.old.items) }
     ensures place { IfOk result (λ step. HasPlace step entries.new.items) }
-    ensures tables { OnOk result (tables_of entries.new.items ≡ set_value (is_named name.now) (tables_of entries.old.items) (with_all (kept_rows marks.items) (unwrap_or (lookup (is_named name.now) (tables_of entries.old.items)) no_table))) }
+    ensures tables { OnOk result
+        (tables_of entries.new.items
+        ≡ set_value (is_named name.now) (tables_of entries.old.items)
+        (with_all (kept_rows marks.items)
+        (unwrap_or (lookup (is_named name.now) (tables_of entries.old.items))
+        no_table))) }
     ensures ordered { OnOk result (IsOrdered entries.new.items) }
     ensures err { OnErr result (entries.new.items ≡ entries.old.items) }
     ensures capacity { vec_capacity entries.old ≡ vec_capacity entries.new }
@@ -387,7 +448,10 @@ fn has_row_in(
 ) -> Result<bool, NoMemory>
     requires ordered { IsOrdered entries.old.items }
     requires there { is_some (lookup (is_named table.now) (tables_of entries.old.items)) ≡ true }
-    ensures found { IfOk result (λ found. found ≡ has_values_in columns.now values.now (unwrap_or (lookup (is_named table.now) (tables_of entries.old.items)) no_table)) }
+    ensures found { IfOk result (λ found.
+        found
+        ≡ has_values_in columns.now values.now
+        (unwrap_or (lookup (is_named table.now) (tables_of entries.old.items)) no_table)) }
     ensures items { entries.new.items ≡ entries.old.items }
     ensures capacity { vec_capacity entries.old ≡ vec_capacity entries.new }
 {
@@ -405,7 +469,10 @@ fn is_twin_of(
 ) -> Result<bool, NoMemory>
     requires ordered { IsOrdered entries.old.items }
     requires there { is_some (lookup (is_named table.now) (tables_of entries.old.items)) ≡ true }
-    ensures found { IfOk result (λ found. found ≡ is_twin (unwrap_or (lookup (is_named table.now) (tables_of entries.old.items)) no_table) row.now) }
+    ensures found { IfOk result (λ found.
+        found
+        ≡ is_twin (unwrap_or (lookup (is_named table.now) (tables_of entries.old.items)) no_table)
+        row.now) }
     ensures items { entries.new.items ≡ entries.old.items }
     ensures capacity { vec_capacity entries.old ≡ vec_capacity entries.new }
 {
@@ -458,7 +525,8 @@ fn put_again(entries: &mut Vec<(Name, Held)>, at: usize, name: Name, held: Held)
 
 fn shape_back(entries: &mut Vec<(Name, Held)>, at: usize, shape: Shape)
     requires place { at < vec_len entries.old }
-    ensures items { entries.new.items ≡ edit_at at (λ e. (e.0, reshaped shape e.1)) entries.old.items }
+    ensures items { entries.new.items
+        ≡ edit_at at (λ e. (e.0, reshaped shape e.1)) entries.old.items }
     ensures len { vec_len entries.new ≡ vec_len entries.old }
     ensures capacity { vec_capacity entries.new ≡ vec_capacity entries.old }
 {
@@ -469,7 +537,9 @@ fn shape_back(entries: &mut Vec<(Name, Held)>, at: usize, shape: Shape)
 fn rows_back(entries: &mut Vec<(Name, Held)>, at: usize, mark: u64, next: u64)
     requires place { at < vec_len entries.old }
     requires mark { HasMark at mark entries.old.items }
-    ensures items { entries.new.items ≡ edit_at at (λ e. (e.0, with_rows (undone_to (rows_of e.1) mark) next e.1)) entries.old.items }
+    ensures items { entries.new.items
+        ≡ edit_at at (λ e. (e.0, with_rows (undone_to (rows_of e.1) mark) next e.1))
+        entries.old.items }
     ensures len { vec_len entries.new ≡ vec_len entries.old }
     ensures capacity { vec_capacity entries.new ≡ vec_capacity entries.old }
 {

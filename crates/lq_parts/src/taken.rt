@@ -51,7 +51,8 @@ impl TakenNames {
     /// Whether the key, a unique constraint or an index of one of the tables has the name.
     pub fn has_inner(&mut self, tables: &[(Name, Held)], name: &Name) -> Result<bool, NoMemory>
         requires { AreKnown (tables_of tables.now) self.old }
-        ensures found { IfOk result (λ found. found ≡ is_in name.now (names_in inner_names (tables_of tables.now))) }
+        ensures found { IfOk result
+            (λ found. found ≡ is_in name.now (names_in inner_names (tables_of tables.now))) }
         ensures known { AreKnown (tables_of tables.now) self.new }
     {
         asked_inner(self.alloc, &mut self.inner, tables, name)
@@ -60,7 +61,8 @@ impl TakenNames {
     /// Whether a foreign key of one of the tables has the name.
     pub fn has_foreign(&mut self, tables: &[(Name, Held)], name: &Name) -> Result<bool, NoMemory>
         requires { AreKnown (tables_of tables.now) self.old }
-        ensures found { IfOk result (λ found. found ≡ is_in name.now (names_in foreign_names (tables_of tables.now))) }
+        ensures found { IfOk result
+            (λ found. found ≡ is_in name.now (names_in foreign_names (tables_of tables.now))) }
         ensures known { AreKnown (tables_of tables.now) self.new }
     {
         asked_foreign(self.alloc, &mut self.foreign, tables, name)
@@ -69,21 +71,29 @@ impl TakenNames {
     /// Whether the key, a unique constraint or an index of one of the tables has the name, where that is
     /// known.
     pub fn knows_inner(&self, name: &Name) -> Option<bool>
-        ensures { (tables : TableMap) → AreKnown tables self.now → IfSome result (λ found. found ≡ is_in name.now (names_in inner_names tables)) }
+        ensures { (tables : TableMap)
+            → AreKnown tables self.now
+            → IfSome result (λ found. found ≡ is_in name.now (names_in inner_names tables)) }
     {
         known_in(&self.inner, name)
     }
 
     /// Whether a foreign key of one of the tables has the name, where that is known.
     pub fn knows_foreign(&self, name: &Name) -> Option<bool>
-        ensures { (tables : TableMap) → AreKnown tables self.now → IfSome result (λ found. found ≡ is_in name.now (names_in foreign_names tables)) }
+        ensures { (tables : TableMap)
+            → AreKnown tables self.now
+            → IfSome result (λ found. found ≡ is_in name.now (names_in foreign_names tables)) }
     {
         known_in(&self.foreign, name)
     }
 
     /// Adds the names inside a new table to what is known, which it drops where memory is wanting.
     pub fn add(&mut self, shape: &Shape)
-        ensures { (tables : TableMap) (n : Name) (it : Table) → shape.now ≡ shape_of it → lookup (is_named n) tables ≡ None → AreKnown tables self.old → AreKnown (insert_entry name_cmp tables n it) self.new }
+        ensures { (tables : TableMap) (n : Name) (it : Table)
+            → shape.now ≡ shape_of it
+            → lookup (is_named n) tables ≡ None
+            → AreKnown tables self.old
+            → AreKnown (insert_entry name_cmp tables n it) self.new }
     {
         match self.learn(shape) {
             Ok(()) => {}
@@ -92,7 +102,12 @@ impl TakenNames {
     }
 
     fn learn(&mut self, shape: &Shape) -> Result<(), NoMemory>
-        ensures { OnOk result ((tables : TableMap) (n : Name) (it : Table) → shape.now ≡ shape_of it → lookup (is_named n) tables ≡ None → AreKnown tables self.old → AreKnown (insert_entry name_cmp tables n it) self.new) }
+        ensures { OnOk result
+            ((tables : TableMap) (n : Name) (it : Table)
+            → shape.now ≡ shape_of it
+            → lookup (is_named n) tables ≡ None
+            → AreKnown tables self.old
+            → AreKnown (insert_entry name_cmp tables n it) self.new) }
     {
         learn_inner(self.alloc, &mut self.inner, shape)?;
         learn_foreign(self.alloc, &mut self.foreign, shape)?;
@@ -102,7 +117,12 @@ impl TakenNames {
     /// What is known, after a table got another shape: all that was known, where the names of the old
     /// shape stay.
     pub fn reshape(&mut self, old: &Shape, new: &Shape)
-        ensures { (tables : TableMap) (n : Name) (was it : Table) → old.now ≡ shape_of was → new.now ≡ shape_of it → lookup (is_named n) tables ≡ Some was → AreKnown tables self.old → AreKnown (set_value (is_named n) tables it) self.new }
+        ensures { (tables : TableMap) (n : Name) (was it : Table)
+            → old.now ≡ shape_of was
+            → new.now ≡ shape_of it
+            → lookup (is_named n) tables ≡ Some was
+            → AreKnown tables self.old
+            → AreKnown (set_value (is_named n) tables it) self.new }
     {
         match self.relearn(old, new) {
             Ok(()) => {}
@@ -111,7 +131,13 @@ impl TakenNames {
     }
 
     fn relearn(&mut self, old: &Shape, new: &Shape) -> Result<(), NoMemory>
-        ensures { OnOk result ((tables : TableMap) (n : Name) (was it : Table) → old.now ≡ shape_of was → new.now ≡ shape_of it → lookup (is_named n) tables ≡ Some was → AreKnown tables self.old → AreKnown (set_value (is_named n) tables it) self.new) }
+        ensures { OnOk result
+            ((tables : TableMap) (n : Name) (was it : Table)
+            → old.now ≡ shape_of was
+            → new.now ≡ shape_of it
+            → lookup (is_named n) tables ≡ Some was
+            → AreKnown tables self.old
+            → AreKnown (set_value (is_named n) tables it) self.new) }
     {
         relearn_inner(self.alloc, &mut self.inner, old, new)?;
         relearn_foreign(self.alloc, &mut self.foreign, old, new)?;
@@ -120,7 +146,9 @@ impl TakenNames {
 }
 
 fn known_in(known: &Option<BTreeSet<Name>>, name: &Name) -> Option<bool>
-    ensures { (ns : List Name) → IsTrueOf ns known.now → IfSome result (λ found. found ≡ is_in name.now ns) }
+    ensures { (ns : List Name)
+        → IsTrueOf ns known.now
+        → IfSome result (λ found. found ≡ is_in name.now ns) }
 {
     match known {
         None => None,
@@ -136,7 +164,8 @@ fn asked_inner(
     name: &Name,
 ) -> Result<bool, NoMemory>
     requires { IsTrueOf (names_in inner_names (tables_of tables.now)) known.old }
-    ensures found { IfOk result (λ found. found ≡ is_in name.now (names_in inner_names (tables_of tables.now))) }
+    ensures found { IfOk result
+        (λ found. found ≡ is_in name.now (names_in inner_names (tables_of tables.now))) }
     ensures known { IsTrueOf (names_in inner_names (tables_of tables.now)) known.new }
 {
     if let Some(set) = known.as_ref() {
@@ -156,7 +185,8 @@ fn asked_foreign(
     name: &Name,
 ) -> Result<bool, NoMemory>
     requires { IsTrueOf (names_in foreign_names (tables_of tables.now)) known.old }
-    ensures found { IfOk result (λ found. found ≡ is_in name.now (names_in foreign_names (tables_of tables.now))) }
+    ensures found { IfOk result
+        (λ found. found ≡ is_in name.now (names_in foreign_names (tables_of tables.now))) }
     ensures known { IsTrueOf (names_in foreign_names (tables_of tables.now)) known.new }
 {
     if let Some(set) = known.as_ref() {
@@ -180,7 +210,11 @@ fn learn_inner(
     known: &mut Option<BTreeSet<Name>>,
     shape: &Shape,
 ) -> Result<(), NoMemory>
-    ensures { OnOk result ((it : Table) (ns : List Name) → shape.now ≡ shape_of it → IsTrueOf ns known.old → IsTrueOf (inner_names it ++ ns) known.new) }
+    ensures { OnOk result
+        ((it : Table) (ns : List Name)
+        → shape.now ≡ shape_of it
+        → IsTrueOf ns known.old
+        → IsTrueOf (inner_names it ++ ns) known.new) }
 {
     match known {
         None => Ok(()),
@@ -197,7 +231,11 @@ fn learn_foreign(
     known: &mut Option<BTreeSet<Name>>,
     shape: &Shape,
 ) -> Result<(), NoMemory>
-    ensures { OnOk result ((it : Table) (ns : List Name) → shape.now ≡ shape_of it → IsTrueOf ns known.old → IsTrueOf (foreign_names it ++ ns) known.new) }
+    ensures { OnOk result
+        ((it : Table) (ns : List Name)
+        → shape.now ≡ shape_of it
+        → IsTrueOf ns known.old
+        → IsTrueOf (foreign_names it ++ ns) known.new) }
 {
     match known {
         None => Ok(()),
@@ -215,7 +253,13 @@ fn relearn_inner(
     old: &Shape,
     new: &Shape,
 ) -> Result<(), NoMemory>
-    ensures { OnOk result ((tables : TableMap) (n : Name) (was it : Table) → old.now ≡ shape_of was → new.now ≡ shape_of it → lookup (is_named n) tables ≡ Some was → IsTrueOf (names_in inner_names tables) known.old → IsTrueOf (names_in inner_names (set_value (is_named n) tables it)) known.new) }
+    ensures { OnOk result
+        ((tables : TableMap) (n : Name) (was it : Table)
+        → old.now ≡ shape_of was
+        → new.now ≡ shape_of it
+        → lookup (is_named n) tables ≡ Some was
+        → IsTrueOf (names_in inner_names tables) known.old
+        → IsTrueOf (names_in inner_names (set_value (is_named n) tables it)) known.new) }
 {
     if inner_stay(old, new) {
         learn_inner(alloc, known, new)?;
@@ -232,7 +276,13 @@ fn relearn_foreign(
     old: &Shape,
     new: &Shape,
 ) -> Result<(), NoMemory>
-    ensures { OnOk result ((tables : TableMap) (n : Name) (was it : Table) → old.now ≡ shape_of was → new.now ≡ shape_of it → lookup (is_named n) tables ≡ Some was → IsTrueOf (names_in foreign_names tables) known.old → IsTrueOf (names_in foreign_names (set_value (is_named n) tables it)) known.new) }
+    ensures { OnOk result
+        ((tables : TableMap) (n : Name) (was it : Table)
+        → old.now ≡ shape_of was
+        → new.now ≡ shape_of it
+        → lookup (is_named n) tables ≡ Some was
+        → IsTrueOf (names_in foreign_names tables) known.old
+        → IsTrueOf (names_in foreign_names (set_value (is_named n) tables it)) known.new) }
 {
     if foreign_stay(old, new) {
         learn_foreign(alloc, known, new)?;
@@ -258,7 +308,8 @@ fn foreign_stay(old: &Shape, new: &Shape) -> bool
 }
 
 fn key_stays(old: &Option<Key>, new: &Option<Key>) -> bool
-    ensures { result ≡ begins (map (λ k. k.name) (key_list old.now)) (map (λ k. k.name) (key_list new.now)) }
+    ensures { result
+        ≡ begins (map (λ k. k.name) (key_list old.now)) (map (λ k. k.name) (key_list new.now)) }
 {
     let Some(old) = old else {
         return true;
@@ -338,7 +389,8 @@ fn see_foreign(alloc: Global, tables: &[(Name, Held)]) -> Result<BTreeSet<Name>,
 
 #[tactic(auto, using(crate::proofs::TakenLemmas::inner_gained))]
 fn add_inner(alloc: Global, set: &mut BTreeSet<Name>, shape: &Shape) -> Result<(), NoMemory>
-    ensures { OnOk result ((it : Table) → shape.now ≡ shape_of it → Gains (inner_names it) set.old set.new) }
+    ensures { OnOk result
+        ((it : Table) → shape.now ≡ shape_of it → Gains (inner_names it) set.old set.new) }
 {
     add_key(alloc, set, &shape.key)?;
     add_uniques(alloc, set, shape.uniques.as_slice())?;
@@ -348,7 +400,8 @@ fn add_inner(alloc: Global, set: &mut BTreeSet<Name>, shape: &Shape) -> Result<(
 
 #[tactic(auto, using(crate::proofs::TakenLemmas::foreign_gained))]
 fn add_foreign(alloc: Global, set: &mut BTreeSet<Name>, shape: &Shape) -> Result<(), NoMemory>
-    ensures { OnOk result ((it : Table) → shape.now ≡ shape_of it → Gains (foreign_names it) set.old set.new) }
+    ensures { OnOk result
+        ((it : Table) → shape.now ≡ shape_of it → Gains (foreign_names it) set.old set.new) }
 {
     add_foreign_keys(alloc, set, shape.foreign.as_slice())?;
     Ok(())

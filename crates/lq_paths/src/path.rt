@@ -67,7 +67,8 @@ fn leave(way: &mut Items<&str>) -> bool
 
 /// Goes on along one more part, if it does not lead out.
 fn enter<'a>(way: &mut Items<&'a str>, part: &'a str) -> Result<bool, NoMemory>
-    ensures { IfOk result (λ so. Enters so (entered (map (λ p. p.now) way.old) part.now) (map (λ p. p.now) way.new)) }
+    ensures { IfOk result
+        (λ so. Enters so (entered (map (λ p. p.now) way.old) part.now) (map (λ p. p.now) way.new)) }
 {
     if is_passed(part) {
         return Ok(true);
@@ -81,7 +82,8 @@ fn enter<'a>(way: &mut Items<&'a str>, part: &'a str) -> Result<bool, NoMemory>
 
 /// The way along these parts, if it does not lead out of where it begins.
 fn along<'a>(alloc: Global, parts: &[&'a str]) -> Result<Option<Items<&'a str>>, NoMemory>
-    ensures { IfOk result (λ way. option_map (map (λ p. p.now)) way ≡ along [] (map (λ p. p.now) parts.now)) }
+    ensures { IfOk result
+        (λ way. option_map (map (λ p. p.now)) way ≡ along [] (map (λ p. p.now) parts.now)) }
 {
     let mut way = Items::new(alloc);
     for part in parts {

@@ -111,7 +111,8 @@ impl AddPrimaryKey {
 
     // Drops the key.
     fn dropped(&self, alloc: Global, dialect: Dialect) -> Result<Statement, NoMemory>
-        ensures { IfOk result (λ made. made ≡ drops_key dialect self.now.table_name (name_of dialect self.now)) }
+        ensures { IfOk result
+            (λ made. made ≡ drops_key dialect self.now.table_name (name_of dialect self.now)) }
     {
         let name = self.name(alloc, dialect)?;
         key_drop(alloc, dialect, &self.table_name, &name)

@@ -49,7 +49,8 @@ impl Props {
     ) -> Result<(), NoMemory>
         ensures ok { OnOk result ((s : Scope) (n : List ℕ) → own self.new s n
             ≡ defines (own self.old) scope name.now value.now s n) }
-        ensures err { OnErr result ((s : Scope) (n : List ℕ) → own self.new s n ≡ own self.old s n) }
+        ensures err { OnErr result
+            ((s : Scope) (n : List ℕ) → own self.new s n ≡ own self.old s n) }
     {
         self.longest = self.longest.max(name.len());
         match scope {

@@ -41,7 +41,8 @@ fn append_closed(made: &mut Text, props: &Props, file: &str, piece: &str) -> Res
 
 // The value of the use whose `$` stands before these bytes.
 fn used_value<'a>(props: &'a Props, file: &str, behind: &str) -> Option<&'a str>
-    ensures { option_map (λ value. value.now) result ≡ use_behind (value_of props.now file.now) behind.now }
+    ensures { option_map (λ value. value.now) result
+        ≡ use_behind (value_of props.now file.now) behind.now }
 {
     match behind.strip_prefix('{') {
         Some(name) => props.value(file, name),

@@ -36,7 +36,9 @@ pub fn define_in(
     name: &str,
     value: &str,
 ) -> Result<(), NoMemory>
-    ensures ok { OnOk result ((n : List ℕ) → value_in values.new n ≡ defined (value_in values.old) name.now value.now n) }
+    ensures ok { OnOk result
+        ((n : List ℕ)
+        → value_in values.new n ≡ defined (value_in values.old) name.now value.now n) }
     ensures err { OnErr result ((n : List ℕ) → value_in values.new n ≡ value_in values.old n) }
 {
     if values.contains_key(name) {
@@ -58,7 +60,8 @@ pub fn define_in_file(
 ) -> Result<(), NoMemory>
     ensures ok { OnOk result ((f n : List ℕ) → value_in_file files.new f n
         ≡ defined_in_file (value_in_file files.old) file.now name.now value.now f n) }
-    ensures err { OnErr result ((f n : List ℕ) → value_in_file files.new f n ≡ value_in_file files.old f n) }
+    ensures err { OnErr result
+        ((f n : List ℕ) → value_in_file files.new f n ≡ value_in_file files.old f n) }
 {
     if let Some(values) = files.get_mut(file) {
         return define_in(values, alloc, name, value);

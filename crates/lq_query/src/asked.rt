@@ -34,7 +34,14 @@ fn answer_of<'a>(
     source: Source<'a>,
     columns: &'a [Column],
 ) -> Result<Answered, AskFault>
-    ensures { IsAnswer (answered by query.now (Some (record { columns = columns.now; rows = shown_rows source.entry.view source.entry.columns.now source.entry.rows }))) result }
+    ensures { IsAnswer
+        (answered by query.now
+        (Some
+        (record {
+          columns = columns.now;
+          rows = shown_rows source.entry.view source.entry.columns.now
+              source.entry.rows;
+        }))) result }
 {
     let reading = Reading {
         query,
@@ -72,7 +79,9 @@ pub fn answer(
     query: &Query,
     source: Option<Source<'_>>,
 ) -> Result<Answered, AskFault>
-    ensures { (c : Catalogue) → source_of c query.now.table ≡ option_map source_meant source.entry → IsAnswer (answer by query.now c) result }
+    ensures { (c : Catalogue)
+        → source_of c query.now.table ≡ option_map source_meant source.entry
+        → IsAnswer (answer by query.now c) result }
 {
     match source {
         Some(source) => answer_at(alloc, by, query, source),

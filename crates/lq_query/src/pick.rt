@@ -45,7 +45,8 @@ fn push_named(
     name: &Name,
     columns: &[Column],
 ) -> Result<(), NoMemory>
-    ensures { OnOk result (found.new ≡ found.old ++ filter (λ column. is_named name.now column.name) columns.now) }
+    ensures { OnOk result
+        (found.new ≡ found.old ++ filter (λ column. is_named name.now column.name) columns.now) }
 {
     for column in columns {
         if *name == column.name {

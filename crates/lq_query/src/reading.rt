@@ -28,7 +28,8 @@ pub struct Reading<'a> {
 impl Reading<'_> {
     // The values that the query lists of a row that is shown.
     fn chosen(&self, alloc: Global, row: &Items<Value>) -> Result<Items<Value>, NoMemory>
-        ensures { IfOk result (λ values. values ≡ chosen self.now.query.now.wanted self.now.columns.now row.now) }
+        ensures { IfOk result
+            (λ values. values ≡ chosen self.now.query.now.wanted self.now.columns.now row.now) }
     {
         match &self.query.wanted {
             Wanted::Columns(names) => {
@@ -41,7 +42,8 @@ impl Reading<'_> {
 
     // The same, where the query takes the row.
     fn taken(&self, alloc: Global, row: &Items<Value>) -> Result<Option<Items<Value>>, NoMemory>
-        ensures { IfOk result (λ values. values ≡ taken self.now.query.now self.now.columns.now row.now) }
+        ensures { IfOk result
+            (λ values. values ≡ taken self.now.query.now self.now.columns.now row.now) }
     {
         if !is_taken(&self.query.test, self.columns, row.as_slice()) {
             return Ok(None);
@@ -51,7 +53,10 @@ impl Reading<'_> {
 
     // What the query gives of a row of the table, if it gives something.
     fn given(&self, alloc: Global, row: &Items<Value>) -> Result<Option<Items<Value>>, NoMemory>
-        ensures { IfOk result (λ values. values ≡ given self.now.view self.now.table.now self.now.query.now self.now.columns.now row.now) }
+        ensures { IfOk result (λ values.
+            values
+            ≡ given self.now.view self.now.table.now self.now.query.now self.now.columns.now
+            row.now) }
     {
         let Some(view) = self.view else {
             return self.taken(alloc, row);
@@ -65,7 +70,10 @@ impl Reading<'_> {
 
     // Whether the query counts a row of the table.
     fn is_counted(&self, alloc: Global, row: &Items<Value>) -> Result<bool, NoMemory>
-        ensures { IfOk result (λ counted. counted ≡ is_counted self.now.view self.now.table.now self.now.query.now self.now.columns.now row.now) }
+        ensures { IfOk result (λ counted.
+            counted
+            ≡ is_counted self.now.view self.now.table.now self.now.query.now self.now.columns.now
+            row.now) }
     {
         let Some(view) = self.view else {
             return Ok(is_taken(&self.query.test, self.columns, row.as_slice()));
@@ -82,7 +90,11 @@ impl Reading<'_> {
         alloc: Global,
         rows: Iter<'_, Items<Value>>,
     ) -> Result<Items<Items<Value>>, NoMemory>
-        ensures { IfOk result (λ found. found ≡ filter_map (given self.now.view self.now.table.now self.now.query.now self.now.columns.now) rows.entry) }
+        ensures { IfOk result (λ found.
+            found
+            ≡ filter_map
+            (given self.now.view self.now.table.now self.now.query.now self.now.columns.now)
+            rows.entry) }
     {
         let mut found = Items::new(alloc);
         for row in rows {
@@ -94,7 +106,11 @@ impl Reading<'_> {
     }
 
     fn count(&self, alloc: Global, rows: Iter<'_, Items<Value>>) -> Result<u64, NoMemory>
-        ensures { IfOk result (λ count. count ≡ count_by (is_counted self.now.view self.now.table.now self.now.query.now self.now.columns.now) rows.entry) }
+        ensures { IfOk result (λ count.
+            count
+            ≡ count_by
+            (is_counted self.now.view self.now.table.now self.now.query.now
+            self.now.columns.now) rows.entry) }
     {
         let mut count = 0;
         for row in rows {
@@ -111,7 +127,13 @@ impl Reading<'_> {
         alloc: Global,
         rows: Iter<'_, Items<Value>>,
     ) -> Result<Answered, NoMemory>
-        ensures { IfOk result (λ answered. answered ≡ answer_from (record { columns = self.now.columns.now; rows = shown_rows self.now.view self.now.table.now rows.entry }) self.now.query.now) }
+        ensures { IfOk result (λ answered.
+            answered
+            ≡ answer_from
+            (record {
+              columns = self.now.columns.now;
+              rows = shown_rows self.now.view self.now.table.now rows.entry;
+            }) self.now.query.now) }
     {
         match &self.query.wanted {
             Wanted::Count => counted(alloc, self.count(alloc, rows)?),
@@ -138,7 +160,8 @@ fn one_more(count: u64) -> Result<u64, NoMemory>
 }
 
 fn counted(alloc: Global, count: u64) -> Result<Answered, NoMemory>
-    ensures { IfOk result (λ answered. answered ≡ record { columns = 1; rows = (Int (pos count) ∷ []) ∷ [] }) }
+    ensures { IfOk result
+        (λ answered. answered ≡ record { columns = 1; rows = (Int (pos count) ∷ []) ∷ [] }) }
 {
     let Ok(number) = i64::try_from(count) else {
         return Err(NoMemory);

@@ -60,7 +60,8 @@ fn truth(columns: &[Column], row: &[Value], test: &Test) -> Option<bool>
 }
 
 fn compare(op: Op, x: Cell<'_>, y: Cell<'_>) -> Option<bool>
-    ensures { result ≡ option_map (in_order op) (value_order (cell_value x.entry) (cell_value y.entry)) }
+    ensures { result
+        ≡ option_map (in_order op) (value_order (cell_value x.entry) (cell_value y.entry)) }
 {
     match value_order(x, y) {
         Some(order) => Some(in_order(op, order)),

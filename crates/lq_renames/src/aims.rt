@@ -51,7 +51,8 @@ fn retarget_each(
 
 /// What the table is but for its rows when a table that it may aim at has another name.
 fn retargeted(alloc: Global, from: &Name, to: &Name, held: &Held) -> Result<Shape, NoMemory>
-    ensures { IfOk result (λ shape. with_shape shape held.now.now ≡ retargeted from.now to.now held.now.now) }
+    ensures { IfOk result
+        (λ shape. with_shape shape held.now.now ≡ retargeted from.now to.now held.now.now) }
 {
     let (foreign, copy) = both(
         retarget_each(alloc, from, to, held.foreign_keys()),
@@ -72,7 +73,12 @@ fn retarget_at(
 ) -> Result<(), NoMemory>
     requires within { at < length parts.old.now.tables }
     requires ordered { IsStrictlySortedBy name_cmp (keys_of parts.old.now.tables) }
-    ensures ok { OnOk result (parts.new.now ≡ record parts.old.now { tables = edit_at at (λ e. (e.0, retargeted from.now to.now e.1)) parts.old.now.tables }) }
+    ensures ok { OnOk result
+        (parts.new.now
+        ≡ record parts.old.now {
+          tables = edit_at at (λ e. (e.0, retargeted from.now to.now e.1))
+              parts.old.now.tables;
+        }) }
     ensures goes { Continues parts.old parts.new }
 {
     let entry = &parts.tables()[at];
@@ -93,7 +99,12 @@ pub fn retarget_all(
     to: &Name,
 ) -> Result<(), NoMemory>
     requires { IsStrictlySortedBy name_cmp (keys_of parts.old.now.tables) }
-    ensures ok { OnOk result (parts.new.now ≡ record parts.old.now { tables = map (λ e. (e.0, retargeted from.now to.now e.1)) parts.old.now.tables }) }
+    ensures ok { OnOk result
+        (parts.new.now
+        ≡ record parts.old.now {
+          tables = map (λ e. (e.0, retargeted from.now to.now e.1))
+              parts.old.now.tables;
+        }) }
     ensures goes { Continues parts.old parts.new }
 {
     for at in 0..parts.tables().len() {

@@ -8,7 +8,10 @@ use lq_rows::has_column;
 
 /// Whether the table is not there, or lacks the column.
 pub fn is_column_missing(parts: &Parts, table: &Name, column: &Name) -> bool
-    ensures { result ≡ (is_none (table_of parts.now.now table.now) || not (has_column (the_table parts.now.now table.now) column.now)) }
+    ensures { result
+        ≡
+        (is_none (table_of parts.now.now table.now)
+        || not (has_column (the_table parts.now.now table.now) column.now)) }
 {
     match parts.table(table) {
         None => true,

@@ -18,7 +18,11 @@ use lq_query::is_reserved;
 use std::alloc::Global;
 
 fn rename_tests(parts: &Parts, by: By, table: &Name, column: &Name, to: &Name) -> Tests
-    ensures { (d : kinds.Dialect) → verdict_of result ≡ verdict_of (tests_of (spec.rename_column by d table.now column.now to.now parts.now.now) no_faults) }
+    ensures { (d : kinds.Dialect)
+        → verdict_of result
+        ≡ verdict_of
+        (tests_of (spec.rename_column by d table.now column.now to.now parts.now.now)
+        no_faults) }
 {
     Tests {
         reserved: is_reserved(by, table),
@@ -46,7 +50,9 @@ pub fn rename_column(
     to: &Name,
 ) -> Result<u64, RunFault>
     requires { IsSound dialect parts.old.now }
-    ensures { Answers (decide (spec.rename_column by dialect table.now column.now to.now parts.old.now)) parts.old parts.new result }
+    ensures { Answers
+        (decide (spec.rename_column by dialect table.now column.now to.now parts.old.now)) parts.old
+        parts.new result }
 {
     let tests = rename_tests(parts, by, table, column, to);
     match tests.verdict() {

@@ -48,14 +48,20 @@ fn is_held(parts: &Parts, dialect: Dialect, name: &Name) -> bool
 
 /// Whether a statement may not make a table, view or sequence of the name.
 fn is_taken(parts: &Parts, by: By, dialect: Dialect, name: &Name) -> bool
-    ensures { result ≡ (spaces.is_taken dialect name.now parts.now.now || reserved.takes_lock_key by dialect (name.now ∷ [])) }
+    ensures { result
+        ≡
+        (spaces.is_taken dialect name.now parts.now.now
+        || reserved.takes_lock_key by dialect (name.now ∷ [])) }
 {
     is_held(parts, dialect, name) || takes_lock_key(by, dialect, name)
 }
 
 /// Whether a statement may not give what has one name the other.
 pub fn is_taken_to(parts: &Parts, by: By, dialect: Dialect, name: &Name, to: &Name) -> bool
-    ensures { result ≡ (spaces.is_taken dialect to.now parts.now.now || reserved.takes_lock_key by dialect (name.now ∷ to.now ∷ [])) }
+    ensures { result
+        ≡
+        (spaces.is_taken dialect to.now parts.now.now
+        || reserved.takes_lock_key by dialect (name.now ∷ to.now ∷ [])) }
 {
     is_taken(parts, by, dialect, to) | takes_lock_key(by, dialect, name)
 }

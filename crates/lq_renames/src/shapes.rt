@@ -24,7 +24,9 @@ fn with_column_renamed(
     to: &Name,
     held: &Held,
 ) -> Result<Shape, NoMemory>
-    ensures { IfOk result (λ shape. with_shape shape held.now.now ≡ with_column_renamed table.now own from.now to.now held.now.now) }
+    ensures { IfOk result (λ shape.
+        with_shape shape held.now.now
+        ≡ with_column_renamed table.now own from.now to.now held.now.now) }
 {
     let shape = held.shape();
     let (((columns, key), uniques), (foreign, indexes)) = both(
@@ -60,7 +62,15 @@ fn rename_at(
 ) -> Result<(), NoMemory>
     requires within { at < length parts.old.now.tables }
     requires ordered { IsStrictlySortedBy name_cmp (keys_of parts.old.now.tables) }
-    ensures ok { OnOk result (parts.new.now ≡ record parts.old.now { tables = edit_at at (λ e. (e.0, with_column_renamed table.now (is_named table.now e.0) from.now to.now e.1)) parts.old.now.tables }) }
+    ensures ok { OnOk result
+        (parts.new.now
+        ≡ record parts.old.now {
+          tables = edit_at at (λ e. (
+            e.0,
+            with_column_renamed table.now (is_named table.now e.0) from.now
+                to.now e.1,
+          )) parts.old.now.tables;
+        }) }
     ensures goes { Continues parts.old parts.new }
 {
     let entry = &parts.tables()[at];
@@ -83,7 +93,15 @@ pub fn rename_in_all(
     to: &Name,
 ) -> Result<(), NoMemory>
     requires { IsStrictlySortedBy name_cmp (keys_of parts.old.now.tables) }
-    ensures ok { OnOk result (parts.new.now ≡ record parts.old.now { tables = map (λ e. (e.0, with_column_renamed table.now (is_named table.now e.0) from.now to.now e.1)) parts.old.now.tables }) }
+    ensures ok { OnOk result
+        (parts.new.now
+        ≡ record parts.old.now {
+          tables = map (λ e. (
+            e.0,
+            with_column_renamed table.now (is_named table.now e.0) from.now
+                to.now e.1,
+          )) parts.old.now.tables;
+        }) }
     ensures goes { Continues parts.old parts.new }
 {
     for at in 0..parts.tables().len() {

@@ -29,7 +29,8 @@ fn has_table(parts: &Parts, name: &Name) -> bool
 
 /// Whether neither a table nor a view has the name.
 fn is_missing(parts: &Parts, name: &Name) -> bool
-    ensures { result ≡ (is_none (table_of parts.now.now name.now) && is_none (view_of parts.now.now name.now)) }
+    ensures { result
+        ≡ (is_none (table_of parts.now.now name.now) && is_none (view_of parts.now.now name.now)) }
 {
     match parts.table(name) {
         Some(_) => false,
@@ -41,7 +42,9 @@ fn is_missing(parts: &Parts, name: &Name) -> bool
 }
 
 fn rename_tests(parts: &Parts, by: By, dialect: Dialect, table: &Name, to: &Name) -> Tests
-    ensures { verdict_of result ≡ verdict_of (tests_of (spec.rename_table by dialect table.now to.now parts.now.now) no_faults) }
+    ensures { verdict_of result
+        ≡ verdict_of
+        (tests_of (spec.rename_table by dialect table.now to.now parts.now.now) no_faults) }
 {
     Tests {
         reserved: are_reserved(by, table, to),
@@ -99,11 +102,17 @@ fn move_view(parts: &mut Parts, alloc: Global, view: &Name, to: &Name) -> Result
 
 /// Gives the table of the name another one, or the view where there is no table.
 fn rename_there(parts: &mut Parts, alloc: Global, table: &Name, to: &Name) -> Result<(), NoMemory>
-    requires there { (is_none (table_of parts.old.now table.now) && is_none (view_of parts.old.now table.now)) ≡ false }
+    requires there { (is_none (table_of parts.old.now table.now)
+        && is_none (view_of parts.old.now table.now))
+        ≡ false }
     requires absent { table_of parts.old.now to.now ≡ None }
     requires free { view_of (without_view parts.old.now table.now) to.now ≡ None }
     requires ordered { IsStrictlySortedBy name_cmp (keys_of parts.old.now.tables) }
-    ensures ok { OnOk result (parts.new.now ≡ cond (is_some (table_of parts.old.now table.now)) (spec.table_renamed table.now to.now parts.old.now) (spec.view_renamed table.now to.now parts.old.now)) }
+    ensures ok { OnOk result
+        (parts.new.now
+        ≡ cond (is_some (table_of parts.old.now table.now))
+        (spec.table_renamed table.now to.now parts.old.now)
+        (spec.view_renamed table.now to.now parts.old.now)) }
     ensures goes { Continues parts.old parts.new }
 {
     if has_table(parts, table) {
@@ -124,7 +133,8 @@ pub fn rename_table(
     to: &Name,
 ) -> Result<u64, RunFault>
     requires { IsSound dialect parts.old.now }
-    ensures { Answers (decide (spec.rename_table by dialect table.now to.now parts.old.now)) parts.old parts.new result }
+    ensures { Answers (decide (spec.rename_table by dialect table.now to.now parts.old.now))
+        parts.old parts.new result }
 {
     let tests = rename_tests(parts, by, dialect, table, to);
     match tests.verdict() {

@@ -64,7 +64,11 @@ fn is_own_parent(
     key: &ForeignKey,
     own: &[Value],
 ) -> Result<bool, NoMemory>
-    ensures { IfOk result (λ is. is ≡ (is_named table.now key.now.table && rows.same_values own.now (rows.picked columns.now key.now.targets row.now))) }
+    ensures { IfOk result (λ is.
+        is
+        ≡
+        (is_named table.now key.now.table
+        && rows.same_values own.now (rows.picked columns.now key.now.targets row.now))) }
 {
     if *table != key.table {
         return Ok(false);
@@ -83,7 +87,10 @@ fn lacks_parent(
     key: &ForeignKey,
 ) -> Result<bool, NoMemory>
     requires { columns.now ≡ (the_table parts.old.now table.now).columns }
-    ensures found { IfOk result (λ found. found ≡ lacks_parent_of parts.old.now table.now (the_table parts.old.now table.now) row.now key.now) }
+    ensures found { IfOk result (λ found.
+        found
+        ≡ lacks_parent_of parts.old.now table.now (the_table parts.old.now table.now) row.now
+        key.now) }
     ensures same { parts.new ≡ parts.old }
 {
     let own = picked(alloc, columns, key.columns.as_slice(), row)?;
@@ -104,7 +111,11 @@ fn lacks_one(
     keys: &[ForeignKey],
 ) -> Result<bool, NoMemory>
     requires { columns.now ≡ (the_table parts.old.now table.now).columns }
-    ensures found { IfOk result (λ found. found ≡ list_any (lacks_parent_of parts.old.now table.now (the_table parts.old.now table.now) row.now) keys.now) }
+    ensures found { IfOk result (λ found.
+        found
+        ≡ list_any
+        (lacks_parent_of parts.old.now table.now (the_table parts.old.now table.now) row.now)
+        keys.now) }
     ensures same { parts.new ≡ parts.old }
 {
     for key in keys {
@@ -122,7 +133,8 @@ fn is_orphan(
     table: &Name,
     row: &[Value],
 ) -> Result<bool, NoMemory>
-    ensures found { IfOk result (λ found. found ≡ is_orphan parts.old.now table.now (the_table parts.old.now table.now) row.now) }
+    ensures found { IfOk result (λ found.
+        found ≡ is_orphan parts.old.now table.now (the_table parts.old.now table.now) row.now) }
     ensures same { parts.new ≡ parts.old }
 {
     let Some(held) = parts.table(table) else {
@@ -197,7 +209,8 @@ fn put_row(
     columns: &[Name],
     values: &[Literal],
 ) -> Result<u64, RunFault>
-    ensures { Answers (inserted Program dialect table.now columns.now values.now parts.old.now) parts.old parts.new result }
+    ensures { Answers (inserted Program dialect table.now columns.now values.now parts.old.now)
+        parts.old parts.new result }
 {
     let Some(held) = parts.table(table) else {
         return Err(RunFault::Refused(Reason::Missing));
@@ -230,7 +243,9 @@ pub fn insert_into(
     values: &[Literal],
 ) -> Result<u64, RunFault>
     requires { IsSound dialect parts.old.now }
-    ensures { Answers (decide (spec.insert by dialect table.now columns.now values.now parts.old.now)) parts.old parts.new result }
+    ensures { Answers
+        (decide (spec.insert by dialect table.now columns.now values.now parts.old.now)) parts.old
+        parts.new result }
 {
     if is_reserved(by, table) {
         return Err(RunFault::Refused(Reason::Reserved));

@@ -20,7 +20,9 @@ use std::collections::BTreeSet;
 
 /// The values of the rows that a foreign key aims at, in its targets.
 fn targets(alloc: Global, parts: &Parts, key: &ForeignKey) -> Result<BTreeSet<Values>, NoMemory>
-    ensures { IfOk result (λ set. ShowsRows (the_table parts.now.now key.now.table).columns key.now.targets (the_table parts.now.now key.now.table).rows set) }
+    ensures { IfOk result (λ set.
+        ShowsRows (the_table parts.now.now key.now.table).columns key.now.targets
+        (the_table parts.now.now key.now.table).rows set) }
 {
     match parts.table(&key.table) {
         None => Ok(BTreeSet::new(alloc)),
@@ -37,7 +39,8 @@ pub fn has_orphan(
     rows: &Chain<Row>,
     key: &ForeignKey,
 ) -> Result<bool, NoMemory>
-    ensures { IfOk result (λ found. found ≡ list_any (lacks_parent parts.now.now columns.now key.now) rows.now.now) }
+    ensures { IfOk result
+        (λ found. found ≡ list_any (lacks_parent parts.now.now columns.now key.now) rows.now.now) }
 {
     let targets = targets(alloc, parts, key)?;
     lacks_one(alloc, columns, key.columns.as_slice(), rows, &targets)
@@ -59,7 +62,9 @@ fn loses(
     held: &Held,
     key: &ForeignKey,
 ) -> Result<bool, NoMemory>
-    ensures { IfOk result (λ found. found ≡ loses table.now sets.now parts.now.now held.now.now.columns held.now.now.rows key.now) }
+    ensures { IfOk result (λ found.
+        found
+        ≡ loses table.now sets.now parts.now.now held.now.now.columns held.now.now.rows key.now) }
 {
     if !aims(table, sets, key) {
         return Ok(false);
@@ -76,7 +81,10 @@ pub fn loses_one(
     held: &Held,
     keys: &[ForeignKey],
 ) -> Result<bool, NoMemory>
-    ensures { IfOk result (λ found. found ≡ list_any (loses table.now sets.now parts.now.now held.now.now.columns held.now.now.rows) keys.now) }
+    ensures { IfOk result (λ found.
+        found
+        ≡ list_any (loses table.now sets.now parts.now.now held.now.now.columns held.now.now.rows)
+        keys.now) }
 {
     for key in keys {
         if loses(alloc, parts, table, sets, held, key)? {
@@ -95,7 +103,8 @@ fn child_lost(
     name: &Name,
     held: &Held,
 ) -> Result<bool, NoMemory>
-    ensures { IfOk result (λ found. found ≡ set_child table.now sets.now parts.now.now parts.now.now (name.now, held.now.now)) }
+    ensures { IfOk result (λ found.
+        found ≡ set_child table.now sets.now parts.now.now parts.now.now (name.now, held.now.now)) }
 {
     if *name == *table {
         return Ok(false);
@@ -111,7 +120,10 @@ fn one_lost(
     sets: &[(Name, Literal)],
     entries: &[(Name, Held)],
 ) -> Result<bool, NoMemory>
-    ensures { IfOk result (λ found. found ≡ list_any (set_child table.now sets.now parts.now.now parts.now.now) (tables_of entries.now)) }
+    ensures { IfOk result (λ found.
+        found
+        ≡ list_any (set_child table.now sets.now parts.now.now parts.now.now)
+        (tables_of entries.now)) }
 {
     for entry in entries {
         if child_lost(alloc, parts, table, sets, &entry.0, &entry.1)? {
@@ -123,7 +135,9 @@ fn one_lost(
 
 /// Whether a column that is set stands in the key.
 fn sets_key(sets: &[(Name, Literal)], key: Option<&Key>) -> bool
-    ensures { result ≡ list_any (meets (names_set sets.now)) (map (λ k. k.columns) (key_list (option_copied key.entry))) }
+    ensures { result
+        ≡ list_any (meets (names_set sets.now))
+        (map (λ k. k.columns) (key_list (option_copied key.entry))) }
 {
     match key {
         None => false,
@@ -168,7 +182,10 @@ pub fn children_lost(
     sets: &[(Name, Literal)],
 ) -> Result<bool, NoMemory>
     requires { is_loose parts.now.now ≡ false }
-    ensures { IfOk result (λ found. found ≡ list_any (set_child table.now sets.now parts.now.now parts.now.now) parts.now.now.tables) }
+    ensures { IfOk result (λ found.
+        found
+        ≡ list_any (set_child table.now sets.now parts.now.now parts.now.now)
+        parts.now.now.tables) }
 {
     if !sets_target(parts, table, sets) {
         return Ok(false);

@@ -123,14 +123,16 @@ pub fn is_in(name: &Name, names: &[Name]) -> bool
 
 /// Whether a column of one of the names is missing.
 pub fn column_missing(columns: &[Column], names: &[Name]) -> bool
-    ensures { result ≡ list_any (λ n. not (spaces.is_in n (map (λ c. c.name) columns.now))) names.now }
+    ensures { result
+        ≡ list_any (λ n. not (spaces.is_in n (map (λ c. c.name) columns.now))) names.now }
 {
     names.iter().any(|name| !has_column(columns, name))
 }
 
 /// The columns that are stated: all in order where none is.
 pub fn stated(alloc: Global, columns: &[Column], names: &[Name]) -> Result<Items<Name>, NoMemory>
-    ensures { IfOk result (λ all. all ≡ cond (spaces.is_empty names.now) (map (λ c. c.name) columns.now) names.now) }
+    ensures { IfOk result
+        (λ all. all ≡ cond (spaces.is_empty names.now) (map (λ c. c.name) columns.now) names.now) }
 {
     if names.is_empty() {
         return all_names(alloc, columns);
@@ -194,7 +196,8 @@ pub fn next_after(
     row: &[Value],
     next: u64,
 ) -> Option<u64>
-    ensures { IfSome result (λ after. after ≡ spec.next_of dialect stated.now columns.now row.now next) }
+    ensures { IfSome result
+        (λ after. after ≡ spec.next_of dialect stated.now columns.now row.now next) }
 {
     let [column, columns @ ..] = columns else {
         return Some(next);

@@ -34,7 +34,9 @@ pub fn repeats_set(sets: &[(Name, Literal)]) -> bool
 
 /// Whether a column that is set is missing.
 pub fn lacks_set(columns: &[Column], sets: &[(Name, Literal)]) -> bool
-    ensures { result ≡ list_any (λ n. not (spaces.is_in n (map (λ c. c.name) columns.now))) (names_set sets.now) }
+    ensures { result
+        ≡ list_any (λ n. not (spaces.is_in n (map (λ c. c.name) columns.now)))
+        (names_set sets.now) }
 {
     match sets {
         [] => false,

@@ -22,7 +22,8 @@ fn lacks_parent(
     row: &[Value],
     key: &ForeignKey,
 ) -> Result<bool, NoMemory>
-    ensures found { IfOk result (λ found. found ≡ lacks_parent parts.old.now columns.now key.now row.now) }
+    ensures found { IfOk result
+        (λ found. found ≡ lacks_parent parts.old.now columns.now key.now row.now) }
     ensures same { parts.new ≡ parts.old }
 {
     let own = picked(alloc, columns, key.columns.as_slice(), row)?;
@@ -40,7 +41,8 @@ fn is_stray(
     new: &Option<Row>,
     key: &ForeignKey,
 ) -> Result<bool, NoMemory>
-    ensures found { IfOk result (λ found. found ≡ is_some_such (lacks_parent parts.old.now columns.now key.now) new.now) }
+    ensures found { IfOk result
+        (λ found. found ≡ is_some_such (lacks_parent parts.old.now columns.now key.now) new.now) }
     ensures same { parts.new ≡ parts.old }
 {
     match new {
@@ -56,7 +58,8 @@ fn stray_in(
     by: &[Option<Row>],
     key: &ForeignKey,
 ) -> Result<bool, NoMemory>
-    ensures found { IfOk result (λ found. found ≡ list_any (is_some_such (lacks_parent parts.old.now columns.now key.now)) by.now) }
+    ensures found { IfOk result (λ found.
+        found ≡ list_any (is_some_such (lacks_parent parts.old.now columns.now key.now)) by.now) }
     ensures same { parts.new ≡ parts.old }
 {
     for new in by {
@@ -76,7 +79,8 @@ fn strays(
     by: &[Option<Row>],
     key: &ForeignKey,
 ) -> Result<bool, NoMemory>
-    ensures found { IfOk result (λ found. found ≡ strays table.now sets.now by.now parts.old.now columns.now key.now) }
+    ensures found { IfOk result
+        (λ found. found ≡ strays table.now sets.now by.now parts.old.now columns.now key.now) }
     ensures same { parts.new ≡ parts.old }
 {
     if aims(table, sets, key) || !meets(sets, key.columns.as_slice()) {
@@ -94,7 +98,8 @@ fn strays_one(
     by: &[Option<Row>],
     keys: &[ForeignKey],
 ) -> Result<bool, NoMemory>
-    ensures found { IfOk result (λ found. found ≡ list_any (strays table.now sets.now by.now parts.old.now columns.now) keys.now) }
+    ensures found { IfOk result (λ found.
+        found ≡ list_any (strays table.now sets.now by.now parts.old.now columns.now) keys.now) }
     ensures same { parts.new ≡ parts.old }
 {
     for key in keys {
@@ -114,7 +119,12 @@ pub fn is_stray_by(
     sets: &[(Name, Literal)],
     by: &[Option<Row>],
 ) -> Result<bool, NoMemory>
-    ensures found { IfOk result (λ found. found ≡ list_any (strays table.now sets.now by.now parts.old.now (the_table parts.old.now table.now).columns) (the_table parts.old.now table.now).foreign) }
+    ensures found { IfOk result (λ found.
+        found
+        ≡ list_any
+        (strays table.now sets.now by.now parts.old.now
+        (the_table parts.old.now table.now).columns)
+        (the_table parts.old.now table.now).foreign) }
     ensures same { parts.new ≡ parts.old }
 {
     let Some(held) = parts.table(table) else {

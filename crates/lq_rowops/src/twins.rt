@@ -33,7 +33,10 @@ fn key_twins(
     held: &Held,
     key: Option<&Key>,
 ) -> Result<bool, NoMemory>
-    ensures { IfOk result (λ found. found ≡ list_any (set_twins sets.now held.now.now) (map (λ k. k.columns) (key_list (option_copied key.entry)))) }
+    ensures { IfOk result (λ found.
+        found
+        ≡ list_any (set_twins sets.now held.now.now)
+        (map (λ k. k.columns) (key_list (option_copied key.entry)))) }
 {
     match key {
         None => Ok(false),
@@ -47,7 +50,8 @@ fn unique_twins(
     held: &Held,
     uniques: &[Unique],
 ) -> Result<bool, NoMemory>
-    ensures { IfOk result (λ found. found ≡ list_any (set_twins sets.now held.now.now) (map (λ u. u.columns) uniques.now)) }
+    ensures { IfOk result (λ found.
+        found ≡ list_any (set_twins sets.now held.now.now) (map (λ u. u.columns) uniques.now)) }
 {
     for unique in uniques {
         if twins_in(alloc, sets, held, unique.columns.as_slice())? {
@@ -63,7 +67,10 @@ fn index_twins(
     held: &Held,
     indexes: &[Index],
 ) -> Result<bool, NoMemory>
-    ensures { IfOk result (λ found. found ≡ list_any (set_twins sets.now held.now.now) (map (λ i. i.columns) (filter (λ i. i.unique) indexes.now))) }
+    ensures { IfOk result (λ found.
+        found
+        ≡ list_any (set_twins sets.now held.now.now)
+        (map (λ i. i.columns) (filter (λ i. i.unique) indexes.now))) }
 {
     for index in indexes {
         if !index.unique {
@@ -79,7 +86,8 @@ fn index_twins(
 /// Whether two rows are equal in a key, a unique constraint or a unique index of which a column is set.
 #[tactic(auto, using(crate::proofs::UpdateLemmas::any_three))]
 pub fn has_twins(alloc: Global, sets: &[(Name, Literal)], held: &Held) -> Result<bool, NoMemory>
-    ensures { IfOk result (λ found. found ≡ list_any (set_twins sets.now held.now.now) (unique_lists held.now.now)) }
+    ensures { IfOk result
+        (λ found. found ≡ list_any (set_twins sets.now held.now.now) (unique_lists held.now.now)) }
 {
     if key_twins(alloc, sets, held, held.key())? {
         return Ok(true);

@@ -90,7 +90,8 @@ fn changes_by(
     test: &Option<Test>,
 ) -> Result<Changes, NoMemory>
     requires { values.now ≡ map (value_set (the_table parts.now.now table.now).columns) sets.now }
-    ensures { IfOk result (λ changes. AreChanges sets.now test.now (the_table parts.now.now table.now) changes) }
+    ensures { IfOk result
+        (λ changes. AreChanges sets.now test.now (the_table parts.now.now table.now) changes) }
 {
     let Some(held) = parts.table(table) else {
         return Ok(Changes {
@@ -121,7 +122,10 @@ fn tested(
     is_stray: bool,
 ) -> Result<Tests, NoMemory>
     requires { is_loose parts.now.now ≡ false }
-    ensures { IfOk result (λ tests. tests ≡ result_tests table.now sets.now nulls is_stray (the_table parts.now.now table.now) parts.now.now) }
+    ensures { IfOk result (λ tests.
+        tests
+        ≡ result_tests table.now sets.now nulls is_stray (the_table parts.now.now table.now)
+        parts.now.now) }
 {
     let children = children_lost(alloc, parts, table, sets)?;
     let (twins, orphans) = match parts.table(table) {
@@ -159,7 +163,8 @@ pub fn update(
     test: &Option<Test>,
 ) -> Result<u64, RunFault>
     requires { IsSound dialect parts.old.now }
-    ensures { Carries (decide (spec.update by dialect table.now sets.now test.now parts.old.now)) parts.old parts.new result }
+    ensures { Carries (decide (spec.update by dialect table.now sets.now test.now parts.old.now))
+        parts.old parts.new result }
 {
     let stated = stated_by(alloc, parts, by, table, sets, test)?;
     match stated.tests.verdict() {

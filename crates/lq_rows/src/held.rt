@@ -165,7 +165,8 @@ impl Held {
         names: &[Name],
         values: &Values,
     ) -> Result<bool, NoMemory>
-        ensures found { IfOk result (λ found. found ≡ has_values self.old.now.columns names.now self.old.now.rows values.now) }
+        ensures found { IfOk result (λ found.
+            found ≡ has_values self.old.now.columns names.now self.old.now.rows values.now) }
         ensures same { self.new ≡ self.old }
     {
         let body = &mut *self.body;
@@ -218,7 +219,10 @@ impl Held {
 
     /// Adds a row at the end, or changes nothing.
     pub fn append(&mut self, alloc: Global, row: Row, next: u64) -> Result<(), NoMemory>
-        ensures ok { OnOk result (self.new ≡ with_rows (changed (rows_of self.old) (self.old.now.rows ++ row ∷ [])) next self.old) }
+        ensures ok { OnOk result
+            (self.new
+            ≡ with_rows (changed (rows_of self.old) (self.old.now.rows ++ row ∷ [])) next
+            self.old) }
         ensures err { OnErr result (self.new ≡ self.old) }
     {
         let body = &mut *self.body;
@@ -239,7 +243,10 @@ impl Held {
     /// Puts other rows in place of those where there is one, or changes nothing.
     pub fn replace_some(&mut self, alloc: Global, by: Vec<Option<Row>>) -> Result<(), NoMemory>
         requires { length by.items ≡ length self.old.now.rows }
-        ensures ok { OnOk result (self.new ≡ with_rows (changed (rows_of self.old) (replaced by.items self.old.now.rows)) self.old.now.next self.old) }
+        ensures ok { OnOk result
+            (self.new
+            ≡ with_rows (changed (rows_of self.old) (replaced by.items self.old.now.rows))
+            self.old.now.next self.old) }
         ensures err { OnErr result (self.new ≡ self.old) }
     {
         let body = &mut *self.body;
@@ -250,7 +257,10 @@ impl Held {
     /// Keeps the rows whose mark stands and takes the others out, or changes nothing.
     pub fn keep(&mut self, alloc: Global, marks: Vec<bool>) -> Result<(), NoMemory>
         requires { length marks.items ≡ length self.old.now.rows }
-        ensures ok { OnOk result (self.new ≡ with_rows (changed (rows_of self.old) (kept_rows marks.items self.old.now.rows)) self.old.now.next self.old) }
+        ensures ok { OnOk result
+            (self.new
+            ≡ with_rows (changed (rows_of self.old) (kept_rows marks.items self.old.now.rows))
+            self.old.now.next self.old) }
         ensures err { OnErr result (self.new ≡ self.old) }
     {
         let body = &mut *self.body;

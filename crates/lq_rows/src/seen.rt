@@ -26,7 +26,12 @@ fn add(
     names: &[Name],
     row: &[lq_base::Value],
 ) -> Result<(), NoMemory>
-    ensures { OnOk result ((values : List Held) → contains values_cmp set.new values ≡ (same_values values (picked columns.now names.now row.now) || contains values_cmp set.old values)) }
+    ensures { OnOk result
+        ((values : List Held)
+        → contains values_cmp set.new values
+        ≡
+        (same_values values (picked columns.now names.now row.now)
+        || contains values_cmp set.old values)) }
 {
     let values = picked(alloc, columns, names, row)?;
     if has_null(values.as_slice()) {
@@ -68,7 +73,9 @@ fn same_names(a: &[Name], b: &[Name]) -> bool
 
 /// Whether a row has these values in these columns, where that is known.
 pub fn has_seen(seen: &[Seen], names: &[Name], values: &Values) -> Option<bool>
-    ensures { (columns : List Shape) (rows : List (List Held)) → AllShow columns rows seen.now → IfSome result (λ found. found ≡ has_values columns names.now rows values.now) }
+    ensures { (columns : List Shape) (rows : List (List Held))
+        → AllShow columns rows seen.now
+        → IfSome result (λ found. found ≡ has_values columns names.now rows values.now) }
 {
     let [first, rest @ ..] = seen else {
         return None;
@@ -82,7 +89,9 @@ pub fn has_seen(seen: &[Seen], names: &[Name], values: &Values) -> Option<bool>
 #[tactic(auto, using(crate::proofs::SeenLemmas::none_with, crate::proofs::SeenLemmas::all_with))]
 /// Adds a new row to what is known, or drops that where memory is wanting.
 pub fn keep_up(alloc: Global, seen: &mut Vec<Seen>, columns: &[Column], row: &[lq_base::Value])
-    ensures { (rows : List (List Held)) → AllShow columns.now rows seen.old.items → AllShow columns.now (rows ++ row.now ∷ []) seen.new.items }
+    ensures { (rows : List (List Held))
+        → AllShow columns.now rows seen.old.items
+        → AllShow columns.now (rows ++ row.now ∷ []) seen.new.items }
 {
     for at in 0..seen.len() {
         if learn(alloc, seen, at, columns, row).is_err() {
@@ -101,7 +110,10 @@ fn learn(
     row: &[lq_base::Value],
 ) -> Result<(), NoMemory>
     requires { at < vec_len seen.old }
-    ensures ok { OnOk result ((rows : List (List Held)) → ShowWith at columns.now rows row.now seen.old.items → ShowWith (suc at) columns.now rows row.now seen.new.items) }
+    ensures ok { OnOk result
+        ((rows : List (List Held))
+        → ShowWith at columns.now rows row.now seen.old.items
+        → ShowWith (suc at) columns.now rows row.now seen.new.items) }
     ensures len { vec_len seen.new ≡ vec_len seen.old }
 {
     let one = &mut seen[at];
@@ -116,7 +128,8 @@ pub fn see_all(
     names: &[Name],
     rows: &Chain<Row>,
 ) -> Result<Seen, NoMemory>
-    ensures { IfOk result (λ seen. (seen.columns ≡ names.now) × ShowsRows columns.now names.now rows.now.now seen.values) }
+    ensures { IfOk result (λ seen.
+        (seen.columns ≡ names.now) × ShowsRows columns.now names.now rows.now.now seen.values) }
 {
     let values = see(alloc, columns, names, rows)?;
     let mut copy = Items::new(alloc);
@@ -139,7 +152,8 @@ pub fn asked(
     values: &Values,
 ) -> Result<bool, NoMemory>
     requires { AllShow columns.now rows.now.now seen.old.items }
-    ensures found { IfOk result (λ found. found ≡ has_values columns.now names.now rows.now.now values.now) }
+    ensures found { IfOk result
+        (λ found. found ≡ has_values columns.now names.now rows.now.now values.now) }
     ensures kept { AllShow columns.now rows.now.now seen.new.items }
 {
     if let Some(found) = has_seen(seen, names, values) {
@@ -152,7 +166,11 @@ pub fn asked(
 }
 
 fn put_seen(all: &mut Vec<Seen>, seen: Seen) -> Result<(), NoMemory>
-    ensures ok { OnOk result ((columns : List Shape) (rows : List (List Held)) → AllShow columns rows all.old.items → ShowsRows columns seen.columns rows seen.values → AllShow columns rows all.new.items) }
+    ensures ok { OnOk result
+        ((columns : List Shape) (rows : List (List Held))
+        → AllShow columns rows all.old.items
+        → ShowsRows columns seen.columns rows seen.values
+        → AllShow columns rows all.new.items) }
     ensures err { OnErr result (all.new.items ≡ all.old.items) }
 {
     all.push(seen)?;

@@ -24,7 +24,8 @@ fn twin_in(
     row: &[Value],
 ) -> Result<bool, NoMemory>
     requires { AllShow columns.now rows.now.now seen.old.items }
-    ensures found { IfOk result (λ found. found ≡ is_twin_in columns.now rows.now.now row.now names.now) }
+    ensures found { IfOk result
+        (λ found. found ≡ is_twin_in columns.now rows.now.now row.now names.now) }
     ensures kept { AllShow columns.now rows.now.now seen.new.items }
 {
     let values = Values::new(picked(alloc, columns, names, row)?);
@@ -41,7 +42,10 @@ pub fn key_twin(
     row: &[Value],
 ) -> Result<bool, NoMemory>
     requires { AllShow columns.now rows.now.now seen.old.items }
-    ensures found { IfOk result (λ found. found ≡ list_any (is_twin_in columns.now rows.now.now row.now) (map (λ k. k.columns) (key_list key.now))) }
+    ensures found { IfOk result (λ found.
+        found
+        ≡ list_any (is_twin_in columns.now rows.now.now row.now)
+        (map (λ k. k.columns) (key_list key.now))) }
     ensures kept { AllShow columns.now rows.now.now seen.new.items }
 {
     match key {
@@ -59,7 +63,10 @@ pub fn unique_twin(
     row: &[Value],
 ) -> Result<bool, NoMemory>
     requires { AllShow columns.now rows.now.now seen.old.items }
-    ensures found { IfOk result (λ found. found ≡ list_any (is_twin_in columns.now rows.now.now row.now) (map (λ u. u.columns) uniques.now)) }
+    ensures found { IfOk result (λ found.
+        found
+        ≡ list_any (is_twin_in columns.now rows.now.now row.now)
+        (map (λ u. u.columns) uniques.now)) }
     ensures kept { AllShow columns.now rows.now.now seen.new.items }
 {
     for unique in uniques {
@@ -79,7 +86,10 @@ pub fn index_twin(
     row: &[Value],
 ) -> Result<bool, NoMemory>
     requires { AllShow columns.now rows.now.now seen.old.items }
-    ensures found { IfOk result (λ found. found ≡ list_any (is_twin_in columns.now rows.now.now row.now) (map (λ i. i.columns) (filter (λ i. i.unique) indexes.now))) }
+    ensures found { IfOk result (λ found.
+        found
+        ≡ list_any (is_twin_in columns.now rows.now.now row.now)
+        (map (λ i. i.columns) (filter (λ i. i.unique) indexes.now))) }
     ensures kept { AllShow columns.now rows.now.now seen.new.items }
 {
     for index in indexes {

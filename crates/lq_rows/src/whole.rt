@@ -24,8 +24,14 @@ fn note(
     names: &[Name],
     row: &[Value],
 ) -> Result<bool, NoMemory>
-    ensures found { IfOk result (λ found. found ≡ is_among set.old (picked columns.now names.now row.now)) }
-    ensures set { OnOk result ((values : List Held) → contains values_cmp set.new values ≡ (same_values values (picked columns.now names.now row.now) || contains values_cmp set.old values)) }
+    ensures found { IfOk result
+        (λ found. found ≡ is_among set.old (picked columns.now names.now row.now)) }
+    ensures set { OnOk result
+        ((values : List Held)
+        → contains values_cmp set.new values
+        ≡
+        (same_values values (picked columns.now names.now row.now)
+        || contains values_cmp set.old values)) }
 {
     let values = picked(alloc, columns, names, row)?;
     if has_null(values.as_slice()) {
@@ -42,7 +48,8 @@ pub fn are_twins(
     names: &[Name],
     rows: &Chain<Row>,
 ) -> Result<bool, NoMemory>
-    ensures { IfOk result (λ found. found ≡ has_equals (map (picked columns.now names.now) rows.now.now)) }
+    ensures { IfOk result
+        (λ found. found ≡ has_equals (map (picked columns.now names.now) rows.now.now)) }
 {
     let mut set = BTreeSet::new(alloc);
     for row in rows.iter() {
@@ -60,7 +67,8 @@ fn lacks(
     row: &[Value],
     set: &BTreeSet<Values>,
 ) -> Result<bool, NoMemory>
-    ensures { IfOk result (λ found. found ≡ is_apart set.now (picked columns.now names.now row.now)) }
+    ensures { IfOk result
+        (λ found. found ≡ is_apart set.now (picked columns.now names.now row.now)) }
 {
     let values = picked(alloc, columns, names, row)?;
     if has_null(values.as_slice()) {
@@ -77,7 +85,9 @@ pub fn lacks_one(
     rows: &Chain<Row>,
     set: &BTreeSet<Values>,
 ) -> Result<bool, NoMemory>
-    ensures { IfOk result (λ found. found ≡ list_any (λ row. is_apart set.now (picked columns.now names.now row)) rows.now.now) }
+    ensures { IfOk result (λ found.
+        found
+        ≡ list_any (λ row. is_apart set.now (picked columns.now names.now row)) rows.now.now) }
 {
     for row in rows.iter() {
         if lacks(alloc, columns, names, row.as_slice(), set)? {

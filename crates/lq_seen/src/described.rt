@@ -20,7 +20,8 @@ pub fn described(alloc: Global, changes: &[AnyChange]) -> Result<Text, NoMemory>
 }
 
 fn push_names(to: &mut Text, changes: &[AnyChange]) -> Result<(), NoMemory>
-    ensures { OnOk result (to.new ≡ to.old ++ flat_map (λ x. codes ", " ++ type_name x) changes.now) }
+    ensures { OnOk result
+        (to.new ≡ to.old ++ flat_map (λ x. codes ", " ++ type_name x) changes.now) }
 {
     let mut rest = changes;
     while let [change, after @ ..] = rest {

@@ -17,7 +17,8 @@ pub fn print<P: SqlText>(
     to: &mut Items<Printed>,
 ) -> Result<(), NoMemory>
     requires spelled { list_all (is_statement P.dialect) statements.now ≡ true }
-    ensures { OnOk result (to.new ≡ to.old ++ with_texts P.dialect (identity.now, statements.now) ∷ []) }
+    ensures { OnOk result
+        (to.new ≡ to.old ++ with_texts P.dialect (identity.now, statements.now) ∷ []) }
 {
     let made = printed(alloc, sql, identity, statements)?;
     to.push(made)?;

@@ -98,7 +98,10 @@ pub fn take_back(identity: Identity, stops: bool, choice: Choice, outcome: &mut 
 }
 
 fn forget(choice: Choice, happened: &mut Items<Happened>)
-    ensures { happens choice ≡ true → (front : List Event) (last : Event) → happened.old ≡ front ++ last ∷ [] → happened.new ≡ front }
+    ensures { happens choice ≡ true
+        → (front : List Event) (last : Event)
+        → happened.old ≡ front ++ last ∷ []
+        → happened.new ≡ front }
 {
     if happens(choice) {
         happened.pop();
@@ -107,7 +110,10 @@ fn forget(choice: Choice, happened: &mut Items<Happened>)
 
 /// In the place of what was told of it before.
 fn skip(identity: Identity, choice: Choice, happened: &mut Items<Happened>)
-    ensures { happens choice ≡ true → (front : List Event) (last : Event) → happened.old ≡ front ++ last ∷ [] → happened.new ≡ front ++ happened_instead identity false }
+    ensures { happens choice ≡ true
+        → (front : List Event) (last : Event)
+        → happened.old ≡ front ++ last ∷ []
+        → happened.new ≡ front ++ happened_instead identity false }
 {
     if happens(choice) {
         put_last(identity, happened);
@@ -115,7 +121,9 @@ fn skip(identity: Identity, choice: Choice, happened: &mut Items<Happened>)
 }
 
 fn put_last(identity: Identity, happened: &mut Items<Happened>)
-    ensures { (front : List Event) (last : Event) → happened.old ≡ front ++ last ∷ [] → happened.new ≡ front ++ happened_instead identity false }
+    ensures { (front : List Event) (last : Event)
+        → happened.old ≡ front ++ last ∷ []
+        → happened.new ≡ front ++ happened_instead identity false }
 {
     let count = happened.len();
     if count > 0 {

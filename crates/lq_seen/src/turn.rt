@@ -89,7 +89,10 @@ pub fn run_turn(
     requires read { list_all (is_for dialect) set.now.changes ≡ true }
     requires moment { reading ≤ 253402300799999 }
     requires room { last ≤ 2147483647 }
-    ensures { IfOk result (λ turn. (options : Options) (rows : List Row) → greatest rows ≡ last → turn ≡ run_turn dialect any_meaning reading what (view options set.now) rows) }
+    ensures { IfOk result (λ turn.
+        (options : Options) (rows : List Row)
+        → greatest rows ≡ last
+        → turn ≡ run_turn dialect any_meaning reading what (view options set.now) rows) }
 {
     let row = recorded_row(alloc, set, what, exec_of(what), reading, last)?;
     let statements = own_statements(alloc, dialect, set)?;
@@ -99,7 +102,8 @@ pub fn run_turn(
 
 /// The turn of a changeset in which only its row changes.
 fn row_turn(alloc: Global, set: &ChangeSet, row: OnRows) -> Result<Turn, NoMemory>
-    ensures { IfOk result (λ turn. (options : Options) → turn ≡ row_turn (view options set.now) row) }
+    ensures { IfOk result
+        (λ turn. (options : Options) → turn ≡ row_turn (view options set.now) row) }
 {
     let turn = turn_of(alloc, set, Items::new(alloc), true, row)?;
     Ok(turn)
@@ -117,7 +121,10 @@ pub fn mark_turn(
 ) -> Result<Turn, NoMemory>
     requires moment { reading ≤ 253402300799999 }
     requires room { last ≤ 2147483647 }
-    ensures { IfOk result (λ turn. (options : Options) (rows : List Row) → greatest rows ≡ last → turn ≡ mark_turn reading what (view options set.now) rows) }
+    ensures { IfOk result (λ turn.
+        (options : Options) (rows : List Row)
+        → greatest rows ≡ last
+        → turn ≡ mark_turn reading what (view options set.now) rows) }
 {
     let row = recorded_row(alloc, set, what, Exec::MarkRan, reading, last)?;
     let turn = row_turn(alloc, set, row)?;

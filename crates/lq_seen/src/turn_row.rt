@@ -21,7 +21,8 @@ pub fn row_of_turn(
     exec: Exec,
 ) -> Result<Tracked, NoMemory>
     requires moment { reading ≤ 253402300799999 }
-    ensures { IfOk result (λ row. (options : Options) → row ≡ row_for reading order exec (view options set.now)) }
+    ensures { IfOk result
+        (λ row. (options : Options) → row ≡ row_for reading order exec (view options set.now)) }
 {
     let description = described(alloc, set.changes.as_slice())?;
     let tag = tag_of(alloc, set.changes.as_slice())?;
@@ -63,7 +64,10 @@ pub fn recorded_row(
 ) -> Result<OnRows, NoMemory>
     requires moment { reading ≤ 253402300799999 }
     requires room { last ≤ 2147483647 }
-    ensures { IfOk result (λ made. (options : Options) (rows : List Row) → greatest rows ≡ last → made ≡ record_in reading what exec (view options set.now) rows) }
+    ensures { IfOk result (λ made.
+        (options : Options) (rows : List Row)
+        → greatest rows ≡ last
+        → made ≡ record_in reading what exec (view options set.now) rows) }
 {
     let row = row_of_turn(alloc, set, reading, last + 1, exec)?;
     Ok(recorded(what, row))

@@ -57,17 +57,24 @@ pub fn commit<D: Disk, E: Executor>(
     begun: &mut Open,
     lock: &mut Lock,
 ) -> Result<(), AppendFault>
-    requires whole { IsWhole (D.told (disk_of journal.old)) (D.crashes (disk_of journal.old)) journal.old }
-    ensures does { MayAppend Ordinary (entries_of begun.old.entry) (log_of (D.told (disk_of journal.old)) journal.old) result (log_of (D.told (disk_of journal.new)) journal.new) }
+    requires whole { IsWhole (D.told (disk_of journal.old)) (D.crashes (disk_of journal.old))
+        journal.old }
+    ensures does { MayAppend Ordinary (entries_of begun.old.entry)
+        (log_of (D.told (disk_of journal.old)) journal.old) result
+        (log_of (D.told (disk_of journal.new)) journal.new) }
     ensures kept { OnOk result (E.held engine.new ≡ forgotten (E.held engine.old)) }
     ensures cleared { OnOk result (IsCleared begun.old begun.new) }
     ensures lock { OnOk result (lock.new ≡ lock_in begun.old.lock lock.old) }
-    ensures back { OnErr result (side (E.held engine.new) begun.new lock.new ≡ side (E.held engine.old) begun.old lock.old) }
-    ensures whole { UnlessDisk result (IsWhole (D.told (disk_of journal.new)) (D.crashes (disk_of journal.new)) journal.new) }
+    ensures back { OnErr result
+        (side (E.held engine.new) begun.new lock.new
+        ≡ side (E.held engine.old) begun.old lock.old) }
+    ensures whole { UnlessDisk result
+        (IsWhole (D.told (disk_of journal.new)) (D.crashes (disk_of journal.new)) journal.new) }
     ensures crash { LeavesFront (log_of (D.told (disk_of journal.old)) journal.old).entries (entries_of begun.old.entry)
         (crashes_in (dialect_of journal.old) (limit_of journal.old) (D.crashes (disk_of journal.old))) (crashes_in (dialect_of journal.new) (limit_of journal.new) (D.crashes (disk_of journal.new))) }
     ensures later { D.faults (disk_of journal.old) ≤ D.faults (disk_of journal.new) }
-    ensures rose { result ≡ Err AppendFault.Disk → Rose (D.faults (disk_of journal.old)) (D.faults (disk_of journal.new)) }
+    ensures rose { result ≡ Err AppendFault.Disk
+        → Rose (D.faults (disk_of journal.old)) (D.faults (disk_of journal.new)) }
 {
     append_open(journal, &begun.entry, Room::Ordinary)?;
     engine.forget();

@@ -81,7 +81,9 @@ pub fn kinds_agree(
     others: &Columns<'_>,
     targets: &[Name],
 ) -> bool
-    ensures { result ≡ same_kinds (map (λ n. kind_of n own.now) names.now) (map (λ n. kind_of n others.now) targets.now) }
+    ensures { result
+        ≡ same_kinds (map (λ n. kind_of n own.now) names.now)
+        (map (λ n. kind_of n others.now) targets.now) }
 {
     let [name, names @ ..] = names else {
         return are_none(targets);
@@ -97,7 +99,9 @@ pub fn kinds_agree(
 
 /// The same of columns of one table.
 pub fn own_kinds_agree(own: &Columns<'_>, names: &[Name], targets: &[Name]) -> bool
-    ensures { result ≡ same_kinds (map (λ n. kind_of n own.now) names.now) (map (λ n. kind_of n own.now) targets.now) }
+    ensures { result
+        ≡ same_kinds (map (λ n. kind_of n own.now) names.now)
+        (map (λ n. kind_of n own.now) targets.now) }
 {
     let [name, names @ ..] = names else {
         return are_none(targets);

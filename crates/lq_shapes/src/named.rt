@@ -18,7 +18,8 @@ pub fn push_names<'a>(to: &mut Items<&'a Name>, names: &'a [Name]) -> Result<(),
 
 /// Adds the names of the columns.
 pub fn push_columns<'a>(to: &mut Items<&'a Name>, columns: &'a [Column]) -> Result<(), NoMemory>
-    ensures { OnOk result (map (λ n. n.now) to.new ≡ map (λ n. n.now) to.old ++ map (λ c. c.name) columns.now) }
+    ensures { OnOk result
+        (map (λ n. n.now) to.new ≡ map (λ n. n.now) to.old ++ map (λ c. c.name) columns.now) }
 {
     let mut rest = columns;
     while let [column, after @ ..] = rest {
@@ -30,7 +31,9 @@ pub fn push_columns<'a>(to: &mut Items<&'a Name>, columns: &'a [Column]) -> Resu
 
 /// Adds the name of the key, where there is one.
 pub fn push_key<'a>(to: &mut Items<&'a Name>, key: &'a Option<Key>) -> Result<(), NoMemory>
-    ensures { OnOk result (map (λ n. n.now) to.new ≡ map (λ n. n.now) to.old ++ map (λ k. k.name) (key_list key.now)) }
+    ensures { OnOk result
+        (map (λ n. n.now) to.new
+        ≡ map (λ n. n.now) to.old ++ map (λ k. k.name) (key_list key.now)) }
 {
     match key {
         None => Ok(()),
@@ -43,7 +46,8 @@ pub fn push_key<'a>(to: &mut Items<&'a Name>, key: &'a Option<Key>) -> Result<()
 
 /// Adds the names of the unique constraints.
 pub fn push_uniques<'a>(to: &mut Items<&'a Name>, uniques: &'a [Unique]) -> Result<(), NoMemory>
-    ensures { OnOk result (map (λ n. n.now) to.new ≡ map (λ n. n.now) to.old ++ map (λ u. u.name) uniques.now) }
+    ensures { OnOk result
+        (map (λ n. n.now) to.new ≡ map (λ n. n.now) to.old ++ map (λ u. u.name) uniques.now) }
 {
     let mut rest = uniques;
     while let [unique, after @ ..] = rest {
@@ -55,7 +59,8 @@ pub fn push_uniques<'a>(to: &mut Items<&'a Name>, uniques: &'a [Unique]) -> Resu
 
 /// Adds the names of the foreign keys.
 pub fn push_foreign<'a>(to: &mut Items<&'a Name>, keys: &'a [ForeignKey]) -> Result<(), NoMemory>
-    ensures { OnOk result (map (λ n. n.now) to.new ≡ map (λ n. n.now) to.old ++ map (λ f. f.name) keys.now) }
+    ensures { OnOk result
+        (map (λ n. n.now) to.new ≡ map (λ n. n.now) to.old ++ map (λ f. f.name) keys.now) }
 {
     let mut rest = keys;
     while let [key, after @ ..] = rest {
@@ -67,7 +72,8 @@ pub fn push_foreign<'a>(to: &mut Items<&'a Name>, keys: &'a [ForeignKey]) -> Res
 
 /// Adds the names of the tables that the foreign keys target.
 pub fn push_targets<'a>(to: &mut Items<&'a Name>, keys: &'a [ForeignKey]) -> Result<(), NoMemory>
-    ensures { OnOk result (map (λ n. n.now) to.new ≡ map (λ n. n.now) to.old ++ map (λ f. f.table) keys.now) }
+    ensures { OnOk result
+        (map (λ n. n.now) to.new ≡ map (λ n. n.now) to.old ++ map (λ f. f.table) keys.now) }
 {
     let mut rest = keys;
     while let [key, after @ ..] = rest {

@@ -42,7 +42,8 @@ fn names_of_key<'a>(alloc: Global, key: &'a Option<Key>) -> Result<Names<'a>, No
 
 /// The column, not null where the key has it.
 fn keyed(names: &Names<'_>, column: Column) -> Column
-    ensures { result ≡ cond (is_in column.name names.now) (record column { nullable = false }) column }
+    ensures { result
+        ≡ cond (is_in column.name names.now) (record column { nullable = false }) column }
 {
     let mut made = column;
     if names.has(&made.name) {
@@ -109,7 +110,8 @@ pub fn new_shape(
     new: &NewTable<'_>,
     columns: Items<Column>,
 ) -> Result<Shape, NoMemory>
-    ensures { IfOk result (λ shape. shape ≡ shape_with columns new.now.key.now new.now.uniques.now new.now.foreign.now) }
+    ensures { IfOk result (λ shape.
+        shape ≡ shape_with columns new.now.key.now new.now.uniques.now new.now.foreign.now) }
 {
     let key = new.key.duplicate(alloc)?;
     let uniques = copied(alloc, new.uniques)?;

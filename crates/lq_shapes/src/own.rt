@@ -39,7 +39,8 @@ fn foreign_lacks(own: &Columns<'_>, keys: &[ForeignKey]) -> bool
 
 /// Whether a column that a key, unique constraint or foreign key names is not there.
 pub fn lacks_own(own: &Columns<'_>, new: &NewTable<'_>) -> bool
-    ensures { result ≡ lacks_own (made own.now new.now.key.now new.now.uniques.now new.now.foreign.now) }
+    ensures { result
+        ≡ lacks_own (made own.now new.now.key.now new.now.uniques.now new.now.foreign.now) }
 {
     (key_lacks(own, new.key) | unique_lacks(own, new.uniques)) | foreign_lacks(own, new.foreign)
 }
@@ -65,7 +66,8 @@ fn unique_repeats(alloc: Global, uniques: &[Unique]) -> Result<bool, NoMemory>
 }
 
 fn foreign_repeats(alloc: Global, keys: &[ForeignKey]) -> Result<bool, NoMemory>
-    ensures { IfOk result (λ found. found ≡ list_any (λ f. repeats f.columns || repeats f.targets) keys.now) }
+    ensures { IfOk result
+        (λ found. found ≡ list_any (λ f. repeats f.columns || repeats f.targets) keys.now) }
 {
     for key in keys {
         if one_repeats(alloc, key)? {
@@ -94,7 +96,9 @@ fn columns_repeat(alloc: Global, columns: &[Column]) -> Result<bool, NoMemory>
 
 /// Whether a column is named twice in a list.
 pub fn lists_twice(alloc: Global, columns: &[Column], new: &NewTable<'_>) -> Result<bool, NoMemory>
-    ensures { IfOk result (λ found. found ≡ lists_twice (made columns.now new.now.key.now new.now.uniques.now new.now.foreign.now)) }
+    ensures { IfOk result (λ found.
+        found
+        ≡ lists_twice (made columns.now new.now.key.now new.now.uniques.now new.now.foreign.now)) }
 {
     let own = columns_repeat(alloc, columns)?;
     let key = key_repeats(alloc, new.key)?;

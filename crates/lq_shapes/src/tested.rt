@@ -49,7 +49,10 @@ fn names_tested(test: &Option<Test>, column: &Name) -> bool
 /// Whether a view of this query, with these columns, names the column of the table, among its columns or
 /// in its test.
 pub fn shows(query: &Query, columns: &[Name], table: &Name, column: &Name) -> bool
-    ensures { result ≡ (is_named table.now query.now.table && (is_in column.now columns.now || is_in column.now (names_in query.now.test))) }
+    ensures { result
+        ≡
+        (is_named table.now query.now.table
+        && (is_in column.now columns.now || is_in column.now (names_in query.now.test))) }
 {
     *table == query.table && (is_in(columns, column) || names_tested(&query.test, column))
 }

@@ -50,7 +50,8 @@ fn below_item(alloc: Global, i: usize, what: What) -> What
 
 /// The fault of a file in an item of which something is wrong.
 pub fn in_item(alloc: Global, path: &str, i: usize, what: What) -> LoadFault
-    ensures fault { (result ≡ OutOfMemory) ⊎ (result ≡ fault_in path.now (placed_what (place i) what)) }
+    ensures fault { (result ≡ OutOfMemory)
+        ⊎ (result ≡ fault_in path.now (placed_what (place i) what)) }
     ensures memory { is_memory what ≡ true → result ≡ OutOfMemory }
     ensures told { is_read result ≡ false }
 {

@@ -37,6 +37,8 @@ pub trait Gather {
         node: &Node,
         gathered: &mut Self::Gathered,
     ) -> Result<(), Lack>
-        ensures made { Makes ((means self.now).gathers given.now is_root path.now key.now node.now gathered.old) result gathered.new }
+        ensures made { Makes
+            ((means self.now).gathers given.now is_root path.now key.now node.now gathered.old)
+            result gathered.new }
         ensures kept { IsKept result gathered.old gathered.new };
 }

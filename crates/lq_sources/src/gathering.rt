@@ -27,7 +27,8 @@ fn is_too_many(key: &str, reading: &Reading) -> bool
 /// Counts an item that is a changeset.
 fn count_item(key: &str, reading: &mut Reading)
     requires { (is_set key.now && nat_le 10000 (so_far reading.old).sets) ≡ false }
-    ensures { so_far reading.new ≡ cond (is_set key.now) (with_set (so_far reading.old)) (so_far reading.old) }
+    ensures { so_far reading.new
+        ≡ cond (is_set key.now) (with_set (so_far reading.old)) (so_far reading.old) }
 {
     if key == "changeSet" {
         reading.count_set();
@@ -46,7 +47,10 @@ fn try_item<G: Gather>(
     entry: &(Text, Node),
     gathered: &mut G::Gathered,
 ) -> Result<Option<Included>, LoadFault>
-    ensures { Loads (tried (G.means gather.now) path.now i gathered.old ((G.means gather.now).gathers given.now is_root path.now entry.now.0 entry.now.1 gathered.old)) (map_ok (λ wants. (wants, gathered.new)) result) }
+    ensures { Loads
+        (tried (G.means gather.now) path.now i gathered.old
+        ((G.means gather.now).gathers given.now is_root path.now entry.now.0 entry.now.1
+        gathered.old)) (map_ok (λ wants. (wants, gathered.new)) result) }
 {
     match gather.gather(
         alloc,
@@ -71,7 +75,8 @@ fn wanted_bytes<F: Files>(
     it: &Included,
     reading: &Reading,
 ) -> Result<Items<u8>, LoadFault>
-    ensures found { Finds (F.told files.old) (λ source. wanted_bytes source path.now it.now (so_far reading.now)) result }
+    ensures found { Finds (F.told files.old)
+        (λ source. wanted_bytes source path.now it.now (so_far reading.now)) result }
     ensures told { F.told files.new ≡ F.told files.old }
     ensures later { F.faults files.old ≤ F.faults files.new }
     ensures failed { IsErrOf result Read → Rose (F.faults files.old) (F.faults files.new) }
@@ -100,7 +105,9 @@ fn take_wanted<F: Files, G: Gather>(
     reading: &mut Reading,
     gathered: &mut G::Gathered,
 ) -> Result<(), LoadFault>
-    ensures reads { Answers (F.told files.old) (λ source. item_with_files (G.means gather.now) source is_root path.now i entry.now.0 entry.now.1 (held reading.old gathered.old)) result (held reading.new gathered.new) }
+    ensures reads { Answers (F.told files.old) (λ source.
+        item_with_files (G.means gather.now) source is_root path.now i entry.now.0 entry.now.1
+        (held reading.old gathered.old)) result (held reading.new gathered.new) }
     ensures told { F.told files.new ≡ F.told files.old }
     ensures later { F.faults files.old ≤ F.faults files.new }
     ensures failed { IsErrOf result Read → Rose (F.faults files.old) (F.faults files.new) }
@@ -149,7 +156,9 @@ pub fn gather_item<F: Files, G: Gather>(
     reading: &mut Reading,
     gathered: &mut G::Gathered,
 ) -> Result<(), LoadFault>
-    ensures reads { Answers (F.told files.old) (λ source. item_gathered (G.means gather.now) source is_root path.now i entry.now.0 entry.now.1 (held reading.old gathered.old)) result (held reading.new gathered.new) }
+    ensures reads { Answers (F.told files.old) (λ source.
+        item_gathered (G.means gather.now) source is_root path.now i entry.now.0 entry.now.1
+        (held reading.old gathered.old)) result (held reading.new gathered.new) }
     ensures told { F.told files.new ≡ F.told files.old }
     ensures later { F.faults files.old ≤ F.faults files.new }
     ensures failed { IsErrOf result Read → Rose (F.faults files.old) (F.faults files.new) }

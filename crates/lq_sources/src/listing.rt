@@ -43,7 +43,8 @@ fn in_order(alloc: Global, paths: Items<Text>) -> Result<Vec<Text>, NoMemory>
 
 /// The paths of all files under a folder, in order of their bytes.
 fn paths_under<F: Files>(alloc: Global, files: &mut F, folder: &str) -> Result<Vec<Text>, LoadFault>
-    ensures found { Finds (F.told files.old) (λ source. Ok (source.under folder.now)) (map_ok (λ paths. paths.items) result) }
+    ensures found { Finds (F.told files.old) (λ source. Ok (source.under folder.now))
+        (map_ok (λ paths. paths.items) result) }
     ensures told { F.told files.new ≡ F.told files.old }
     ensures later { F.faults files.old ≤ F.faults files.new }
     ensures failed { IsErrOf result Read → Rose (F.faults files.old) (F.faults files.new) }

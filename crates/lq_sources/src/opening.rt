@@ -94,7 +94,8 @@ pub fn bytes_of<F: Files>(
     path: &str,
     reading: &Reading,
 ) -> Result<Items<u8>, LoadFault>
-    ensures found { Finds (F.told files.old) (λ source. bytes_read path.now (source.content path.now) (so_far reading.now)) result }
+    ensures found { Finds (F.told files.old)
+        (λ source. bytes_read path.now (source.content path.now) (so_far reading.now)) result }
     ensures told { F.told files.new ≡ F.told files.old }
     ensures later { F.faults files.old ≤ F.faults files.new }
     ensures failed { IsErrOf result Read → Rose (F.faults files.old) (F.faults files.new) }

@@ -31,7 +31,8 @@ pub fn tree_in<G: Gather>(
 
 /// The items in the tree of a file.
 pub fn items_in<'a>(alloc: Global, path: &str, tree: &'a Node) -> Result<&'a [Node], LoadFault>
-    ensures { Loads (in_file path.now (by_keys (items_of tree.now))) (map_ok (λ items. items.now) result) }
+    ensures { Loads (in_file path.now (by_keys (items_of tree.now)))
+        (map_ok (λ items. items.now) result) }
 {
     match items_of(alloc, tree) {
         Ok(items) => Ok(items),

@@ -43,7 +43,8 @@ fn nodes_filled(
     file: &str,
     nodes: &[Node],
 ) -> Result<Items<Node>, NoMemory>
-    ensures { IfOk result (λ made. made ≡ map (filled (value_in (own props.now) file.now)) nodes.now) }
+    ensures { IfOk result
+        (λ made. made ≡ map (filled (value_in (own props.now) file.now)) nodes.now) }
 {
     let mut made = Items::new(alloc);
     for node in nodes {
@@ -60,7 +61,8 @@ fn entries_filled(
     file: &str,
     entries: &[(Text, Node)],
 ) -> Result<Items<(Text, Node)>, NoMemory>
-    ensures { IfOk result (λ made. made ≡ map (λ e. (e.0, filled (value_in (own props.now) file.now) e.1)) entries.now) }
+    ensures { IfOk result (λ made.
+        made ≡ map (λ e. (e.0, filled (value_in (own props.now) file.now) e.1)) entries.now) }
 {
     let mut made = Items::new(alloc);
     for entry in entries {

@@ -37,7 +37,9 @@ fn read_file<F: Files, G: Gather>(
     reading: &mut Reading,
     gathered: &mut G::Gathered,
 ) -> Result<(), LoadFault>
-    ensures reads { Answers (F.told files.old) (λ source. file (G.means gather.now) source terms.levels terms.is_root path.now (held reading.old gathered.old)) result (held reading.new gathered.new) }
+    ensures reads { Answers (F.told files.old) (λ source.
+        file (G.means gather.now) source terms.levels terms.is_root path.now
+        (held reading.old gathered.old)) result (held reading.new gathered.new) }
     ensures told { F.told files.new ≡ F.told files.old }
     ensures later { F.faults files.old ≤ F.faults files.new }
     ensures failed { IsErrOf result Read → Rose (F.faults files.old) (F.faults files.new) }
@@ -62,7 +64,10 @@ fn read_contents<F: Files, G: Gather>(
     gathered: &mut G::Gathered,
 ) -> Result<(), LoadFault>
     requires { reading.old.files < 10_000 }
-    ensures reads { Answers (F.told files.old) (λ source. contents (G.means gather.now) source (file (G.means gather.now) source terms.levels false) terms.is_root path.now format (held reading.old gathered.old)) result (held reading.new gathered.new) }
+    ensures reads { Answers (F.told files.old) (λ source.
+        contents (G.means gather.now) source (file (G.means gather.now) source terms.levels false)
+        terms.is_root path.now format (held reading.old gathered.old)) result
+        (held reading.new gathered.new) }
     ensures told { F.told files.new ≡ F.told files.old }
     ensures later { F.faults files.old ≤ F.faults files.new }
     ensures failed { IsErrOf result Read → Rose (F.faults files.old) (F.faults files.new) }
@@ -84,7 +89,11 @@ fn take_items<F: Files, G: Gather>(
     reading: &mut Reading,
     gathered: &mut G::Gathered,
 ) -> Result<(), LoadFault>
-    ensures reads { Answers (F.told files.old) (λ source. each_from (take_item (G.means gather.now) source (file (G.means gather.now) source terms.levels false) terms.is_root path.now) 0 items.now (held reading.old gathered.old)) result (held reading.new gathered.new) }
+    ensures reads { Answers (F.told files.old) (λ source.
+        each_from
+        (take_item (G.means gather.now) source (file (G.means gather.now) source terms.levels false)
+        terms.is_root path.now) 0 items.now (held reading.old gathered.old)) result
+        (held reading.new gathered.new) }
     ensures told { F.told files.new ≡ F.told files.old }
     ensures later { F.faults files.old ≤ F.faults files.new }
     ensures failed { IsErrOf result Read → Rose (F.faults files.old) (F.faults files.new) }
@@ -106,7 +115,10 @@ fn take_item<F: Files, G: Gather>(
     reading: &mut Reading,
     gathered: &mut G::Gathered,
 ) -> Result<(), LoadFault>
-    ensures reads { Answers (F.told files.old) (λ source. take_item (G.means gather.now) source (file (G.means gather.now) source terms.levels false) terms.is_root path.now i node.now (held reading.old gathered.old)) result (held reading.new gathered.new) }
+    ensures reads { Answers (F.told files.old) (λ source.
+        take_item (G.means gather.now) source (file (G.means gather.now) source terms.levels false)
+        terms.is_root path.now i node.now (held reading.old gathered.old)) result
+        (held reading.new gathered.new) }
     ensures told { F.told files.new ≡ F.told files.old }
     ensures later { F.faults files.old ≤ F.faults files.new }
     ensures failed { IsErrOf result Read → Rose (F.faults files.old) (F.faults files.new) }
@@ -127,7 +139,10 @@ fn take_entry<F: Files, G: Gather>(
     reading: &mut Reading,
     gathered: &mut G::Gathered,
 ) -> Result<(), LoadFault>
-    ensures reads { Answers (F.told files.old) (λ source. take_entry (G.means gather.now) source (file (G.means gather.now) source terms.levels false) terms.is_root path.now i entry.now.0 entry.now.1 (held reading.old gathered.old)) result (held reading.new gathered.new) }
+    ensures reads { Answers (F.told files.old) (λ source.
+        take_entry (G.means gather.now) source (file (G.means gather.now) source terms.levels false)
+        terms.is_root path.now i entry.now.0 entry.now.1 (held reading.old gathered.old)) result
+        (held reading.new gathered.new) }
     ensures told { F.told files.new ≡ F.told files.old }
     ensures later { F.faults files.old ≤ F.faults files.new }
     ensures failed { IsErrOf result Read → Rose (F.faults files.old) (F.faults files.new) }
@@ -169,7 +184,9 @@ fn read_folder<F: Files, G: Gather>(
     reading: &mut Reading,
     gathered: &mut G::Gathered,
 ) -> Result<(), LoadFault>
-    ensures reads { Answers (F.told files.old) (λ source. take_folder (file (G.means gather.now) source terms.levels false) source folder.now (held reading.old gathered.old)) result (held reading.new gathered.new) }
+    ensures reads { Answers (F.told files.old) (λ source.
+        take_folder (file (G.means gather.now) source terms.levels false) source folder.now
+        (held reading.old gathered.old)) result (held reading.new gathered.new) }
     ensures told { F.told files.new ≡ F.told files.old }
     ensures later { F.faults files.old ≤ F.faults files.new }
     ensures failed { IsErrOf result Read → Rose (F.faults files.old) (F.faults files.new) }
@@ -187,7 +204,9 @@ fn read_paths<F: Files, G: Gather>(
     reading: &mut Reading,
     gathered: &mut G::Gathered,
 ) -> Result<(), LoadFault>
-    ensures reads { Answers (F.told files.old) (λ source. each (take_path (file (G.means gather.now) source terms.levels false)) paths.now (held reading.old gathered.old)) result (held reading.new gathered.new) }
+    ensures reads { Answers (F.told files.old) (λ source.
+        each (take_path (file (G.means gather.now) source terms.levels false)) paths.now
+        (held reading.old gathered.old)) result (held reading.new gathered.new) }
     ensures told { F.told files.new ≡ F.told files.old }
     ensures later { F.faults files.old ≤ F.faults files.new }
     ensures failed { IsErrOf result Read → Rose (F.faults files.old) (F.faults files.new) }
@@ -208,7 +227,9 @@ fn read_path<F: Files, G: Gather>(
     reading: &mut Reading,
     gathered: &mut G::Gathered,
 ) -> Result<(), LoadFault>
-    ensures reads { Answers (F.told files.old) (λ source. take_path (file (G.means gather.now) source terms.levels false) path.now (held reading.old gathered.old)) result (held reading.new gathered.new) }
+    ensures reads { Answers (F.told files.old) (λ source.
+        take_path (file (G.means gather.now) source terms.levels false) path.now
+        (held reading.old gathered.old)) result (held reading.new gathered.new) }
     ensures told { F.told files.new ≡ F.told files.old }
     ensures later { F.faults files.old ≤ F.faults files.new }
     ensures failed { IsErrOf result Read → Rose (F.faults files.old) (F.faults files.new) }
@@ -232,7 +253,9 @@ fn read_root<F: Files, G: Gather>(
     reading: &mut Reading,
     gathered: &mut G::Gathered,
 ) -> Result<(), LoadFault>
-    ensures reads { Answers (F.told files.old) (λ source. root_file (G.means gather.now) source root.now (held reading.old gathered.old)) result (held reading.new gathered.new) }
+    ensures reads { Answers (F.told files.old)
+        (λ source. root_file (G.means gather.now) source root.now (held reading.old gathered.old))
+        result (held reading.new gathered.new) }
     ensures told { F.told files.new ≡ F.told files.old }
     ensures later { F.faults files.old ≤ F.faults files.new }
     ensures failed { IsErrOf result Read → Rose (F.faults files.old) (F.faults files.new) }
@@ -257,7 +280,9 @@ pub fn walk<F: Files, G: Gather>(
     given: &[(Text, Text)],
     gathered: &mut G::Gathered,
 ) -> Result<(), LoadFault>
-    ensures reads { Answers (F.told files.old) (λ source. walked (G.means gather.now) source root.now given.now gathered.old) result gathered.new }
+    ensures reads { Answers (F.told files.old)
+        (λ source. walked (G.means gather.now) source root.now given.now gathered.old) result
+        gathered.new }
     ensures told { F.told files.new ≡ F.told files.old }
     ensures later { F.faults files.old ≤ F.faults files.new }
     ensures failed { IsErrOf result Read → Rose (F.faults files.old) (F.faults files.new) }

@@ -18,7 +18,8 @@ fn alter_table(style: Style, to: &mut Text, table: &Name) -> Result<(), NoMemory
 
 /// `ALTER TABLE q` and what is done.
 pub fn alter_by(style: Style, to: &mut Text, table: &Name, action: Phrase) -> Result<(), NoMemory>
-    ensures { OnOk result (to.new ≡ to.old ++ (alter_table style.dialect table.now ++ words action)) }
+    ensures { OnOk result
+        (to.new ≡ to.old ++ (alter_table style.dialect table.now ++ words action)) }
 {
     alter_table(style, to, table)?;
     say(to, action)
@@ -32,7 +33,13 @@ pub fn alter<T: Spell>(
     action: Phrase,
     part: &T,
 ) -> Result<(), NoMemory>
-    ensures { OnOk result (to.new ≡ to.old ++ (alter_table style.dialect table.now ++ words action ++ T.text style.dialect part.now)) }
+    ensures { OnOk result
+        (to.new
+        ≡ to.old
+        ++
+        (alter_table style.dialect table.now
+        ++ words action
+        ++ T.text style.dialect part.now)) }
 {
     alter_table(style, to, table)?;
     say(to, action)?;
@@ -47,7 +54,8 @@ pub fn alter_at(
     column: &Name,
     action: Phrase,
 ) -> Result<(), NoMemory>
-    ensures { OnOk result (to.new ≡ to.old ++ (alter_column style.dialect table.now column.now ++ words action)) }
+    ensures { OnOk result
+        (to.new ≡ to.old ++ (alter_column style.dialect table.now column.now ++ words action)) }
 {
     alter(style, to, table, Phrase::AlterColumn, column)?;
     say(to, action)
@@ -61,7 +69,9 @@ pub fn rename_column(
     column: &Name,
     name: &Name,
 ) -> Result<(), NoMemory>
-    ensures { OnOk result (to.new ≡ to.old ++ text_of style.dialect (made.RenameColumn table.now column.now name.now)) }
+    ensures { OnOk result
+        (to.new
+        ≡ to.old ++ text_of style.dialect (made.RenameColumn table.now column.now name.now)) }
 {
     alter(style, to, table, Phrase::RenameColumn, column)?;
     spell_name(style, to, Phrase::To, name)
@@ -86,7 +96,9 @@ pub fn modify(
     kind: Kind,
     nullable: bool,
 ) -> Result<(), NoMemory>
-    ensures { OnOk result (to.new ≡ to.old ++ text_of style.dialect (made.Modify table.now column.now kind nullable)) }
+    ensures { OnOk result
+        (to.new
+        ≡ to.old ++ text_of style.dialect (made.Modify table.now column.now kind nullable)) }
 {
     alter(style, to, table, Phrase::Modify, column)?;
     say(to, Phrase::Blank)?;
@@ -102,7 +114,9 @@ pub fn set_default(
     column: &Name,
     value: &Literal,
 ) -> Result<(), NoMemory>
-    ensures { OnOk result (to.new ≡ to.old ++ text_of style.dialect (made.SetDefault table.now column.now value.now)) }
+    ensures { OnOk result
+        (to.new
+        ≡ to.old ++ text_of style.dialect (made.SetDefault table.now column.now value.now)) }
 {
     alter_at(style, to, table, column, Phrase::SetDefault)?;
     value.spell(style, to)

@@ -44,7 +44,14 @@ pub fn spell_names(
     second: Phrase,
     other: &Name,
 ) -> Result<(), NoMemory>
-    ensures { OnOk result (to.new ≡ to.old ++ (words first ++ name_text style.dialect name.now ++ words second ++ name_text style.dialect other.now)) }
+    ensures { OnOk result
+        (to.new
+        ≡ to.old
+        ++
+        (words first
+        ++ name_text style.dialect name.now
+        ++ words second
+        ++ name_text style.dialect other.now)) }
 {
     spell_name(style, to, first, name)?;
     spell_name(style, to, second, other)

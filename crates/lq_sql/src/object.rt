@@ -27,7 +27,8 @@ pub fn create_index(
     table: &Name,
     index: &Index,
 ) -> Result<(), NoMemory>
-    ensures { OnOk result (to.new ≡ to.old ++ text_of style.dialect (made.CreateIndex table.now index.now)) }
+    ensures { OnOk result
+        (to.new ≡ to.old ++ text_of style.dialect (made.CreateIndex table.now index.now)) }
 {
     spell_name(style, to, create_index_words(index.unique), &index.name)?;
     spell_name(style, to, Phrase::On, table)?;
@@ -43,7 +44,8 @@ pub fn drop_index(
     name: &Name,
     table: &Option<Name>,
 ) -> Result<(), NoMemory>
-    ensures { OnOk result (to.new ≡ to.old ++ text_of style.dialect (made.DropIndex name.now table.now)) }
+    ensures { OnOk result
+        (to.new ≡ to.old ++ text_of style.dialect (made.DropIndex name.now table.now)) }
 {
     let drops = Phrase::DropIndex;
     match (style.dialect, table) {
@@ -70,7 +72,8 @@ pub fn create_view(
     query: &Query,
     replace: bool,
 ) -> Result<(), NoMemory>
-    ensures { OnOk result (to.new ≡ to.old ++ text_of style.dialect (made.CreateView view.now query.now replace)) }
+    ensures { OnOk result
+        (to.new ≡ to.old ++ text_of style.dialect (made.CreateView view.now query.now replace)) }
 {
     spell_name(style, to, create_view_words(replace), view)?;
     say(to, Phrase::As)?;
@@ -85,7 +88,8 @@ pub fn create_sequence(
     start: i128,
     step: i128,
 ) -> Result<(), NoMemory>
-    ensures { OnOk result (to.new ≡ to.old ++ text_of style.dialect (made.CreateSequence name.now start step)) }
+    ensures { OnOk result
+        (to.new ≡ to.old ++ text_of style.dialect (made.CreateSequence name.now start step)) }
 {
     spell_name(style, to, Phrase::CreateSequence, name)?;
     say(to, Phrase::StartWith)?;
@@ -102,7 +106,14 @@ pub fn rename(
     name: &Name,
     new: &Name,
 ) -> Result<(), NoMemory>
-    ensures { OnOk result (to.new ≡ to.old ++ (words altered ++ name_text style.dialect name.now ++ words phrase.RenameTo ++ name_text style.dialect new.now)) }
+    ensures { OnOk result
+        (to.new
+        ≡ to.old
+        ++
+        (words altered
+        ++ name_text style.dialect name.now
+        ++ words phrase.RenameTo
+        ++ name_text style.dialect new.now)) }
 {
     spell_names(style, to, altered, name, Phrase::RenameTo, new)
 }

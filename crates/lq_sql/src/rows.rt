@@ -37,7 +37,8 @@ pub fn insert(
     columns: &Items<Name>,
     values: &Items<Literal>,
 ) -> Result<(), NoMemory>
-    ensures { OnOk result (to.new ≡ to.old ++ text_of style.dialect (made.Insert table.now columns.now values.now)) }
+    ensures { OnOk result
+        (to.new ≡ to.old ++ text_of style.dialect (made.Insert table.now columns.now values.now)) }
 {
     spell_name(style, to, Phrase::InsertInto, table)?;
     spell_columns(style, to, columns.as_slice())?;
@@ -54,7 +55,8 @@ pub fn update(
     sets: &Items<(Name, Literal)>,
     test: &Option<Test>,
 ) -> Result<(), NoMemory>
-    ensures { OnOk result (to.new ≡ to.old ++ text_of style.dialect (made.Update table.now sets.now test.now)) }
+    ensures { OnOk result
+        (to.new ≡ to.old ++ text_of style.dialect (made.Update table.now sets.now test.now)) }
 {
     spell_name(style, to, Phrase::Update, table)?;
     say(to, Phrase::Set)?;
@@ -69,7 +71,8 @@ pub fn delete(
     table: &Name,
     test: &Option<Test>,
 ) -> Result<(), NoMemory>
-    ensures { OnOk result (to.new ≡ to.old ++ text_of style.dialect (made.Delete table.now test.now)) }
+    ensures { OnOk result
+        (to.new ≡ to.old ++ text_of style.dialect (made.Delete table.now test.now)) }
 {
     spell_name(style, to, Phrase::DeleteFrom, table)?;
     spell_where(style, to, test)

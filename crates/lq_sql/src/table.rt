@@ -29,7 +29,8 @@ fn spell_table(
     uniques: &Items<Unique>,
     foreign: &Items<ForeignKey>,
 ) -> Result<(), NoMemory>
-    ensures { OnOk result (to.new ≡ to.old ++ table_text style.dialect columns.now key.now uniques.now foreign.now) }
+    ensures { OnOk result
+        (to.new ≡ to.old ++ table_text style.dialect columns.now key.now uniques.now foreign.now) }
 {
     spell_listed(style, to, columns.as_slice())?;
     spell_key(style, to, key)?;
@@ -47,7 +48,11 @@ pub fn create_table(
     uniques: &Items<Unique>,
     foreign: &Items<ForeignKey>,
 ) -> Result<(), NoMemory>
-    ensures { OnOk result (to.new ≡ to.old ++ text_of style.dialect (made.CreateTable table.now columns.now key.now uniques.now foreign.now)) }
+    ensures { OnOk result
+        (to.new
+        ≡ to.old
+        ++ text_of style.dialect
+        (made.CreateTable table.now columns.now key.now uniques.now foreign.now)) }
 {
     spell_name(style, to, Phrase::CreateTable, table)?;
     say(to, Phrase::OpenNext)?;
@@ -57,7 +62,8 @@ pub fn create_table(
 
 /// A table under another name.
 pub fn rename_table(style: Style, to: &mut Text, table: &Name, name: &Name) -> Result<(), NoMemory>
-    ensures { OnOk result (to.new ≡ to.old ++ text_of style.dialect (made.RenameTable table.now name.now)) }
+    ensures { OnOk result
+        (to.new ≡ to.old ++ text_of style.dialect (made.RenameTable table.now name.now)) }
 {
     match style.dialect {
         Dialect::Postgresql => alter(style, to, table, Phrase::RenameTo, name),

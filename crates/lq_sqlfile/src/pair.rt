@@ -69,7 +69,8 @@ fn new_pair<'a, 'b>(
     given: &[(Text, Text)],
     text: &'a str,
 ) -> Option<(&'b str, &'a str, &'a str)>
-    ensures { option_map (λ p. (p.0.now, p.1.now, p.2.now)) result ≡ new_pair (map (λ w. w.now) words.now) given.now text.now }
+    ensures { option_map (λ p. (p.0.now, p.1.now, p.2.now)) result
+        ≡ new_pair (map (λ w. w.now) words.now) given.now text.now }
 {
     let (name, value, rest) = pair(text)?;
     let word = known(words, name)?;

@@ -65,7 +65,8 @@ impl Reader {
 
     // A part that is no heading.
     fn take_inside(&mut self, alloc: Global, part: Part) -> Result<bool, NoMemory>
-        ensures { IfOk result (λ taken. Takes taken (take_inside part self.old.draft) self.old self.new) }
+        ensures { IfOk result
+            (λ taken. Takes taken (take_inside part self.old.draft) self.old self.new) }
     {
         let Some(draft) = self.draft.take() else {
             return Ok(is_idle(&part));
@@ -80,7 +81,8 @@ impl Reader {
     }
 
     fn take_part(&mut self, alloc: Global, line: u32, part: Part) -> Result<bool, NoMemory>
-        ensures { IfOk result (λ taken. Takes taken (take_part line part self.old.draft) self.old self.new) }
+        ensures { IfOk result
+            (λ taken. Takes taken (take_part line part self.old.draft) self.old self.new) }
     {
         match part {
             Part::ChangeSet(heading) => {
@@ -100,7 +102,8 @@ impl Reader {
     // Takes a line, if some file goes on so.
     #[tactic(auto, unfolding(crate::specs::Machine::take_line))]
     fn take_line(&mut self, alloc: Global, number: u32, line: &[u8]) -> Result<bool, NoMemory>
-        ensures { IfOk result (λ taken. Takes taken (take_line number line.now self.old.draft) self.old self.new) }
+        ensures { IfOk result
+            (λ taken. Takes taken (take_line number line.now self.old.draft) self.old self.new) }
     {
         let Some(text) = text_in(line) else {
             return Ok(false);
@@ -197,11 +200,16 @@ fn file_in(alloc: Global, bytes: &[u8]) -> Result<SqlFile, SqlFault>
 pub fn read_sql(alloc: Global, bytes: &[u8]) -> Result<SqlFile, SqlFault>
     requires { length bytes.now ≤ 16_777_216 }
     ensures file { IfOk result (λ file. IsFile (lines bytes.now) file) }
-    ensures whole { (file : SqlFile) → IsFile (lines bytes.now) file → (result ≡ Ok file) ⊎ (result ≡ Err OutOfMemory) }
+    ensures whole { (file : SqlFile)
+        → IsFile (lines bytes.now) file
+        → (result ≡ Ok file) ⊎ (result ≡ Err OutOfMemory) }
     ensures no_header { result ≡ Err NoHeader → ¬ (HasHeader (lines bytes.now)) }
-    ensures headless { ¬ (HasHeader (lines bytes.now)) → (result ≡ Err NoHeader) ⊎ (result ≡ Err OutOfMemory) }
+    ensures headless { ¬ (HasHeader (lines bytes.now))
+        → (result ≡ Err NoHeader) ⊎ (result ≡ Err OutOfMemory) }
     ensures line { (n : ℕ) → result ≡ Err (Line n) → IsWrong (lines bytes.now) n }
-    ensures wrong { (n : ℕ) → IsWrong (lines bytes.now) n → (result ≡ Err (Line n)) ⊎ (result ≡ Err OutOfMemory) }
+    ensures wrong { (n : ℕ)
+        → IsWrong (lines bytes.now) n
+        → (result ≡ Err (Line n)) ⊎ (result ≡ Err OutOfMemory) }
 {
     file_in(alloc, bytes)
 }

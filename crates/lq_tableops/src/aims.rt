@@ -51,7 +51,8 @@ fn are_none(names: &[Name]) -> bool
 }
 
 fn key_is(names: &[Name], key: Option<&Key>) -> bool
-    ensures { result ≡ list_any (λ k. same_names names.now k.columns) (key_list (option_copied key.entry)) }
+    ensures { result
+        ≡ list_any (λ k. same_names names.now k.columns) (key_list (option_copied key.entry)) }
 {
     match key {
         None => false,
@@ -69,14 +70,19 @@ fn unique_is(names: &[Name], uniques: &[Unique]) -> bool
 
 /// Whether the names are, in order, neither the key nor a unique constraint.
 fn are_loose(names: &[Name], key: Option<&Key>, uniques: &[Unique]) -> bool
-    ensures { result ≡ not (list_any (same_names names.now) (map (λ k. k.columns) (key_list (option_copied key.entry)) ++ map (λ u. u.columns) uniques.now)) }
+    ensures { result
+        ≡ not
+        (list_any (same_names names.now)
+        (map (λ k. k.columns) (key_list (option_copied key.entry))
+        ++ map (λ u. u.columns) uniques.now)) }
 {
     !(key_is(names, key) | unique_is(names, uniques))
 }
 
 /// What is against a foreign key that targets its own table.
 fn aim_within(own: &Columns<'_>, new: &NewTable<'_>, key: &ForeignKey) -> Aim
-    ensures { AimsAt false (made own.now new.now.key.now new.now.uniques.now new.now.foreign.now) (made own.now new.now.key.now new.now.uniques.now new.now.foreign.now) key.now result }
+    ensures { AimsAt false (made own.now new.now.key.now new.now.uniques.now new.now.foreign.now)
+        (made own.now new.now.key.now new.now.uniques.now new.now.foreign.now) key.now result }
 {
     let targets = key.targets.as_slice();
     Aim {
@@ -93,7 +99,11 @@ fn aim_beside(
     own: &Columns<'_>,
     key: &ForeignKey,
 ) -> Result<Aim, NoMemory>
-    ensures { (it : catalogue.Table) → it.columns ≡ own.now → IfOk result (λ aim. AimsAt (is_none (table_of parts.now.now key.now.table)) it (the_table parts.now.now key.now.table) key.now aim) }
+    ensures { (it : catalogue.Table)
+        → it.columns ≡ own.now
+        → IfOk result (λ aim.
+        AimsAt (is_none (table_of parts.now.now key.now.table)) it
+        (the_table parts.now.now key.now.table) key.now aim) }
 {
     let targets = key.targets.as_slice();
     match parts.table(&key.table) {
@@ -123,7 +133,10 @@ fn aimed(
     new: &NewTable<'_>,
     key: &ForeignKey,
 ) -> Result<Aim, NoMemory>
-    ensures { IfOk result (λ aim. IsAim new.now.name.now (made own.now new.now.key.now new.now.uniques.now new.now.foreign.now) parts.now.now key.now aim) }
+    ensures { IfOk result (λ aim.
+        IsAim new.now.name.now
+        (made own.now new.now.key.now new.now.uniques.now new.now.foreign.now) parts.now.now key.now
+        aim) }
 {
     if *new.name == key.table {
         return Ok(aim_within(own, new, key));
@@ -139,7 +152,10 @@ pub fn aims(
     own: &Columns<'_>,
     new: &NewTable<'_>,
 ) -> Result<Aim, NoMemory>
-    ensures { IfOk result (λ all. AreAims new.now.name.now (made own.now new.now.key.now new.now.uniques.now new.now.foreign.now) parts.now.now new.now.foreign.now all) }
+    ensures { IfOk result (λ all.
+        AreAims new.now.name.now
+        (made own.now new.now.key.now new.now.uniques.now new.now.foreign.now) parts.now.now
+        new.now.foreign.now all) }
 {
     let mut all = Aim {
         missing: false,

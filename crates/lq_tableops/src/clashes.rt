@@ -53,7 +53,8 @@ fn each_lock_key(names: &[&Name]) -> bool
 }
 
 fn each_shared(parts: &mut Parts, names: &[&Name]) -> Result<bool, NoMemory>
-    ensures found { IfOk result (λ found. found ≡ list_any (λ n. is_in n.now (shared_names parts.old.now)) names.now) }
+    ensures found { IfOk result
+        (λ found. found ≡ list_any (λ n. is_in n.now (shared_names parts.old.now)) names.now) }
     ensures same { parts.new ≡ parts.old }
 {
     for name in names {
@@ -67,7 +68,8 @@ fn each_shared(parts: &mut Parts, names: &[&Name]) -> Result<bool, NoMemory>
 /// Whether one of the names stands in PostgreSQL's one space.
 #[tactic(auto, using(lq_model::proofs::Lists::any_mapped))]
 pub fn one_shared(parts: &mut Parts, names: &[&Name]) -> Result<bool, NoMemory>
-    ensures found { IfOk result (λ found. found ≡ list_any (λ n. is_in n (shared_names parts.old.now)) (map (λ n. n.now) names.now)) }
+    ensures found { IfOk result (λ found.
+        found ≡ list_any (λ n. is_in n (shared_names parts.old.now)) (map (λ n. n.now) names.now)) }
     ensures same { parts.new ≡ parts.old }
 {
     let found = each_shared(parts, names)?;
@@ -75,7 +77,8 @@ pub fn one_shared(parts: &mut Parts, names: &[&Name]) -> Result<bool, NoMemory>
 }
 
 fn each_foreign(parts: &mut Parts, names: &[&Name]) -> Result<bool, NoMemory>
-    ensures found { IfOk result (λ found. found ≡ list_any (λ n. is_in n.now (all_foreign_names parts.old.now)) names.now) }
+    ensures found { IfOk result
+        (λ found. found ≡ list_any (λ n. is_in n.now (all_foreign_names parts.old.now)) names.now) }
     ensures same { parts.new ≡ parts.old }
 {
     for name in names {
@@ -89,7 +92,9 @@ fn each_foreign(parts: &mut Parts, names: &[&Name]) -> Result<bool, NoMemory>
 /// Whether a foreign key has one of the names.
 #[tactic(auto, using(lq_model::proofs::Lists::any_mapped))]
 pub fn one_foreign(parts: &mut Parts, names: &[&Name]) -> Result<bool, NoMemory>
-    ensures found { IfOk result (λ found. found ≡ list_any (λ n. is_in n (all_foreign_names parts.old.now)) (map (λ n. n.now) names.now)) }
+    ensures found { IfOk result (λ found.
+        found
+        ≡ list_any (λ n. is_in n (all_foreign_names parts.old.now)) (map (λ n. n.now) names.now)) }
     ensures same { parts.new ≡ parts.old }
 {
     let found = each_foreign(parts, names)?;

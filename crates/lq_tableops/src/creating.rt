@@ -29,7 +29,14 @@ fn create_tests(
     made: &Defined,
 ) -> Result<Tests, NoMemory>
     requires { IsDefined new.now.key.now new.now.columns.now made.now }
-    ensures tests { IfOk result (λ tests. verdict_of tests ≡ verdict_of (tests_of (spec.create_table by dialect new.now.name.now new.now.columns.now new.now.key.now new.now.uniques.now new.now.foreign.now parts.old.now) (create_table_faults new.now.name.now new.now.columns.now new.now.key.now new.now.uniques.now new.now.foreign.now parts.old.now))) }
+    ensures tests { IfOk result (λ tests.
+        verdict_of tests
+        ≡ verdict_of
+        (tests_of
+        (spec.create_table by dialect new.now.name.now new.now.columns.now new.now.key.now
+        new.now.uniques.now new.now.foreign.now parts.old.now)
+        (create_table_faults new.now.name.now new.now.columns.now new.now.key.now
+        new.now.uniques.now new.now.foreign.now parts.old.now))) }
     ensures same { parts.new ≡ parts.old }
 {
     let columns = made.columns.as_slice();
@@ -65,7 +72,10 @@ pub fn create_table(
     new: &NewTable<'_>,
 ) -> Result<u64, RunFault>
     requires { IsSound dialect parts.old.now }
-    ensures { Answers (decide (spec.create_table by dialect new.now.name.now new.now.columns.now new.now.key.now new.now.uniques.now new.now.foreign.now parts.old.now)) parts.old parts.new result }
+    ensures { Answers
+        (decide
+        (spec.create_table by dialect new.now.name.now new.now.columns.now new.now.key.now
+        new.now.uniques.now new.now.foreign.now parts.old.now)) parts.old parts.new result }
 {
     let made = define(alloc, new.columns, new.key)?;
     let tests = create_tests(parts, alloc, by, dialect, new, &made)?;

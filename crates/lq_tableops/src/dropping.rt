@@ -22,7 +22,8 @@ pub fn drop_table(
     table: &Name,
 ) -> Result<u64, RunFault>
     requires { IsSound dialect parts.old.now }
-    ensures { Answers (decide (spec.drop_table by dialect table.now parts.old.now)) parts.old parts.new result }
+    ensures { Answers (decide (spec.drop_table by dialect table.now parts.old.now)) parts.old
+        parts.new result }
 {
     let tests = drop_tests(parts, by, table);
     match tests.verdict() {
@@ -34,7 +35,9 @@ pub fn drop_table(
 }
 
 fn drop_tests(parts: &Parts, by: By, table: &Name) -> Tests
-    ensures { (d : kinds.Dialect) → verdict_of result ≡ verdict_of (tests_of (spec.drop_table by d table.now parts.now.now) no_faults) }
+    ensures { (d : kinds.Dialect)
+        → verdict_of result
+        ≡ verdict_of (tests_of (spec.drop_table by d table.now parts.now.now) no_faults) }
 {
     Tests {
         reserved: is_reserved(by, table),

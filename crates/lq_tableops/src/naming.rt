@@ -19,7 +19,12 @@ use std::alloc::Global;
 /// Adds the names of its key, its unique constraints and its foreign keys.
 #[tactic(auto, using(crate::proofs::NamingLemmas::three_pushed))]
 fn push_constraints<'a>(to: &mut Items<&'a Name>, new: &NewTable<'a>) -> Result<(), NoMemory>
-    ensures { (cs : List Column) → OnOk result (map (λ n. n.now) to.new ≡ map (λ n. n.now) to.old ++ constraint_names (made cs new.now.key.now new.now.uniques.now new.now.foreign.now)) }
+    ensures { (cs : List Column)
+        → OnOk result
+        (map (λ n. n.now) to.new
+        ≡ map (λ n. n.now) to.old
+        ++ constraint_names
+        (made cs new.now.key.now new.now.uniques.now new.now.foreign.now)) }
 {
     push_key(to, new.key)?;
     push_uniques(to, new.uniques)?;
@@ -30,7 +35,12 @@ fn push_constraints<'a>(to: &mut Items<&'a Name>, new: &NewTable<'a>) -> Result<
 /// Adds the names of its key and its unique constraints.
 #[tactic(auto, using(crate::proofs::NamingLemmas::two_pushed))]
 fn push_inner<'a>(to: &mut Items<&'a Name>, new: &NewTable<'a>) -> Result<(), NoMemory>
-    ensures { (cs : List Column) → OnOk result (map (λ n. n.now) to.new ≡ map (λ n. n.now) to.old ++ inner_names (made cs new.now.key.now new.now.uniques.now new.now.foreign.now)) }
+    ensures { (cs : List Column)
+        → OnOk result
+        (map (λ n. n.now) to.new
+        ≡ map (λ n. n.now) to.old
+        ++ inner_names
+        (made cs new.now.key.now new.now.uniques.now new.now.foreign.now)) }
 {
     push_key(to, new.key)?;
     push_uniques(to, new.uniques)?;
@@ -39,7 +49,14 @@ fn push_inner<'a>(to: &mut Items<&'a Name>, new: &NewTable<'a>) -> Result<(), No
 
 /// Whether a user names what is reserved to the program.
 pub fn names_reserved(alloc: Global, by: By, new: &NewTable<'_>) -> Result<bool, NoMemory>
-    ensures { (cs : List Column) → IfOk result (λ found. found ≡ is_reserved by (new.now.name.now ∷ constraint_names (made cs new.now.key.now new.now.uniques.now new.now.foreign.now) ++ map (λ f. f.table) new.now.foreign.now)) }
+    ensures { (cs : List Column)
+        → IfOk result (λ found.
+        found
+        ≡ is_reserved by
+        (new.now.name.now
+        ∷ constraint_names
+        (made cs new.now.key.now new.now.uniques.now new.now.foreign.now)
+        ++ map (λ f. f.table) new.now.foreign.now)) }
 {
     let mut names = Items::new(alloc);
     names.push(new.name)?;
@@ -55,7 +72,13 @@ pub fn names_lock_key(
     dialect: Dialect,
     new: &NewTable<'_>,
 ) -> Result<bool, NoMemory>
-    ensures { (cs : List Column) → IfOk result (λ found. found ≡ takes_lock_key by dialect (new.now.name.now ∷ inner_names (made cs new.now.key.now new.now.uniques.now new.now.foreign.now))) }
+    ensures { (cs : List Column)
+        → IfOk result (λ found.
+        found
+        ≡ takes_lock_key by dialect
+        (new.now.name.now
+        ∷ inner_names
+        (made cs new.now.key.now new.now.uniques.now new.now.foreign.now))) }
 {
     let mut names = Items::new(alloc);
     names.push(new.name)?;
@@ -64,7 +87,12 @@ pub fn names_lock_key(
 }
 
 fn constraints_repeat(alloc: Global, new: &NewTable<'_>) -> Result<bool, NoMemory>
-    ensures { (cs : List Column) → IfOk result (λ found. found ≡ repeats (constraint_names (made cs new.now.key.now new.now.uniques.now new.now.foreign.now))) }
+    ensures { (cs : List Column)
+        → IfOk result (λ found.
+        found
+        ≡ repeats
+        (constraint_names
+        (made cs new.now.key.now new.now.uniques.now new.now.foreign.now))) }
 {
     let mut names = Items::new(alloc);
     push_constraints(&mut names, new)?;
@@ -87,7 +115,11 @@ fn each_is(names: &[&Name], name: &Name) -> bool
 
 /// Whether the key or a unique constraint has the table's name.
 fn inner_is_own(alloc: Global, new: &NewTable<'_>) -> Result<bool, NoMemory>
-    ensures { (cs : List Column) → IfOk result (λ found. found ≡ is_in new.now.name.now (inner_names (made cs new.now.key.now new.now.uniques.now new.now.foreign.now))) }
+    ensures { (cs : List Column)
+        → IfOk result (λ found.
+        found
+        ≡ is_in new.now.name.now
+        (inner_names (made cs new.now.key.now new.now.uniques.now new.now.foreign.now))) }
 {
     let mut names = Items::new(alloc);
     push_inner(&mut names, new)?;
@@ -96,7 +128,13 @@ fn inner_is_own(alloc: Global, new: &NewTable<'_>) -> Result<bool, NoMemory>
 
 /// Whether the table's name, its key's or a unique constraint's stands in PostgreSQL's one space.
 fn shared_taken(parts: &mut Parts, alloc: Global, new: &NewTable<'_>) -> Result<bool, NoMemory>
-    ensures found { (cs : List Column) → IfOk result (λ found. found ≡ list_any (λ n. is_in n (shared_names parts.old.now)) (new.now.name.now ∷ inner_names (made cs new.now.key.now new.now.uniques.now new.now.foreign.now))) }
+    ensures found { (cs : List Column)
+        → IfOk result (λ found.
+        found
+        ≡ list_any (λ n. is_in n (shared_names parts.old.now))
+        (new.now.name.now
+        ∷ inner_names
+        (made cs new.now.key.now new.now.uniques.now new.now.foreign.now))) }
     ensures same { parts.new ≡ parts.old }
 {
     let mut names = Items::new(alloc);
@@ -107,7 +145,14 @@ fn shared_taken(parts: &mut Parts, alloc: Global, new: &NewTable<'_>) -> Result<
 }
 
 fn clashes_shared(parts: &mut Parts, alloc: Global, new: &NewTable<'_>) -> Result<bool, NoMemory>
-    ensures found { (cs : List Column) → IfOk result (λ found. found ≡ (is_taken dialects.Postgresql new.now.name.now parts.old.now || are_clashing dialects.Postgresql new.now.name.now (made cs new.now.key.now new.now.uniques.now new.now.foreign.now) parts.old.now)) }
+    ensures found { (cs : List Column)
+        → IfOk result (λ found.
+        found
+        ≡
+        (is_taken dialects.Postgresql new.now.name.now parts.old.now
+        || are_clashing dialects.Postgresql new.now.name.now
+        (made cs new.now.key.now new.now.uniques.now new.now.foreign.now)
+        parts.old.now)) }
     ensures same { parts.new ≡ parts.old }
 {
     let taken = shared_taken(parts, alloc, new)?;
@@ -135,7 +180,9 @@ fn foreign_repeat(alloc: Global, keys: &[ForeignKey]) -> Result<bool, NoMemory>
 }
 
 fn foreign_taken(parts: &mut Parts, alloc: Global, keys: &[ForeignKey]) -> Result<bool, NoMemory>
-    ensures found { IfOk result (λ found. found ≡ list_any (λ n. is_in n (all_foreign_names parts.old.now)) (map (λ f. f.name) keys.now)) }
+    ensures found { IfOk result (λ found.
+        found
+        ≡ list_any (λ n. is_in n (all_foreign_names parts.old.now)) (map (λ f. f.name) keys.now)) }
     ensures same { parts.new ≡ parts.old }
 {
     let mut names = Items::new(alloc);
@@ -145,7 +192,14 @@ fn foreign_taken(parts: &mut Parts, alloc: Global, keys: &[ForeignKey]) -> Resul
 }
 
 fn clashes_apart(parts: &mut Parts, alloc: Global, new: &NewTable<'_>) -> Result<bool, NoMemory>
-    ensures found { (cs : List Column) → IfOk result (λ found. found ≡ (is_taken dialects.Mysql new.now.name.now parts.old.now || are_clashing dialects.Mysql new.now.name.now (made cs new.now.key.now new.now.uniques.now new.now.foreign.now) parts.old.now)) }
+    ensures found { (cs : List Column)
+        → IfOk result (λ found.
+        found
+        ≡
+        (is_taken dialects.Mysql new.now.name.now parts.old.now
+        || are_clashing dialects.Mysql new.now.name.now
+        (made cs new.now.key.now new.now.uniques.now new.now.foreign.now)
+        parts.old.now)) }
     ensures same { parts.new ≡ parts.old }
 {
     let is_there = parts.has_object(new.name);
@@ -162,7 +216,14 @@ pub fn clashes(
     dialect: Dialect,
     new: &NewTable<'_>,
 ) -> Result<bool, NoMemory>
-    ensures found { (cs : List Column) → IfOk result (λ found. found ≡ (is_taken dialect new.now.name.now parts.old.now || are_clashing dialect new.now.name.now (made cs new.now.key.now new.now.uniques.now new.now.foreign.now) parts.old.now)) }
+    ensures found { (cs : List Column)
+        → IfOk result (λ found.
+        found
+        ≡
+        (is_taken dialect new.now.name.now parts.old.now
+        || are_clashing dialect new.now.name.now
+        (made cs new.now.key.now new.now.uniques.now new.now.foreign.now)
+        parts.old.now)) }
     ensures same { parts.new ≡ parts.old }
 {
     match dialect {

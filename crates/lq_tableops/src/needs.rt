@@ -25,7 +25,9 @@ fn is_other_aiming(table: &Name, name: &Name, held: &Held) -> bool
 }
 
 fn one_aims(table: &Name, entries: &[(Name, Held)]) -> bool
-    ensures { result ≡ list_any (λ e. not (is_named table.now e.0) && targets_table table.now e.1.now) entries.now }
+    ensures { result
+        ≡ list_any (λ e. not (is_named table.now e.0) && targets_table table.now e.1.now)
+        entries.now }
 {
     entries
         .iter()

@@ -276,7 +276,8 @@ impl AddedColumn {
     }
 
     fn set(&self, alloc: Global, table: &Name, value: &GivenValue) -> Result<Statement, NoMemory>
-        ensures { IfOk result (λ made. made ≡ statement.Update table.now ((self.now.name, literal_of value.now) ∷ []) None) }
+        ensures { IfOk result (λ made.
+            made ≡ statement.Update table.now ((self.now.name, literal_of value.now) ∷ []) None) }
     {
         let (table, sets) = both(table.duplicate(alloc), self.filled(alloc, value))?;
         Ok(Statement::Update {
@@ -318,7 +319,8 @@ impl AddedColumn {
         table: &Name,
         to: &mut Items<Statement>,
     ) -> Result<(), NoMemory>
-        ensures { OnOk result (to.new ≡ to.old ++ sets dialect table.now self.now self.now.value (is_firm self.now)) }
+        ensures { OnOk result
+            (to.new ≡ to.old ++ sets dialect table.now self.now self.now.value (is_firm self.now)) }
     {
         let Some(value) = &self.value else {
             return Ok(());
@@ -384,7 +386,8 @@ impl AddedColumn {
         table: &Name,
         to: &mut Items<Statement>,
     ) -> Result<(), NoMemory>
-        ensures { OnOk result (to.new ≡ to.old ++ leaves dialect table.now (unique_of table.now self.now)) }
+        ensures { OnOk result
+            (to.new ≡ to.old ++ leaves dialect table.now (unique_of table.now self.now)) }
     {
         let Some(unique) = self.unique(alloc, table)? else {
             return Ok(());

@@ -84,7 +84,8 @@ impl AddUniqueConstraint {
 
     // Drops the constraint.
     fn dropped(&self, alloc: Global, dialect: Dialect) -> Result<Statement, NoMemory>
-        ensures { IfOk result (λ made. made ≡ drops_unique dialect self.now.table_name (name_of self.now)) }
+        ensures { IfOk result
+            (λ made. made ≡ drops_unique dialect self.now.table_name (name_of self.now)) }
     {
         let name = self.name(alloc)?;
         unique_drop(alloc, dialect, &self.table_name, &name)

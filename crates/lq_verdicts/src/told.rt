@@ -22,7 +22,9 @@ pub fn with_told(
     before: Items<bool>,
     told: Result<bool, CondFault>,
 ) -> Result<Items<bool>, CondFault>
-    ensures { (meant : Result Bool Reason) → IsTold meant told → IsTold (map_told (λ holds. before ++ holds ∷ []) meant) result }
+    ensures { (meant : Result Bool Reason)
+        → IsTold meant told
+        → IsTold (map_told (λ holds. before ++ holds ∷ []) meant) result }
 {
     let mut all = before;
     let holds = told?;
@@ -34,7 +36,9 @@ pub fn with_told(
 
 /// Whether all hold, of what each condition told.
 pub fn all_hold(told: Result<Items<bool>, CondFault>) -> Result<bool, CondFault>
-    ensures { (meant : Result (List Bool) Reason) → IsTold meant told → IsTold (map_told all_hold meant) result }
+    ensures { (meant : Result (List Bool) Reason)
+        → IsTold meant told
+        → IsTold (map_told all_hold meant) result }
 {
     match told {
         Ok(told) => Ok(are_all(told.as_slice())),
@@ -44,7 +48,9 @@ pub fn all_hold(told: Result<Items<bool>, CondFault>) -> Result<bool, CondFault>
 
 /// Whether one holds at least, of what each condition told.
 pub fn one_holds(told: Result<Items<bool>, CondFault>) -> Result<bool, CondFault>
-    ensures { (meant : Result (List Bool) Reason) → IsTold meant told → IsTold (map_told one_holds meant) result }
+    ensures { (meant : Result (List Bool) Reason)
+        → IsTold meant told
+        → IsTold (map_told one_holds meant) result }
 {
     match told {
         Ok(told) => Ok(is_one(told.as_slice())),
@@ -54,7 +60,9 @@ pub fn one_holds(told: Result<Items<bool>, CondFault>) -> Result<bool, CondFault
 
 /// Whether none holds, of what each condition told.
 pub fn none_holds(told: Result<Items<bool>, CondFault>) -> Result<bool, CondFault>
-    ensures { (meant : Result (List Bool) Reason) → IsTold meant told → IsTold (map_told not (map_told one_holds meant)) result }
+    ensures { (meant : Result (List Bool) Reason)
+        → IsTold meant told
+        → IsTold (map_told not (map_told one_holds meant)) result }
 {
     match told {
         Ok(told) => Ok(!is_one(told.as_slice())),

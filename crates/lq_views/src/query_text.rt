@@ -76,7 +76,8 @@ impl QueryText {
         sql: &P,
     ) -> Result<QueryText, KindFault>
         requires { P.dialect ≡ dialect }
-        ensures read { Reads (at_required key.now (a_query dialect) (value_at key.now node.now)) result }
+        ensures read { Reads (at_required key.now (a_query dialect) (value_at key.now node.now))
+            result }
         ensures right { IfOk result (λ found. spells_query dialect found ≡ true) }
     {
         let Some(value) = node.value_at(key) else {

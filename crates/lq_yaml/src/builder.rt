@@ -31,7 +31,8 @@ impl Builder {
 
     /// Takes a token, if it may stand here.
     fn take(&mut self, token: Token) -> Result<bool, NoMemory>
-        ensures { IfOk result (λ b. Takes b (deep_step token (deep_of self.old)) (deep_of self.new)) }
+        ensures { IfOk result
+            (λ b. Takes b (deep_step token (deep_of self.old)) (deep_of self.new)) }
     {
         let own = own_levels(&token);
         if !self.place.take(token)? {
@@ -45,7 +46,8 @@ impl Builder {
 
     /// Takes the tokens of a line, if all may stand here.
     pub fn take_all(&mut self, tokens: Vec<Token>) -> Result<bool, NoMemory>
-        ensures { IfOk result (λ b. Takes b (deep_run tokens.items (deep_of self.old)) (deep_of self.new)) }
+        ensures { IfOk result
+            (λ b. Takes b (deep_run tokens.items (deep_of self.old)) (deep_of self.new)) }
     {
         for token in tokens {
             if !self.take(token)? {

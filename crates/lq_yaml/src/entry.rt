@@ -112,7 +112,9 @@ fn with_value(
     from: &[char],
     mut tokens: Vec<Token>,
 ) -> Result<Option<Vec<Token>>, NoMemory>
-    ensures { IfOk result (λ o. option_map (λ v. v.items) o ≡ option_map (λ ts. tokens.items ++ ts) (value_tokens rank from.now)) }
+    ensures { IfOk result (λ o.
+        option_map (λ v. v.items) o
+        ≡ option_map (λ ts. tokens.items ++ ts) (value_tokens rank from.now)) }
 {
     match value_of(alloc, rank, from)? {
         Some(token) => {
@@ -129,7 +131,9 @@ fn with_rest(
     rest: &[char],
     tokens: Vec<Token>,
 ) -> Result<Option<Vec<Token>>, NoMemory>
-    ensures { IfOk result (λ o. option_map (λ v. v.items) o ≡ option_map (λ ts. tokens.items ++ ts) (behind_key rank rest.now)) }
+    ensures { IfOk result (λ o.
+        option_map (λ v. v.items) o
+        ≡ option_map (λ ts. tokens.items ++ ts) (behind_key rank rest.now)) }
 {
     match rest {
         [] => Ok(Some(tokens)),
@@ -145,7 +149,9 @@ fn with_entry(
     mut tokens: Vec<Token>,
 ) -> Result<Option<Vec<Token>>, NoMemory>
     requires { column < 2 ^ 62 }
-    ensures { IfOk result (λ o. option_map (λ v. v.items) o ≡ option_map (λ ts. tokens.items ++ ts) (entry_tokens column from.now)) }
+    ensures { IfOk result (λ o.
+        option_map (λ v. v.items) o
+        ≡ option_map (λ ts. tokens.items ++ ts) (entry_tokens column from.now)) }
 {
     match key_of(alloc, from)? {
         Some((chars, rest)) => {

@@ -50,7 +50,9 @@ pub fn front_of(alloc: Global, from: &[char]) -> Result<Option<Front<'_>>, NoMem
 }
 
 fn quoted(found: Option<(Vec<char>, &[char])>) -> Option<Front<'_>>
-    ensures { (meant : Option Found) → Gives found.entry meant → option_map shown_front result ≡ option_map quoted_front meant }
+    ensures { (meant : Option Found)
+        → Gives found.entry meant
+        → option_map shown_front result ≡ option_map quoted_front meant }
 {
     match found {
         Some((chars, rest)) => Some(Front {

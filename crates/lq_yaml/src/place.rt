@@ -102,7 +102,10 @@ impl Place {
 
     /// Takes what fills a place, if it may stand here.
     fn put(&mut self, rank: usize, cell: Cell) -> Result<bool, NoMemory>
-        ensures { IfOk result (λ b. Takes b (let at = settled_place rank (place_of self.old) in put rank (cell_of cell) at.cell at.frames) (place_of self.new)) }
+        ensures { IfOk result (λ b.
+            Takes b
+            (let at = settled_place rank (place_of self.old) in put rank (cell_of cell) at.cell
+            at.frames) (place_of self.new)) }
     {
         self.settle(rank)?;
         if !matches!(self.cell, Cell::Empty) || self.frames.is_empty() || self.top() >= rank {
@@ -114,7 +117,9 @@ impl Place {
 
     /// Takes a line of the open literal block, if one is open.
     fn add_line(&mut self, line: Text) -> Result<bool, NoMemory>
-        ensures { IfOk result (λ b. Takes b (add_line line (cell_of self.old.cell) (stack self.old.frames.items)) (place_of self.new)) }
+        ensures { IfOk result (λ b.
+            Takes b (add_line line (cell_of self.old.cell) (stack self.old.frames.items))
+            (place_of self.new)) }
     {
         match &mut self.cell {
             Cell::Block(_, lines) => {
@@ -127,7 +132,8 @@ impl Place {
 
     /// Takes what begins an entry, if it may stand here.
     fn begin(&mut self, rank: usize, head: Head) -> Result<bool, NoMemory>
-        ensures { IfOk result (λ b. Takes b (step (Begin rank head) (place_of self.old)) (place_of self.new)) }
+        ensures { IfOk result
+            (λ b. Takes b (step (Begin rank head) (place_of self.old)) (place_of self.new)) }
     {
         self.settle(rank)?;
         if self.top() < rank {
@@ -144,7 +150,9 @@ impl Place {
     }
 
     fn again(&mut self, head: Head) -> Result<bool, NoMemory>
-        ensures { IfOk result (λ b. Takes b (again head (cell_of self.old.cell) (stack self.old.frames.items)) (place_of self.new)) }
+        ensures { IfOk result (λ b.
+            Takes b (again head (cell_of self.old.cell) (stack self.old.frames.items))
+            (place_of self.new)) }
     {
         match self.frames.pop() {
             None => Ok(false),

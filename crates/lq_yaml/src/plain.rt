@@ -98,7 +98,9 @@ pub fn plain_node(text: Text) -> Node
 
 /// The whole number that a text spells.
 fn whole_of(text: &str) -> Option<i128>
-    ensures { result ≡ cond (is_whole text.now && fits_128 (signed_digits_value 10 text.now)) (Some (signed_digits_value 10 text.now)) None }
+    ensures { result
+        ≡ cond (is_whole text.now && fits_128 (signed_digits_value 10 text.now))
+        (Some (signed_digits_value 10 text.now)) None }
 {
     if !is_whole(text.as_bytes()) {
         return None;

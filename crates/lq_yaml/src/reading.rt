@@ -39,7 +39,8 @@ impl Reader {
 
     /// Takes a line, if some layout goes on so.
     fn take_line(&mut self, alloc: Global, line: &str) -> Result<bool, NoMemory>
-        ensures { IfOk result (λ b. Takes b (line_step (chars line.now) (state_of self.old)) (state_of self.new)) }
+        ensures { IfOk result
+            (λ b. Takes b (line_step (chars line.now) (state_of self.old)) (state_of self.new)) }
     {
         let chars = chars_of(alloc, line)?;
         match line_tokens(alloc, self.mode, chars.as_slice())? {
@@ -91,7 +92,10 @@ fn read_text(alloc: Global, text: &str) -> Result<Node, YamlFault>
 pub fn read_yaml(alloc: Global, bytes: &[u8]) -> Result<Node, YamlFault>
     ensures found { (result ≡ Err OutOfMemory) ⊎ (result ≡ yaml_tree bytes.now) }
     ensures tree { IfOk result (λ node. IsRead (lines_of bytes.now) node) }
-    ensures whole { (node : Node) → IsUtf8 bytes.now → IsRead (lines_of bytes.now) node → (result ≡ Ok node) ⊎ (result ≡ Err OutOfMemory) }
+    ensures whole { (node : Node)
+        → IsUtf8 bytes.now
+        → IsRead (lines_of bytes.now) node
+        → (result ≡ Ok node) ⊎ (result ≡ Err OutOfMemory) }
     ensures order { IfOk result IsTree }
     ensures not_utf8 { (result ≡ Err NotUtf8) ↔ ¬ (IsUtf8 bytes.now) }
     ensures line { (n : ℕ) → result ≡ Err (Line n) → IsWrong (lines_of bytes.now) n }

@@ -4,8 +4,8 @@ ghost use Rattle.lq_base.specs.Moment.{IsMoment};
 use lq_base::{Dialect, Exec, Identity, Kind, Literal, Name, NoMemory, Text, Tracked, both};
 use lq_model::{ColumnDef, Key, Operand, Statement, Test};
 use lq_track::{
-    Ran, again_row, delete_row, fill_sum, free_lock, insert_row, make_tables, mark_lock, row_of,
-    set_tag, take_lock,
+    Ran, again_row, clear_sums, delete_row, fill_sum, free_lock, insert_row, make_tables,
+    mark_lock, row_of, set_tag, take_lock,
 };
 use std::alloc::{AllocError, Global};
 use std::process::Abort;
@@ -322,6 +322,19 @@ fn rows_are_named(rt: HostRuntime) -> Result<(), Fail> {
         alloc,
         &filled,
         "UPDATE \"DATABASECHANGELOG\" SET \"MD5SUM\" = 'v1' WHERE ((\"ID\" = '1' AND \"AUTHOR\" = 'ann') AND \"FILENAME\" = 'db/e.json')",
+    );
+    Ok(())
+}
+
+#[test]
+fn all_rows_lose_their_sums(rt: HostRuntime) -> Result<(), Fail> {
+    let alloc = rt.alloc();
+    let cleared = clear_sums(alloc)?;
+    assert_written(
+        &rt,
+        alloc,
+        &cleared,
+        "UPDATE \"DATABASECHANGELOG\" SET \"MD5SUM\" = NULL",
     );
     Ok(())
 }
