@@ -43,7 +43,8 @@ use Rattle.laws_stages.proofs.Filled.{keyed_part, made_part}
 use Rattle.laws_stages.proofs.Woven.{whole_there}
 use Rattle.laws_generate.proofs.CreatedRead.{Fits, IsWritable}
 use Rattle.laws_generate.proofs.NamesListed.{AreListed}
-use Rattle.laws_generate.specs.Named.{HasNames, TableHasNames, are_names, has_names}
+use Rattle.laws_generate.proofs.Queries.{queries_written}
+use Rattle.lq_named.specs.Named.{HasNames, TableHasNames, are_names, has_names}
 use Rattle.laws_stages.specs.Making.{keyed, made}
 
 -- what can be written
@@ -335,14 +336,14 @@ module _ (d : Dialect) (c : Catalogue) (sound : IsSound d c) (names : HasNames c
         (each_of (λ (s : Name × Sequence). not (int_eq s.1.step (pos 0))) c.sequences (none_all (λ (s : Name × Sequence). int_eq s.1.step (pos 0)) c.sequences sound.steps)));
     tables = tables_can;
     fillings = each_so Fine (CanFill d) (λ e h. filling_can d c e h.0.0.0 h.0.0.1 (negated (list_any (kinds_differ c e.1) e.1.foreign) h.0.1) h.1.0 h.1.1.0 h.1.1.1) c.tables tables_all;
-    views = both _ _ c.views (each_so (λ (v : Name × View). (is_name v.0 && is_query v.1.query) ≡ true) (λ v. is_name v.0 ≡ true) (λ v h. and_left (is_name v.0) _ h) c.views (each_of (λ (v : Name × View). is_name v.0 && is_query v.1.query) c.views names.views)) spelled;
+    views = both _ _ c.views (each_of (λ (v : Name × View). is_name v.0) c.views names.views) spelled;
   }
 
 -- the text of each view's query is read as that query
-pub queries_spelled : (d : Dialect) → ((q : Query) → is_query q ≡ true → query_in d (query_text d q) ≡ Some q) → (c : Catalogue) → HasNames c → AllByRecursion (λ (v : Name × View). query_in d (query_text d v.1.query) ≡ Some v.1.query) c.views
-queries_spelled d back c names =
-    each_so (λ (v : Name × View). (is_name v.0 && is_query v.1.query) ≡ true) (λ v. query_in d (query_text d v.1.query) ≡ Some v.1.query) (λ v h. back v.1.query (and_right (is_name v.0) _ h)) c.views
-    (each_of (λ (v : Name × View). is_name v.0 && is_query v.1.query) c.views names.views)
+pub queries_spelled : (d : Dialect) → ((q : Query) → is_query q ≡ true → query_in d (query_text d q) ≡ Some q) → (c : Catalogue) → IsSound d c → HasNames c → AllByRecursion (λ (v : Name × View). query_in d (query_text d v.1.query) ≡ Some v.1.query) c.views
+queries_spelled d back c sound names =
+    each_so (λ (v : Name × View). is_query v.1.query ≡ true) (λ v. query_in d (query_text d v.1.query) ≡ Some v.1.query) (λ v h. back v.1.query h) c.views
+    (each_of (λ (v : Name × View). is_query v.1.query) c.views (queries_written d c sound names))
 
 -- and its defaults can be written
 pub defaults_written : (d : Dialect) (c : Catalogue) → IsSound d c → HasNames c → first_fault c ≡ None → (done : List (Name × Table)) (e : Name × Table) (more : List (Name × Table)) → c.tables ≡ done ++ e ∷ more

@@ -2,6 +2,7 @@ pub mod NodesRead
 pub mod RowsRead
 pub mod CreatedRead
 pub mod NamesListed
+pub mod Queries
 pub mod CanWrite
 pub mod Writable
 pub mod AddedRead
@@ -15,4 +16,6 @@ pub mod Unfilled
 pub mod Generated
 pub mod SetsRun
 pub mod Settled
+pub mod Updates
+pub mod JsonPaths
 pub mod Ended

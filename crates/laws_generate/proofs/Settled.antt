@@ -26,7 +26,7 @@ use Rattle.lq_turns.specs.declared.choice.What.TheVariants.{New}
 use Rattle.lq_turns.specs.declared.deed.OnRows.TheVariants.{Inserted}
 use Rattle.laws_generate.specs.Sets.{generated_set}
 
-nothing_asked : (d : Dialect) (c : Catalogue) (rows : List Tracked) → told d (And []) c rows ≡ Ok true
+pub nothing_asked : (d : Dialect) (c : Catalogue) (rows : List Tracked) → told d (And []) c rows ≡ Ok true
 nothing_asked d c rows = search (rules, the_lemmas)
 
 met : (o : Option Expr) → is_met o [] ≡ true

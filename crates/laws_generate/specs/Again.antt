@@ -1,24 +1,31 @@
 -- What a generated changelog is read as, and what it does.
-use Rattle.std.specs.Prelude.{List, None, Ok, Some, false, length, true, ℕ, ◌∷◌, ◌≡◌, ◌≤◌, []}
+use Rattle.std.specs.Prelude.{List, None, Ok, Some, [], false, length, map, true, ℕ, ◌∷◌, ◌≡◌, ◌≤◌}
 use Rattle.std.specs.List.{flat_map}
 use Rattle.lq_base.specs.declared.dialect.Dialect.{Dialect}
+use Rattle.lq_base.specs.declared.run.Did.TheVariants.{Ran}
 use Rattle.lq_changelog.specs.Changelog.{changelog}
+use Rattle.lq_expr.specs.declared.options.Options.{Options}
 use Rattle.lq_generate.specs.Faults.{first_fault}
 use Rattle.lq_generate.specs.Generated.{generated_tree}
 use Rattle.lq_jsontext.specs.JsonText.{IsWritable}
 use Rattle.lq_kinds.specs.Label.{is_label}
+use Rattle.lq_kinds.specs.declared.any_change.AnyChange.{AnyChange}
 use Rattle.lq_kinds.specs.declared.change_set.ChangeSet.{ChangeSet}
+use Rattle.lq_kinds.specs.declared.change_set.Changelog.{Changelog}
 use Rattle.lq_model.specs.Catalogue.{Catalogue, no_objects}
 use Rattle.lq_model.specs.Sound.{IsSound}
 use Rattle.lq_model.specs.declared.statement.Statement.{Statement}
 use Rattle.lq_paths.specs.Paths.{format_of, is_xml}
 use Rattle.lq_paths.specs.declared.path.Format.TheVariants.{Json}
-use Rattle.lq_seen.specs.View.{any_meaning}
+use Rattle.lq_seen.specs.View.{any_meaning, view_log, views}
 use Rattle.lq_sources.specs.Source.{Source}
 use Rattle.lq_store.specs.Apart.{is_apart}
 use Rattle.lq_tree.specs.Json.{json_tree}
+use Rattle.lq_turns.specs.Contents.{Contents}
 use Rattle.lq_turns.specs.Effects.{effects, inverses, not_fresh}
-use Rattle.laws_generate.specs.Named.{HasNames}
+use Rattle.lq_turns.specs.Set.{Set}
+use Rattle.lq_turns.specs.Settle.{Settled, happens, updated}
+use Rattle.lq_named.specs.Named.{HasNames}
 use Rattle.laws_generate.specs.Sets.{generated_changelog, without_rows}
 
 -- the users' catalogue of a database, of which nothing is in the way
@@ -42,6 +49,33 @@ abbrev pub SetsRun : Dialect → List ChangeSet → Catalogue → Catalogue → 
 SetsRun d [] c g = c ≡ g
 SetsRun d (x ∷ xs) c g = (m : Catalogue) × ((effects d any_meaning x.changes c ≡ Ok m) × ((not_fresh d any_meaning x.changes c ≡ 0) × SetsRun d xs m g))
 
+-- a database without objects and rows
+abbrev pub new_database : Contents
+new_database = record { users = no_objects; rows = [] }
+
+abbrev pub updated_new : Options → ℕ → Changelog → Settled
+updated_new options reading g = updated options.dialect any_meaning reading (view_log options g) new_database
+
+-- an update of it by this changelog: each changeset runs, nothing is warned of, nothing is not fresh, nothing stops it, and these objects are there without rows
+pub record UpdatesNew (options : Options) (reading : ℕ) (g : Changelog) (c : Catalogue) : Type 0 where
+  pub users : (updated_new options reading g).contents.users ≡ without_rows c
+  pub happened : (updated_new options reading g).happened ≡ map (λ (x : Set AnyChange). happens x Ran) (views options g.sets)
+  pub warned : (updated_new options reading g).warned ≡ []
+  pub fresh : (updated_new options reading g).not_fresh ≡ 0
+  pub stop : (updated_new options reading g).stop ≡ None
+
+-- what these files give at the path is a changelog that makes these objects again, with any filters, and each change of it has an inverse
+pub record ComesAgain (d : Dialect) (c : Catalogue) (source : Source) (path : List ℕ) : Type 0 where
+  pub again : Changelog
+  pub read : changelog source path d [] ≡ Ok again
+  pub updates : (options : Options) → options.dialect ≡ d → (reading : ℕ) → UpdatesNew options reading again c
+  pub undone : List Statement
+  pub inverse : inverses d any_meaning (flat_map (λ (x : ChangeSet). x.changes) again.sets) ≡ Some undone
+
+-- a `.json` file of this text does
+abbrev pub TextComesAgain : Dialect → Catalogue → List ℕ → Type 0
+TextComesAgain d c text = (source : Source) (path : List ℕ) → is_label path ≡ true → format_of path ≡ Some Json → source.content path ≡ Some text → ComesAgain d c source path
+
 -- its text is read as the tree that it was made from
 abbrev pub IsWrittenWhole : Type 0
 IsWrittenWhole = (d : Dialect) (author : List ℕ) (c : Catalogue) → MayGenerate d c → IsWritable (generated_tree d author c)
@@ -60,3 +94,8 @@ MakesAgain = (d : Dialect) (path author : List ℕ) (c : Catalogue) → MayGener
 abbrev pub CanBeUndone : Type 0
 CanBeUndone = (d : Dialect) (path author : List ℕ) (c : Catalogue) → MayGenerate d c
     → (us : List Statement) × (inverses d any_meaning (flat_map (λ (x : ChangeSet). x.changes) (generated_changelog d path author c).sets) ≡ Some us)
+
+-- so what is generated makes the objects again
+abbrev pub AllComesAgain : Type 0
+AllComesAgain = (d : Dialect) (author : List ℕ) (c : Catalogue) → MayGenerate d c → is_label author ≡ true
+    → (text : List ℕ) → length text ≤ 16777216 → json_tree text ≡ Ok (generated_tree d author c) → TextComesAgain d c text

@@ -1,4 +1,3 @@
 pub mod Again
-pub mod Named
 pub mod RowAt
 pub mod Sets

@@ -1,7 +1,7 @@
 //! What a generated changelog is read as, and what it does. The functions are empty but for the laws
 //! that they cite: their contracts are the laws.
 
-ghost use Rattle.laws_generate.specs.Again.{CanBeUndone, IsReadWhole, IsWrittenWhole, MakesAgain};
+ghost use Rattle.laws_generate.specs.Again.{AllComesAgain, CanBeUndone, IsReadWhole, IsWrittenWhole, MakesAgain};
 
 use lq_parse::laws::queries_read_back;
 
@@ -29,6 +29,15 @@ pub fn it_makes_the_objects()
 /// Each change has an inverse that is generated.
 pub fn it_can_be_undone()
     ensures { CanBeUndone }
+{
+    queries_read_back();
+}
+
+/// A `.json` file of the text is read as a changelog. An update with it of a database without objects
+/// makes the catalogue without its rows: each changeset runs, and nothing is not fresh. Each change
+/// has an inverse that is generated.
+pub fn it_comes_again()
+    ensures { AllComesAgain }
 {
     queries_read_back();
 }

@@ -6,13 +6,13 @@ use Rattle.lq_base.specs.declared.command.Command.TheVariants as command
 use Rattle.lq_base.specs.declared.command.Target.{Target}
 use Rattle.lq_base.specs.declared.command.Target.TheVariants as target
 use Rattle.lq_cli.specs.declared.line.Job.{Job}
-use Rattle.lq_cli.specs.declared.line.Job.TheVariants.{Run, UpdateSql, UpdateCount, UpdateTo, RollbackSql, History, Drill, Soak}
+use Rattle.lq_cli.specs.declared.line.Job.TheVariants.{Run, UpdateSql, UpdateCount, UpdateTo, RollbackSql, History, Generate, Drill, Soak, ClearSums}
 use Rattle.lq_cli.specs.declared.line.Line.{Line}
 use Rattle.lq_cli.specs.declared.verb.Verb.{Verb}
 use Rattle.lq_cli.specs.declared.verb.Verb.TheVariants as verb
 use Rattle.lq_cli.specs.Options.{definitions, given_in, value}
 use Rattle.lq_cli.specs.Parsed.{◌>>=◌}
-use Rattle.lq_cli.specs.Table.{changelog_file, context_filter, count, date, form_of, label_filter, number, runs, sets, tag, url, verb_of}
+use Rattle.lq_cli.specs.Table.{author, changelog_file, context_filter, count, date, form_of, label_filter, number, runs, sets, tag, url, verb_of}
 use Rattle.lq_cli.specs.Values.{contexts_of, labels_of, number_from, properties_of, tag_of, url_of}
 
 -- back to a tag, by a count or back to a date
@@ -48,6 +48,10 @@ going given = option_map UpdateTo (value given tag >>= tag_of)
 unfoldable pub tagging : List Row → Option Job
 tagging given = option_map (λ t. Run (command.Tag t)) (value given tag >>= tag_of)
 
+-- an author has the form of a tag
+unfoldable pub generating : List Row → Option Job
+generating given = option_map Generate (value given author >>= tag_of)
+
 unfoldable pub drilling : List Row → Option Job
 drilling given = option_map Drill (value given runs)
 
@@ -71,8 +75,10 @@ job_of verb.RollbackCount given = rollback (value given count >>= by_count)
 job_of verb.RollbackToDate given = rollback (value given date >>= to_date)
 job_of verb.RollbackSql given = option_map RollbackSql (only_target given)
 job_of verb.Tag given = tagging given
+job_of verb.ClearChecksums given = Some ClearSums
 job_of verb.ReleaseLocks given = Some (Run command.Release)
 job_of verb.History given = Some History
+job_of verb.GenerateChangelog given = generating given
 job_of verb.Drill given = drilling given
 job_of verb.Soak given = soak given
 

@@ -3,7 +3,7 @@ use Rattle.std.specs.Prelude.{ℕ, Bool, true, false, List, [], ◌∷◌, Optio
 use Rattle.std.specs.Map.{lookup}
 use Rattle.std.specs.Str.{bytes_eq}
 use Rattle.lq_cli.specs.declared.verb.Verb.{Verb}
-use Rattle.lq_cli.specs.declared.verb.Verb.TheVariants.{Validate, Status, Update, UpdateSql, UpdateCount, UpdateToTag, ChangelogSync, Rollback, RollbackCount, RollbackToDate, RollbackSql, Tag, ReleaseLocks, History, Drill, Soak}
+use Rattle.lq_cli.specs.declared.verb.Verb.TheVariants.{Validate, Status, Update, UpdateSql, UpdateCount, UpdateToTag, ChangelogSync, Rollback, RollbackCount, RollbackToDate, RollbackSql, Tag, ReleaseLocks, History, GenerateChangelog, Drill, Soak, ClearChecksums}
 
 -- the names of the options
 abbrev pub url : List ℕ
@@ -29,6 +29,9 @@ date = codes "date"
 
 abbrev pub runs : List ℕ
 runs = codes "runs"
+
+abbrev pub author : List ℕ
+author = codes "author"
 
 abbrev pub number : List ℕ
 number = codes "number"
@@ -62,8 +65,10 @@ form_of RollbackCount = takes (url ∷ changelog_file ∷ count ∷ []) [] true
 form_of RollbackToDate = takes (url ∷ changelog_file ∷ date ∷ []) [] true
 form_of RollbackSql = takes (url ∷ changelog_file ∷ []) (tag ∷ count ∷ date ∷ []) true
 form_of Tag = takes (url ∷ tag ∷ []) [] false
+form_of ClearChecksums = takes (url ∷ []) [] false
 form_of ReleaseLocks = takes (url ∷ []) [] false
 form_of History = takes (url ∷ []) [] false
+form_of GenerateChangelog = takes (url ∷ author ∷ []) [] false
 form_of Drill = takes (url ∷ runs ∷ []) [] false
 form_of Soak = takes (url ∷ number ∷ sets ∷ []) [] false
 
@@ -75,7 +80,9 @@ verbs =
     ∷ (codes "update-to-tag", UpdateToTag) ∷ (codes "changelog-sync", ChangelogSync)
     ∷ (codes "rollback", Rollback) ∷ (codes "rollback-count", RollbackCount)
     ∷ (codes "rollback-to-date", RollbackToDate) ∷ (codes "rollback-sql", RollbackSql)
+    ∷ (codes "clear-checksums", ClearChecksums)
     ∷ (codes "tag", Tag) ∷ (codes "release-locks", ReleaseLocks) ∷ (codes "history", History)
+    ∷ (codes "generate-changelog", GenerateChangelog)
     ∷ (codes "drill", Drill) ∷ (codes "soak", Soak) ∷ []
 
 -- the command of this name

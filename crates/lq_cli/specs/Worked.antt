@@ -7,7 +7,7 @@ use Rattle.lq_base.specs.declared.dialect.Dialect.{Dialect}
 use Rattle.lq_base.specs.declared.dialect.Dialect.TheVariants.{Postgresql, Mysql}
 use Rattle.lq_expr.specs.declared.expr.Expr.TheVariants.{Name}
 use Rattle.lq_cli.specs.declared.line.Job.{Job}
-use Rattle.lq_cli.specs.declared.line.Job.TheVariants.{Run, RollbackSql, Drill, Soak}
+use Rattle.lq_cli.specs.declared.line.Job.TheVariants.{Run, RollbackSql, Generate, Drill, Soak}
 use Rattle.lq_cli.specs.declared.line.Line.{Line}
 use Rattle.lq_cli.specs.Line.{line_of}
 
@@ -48,6 +48,9 @@ TargetIsRead = line_of (codes "rollback-sql" ∷ codes "--url=mysql:f" ∷ codes
 abbrev pub DrillIsRead : Type 0
 DrillIsRead = line_of (codes "drill" ∷ codes "--runs" ∷ codes "a/r" ∷ codes "--url=mysql:f" ∷ []) ≡ Some (plain_line Mysql (Drill (codes "a/r")) None)
 
+abbrev pub GenerateIsRead : Type 0
+GenerateIsRead = line_of (codes "generate-changelog" ∷ codes "--author=a b" ∷ codes "--url=mysql:f" ∷ []) ≡ Some (plain_line Mysql (Generate (codes "a b")) None)
+
 abbrev pub SoakIsRead : Type 0
 SoakIsRead = line_of (codes "soak" ∷ codes "--url=mysql:f" ∷ codes "--sets=10000" ∷ codes "--number=18446744073709551615" ∷ []) ≡ Some (plain_line Mysql (Soak 18446744073709551615 10000) None)
 
@@ -69,8 +72,10 @@ RequiredSuffice = list_all (λ words. is_some (line_of words)) (
     ∷ with_changelog (codes "rollback-count") (codes "--count=1" ∷ [])
     ∷ with_changelog (codes "rollback-sql") (codes "--tag=v1" ∷ [])
     ∷ (codes "tag" ∷ codes "--url=mysql:f" ∷ codes "--tag=v1" ∷ [])
+    ∷ (codes "clear-checksums" ∷ codes "--url=mysql:f" ∷ [])
     ∷ (codes "release-locks" ∷ codes "--url=mysql:f" ∷ [])
     ∷ (codes "history" ∷ codes "--url=mysql:f" ∷ [])
+    ∷ (codes "generate-changelog" ∷ codes "--url=mysql:f" ∷ codes "--author=a" ∷ [])
     ∷ (codes "drill" ∷ codes "--url=mysql:f" ∷ codes "--runs=r" ∷ [])
     ∷ (codes "soak" ∷ codes "--url=mysql:f" ∷ codes "--number=0" ∷ codes "--sets=1" ∷ [])
     ∷ []) ≡ true
@@ -125,9 +130,12 @@ CommandsAreRefused = AreNone (
     ∷ (codes "status" ∷ codes "--url=mysql:f" ∷ codes "--changelog-file=c" ∷ codes "--label-filter=" ∷ [])
     ∷ (codes "tag" ∷ codes "--url=mysql:f" ∷ codes "--tag=" ∷ [])
     ∷ (codes "tag" ∷ codes "--url=mysql:f" ∷ codes "--tag=v1" ∷ codes "-Dx=1" ∷ [])
+    ∷ with_changelog (codes "clear-checksums") []
     ∷ with_changelog (codes "update-count") []
     ∷ with_changelog (codes "update-to-tag") []
     ∷ with_changelog (codes "update-to-tag") (codes "--count=1" ∷ [])
+    ∷ (codes "generate-changelog" ∷ codes "--url=mysql:f" ∷ [])
+    ∷ (codes "generate-changelog" ∷ codes "--url=mysql:f" ∷ codes "--author=" ∷ [])
     ∷ (codes "history" ∷ codes "--url=mysql:f" ∷ codes "-Dx=1" ∷ [])
     ∷ (codes "history" ∷ codes "--url=mysql:f" ∷ codes "--changelog-file=c" ∷ [])
     ∷ (codes "drill" ∷ codes "--url=mysql:f" ∷ [])

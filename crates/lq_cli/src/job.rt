@@ -1,8 +1,8 @@
 ghost use Rattle.std.specs.Prelude.{◌≡◌, option_and_then, option_map};
 ghost use Rattle.lq_cli.specs.Gives.{Gives};
-ghost use Rattle.lq_cli.specs.Line.{by_count, counting, drilling, going, job_of, only_target, rollback, soak, tagging, to_date, to_tag};
+ghost use Rattle.lq_cli.specs.Line.{by_count, counting, drilling, generating, going, job_of, only_target, rollback, soak, tagging, to_date, to_tag};
 ghost use Rattle.lq_cli.specs.Options.{value};
-ghost use Rattle.lq_cli.specs.Table.{count, date, number, sets, tag};
+ghost use Rattle.lq_cli.specs.Table.{author, count, date, number, sets, tag};
 ghost use Rattle.lq_cli.specs.Values.{number_from, tag_of};
 
 use crate::chosen::Chosen;
@@ -32,8 +32,10 @@ pub fn job_of(alloc: Global, verb: Verb, given: &Chosen) -> Result<Job, WordsFau
         Verb::RollbackToDate => rollback_to_date(given),
         Verb::RollbackSql => rollback_sql(alloc, given),
         Verb::Tag => tagging(alloc, given),
+        Verb::ClearChecksums => Ok(Job::ClearSums),
         Verb::ReleaseLocks => Ok(Job::Run(Command::Release)),
         Verb::History => Ok(Job::History),
+        Verb::GenerateChangelog => generating(alloc, given),
         Verb::Drill => drilling(alloc, given),
         Verb::Soak => soak(given),
     }
@@ -112,6 +114,22 @@ fn tag_in<'a>(given: &Chosen<'a>) -> Option<&'a str>
     ensures { option_map (λ t. t.now) result ≡ option_and_then tag_of (value given.now tag) }
 {
     tag_of(given.value("tag")?)
+}
+
+#[tactic(auto, unfolding(crate::specs::Line::generating))]
+fn generating(alloc: Global, given: &Chosen) -> Result<Job, WordsFault>
+    ensures { Gives (generating given.now) result }
+{
+    match author_in(given) {
+        Some(author) => Ok(Job::Generate(Text::new(alloc, author)?)),
+        None => Err(WordsFault::Usage),
+    }
+}
+
+fn author_in<'a>(given: &Chosen<'a>) -> Option<&'a str>
+    ensures { option_map (λ t. t.now) result ≡ option_and_then tag_of (value given.now author) }
+{
+    tag_of(given.value("author")?)
 }
 
 #[tactic(auto, unfolding(crate::specs::Line::drilling))]

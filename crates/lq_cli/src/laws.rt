@@ -1,7 +1,7 @@
 //! What holds of the definitions that the contracts cite. Each function is empty: its contract is
 //! the law.
 
-ghost use Rattle.lq_cli.specs.Worked.{CommandsAreRefused, CountsAreRefused, DrillIsRead, OptionsAreRefused, ReleaseIsRead, RequiredSuffice, SoakIsRead, TagIsRead, TargetIsRead, UpdateIsRead};
+ghost use Rattle.lq_cli.specs.Worked.{CommandsAreRefused, CountsAreRefused, DrillIsRead, GenerateIsRead, OptionsAreRefused, ReleaseIsRead, RequiredSuffice, SoakIsRead, TagIsRead, TargetIsRead, UpdateIsRead};
 
 /// Options stand in any order, each as one word or as two, and `-D` more than once.
 pub fn update_is_read()
@@ -14,6 +14,7 @@ pub fn commands_are_read()
     ensures tag { TagIsRead }
     ensures target { TargetIsRead }
     ensures drill { DrillIsRead }
+    ensures generate { GenerateIsRead }
     ensures soak { SoakIsRead }
 {}
 

@@ -16,8 +16,12 @@ pub enum Job {
     UpdateTo(Text),
     /// To print what a rollback would execute.
     RollbackSql(Target),
+    /// To take the checksum of each row.
+    ClearSums,
     /// To print the rows of the changesets that ran, in the order in which they did.
     History,
+    /// To print a changelog by this author that makes the present objects.
+    Generate(Text),
     /// To run the command lines of the file with this path in turns.
     Drill(Text),
     /// To run and take back a changelog that is made from a number, of so many changesets.
@@ -33,7 +37,9 @@ impl Drop for Job {
             Job::UpdateCount(_) => (),
             Job::UpdateTo(it) => drop(it),
             Job::RollbackSql(it) => drop(it),
+            Job::ClearSums => (),
             Job::History => (),
+            Job::Generate(it) => drop(it),
             Job::Drill(it) => drop(it),
             Job::Soak { number: _, sets: _ } => (),
         }

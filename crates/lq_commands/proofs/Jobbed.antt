@@ -1,13 +1,13 @@
 -- Jobs, from the commands that they are.
 use Rattle.std.proofs.Common.{ap, refl, subst, sym, ◌∙◌}
-use Rattle.std.specs.Prelude.{Err, IfErr, IfOk, List, None, Ok, Result, Some, [], false, true, ℕ, ◌≡◌}
+use Rattle.std.specs.Prelude.{Err, IfErr, IfOk, List, None, Ok, Result, Some, [], false, length, true, ℕ, ◌≡◌}
 use Rattle.lq_base.specs.declared.dialect.Dialect.{Dialect}
 use Rattle.lq_base.specs.declared.tracking.Tracked.{Tracked}
 use Rattle.lq_cli.specs.declared.line.Job.{Job}
-use Rattle.lq_cli.specs.declared.line.Job.TheVariants.{History, UpdateCount, UpdateTo}
+use Rattle.lq_cli.specs.declared.line.Job.TheVariants.{ClearSums, History, UpdateCount, UpdateTo}
 use Rattle.lq_kinds.specs.declared.change_set.Changelog.{Changelog}
 use Rattle.lq_portion.specs.Portion.{counted}
-use Rattle.lq_report.specs.Output.{history_text}
+use Rattle.lq_report.specs.Output.{cleared_text, history_text}
 use Rattle.lq_run.specs.Commands.{HasDatabase}
 use Rattle.lq_store.specs.Crashes.{Crashes}
 use Rattle.lq_store.specs.State.{State}
@@ -15,6 +15,7 @@ use Rattle.lq_tell.specs.declared.done.Done.{Done}
 use Rattle.lq_tell.specs.declared.status.Status.{Status}
 use Rattle.lq_tell.specs.declared.status.Status.TheVariants as status
 use Rattle.lq_track.specs.Database.{Database}
+use Rattle.lq_turns.specs.Script.{clear_calls}
 use Rattle.lq_base.specs.declared.command.Command.TheVariants as command
 use Rattle.lq_commands.proofs.Commanded.{kept_none, lacking_by}
 use Rattle.lq_commands.proofs.Endings.{untouched_crashes, untouched_works}
@@ -23,7 +24,7 @@ use Rattle.lq_commands.proofs.Warned.{quiet_lines}
 use Rattle.lq_commands.specs.Jobs.{DidJob, job_refusal, job_script}
 use Rattle.lq_commands.specs.Outputs.{TellsJob, TellsText}
 use Rattle.lq_commands.specs.Parts.{counted_in}
-use Rattle.lq_commands.specs.Refusals.{Answers, refusal}
+use Rattle.lq_commands.specs.Refusals.{Answers, held, refusal}
 use Rattle.lq_commands.specs.Scripts.{update_script, updated_in}
 use Rattle.lq_commands.specs.Tells.{IfFinished, IsQuiet, TellsUpdate}
 use Rattle.lq_commands.specs.Works.{CrashesIn, IsKept, OnIts, Works}
@@ -79,6 +80,21 @@ module _ {S : Type 0} (state : S → State) (crashes : S → Crashes) where
           any_moment = λ database has. subst (λ (g : Given). CrashesIn g.options.dialect (update_script g database) database (state before) (crashes before) (crashes after)) (now database has) (did.any_moment database (there database has));
           tells = λ database has. subst (λ (g : Given). TellsJob (UpdateTo []) g database done) (now database has) (did.tells database (there database has));
         }
+
+  -- the checksums are taken
+  pub cleared_did : (given : Given) (before : S) (done : Result Done Status) (after : S) → OnIts given.options.dialect (state before) (λ database. Answers (held database) done)
+      → OnIts given.options.dialect (state before) (λ database. IsKept (held database) before after)
+      → OnIts given.options.dialect (state before) (λ database. Works given.options.dialect (clear_calls database) database (state before) done (state after))
+      → OnIts given.options.dialect (state before) (λ database. CrashesIn given.options.dialect (clear_calls database) database (state before) (crashes before) (crashes after))
+      → IfOk done (λ (ended : Done). OnIts given.options.dialect (state before) (λ database. IfFinished ended (TellsText (cleared_text (length database.rows)) ended))) → DidJob state crashes ClearSums given before done after
+  cleared_did given before done after answers refused works moments tells = record {
+    answers = answers;
+    refused = refused;
+    reads = λ only. absurd (false_true only);
+    works = works;
+    any_moment = moments;
+    tells = on_its_tells given.options.dialect (state before) done (λ ended database. IfFinished ended (TellsText (cleared_text (length database.rows)) ended)) tells;
+  }
 
   -- the list of the rows
   pub listed_did : (given : Given) (before : S) (done : Result Done Status) → Answers None done → OnIts given.options.dialect (state before) (λ database. Works given.options.dialect [] database (state before) done (state before))

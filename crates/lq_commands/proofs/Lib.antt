@@ -1,8 +1,10 @@
 pub mod BareName
 mod Checked
+mod Cleared
 mod Commanded
 mod Endings
 mod Freed
+pub mod Generates
 mod InOneTurn
 mod Inserted
 mod Jobbed

@@ -88,6 +88,7 @@ is_plain (status.Halted place why) is = refl
 is_plain (status.Refused identity statement kept reason) is = absurd (false_true is)
 is_plain status.NoTarget is = refl
 is_plain (status.NotReversible of) is = refl
+is_plain (status.NotWritable at) is = absurd (false_true is)
 is_plain status.DiskFault is = absurd (false_true is)
 is_plain (status.Damaged at) is = absurd (false_true is)
 is_plain (status.Full used next) is = absurd (false_true is)
@@ -102,6 +103,12 @@ so_plain (Some s) refuses = is_plain s refuses
 so_not_full : (o : Option Status) → Refuses o → IfSome o IsNotFull
 so_not_full None refuses = tt
 so_not_full (Some s) refuses = λ used next is. false_true (sym (ap is_refusal is) ∙ refuses)
+
+pub held_plain : (database : Database) → IsPlain (held database)
+held_plain database = so_plain (held database) (held_refuses database)
+
+pub held_not_full : (database : Database) → IfSome (held database) IsNotFull
+held_not_full database = so_not_full (held database) (held_refuses database)
 
 module _ (given : Given) where
   by_refuses : (stay : Option ℕ) (rows : List Tracked) → Refuses (unreachable_by given stay rows)

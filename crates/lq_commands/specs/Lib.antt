@@ -1,4 +1,5 @@
 pub mod AtOnce
+pub mod Generates
 pub mod Inserts
 pub mod Jobs
 pub mod Kinds

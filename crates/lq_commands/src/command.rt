@@ -8,7 +8,7 @@ ghost use Rattle.lq_kinds.specs.Dialects.{AreFor};
 ghost use Rattle.lq_outside.specs.Count.{Rose};
 ghost use Rattle.lq_tell.specs.declared.status.Status.TheVariants.{DiskFault};
 ghost use Rattle.lq_commands.specs.AtOnce.{is_at_once};
-ghost use Rattle.lq_commands.specs.Jobs.{DidJob, is_own, job_tag};
+ghost use Rattle.lq_commands.specs.Jobs.{DidJob, is_on_store, job_tag};
 ghost use Rattle.lq_commands.specs.Outputs.{TellsJob};
 ghost use Rattle.lq_commands.specs.Refusals.{Answers, Passes, no_way_back, print_rollback, print_update, refusal};
 ghost use Rattle.lq_commands.specs.Scripts.{printed_script, script, tag_in};
@@ -16,6 +16,7 @@ ghost use Rattle.lq_turns.specs.Stops.{is_mark};
 ghost use Rattle.lq_commands.specs.Works.{CrashesIn, IsKept, IsReady, OnIts, TellsRoom, Works, only_reads};
 
 use crate::checks::{check_own, check_target, check_ways, valid_rows};
+use crate::clear::clear_sums;
 use crate::given::Given;
 use crate::listing::{history, status, validate};
 use crate::part::update_count;
@@ -78,9 +79,9 @@ pub fn run_command<S: Store, P: SqlText>(
     }
 }
 
-/// Does a job on the database of a store, whole: a command, an update by part of its changelog, or the
-/// list of its rows; otherwise as `run_command`. An update up to a tag has that part of its changelog
-/// already.
+/// Does a job on the database of a store, whole: a command, an update by part of its changelog, the
+/// list of its rows, or taking their checksums; otherwise as `run_command`. An update up to a tag has
+/// that part of its changelog already.
 pub fn run_job<S: Store, P: SqlText>(
     alloc: Global,
     job: &Job,
@@ -88,7 +89,7 @@ pub fn run_job<S: Store, P: SqlText>(
     store: &mut S,
     sql: &P,
 ) -> Result<Done, Status>
-    requires own { is_own job.now ≡ true }
+    requires own { is_on_store job.now ≡ true }
     requires valid { S.valid store.old }
     requires ready { IsReady given.options.dialect (S.state store.old) }
     requires sql { P.dialect ≡ given.options.dialect }
@@ -106,6 +107,7 @@ pub fn run_job<S: Store, P: SqlText>(
         Job::Run(command) => run_command(alloc, command, given, store, sql),
         Job::UpdateCount(count) => update_count(alloc, given, *count, store, sql),
         Job::UpdateTo(_) => update(alloc, given, store, sql, false),
+        Job::ClearSums => clear_sums(alloc, given.options.dialect, store, sql),
         Job::History => history(alloc, given.options.dialect, store),
         _ => unreachable!(),
     }

@@ -2,6 +2,7 @@
 #![tactic(auto)]
 
 mod checks;
+mod clear;
 mod command;
 mod given;
 mod listing;

@@ -5,7 +5,7 @@ use Rattle.lq_base.specs.declared.identity.Identity.{Identity}
 use Rattle.lq_base.specs.declared.run.Why.{Why}
 use Rattle.lq_base.specs.Tracking.{identity_text}
 use Rattle.lq_faultlog.specs.Lines.{load_fault_line}
-use Rattle.lq_report.specs.Log.{busy_line, changed_line, damaged_line, fixed_line, full_line, locked_lines, log_line, no_tag_line, not_reversible_line, refused_line, twice_line}
+use Rattle.lq_report.specs.Log.{busy_line, changed_line, damaged_line, fixed_line, full_line, locked_lines, log_line, no_tag_line, not_reversible_line, not_writable_line, refused_line, twice_line}
 use Rattle.lq_words.specs.Words.{why_text}
 use Rattle.lq_report.specs.declared.fixed.FixedLine.TheVariants as fixed
 use Rattle.lq_turns.specs.declared.fault.Fault.{Fault}
@@ -47,6 +47,7 @@ status_lines tag (status.Halted place why) = halted_at place why
 status_lines tag (status.Refused identity statement kept reason) = refused_line identity statement kept reason
 status_lines tag status.NoTarget = no_target_line tag
 status_lines tag (status.NotReversible identity) = not_reversible_line identity
+status_lines tag (status.NotWritable at) = not_writable_line at
 status_lines tag status.DiskFault = fixed_line fixed.DiskFault
 status_lines tag (status.Damaged at) = damaged_line at
 status_lines tag (status.Full used next) = full_line used next

@@ -10,8 +10,8 @@ use lq_base::{Identity, Lock, NoMemory, Text, Why, is_moment};
 use lq_faultlog::append_load_fault;
 use lq_report::{
     FixedLine, append_busy, append_changed, append_damaged, append_full, append_halted,
-    append_locked, append_no_tag, append_not_reversible, append_refused, append_twice,
-    append_warning,
+    append_locked, append_no_tag, append_not_reversible, append_not_writable, append_refused,
+    append_twice, append_warning,
 };
 use lq_turns::Fault;
 use std::alloc::Global;
@@ -49,6 +49,7 @@ fn append_status(
         } => append_refused(alloc, identity, *statement, *kept, *reason, to),
         Status::NoTarget => append_no_target(alloc, tag, to),
         Status::NotReversible(of) => append_not_reversible(alloc, of, to),
+        Status::NotWritable(at) => append_not_writable(alloc, at.as_str(), to),
         Status::DiskFault => append_fixed(FixedLine::DiskFault, to),
         Status::Damaged { at } => append_damaged(*at, to),
         Status::Full { used, next } => append_full(*used, *next, to),

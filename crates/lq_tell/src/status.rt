@@ -1,4 +1,4 @@
-use lq_base::{Identity, Items, Lock, NoMemory, Reason, Why};
+use lq_base::{Identity, Items, Lock, NoMemory, Reason, Text, Why};
 use lq_sources::LoadFault;
 use lq_turns::Fault;
 
@@ -33,6 +33,8 @@ pub enum Status {
     NoTarget,
     /// Nothing takes the row of this changeset back.
     NotReversible(Identity),
+    /// A changelog cannot say what stands here: an object, a column of one, or all of it.
+    NotWritable(Text),
     /// The database file could not be read or written.
     DiskFault,
     /// The database file is no journal of the dialect, from this byte on.
@@ -88,6 +90,7 @@ impl Status {
             Status::WriteFault => 14,
             Status::OutOfMemory => 15,
             Status::Busy(_) => 16,
+            Status::NotWritable(_) => 19,
         }
     }
 }

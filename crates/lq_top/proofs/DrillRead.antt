@@ -40,6 +40,7 @@ words_of (status.Halted place why) kind = refl
 words_of (status.Refused identity statement kept reason) kind = refl
 words_of status.NoTarget kind = refl
 words_of (status.NotReversible identity) kind = refl
+words_of (status.NotWritable at) kind = refl
 words_of status.WriteFault kind = absurd (false_true kind)
 words_of (status.Busy session) kind = refl
 
@@ -62,6 +63,7 @@ not_files (status.Halted place why) kind files = files
 not_files (status.Refused identity statement kept reason) kind files = files
 not_files status.NoTarget kind files = files
 not_files (status.NotReversible identity) kind files = files
+not_files (status.NotWritable at) kind files = files
 not_files status.WriteFault kind files = files
 not_files (status.Busy session) kind files = files
 
@@ -209,6 +211,7 @@ module _ {D : Type 0} (told : D → Option (List ℕ)) (faults : D → ℕ) (cra
   unread_worked (status.Refused identity statement kept reason) finds = absurd finds
   unread_worked status.NoTarget finds = absurd finds
   unread_worked (status.NotReversible identity) finds = absurd finds
+  unread_worked (status.NotWritable at) finds = absurd finds
   unread_worked status.DiskFault finds = absurd finds
   unread_worked (status.Damaged at) finds = absurd finds
   unread_worked (status.Full used next) finds = absurd finds

@@ -1,6 +1,7 @@
 pub mod Alone
 pub mod AsRunner
 pub mod Copied
+pub mod ClearedFile
 pub mod CopyRoom
 pub mod DamagedFiles
 pub mod DrillAnswers
@@ -16,6 +17,7 @@ pub mod DrillRead
 pub mod DrillRuns
 pub mod DrillScripts
 pub mod DrillStays
+pub mod GeneratedOn
 pub mod Handing
 pub mod InPart
 mod InUse

@@ -2,14 +2,15 @@
 use Rattle.std.proofs.Common.{ap, inl, inr, refl, sym, ◌∙◌}
 use Rattle.std.specs.List.{flat_map}
 use Rattle.std.specs.Option.{option_map}
-use Rattle.std.specs.Prelude.{Bool, Err, List, Ok, Option, Result, Some, [], false, if◌then◌else◌, true, ℕ, ◌++◌, ◌≡◌, ◌⊎◌}
+use Rattle.std.specs.Prelude.{Bool, Err, List, Ok, Option, Result, Some, [], false, if◌then◌else◌, length, true, ℕ, ◌++◌, ◌≡◌, ◌⊎◌}
 use Rattle.lq_base.specs.declared.command.Command.TheVariants as command
 use Rattle.lq_base.specs.declared.command.Target.{Target}
 use Rattle.lq_cli.specs.Line.{line_of}
 use Rattle.lq_cli.specs.Job.{goal_of}
 use Rattle.lq_cli.specs.declared.line.Job.{Job}
-use Rattle.lq_cli.specs.declared.line.Job.TheVariants.{Drill, History, RollbackSql, Run, Soak, UpdateCount, UpdateSql, UpdateTo}
+use Rattle.lq_cli.specs.declared.line.Job.TheVariants.{Drill, Generate, History, RollbackSql, Run, Soak, UpdateCount, UpdateSql, UpdateTo, ClearSums}
 use Rattle.lq_commands.proofs.Warned.{back_quiet}
+use Rattle.lq_commands.specs.Generates.{generate_text}
 use Rattle.lq_commands.specs.Inserts.{TellsSync, synced_in}
 use Rattle.lq_commands.specs.Outputs.{TellsJob, TellsText, at_once_text, back_in, released_text}
 use Rattle.lq_commands.specs.Parts.{counted_in}
@@ -18,7 +19,7 @@ use Rattle.lq_commands.specs.Scripts.{log_in, sets_in, updated_in}
 use Rattle.lq_commands.specs.Tells.{TellsRollback, TellsUpdate}
 use Rattle.lq_commands.specs.Works.{is_finished}
 use Rattle.lq_commands.specs.declared.given.Given.{Given}
-use Rattle.lq_report.specs.Output.{history_text, tagged_text, validated_text}
+use Rattle.lq_report.specs.Output.{cleared_text, history_text, tagged_text, validated_text}
 use Rattle.lq_seen.specs.View.{any_meaning}
 use Rattle.lq_tell.specs.Lines.{status_lines, warning_line, warning_lines}
 use Rattle.lq_tell.specs.Log.{log_text, stands_alone, warnings_of}
@@ -51,6 +52,7 @@ beside_over (status.Halted place why) over = refl
 beside_over (status.Refused identity statement kept reason) over = refl
 beside_over status.NoTarget over = refl
 beside_over (status.NotReversible identity) over = refl
+beside_over (status.NotWritable at) over = refl
 beside_over status.DiskFault over = absurd (false_true over)
 beside_over (status.Damaged at) over = refl
 beside_over (status.Full used next) over = refl
@@ -101,7 +103,9 @@ ok_warned (Run command.Sync) given database done on tells finished = sync_warned
 ok_warned (Run command.Release) given database done on tells finished = text_warned given database done (released_text database.lock) (tells finished)
 ok_warned (UpdateCount count) given database done on tells finished = update_warned (counted_in count given database.rows) database done false (tells finished)
 ok_warned (UpdateTo tag) given database done on tells finished = update_warned given database done false (tells finished)
+ok_warned ClearSums given database done on tells finished = text_warned given database done (cleared_text (length database.rows)) (tells finished)
 ok_warned History given database done on tells finished = text_warned given database done (history_text database.rows) (tells finished)
+ok_warned (Generate author) given database done on tells finished = text_warned given database done (generate_text author given database) (tells finished)
 ok_warned UpdateSql given database done on tells finished = update_warned given database done true (tells finished)
 ok_warned (RollbackSql target) given database done on tells finished = rollback_warned given database done true target (tells finished)
 ok_warned (Drill path) given database done on tells finished = absurd (false_true on)
@@ -121,7 +125,9 @@ err_warned (UpdateCount count) given database x refused finished =
     own_quiet false part database x (halted_is (unready part database) (own_halt part database) x (quiet_unready part database) refused finished)
 err_warned (UpdateTo tag) given database x refused finished =
     own_quiet false given database x (halted_is (unready given database) (own_halt given database) x (quiet_unready given database) refused finished)
+err_warned ClearSums given database x refused finished = refl
 err_warned History given database x refused finished = refl
+err_warned (Generate author) given database x refused finished = refl
 err_warned UpdateSql given database x refused finished =
     own_quiet true given database x (halted_is (invalid given database.rows) (own_halt given database) x (quiet_invalid given database.rows) refused finished)
 err_warned (RollbackSql target) given database x refused finished = refl

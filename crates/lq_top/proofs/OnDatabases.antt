@@ -27,7 +27,7 @@ use Rattle.lq_top.proofs.OnFiles.{does_nothing, does_there, fault_kind, fault_ri
 use Rattle.lq_top.proofs.OnReady.{ready_kind, ready_tells}
 use Rattle.lq_top.proofs.Ready.{opened}
 use Rattle.lq_top.specs.Bytes.{OnFile, TellsDamage, load_status, most_bytes}
-use Rattle.lq_top.specs.Jobs.{DoesJob, goes_on, is_apart, is_on_file, is_own, job_reads, job_refusal, job_script, misses}
+use Rattle.lq_top.specs.Jobs.{DoesJob, MakesAgain, goes_on, is_apart, is_on_file, is_own, job_reads, job_refusal, job_script, misses}
 use Rattle.lq_top.specs.Kinds.{IsOfDatabase}
 use Rattle.lq_top.specs.Worked.{CrashesJob, WorkedOn}
 
@@ -82,9 +82,9 @@ module _ {D : Type 0} (told : D → Option (List ℕ)) (faults : D → ℕ) (cra
 
     pub worked : (job : Job) → is_own job ≡ true → (r : Result Done Status) → OnIts d x (λ database. Answers (job_refusal job given database) r) → OnIts d x (λ database. IsKept (job_refusal job given database) db left) → (job_reads job ≡ true → left ≡ db)
         → OnIts d x (λ database. Works d (job_script job given database) database x r y) → OnIts d x (λ database. CrashesIn d (job_script job given database) database x (crashes_of (crashes (disk_in db)) db) (crashes_of (crashes (disk_in left)) left))
-        → OnIts d x (λ database. TellsJob job given database r) → faults (disk_in db) ≤ faults (disk_in left) → (r ≡ Err status.DiskFault → Rose (faults (disk_in db)) (faults (disk_in left)))
+        → OnIts d x (λ database. TellsJob job given database r) → OnIts d x (λ database. MakesAgain job given database r) → faults (disk_in db) ≤ faults (disk_in left) → (r ≡ Err status.DiskFault → Rose (faults (disk_in db)) (faults (disk_in left)))
         → WorkedOn told faults crashes job given (disk_in db) r (disk_in left)
-    worked job own r answers refused reads works moments tells later fault = record {
+    worked job own r answers refused reads works moments tells again later fault = record {
       used = record {
         damaged = ready_tells d d refl x ready (job_refusal job given) (own_plain job own given) r answers (told (disk_in db));
         spares = λ beside place damaged. no_damage d (told (disk_in db)) (kept h) read place damaged;
@@ -100,7 +100,7 @@ module _ {D : Type 0} (told : D → Option (List ℕ)) (faults : D → ℕ) (cra
       does = λ on database opens.
           let has = opened d p (told (disk_in db)) (crashes (disk_in db)) h db is new (told (disk_in db)) database refl read opens in
           does_there d p (told (disk_in db)) (crashes (disk_in db)) h db is new.limit_is opens.bytes opens.told_is (told (disk_in left)) (crashes (disk_in left)) k left valid database has job own given r refl
-          (answers database has) (λ some. ap (λ (db : Db D P E). told (disk_in db)) (refused database has some)) (λ only. ap (λ (db : Db D P E). told (disk_in db)) (reads only)) (works database has) (tells database has);
+          (answers database has) (λ some. ap (λ (db : Db D P E). told (disk_in db)) (refused database has some)) (λ only. ap (λ (db : Db D P E). told (disk_in db)) (reads only)) (works database has) (tells database has) (again database has);
       any_moment = λ on database opens.
           let has = opened d p (told (disk_in db)) (crashes (disk_in db)) h db is new (told (disk_in db)) database refl read opens in
           moments_there d p (told (disk_in db)) (crashes (disk_in db)) h db is new.limit_is opens.bytes opens.told_is (told (disk_in left)) (crashes (disk_in left)) k left valid database has

@@ -3,6 +3,7 @@ use Rattle.std.proofs.Common.{ap, arith, inl, inr, refl, subst, sym, ◌∙◌}
 use Rattle.std.specs.Prelude.{Bool, Err, IfOk, IfSome, List, None, Ok, Option, Result, Some, false, is_some, map, true, ℕ, ◌+◌, ◌≡◌, ◌≤◌}
 use Rattle.lq_base.specs.declared.dialect.Dialect.{Dialect}
 use Rattle.lq_cli.specs.declared.line.Job.{Job}
+use Rattle.lq_cli.specs.declared.line.Job.TheVariants.{Generate}
 use Rattle.lq_commands.specs.Outputs.{TellsJob}
 use Rattle.lq_commands.specs.Refusals.{Answers, IsFault}
 use Rattle.lq_commands.specs.Works.{CrashesIn, TellsRoom, Works, is_finished}
@@ -41,7 +42,7 @@ use Rattle.lq_top.proofs.Ready.{becomes}
 use Rattle.lq_top.proofs.RefusedKinds.{answers_disk, answers_memory}
 use Rattle.lq_top.proofs.Unchanged.{had_room, left_same, says_full}
 use Rattle.lq_top.specs.Bytes.{Becomes, HadRoomOn, IsFullOn, IsLeftOn, OnFile, Opens, SaysFullOn, TellsDamage, TellsRoomOn, WorksOn, in_use, load_status, most_bytes}
-use Rattle.lq_top.specs.Jobs.{DoesJob, is_own, job_reads, job_refusal, job_script}
+use Rattle.lq_top.specs.Jobs.{DoesJob, MakesAgain, is_own, job_reads, job_refusal, job_script}
 use Rattle.lq_top.specs.Kinds.{IsOfDatabase}
 use Rattle.lq_top.specs.Worked.{CrashesSince}
 
@@ -147,8 +148,8 @@ module _ {D P E : Type 0} (d p : Dialect) (told : Option (List ℕ)) (crashes : 
 
   -- what a command does on the database it does on the file
   pub does_there : (job : Job) → is_own job ≡ true → (given : Given) (r : Result Done Status) → given.options.dialect ≡ d → Answers (job_refusal job given database) r → (is_some (job_refusal job given database) ≡ true → now ≡ told) → (job_reads job ≡ true → now ≡ told)
-      → Works d (job_script job given database) database x r y → TellsJob job given database r → DoesJob job given database told r now
-  does_there job own given r dialect answers kept reads works tells =
+      → Works d (job_script job given database) database x r y → TellsJob job given database r → MakesAgain job given database r → DoesJob job given database told r now
+  does_there job own given r dialect answers kept reads works tells again =
       let calls = job_script job given database in
       let room = subst (λ e. IfOk r (λ (ended : Done). TellsRoomOn e calls database told ended.status)) (sym dialect) (room_there calls r works) in
       record {
@@ -157,6 +158,7 @@ module _ {D P E : Type 0} (d p : Dialect) (told : Option (List ℕ)) (crashes : 
         reads = reads;
         works = subst (λ e. WorksOn e calls database told r now) (sym dialect) (works_there calls r works);
         tells = tells;
+        again = again;
         room = subst (λ calls. IfOk r (λ (ended : Done). is_finished ended.status ≡ true → HadRoomOn given.options.dialect calls database told)) (sym (own_calls job own given database)) (had_room given.options.dialect calls database told r room);
         full = subst (λ calls. IfOk r (λ (ended : Done). SaysFullOn given.options.dialect calls database told ended.status)) (sym (own_calls job own given database)) (says_full given.options.dialect calls database told r room);
       }
@@ -188,11 +190,16 @@ module _ {D P E : Type 0} (d p : Dialect) (calls : List Call) (database : Databa
   settled_after o (Ok done) answers kept works finished = (valid.lives (works.0 finished).database_is.live).whole.settled
   settled_after o (Err s) answers kept works finished = kept (is_refused o s answers finished)
 
+-- a fault generates nothing
+none_again : (job : Job) (given : Given) (database : Database) (s : Status) → MakesAgain job given database (Err s)
+none_again (Generate author) given database s = λ signed. tt
+none_again _ given database s = tt
+
 -- one that met no memory has done nothing
 pub does_nothing : (job : Job) (given : Given) (database : Database) (told now : Option (List ℕ)) (s : Status) → s ≡ status.OutOfMemory → Opens given.options.dialect told database → now ≡ told → DoesJob job given database told (Err s) now
 does_nothing job given database told now s memory opens same =
     subst (λ s. DoesJob job given database told (Err s) now) (sym memory)
-    (record { answers = answers_memory (job_refusal job given database); refused = λ some. same; reads = λ only. same; works = left_same given.options.dialect (job_script job given database) database told now opens same; tells = tt; room = tt; full = tt })
+    (record { answers = answers_memory (job_refusal job given database); refused = λ some. same; reads = λ only. same; works = left_same given.options.dialect (job_script job given database) database told now opens same; tells = tt; again = none_again job given database status.OutOfMemory; room = tt; full = tt })
 
 pub memory_kind : (s : Status) → s ≡ status.OutOfMemory → IsOfDatabase (Err s)
 memory_kind s memory = subst (λ s. IsOfDatabase (Err s)) (sym memory) refl
@@ -264,6 +271,7 @@ refused_does told now before later fault s is_status job given is same database 
       reads = λ only. same;
       works = left_same given.options.dialect (job_script job given database) database told now opens same;
       tells = tt;
+      again = none_again job given database (load_status fault);
       room = tt;
       full = tt;
     })

@@ -6,7 +6,7 @@ use Rattle.lq_base.specs.declared.command.Command.TheVariants as command
 use Rattle.lq_base.specs.declared.dialect.Dialect.{Dialect}
 use Rattle.lq_base.specs.declared.tracking.Tracked.{Tracked}
 use Rattle.lq_cli.specs.declared.line.Job.{Job}
-use Rattle.lq_cli.specs.declared.line.Job.TheVariants.{Drill, History, RollbackSql, Run, Soak, UpdateCount, UpdateSql, UpdateTo}
+use Rattle.lq_cli.specs.declared.line.Job.TheVariants.{Drill, Generate, History, RollbackSql, Run, Soak, UpdateCount, UpdateSql, UpdateTo, ClearSums}
 use Rattle.lq_commands.proofs.Planned.{kept}
 use Rattle.lq_commands.proofs.ViewsRead.{views_are_read}
 use Rattle.lq_commands.specs.Parts.{counted_in}
@@ -20,7 +20,7 @@ use Rattle.lq_kinds.specs.Dialects.{AreFor}
 use Rattle.lq_kinds.specs.declared.any_change.AnyChange.{AnyChange}
 use Rattle.lq_model.specs.Catalogue.{Catalogue, no_objects}
 use Rattle.lq_seen.specs.View.{any_meaning}
-use Rattle.lq_stand.proofs.FirstRows.{release_is_first, sync_is_first, tag_is_first, undone_is_first, update_is_first}
+use Rattle.lq_stand.proofs.FirstRows.{clear_is_first, release_is_first, sync_is_first, tag_is_first, undone_is_first, update_is_first}
 use Rattle.lq_stand.proofs.StaysClean.{calls_stay_clean, clean_is_found, stops_stay_clean}
 use Rattle.lq_stand.specs.First.{calls_are_first}
 use Rattle.lq_stand.specs.Stays.{IsClean}
@@ -151,7 +151,9 @@ module _ (given : Given) (database : Database) where
         let part = counted_in count given database.rows in
         update_is_first any_meaning kept d given.stamp (log_in part) database opens.stands.sound (views_are_read d given.options part.changelog (counted_read count given database.rows read))
     job_first (UpdateTo tag) = script_first command.Update
+    job_first ClearSums = clear_is_first d database
     job_first History = refl
+    job_first (Generate author) = refl
     job_first (RollbackSql target) = refl
     job_first (Drill path) = refl
     job_first (Soak number sets) = refl

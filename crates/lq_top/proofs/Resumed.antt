@@ -15,7 +15,7 @@ use Rattle.lq_base.specs.declared.tracking.Lock.{Lock}
 use Rattle.lq_base.specs.declared.tracking.Tracked.{Tracked}
 use Rattle.lq_changelog.specs.ShortTexts.{HasShortTexts}
 use Rattle.lq_cli.specs.declared.line.Job.{Job}
-use Rattle.lq_cli.specs.declared.line.Job.TheVariants.{Drill, History, RollbackSql, Run, Soak, UpdateCount, UpdateSql, UpdateTo}
+use Rattle.lq_cli.specs.declared.line.Job.TheVariants.{Drill, Generate, History, RollbackSql, Run, Soak, UpdateCount, UpdateSql, UpdateTo, ClearSums}
 use Rattle.lq_commands.proofs.Planned.{kept}
 use Rattle.lq_commands.proofs.ViewsRead.{views_are_read}
 use Rattle.lq_commands.specs.Refusals.{if_halts, if_some, invalid, own_halt, refusal, unready}
@@ -29,6 +29,7 @@ use Rattle.lq_kinds.specs.Dialects.{AreFor}
 use Rattle.lq_kinds.specs.declared.any_change.AnyChange.{AnyChange}
 use Rattle.lq_kinds.specs.declared.change_set.ChangeSet.{ChangeSet}
 use Rattle.lq_model.proofs.Lists.{and_true}
+use Rattle.lq_model.specs.Names.{is_empty}
 use Rattle.lq_model.specs.Sound.{IsSound}
 use Rattle.lq_model.specs.declared.caller.Room.TheVariants.{Ordinary}
 use Rattle.lq_run.specs.Stands.{entries_of}
@@ -54,7 +55,7 @@ use Rattle.lq_turns.specs.Faults.{faults}
 use Rattle.lq_turns.specs.Laws.{AreKnown, AreRead, at_rest, rollback_calls}
 use Rattle.lq_turns.specs.Ran.{RanSince, Run as RunOf, are_reversible}
 use Rattle.lq_turns.specs.Rollback.{rollback_of, rows_kept, rows_undone, undo_turns}
-use Rattle.lq_turns.specs.Script.{closing, last_row, release_calls, tag_of, update_calls}
+use Rattle.lq_turns.specs.Script.{clearing, closing, last_row, release_calls, tag_of, update_calls}
 use Rattle.lq_turns.specs.Session.{all_called, left_by, session_on}
 use Rattle.lq_turns.specs.Set.{Changelog, Set}
 use Rattle.lq_turns.specs.Settle.{tested, updated}
@@ -66,7 +67,8 @@ use Rattle.lq_turns.specs.declared.choice.What.TheVariants.{New}
 use Rattle.lq_turns.specs.declared.deed.Deed.{Deed}
 use Rattle.lq_turns.specs.declared.deed.Deed.TheVariants.{Locks, Rows}
 use Rattle.lq_turns.specs.declared.deed.OnLock.TheVariants.{Freed}
-use Rattle.lq_turns.specs.declared.deed.OnRows.TheVariants.{Tagged}
+use Rattle.lq_turns.specs.declared.deed.OnRows.{OnRows}
+use Rattle.lq_turns.specs.declared.deed.OnRows.TheVariants.{Cleared, Tagged}
 use Rattle.lq_turns.specs.declared.fault.Fault.{Fault}
 use Rattle.lq_turns.specs.declared.stamp.Stamp.{Stamp}
 use Rattle.lq_turns.specs.declared.turn.Turn.{Turn}
@@ -159,6 +161,7 @@ over_is (status.Halted place why) over = inl over
 over_is (status.Refused identity statement before reason) over = inl over
 over_is status.NoTarget over = inl over
 over_is (status.NotReversible identity) over = inl over
+over_is (status.NotWritable at) over = inl over
 over_is status.DiskFault over = inl over
 over_is (status.Damaged at) over = inl over
 over_is (status.Full used next) over = inl over
@@ -264,16 +267,21 @@ module _ (d : Dialect) (database now : Database) where
   release_held written left led unlocked locked =
       none_held written (subst (λ (cs : List Call). IsLeft d cs database [] written) (ap (λ (lock : Lock). if lock.locked then closing ∷ [] else []) unlocked) left) led unlocked locked
 
+  -- what one entry on the rows leaves, or none
+  rows_led : (w : OnRows) → (all_done d (Rows w ∷ []) database ≡ Ok now → now.lock ≡ database.lock) → (front rest : Journal) → (let entries : Journal = (Rows w ∷ []) ∷ [] in entries) ≡ front ++ rest → all_done d (joined front) database ≡ Ok now → now.lock ≡ database.lock
+  rows_led w one [] rest is led = ap (λ (e : Database). e.lock) (sym (ok_same led))
+  rows_led w one (entry ∷ []) rest is led =
+      let same : entry ≡ Rows w ∷ [] = Prim.cc in
+      one (subst (λ (deeds : List Deed). all_done d (joined (deeds ∷ [])) database ≡ Ok now) same led)
+  rows_led w one (entry ∷ other ∷ front) rest is led = Prim.cc
+
   -- a tag leaves the lock as it was
   tag_led : (of : Identity) (tag : List ℕ) (front rest : Journal) → (let entries : Journal = (Rows (Tagged of tag) ∷ []) ∷ [] in entries) ≡ front ++ rest → all_done d (joined front) database ≡ Ok now → now.lock ≡ database.lock
-  tag_led of tag [] rest is led = ap (λ (e : Database). e.lock) (sym (ok_same led))
-  tag_led of tag (entry ∷ []) rest is led =
-      let same : entry ≡ Rows (Tagged of tag) ∷ [] = Prim.cc in
-      one_led (subst (λ (deeds : List Deed). all_done d (joined (deeds ∷ [])) database ≡ Ok now) same led)
-    where
-      one_led : all_done d (Rows (Tagged of tag) ∷ []) database ≡ Ok now → now.lock ≡ database.lock
-      one_led led = ap (λ (e : Database). e.lock) (sym (ok_same led))
-  tag_led of tag (entry ∷ other ∷ front) rest is led = Prim.cc
+  tag_led of tag = rows_led (Tagged of tag) (λ led. ap (λ (e : Database). e.lock) (sym (ok_same led)))
+
+  -- and a clear-checksums
+  clear_led : (front rest : Journal) → (let entries : Journal = (Rows Cleared ∷ []) ∷ [] in entries) ≡ front ++ rest → all_done d (joined front) database ≡ Ok now → now.lock ≡ database.lock
+  clear_led = rows_led Cleared (λ led. ap (λ (e : Database). e.lock) (sym (ok_same led)))
 
 tag_entries : (d : Dialect) (database : Database) (of : Identity) (tag : List ℕ) → (all_called d (Alone (Rows (Tagged of tag) ∷ []) Ordinary ∷ []) (session_on database)).entries ≡ (Rows (Tagged of tag) ∷ []) ∷ []
 tag_entries Postgresql database of tag = refl
@@ -285,6 +293,17 @@ tag_held d database now tag None written left led unlocked locked = none_held d 
 tag_held d database now tag (Some row) written left led unlocked locked =
     let it = front_led d database now (tag_of tag (Some row)) written left led locked in
     unlocked_held now database (tag_led d database now (identity_of row) tag written it.0 (sym (tag_entries d database (identity_of row) tag) ∙ it.1) led) unlocked locked
+
+clear_entries : (d : Dialect) (database : Database) → (all_called d (clearing ∷ []) (session_on database)).entries ≡ (Rows Cleared ∷ []) ∷ []
+clear_entries Postgresql database = refl
+clear_entries Mysql database = refl
+
+clear_held : (d : Dialect) (database now : Database) (none : Bool) (written : Journal) → IsLeft d (if none then [] else clearing ∷ []) database [] written → all_done d (joined written) database ≡ Ok now → database.lock ≡ free
+    → now.lock.locked ≡ true → ⊥
+clear_held d database now true written left led unlocked locked = none_held d database now written left led unlocked locked
+clear_held d database now false written left led unlocked locked =
+    let it = front_led d database now (clearing ∷ []) written left led locked in
+    unlocked_held now database (clear_led d database now written it.0 (sym (clear_entries d database) ∙ it.1) led) unlocked locked
 
 -- a rollback's calls are those of its turns
 
@@ -363,7 +382,9 @@ module _ (given : Given) (database : Database) (before after : Option (List ℕ)
   stands (UpdateCount count) read left locked =
       held_stands (counted_in count given database.rows) database before after opens unlocked (counted_or count given database.rows before after (read refl)) left locked
   stands (UpdateTo tag) read left locked = held_stands given database before after opens unlocked (read refl) left locked
+  stands ClearSums read left locked = clear_held given.options.dialect database left.now (is_empty database.rows) left.written left.stops left.led unlocked locked
   stands History read left locked = none_held given.options.dialect database left.now left.written left.stops left.led unlocked locked
+  stands (Generate author) read left locked = none_held given.options.dialect database left.now left.written left.stops left.led unlocked locked
   stands UpdateSql read left locked = none_held given.options.dialect database left.now left.written left.stops left.led unlocked locked
   stands (RollbackSql target) read left locked = none_held given.options.dialect database left.now left.written left.stops left.led unlocked locked
   stands (Drill path) read left locked = none_held given.options.dialect database left.now left.written left.stops left.led unlocked locked

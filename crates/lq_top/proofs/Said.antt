@@ -10,8 +10,9 @@ use Rattle.lq_base.specs.declared.dialect.Dialect.{Dialect}
 use Rattle.lq_base.specs.declared.tracking.Lock.{Lock}
 use Rattle.lq_base.specs.declared.tracking.Tracked.{Tracked}
 use Rattle.lq_cli.specs.declared.line.Job.{Job}
-use Rattle.lq_cli.specs.declared.line.Job.TheVariants.{Drill, History, RollbackSql, Run, Soak, UpdateCount, UpdateSql, UpdateTo}
+use Rattle.lq_cli.specs.declared.line.Job.TheVariants.{Drill, Generate, History, RollbackSql, Run, Soak, UpdateCount, UpdateSql, UpdateTo, ClearSums}
 use Rattle.lq_commands.proofs.Planned.{kept}
+use Rattle.lq_commands.specs.Generates.{generate_text}
 use Rattle.lq_commands.specs.Inserts.{TellsSync, synced_in}
 use Rattle.lq_commands.specs.Outputs.{TellsJob, TellsText, at_once_text, back_in, released_text}
 use Rattle.lq_commands.specs.Parts.{counted_in}
@@ -20,9 +21,11 @@ use Rattle.lq_commands.specs.Scripts.{log_in, nothing_told, rolled_to, sets_in, 
 use Rattle.lq_commands.specs.Tells.{TellsRollback, TellsUpdate, status_by, update_told}
 use Rattle.lq_commands.specs.Works.{is_finished}
 use Rattle.lq_commands.specs.declared.given.Given.{Given}
+use Rattle.lq_generate.specs.Faults.{fault_at}
+use Rattle.lq_kinds.specs.Label.{is_label}
 use Rattle.lq_kinds.specs.declared.any_change.AnyChange.{AnyChange}
 use Rattle.lq_outside.specs.Sink.{IsPart}
-use Rattle.lq_report.specs.Output.{history_text, sync_text, tagged_text, validated_text}
+use Rattle.lq_report.specs.Output.{cleared_text, history_text, sync_text, tagged_text, validated_text}
 use Rattle.lq_seen.specs.Printing.{Account, of_turns}
 use Rattle.lq_seen.specs.View.{any_meaning}
 use Rattle.lq_tell.specs.Texts.{EndsAs, has_output, out_text, status_done, text_or_none}
@@ -46,13 +49,15 @@ use Rattle.lq_turns.specs.declared.choice.Choice.{Choice}
 use Rattle.lq_turns.specs.declared.choice.Choice.TheVariants as choice
 use Rattle.lq_turns.specs.declared.stamp.Stamp.{Stamp}
 use Rattle.lq_turns.specs.declared.turn.Turn.{Turn}
-use Rattle.lq_top.proofs.Written.{Does, IsWritten, Quiet, failed_unfinished, false_true, none_some, quiet_held, quiet_invalid, quiet_not, quiet_or, quiet_unready, quiet_untagged, quiet_way, refused_for, some_same}
+use Rattle.laws_generate.specs.Again.{TextComesAgain}
+use Rattle.lq_top.proofs.ShortTag.{IsSigned, signed_line}
+use Rattle.lq_top.proofs.Written.{Does, IsWritten, Quiet, failed_unfinished, false_true, none_some, quiet_generate, quiet_held, quiet_invalid, quiet_not, quiet_or, quiet_unready, quiet_untagged, quiet_way, refused_for, some_same, was_over}
 use Rattle.lq_top.specs.Asks.{Asks, Files}
 use Rattle.lq_top.specs.Bytes.{OnFile}
 use Rattle.lq_top.specs.Headline.{GoesBack, IsTaken, is_taken}
-use Rattle.lq_top.specs.Jobs.{DoesJob, DoesLine, is_on_file, job_refusal}
+use Rattle.lq_top.specs.Jobs.{DoesJob, DoesLine, MakesAgain, is_on_file, job_refusal}
 use Rattle.lq_top.specs.Run.{EndsBy, Runs, given_by, is_end}
-use Rattle.lq_top.specs.Says.{Said, SaidInPart, Says, SaysJob, SaysRollback, SaysUpdate, unless_refused}
+use Rattle.lq_top.specs.Says.{ComesAgain, Said, SaidInPart, Says, SaysJob, SaysRollback, SaysUpdate, unless_refused}
 
 some_none : {s : Status} → (let o : Option Status = Some s in o) ≡ None → ⊥
 some_none h = Prim.cc
@@ -70,6 +75,7 @@ finished_output (status.Halted place why) is = is
 finished_output (status.Refused identity statement kept reason) is = is
 finished_output status.NoTarget is = is
 finished_output (status.NotReversible identity) is = is
+finished_output (status.NotWritable at) is = is
 finished_output status.DiskFault is = is
 finished_output (status.Damaged at) is = is
 finished_output (status.Full used next) is = is
@@ -159,7 +165,9 @@ says_ok (UpdateCount count) given database s before after done none tells is fin
     update_said part database s before after false done (or_none (unready part database) (own_halt part database) none) is (tells finished) whole
 says_ok (UpdateTo tag) given database s before after done none tells is finished whole =
     update_said given database s before after false done (or_none (unready given database) (own_halt given database) none) is (tells finished) whole
+says_ok ClearSums given database s before after done none tells is finished whole = text_said given database s before after (cleared_text (length database.rows)) done is (tells finished) whole
 says_ok History given database s before after done none tells is finished whole = text_said given database s before after (history_text database.rows) done is (tells finished) whole
+says_ok (Generate author) given database s before after done none tells is finished whole = text_said given database s before after (generate_text author given database) done is (tells finished) whole
 says_ok UpdateSql given database s before after done none tells is finished whole =
     update_said given database s before after true done (or_none (invalid given database.rows) (own_halt given database) none) is (tells finished) whole
 says_ok (RollbackSql target) given database s before after done none tells is finished whole = rollback_said given database s before after true target done is (tells finished) whole
@@ -183,7 +191,9 @@ says_err (UpdateCount count) given database s before after x refused finished is
     update_halted part database s before after false x (halted_is (unready part database) (own_halt part database) x (quiet_unready part database) refused finished) is whole
 says_err (UpdateTo tag) given database s before after x refused finished is whole =
     update_halted given database s before after false x (halted_is (unready given database) (own_halt given database) x (quiet_unready given database) refused finished) is whole
+says_err ClearSums given database s before after x refused finished is whole = absurd (quiet_not x (held database) (quiet_held database) refused finished)
 says_err History given database s before after x refused finished is whole = absurd (none_some refused)
+says_err (Generate author) given database s before after x refused finished is whole = absurd (quiet_not x _ (quiet_generate (fault_at given.options.dialect author database.users)) refused finished)
 says_err UpdateSql given database s before after x refused finished is whole =
     update_halted given database s before after true x (halted_is (invalid given database.rows) (own_halt given database) x (quiet_invalid given database.rows) refused finished) is whole
 says_err (RollbackSql target) given database s before after x refused finished is whole =
@@ -214,8 +224,12 @@ says_line (UpdateCount count) given file left done s before after ended does who
     says_does (UpdateCount count) given database file left done s before after ended (does refl database opens) finished (whole (finished_output s finished))
 says_line (UpdateTo tag) given file left done s before after ended does whole = λ database opens finished.
     says_does (UpdateTo tag) given database file left done s before after ended (does refl database opens) finished (whole (finished_output s finished))
+says_line ClearSums given file left done s before after ended does whole = λ database opens finished.
+    says_does ClearSums given database file left done s before after ended (does refl database opens) finished (whole (finished_output s finished))
 says_line History given file left done s before after ended does whole = λ database opens finished.
     says_does History given database file left done s before after ended (does refl database opens) finished (whole (finished_output s finished))
+says_line (Generate author) given file left done s before after ended does whole = λ database opens finished.
+    says_does (Generate author) given database file left done s before after ended (does refl database opens) finished (whole (finished_output s finished))
 says_line UpdateSql given file left done s before after ended does whole = λ database opens finished.
     says_does UpdateSql given database file left done s before after ended (does refl database opens) finished (whole (finished_output s finished))
 says_line (RollbackSql target) given file left done s before after ended does whole = λ database opens finished.
@@ -237,6 +251,28 @@ said_in_part asks stamp file left done before after does finished part = record 
   said = says_line asks.line.job (given_by asks stamp) file left done (status_done done) before (option_map (λ (out : List ℕ). out ++ out_text done) before) (inl refl) does (λ has. refl);
   part = part;
 }
+
+-- what was generated makes the objects again
+
+module _ (author : List ℕ) (given : Given) (database : Database) (signed : is_label author ≡ true) where
+  abbrev Again : Type 0
+  Again = TextComesAgain given.options.dialect database.users (generate_text author given database)
+
+  again_by : (done : Result Done Status) → Answers (job_refusal (Generate author) given database) done → MakesAgain (Generate author) given database done → is_finished (status_done done) ≡ true → Again
+  again_by (Ok ended) answers again finished = again signed
+  again_by (Err s) answers again finished =
+      let refused = job_refusal (Generate author) given database in
+      absurd (quiet_not s refused (quiet_generate (fault_at given.options.dialect author database.users)) (refused_for refused s answers finished) finished)
+
+  again_does : (file left : Option (List ℕ)) (done : Result Done Status) → Does (Generate author) given database file done left → is_finished (status_done done) ≡ true → Again
+  again_does file left done (inl (failed, same)) finished = absurd (failed_unfinished done failed finished)
+  again_does file left done (inr (read, does)) finished = again_by done does.answers does.again finished
+
+pub comes_again : {words : List (List ℕ)} {files : Files} (asks : Asks words files) (stamp : Stamp) (file left : Option (List ℕ)) (done : Result Done Status) (s : Status) → IsWritten done s
+    → DoesLine asks.line.job (given_by asks stamp) file done left → ComesAgain asks stamp file s
+comes_again {words} asks stamp file left done s by does = λ author is database opens over.
+    again_does author (given_by asks stamp) database (subst IsSigned is (signed_line words asks.line asks.is_line)) file left done
+    (subst (λ job. DoesLine job (given_by asks stamp) file done left) is does refl database opens) (was_over done s by over)
 
 -- turns that all finish do not stop
 
@@ -311,6 +347,7 @@ taken_end (status.Halted place why) end done = absurd (not_done (status.Halted p
 taken_end (status.Refused identity statement kept reason) end done = absurd (not_done (status.Refused identity statement kept reason) refl (done refl))
 taken_end status.NoTarget end done = end
 taken_end (status.NotReversible identity) end done = end
+taken_end (status.NotWritable at) end done = end
 taken_end status.DiskFault end done = end
 taken_end (status.Damaged at) end done = end
 taken_end (status.Full used next) end done = refl

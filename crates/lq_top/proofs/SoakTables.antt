@@ -71,7 +71,7 @@ module _ (d : Dialect) (c : Catalogue) (database : Database) (stands : StandsFor
       let lock = map_some _ (lock_of d c) database rows.2 in
       rows.1 ∙ ap (λ (x : Database). Some x.rows) lock.2
 
-  users_are : users_of c ≡ database.users
+  pub users_are : users_of c ≡ database.users
   users_are =
       let rows = and_then_some _ (rows_of c) database stands.is in
       let lock = map_some _ (lock_of d c) database rows.2 in

@@ -26,7 +26,7 @@ use Rattle.lq_turns.specs.declared.call.Call.{Call}
 use Rattle.lq_turns.specs.declared.deed.Deed.{Deed}
 use Rattle.lq_top.specs.Bytes.{Becomes, HadRoomOn, Holds, IsLeftOn, OnFile, Opens, SaysFullOn, TellsRoomOn, WorksOn, in_use, most_bytes}
 use Rattle.lq_top.specs.Copies.{job_of}
-use Rattle.lq_top.specs.Jobs.{DoesJob, goes_on, is_apart, is_own, job_calls, job_refusal, job_script}
+use Rattle.lq_top.specs.Jobs.{DoesJob, MakesAgain, goes_on, is_apart, is_own, job_calls, job_refusal, job_script}
 use Rattle.lq_top.specs.declared.copying.Printing.{Printing}
 use Rattle.lq_top.specs.declared.copying.Printing.TheVariants as print
 
@@ -157,6 +157,10 @@ on_database : (d : Dialect) (calls : Database → List Call) (before : Option (L
 on_database d calls before (Ok ended) database opens room = room database opens
 on_database d calls before (Err s) database opens room = tt
 
+prints_again : (printing : Printing) (given : Given) (database : Database) (done : Result Done Status) → MakesAgain (job_of printing) given database done
+prints_again print.Update given database done = tt
+prints_again (print.Rollback target) given database done = tt
+
 pub printed_does : (printing : Printing) (given : Given) (database : Database) (before : Option (List ℕ)) (done : Result Done Status) (after : Option (List ℕ)) → Opens given.options.dialect before database
     → Answers (job_refusal (job_of printing) given database) done → TellsJob (job_of printing) given database done
     → IfOk done (λ (ended : Done). OnFile given.options.dialect before (λ database. TellsRoomOn given.options.dialect (job_calls (job_of printing) given database) database before ended.status)) → after ≡ before
@@ -170,6 +174,7 @@ printed_does printing given database before done after opens answers tells told 
       reads = λ only. same;
       works = prints printing given database before done after opens same;
       tells = tells;
+      again = prints_again printing given database done;
       room = had_room given.options.dialect calls database before done room;
       full = says_full given.options.dialect calls database before done room;
     }

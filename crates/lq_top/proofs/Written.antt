@@ -10,13 +10,14 @@ use Rattle.lq_base.specs.declared.run.Why.{Why}
 use Rattle.lq_base.specs.declared.tracking.Lock.{Lock}
 use Rattle.lq_base.specs.declared.tracking.Tracked.{Tracked}
 use Rattle.lq_cli.specs.declared.line.Job.{Job}
-use Rattle.lq_cli.specs.declared.line.Job.TheVariants.{Drill, History, RollbackSql, Run, Soak, UpdateCount, UpdateSql, UpdateTo}
-use Rattle.lq_commands.proofs.PlainRefusals.{IsNotFull, refusal_not_full}
+use Rattle.lq_cli.specs.declared.line.Job.TheVariants.{Drill, Generate, History, RollbackSql, Run, Soak, UpdateCount, UpdateSql, UpdateTo, ClearSums}
+use Rattle.lq_commands.proofs.PlainRefusals.{IsNotFull, refusal_not_full, held_not_full}
 use Rattle.lq_commands.specs.Parts.{counted_in}
 use Rattle.lq_commands.specs.Refusals.{Answers, IsFault, ends, held, if_halts, if_not, if_some, invalid, unreachable_by, unready, untagged}
 use Rattle.lq_commands.specs.Scripts.{log_in, script, sets_in}
 use Rattle.lq_commands.specs.Works.{is_finished}
 use Rattle.lq_commands.specs.declared.given.Given.{Given}
+use Rattle.lq_generate.specs.Faults.{fault_at}
 use Rattle.lq_sources.specs.declared.fault.LoadFault.{LoadFault}
 use Rattle.lq_sources.specs.declared.fault.LoadFault.TheVariants as load
 use Rattle.lq_seen.specs.View.{any_meaning}
@@ -97,6 +98,7 @@ over_finished (status.Halted place why) un over = over
 over_finished (status.Refused identity statement kept reason) un over = over
 over_finished status.NoTarget un over = over
 over_finished (status.NotReversible identity) un over = over
+over_finished (status.NotWritable at) un over = over
 over_finished status.DiskFault un over = over
 over_finished (status.Damaged at) un over = over
 over_finished (status.Full used next) un over = over
@@ -115,6 +117,7 @@ output_finished (status.Halted place why) has = has
 output_finished (status.Refused identity statement kept reason) has = has
 output_finished status.NoTarget has = has
 output_finished (status.NotReversible identity) has = has
+output_finished (status.NotWritable at) has = has
 output_finished status.DiskFault has = has
 output_finished (status.Damaged at) has = has
 output_finished (status.Full used next) has = has
@@ -133,6 +136,7 @@ ends_so (status.Halted place why) is = is
 ends_so (status.Refused identity statement kept reason) is = is
 ends_so status.NoTarget is = is
 ends_so (status.NotReversible identity) is = is
+ends_so (status.NotWritable at) is = is
 ends_so status.DiskFault is = is
 ends_so (status.Damaged at) is = is
 ends_so (status.Full used next) is = is
@@ -151,6 +155,7 @@ ends_unwritten (status.Halted place why) is = refl
 ends_unwritten (status.Refused identity statement kept reason) is = refl
 ends_unwritten status.NoTarget is = refl
 ends_unwritten (status.NotReversible identity) is = refl
+ends_unwritten (status.NotWritable at) is = refl
 ends_unwritten status.DiskFault is = refl
 ends_unwritten (status.Damaged at) is = refl
 ends_unwritten (status.Full used next) is = refl
@@ -179,6 +184,7 @@ caused_not_ends (status.Halted place why) caused is = false_true caused
 caused_not_ends (status.Refused identity statement kept reason) caused is = false_true caused
 caused_not_ends status.NoTarget caused is = false_true is
 caused_not_ends (status.NotReversible identity) caused is = false_true is
+caused_not_ends (status.NotWritable at) caused is = false_true is
 caused_not_ends status.DiskFault caused is = false_true is
 caused_not_ends (status.Damaged at) caused is = false_true is
 caused_not_ends (status.Full used next) caused is = false_true caused
@@ -267,6 +273,7 @@ tells_damage d told done (status.Halted place why) by damaged = tt
 tells_damage d told done (status.Refused identity statement kept reason) by damaged = tt
 tells_damage d told done status.NoTarget by damaged = tt
 tells_damage d told done (status.NotReversible identity) by damaged = tt
+tells_damage d told done (status.NotWritable at) by damaged = tt
 tells_damage d told done status.DiskFault by damaged = tt
 tells_damage d told done (status.Damaged at) by damaged = subst (TellsDamage d told) (cause done (status.Damaged at) (status.Damaged at) by refl refl) damaged
 tells_damage d told done (status.Full used next) by damaged = tt
@@ -286,6 +293,7 @@ no_files_left done (status.Halted place why) by unread usage files = absurd unre
 no_files_left done (status.Refused identity statement kept reason) by unread usage files = absurd unread
 no_files_left done status.NoTarget by unread usage files = absurd unread
 no_files_left done (status.NotReversible identity) by unread usage files = absurd unread
+no_files_left done (status.NotWritable at) by unread usage files = absurd unread
 no_files_left done status.DiskFault by unread usage files = absurd unread
 no_files_left done (status.Damaged at) by unread usage files = absurd unread
 no_files_left done (status.Full used next) by unread usage files = absurd unread
@@ -311,6 +319,7 @@ is_target (status.Locked lock) is = absurd (false_true is)
 is_target (status.Halted place why) is = absurd (false_true is)
 is_target (status.Refused identity statement kept reason) is = absurd (false_true is)
 is_target (status.NotReversible identity) is = absurd (false_true is)
+is_target (status.NotWritable at) is = absurd (false_true is)
 is_target status.DiskFault is = absurd (false_true is)
 is_target (status.Damaged at) is = absurd (false_true is)
 is_target (status.Full used next) is = absurd (false_true is)
@@ -400,6 +409,10 @@ pub quiet_untagged : (rows : List Tracked) → Quiet (untagged rows)
 quiet_untagged [] = refl
 quiet_untagged (row ∷ rows) = tt
 
+pub quiet_generate : (o : Option (List ℕ)) → Quiet (option_map status.NotWritable o)
+quiet_generate None = tt
+quiet_generate (Some at) = refl
+
 quiet_if_not : (o : Option Identity) → Quiet (if_not o)
 quiet_if_not None = tt
 quiet_if_not (Some of) = refl
@@ -439,7 +452,9 @@ no_job_script : (job : Job) (given : Given) (database : Database) (s : Status) �
 no_job_script (Run c) given database s is finished = no_script c given database s is finished
 no_job_script (UpdateCount count) given database s is finished = no_script command.Update (counted_in count given database.rows) database s is finished
 no_job_script (UpdateTo tag) given database s is finished = no_script command.Update given database s is finished
+no_job_script ClearSums given database s is finished = absurd (quiet_not s (held database) (quiet_held database) is finished)
 no_job_script History given database s is finished = refl
+no_job_script (Generate author) given database s is finished = refl
 no_job_script UpdateSql given database s is finished = refl
 no_job_script (RollbackSql target) given database s is finished = refl
 no_job_script (Drill path) given database s is finished = refl
@@ -496,12 +511,18 @@ err_not_full None s never fault = fault_not_full s fault
 err_not_full (Some refused) s never (inl same) = λ used next is. never used next (sym same ∙ is)
 err_not_full (Some refused) s never (inr fault) = fault_not_full s fault
 
+generate_not_full : (o : Option (List ℕ)) → IfSome (option_map status.NotWritable o) IsNotFull
+generate_not_full None = tt
+generate_not_full (Some at) = λ used next is. Prim.cc
+
 -- what is printed is refused as its command is where the lock is free
 job_not_full : (job : Job) (given : Given) (database : Database) → IfSome (job_refusal job given database) IsNotFull
 job_not_full (Run c) given database = refusal_not_full given c database
 job_not_full (UpdateCount count) given database = refusal_not_full (counted_in count given database.rows) command.Update database
 job_not_full (UpdateTo tag) given database = refusal_not_full given command.Update database
+job_not_full ClearSums given database = held_not_full database
 job_not_full History given database = tt
+job_not_full (Generate author) given database = generate_not_full (fault_at given.options.dialect author database.users)
 job_not_full UpdateSql given database = refusal_not_full given command.Update (record database { lock = free })
 job_not_full (RollbackSql target) given database = refusal_not_full given (command.Rollback target) (record database { lock = free })
 job_not_full (Drill path) given database = tt

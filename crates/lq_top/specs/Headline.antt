@@ -1,8 +1,8 @@
 -- The headline: what a rollback goes back to, and what an update and a changelog-sync leave.
-use Rattle.std.specs.Prelude.{Bool, List, Option, Some, [], false, length, true, ℕ, ◌≡◌, ◌⊎◌}
+use Rattle.std.specs.Prelude.{Bool, List, Option, Some, [], false, length, map, true, ℕ, ◌≡◌, ◌⊎◌}
 use Rattle.lq_base.specs.declared.command.Command.TheVariants as command
 use Rattle.lq_base.specs.declared.command.Target.{Target}
-use Rattle.lq_cli.specs.declared.line.Job.TheVariants.{Run as Runs}
+use Rattle.lq_cli.specs.declared.line.Job.TheVariants.{ClearSums, Run as Runs}
 use Rattle.lq_commands.specs.Scripts.{log_in}
 use Rattle.lq_commands.specs.declared.given.Given.{Given}
 use Rattle.lq_kinds.specs.declared.any_change.AnyChange.{AnyChange}
@@ -12,6 +12,7 @@ use Rattle.lq_tell.specs.declared.status.Status.TheVariants as status
 use Rattle.lq_track.specs.Database.{Database}
 use Rattle.lq_track.specs.Lock.{free}
 use Rattle.lq_turns.specs.Contents.{Contents, contents_of}
+use Rattle.lq_turns.specs.Deed.{without_sum}
 use Rattle.lq_turns.specs.Faults.{faults}
 use Rattle.lq_turns.specs.Laws.{AreKnown, at_rest}
 use Rattle.lq_turns.specs.Ran.{RanSince, Run, are_reversible}
@@ -21,7 +22,7 @@ use Rattle.lq_turns.specs.Settle.{updated}
 use Rattle.lq_turns.specs.Synced.{synced}
 use Rattle.lq_turns.specs.declared.stamp.Stamp.{Stamp}
 use Rattle.lq_top.specs.Asks.{Asks, Files}
-use Rattle.lq_top.specs.Bytes.{OnFile, Opens}
+use Rattle.lq_top.specs.Bytes.{Holds, OnFile, Opens}
 use Rattle.lq_top.specs.Jobs.{command_by}
 use Rattle.lq_top.specs.Run.{HoldsSame, IsOutside, given_by, is_over}
 
@@ -71,3 +72,8 @@ module _ {words : List (List ℕ)} {files : Files} (asks : Asks words files) (st
   abbrev pub HasSynced : Type 0
   HasSynced = asks.line.job ≡ Runs command.Sync → OnFile asks.line.options.dialect before (λ database. database.lock ≡ free → is_over s ≡ true
       → HoldsSame asks.line.options.dialect after (at_rest database (synced stamp.reading (log_of asks).sets (contents_of database)).contents))
+
+  -- and a clear-checksums: each row without its checksum, and all else as it was
+  abbrev pub HasCleared : Type 0
+  HasCleared = asks.line.job ≡ ClearSums → OnFile asks.line.options.dialect before (λ database. is_over s ≡ true
+      → Holds asks.line.options.dialect after (record database { rows = map without_sum database.rows }))

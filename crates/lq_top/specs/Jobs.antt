@@ -5,21 +5,24 @@ use Rattle.lq_base.specs.declared.command.Command.TheVariants as command
 use Rattle.lq_base.specs.declared.dialect.Dialect.{Dialect}
 use Rattle.lq_changelog.specs.ShortTexts.{HasShortTexts}
 use Rattle.lq_cli.specs.declared.line.Job.{Job}
-use Rattle.lq_cli.specs.declared.line.Job.TheVariants.{Drill, RollbackSql, Soak, UpdateSql, UpdateTo}
+use Rattle.lq_cli.specs.declared.line.Job.TheVariants.{Drill, Generate, RollbackSql, Soak, UpdateSql, UpdateTo}
+use Rattle.lq_commands.specs.Generates.{generate_text}
 use Rattle.lq_commands.specs.Outputs.{TellsJob}
 use Rattle.lq_commands.specs.Refusals.{Answers}
 use Rattle.lq_commands.specs.Scripts.{printed_script}
 use Rattle.lq_commands.specs.Works.{IsKept, is_finished}
 use Rattle.lq_commands.specs.declared.given.Given.{Given}
 use Rattle.lq_kinds.specs.Dialects.{AreFor}
+use Rattle.lq_kinds.specs.Label.{is_label}
 use Rattle.lq_kinds.specs.declared.change_set.Changelog.{Changelog}
 use Rattle.lq_tell.specs.declared.done.Done.{Done}
 use Rattle.lq_tell.specs.declared.status.Status.{Status}
 use Rattle.lq_tell.specs.declared.status.Status.TheVariants as status
 use Rattle.lq_track.specs.Database.{Database}
 use Rattle.lq_turns.specs.declared.call.Call.{Call}
+use Rattle.laws_generate.specs.Again.{TextComesAgain}
 use Rattle.lq_top.specs.Bytes.{HadRoomOn, OnFile, SaysFullOn, WorksOn}
-pub use Rattle.lq_commands.specs.Jobs.{command_by, is_own, job_reads, job_refusal, job_script, job_tag}
+pub use Rattle.lq_commands.specs.Jobs.{command_by, is_on_store, is_own, job_reads, job_refusal, job_script, job_tag}
 
 -- it works on the file alone: a soak has a database of its own, and in a drill commands work beside one another
 abbrev pub is_on_file : Job → Bool
@@ -50,6 +53,11 @@ job_calls UpdateSql given database = printed_script command.Update given databas
 job_calls (RollbackSql target) given database = printed_script (command.Rollback target) given database
 job_calls job given database = job_script job given database
 
+-- what is generated makes the users' objects again
+abbrev pub MakesAgain : Job → Given → Database → Result Done Status → Type 0
+MakesAgain (Generate author) given database done = is_label author ≡ true → IfOk done (λ ended. TextComesAgain given.options.dialect database.users (generate_text author given database))
+MakesAgain _ given database done = Unit {0}
+
 -- on a file that holds the database: it is refused, or only reads, and nothing is written; or where it comes to its end its calls are done, and it tells of them
 pub record DoesJob (job : Job) (given : Given) (database : Database) (before : Option (List ℕ)) (done : Result Done Status) (after : Option (List ℕ)) : Type 0 where
   pub answers : Answers (job_refusal job given database) done
@@ -57,6 +65,7 @@ pub record DoesJob (job : Job) (given : Given) (database : Database) (before : O
   pub reads : job_reads job ≡ true → after ≡ before
   pub works : WorksOn given.options.dialect (job_script job given database) database before done after
   pub tells : TellsJob job given database done
+  pub again : MakesAgain job given database done
   -- where it comes to its end each entry had room; and a full journal is told as full as it was
   pub room : IfOk done (λ ended. is_finished ended.status ≡ true → HadRoomOn given.options.dialect (job_calls job given database) database before)
   pub full : IfOk done (λ ended. SaysFullOn given.options.dialect (job_calls job given database) database before ended.status)

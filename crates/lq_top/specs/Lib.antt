@@ -5,6 +5,7 @@ pub mod Clock
 pub mod Copies
 pub mod Drilled
 pub mod Drills
+pub mod Generates
 pub mod Headline
 pub mod Jobs
 pub mod Kinds

@@ -1,11 +1,12 @@
 -- What a run of the program says, and what it warns of.
 use Rattle.std.specs.List.{flat_map}
-use Rattle.std.specs.Prelude.{Bool, List, None, Option, Some, [], false, option_map, true, ℕ, ◌++◌, ◌≡◌}
+use Rattle.std.specs.Prelude.{Bool, List, None, Option, Some, [], false, length, option_map, true, ℕ, ◌++◌, ◌≡◌}
 use Rattle.lq_base.specs.declared.command.Command.TheVariants as command
 use Rattle.lq_base.specs.declared.command.Target.{Target}
 use Rattle.lq_cli.specs.Job.{goal_of}
 use Rattle.lq_cli.specs.declared.line.Job.{Job}
-use Rattle.lq_cli.specs.declared.line.Job.TheVariants.{History, RollbackSql, Run, UpdateCount, UpdateSql, UpdateTo}
+use Rattle.lq_cli.specs.declared.line.Job.TheVariants.{Generate, History, RollbackSql, Run, UpdateCount, UpdateSql, UpdateTo, ClearSums}
+use Rattle.lq_commands.specs.Generates.{generate_text}
 use Rattle.lq_commands.specs.Inserts.{synced_in}
 use Rattle.lq_commands.specs.Outputs.{at_once_text, back_in}
 use Rattle.lq_commands.specs.Parts.{counted_in}
@@ -15,12 +16,13 @@ use Rattle.lq_commands.specs.Tells.{rollback_told, status_by, update_told}
 use Rattle.lq_commands.specs.Works.{is_finished}
 use Rattle.lq_commands.specs.declared.given.Given.{Given}
 use Rattle.lq_outside.specs.Sink.{IsPart}
-use Rattle.lq_report.specs.Output.{history_text, sync_text}
+use Rattle.lq_report.specs.Output.{cleared_text, history_text, sync_text}
 use Rattle.lq_tell.specs.Lines.{status_lines, warning_line}
 use Rattle.lq_tell.specs.declared.status.Status.{Status}
 use Rattle.lq_track.specs.Database.{Database}
 use Rattle.lq_turns.specs.declared.stamp.Stamp.{Stamp}
 use Rattle.lq_turns.specs.declared.stop.Stop.{Stop}
+use Rattle.laws_generate.specs.Again.{TextComesAgain}
 use Rattle.lq_top.specs.Asks.{Asks, Files}
 use Rattle.lq_top.specs.Bytes.{OnFile}
 use Rattle.lq_top.specs.Jobs.{is_on_file}
@@ -52,7 +54,9 @@ SaysJob (Run command.Sync) given database s before after = Says (synced_in given
 SaysJob (Run c) given database s before after = Says None (at_once_text c given database) s before after
 SaysJob (UpdateCount count) given database s before after = SaysUpdate false (counted_in count given database.rows) database s before after
 SaysJob (UpdateTo tag) given database s before after = SaysUpdate false given database s before after
+SaysJob ClearSums given database s before after = Says None (cleared_text (length database.rows)) s before after
 SaysJob History given database s before after = Says None (history_text database.rows) s before after
+SaysJob (Generate author) given database s before after = Says None (generate_text author given database) s before after
 SaysJob UpdateSql given database s before after = SaysUpdate true given database s before after
 SaysJob (RollbackSql target) given database s before after = SaysRollback true given target database s before after
 SaysJob _ given database s before after = Unit {0}
@@ -60,6 +64,11 @@ SaysJob _ given database s before after = Unit {0}
 -- on each file that holds a database, where the command came to its end and its text was written
 abbrev pub Said : {words : List (List ℕ)} {files : Files} → Asks words files → Stamp → Option (List ℕ) → Status → Option (List ℕ) → Option (List ℕ) → Type 0
 Said asks stamp told s before after = OnFile asks.line.options.dialect told (λ database. is_finished s ≡ true → SaysJob asks.line.job (given_by asks stamp) database s before after)
+
+-- and what a generate-changelog said makes the users' objects again, as a JSON file and without properties
+abbrev pub ComesAgain : {words : List (List ℕ)} {files : Files} → Asks words files → Stamp → Option (List ℕ) → Status → Type 0
+ComesAgain asks stamp told s = (author : List ℕ) → asks.line.job ≡ Generate author → OnFile asks.line.options.dialect told
+    (λ database. is_over s ≡ true → TextComesAgain asks.line.options.dialect database.users (generate_text author (given_by asks stamp) database))
 
 -- The output failed: it got a front of the text with which the command would have come to its end, with this status.
 pub record SaidInPart {words : List (List ℕ)} {files : Files} (asks : Asks words files) (stamp : Stamp) (told before after : Option (List ℕ)) : Type 0 where

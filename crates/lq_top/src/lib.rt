@@ -4,6 +4,7 @@
 mod changelogs;
 mod copying;
 mod drilling;
+mod generating;
 mod opening;
 mod soak;
 mod top;

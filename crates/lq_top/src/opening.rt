@@ -11,7 +11,7 @@ ghost use Rattle.lq_kinds.specs.Dialects.{AreFor};
 ghost use Rattle.lq_store.specs.Executor.{kept};
 ghost use Rattle.lq_top.specs.Bytes.{given_at, load_status, most_bytes};
 ghost use Rattle.lq_top.specs.Clock.{ReadAtMostOnce};
-ghost use Rattle.lq_top.specs.Jobs.{is_own, job_tag};
+ghost use Rattle.lq_top.specs.Jobs.{is_on_store, job_tag};
 ghost use Rattle.lq_top.specs.Worked.{WorkedOn};
 
 use lq_cli::Job;
@@ -59,7 +59,7 @@ pub fn on_disk<D: Disk, C: Clock, P: SqlText + Drop + Copy>(
     requires sql { P.dialect ≡ asked.options.dialect }
     requires read { AreFor asked.options.dialect asked.changelog }
     requires short { All HasShortTexts asked.changelog.sets }
-    requires own { is_own job.now ≡ true }
+    requires own { is_on_store job.now ≡ true }
     requires tag { IfSome (job_tag job.now) (λ tag. char_count tag ≤ 255) }
     ensures worked { WorkedOn D.told D.faults D.crashes job.now
         (given_at asked (stamp_of who.now (C.last clock.new))) disk result.done result.disk }
@@ -96,7 +96,7 @@ fn on_database<D: Disk, C: Clock, P: SqlText + Drop + Copy, E: Executor + Drop>(
     requires sql { P.dialect ≡ asked.options.dialect }
     requires read { AreFor asked.options.dialect asked.changelog }
     requires short { All HasShortTexts asked.changelog.sets }
-    requires own { is_own job.now ≡ true }
+    requires own { is_on_store job.now ≡ true }
     requires tag { IfSome (job_tag job.now) (λ tag. char_count tag ≤ 255) }
     ensures worked { WorkedOn D.told D.faults D.crashes job.now
         (given_at asked (stamp_of who.now (C.last clock.new))) (disk_in db) result.done

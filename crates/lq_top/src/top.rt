@@ -17,11 +17,11 @@ ghost use Rattle.lq_top.specs.Asks.{Asks, AsksInVain, HasFault, HasNoForm, HasNo
 ghost use Rattle.lq_top.specs.Bytes.{IsDamagedAt};
 ghost use Rattle.lq_top.specs.Clock.{ReadAtMostOnce, ReadUpTo};
 ghost use Rattle.lq_top.specs.Drilled.{AsksDrill, RunsDrill};
-ghost use Rattle.lq_top.specs.Headline.{GoesBack, GoneBack, HasSynced, HasUpdated, IsTaken};
+ghost use Rattle.lq_top.specs.Headline.{GoesBack, GoneBack, HasCleared, HasSynced, HasUpdated, IsTaken};
 ghost use Rattle.lq_top.specs.Jobs.{is_apart, misses};
 ghost use Rattle.lq_top.specs.Resumed.{LeavesMarked, RollbackResumes, UpdateResumes};
 ghost use Rattle.lq_top.specs.Run.{Crashes, EndsInVain, EndsUnread, IsDamage, IsLogged, IsLoggedInPart, IsSafe, IsUnread, OpensAtCrash, Runs, SparesDamage};
-ghost use Rattle.lq_top.specs.Says.{Said, SaidInPart, Warns};
+ghost use Rattle.lq_top.specs.Says.{ComesAgain, Said, SaidInPart, Warns};
 ghost use Rattle.lq_top.specs.Soaked.{SaysSoak};
 
 use crate::work::{Ending, work};
@@ -122,6 +122,10 @@ pub fn run<F: Files, D: Disk, C: Clock, O: Sink, L: Sink>(
         → SaidInPart asks (stamp_of who.now (C.last clock.new)) (D.told disk) (O.told out.old)
         (O.told out.new) }
 
+    // What a generate-changelog says, as a JSON file and without properties, is a changelog. An update of a new database with it runs each changeset, has nothing that is not fresh, and leaves the users' objects without rows; each change can be taken back.
+    ensures again { (asks : Asks (map (λ word. string_bytes word) words.now) (F.told files.old))
+        → ComesAgain asks (stamp_of who.now (C.last clock.new)) (D.told disk) result.status }
+
     // What a soak says: the function of its number, its changesets, who runs it and the reading that its definition states.
     ensures soaks { (line : Line)
         → line_of (map (λ word. string_bytes word) words.now) ≡ Some line
@@ -142,6 +146,10 @@ pub fn run<F: Files, D: Disk, C: Clock, O: Sink, L: Sink>(
         (D.told result.disk) }
     ensures sync { (asks : Asks (map (λ word. string_bytes word) words.now) (F.told files.old))
         → HasSynced asks (stamp_of who.now (C.last clock.new)) (D.told disk) result.status
+        (D.told result.disk) }
+
+    ensures cleared { (asks : Asks (map (λ word. string_bytes word) words.now) (F.told files.old))
+        → HasCleared asks (stamp_of who.now (C.last clock.new)) (D.told disk) result.status
         (D.told result.disk) }
 
     // A steady update, and a rollback by tag or date, that were stopped any number of times, in postgresql.

@@ -19,7 +19,7 @@ ghost use Rattle.lq_top.specs.Bytes.{IsDamagedAt, TellsDamage, given_at};
 ghost use Rattle.lq_top.specs.Clock.{ReadAtMostOnce, ReadUpTo};
 ghost use Rattle.lq_top.specs.Copies.{job_of};
 ghost use Rattle.lq_top.specs.Drilled.{AsksDrill, DoesDrill, DrilledBy, IsFormless, IsSettled};
-ghost use Rattle.lq_top.specs.Jobs.{DoesLine, is_apart, is_own, job_tag};
+ghost use Rattle.lq_top.specs.Jobs.{DoesLine, is_apart, is_on_store, is_own, job_tag};
 ghost use Rattle.lq_top.specs.Kinds.{IsNotLoaded, IsOfFiles, IsOfWords};
 ghost use Rattle.lq_top.specs.Run.{Crashes};
 ghost use Rattle.lq_top.specs.Soaked.{TellsSoakOf};
@@ -28,6 +28,7 @@ ghost use Rattle.lq_top.specs.Worked.{InVain, Spares, WorkedBy, WorkedOn, Worked
 use crate::changelogs::{changelog_of, file_status, part_for};
 use crate::copying::{Printing, on_copy};
 use crate::drilling::drill;
+use crate::generating::generate_on;
 use crate::opening::{Worked, on_disk};
 use crate::soak::{Seed, soak};
 use lq_base::{Dialect, Text};
@@ -365,7 +366,7 @@ fn on_job<D: Disk, C: Clock, P: SqlText + Drop + Copy>(
         result.done }
     ensures once { ReadAtMostOnce (C.to_come clock.old) (C.to_come clock.new) (C.last clock.new) }
 {
-    if is_own(job) {
+    if is_on_store(job) {
         return on_disk(alloc, disk, sql, job, asked, who, clock);
     }
     match job {
@@ -373,6 +374,9 @@ fn on_job<D: Disk, C: Clock, P: SqlText + Drop + Copy>(
         Job::RollbackSql(target) => {
             let printing = Printing::Rollback(target);
             printed(alloc, disk, sql, printing, asked, who, clock)
+        }
+        Job::Generate(author) => {
+            generate_on(alloc, disk, sql, asked.options.dialect, author.as_str())
         }
         Job::Soak { number, sets } => {
             let seed = Seed {
@@ -386,12 +390,13 @@ fn on_job<D: Disk, C: Clock, P: SqlText + Drop + Copy>(
     }
 }
 
-// It works on the database of the file itself.
-fn is_own(job: &Job) -> bool
-    ensures { result ≡ is_own job.now }
+// It works on the database of the file itself, and needs no more than a store has.
+fn is_on_store(job: &Job) -> bool
+    ensures { result ≡ is_on_store job.now }
 {
     match job {
-        Job::Run(_) | Job::UpdateCount(_) | Job::UpdateTo(_) | Job::History => true,
+        Job::Run(_) | Job::UpdateCount(_) | Job::UpdateTo(_) => true,
+        Job::ClearSums | Job::History => true,
         _ => false,
     }
 }

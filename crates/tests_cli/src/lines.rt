@@ -9,7 +9,7 @@ const FILE: &str = "--changelog-file=a.json";
 
 #[test]
 fn commands_are_read(rt: HostRuntime) -> Result<(), Fail> {
-    let cases: [(&[&str], &str); 33] = [
+    let cases: [(&[&str], &str); 35] = [
         (
             &["validate", URL, FILE],
             "Run(Validate) Postgresql db a.json",
@@ -81,7 +81,12 @@ fn commands_are_read(rt: HostRuntime) -> Result<(), Fail> {
             ],
             "UpdateTo(v 1) Mysql a/b.db a.json @a @b Name(l)",
         ),
+        (&["clear-checksums", MY], "ClearSums Mysql a/b.db -"),
         (&["history", MY], "History Mysql a/b.db -"),
+        (
+            &["generate-changelog", "--author", "ann b", MY],
+            "Generate(ann b) Mysql a/b.db -",
+        ),
         (
             &["changelog-sync", URL, FILE, "--context-filter=a"],
             "Run(Sync) Postgresql db a.json @a",
@@ -162,7 +167,7 @@ fn commands_are_read(rt: HostRuntime) -> Result<(), Fail> {
 
 #[test]
 fn other_words_are_usage(rt: HostRuntime) -> Result<(), Fail> {
-    let cases: [&[&str]; 79] = [
+    let cases: [&[&str]; 84] = [
         &[],
         &["updates", URL, FILE],
         &["Update", URL, FILE],
@@ -255,10 +260,15 @@ fn other_words_are_usage(rt: HostRuntime) -> Result<(), Fail> {
         &["update-to-tag", URL, FILE, "--tag=a\tb"],
         &["update-to-tag", URL, FILE, "--tag=t", "--tag=t"],
         &["update-to-tag", URL, FILE, "--tag=t", "--count=1"],
+        &["clear-checksums"],
+        &["clear-checksums", URL, FILE],
         &["history"],
         &["history", URL, URL],
         &["history", URL, FILE],
         &["history", URL, "-Dx=1"],
+        &["generate-changelog", URL],
+        &["generate-changelog", URL, "--author=a\tb"],
+        &["generate-changelog", URL, "--author=a", FILE],
         &["history", URL, "--context-filter=a"],
         &["histories", URL],
     ];

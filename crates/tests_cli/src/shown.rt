@@ -67,7 +67,9 @@ fn append_job(job: &Job, to: &mut Text) -> Result<(), NoMemory> {
         Job::UpdateCount(count) => append_number("UpdateCount", i128::from(*count), to),
         Job::UpdateTo(tag) => append_named("UpdateTo", tag, to),
         Job::RollbackSql(target) => append_back("RollbackSql", target, to),
+        Job::ClearSums => to.push_str("ClearSums"),
         Job::History => to.push_str("History"),
+        Job::Generate(author) => append_named("Generate", author, to),
         Job::Drill(path) => append_named("Drill", path, to),
         Job::Soak { number, sets } => append_soak(*number, *sets, to),
     }

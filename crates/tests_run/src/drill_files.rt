@@ -13,7 +13,7 @@ const FORMLESS: Step = Step {
     log: USAGE,
 };
 
-const NO_RUNS: [&str; 18] = [
+const NO_RUNS: [&str; 19] = [
     "",
     "steps\n1\n",
     "release-locks\n",
@@ -24,6 +24,7 @@ const NO_RUNS: [&str; 18] = [
     "release-locks\nsteps\n1\nsteps\n1\n",
     "update-sql --changelog-file=db/a.json\nsteps\n1\n",
     "rollback-sql --changelog-file=db/a.json --count=1\nsteps\n1\n",
+    "clear-checksums\nsteps\n1\n",
     "drill --runs=runs\nsteps\n1\n",
     "soak --number=1 --sets=1\nsteps\n1\n",
     "release-locks --url=postgresql:db\nsteps\n1\n",

@@ -48,6 +48,34 @@ fn each_file_of_a_drill_is_read_first(rt: HostRuntime) {
     }
 }
 
+// Commands that write to the log, over no bytes: the words, a file that is no JSON, a file that is not
+// there, and a tag that no changeset has.
+const LOGGED: [(&str, u8); 4] = [
+    ("update", 2),
+    ("update --url=postgresql:db --changelog-file=runs.json", 4),
+    ("update --url=postgresql:db --changelog-file=none.json", 4),
+    ("tag --url=postgresql:db --tag=v1", 9),
+];
+
+const NO_JSON: [FileText; 1] = [("runs.json", "{")];
+
+// Whichever write of the log fails, no more than the log is another.
+fn assert_unlogged(rt: &impl Abort, alloc: Global, words: &str, code: u8) {
+    let good = run_over(rt, alloc, words, &NO_JSON, b"", NONE);
+    assert!(rt; good.code == code && !good.log.is_empty());
+    for log in 1..4 {
+        let ran = run_over(rt, alloc, words, &NO_JSON, b"", Failing { log, ..NONE });
+        assert!(rt; ran.code == code && ran.bytes == good.bytes && ran.out == good.out);
+    }
+}
+
+#[test]
+fn a_log_that_fails_changes_no_status(rt: HostRuntime) {
+    for logged in LOGGED {
+        assert_unlogged(&rt, rt.alloc(), logged.0, logged.1);
+    }
+}
+
 // How many calls of the disk a command makes: each that fails is a disk fault, and has no output.
 fn calls_of(rt: &impl Abort, alloc: Global, words: &str, bytes: &[u8]) -> u64 {
     for disk in 1..200 {

@@ -4,6 +4,8 @@
 #[cfg(test)]
 mod changelogs;
 #[cfg(test)]
+mod cleared;
+#[cfg(test)]
 mod commands;
 #[cfg(test)]
 mod conditions;
@@ -17,6 +19,8 @@ mod faults;
 mod fresh;
 #[cfg(test)]
 mod full;
+#[cfg(test)]
+mod generated;
 #[cfg(test)]
 mod loads;
 #[cfg(test)]

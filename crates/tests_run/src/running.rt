@@ -133,7 +133,8 @@ pub struct Step {
     pub log: &'static str,
 }
 
-fn shown(bytes: &[u8]) -> &str {
+/// The bytes as a text.
+pub fn shown(bytes: &[u8]) -> &str {
     str::from_utf8(bytes).unwrap_or("no UTF-8")
 }
 

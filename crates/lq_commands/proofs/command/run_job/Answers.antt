@@ -2,8 +2,8 @@ use Rattle.std.proofs.Common.{subst}
 use Rattle.std.specs.Prelude.{IfSome, ◌≤◌}
 use Rattle.lq_base.specs.Character.{char_count}
 use Rattle.lq_cli.specs.declared.line.Job.{Job}
-use Rattle.lq_cli.specs.declared.line.Job.TheVariants.{History, Run, UpdateCount, UpdateTo}
-use Rattle.lq_commands.proofs.Jobbed.{did_as, listed_did, updated_did}
+use Rattle.lq_cli.specs.declared.line.Job.TheVariants.{ClearSums, History, Run, UpdateCount, UpdateTo}
+use Rattle.lq_commands.proofs.Jobbed.{cleared_did, did_as, listed_did, updated_did}
 use Rattle.lq_commands.specs.Jobs.{job_tag}
 use Rattle.lq_commands.proofs.command.run_job.Goals as goal
 
@@ -25,6 +25,12 @@ returns-in-UpdateTo-clause-did g c =
     let ran = c.update in
     did_as g.S.Store.state g.S.Store.crashes c.args.job.now (UpdateTo c.in-UpdateTo.field-0) c.in-UpdateTo.is c.args.given c.args.store.now ran.result ran.new.store
     (updated_did g.S.Store.state g.S.Store.crashes c.args.given c.args.store.now ran.result ran.new.store ran.ensures.answers ran.ensures.refused ran.ensures.works ran.ensures.any_moment ran.ensures.tells c.in-UpdateTo.field-0)
+
+pub returns-in-ClearSums-clause-did : goal.returns-in-ClearSums-clause-did
+returns-in-ClearSums-clause-did g c =
+    let ran = c.clear_sums in
+    did_as g.S.Store.state g.S.Store.crashes c.args.job.now ClearSums c.in-ClearSums.is c.args.given c.args.store.now ran.result ran.new.store
+    (cleared_did g.S.Store.state g.S.Store.crashes c.args.given c.args.store.now ran.result ran.new.store ran.ensures.answers ran.ensures.refused ran.ensures.works ran.ensures.any_moment ran.ensures.tells)
 
 pub returns-in-History-clause-did : goal.returns-in-History-clause-did
 returns-in-History-clause-did g c =

@@ -4,6 +4,7 @@ use Rattle.lq_commands.specs.Stamp.{stamp_of}
 use Rattle.lq_db.specs.Db.{IsNew, disk_in, engine_in, state}
 use Rattle.lq_entries.specs.Load.{catalogue_of}
 use Rattle.lq_store.specs.Executor.{kept}
+use Rattle.lq_top.proofs.InPart.{store_again, store_own}
 use Rattle.lq_top.proofs.OnDatabases.{memory_worked, worked}
 use Rattle.lq_top.proofs.WithClock.{given_dialect, given_is, given_read, given_ready, given_short, given_sql}
 use Rattle.lq_top.proofs.opening.on_database.Goals as goal
@@ -42,7 +43,7 @@ returns-in-Ok-clause-worked g c =
     (subst (λ d. IsNew d most_bytes db) same c.requires.new)
     (given_ready given c.args.asked made.given.0 made.given.1 (state (g.D.Disk.told (disk_in db)) (g.E.Executor.held (engine_in db)) db) c.requires.ready)
     (subst (λ d. IfSome (g.D.Disk.told (disk_in db)) (λ bytes. catalogue_of d most_bytes bytes ≡ Ok (kept (g.E.Executor.held (engine_in db))))) same c.requires.catalogue)
-    c.args.job.now c.requires.own ran.result ran.ensures.did.answers ran.ensures.did.refused ran.ensures.did.reads ran.ensures.did.works ran.ensures.did.any_moment ran.ensures.did.tells ran.ensures.later ran.ensures.disk))
+    c.args.job.now (store_own c.args.job.now c.requires.own) ran.result ran.ensures.did.answers ran.ensures.did.refused ran.ensures.did.reads ran.ensures.did.works ran.ensures.did.any_moment ran.ensures.did.tells (λ database has. store_again c.args.job.now c.requires.own given database ran.result) ran.ensures.later ran.ensures.disk))
 
 pub returns-in-Err-clause-worked : goal.returns-in-Err-clause-worked
 returns-in-Err-clause-worked g c =

@@ -1,6 +1,7 @@
 use Rattle.std.proofs.Common.{inl, inr, refl}
 use Rattle.lq_commands.specs.Stamp.{stamp_of}
 use Rattle.lq_db.specs.Db.{disk_in}
+use Rattle.lq_top.proofs.InPart.{store_own}
 use Rattle.lq_top.proofs.OnDatabases.{fault_worked, worked_after}
 use Rattle.lq_top.proofs.Ready.{is_ready, still_read}
 use Rattle.lq_top.proofs.opening.on_disk.Goals as goal
@@ -22,7 +23,7 @@ returns-in-Ok-clause-worked g c =
     let loaded = c.in-Ok.ensures in
     let ran = c.on_database in
     worked_after g.D.Disk.told g.D.Disk.faults g.D.Disk.crashes (given_at c.args.asked (stamp_of c.args.who.now (g.C.Clock.last ran.new.clock))) c.args.disk (g.met.D.Disk.sound c.args.disk) (disk_in c.in-Ok.db) loaded.told loaded.later loaded.any_moment
-    c.args.job.now c.requires.own ran.result.done ran.result.disk ran.ensures.worked
+    c.args.job.now (store_own c.args.job.now c.requires.own) ran.result.done ran.result.disk ran.ensures.worked
 
 pub returns-in-Ok-clause-once : goal.returns-in-Ok-clause-once
 returns-in-Ok-clause-once g c = inr c.on_database.ensures.once
@@ -31,7 +32,7 @@ pub returns-in-Err-clause-worked : goal.returns-in-Err-clause-worked
 returns-in-Err-clause-worked g c =
     let failed = c.in-Err in
     fault_worked g.D.Disk.told g.D.Disk.faults g.D.Disk.crashes (given_at c.args.asked (stamp_of c.args.who.now (g.C.Clock.last c.args.clock.now))) c.args.disk (g.met.D.Disk.sound c.args.disk) failed.refused.disk
-    failed.ensures.told failed.ensures.later failed.ensures.any_moment c.args.job.now c.requires.own failed.refused.fault c.load_status.result c.load_status.ensures failed.ensures.fault
+    failed.ensures.told failed.ensures.later failed.ensures.any_moment c.args.job.now (store_own c.args.job.now c.requires.own) failed.refused.fault c.load_status.result c.load_status.ensures failed.ensures.fault
 
 pub returns-in-Err-clause-once : goal.returns-in-Err-clause-once
 returns-in-Err-clause-once g c = inl refl

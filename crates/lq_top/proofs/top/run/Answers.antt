@@ -5,12 +5,13 @@ use Rattle.lq_cli.specs.Line.{line_of}
 use Rattle.lq_commands.specs.Stamp.{stamp_of}
 use Rattle.lq_tell.specs.declared.status.Status.TheVariants as status
 use Rattle.lq_top.proofs.Alone.{takes_steps}
+use Rattle.lq_top.proofs.ClearedFile.{has_cleared}
 use Rattle.lq_top.proofs.DamagedFiles.{spares_damage}
 use Rattle.lq_top.proofs.DrillRuns.{ends_formless, runs_drill, settled_as}
 use Rattle.lq_top.proofs.Logged.{has_warned}
 use Rattle.lq_top.proofs.OpensAgain.{crash_opens}
 use Rattle.lq_top.proofs.Resumed.{crash_marked, has_gone_on_back, has_resumed, leaves_marked}
-use Rattle.lq_top.proofs.Said.{has_said, said_in_part, succeeds}
+use Rattle.lq_top.proofs.Said.{comes_again, has_said, said_in_part, succeeds}
 use Rattle.lq_top.proofs.SoakSays.{says_soak}
 use Rattle.lq_top.proofs.Written.{IsWritten, cause, ends_in_vain, ends_unread, gone_back, had_missed, has_run, has_synced, has_updated, is_logged, is_logged_part, no_files_left, no_words, tag_so, tells_damage, was_over, written_fault}
 use Rattle.lq_top.proofs.top.run.Goals as goal
@@ -200,3 +201,16 @@ returns-clause-soaks g c =
     let by : IsWritten c.work-disk.result.done c.tell-status.result = record { kind = c.work-disk.ensures.kind; ended = c.tell-status.ensures.status; cut = c.tell-status.ensures.cut; had = c.tell-status.ensures.had } in
     λ line is number sets soak. says_soak line.options.dialect number sets (stamp_of c.args.who.now (g.C.Clock.last c.work-disk.new.clock)) c.work-disk.result.done c.tell-status.result (g.O.Sink.told c.args.out.now) (g.O.Sink.told c.tell-status.new.out) by
     (c.work-disk.ensures.soaks line is number sets soak) c.tell-status.ensures.whole c.tell-status.ensures.part
+
+pub returns-clause-again : goal.returns-clause-again
+returns-clause-again g c =
+    let by : IsWritten c.work-disk.result.done c.tell-status.result = record { kind = c.work-disk.ensures.kind; ended = c.tell-status.ensures.status; cut = c.tell-status.ensures.cut; had = c.tell-status.ensures.had } in
+    λ asks. comes_again asks (stamp_of c.args.who.now (g.C.Clock.last c.work-disk.new.clock)) (g.D.Disk.told c.args.disk) (g.D.Disk.told c.work-disk.result.disk) c.work-disk.result.done c.tell-status.result by (c.work-disk.ensures.does asks)
+
+pub returns-clause-cleared : goal.returns-clause-cleared
+returns-clause-cleared g c =
+    let by : IsWritten c.work-disk.result.done c.tell-status.result = record { kind = c.work-disk.ensures.kind; ended = c.tell-status.ensures.status; cut = c.tell-status.ensures.cut; had = c.tell-status.ensures.had } in
+    let stamp = stamp_of c.args.who.now (g.C.Clock.last c.work-disk.new.clock) in
+    let file = g.D.Disk.told c.args.disk in
+    let left = g.D.Disk.told c.work-disk.result.disk in
+    λ asks. has_cleared asks stamp file c.tell-status.result left (has_run stamp file c.work-disk.result.done left c.tell-status.result by asks (c.work-disk.ensures.does asks))

@@ -1,6 +1,7 @@
-use Rattle.std.proofs.Common.{ap, inr, subst, sym, ◌∙◌}
+use Rattle.std.proofs.Common.{ap, inl, inr, refl, subst, sym, ◌∙◌}
+use Rattle.lq_cli.specs.declared.line.Job.TheVariants.{Generate}
 use Rattle.lq_commands.specs.Stamp.{stamp_of}
-use Rattle.lq_top.proofs.InPart.{own_beside}
+use Rattle.lq_top.proofs.InPart.{own_beside, store_own}
 use Rattle.lq_top.proofs.Loading.{soak_damage, soak_disk, soak_kind}
 use Rattle.lq_top.proofs.OnDatabases.{aside_worked}
 use Rattle.lq_top.proofs.SoakSays.{no_soak, soak_tells}
@@ -21,6 +22,16 @@ returns-in-RollbackSql-clause-worked g c =
     subst (λ job. WorkedOn g.D.Disk.told g.D.Disk.faults g.D.Disk.crashes job (given_at c.args.asked (stamp_of c.args.who.now (g.C.Clock.last ran.new.clock))) c.args.disk ran.result.done ran.result.disk)
     (sym c.in-RollbackSql.is) ran.ensures.worked
 
+pub returns-in-Generate-clause-worked : goal.returns-in-Generate-clause-worked
+returns-in-Generate-clause-worked g c =
+    let ran = c.generate_on in
+    let given = given_at c.args.asked (stamp_of c.args.who.now (g.C.Clock.last c.args.clock.now)) in
+    subst (λ job. WorkedOn g.D.Disk.told g.D.Disk.faults g.D.Disk.crashes job given c.args.disk ran.result.done ran.result.disk)
+    (ap Generate c.as_str.ensures ∙ sym c.in-Generate.is) (ran.ensures.worked given refl)
+
+pub returns-in-Generate-clause-once : goal.returns-in-Generate-clause-once
+returns-in-Generate-clause-once g c = inl refl
+
 -- a soak has a database of its own
 
 pub returns-in-Soak-clause-worked : goal.returns-in-Soak-clause-worked
@@ -33,15 +44,18 @@ returns-in-Soak-clause-worked g c =
 pub returns-in-Soak-clause-once : goal.returns-in-Soak-clause-once
 returns-in-Soak-clause-once g c = inr c.soak-done.ensures.once
 
-pub returns-then-is_own-clause-soaks : goal.returns-then-is_own-clause-soaks
-returns-then-is_own-clause-soaks g c =
-    no_soak c.args.job.now c.args.asked.options.dialect (stamp_of c.args.who.now (g.C.Clock.last c.on_disk.new.clock)) c.on_disk.result.done (own_beside c.args.job.now (sym c.is_own.ensures ∙ c.if-is_own.true))
+pub returns-then-is_on_store-clause-soaks : goal.returns-then-is_on_store-clause-soaks
+returns-then-is_on_store-clause-soaks g c =
+    no_soak c.args.job.now c.args.asked.options.dialect (stamp_of c.args.who.now (g.C.Clock.last c.on_disk.new.clock)) c.on_disk.result.done (own_beside c.args.job.now (store_own c.args.job.now (sym c.is_on_store.ensures ∙ c.if-is_on_store.true)))
 
 pub returns-in-UpdateSql-clause-soaks : goal.returns-in-UpdateSql-clause-soaks
 returns-in-UpdateSql-clause-soaks g c = no_soak c.args.job.now c.args.asked.options.dialect (stamp_of c.args.who.now (g.C.Clock.last c.printed.new.clock)) c.printed.result.done (ap is_apart c.in-UpdateSql.is)
 
 pub returns-in-RollbackSql-clause-soaks : goal.returns-in-RollbackSql-clause-soaks
 returns-in-RollbackSql-clause-soaks g c = no_soak c.args.job.now c.args.asked.options.dialect (stamp_of c.args.who.now (g.C.Clock.last c.printed-in-RollbackSql.new.clock)) c.printed-in-RollbackSql.result.done (ap is_apart c.in-RollbackSql.is)
+
+pub returns-in-Generate-clause-soaks : goal.returns-in-Generate-clause-soaks
+returns-in-Generate-clause-soaks g c = no_soak c.args.job.now c.args.asked.options.dialect (stamp_of c.args.who.now (g.C.Clock.last c.args.clock.now)) c.generate_on.result.done (ap is_apart c.in-Generate.is)
 
 pub returns-in-Soak-clause-soaks : goal.returns-in-Soak-clause-soaks
 returns-in-Soak-clause-soaks g c =

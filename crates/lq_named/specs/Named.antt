@@ -4,7 +4,6 @@ use Rattle.std.specs.Prelude.{Bool, List, true, ◌&&◌, ◌≡◌}
 use Rattle.lq_base.specs.Name.{is_name}
 use Rattle.lq_base.specs.declared.name.Name.{Name}
 use Rattle.lq_model.specs.Catalogue.{Catalogue, Sequence, Table, View}
-use Rattle.lq_model.specs.Statement.{is_query}
 use Rattle.lq_model.specs.TableNames.{key_list}
 use Rattle.lq_model.specs.declared.column.Column.{Column}
 use Rattle.lq_model.specs.declared.constraint.ForeignKey.{ForeignKey}
@@ -28,8 +27,8 @@ pub record TableHasNames (e : Name × Table) : Type 0 where
   pub indexes : list_all (λ (x : Index). is_name x.name && are_names x.columns) e.1.indexes ≡ true
   pub foreign : list_all has_names e.1.foreign ≡ true
 
--- all of it, and each view's query can be written
+-- all of it
 pub record HasNames (c : Catalogue) : Type 0 where
   pub tables : AllByRecursion TableHasNames c.tables
-  pub views : list_all (λ (v : Name × View). is_name v.0 && is_query v.1.query) c.views ≡ true
+  pub views : list_all (λ (v : Name × View). is_name v.0) c.views ≡ true
   pub sequences : list_all (λ (s : Name × Sequence). is_name s.0) c.sequences ≡ true
