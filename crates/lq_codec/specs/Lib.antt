@@ -1,0 +1,9 @@
+pub mod Codec
+pub mod Words
+pub mod Values
+pub mod Queries
+pub mod Tables
+pub mod Database
+pub mod Limits
+pub mod Sound
+pub mod State
