@@ -1,0 +1,3 @@
+pub mod SoundLemmas
+pub mod Whole
+pub mod Read

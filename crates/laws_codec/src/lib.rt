@@ -1,0 +1,4 @@
+//! What is written of a database is read back: laws, and no code.
+#![tactic(auto)]
+
+pub mod laws;
