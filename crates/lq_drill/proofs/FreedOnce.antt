@@ -7,11 +7,12 @@ use Rattle.lq_base.specs.declared.dialect.Dialect.{Dialect}
 use Rattle.lq_base.specs.declared.dialect.Dialect.TheVariants.{Mysql, Postgresql}
 use Rattle.lq_base.specs.declared.tracking.Lock.{Lock}
 use Rattle.lq_drill.proofs.Falling.{comes_more}
-use Rattle.lq_drill.proofs.Machines.{IsSound, gives_up_sound, held_is, moved_last, own_number, sound_of, steps_sound}
-use Rattle.lq_drill.specs.Faults.{Comes, Falls, FreesAtMostOnce, FreesEarly, IsGoing, Steps, answer_of, freed, gives_up, last_calls}
+use Rattle.lq_drill.proofs.Machines.{IsSound, held_is, moved_last, own_number, sound_of, stays, steps_sound}
+use Rattle.lq_drill.specs.Faults.{Comes, Falls, FreesAtMostOnce, FreesEarly, IsGoing, Steps, answer_of, freed, frees, has_bar, last_calls, left_with}
 use Rattle.lq_drill.specs.declared.fault.DrillFault.{DrillFault}
 use Rattle.lq_model.specs.Script.{if_any}
 use Rattle.lq_track.specs.Database.{Database}
+use Rattle.lq_track.specs.Lock.{free}
 use Rattle.lq_turns.specs.Contents.{contents_of, with_contents}
 use Rattle.lq_turns.specs.Deed.{lock_after}
 use Rattle.lq_turns.specs.Schedule.{Holder, Job, Machine, all_moved, answers_with, appended, begins, first_step, has_answered, has_begun, later_step, makes, moved, start}
@@ -30,7 +31,7 @@ freed_not_own : (d : Dialect) → is_own d (Locks Freed) ≡ false
 freed_not_own Postgresql = refl
 freed_not_own Mysql = refl
 
-closing_frees : (d : Dialect) (s : Session) → s.begun ≡ [] → appended d closing s ≡ freed
+pub closing_frees : (d : Dialect) (s : Session) → s.begun ≡ [] → appended d closing s ≡ freed
 closing_frees d s idle =
     ap (λ own. settled_entries (settled_if own (record (settled_if own bare) { seen = now; begun = (settled_if own bare).begun ++ Locks Freed ∷ [] }))) (freed_not_own d)
     ∙ ap (λ b. if_any (b ++ Locks Freed ∷ [])) idle where
@@ -43,12 +44,25 @@ closing_frees d s idle =
       settled_entries : Session → List (List Deed)
       settled_entries t = t.entries ++ if_any t.begun
 
+-- and the lock is free behind it
+pub frees_lock : (d : Dialect) (s : Session) → (called d closing s).committed.lock ≡ free
+frees_lock Postgresql s = refl
+frees_lock Mysql s = refl
+
 -- what is left to one that met a fault
-calls_left : (s : Session) → (s.is_open ≡ false → s.begun ≡ []) → (last_calls s ≡ Abort ∷ closing ∷ []) ⊎ ((last_calls s ≡ closing ∷ []) × (s.begun ≡ []))
-calls_left s rests = by s.is_open refl where
-  by : (b : Bool) → s.is_open ≡ b → ((if b then Abort ∷ closing ∷ [] else closing ∷ []) ≡ Abort ∷ closing ∷ []) ⊎ (((if b then Abort ∷ closing ∷ [] else closing ∷ []) ≡ closing ∷ []) × (s.begun ≡ []))
-  by true is = inl refl
-  by false is = inr (refl, rests is)
+abbrev LeftCalls : Session → List Call → Type 0
+LeftCalls s calls = ((freeing : List Call) × (calls ≡ Abort ∷ freeing) × ((freeing ≡ []) ⊎ (freeing ≡ closing ∷ []))) ⊎ ((calls ≡ closing ∷ []) × (s.begun ≡ []))
+
+calls_left : (s : Session) → (s.is_open ≡ false → s.begun ≡ []) → (call : Call) (calls : List Call) → last_calls s ≡ call ∷ calls → LeftCalls s (call ∷ calls)
+calls_left s rests call calls is = by s.is_open (has_bar s.committed.lock) refl is where
+  frees_so : (m : Bool) → (frees m ≡ []) ⊎ (frees m ≡ closing ∷ [])
+  frees_so true = inl refl
+  frees_so false = inr refl
+
+  by : (b m : Bool) → s.is_open ≡ b → (if b then Abort ∷ frees m else frees m) ≡ call ∷ calls → LeftCalls s (call ∷ calls)
+  by true m at same = inl (frees m, sym same, frees_so m)
+  by false true at same = cc
+  by false false at same = inr (sym same, rests at)
 
 left_false : (a b : Bool) → (a && b) ≡ false → b ≡ true → a ≡ false
 left_false true b both right = sym right ∙ both
@@ -67,16 +81,18 @@ module _ (Answer : Type 0) (locked : Lock → Answer) (busy : ℕ → Answer) (f
     held : x.holder ≡ Some holder
     why : DrillFault
     answer : holder.answer ≡ failed why
-    rest : (holder.rest ≡ Abort ∷ closing ∷ []) ⊎ ((holder.rest ≡ closing ∷ []) × (holder.session.begun ≡ []))
+    rest : LeftCalls holder.session holder.rest
     is_locked : x.committed.lock.locked ≡ true
     same : x.entries ≡ entries
 
-  -- it freed the lock, and has answered the fault
+  -- it has answered the fault, and may have freed the lock
   record HasEnded (entries : List (List Deed)) (x : Runs) : Type 0 where
     number : ℕ
     why : DrillFault
     answered : answer_of number x.answers ≡ Some (failed why)
-    with_freed : x.entries ≡ entries ++ freed
+    tail : List (List Deed)
+    once : (tail ≡ []) ⊎ (tail ≡ freed)
+    with_tail : x.entries ≡ entries ++ tail
 
   abbrev Left : List (List Deed) → Runs → Type 0
   Left entries x = GaveUp entries x ⊎ HasEnded entries x
@@ -139,7 +155,26 @@ module _ (Answer : Type 0) (locked : Lock → Answer) (busy : ℕ → Answer) (f
 
     own_call : Left entries (makes Answer locked busy d jobs n g.holder.session g.holder.rest g.holder.answer x)
     own_call = elim g.rest [
-      | inl is ↦ subst (λ calls. Left entries (makes Answer locked busy d jobs n g.holder.session calls g.holder.answer x)) (sym is) (inl (record {
+      | inl is ↦ subst (λ calls. Left entries (makes Answer locked busy d jobs n g.holder.session calls g.holder.answer x)) (sym is.1) (aborts is.0 is.2)
+      | inr is ↦ subst (λ calls. Left entries (makes Answer locked busy d jobs n g.holder.session calls g.holder.answer x)) (sym is.0) (inr (record {
+        number = n;
+        why = g.why;
+        answered = ap (λ b. if b then Some g.holder.answer else answer_of n x.answers) (own_number n) ∙ ap (λ a. Some a) g.answer;
+        tail = freed;
+        once = inr refl;
+        with_tail = ap (λ e. e ++ appended d closing g.holder.session) g.same ∙ ap (λ e. entries ++ e) (closing_frees d g.holder.session is.1);
+      }))
+    ] where
+      aborts : (freeing : List Call) → (freeing ≡ []) ⊎ (freeing ≡ closing ∷ []) → Left entries (makes Answer locked busy d jobs n g.holder.session (Abort ∷ freeing) g.holder.answer x)
+      aborts freeing (inl none) = subst (λ calls. Left entries (makes Answer locked busy d jobs n g.holder.session (Abort ∷ calls) g.holder.answer x)) (sym none) (inr (record {
+        number = n;
+        why = g.why;
+        answered = ap (λ b. if b then Some g.holder.answer else answer_of n x.answers) (own_number n) ∙ ap (λ a. Some a) g.answer;
+        tail = [];
+        once = inl refl;
+        with_tail = ap (λ e. e ++ []) g.same;
+      }))
+      aborts freeing (inr one) = subst (λ calls. Left entries (makes Answer locked busy d jobs n g.holder.session (Abort ∷ calls) g.holder.answer x)) (sym one) (inl (record {
         holder = record { runner = n; session = called d Abort g.holder.session; rest = closing ∷ []; answer = g.holder.answer };
         held = refl;
         why = g.why;
@@ -148,13 +183,6 @@ module _ (Answer : Type 0) (locked : Lock → Answer) (busy : ℕ → Answer) (f
         is_locked = ap (λ (e : Database). e.lock.locked) (sound_of Answer locked busy d jobs x g.holder g.held sound).0 ∙ g.is_locked;
         same = append-nil x.entries ∙ g.same;
       }))
-      | inr is ↦ subst (λ calls. Left entries (makes Answer locked busy d jobs n g.holder.session calls g.holder.answer x)) (sym is.0) (inr (record {
-        number = n;
-        why = g.why;
-        answered = ap (λ b. if b then Some g.holder.answer else answer_of n x.answers) (own_number n) ∙ ap (λ a. Some a) g.answer;
-        with_freed = ap (λ e. e ++ appended d closing g.holder.session) g.same ∙ ap (λ e. entries ++ e) (closing_frees d g.holder.session is.1);
-      }))
-    ]
 
     later_left : Left entries (later_step Answer locked busy d jobs n x)
     later_left = subst (λ o. Left entries (elim o as (λ _. Runs) [ None ↦ answers_with Answer locked busy n (locked x.committed.lock) x | Some h ↦ if nat_eq h.runner n then makes Answer locked busy d jobs n h.session h.rest h.answer x else answers_with Answer locked busy n (locked x.committed.lock) x ])) (sym g.held)
@@ -187,29 +215,40 @@ module _ (Answer : Type 0) (locked : Lock → Answer) (busy : ℕ → Answer) (f
 
   -- a step in which the holder meets a fault
   fell : (entries : List (List Deed)) (n : ℕ) (x z : Runs) → x.entries ≡ entries → IsSound Answer locked busy d jobs x → Falls failed d jobs n x z → Left entries z
-  fell entries n x z same sound falls = elim falls.is [
-    | inl is ↦ inl (subst (GaveUp entries) (sym is) given)
-    | inr is ↦ subst (Left entries) (sym is) (begun_left entries n after given (gives_up_sound Answer locked busy d jobs failed (Unit {0}) n x z falls.why falls.holder it.0 sound) begun)
-  ] where
-    after : Runs
-    after = gives_up failed falls.why falls.holder x
-
+  fell entries n x z same sound falls = by (last_calls falls.holder.session) refl falls.is where
     it : (x.holder ≡ Some falls.holder) × (falls.holder.runner ≡ n)
     it = held_is Answer locked busy n x.holder falls.holder falls.held
 
-    given : GaveUp entries after
-    given = record {
-      holder = record (falls.holder) { rest = last_calls falls.holder.session; answer = failed falls.why };
-      held = refl;
-      why = falls.why;
-      answer = refl;
-      rest = calls_left falls.holder.session falls.rests;
-      is_locked = falls.locked;
-      same = same;
-    }
-
-    begun : has_begun Answer locked busy n after ≡ true
+    begun : list_any (nat_eq n) x.begun ≡ true
     begun = subst (λ k. list_any (nat_eq k) x.begun ≡ true) it.1 (sound_of Answer locked busy d jobs x falls.holder it.0 sound).1
+
+    by : (calls : List Call) → last_calls falls.holder.session ≡ calls → (z ≡ left_with failed calls falls.why falls.holder x) ⊎ (z ≡ moved Answer locked busy d jobs n (left_with failed calls falls.why falls.holder x)) → Left entries z
+    by [] none is = inr (elim is [
+      | inl same_as ↦ subst (HasEnded entries) (sym same_as) ended
+      | inr same_as ↦ subst (HasEnded entries) (sym (same_as ∙ stays Answer locked busy d jobs n (left_with failed [] falls.why falls.holder x) gone)) ended
+    ]) where
+      its : answer_of n ((falls.holder.runner, failed falls.why) ∷ x.answers) ≡ Some (failed falls.why)
+      its = ap (λ k. answer_of n ((k, failed falls.why) ∷ x.answers)) it.1 ∙ ap (λ b. if b then Some (failed falls.why) else answer_of n x.answers) (own_number n)
+
+      gone : is_some (answer_of n ((falls.holder.runner, failed falls.why) ∷ x.answers)) ≡ true
+      gone = ap is_some its
+
+      ended : HasEnded entries (left_with failed [] falls.why falls.holder x)
+      ended = record { number = n; why = falls.why; answered = its; tail = []; once = inl refl; with_tail = same ∙ sym (append-nil entries) }
+    by (call ∷ calls) some is = elim is [
+      | inl same_as ↦ subst (Left entries) (sym same_as) (inl given)
+      | inr same_as ↦ subst (Left entries) (sym same_as) (begun_left entries n (left_with failed (call ∷ calls) falls.why falls.holder x) given (sound_of Answer locked busy d jobs x falls.holder it.0 sound) begun)
+    ] where
+      given : GaveUp entries (left_with failed (call ∷ calls) falls.why falls.holder x)
+      given = record {
+        holder = record (falls.holder) { rest = call ∷ calls; answer = failed falls.why };
+        held = refl;
+        why = falls.why;
+        answer = refl;
+        rest = calls_left falls.holder.session falls.rests call calls some;
+        is_locked = falls.locked;
+        same = same;
+      }
 
   -- from the start
 
@@ -231,7 +270,7 @@ module _ (Answer : Type 0) (locked : Lock → Answer) (busy : ℕ → Answer) (f
     way_end ns x (inl is) = inr (record { front = ns; rest = []; is = sym (append-nil ns); tail = []; once = inl refl; entries = ap (λ (y : Runs). y.entries) is ∙ sym (append-nil (at ns).entries) })
     way_end ns x (inr way) = elim way.3 [
       | inl g ↦ inr (record { front = way.0; rest = way.1; is = way.2; tail = []; once = inl refl; entries = g.same ∙ sym (append-nil (at way.0).entries) })
-      | inr e ↦ inr (record { front = way.0; rest = way.1; is = way.2; tail = freed; once = inr refl; entries = e.with_freed })
+      | inr e ↦ inr (record { front = way.0; rest = way.1; is = way.2; tail = e.tail; once = e.once; entries = e.with_tail })
     ]
 
     longer : (ns : List ℕ) (n : ℕ) (front rest : List ℕ) → ns ≡ front ++ rest → ns ++ n ∷ [] ≡ front ++ (rest ++ n ∷ [])

@@ -3,7 +3,7 @@ mod Ended
 mod Ending
 mod Falling
 mod Followed
-mod FreedOnce
+pub mod FreedOnce
 pub mod Machines
 mod Moved
 mod Players

@@ -1,12 +1,14 @@
 -- A machine whose runners may meet faults of the store.
-use Rattle.std.specs.Prelude.{List, None, Option, Some, [], false, if◌then◌else◌, nat_eq, true, ℕ, ◌+◌, ◌++◌, ◌∷◌, ◌≡◌, ◌⊎◌}
+use Rattle.std.specs.List.{list_any}
+use Rattle.std.specs.Prelude.{Bool, List, None, Option, Some, [], false, if◌then◌else◌, nat_eq, true, ℕ, ◌+◌, ◌==◌, ◌++◌, ◌∷◌, ◌≡◌, ◌⊎◌}
 use Rattle.lq_base.specs.declared.dialect.Dialect.{Dialect}
 use Rattle.lq_base.specs.declared.tracking.Lock.{Lock}
 use Rattle.lq_drill.specs.Shows.{entries_of}
 use Rattle.lq_drill.specs.declared.fault.DrillFault.{DrillFault}
 use Rattle.lq_drill.specs.declared.fault.DrillFault.TheVariants as fault
 use Rattle.lq_store.specs.Journal.{end_of, is_full, size_of_all}
-use Rattle.lq_turns.specs.Schedule.{Holder, Job, Machine, all_moved, appended, moved}
+use Rattle.lq_track.specs.Lock.{free}
+use Rattle.lq_turns.specs.Schedule.{Holder, Job, Machine, all_moved, answers_with, appended, moved}
 use Rattle.lq_turns.specs.Script.{closing}
 use Rattle.lq_turns.specs.Serial.{is_early, makes_first}
 use Rattle.lq_turns.specs.Session.{Session, room_of, session_on}
@@ -21,9 +23,26 @@ abbrev pub answer_of : {Answer : Type 0} → ℕ → List (ℕ × Answer) → Op
 answer_of n [] = None
 answer_of n (a ∷ more) = if nat_eq a.0 n then Some a.1 else answer_of n more
 
--- the calls that are left to a holder that met a fault: it takes its transaction back, if it has one open, and frees the lock
+-- a bar stands in a name
+abbrev pub is_barred : List ℕ → Bool
+is_barred name = list_any (λ b. b == 124) name
+
+-- a mark stands in the lock's name, behind a bar
+abbrev pub has_bar : Lock → Bool
+has_bar lock = elim lock.by [ Some by ↦ is_barred by | None ↦ false ]
+
+-- it is freed, or has a mark
+abbrev pub IsLetGo : Lock → Type 0
+IsLetGo lock = (lock ≡ free) ⊎ (has_bar lock ≡ true)
+
+-- a lock that has a mark stays held
+abbrev pub frees : Bool → List Call
+frees true = []
+frees false = closing ∷ []
+
+-- the calls that are left to a holder that met a fault: it takes its transaction back, if it has one open, and frees a lock without a mark
 abbrev pub last_calls : Session → List Call
-last_calls s = if s.is_open then Abort ∷ closing ∷ [] else closing ∷ []
+last_calls s = if s.is_open then Abort ∷ frees (has_bar s.committed.lock) else frees (has_bar s.committed.lock)
 
 -- the entry that frees the lock
 abbrev pub freed : List (List Deed)
@@ -36,9 +55,14 @@ module _ {Answer : Type 0} {as_locked : Lock → Answer} {busy : ℕ → Answer}
   held_by n (Some h) = if nat_eq h.runner n then Some h else None
 
   module _ (failed : DrillFault → Answer) where
+    -- with these calls alone; without any it answers at once
+    abbrev pub left_with : List Call → DrillFault → Holder Answer as_locked busy → Machine Answer as_locked busy → Machine Answer as_locked busy
+    left_with [] why h x = answers_with Answer as_locked busy h.runner (failed why) (record x { holder = None })
+    left_with (call ∷ calls) why h x = record x { holder = Some (record h { rest = call ∷ calls; answer = failed why }) }
+
     -- the holder makes no other calls, and then answers the fault
     abbrev pub gives_up : DrillFault → Holder Answer as_locked busy → Machine Answer as_locked busy → Machine Answer as_locked busy
-    gives_up why h x = record x { holder = Some (record h { rest = last_calls h.session; answer = failed why }) }
+    gives_up why h x = left_with (last_calls h.session) why h x
 
     -- no runner has answered a fault
     abbrev pub IsGoing : Machine Answer as_locked busy → Type 0
@@ -121,5 +145,5 @@ module _ {Answer : Type 0} {as_locked : Lock → Answer} {busy : ℕ → Answer}
       -- A runner meets a fault in its step: at its next call, or, having given up in this step, at the one that is left.
       pub record Meets (filled limit : ℕ) (n : ℕ) (x : Machine Answer as_locked busy) (why : DrillFault) : Type 0 where
         pub at : Machine Answer as_locked busy
-        pub is : (at ≡ x) ⊎ ((other : DrillFault) × (h : Holder Answer as_locked busy) × (held_by n x.holder ≡ Some h) × (at ≡ gives_up other h x))
+        pub is : (at ≡ x) ⊎ ((other : DrillFault) × (h : Holder Answer as_locked busy) × (held_by n x.holder ≡ Some h) × (h.session.is_open ≡ false → h.session.begun ≡ []) × (at ≡ gives_up other h x))
         pub cause : HasCause filled limit n at why

@@ -1,9 +1,13 @@
 -- One of several runners, and what a step of it does to the machine.
 use Rattle.std.specs.Option.{option_map}
-use Rattle.std.specs.Prelude.{Bool, Err, List, None, Ok, Option, Result, Some, false, true, ℕ, ◌++◌, ◌≡◌, ◌⊎◌}
+use Rattle.std.specs.Prelude.{Bool, Err, List, None, Ok, Option, Result, Some, [], false, if◌then◌else◌, is_some, true, ℕ, ◌&&◌, ◌++◌, ◌≡◌, ◌⊎◌}
 use Rattle.lq_base.specs.declared.dialect.Dialect.{Dialect}
+use Rattle.lq_drill.specs.declared.fault.DrillFault.TheVariants as fault
+use Rattle.lq_turns.specs.Held.{StandsFor}
+use Rattle.lq_turns.specs.Script.{closing}
+use Rattle.lq_track.specs.Database.{Database}
 use Rattle.lq_base.specs.declared.tracking.Lock.{Lock}
-use Rattle.lq_drill.specs.Faults.{Meets, Steps}
+use Rattle.lq_drill.specs.Faults.{IsLetGo, Meets, Steps}
 pub use Rattle.lq_drill.specs.Faults.{answer_of, held_by}
 use Rattle.lq_drill.specs.Shows.{LeftBetween, Shows, entries_of}
 use Rattle.lq_drill.specs.declared.fault.DrillFault.{DrillFault}
@@ -73,11 +77,38 @@ module _ {Answer : Type 0} {locked : Lock → Answer} {busy : ℕ → Answer} wh
     pub came : y.entries ≡ x.entries ++ (front ++ more)
     pub entries : z.entries ≡ option_map (λ entries. entries ++ entries_of d front) w.entries
 
+  -- what a command is refused for: the lock keeps it out, or else the first of its checks that fails
+  abbrev pub refusal : Job Answer locked busy → Database → Option Answer
+  refusal job database = if job.needs_lock && database.lock.locked then Some (locked database.lock) else job.refuses database
+
+  -- a command that makes no call on this database: it is refused, or has nothing to do
+  abbrev pub MakesNone : Job Answer locked busy → Database → Type 0
+  MakesNone job database = ((a : Answer) × (refusal job database ≡ Some a)) ⊎ (job.script database ≡ [])
+
+  -- a runner's first step on a database on which it makes no call leaves the store as it was
+  abbrev pub LeavesAll : {S : Type 0} → Standing Answer locked busy → State → S → S → Type 0
+  LeavesAll before x old new = before.begun ≡ false → x.dialect ≡ before.dialect → (database : Database) → StandsFor x.dialect x.committed database → MakesNone before.job database → new ≡ old
+
+  -- all calls that are left to it are made, and the store shows that; the lock is freed, or has a mark
+  abbrev pub MakesLast : (DrillFault → Answer) → (ℕ → Job Answer locked busy) → ℕ → Type 0 → State → State → Machine Answer locked busy → DrillFault → Type 0
+  MakesLast failed jobs n met origin z x why = (y : Machine Answer locked busy) × Steps failed origin.dialect jobs met n x y × Shows origin z y × (answer_of n y.answers ≡ Some (failed why)) × IsLetGo y.committed.lock
+
+  -- so they are where there is no memory for its answer
+  abbrev pub HasMadeAll : (DrillFault → Answer) → (ℕ → Job Answer locked busy) → ℕ → Type 0 → State → State → Machine Answer locked busy → Type 0
+  HasMadeAll failed jobs n met origin z x = (y : Machine Answer locked busy) × Steps failed origin.dialect jobs met n x y × Shows origin z y × (is_some (answer_of n y.answers) ≡ true)
+
+  -- Where it answers a fault of the room all calls that are left to it are made; or its first call, or the one that frees the lock, met that fault, and the store is as it was.
+  abbrev pub Rests : (DrillFault → Answer) → (ℕ → Job Answer locked busy) → ℕ → Type 0 → State → State → State → Machine Answer locked busy → DrillFault → Type 0
+  Rests failed jobs n met origin w z x fault.Disk = Unit {0}
+  Rests failed jobs n met origin w z x (fault.Full used next) = MakesLast failed jobs n met origin z x (fault.Full used next)
+      ⊎ ((z ≡ w) × ((m : Meets failed origin.dialect jobs origin.used origin.limit n x (fault.Full used next)) × ((has_begun Answer locked busy n x ≡ false) ⊎ (m.cause.call ≡ closing))))
+  Rests failed jobs n met origin w z x fault.OutOfMemory = HasMadeAll failed jobs n met origin z x ⊎ (z ≡ w)
+
   -- A step from a machine: it is the machine's, or that of a runner that met a fault, and the store and the runner come to where that leads; or it ends by a fault.
   abbrev pub MovesAs : (DrillFault → Answer) → (ℕ → Job Answer locked busy) → ℕ → Standing Answer locked busy → Standing Answer locked busy → State → State → State → Machine Answer locked busy → Result (Unit {0}) DrillFault → Type 0
   MovesAs failed jobs n before after origin w z x (Ok u) =
       ((y : Machine Answer locked busy) × Steps failed origin.dialect jobs (after.faulted ≡ true) n x y × Arrives jobs n after origin z x y) × ((why : DrillFault) → after.owes why → IsDue failed jobs n before origin x why)
-  MovesAs failed jobs n before after origin w z x (Err why) = ((y : Machine Answer locked busy) × Steps failed origin.dialect jobs (after.faulted ≡ true) n x y × Brings origin.dialect x y w z) × IsDue failed jobs n before origin x why
+  MovesAs failed jobs n before after origin w z x (Err why) = ((y : Machine Answer locked busy) × Steps failed origin.dialect jobs (after.faulted ≡ true) n x y × Brings origin.dialect x y w z) × IsDue failed jobs n before origin x why × Rests failed jobs n (after.faulted ≡ true) origin w z x why
 
   -- so it does from whatever machine the store and the runner stood for
   abbrev pub Moves : (DrillFault → Answer) → ℕ → Standing Answer locked busy → Standing Answer locked busy → State → Result (Unit {0}) DrillFault → State → Type 0

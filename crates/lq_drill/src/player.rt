@@ -1,5 +1,5 @@
-ghost use Rattle.std.specs.Prelude.{◌≡◌, ◌≤◌, Err, IsTrue, None, Ok, is_some, true};
-ghost use Rattle.lq_drill.specs.Player.{EndsBy, HasMet, Moves, MovesSafely};
+ghost use Rattle.std.specs.Prelude.{◌≡◌, ◌≤◌, Err, IsTrue, None, Ok, false, is_some, true};
+ghost use Rattle.lq_drill.specs.Player.{EndsBy, HasMet, LeavesAll, Moves, MovesSafely};
 ghost use Rattle.lq_drill.specs.Shows.{LetsBe};
 ghost use Rattle.lq_drill.specs.declared.fault.DrillFault.TheVariants as fault;
 ghost use Rattle.lq_outside.specs.Count.{Rose};
@@ -35,8 +35,8 @@ pub trait Player {
         ensures { result ≡ is_some (standing self.now).answer };
 
     /// Looks at the database any number of times, and makes at most one call that writes. After a fault
-    /// of the store it may go on, and answers that fault in the end, or that its lock is gone. Its session
-    /// is always the same.
+    /// of the store it may go on, and answers that fault in the end, or that its lock is gone. With its
+    /// answer it has no transaction open. Its session is always the same.
     fn step<S: Store, P: SqlText>(
         &mut self,
         session: u32,
@@ -55,6 +55,8 @@ pub trait Player {
         ensures ready { (standing self.new).ready }
         ensures opens { (S.state store.new).live ≡ true
             → is_open session (S.state store.new).begun ≡ (standing self.new).opens }
+        ensures shut { is_some (standing self.new).answer ≡ true
+            → (standing self.new).opens ≡ false }
         ensures lets_be { LetsBe session (S.state store.old) (S.state store.new) }
         ensures owns { (lock : Lock)
             → (standing self.new).owns lock
@@ -64,6 +66,7 @@ pub trait Player {
         ensures ends { EndsBy failed (standing self.new) result }
         ensures moves { Moves failed session (standing self.old) (standing self.new)
             (S.state store.old) result (S.state store.new) }
+        ensures idle { LeavesAll (standing self.old) (S.state store.old) store.old store.new }
         ensures crash { MovesSafely failed session (standing self.old) (standing self.new)
             (S.state store.old) (S.crashes store.old) (S.crashes store.new) }
         ensures later { S.faults store.old ≤ S.faults store.new }

@@ -19,9 +19,9 @@ use Rattle.lq_kinds.specs.declared.any_change.AnyChange.{AnyChange}
 use Rattle.lq_model.proofs.Lists.{and_left, and_right, and_true}
 use Rattle.lq_model.specs.Catalogue.{Catalogue}
 use Rattle.lq_model.specs.Statement.{is_statement}
-use Rattle.lq_players.specs.Checked.{Checked, MakesNone, MakesTurns, Work}
-use Rattle.lq_players.specs.declared.checks.Verdict.TheVariants as verdict
-use Rattle.lq_players.specs.declared.checks.Verdict.{Verdict}
+use Rattle.lq_playing.specs.Checked.{Checked, MakesNone, MakesTurns, Work}
+use Rattle.lq_playing.specs.declared.checks.Verdict.TheVariants as verdict
+use Rattle.lq_playing.specs.declared.checks.Verdict.{Verdict}
 use Rattle.lq_run.specs.Commands.{script}
 use Rattle.lq_run.specs.Steps.{no_turn}
 use Rattle.lq_seen.specs.Printing.{Account, of_turns}

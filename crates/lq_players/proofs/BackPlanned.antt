@@ -14,8 +14,8 @@ use Rattle.lq_players.specs.Tasks.{if_not, invalid, unreachable_by}
 use Rattle.lq_players.specs.declared.rolling_back.RollingBack.{RollingBack}
 use Rattle.lq_expr.specs.declared.options.Options.{Options}
 use Rattle.lq_kinds.specs.declared.any_change.AnyChange.{AnyChange}
-use Rattle.lq_players.specs.declared.checks.Verdict.TheVariants as verdict
-use Rattle.lq_players.specs.declared.checks.Verdict.{Verdict}
+use Rattle.lq_playing.specs.declared.checks.Verdict.TheVariants as verdict
+use Rattle.lq_playing.specs.declared.checks.Verdict.{Verdict}
 use Rattle.lq_seen.specs.View.{any_meaning, view_log, views}
 use Rattle.lq_turns.specs.Rollback.{not_reversible, rows_kept, rows_undone, undo_turn, undo_turns}
 use Rattle.lq_turns.specs.Set.{Changelog, Set}

@@ -13,7 +13,7 @@ use Rattle.lq_drill.specs.Drill.{Begins, Each, IsNew, IsReady}
 use Rattle.lq_kinds.specs.declared.any_change.AnyChange.{AnyChange}
 use Rattle.lq_model.proofs.Lists.{and_left, and_right, and_true}
 use Rattle.lq_players.specs.Apart.{NamesAreApart}
-use Rattle.lq_players.specs.Checked.{Work}
+use Rattle.lq_playing.specs.Checked.{Work}
 use Rattle.lq_seen.specs.View.{any_meaning}
 use Rattle.lq_store.specs.State.{State, is_open}
 use Rattle.lq_track.specs.Database.{Database}

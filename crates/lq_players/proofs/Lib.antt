@@ -1,16 +1,3 @@
-mod Answering
-mod Machines
-mod Erased
-mod Shown
-mod Firsts
-mod Falling
-mod Laters
-mod Failing
-mod FirstFaults
-mod Safely
-mod SafelyLater
-mod Told
-mod Taking
 mod Apart
 mod Results
 mod TablesSeen

@@ -16,11 +16,11 @@ use Rattle.lq_players.specs.declared.at_once.OneStep.{OneStep}
 use Rattle.lq_model.proofs.Lists.{and_left}
 use Rattle.lq_model.specs.Catalogue.{Catalogue}
 use Rattle.lq_model.specs.declared.caller.Room.TheVariants.{Ordinary, Release}
-use Rattle.lq_players.specs.Answers.{is_failure}
-use Rattle.lq_players.specs.Checked.{AnswersAtOnce, Checked, MakesOne, Work}
-use Rattle.lq_players.specs.declared.checks.OneCall.{OneCall}
-use Rattle.lq_players.specs.declared.checks.Verdict.TheVariants as verdict
-use Rattle.lq_players.specs.declared.checks.Verdict.{Verdict}
+use Rattle.lq_playing.specs.Answers.{is_failure}
+use Rattle.lq_playing.specs.Checked.{AnswersAtOnce, Checked, MakesOne, Work}
+use Rattle.lq_playing.specs.declared.checks.OneCall.{OneCall}
+use Rattle.lq_playing.specs.declared.checks.Verdict.TheVariants as verdict
+use Rattle.lq_playing.specs.declared.checks.Verdict.{Verdict}
 use Rattle.lq_seen.specs.View.{any_meaning, view_log}
 use Rattle.lq_track.specs.Database.{Database}
 use Rattle.lq_track.specs.Lock.{free}

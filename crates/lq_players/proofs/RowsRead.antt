@@ -4,8 +4,8 @@ use Rattle.std.specs.Option.{option_or}
 use Rattle.std.specs.Prelude.{Err, IfErr, List, None, Option, Result, Some, [], refl, ◌∷◌, ◌≡◌}
 use Rattle.lq_players.specs.RowChecks.{IsRefusal, Passes, Refuses}
 use Rattle.lq_players.specs.Tasks.{if_some}
-use Rattle.lq_players.specs.declared.checks.Verdict.TheVariants as verdict
-use Rattle.lq_players.specs.declared.checks.Verdict.{Verdict}
+use Rattle.lq_playing.specs.declared.checks.Verdict.TheVariants as verdict
+use Rattle.lq_playing.specs.declared.checks.Verdict.{Verdict}
 use Rattle.lq_turns.specs.declared.answer.Answer.TheVariants.{Invalid}
 use Rattle.lq_turns.specs.declared.answer.Answer.{Answer}
 use Rattle.lq_turns.specs.declared.fault.Fault.{Fault}

@@ -24,9 +24,9 @@ use Rattle.lq_hand.specs.declared.progress.Progress.{Progress}
 use Rattle.lq_kinds.specs.declared.any_change.AnyChange.{AnyChange}
 use Rattle.lq_model.proofs.Lists.{and_right}
 use Rattle.lq_model.specs.Catalogue.{Catalogue}
-use Rattle.lq_players.specs.Answers.{is_failure}
-use Rattle.lq_players.specs.Checked.{AnswersAtOnce, IsInHand, MakesTurns, Work}
-use Rattle.lq_players.specs.declared.checks.Verdict.{Verdict}
+use Rattle.lq_playing.specs.Answers.{is_failure}
+use Rattle.lq_playing.specs.Checked.{AnswersAtOnce, IsInHand, MakesTurns, Work}
+use Rattle.lq_playing.specs.declared.checks.Verdict.{Verdict}
 use Rattle.lq_run.proofs.Scripts.{script_inside, sync_holds}
 use Rattle.lq_run.specs.Commands.{both_on, script}
 use Rattle.lq_run.specs.Ends.{AllHoldOn}

@@ -20,9 +20,9 @@ use Rattle.lq_hand.specs.Way.{GivesUp, Looks}
 use Rattle.lq_hand.specs.declared.source.Entered.{Entered}
 use Rattle.lq_kinds.specs.declared.any_change.AnyChange.{AnyChange}
 use Rattle.lq_model.specs.Catalogue.{Catalogue}
-use Rattle.lq_players.specs.Checked.{Checked, MakesTurns}
-use Rattle.lq_players.specs.declared.checks.Verdict.TheVariants as verdict
-use Rattle.lq_players.specs.declared.checks.Verdict.{Verdict}
+use Rattle.lq_playing.specs.Checked.{Checked, MakesTurns}
+use Rattle.lq_playing.specs.declared.checks.Verdict.TheVariants as verdict
+use Rattle.lq_playing.specs.declared.checks.Verdict.{Verdict}
 use Rattle.lq_run.specs.Commands.{both_on, script}
 use Rattle.lq_run.specs.Steps.{KnownIn, no_turn}
 use Rattle.lq_seen.proofs.Read.{views_are_read}

@@ -13,9 +13,9 @@ use Rattle.lq_kinds.specs.AnyChangeLaws.{does, restores, spelled}
 use Rattle.lq_kinds.specs.declared.any_change.AnyChange.{AnyChange}
 use Rattle.lq_plan.specs.Work.{item_at, work_from}
 use Rattle.lq_plan.specs.declared.turns.Item.{Item}
-use Rattle.lq_players.specs.Checked.{MakesNone}
-use Rattle.lq_players.specs.declared.checks.Verdict.TheVariants as verdict
-use Rattle.lq_players.specs.declared.checks.Verdict.{Verdict}
+use Rattle.lq_playing.specs.Checked.{MakesNone}
+use Rattle.lq_playing.specs.declared.checks.Verdict.TheVariants as verdict
+use Rattle.lq_playing.specs.declared.checks.Verdict.{Verdict}
 use Rattle.lq_seen.specs.View.{any_meaning}
 use Rattle.lq_track.specs.Database.{Database}
 use Rattle.lq_turns.specs.Contents.{Contents, contents_of}

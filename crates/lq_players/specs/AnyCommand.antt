@@ -16,8 +16,8 @@ use Rattle.lq_players.specs.declared.updating.Updating.{Updating}
 use Rattle.lq_drill.specs.Drill.{IsNew}
 use Rattle.lq_drill.specs.Player.{Standing}
 use Rattle.lq_kinds.specs.declared.any_change.AnyChange.{AnyChange}
-use Rattle.lq_players.specs.Playing.{is_locked, stands}
-use Rattle.lq_players.specs.declared.playing.Playing.{Playing}
+use Rattle.lq_playing.specs.Playing.{is_locked, stands}
+use Rattle.lq_playing.specs.declared.playing.Playing.{Playing}
 use Rattle.lq_run.specs.Holds.{IsHeld}
 use Rattle.lq_seen.specs.View.{any_meaning}
 use Rattle.lq_turns.specs.Jobs.{Task}

@@ -14,10 +14,10 @@ use Rattle.lq_kinds.specs.declared.any_change.AnyChange.{AnyChange}
 use Rattle.lq_model.specs.Catalogue.{Catalogue}
 use Rattle.lq_model.specs.declared.caller.Room.TheVariants.{Ordinary, Release}
 use Rattle.lq_model.specs.declared.caller.Room.{Room}
-use Rattle.lq_players.specs.Checked.{Checked, Work}
-use Rattle.lq_players.specs.declared.checks.OneCall.{OneCall}
-use Rattle.lq_players.specs.declared.checks.Verdict.TheVariants as verdict
-use Rattle.lq_players.specs.declared.checks.Verdict.{Verdict}
+use Rattle.lq_playing.specs.Checked.{Checked, Work}
+use Rattle.lq_playing.specs.declared.checks.OneCall.{OneCall}
+use Rattle.lq_playing.specs.declared.checks.Verdict.TheVariants as verdict
+use Rattle.lq_playing.specs.declared.checks.Verdict.{Verdict}
 use Rattle.lq_run.specs.NoChanges.{nothing_told}
 use Rattle.lq_seen.specs.View.{any_meaning, view_log}
 use Rattle.lq_track.specs.Log.{identity_of}

@@ -1,6 +1,5 @@
 -- Commands take the steps of a schedule over one store.
-use Rattle.std.specs.List.{list_any}
-use Rattle.std.specs.Prelude.{All, List, Some, false, nat_eq, slice_get, suc, true, ℕ, ◌==◌, ◌≡◌, ◌≢◌}
+use Rattle.std.specs.Prelude.{All, List, Some, false, nat_eq, slice_get, suc, true, ℕ, ◌≡◌, ◌≢◌}
 use Rattle.lq_base.specs.declared.command.Command.TheVariants.{Release}
 use Rattle.lq_base.specs.declared.dialect.Dialect.{Dialect}
 use Rattle.lq_base.specs.declared.tracking.Lock.{Lock}
@@ -8,9 +7,10 @@ use Rattle.lq_players.specs.AnyCommand.{command_stands}
 use Rattle.lq_players.specs.Tasks.{work_of}
 use Rattle.lq_players.specs.declared.any_command.AnyCommand.{AnyCommand}
 use Rattle.lq_drill.specs.Drill.{Each}
+use Rattle.lq_drill.specs.Faults.{is_barred}
 use Rattle.lq_drill.specs.Player.{Standing}
 use Rattle.lq_kinds.specs.declared.any_change.AnyChange.{AnyChange}
-use Rattle.lq_players.specs.Checked.{Work}
+use Rattle.lq_playing.specs.Checked.{Work}
 use Rattle.lq_run.specs.Holds.{IsHeld}
 use Rattle.lq_track.specs.Database.{Database}
 use Rattle.lq_turns.specs.Jobs.{Task}
@@ -31,7 +31,7 @@ name_of tasks n = (tasks n).stamp.who
 pub record HasTask (d : Dialect) (tasks : ℕ → Task AnyChange) (n : ℕ) (r : Standing Answer Locked Busy) : Type 0 where
   pub job : r.job ≡ work_of d (tasks n)
   pub owns : (lock : Lock) → r.owns lock → IsHeld (tasks n).stamp lock
-  pub bare : list_any (λ b. b == 124) (name_of tasks n) ≡ false
+  pub bare : is_barred (name_of tasks n) ≡ false
 
 -- So has each, and no two names are one.
 pub record HaveTasks (d : Dialect) (tasks : ℕ → Task AnyChange) (players : List AnyCommand) : Type 0 where

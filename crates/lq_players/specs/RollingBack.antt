@@ -14,9 +14,9 @@ use Rattle.lq_players.specs.declared.rolling_back.RollingBack.{RollingBack}
 use Rattle.lq_hand.specs.Way.{Way}
 use Rattle.lq_kinds.specs.Dialects.{AreFor}
 use Rattle.lq_kinds.specs.declared.any_change.AnyChange.{AnyChange}
-use Rattle.lq_players.specs.Checked.{Work}
-use Rattle.lq_players.specs.declared.checks.Verdict.TheVariants as verdict
-use Rattle.lq_players.specs.declared.checks.Verdict.{Verdict}
+use Rattle.lq_playing.specs.Checked.{Work}
+use Rattle.lq_playing.specs.declared.checks.Verdict.TheVariants as verdict
+use Rattle.lq_playing.specs.declared.checks.Verdict.{Verdict}
 use Rattle.lq_run.specs.Steps.{no_turn}
 use Rattle.lq_seen.specs.Printing.{Account, of_turns}
 use Rattle.lq_seen.specs.Telling.{stop_told}

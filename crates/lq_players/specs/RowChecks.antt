@@ -1,8 +1,8 @@
 -- Checks of a command on the rows of tracking.
 use Rattle.std.specs.Prelude.{Err, None, Ok, Option, Result, Some, false, ◌≡◌}
-use Rattle.lq_players.specs.Answers.{is_failure}
-use Rattle.lq_players.specs.declared.checks.Verdict.TheVariants as verdict
-use Rattle.lq_players.specs.declared.checks.Verdict.{Verdict}
+use Rattle.lq_playing.specs.Answers.{is_failure}
+use Rattle.lq_playing.specs.declared.checks.Verdict.TheVariants as verdict
+use Rattle.lq_playing.specs.declared.checks.Verdict.{Verdict}
 use Rattle.lq_turns.specs.declared.answer.Answer.{Answer}
 
 -- the command is refused without a call, or there was no memory

@@ -18,9 +18,9 @@ use Rattle.lq_hand.specs.declared.hand.Hand.{Hand}
 use Rattle.lq_hand.specs.declared.hand.Phase.TheVariants as phase
 use Rattle.lq_kinds.specs.declared.any_change.AnyChange.{AnyChange}
 use Rattle.lq_model.specs.Catalogue.{Catalogue}
-use Rattle.lq_players.specs.Checked.{Checked, Work}
-use Rattle.lq_players.specs.declared.checks.Verdict.TheVariants as verdict
-use Rattle.lq_players.specs.declared.checks.Verdict.{Verdict}
+use Rattle.lq_playing.specs.Checked.{Checked, Work}
+use Rattle.lq_playing.specs.declared.checks.Verdict.TheVariants as verdict
+use Rattle.lq_playing.specs.declared.checks.Verdict.{Verdict}
 use Rattle.lq_seen.specs.View.{any_meaning, view_log}
 use Rattle.lq_turns.specs.Deed.{has_place}
 use Rattle.lq_turns.specs.Faults.{faults}

@@ -10,9 +10,9 @@ use Rattle.lq_players.specs.declared.update_checks.Asked.{Asked}
 use Rattle.lq_kinds.specs.Dialects.{AreFor}
 use Rattle.lq_kinds.specs.declared.any_change.AnyChange.{AnyChange}
 use Rattle.lq_model.specs.Catalogue.{Catalogue}
-use Rattle.lq_players.specs.Checked.{AnswersAtOnce}
-use Rattle.lq_players.specs.declared.checks.Verdict.TheVariants as verdict
-use Rattle.lq_players.specs.declared.checks.Verdict.{Verdict}
+use Rattle.lq_playing.specs.Checked.{AnswersAtOnce}
+use Rattle.lq_playing.specs.declared.checks.Verdict.TheVariants as verdict
+use Rattle.lq_playing.specs.declared.checks.Verdict.{Verdict}
 use Rattle.lq_seen.specs.Printing.{of_sets}
 use Rattle.lq_seen.specs.View.{view_log}
 use Rattle.lq_sets.specs.SetTurns.{Knows, sets_left}

@@ -9,9 +9,9 @@ use Rattle.lq_players.specs.declared.update_checks.Asked.{Asked}
 use Rattle.lq_players.specs.declared.updating.Updating.{Updating}
 use Rattle.lq_hand.specs.Way.{Way}
 use Rattle.lq_kinds.specs.declared.any_change.AnyChange.{AnyChange}
-use Rattle.lq_players.specs.Checked.{Work}
-use Rattle.lq_players.specs.declared.checks.Verdict.TheVariants as verdict
-use Rattle.lq_players.specs.declared.checks.Verdict.{Verdict}
+use Rattle.lq_playing.specs.Checked.{Work}
+use Rattle.lq_playing.specs.declared.checks.Verdict.TheVariants as verdict
+use Rattle.lq_playing.specs.declared.checks.Verdict.{Verdict}
 use Rattle.lq_run.specs.Steps.{no_turn}
 use Rattle.lq_seen.specs.Printing.{Account}
 use Rattle.lq_sets.specs.SetTurns.{IsReadFor, set_way, sets_left}

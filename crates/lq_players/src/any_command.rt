@@ -5,19 +5,20 @@ ghost use Rattle.lq_base.specs.declared.command.Command.TheVariants as command;
 ghost use Rattle.lq_base.specs.declared.tracking.Lock.{Lock};
 ghost use Rattle.lq_beside.specs.Fitting.{HasTexts};
 ghost use Rattle.lq_changelog.specs.ShortTexts.{HasShortTexts};
+ghost use Rattle.lq_playing.specs.Under.{IsPlain};
+ghost use Rattle.lq_drill.specs.Player.{LeavesAll};
 ghost use Rattle.lq_players.specs.AnyCommand.{IsUnstarted, Starts, command_stands};
 ghost use Rattle.lq_players.specs.AtOnce.{HasShortTag, command_of};
 ghost use Rattle.lq_players.specs.Tasks.{task_for, work_of};
 ghost use Rattle.lq_drill.specs.declared.fault.DrillFault.TheVariants as drill;
 ghost use Rattle.lq_kinds.specs.Dialects.{AreFor};
 ghost use Rattle.lq_outside.specs.Count.{Rose};
-ghost use Rattle.lq_players.specs.Playing.{Took};
+ghost use Rattle.lq_playing.specs.Playing.{Took};
 ghost use Rattle.lq_run.specs.Holds.{IsHeld};
 ghost use Rattle.lq_seen.specs.View.{view_log};
 ghost use Rattle.lq_store.specs.State.{is_open};
 
 use crate::at_once::{AtOnce, OneStep};
-use crate::playing::Playing;
 use crate::rolling_back::RollingBack;
 use crate::syncing::Syncing;
 use crate::updating::Updating;
@@ -26,6 +27,7 @@ use lq_drill::{DrillFault, Player};
 use lq_expr::Options;
 use lq_kinds::Changelog;
 use lq_model::SqlText;
+use lq_playing::Playing;
 use lq_store::Store;
 use lq_turns::{Answer, Stamp};
 use std::alloc::Global;
@@ -52,6 +54,7 @@ impl AnyCommand {
         options: Options,
     ) -> AnyCommand
         requires moment { stamp.reading ≤ 253402300799999 }
+        requires plain { IsPlain stamp }
         requires options { options.dialect ≡ dialect }
         requires read { AreFor options.dialect changelog }
         requires short { All HasShortTexts changelog.sets }
@@ -93,6 +96,7 @@ impl AnyCommand {
         ensures took { Took session (command_stands self.old) (command_stands self.new)
             (S.state store.old) (S.state store.new) (S.crashes store.old) (S.crashes store.new)
             result }
+        ensures idle { LeavesAll (command_stands self.old) (S.state store.old) store.old store.new }
         ensures later { S.faults store.old ≤ S.faults store.new }
         ensures rose { result ≡ Err drill.Disk → Rose (S.faults store.old) (S.faults store.new) }
     {
@@ -114,6 +118,7 @@ fn start(
     options: Options,
 ) -> AnyCommand
     requires moment { stamp.reading ≤ 253402300799999 }
+    requires plain { IsPlain stamp }
     requires options { options.dialect ≡ dialect }
     requires read { AreFor options.dialect changelog }
     requires short { All HasShortTexts changelog.sets }
@@ -140,6 +145,7 @@ fn at_once(
     options: Options,
 ) -> AnyCommand
     requires moment { stamp.reading ≤ 253402300799999 }
+    requires plain { IsPlain stamp }
     requires tag { HasShortTag (command_of command) }
     ensures { Starts dialect (task_for (command_of command) options changelog stamp) result }
 {
@@ -159,6 +165,7 @@ fn update(
     options: Options,
 ) -> AnyCommand
     requires moment { stamp.reading ≤ 253402300799999 }
+    requires plain { IsPlain stamp }
     requires options { options.dialect ≡ dialect }
     requires read { AreFor options.dialect changelog }
     requires texts { All HasTexts (view_log options changelog).sets }
@@ -177,6 +184,7 @@ fn rollback(
     options: Options,
 ) -> AnyCommand
     requires moment { stamp.reading ≤ 253402300799999 }
+    requires plain { IsPlain stamp }
     requires options { options.dialect ≡ dialect }
     requires read { AreFor options.dialect changelog }
     ensures { Starts dialect (task_for (command.Rollback target) options changelog stamp) result }
@@ -193,6 +201,7 @@ fn sync(
     options: Options,
 ) -> AnyCommand
     requires moment { stamp.reading ≤ 253402300799999 }
+    requires plain { IsPlain stamp }
     requires texts { All HasTexts (view_log options changelog).sets }
     ensures { Starts dialect (task_for command.Sync options changelog stamp) result }
 {
@@ -203,7 +212,7 @@ fn sync(
 impl Player for AnyCommand {
     ghost use Rattle.lq_changelog.specs.ShortTexts.{HasShortTexts};
     ghost use Rattle.lq_players.specs.AnyCommand.{command_locked, command_stands};
-    ghost use Rattle.lq_players.specs.Answers.{failure_of};
+    ghost use Rattle.lq_playing.specs.Answers.{failure_of};
     ghost use Rattle.lq_turns.specs.declared.answer.Answer.TheVariants.{Busy, Locked};
 
     type Answer = Answer;

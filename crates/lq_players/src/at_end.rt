@@ -1,6 +1,6 @@
 ghost use Rattle.std.specs.Prelude.{◌≡◌, IfOk, false};
 ghost use Rattle.lq_players.specs.AtEnd.{end_answer, halt_answer, refusal_answer};
-ghost use Rattle.lq_players.specs.Answers.{is_failure};
+ghost use Rattle.lq_playing.specs.Answers.{is_failure};
 
 use lq_base::{Duplicate, Identity, NoMemory};
 use lq_seen::{Halt, Outcome};

@@ -6,13 +6,13 @@ ghost use Rattle.lq_turns.specs.Jobs.{needs_lock};
 ghost use Rattle.lq_turns.specs.Script.{last_row};
 ghost use Rattle.lq_turns.specs.declared.stamp.Stamp.{Stamp as Clocked};
 
-use crate::checks::{Checks, OneCall, Verdict};
 use crate::in_tables::{identity_of, lock_in, rows_in};
 use lq_base::{Dialect, Items, NoMemory, Text, Tracked};
 use lq_expr::Options;
 use lq_hand::{Entered, Source};
 use lq_kinds::Changelog;
 use lq_model::{Look, Room, SqlText};
+use lq_playing::{Checks, OneCall, Verdict};
 use lq_sets::faults_of;
 use lq_turns::{Answer, Deed, Fault, OnLock, OnRows, Refusal, Stamp};
 use std::alloc::Global;

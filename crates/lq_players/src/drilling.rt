@@ -6,7 +6,7 @@ ghost use Rattle.lq_drill.specs.Player.{HasMet};
 ghost use Rattle.lq_drill.specs.declared.fault.DrillFault.TheVariants as fault;
 ghost use Rattle.lq_kinds.specs.declared.any_change.AnyChange.{AnyChange};
 ghost use Rattle.lq_outside.specs.Count.{Rose};
-ghost use Rattle.lq_players.specs.Answers.{failure_of};
+ghost use Rattle.lq_playing.specs.Answers.{failure_of};
 ghost use Rattle.lq_store.specs.Crashes.{CrashesLeave};
 ghost use Rattle.lq_track.specs.Database.{Database};
 ghost use Rattle.lq_turns.specs.Held.{StandsFor};
@@ -52,7 +52,7 @@ pub fn drill_commands<S: Store, P: SqlText>(
     ensures left { (tasks : ℕ → Task AnyChange) (database : Database) → StandsFor (S.state store.old).dialect (S.state store.old).committed database → HaveTasks (S.state store.old).dialect tasks players.old.items
         → LeftAtEnd command_stands (works (S.state store.old).dialect tasks) (S.state store.old) database failure_of steps.now players.new.items (S.state store.new) }
     ensures cause { (tasks : ℕ → Task AnyChange) (database : Database) → StandsFor (S.state store.old).dialect (S.state store.old).committed database → HaveTasks (S.state store.old).dialect tasks players.old.items
-        → IfErr result (FailsBy command_stands (works (S.state store.old).dialect tasks) (S.state store.old) database failure_of steps.now players.new.items) }
+        → IfErr result (FailsBy command_stands (works (S.state store.old).dialect tasks) (S.state store.old) database failure_of steps.now players.new.items (S.state store.new)) }
     ensures later { S.faults store.old ≤ S.faults store.new }
     ensures rose { result ≡ Err fault.Disk → Rose (S.faults store.old) (S.faults store.new) }
 {

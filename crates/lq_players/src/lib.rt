@@ -4,14 +4,10 @@
 mod any_command;
 mod at_end;
 mod at_once;
-mod calls;
-mod checks;
 mod drilling;
 mod hands;
-mod hindrance;
 mod in_tables;
 mod laws;
-mod playing;
 mod rolling_back;
 mod row_checks;
 mod row_order;
@@ -21,10 +17,8 @@ mod updating;
 
 pub use any_command::AnyCommand;
 pub use at_once::{AtOnce, OneStep};
-pub use checks::{Checks, OneCall, Verdict};
 pub use drilling::drill_commands;
 pub use laws::names_are_apart;
-pub use playing::Playing;
 pub use rolling_back::RollingBack;
 pub use syncing::Syncing;
 pub use updating::Updating;

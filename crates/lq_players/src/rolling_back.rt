@@ -7,7 +7,7 @@ ghost use Rattle.lq_players.specs.RowChecks.{IsRefusal, Passes};
 ghost use Rattle.lq_players.specs.Tasks.{if_not, task_for, unreachable_by, work_of};
 ghost use Rattle.lq_expr.specs.declared.options.Options.{Options as Asked};
 ghost use Rattle.lq_kinds.specs.Dialects.{AreFor};
-ghost use Rattle.lq_players.specs.declared.checks.Verdict.TheVariants as verdict;
+ghost use Rattle.lq_playing.specs.declared.checks.Verdict.TheVariants as verdict;
 ghost use Rattle.lq_seen.specs.View.{any_meaning, view_log, views};
 ghost use Rattle.lq_track.specs.Database.{Database};
 ghost use Rattle.lq_turns.specs.Held.{StandsFor};
@@ -16,7 +16,6 @@ ghost use Rattle.lq_turns.specs.declared.answer.Answer.TheVariants.{NoTarget};
 ghost use Rattle.lq_turns.specs.declared.stamp.Stamp.{Stamp as Clocked};
 
 use crate::at_end::answer_at_end;
-use crate::checks::{Checks, Verdict};
 use crate::hands::no_turn;
 use crate::in_tables::rows_in;
 use crate::row_checks::check_faults;
@@ -26,6 +25,7 @@ use lq_expr::Options;
 use lq_hand::{Entered, Source};
 use lq_kinds::Changelog;
 use lq_model::{Look, SqlText};
+use lq_playing::{Checks, Verdict};
 use lq_turns::{Answer, Refusal, Stamp};
 use std::alloc::Global;
 

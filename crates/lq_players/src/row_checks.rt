@@ -3,10 +3,10 @@ ghost use Rattle.lq_players.specs.RowChecks.{IsRefusal, Passes};
 ghost use Rattle.lq_players.specs.Tasks.{if_some, invalid};
 ghost use Rattle.lq_seen.specs.View.{view_log};
 
-use crate::checks::Verdict;
 use lq_base::{Items, Tracked};
 use lq_expr::Options;
 use lq_kinds::Changelog;
+use lq_playing::Verdict;
 use lq_sets::faults_of;
 use lq_turns::{Answer, Fault};
 use std::alloc::Global;

@@ -3,13 +3,12 @@ ghost use Rattle.std.specs.Prelude.{◌≡◌, ◌≤◌, IfOk, Some, false, opt
 ghost use Rattle.lq_back.specs.SyncTurn.{AreDated};
 ghost use Rattle.lq_players.specs.Syncing.{PlansFor, PlansOn, PlansRows, goes_in, planned, refused_at, stop_at, verdict_of};
 ghost use Rattle.lq_players.specs.Tasks.{answer_by};
-ghost use Rattle.lq_players.specs.Answers.{is_failure};
+ghost use Rattle.lq_playing.specs.Answers.{is_failure};
 ghost use Rattle.lq_seen.specs.View.{view_log};
 ghost use Rattle.lq_track.specs.Log.{identity_of};
 ghost use Rattle.lq_turns.specs.Synced.{insert_stop};
 
 use crate::at_end::refusal_answer;
-use crate::checks::{Checks, Verdict};
 use crate::in_tables::{identity_of, rows_in};
 use lq_back::{rows_to_sync, sync_hand};
 use lq_base::{Dialect, Identity, Items, NoMemory, Tracked};
@@ -17,6 +16,7 @@ use lq_expr::Options;
 use lq_hand::{Entered, Hand, Source};
 use lq_kinds::Changelog;
 use lq_model::{Look, SqlText};
+use lq_playing::{Checks, Verdict};
 use lq_sets::faults_of;
 use lq_turns::{Answer, Refusal, Stamp};
 use std::alloc::Global;

@@ -10,7 +10,6 @@ ghost use Rattle.lq_seen.specs.View.{view_log};
 ghost use Rattle.lq_turns.specs.declared.stamp.Stamp.{Stamp as Clocked};
 
 use crate::at_end::answer_at_end;
-use crate::checks::{Checks, Verdict};
 use crate::hands::no_turn;
 use crate::update_checks::{Asked, plan};
 use lq_base::{Dialect, NoMemory};
@@ -18,6 +17,7 @@ use lq_expr::Options;
 use lq_hand::{Entered, Source};
 use lq_kinds::Changelog;
 use lq_model::{Look, SqlText};
+use lq_playing::{Checks, Verdict};
 use lq_sets::SetTurns;
 use lq_turns::{Answer, Refusal, Stamp};
 use std::alloc::Global;

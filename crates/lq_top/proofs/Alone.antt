@@ -15,7 +15,7 @@ use Rattle.lq_drill.specs.Faults.{answer_of, freed}
 use Rattle.lq_drill.specs.Shows.{HadRoom, room_of_entry as room_in_drill}
 use Rattle.lq_kinds.specs.declared.any_change.AnyChange.{AnyChange}
 use Rattle.lq_model.specs.declared.caller.Room.{Room}
-use Rattle.lq_players.specs.Checked.{Work}
+use Rattle.lq_playing.specs.Checked.{Work}
 use Rattle.lq_players.specs.Drilling.{works}
 use Rattle.lq_run.specs.Stands.{HadRoom as HadRoomAlone, entries_of, room_of_entry}
 use Rattle.lq_store.specs.Journal.{Entry, end_of, size_of_all}

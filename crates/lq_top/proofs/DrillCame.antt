@@ -7,7 +7,7 @@ use Rattle.lq_base.specs.declared.dialect.Dialect.{Dialect}
 use Rattle.lq_drill.specs.Faults.{Comes, FallsFirst, Steps}
 use Rattle.lq_kinds.specs.declared.any_change.AnyChange.{AnyChange}
 use Rattle.lq_model.proofs.Lists.{and_left, and_right}
-use Rattle.lq_players.specs.Answers.{failure_of}
+use Rattle.lq_playing.specs.Answers.{failure_of}
 use Rattle.lq_players.specs.Drilling.{works}
 use Rattle.lq_seen.specs.View.{any_meaning}
 use Rattle.lq_turns.specs.Jobs.{Task, needs_lock, script_of}
@@ -22,7 +22,7 @@ true_false h = Prim.cc
 
 -- who met a fault may be told otherwise
 module _ (d : Dialect) (tasks : ℕ → Task AnyChange) where
-  steps_met : (met said : Type 0) → (met → said) → (n : ℕ) (x z : Commands) → Steps failure_of d (works d tasks) met n x z → Steps failure_of d (works d tasks) said n x z
+  pub steps_met : (met said : Type 0) → (met → said) → (n : ℕ) (x z : Commands) → Steps failure_of d (works d tasks) met n x z → Steps failure_of d (works d tasks) said n x z
   steps_met met said tell n x z (inl is) = inl is
   steps_met met said tell n x z (inr falls) = inr (tell falls.0, falls.1)
 

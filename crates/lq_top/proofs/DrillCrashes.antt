@@ -10,7 +10,7 @@ use Rattle.lq_drill.specs.Shows.{entries_of}
 use Rattle.lq_frames.specs.Journal.{journal_of}
 use Rattle.lq_kinds.specs.declared.any_change.AnyChange.{AnyChange}
 use Rattle.lq_outside.specs.Crash.{Crashes as DiskCrashes, IsSound, LeavesOnly}
-use Rattle.lq_players.specs.Answers.{failure_of}
+use Rattle.lq_playing.specs.Answers.{failure_of}
 use Rattle.lq_players.specs.AnyCommand.{command_stands}
 use Rattle.lq_players.specs.Drilling.{works}
 use Rattle.lq_players.specs.declared.any_command.AnyCommand.{AnyCommand}

@@ -16,9 +16,9 @@ use Rattle.lq_db.specs.Load.{IsDbFault}
 use Rattle.lq_entries.specs.Load.{catalogue_of}
 use Rattle.lq_entries.specs.Log.{crashes_in, entries_in}
 use Rattle.lq_db.specs.declared.db.Db.{Db}
-use Rattle.lq_drill.specs.Drill.{Each, FailsBy, HasFaulted as PlayerFaulted, IsDrilled, IsDrilledUntil, IsFaultless as HasNoFault, IsSerialDrill, LeftAtEnd, LeftInDrill, MetAt, shut}
-use Rattle.lq_drill.specs.Faults.{FallsFirst, Meets}
-use Rattle.lq_drill.specs.Player.{MayAnswer}
+use Rattle.lq_drill.specs.Drill.{Each, FailsBy, HasFaulted as PlayerFaulted, IsDrilled, IsDrilledUntil, IsFaultless as HasNoFault, IsSerialDrill, LeftAtEnd, LeftInDrill, MetAt, RestsIn, shut}
+use Rattle.lq_drill.specs.Faults.{FallsFirst, IsLetGo, Meets, Steps}
+use Rattle.lq_drill.specs.Player.{MayAnswer, answer_of}
 use Rattle.lq_drill.specs.Shows.{HadRoom, Shows, entries_of}
 use Rattle.lq_drill.specs.declared.fault.DrillFault.TheVariants as fault
 use Rattle.lq_drill.specs.declared.fault.DrillFault.{DrillFault}
@@ -28,7 +28,7 @@ use Rattle.lq_journal.specs.declared.fault.LoadFault.TheVariants as load
 use Rattle.lq_kinds.specs.declared.any_change.AnyChange.{AnyChange}
 use Rattle.lq_outside.specs.Count.{Rose}
 use Rattle.lq_outside.specs.Crash.{Crashes as DiskCrashes, IsSound, LeavesOnly}
-use Rattle.lq_players.specs.Answers.{failure_of}
+use Rattle.lq_playing.specs.Answers.{failure_of}
 use Rattle.lq_players.specs.AnyCommand.{command_stands}
 use Rattle.lq_players.specs.Drilling.{BeginInTurn, HaveTasks, works}
 use Rattle.lq_players.specs.declared.any_command.AnyCommand.{AnyCommand}
@@ -46,24 +46,25 @@ use Rattle.lq_tell.specs.declared.status.Status.TheVariants as status
 use Rattle.lq_track.specs.Database.{Database}
 use Rattle.lq_turns.specs.Held.{StandsFor}
 use Rattle.lq_turns.specs.Jobs.{Task}
-use Rattle.lq_turns.specs.Schedule.{start}
+use Rattle.lq_turns.specs.Schedule.{has_begun, start}
+use Rattle.lq_turns.specs.Script.{closing}
 use Rattle.lq_turns.specs.declared.answer.Answer.{Answer}
 use Rattle.lq_turns.specs.declared.answer.Answer.TheVariants as answer
 use Rattle.lq_top.proofs.DamagedFiles.{load_spares, memory_spares, no_damage, spares_after}
 use Rattle.lq_top.proofs.DrillAnswers.{disk_failed, none_failed}
-use Rattle.lq_top.proofs.DrillCame.{falls_met}
+use Rattle.lq_top.proofs.DrillCame.{falls_met, steps_met}
 use Rattle.lq_top.proofs.DrillCrashes.{LeftBy, came_to, crashes_on, crashes_read, drills_after, fault_shown, left_there, mapped, placed}
 use Rattle.lq_top.proofs.DrillIdle.{IsUnfilled, idle, not_begun}
 use Rattle.lq_top.proofs.DrillPlayed.{of_drill, played_tells}
 use Rattle.lq_top.proofs.DrillPlayers.{have_tasks}
 use Rattle.lq_top.proofs.DrillScripts.{drill_good}
-use Rattle.lq_top.proofs.DrillStays.{AreGood, all_moved_well, came_well, starts_well}
+use Rattle.lq_top.proofs.DrillStays.{AreGood, all_moved_well, came_well, starts_well, then_well}
 use Rattle.lq_top.proofs.OnFiles.{entries_told, entries_were, fault_tells, journal_stays, on_journal, rose_later}
 use Rattle.lq_top.proofs.OpensAgain.{holds_opens, was_clean}
 use Rattle.lq_top.proofs.Ready.{opened}
 use Rattle.lq_top.specs.Bytes.{Holds, Opens, TellsDamage, load_status, most_bytes}
 use Rattle.lq_top.specs.Clock.{ReadInTurn, ReadUpTo}
-use Rattle.lq_top.specs.Drilled.{AnswerAs, AnswerBefore, AreTasks, Commands, CrashesTo, DoesDrill, Drills, EndsFull, GoesAs, GoesUntil, HasFaulted, HoldsMachine, IsDrill, IsEnding, IsFaultless, IsFull, IsLeftInDrill, IsOfDrill, IsSerial, IsSettled, MetFull, Went, WorkedDrill, drilled, machine_after}
+use Rattle.lq_top.specs.Drilled.{AnswerAs, AnswerBefore, AreTasks, Commands, CrashesTo, DoesDrill, Drills, EndsFull, GoesAs, GoesUntil, HasFaulted, HoldsMachine, IsDrill, IsEnding, IsFaultless, IsFull, IsLeftInDrill, IsOfDrill, IsSerial, IsSettled, MetFull, RestsAt, RestsFull, RestsOn, Went, WorkedDrill, drilled, machine_after}
 use Rattle.lq_top.specs.Kinds.{Refuses, is_of_drill}
 use Rattle.lq_top.specs.Players.{ArePlayers, PlayAnswers, PlayEnds, PlayIsFull, Plays, answers_in, faults_in, is_of_play}
 use Rattle.lq_top.specs.declared.drilling.Drilling.{Drilling}
@@ -229,11 +230,39 @@ module _ {D P E : Type 0} (d p : Dialect) (told : Option (List ℕ)) (crashes : 
         full = on_journal d p told crashes h db is new.limit_is bytes told_is now later k left valid database has (λ limit filled. Meets failure_of d (works d tasks) filled limit n met.now (fault.Full used next)) met.meets;
       }
 
-      ends_full : FailsBy command_stands (works d tasks) (record x { dialect = d }) database failure_of steps last (fault.Full used next) → EndsFull d tasks steps database (faults_in last) told (answers_in last) used next
-      ends_full fails = record {
+      -- how its command rests
+
+      abbrev RestsHere : ℕ → Type 0
+      RestsHere n = RestsIn command_stands (works d tasks) (record x { dialect = d }) database failure_of steps last n y (fault.Full used next)
+
+      abbrev Good : (n : ℕ) → RestsHere n → Type 0
+      Good n it = (to : Commands) → (to ≡ it.now) ⊎ Steps failure_of d (works d tasks) (PlayerFaulted command_stands last n) n it.now to → IsGood d to.committed
+
+      rests_full : (n : ℕ) (it : RestsHere n) → Good n it → RestsFull d tasks steps database (faults_in last) told n used next now
+      rests_full n it good = record {
+        front = it.front;
+        rest = it.rest;
+        is = it.is;
+        now = it.now;
+        came = came_to d tasks steps database last x told it.front it.now it.came;
+        rests = elim it.rests [
+          | inl made ↦ inl (made.0, steps_met d tasks (PlayerFaulted command_stands last n) (HasFaulted (faults_in last) n) (fault_shown last n) n it.now made.0 made.1, rests_on made.0 made.2 (good made.0 (inr made.1)), made.3, made.4)
+          | inr none ↦ inr (
+            rests_on it.now none.0 (good it.now (inl refl)),
+            on_journal d p told crashes h db is new.limit_is bytes told_is now later k left valid database has
+                (λ limit filled. (m : Meets failure_of d (works d tasks) filled limit n it.now (fault.Full used next)) × ((has_begun Answer answer.Locked answer.Busy n it.now ≡ false) ⊎ (m.cause.call ≡ closing))) none.1,
+          )
+        ];
+      } where
+        rests_on : (to : Commands) → Shows (record x { dialect = d }) y (shut to) → IsGood d to.committed → RestsOn d tasks steps database (faults_in last) told to now
+        rests_on to shows well = (holds_machine to shows, opens_machine to shows well)
+
+      ends_full : (fails : FailsBy command_stands (works d tasks) (record x { dialect = d }) database failure_of steps last y (fault.Full used next)) → Good (suc fails.place) fails.rests → EndsFull d tasks steps database (faults_in last) told (answers_in last) now used next
+      ends_full fails good = record {
         place = fails.place;
         answer = placed (λ (p : AnyCommand). (command_stands p).answer) last fails.place fails.player fails.there ∙ ap (λ (o : Option Answer). Some o) fails.answer;
         met = met_full (suc fails.place) fails.met;
+        rests = rests_full (suc fails.place) fails.rests good;
       }
 
     -- at any moment
@@ -288,8 +317,8 @@ module _ {D P E : Type 0} (spelled : TurnsBackAreSpelled) (d p : Dialect) (told 
     left_in_end : LeftAtEnd command_stands (works d tasks) moved database failure_of drill.steps plays.last final
     left_in_end = subst (λ e. LeftAtEnd command_stands (works e tasks) (record origin { dialect = e }) database failure_of drill.steps plays.last final) has.dialect (plays.left tasks database stands_there have_there)
 
-    failed_by : (why : DrillFault) → FailsBy command_stands (works origin.dialect tasks) origin database failure_of drill.steps plays.last why → FailsBy command_stands (works d tasks) moved database failure_of drill.steps plays.last why
-    failed_by why fails = subst (λ e. FailsBy command_stands (works e tasks) (record origin { dialect = e }) database failure_of drill.steps plays.last why) has.dialect fails
+    failed_by : (why : DrillFault) → FailsBy command_stands (works origin.dialect tasks) origin database failure_of drill.steps plays.last final why → FailsBy command_stands (works d tasks) moved database failure_of drill.steps plays.last final why
+    failed_by why fails = subst (λ e. FailsBy command_stands (works e tasks) (record origin { dialect = e }) database failure_of drill.steps plays.last final why) has.dialect fails
 
     -- dialect and limit stay
     stays : (final.dialect ≡ d) × (final.limit ≡ origin.limit)
@@ -320,6 +349,14 @@ module _ {D P E : Type 0} (spelled : TurnsBackAreSpelled) (d p : Dialect) (told 
   came_good tasks own database opens ran =
       (came_well Answer answer.Locked answer.Busy failure_of d (works d tasks) (PlayerFaulted command_stands plays.last) ran.taken ran.others (start Answer answer.Locked answer.Busy database) ran.now
       (subst (AreGood Answer answer.Locked answer.Busy failure_of d (works d tasks)) ran.is (are_good tasks own)) ran.came
+      (starts_well Answer answer.Locked answer.Busy failure_of d (works d tasks) database (begins_good database opens))).committed
+
+  rests_good : (tasks : ℕ → Task AnyChange) → AreTasks who drill.entrants readings tasks → (database : Database) → Opens d told database
+      → (n : ℕ) (why : DrillFault) (it : RestsIn command_stands (works d tasks) (record origin { dialect = d }) database failure_of drill.steps plays.last n final why) (to : Commands)
+      → (to ≡ it.now) ⊎ Steps failure_of d (works d tasks) (PlayerFaulted command_stands plays.last n) n it.now to → IsGood d to.committed
+  rests_good tasks own database opens n why it to step =
+      (then_well Answer answer.Locked answer.Busy failure_of d (works d tasks) (PlayerFaulted command_stands plays.last) it.front it.rest n (start Answer answer.Locked answer.Busy database) it.now to
+      (subst (AreGood Answer answer.Locked answer.Busy failure_of d (works d tasks)) it.is (are_good tasks own)) it.came step
       (starts_well Answer answer.Locked answer.Busy failure_of d (works d tasks) database (begins_good database opens))).committed
 
   went_as : All IsFaultless (faults_in plays.last) → (tasks : ℕ → Task AnyChange) → AreTasks who drill.entrants readings tasks → (database : Database) → Opens d told database → GoesAs d tasks drill.steps database (answers_in plays.last) told now
@@ -366,12 +403,13 @@ module _ {D P E : Type 0} (spelled : TurnsBackAreSpelled) (d p : Dialect) (told 
       left_now d p told crashes h db is new opens.bytes opens.told_is now later k left valid database has tasks drill.steps plays.last same.0 same.1 (left_in_end tasks own database has)
 
   full_at : (used next : ℕ)
-      → ((tasks : ℕ → Task AnyChange) (database : Database) → StandsFor origin.dialect origin.committed database → HaveTasks origin.dialect tasks players → FailsBy command_stands (works origin.dialect tasks) origin database failure_of drill.steps plays.last (fault.Full used next))
-      → IsFull d who drill readings (faults_in plays.last) told (answers_in plays.last) used next
+      → ((tasks : ℕ → Task AnyChange) (database : Database) → StandsFor origin.dialect origin.committed database → HaveTasks origin.dialect tasks players → FailsBy command_stands (works origin.dialect tasks) origin database failure_of drill.steps plays.last final (fault.Full used next))
+      → IsFull d who drill readings (faults_in plays.last) told (answers_in plays.last) now used next
   full_at used next fails tasks own database opens =
       let has = has_there database opens in
-      ends_full d p told crashes h db is new opens.bytes opens.told_is now later k left valid database has tasks drill.steps plays.last used next
-      (failed_by tasks own database has (fault.Full used next) (fails tasks database (stands_there tasks own database has) (have_there tasks own database has)))
+      let failed = failed_by tasks own database has (fault.Full used next) (fails tasks database (stands_there tasks own database has) (have_there tasks own database has)) in
+      ends_full d p told crashes h db is new opens.bytes opens.told_is now later k left valid database has tasks drill.steps plays.last used next failed
+      (rests_good tasks own database opens (suc failed.place) (fault.Full used next) failed.rests)
 
   abbrev went : Went d who drill readings told now crashes later
   went = record {
@@ -387,7 +425,7 @@ module _ {D P E : Type 0} (spelled : TurnsBackAreSpelled) (d p : Dialect) (told 
   }
 
   drills_by : (r : Result Done Status) → Refuses is_of_play r → PlayEnds commands plays.last final r → PlayAnswers plays.last r
-      → ((tasks : ℕ → Task AnyChange) (database : Database) → StandsFor origin.dialect origin.committed database → HaveTasks origin.dialect tasks players → PlayIsFull r (FailsBy command_stands (works origin.dialect tasks) origin database failure_of drill.steps plays.last))
+      → ((tasks : ℕ → Task AnyChange) (database : Database) → StandsFor origin.dialect origin.committed database → HaveTasks origin.dialect tasks players → PlayIsFull r (FailsBy command_stands (works origin.dialect tasks) origin database failure_of drill.steps plays.last final))
       → Drills d who drill readings told crashes r now later
   drills_by (Ok done) kind ends none full = (ends.1, (went, ends.2 ∙ ap (λ (all : List Command). Some (drill_text (drilled all (answers_in plays.last)))) are.named, none_failed plays.last none))
   drills_by (Err (status.Full used next)) kind ends answered full = (went, full_at used next full)

@@ -10,7 +10,7 @@ use Rattle.lq_commands.specs.Stamp.{numbered_stamp}
 use Rattle.lq_commands.specs.Who.{clean}
 use Rattle.lq_kinds.specs.Dialects.{AreFor}
 use Rattle.lq_kinds.specs.declared.any_change.AnyChange.{AnyChange}
-use Rattle.lq_players.specs.Answers.{failure_of}
+use Rattle.lq_playing.specs.Answers.{failure_of}
 use Rattle.lq_players.specs.Drilling.{works}
 use Rattle.lq_seen.specs.View.{any_meaning}
 use Rattle.lq_stand.proofs.StaysGood.{IsGood, KeepGood}

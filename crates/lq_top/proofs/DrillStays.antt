@@ -4,7 +4,7 @@ use Rattle.std.specs.Prelude.{Bool, List, None, Option, Some, [], false, if◌th
 use Rattle.lq_base.specs.declared.dialect.Dialect.{Dialect}
 use Rattle.lq_base.specs.declared.tracking.Lock.{Lock}
 use Rattle.lq_drill.proofs.Machines.{held_is}
-use Rattle.lq_drill.specs.Faults.{Comes, FallsFirst, Falls, Steps, gives_up, held_by, last_calls}
+use Rattle.lq_drill.specs.Faults.{Comes, FallsFirst, Falls, Steps, frees, gives_up, has_bar, held_by, last_calls, left_with}
 use Rattle.lq_drill.specs.declared.fault.DrillFault.{DrillFault}
 use Rattle.lq_model.proofs.Lists.{and_left, and_right}
 use Rattle.lq_stand.proofs.StaysGood.{IsGood, IsGoodSession, KeepGood, call_good, call_said, calls_said}
@@ -101,15 +101,19 @@ module _ (Answer : Type 0) (locked : Lock → Answer) (busy : ℕ → Answer) (f
 
   -- a holder that gives up
   last_good : (s : Session) → KeepGood d (last_calls s) s
-  last_good s = by s.is_open where
-    by : (b : Bool) → KeepGood d (if b then Abort ∷ closing ∷ [] else closing ∷ []) s
-    by true = (refl, refl)
-    by false = (refl, refl)
+  last_good s = by s.is_open (has_bar s.committed.lock) where
+    by : (b m : Bool) → KeepGood d (if b then Abort ∷ frees m else frees m) s
+    by true true = (refl, refl)
+    by true false = (refl, refl)
+    by false true = (refl, refl)
+    by false false = (refl, refl)
+
+  left_well : (calls : List Call) (why : DrillFault) (h : Holder Answer locked busy) (x : Runs) → KeepGood d calls h.session → GoesWell h → IsWell x → IsWell (left_with failed calls why h x)
+  left_well [] why h x good goes well = record { committed = well.committed; holder = tt }
+  left_well (call ∷ calls) why h x good goes well = record { committed = well.committed; holder = record { session = goes.session; rest = good } }
 
   gives_up_well : (why : DrillFault) (n : ℕ) (h : Holder Answer locked busy) (x : Runs) → held_by n x.holder ≡ Some h → IsWell x → IsWell (gives_up failed why h x)
-  gives_up_well why n h x held well =
-      let goes : GoesWell h = subst HolderGoes (held_is Answer locked busy n x.holder h held).0 well.holder in
-      record { committed = well.committed; holder = record { session = goes.session; rest = last_good h.session } }
+  gives_up_well why n h x held well = left_well (last_calls h.session) why h x (last_good h.session) (subst HolderGoes (held_is Answer locked busy n x.holder h held).0 well.holder) well
 
   falls_well : (n : ℕ) (x z : Runs) → IsGoodJob n → Falls failed d jobs n x z → IsWell x → IsWell z
   falls_well n x z job falls well =
@@ -142,3 +146,16 @@ module _ (Answer : Type 0) (locked : Lock → Answer) (busy : ℕ → Answer) (f
   came_well met ns more x z good (inr fell) well =
       let parts = first_good fell.front (fell.next ∷ fell.later) (subst AreGood fell.is (first_good ns more good).0) in
       comes_well met fell.later fell.given_up z parts.1.1 fell.goes_on (falls_well fell.next (all_moved Answer locked busy d jobs fell.front x) fell.given_up parts.1.0 fell.falls (all_moved_well fell.front x parts.0 well))
+
+  -- a machine to which some of the steps led, and the one after the next step
+  pub then_well : (met : ℕ → Type 0) (front rest : List ℕ) (n : ℕ) (x y z : Runs) → AreGood (front ++ n ∷ rest) → Comes failed d jobs met front x y → (z ≡ y) ⊎ Steps failed d jobs (met n) n y z → IsWell x → IsWell z
+  then_well met front rest n x y z good came step well = by step where
+    parts : AreGood front × AreGood (n ∷ rest)
+    parts = first_good front (n ∷ rest) good
+
+    there : IsWell y
+    there = comes_well met front x y parts.0 came well
+
+    by : (z ≡ y) ⊎ Steps failed d jobs (met n) n y z → IsWell z
+    by (inl same) = subst IsWell (sym same) there
+    by (inr steps) = steps_well (met n) n y z parts.1.0 steps there

@@ -12,7 +12,7 @@ use Rattle.lq_cli.specs.declared.line.Line.{Line}
 use Rattle.lq_commands.specs.Stamp.{numbered_stamp}
 use Rattle.lq_commands.specs.Who.{clean}
 use Rattle.lq_entries.specs.Log.{entries_in}
-use Rattle.lq_drill.specs.Faults.{Comes, FallsFirst, FreesAtMostOnce, FreesEarly, Meets}
+use Rattle.lq_drill.specs.Faults.{Comes, FallsFirst, FreesAtMostOnce, FreesEarly, IsLetGo, Meets, Steps}
 use Rattle.lq_drill.specs.Player.{MayAnswer, answer_of}
 use Rattle.lq_drill.specs.Shows.{HadRoom, entries_of}
 use Rattle.lq_drill.specs.declared.fault.DrillFault.TheVariants as fault
@@ -21,7 +21,7 @@ use Rattle.lq_kinds.specs.Dialects.{AreFor}
 use Rattle.lq_kinds.specs.declared.any_change.AnyChange.{AnyChange}
 use Rattle.lq_outside.specs.Crash.{Crashes as DiskCrashes, Settled}
 use Rattle.lq_outside.specs.Sink.{IsPart}
-use Rattle.lq_players.specs.Answers.{failure_of}
+use Rattle.lq_playing.specs.Answers.{failure_of}
 use Rattle.lq_players.specs.AtOnce.{HasShortTag}
 use Rattle.lq_players.specs.Drilling.{BeginInTurn, NoneReleases, works}
 use Rattle.lq_players.specs.Tasks.{task_for}
@@ -36,7 +36,8 @@ use Rattle.lq_tell.specs.declared.status.Status.{Status}
 use Rattle.lq_tell.specs.declared.status.Status.TheVariants as status
 use Rattle.lq_track.specs.Database.{Database}
 use Rattle.lq_turns.specs.Jobs.{Task}
-use Rattle.lq_turns.specs.Schedule.{Machine, all_moved, start}
+use Rattle.lq_turns.specs.Schedule.{Machine, all_moved, has_begun, start}
+use Rattle.lq_turns.specs.Script.{closing}
 use Rattle.lq_turns.specs.Serial.{Gave, Stands, order_of}
 use Rattle.lq_turns.specs.declared.answer.Answer.{Answer}
 use Rattle.lq_turns.specs.declared.answer.Answer.TheVariants as answer
@@ -190,11 +191,31 @@ module _ (d : Dialect) (tasks : ℕ → Task AnyChange) (steps : List ℕ) (data
     pub came : CameTo front now
     pub full : IfSome (entries_in d most_bytes before) (λ there. Meets failure_of d (works d tasks) (in_use there) most_bytes n now (fault.Full used next))
 
-  -- a command answered that the journal is full, with these numbers, as it had met it
-  pub record EndsFull (answers : List (Option Answer)) (used next : ℕ) : Type 0 where
+  -- the file holds this machine, and opens again
+  abbrev pub RestsOn : Commands → Option (List ℕ) → Type 0
+  RestsOn x after = HoldsMachine d x before after × Opens d after x.committed
+
+  -- How a command of this number rests that answers so in its step from this machine: its last calls are made, and the lock is freed, or has a mark; or its first call, or the one that frees the lock, had no room, and none was made.
+  abbrev pub RestsAt : ℕ → ℕ → ℕ → Commands → Option (List ℕ) → Type 0
+  RestsAt n used next now after =
+      ((to : Commands) × Steps failure_of d (works d tasks) (HasFaulted faulted n) n now to × RestsOn to after × (answer_of n to.answers ≡ Some (answer.Full used next)) × IsLetGo to.committed.lock)
+      ⊎ (RestsOn now after × IfSome (entries_in d most_bytes before) (λ there. (m : Meets failure_of d (works d tasks) (in_use there) most_bytes n now (fault.Full used next)) × ((has_begun Answer answer.Locked answer.Busy n now ≡ false) ⊎ (m.cause.call ≡ closing))))
+
+  -- in the end
+  pub record RestsFull (n used next : ℕ) (after : Option (List ℕ)) : Type 0 where
+    pub front : List ℕ
+    pub rest : List ℕ
+    pub is : steps ≡ front ++ n ∷ rest
+    pub now : Commands
+    pub came : CameTo front now
+    pub rests : RestsAt n used next now after
+
+  -- a command answered that the journal is full, with these numbers, as it had met it, and rests so
+  pub record EndsFull (answers : List (Option Answer)) (after : Option (List ℕ)) (used next : ℕ) : Type 0 where
     pub place : ℕ
     pub answer : slice_get answers place ≡ Some (Some (answer.Full used next))
     pub met : MetFull (suc place) used next
+    pub rests : RestsFull (suc place) used next after
 
 -- A crash at any moment leaves what this says; or, since an earlier moment, the entries of what one before might have left.
 pub record CrashesTo (d : Dialect) (Left : Option (List ℕ) → Type 0) (before now : DiskCrashes) : Type 0 where
@@ -225,8 +246,8 @@ abbrev pub DiskFailed : List (Option Answer) → Type 0
 DiskFailed answers = (place : ℕ) × (slice_get answers place ≡ Some (Some answer.Disk))
 
 -- so it did in a drill with these readings
-abbrev pub IsFull : Dialect → List ℕ → Drilling → List ℕ → List Bool → Option (List ℕ) → List (Option Answer) → ℕ → ℕ → Type 0
-IsFull d who drill readings faulted before answers used next = (tasks : ℕ → Task AnyChange) → AreTasks who drill.entrants readings tasks → OnFile d before (λ database. EndsFull d tasks drill.steps database faulted before answers used next)
+abbrev pub IsFull : Dialect → List ℕ → Drilling → List ℕ → List Bool → Option (List ℕ) → List (Option Answer) → Option (List ℕ) → ℕ → ℕ → Type 0
+IsFull d who drill readings faulted before answers after used next = (tasks : ℕ → Task AnyChange) → AreTasks who drill.entrants readings tasks → OnFile d before (λ database. EndsFull d tasks drill.steps database faulted before answers after used next)
 
 -- no step was taken, and nothing was written
 pub record IsIdle (d : Dialect) (before after : Option (List ℕ)) (c e : DiskCrashes) : Type 0 where
@@ -239,7 +260,7 @@ told_text drill answers = drill_text (drilled (commands_of drill.entrants) answe
 -- it came to its end, where no command answered a fault of the store, and tells of each; or it did not: a command answered such a fault, or there was no memory for the text, or no step was taken
 abbrev pub Drills : Dialect → List ℕ → Drilling → List ℕ → Option (List ℕ) → DiskCrashes → Result Done Status → Option (List ℕ) → DiskCrashes → Type 0
 Drills d who drill readings before c (Ok done) after e = (done.status ≡ status.Done) × ((went : Went d who drill readings before after c e) × (done.out ≡ Some (told_text drill went.answers)) × NoneFailed went.answers)
-Drills d who drill readings before c (Err (status.Full used next)) after e = (went : Went d who drill readings before after c e) × IsFull d who drill readings went.faulted before went.answers used next
+Drills d who drill readings before c (Err (status.Full used next)) after e = (went : Went d who drill readings before after c e) × IsFull d who drill readings went.faulted before went.answers after used next
 Drills d who drill readings before c (Err status.DiskFault) after e = IsIdle d before after c e ⊎ ((went : Went d who drill readings before after c e) × DiskFailed went.answers)
 Drills d who drill readings before c (Err status.OutOfMemory) after e = IsIdle d before after c e ⊎ Went d who drill readings before after c e
 Drills d who drill readings before c (Err s) after e = IsIdle d before after c e
@@ -313,7 +334,7 @@ pub record AsksDrill (words : List (List ℕ)) (files : Files) : Type 0 where
 abbrev pub DrillEnds : Dialect → List ℕ → Drilling → List ℕ → Option (List ℕ) → DiskCrashes → Status → Option (List ℕ) → DiskCrashes → Option (List ℕ) → Option (List ℕ) → Type 0
 DrillEnds d who drill readings before c status.Done after e out written = (went : Went d who drill readings before after c e) × (written ≡ option_map (λ out. out ++ told_text drill went.answers) out) × NoneFailed went.answers
 DrillEnds d who drill readings before c status.WriteFault after e out written = (went : Went d who drill readings before after c e) × IsPart (told_text drill went.answers) out written × NoneFailed went.answers
-DrillEnds d who drill readings before c (status.Full used next) after e out written = (went : Went d who drill readings before after c e) × IsFull d who drill readings went.faulted before went.answers used next
+DrillEnds d who drill readings before c (status.Full used next) after e out written = (went : Went d who drill readings before after c e) × IsFull d who drill readings went.faulted before went.answers after used next
 DrillEnds d who drill readings before c status.DiskFault after e out written = IsIdle d before after c e ⊎ ((went : Went d who drill readings before after c e) × DiskFailed went.answers)
 DrillEnds d who drill readings before c status.OutOfMemory after e out written = IsIdle d before after c e ⊎ Went d who drill readings before after c e
 DrillEnds d who drill readings before c (status.Damaged at) after e out written = IsIdle d before after c e

@@ -9,7 +9,7 @@ use Rattle.lq_drill.specs.Player.{HasMet}
 use Rattle.lq_drill.specs.declared.fault.DrillFault.{DrillFault}
 use Rattle.lq_drill.specs.declared.fault.DrillFault.TheVariants as fault
 use Rattle.lq_kinds.specs.declared.any_change.AnyChange.{AnyChange}
-use Rattle.lq_players.specs.Answers.{failure_of}
+use Rattle.lq_playing.specs.Answers.{failure_of}
 use Rattle.lq_players.specs.AnyCommand.{Starts, command_stands}
 use Rattle.lq_players.specs.Drilling.{BeginInTurn, HaveTasks, NoneReleases, works}
 use Rattle.lq_players.specs.Tasks.{task_for}
@@ -102,7 +102,7 @@ pub record Plays (players : List AnyCommand) (commands : List Command) (steps : 
   pub until : (tasks : ℕ → Task AnyChange) (database : Database) → StandsFor x.dialect x.committed database → HaveTasks x.dialect tasks players → IsDrilledUntil command_stands (works x.dialect tasks) x database failure_of steps last y
   pub crash : (tasks : ℕ → Task AnyChange) (database : Database) → StandsFor x.dialect x.committed database → HaveTasks x.dialect tasks players → CrashesLeave x.entries (LeftInDrill command_stands (works x.dialect tasks) x database failure_of steps last) c e
   pub left : (tasks : ℕ → Task AnyChange) (database : Database) → StandsFor x.dialect x.committed database → HaveTasks x.dialect tasks players → LeftAtEnd command_stands (works x.dialect tasks) x database failure_of steps last y
-  pub cause : (tasks : ℕ → Task AnyChange) (database : Database) → StandsFor x.dialect x.committed database → HaveTasks x.dialect tasks players → PlayIsFull result (FailsBy command_stands (works x.dialect tasks) x database failure_of steps last)
+  pub cause : (tasks : ℕ → Task AnyChange) (database : Database) → StandsFor x.dialect x.committed database → HaveTasks x.dialect tasks players → PlayIsFull result (FailsBy command_stands (works x.dialect tasks) x database failure_of steps last y)
   pub serial : (tasks : ℕ → Task AnyChange) (database : Database) → StandsFor x.dialect x.committed database → HaveTasks x.dialect tasks players → Each command_stands IsFaultless last → NoneReleases tasks steps
       → IsSerialDrill command_stands (works x.dialect tasks) x database steps last y
   pub in_turn : (tasks : ℕ → Task AnyChange) (database : Database) → StandsFor x.dialect x.committed database → HaveTasks x.dialect tasks players → Each command_stands IsFaultless last → BeginInTurn x.dialect tasks database steps

@@ -1,10 +1,11 @@
 ghost use Rattle.std.specs.Int.{IsInRange};
 ghost use Rattle.std.specs.List.{All};
 ghost use Rattle.std.specs.Option.{option_map};
-ghost use Rattle.std.specs.Prelude.{◌≡◌, ◌≤◌, Err, IfErr, IfOk, IfSome, IsTrue, None, Ok, Some, length, true};
+ghost use Rattle.std.specs.Prelude.{◌≡◌, ◌≤◌, Err, IfErr, IfOk, IfSome, IsTrue, None, Ok, Some, false, length, true};
 ghost use Rattle.lq_commands.specs.Who.{clean};
 ghost use Rattle.lq_commands.specs.Works.{IsReady};
 ghost use Rattle.lq_db.specs.Db.{IsDb, IsNew, disk_in, engine_in, state};
+ghost use Rattle.lq_drill.specs.Faults.{is_barred};
 ghost use Rattle.lq_entries.specs.Load.{catalogue_of};
 ghost use Rattle.lq_lines.specs.Commands.{is_run};
 ghost use Rattle.lq_lines.specs.File.{lines_of};
@@ -380,6 +381,7 @@ fn cast_named<C: Clock>(
 ) -> Result<Cast, NoMemory>
     requires each { All (IsEntrant dialect) entrants }
     requires few { length entrants ≤ 64 }
+    requires name { is_barred name.now ≡ false }
     ensures begun { Begun dialect name.now entrants (C.to_come clock.old) (C.to_come clock.new)
         result }
 {
@@ -407,6 +409,7 @@ fn joined(
 ) -> Result<Cast, NoMemory>
     requires is { IsEntrant dialect entrant }
     requires few { length cast.players.items ≤ 63 }
+    requires name { is_barred name.now ≡ false }
     ensures { IfOk result (Joins dialect name.now entrant reading cast) }
 {
     let Cast { players, commands } = cast;

@@ -1,5 +1,6 @@
 ghost use Rattle.std.specs.Prelude.{◌≡◌, ◌≤◌, IsTrue, None, Ok};
 
+use crate::alone::told_alone;
 use crate::players::players;
 use crate::shown::{show_fault, show_players};
 use crate::steps::are_numbers;
@@ -66,6 +67,29 @@ fn told<S: Store, P: SqlText>(
     out
 }
 
+// The steps of a schedule; `0` stands for all steps of the only command, by itself.
+fn told_by<S: Store, P: SqlText>(
+    rt: &impl Abort,
+    alloc: Global,
+    store: &mut S,
+    sql: &P,
+    dialect: Dialect,
+    lines: &str,
+    steps: &[u32],
+) -> String
+    requires valid { S.valid store.old }
+    requires live { IsTrue (S.state store.old).live }
+    requires closed { (S.state store.old).begun ≡ None }
+    requires sql { P.dialect ≡ dialect }
+    requires dialect { (S.state store.old).dialect ≡ dialect }
+{
+    if matches!(steps, [0]) {
+        told_alone(rt, alloc, store, sql, dialect, lines)
+    } else {
+        told(rt, alloc, store, sql, dialect, lines, steps)
+    }
+}
+
 fn loaded<D: Disk + Drop, P: SqlText + Drop + Copy, E: Executor + Drop>(
     rt: &impl Abort,
     alloc: Global,
@@ -84,7 +108,7 @@ fn loaded<D: Disk + Drop, P: SqlText + Drop + Copy, E: Executor + Drop>(
     );
     match loaded {
         Ok(mut db) => {
-            let told = told(rt, alloc, &mut db, &sql, dialect, lines, steps);
+            let told = told_by(rt, alloc, &mut db, &sql, dialect, lines, steps);
             (db.into_disk(), told)
         }
         Err(refused) => {

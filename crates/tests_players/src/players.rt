@@ -1,6 +1,8 @@
 ghost use Rattle.std.specs.List.{All};
-ghost use Rattle.std.specs.Prelude.{◌≡◌, ◌≤◌};
+ghost use Rattle.std.specs.Prelude.{◌≡◌, ◌≤◌, false};
+ghost use Rattle.lq_drill.specs.Faults.{is_barred};
 ghost use Rattle.lq_players.specs.AnyCommand.{IsUnstarted};
+ghost use Rattle.lq_playing.specs.Under.{IsPlain};
 
 use crate::given::{ALL, CLASH, FIRST, changelog, options};
 use crate::lines::command;
@@ -11,19 +13,37 @@ use lq_turns::Stamp;
 use std::alloc::Global;
 use std::process::Abort;
 
-// Who runs the command of a place, and when.
-fn stamp(rt: &impl Abort, alloc: Global, place: usize) -> Stamp
-    ensures { result.reading ≤ 253402300799999 }
+// Who runs the command of a place.
+fn name(place: usize) -> &'static str
+    ensures { is_barred result.now ≡ false }
 {
-    let (who, reading) = match place {
-        0 => ("ann", 1000),
-        1 => ("bob", 2000),
-        2 => ("cat", 3000),
-        _ => ("dan", 4000),
-    };
+    match place {
+        0 => "ann",
+        1 => "bob",
+        2 => "cat",
+        _ => "dan",
+    }
+}
+
+// When the command of a place begins.
+fn moment(place: usize) -> u64
+    ensures { result ≤ 253402300799999 }
+{
+    match place {
+        0 => 1000,
+        1 => 2000,
+        2 => 3000,
+        _ => 4000,
+    }
+}
+
+fn stamp(rt: &impl Abort, alloc: Global, place: usize) -> Stamp
+    ensures moment { result.reading ≤ 253402300799999 }
+    ensures plain { IsPlain result }
+{
     Stamp {
-        who: Text::new(alloc, who).expect(rt, "memory"),
-        reading,
+        who: Text::new(alloc, name(place)).expect(rt, "memory"),
+        reading: moment(place),
     }
 }
 
@@ -35,7 +55,8 @@ fn json_of(line: &str) -> &'static str {
     }
 }
 
-fn player<P: SqlText>(
+/// The command of a line, which has this place.
+pub fn player<P: SqlText>(
     rt: &impl Abort,
     alloc: Global,
     dialect: Dialect,

@@ -34,7 +34,8 @@ fn show_answer(out: &mut String, answer: &Answer) -> Result<(), AllocError> {
     }
 }
 
-fn show_player(out: &mut String, player: &AnyCommand) -> Result<(), AllocError> {
+/// What one answered.
+pub fn show_player(out: &mut String, player: &AnyCommand) -> Result<(), AllocError> {
     match player.answer() {
         Some(answer) => show_answer(out, answer),
         None => out.push_str("unfinished"),

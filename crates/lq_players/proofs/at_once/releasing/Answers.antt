@@ -1,6 +1,6 @@
 use Rattle.std.proofs.Common.{ap, sym, ◌∙◌}
 use Rattle.lq_players.specs.AtOnce.{releasing}
-use Rattle.lq_players.specs.declared.checks.Verdict.TheVariants.{OneCall}
+use Rattle.lq_playing.specs.declared.checks.Verdict.TheVariants.{OneCall}
 use Rattle.lq_players.proofs.at_once.releasing.Goals as goal
 
 pub returns-then-not-held : goal.returns-then-not-held

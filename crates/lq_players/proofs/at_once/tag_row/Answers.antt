@@ -1,7 +1,7 @@
 use Rattle.std.proofs.Common.{ap, ◌∙◌}
 use Rattle.lq_players.specs.AtOnce.{call_of}
 use Rattle.lq_model.specs.declared.caller.Room.TheVariants.{Ordinary}
-use Rattle.lq_players.specs.declared.checks.Verdict.TheVariants.{OneCall}
+use Rattle.lq_playing.specs.declared.checks.Verdict.TheVariants.{OneCall}
 use Rattle.lq_track.specs.Log.{identity_of}
 use Rattle.lq_turns.specs.declared.deed.Deed.TheVariants.{Rows}
 use Rattle.lq_turns.specs.declared.deed.OnRows.TheVariants.{Tagged}

@@ -3,7 +3,7 @@ use Rattle.std.specs.Prelude.{Option}
 use Rattle.lq_back.specs.declared.row_turns.RowTurns.{RowTurns}
 use Rattle.lq_players.specs.RollingBack.{ComesTo}
 use Rattle.lq_hand.specs.declared.hand.Hand.{Hand}
-use Rattle.lq_players.specs.declared.checks.Verdict.TheVariants as verdict
+use Rattle.lq_playing.specs.declared.checks.Verdict.TheVariants as verdict
 use Rattle.lq_turns.specs.declared.answer.Answer.TheVariants.{Done}
 use Rattle.lq_players.proofs.rolling_back.first_verdict.Goals as goal
 

@@ -1,12 +1,20 @@
-use Rattle.std.proofs.Common.{ap, arith, subst, ◌∙◌}
+use Rattle.std.proofs.Common.{ap, arith, subst, sym, ◌∙◌}
 use Rattle.std.specs.Prelude.{[], length, suc, ◌+◌, ◌++◌, ◌∷◌, ◌≡◌}
 use Rattle.lq_commands.specs.Stamp.{numbered_stamp}
 use Rattle.lq_players.specs.AnyCommand.{Starts}
 use Rattle.lq_players.specs.Tasks.{task_for}
+use Rattle.lq_playing.specs.Under.{IsPlain}
+use Rattle.lq_top.proofs.DrillPlayers.{numbered_bare}
+use Rattle.lq_turns.specs.declared.stamp.Stamp.{Stamp}
 use Rattle.lq_top.proofs.drilling.joined.Goals as goal
 
 pub new-player-requires-clause-short : goal.new-player-requires-clause-short
 new-player-requires-clause-short c = c.requires.is.short
+
+pub new-player-requires-clause-plain : goal.new-player-requires-clause-plain
+new-player-requires-clause-plain c =
+    subst (λ (stamp : Stamp). IsPlain stamp) (sym c.in_ok-stamp.ensures.stamp)
+    (numbered_bare c.args.name.now (c.len.result + 1) (omega (arith, c.len.ensures, c.requires.few)) c.requires.name)
 
 pub returns : goal.returns
 returns c =

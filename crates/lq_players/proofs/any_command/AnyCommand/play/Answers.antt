@@ -1,8 +1,9 @@
 use Rattle.std.proofs.Common.{ap, subst, sym, ◌∙◌}
 use Rattle.std.specs.Prelude.{None, ◌≡◌}
+use Rattle.lq_drill.specs.Player.{LeavesAll}
 use Rattle.lq_players.specs.AnyCommand.{command_stands}
 use Rattle.lq_players.specs.declared.any_command.AnyCommand.TheVariants as any
-use Rattle.lq_players.specs.Playing.{Took}
+use Rattle.lq_playing.specs.Playing.{Took}
 use Rattle.lq_players.proofs.any_command.AnyCommand.play.Goals as goal
 
 pub step-requires-clause-sql : goal.step-requires-clause-sql
@@ -24,6 +25,7 @@ returns-in-AtOnce-clause-took g c =
       dialect = c.step.ensures.dialect;
       ready = c.step.ensures.ready;
       opens = c.step.ensures.opens;
+      shut = c.step.ensures.shut;
       lets_be = c.step.ensures.lets_be;
       owns = c.step.ensures.owns;
       faulted = c.step.ensures.faulted;
@@ -52,6 +54,7 @@ returns-in-Update-clause-took g c =
       dialect = c.step-in-Update.ensures.dialect;
       ready = c.step-in-Update.ensures.ready;
       opens = c.step-in-Update.ensures.opens;
+      shut = c.step-in-Update.ensures.shut;
       lets_be = c.step-in-Update.ensures.lets_be;
       owns = c.step-in-Update.ensures.owns;
       faulted = c.step-in-Update.ensures.faulted;
@@ -80,6 +83,7 @@ returns-in-Rollback-clause-took g c =
       dialect = c.step-in-Rollback.ensures.dialect;
       ready = c.step-in-Rollback.ensures.ready;
       opens = c.step-in-Rollback.ensures.opens;
+      shut = c.step-in-Rollback.ensures.shut;
       lets_be = c.step-in-Rollback.ensures.lets_be;
       owns = c.step-in-Rollback.ensures.owns;
       faulted = c.step-in-Rollback.ensures.faulted;
@@ -108,6 +112,7 @@ returns-in-Sync-clause-took g c =
       dialect = c.step-in-Sync.ensures.dialect;
       ready = c.step-in-Sync.ensures.ready;
       opens = c.step-in-Sync.ensures.opens;
+      shut = c.step-in-Sync.ensures.shut;
       lets_be = c.step-in-Sync.ensures.lets_be;
       owns = c.step-in-Sync.ensures.owns;
       faulted = c.step-in-Sync.ensures.faulted;
@@ -116,3 +121,15 @@ returns-in-Sync-clause-took g c =
       moves = c.step-in-Sync.ensures.moves;
       crash = c.step-in-Sync.ensures.crash;
     })
+
+pub returns-in-AtOnce-clause-idle : goal.returns-in-AtOnce-clause-idle
+returns-in-AtOnce-clause-idle g c = subst (λ p. LeavesAll (command_stands p) (g.S.Store.state c.args.store.now) c.args.store.now c.step.new.store) (sym c.in-AtOnce.is) c.step.ensures.idle
+
+pub returns-in-Update-clause-idle : goal.returns-in-Update-clause-idle
+returns-in-Update-clause-idle g c = subst (λ p. LeavesAll (command_stands p) (g.S.Store.state c.args.store.now) c.args.store.now c.step-in-Update.new.store) (sym c.in-Update.is) c.step-in-Update.ensures.idle
+
+pub returns-in-Rollback-clause-idle : goal.returns-in-Rollback-clause-idle
+returns-in-Rollback-clause-idle g c = subst (λ p. LeavesAll (command_stands p) (g.S.Store.state c.args.store.now) c.args.store.now c.step-in-Rollback.new.store) (sym c.in-Rollback.is) c.step-in-Rollback.ensures.idle
+
+pub returns-in-Sync-clause-idle : goal.returns-in-Sync-clause-idle
+returns-in-Sync-clause-idle g c = subst (λ p. LeavesAll (command_stands p) (g.S.Store.state c.args.store.now) c.args.store.now c.step-in-Sync.new.store) (sym c.in-Sync.is) c.step-in-Sync.ensures.idle

@@ -12,6 +12,9 @@ returns-clause-ready g c = c.play.ensures.took.ready
 pub returns-clause-opens : goal.returns-clause-opens
 returns-clause-opens g c = c.play.ensures.took.opens
 
+pub returns-clause-shut : goal.returns-clause-shut
+returns-clause-shut g c = c.play.ensures.took.shut
+
 pub returns-clause-lets_be : goal.returns-clause-lets_be
 returns-clause-lets_be g c = c.play.ensures.took.lets_be
 
@@ -32,3 +35,6 @@ returns-clause-met g c = c.play.ensures.took.met
 
 pub returns-clause-crash : goal.returns-clause-crash
 returns-clause-crash g c = c.play.ensures.took.crash
+
+pub returns-clause-idle : goal.returns-clause-idle
+returns-clause-idle g c = c.play.ensures.idle

@@ -1,7 +1,7 @@
 use Rattle.std.proofs.Common.{ap, refl, subst, sym}
 use Rattle.std.specs.Prelude.{Some}
 use Rattle.lq_players.specs.Updating.{TakesTurns}
-use Rattle.lq_players.specs.declared.checks.Verdict.TheVariants.{Turns}
+use Rattle.lq_playing.specs.declared.checks.Verdict.TheVariants.{Turns}
 use Rattle.lq_players.proofs.updating.Updating.take_turns.Goals as goal
 
 pub returns-in-Ok : goal.returns-in-Ok

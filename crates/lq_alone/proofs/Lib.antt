@@ -1,0 +1,6 @@
+mod Adding
+mod Along
+mod Course
+mod Growing
+mod Leaving
+mod Plainly

@@ -1,0 +1,4 @@
+pub mod One
+pub mod Left
+pub mod Alone
+pub mod Plain

@@ -1,0 +1,87 @@
+-- What a command by itself comes to, in words of its script.
+use Rattle.std.specs.Option.{option_map}
+use Rattle.std.specs.Prelude.{Bool, Err, List, None, Ok, Option, Result, Some, [], false, replicate, true, ℕ, ◌+◌, ◌++◌, ◌≡◌, ◌⊎◌}
+use Rattle.lq_base.specs.declared.dialect.Dialect.{Dialect}
+use Rattle.lq_base.specs.declared.tracking.Lock.{Lock}
+use Rattle.lq_alone.specs.Alone.{CameTo}
+use Rattle.lq_drill.specs.Faults.{IsLetGo, Steps, answer_of}
+use Rattle.lq_drill.specs.Player.{Brings, Rests, refusal}
+use Rattle.lq_drill.specs.Shows.{HadRoom, Shows, entries_of}
+use Rattle.lq_drill.specs.declared.fault.DrillFault.{DrillFault}
+use Rattle.lq_drill.specs.declared.fault.DrillFault.TheVariants as fault
+use Rattle.lq_alone.specs.Left.{IsFullBy}
+use Rattle.lq_alone.specs.One.{StandsAt}
+use Rattle.lq_model.specs.declared.caller.Room.TheVariants.{Release}
+use Rattle.lq_store.specs.Journal.{Entry, end_of, is_full, size_of_all}
+use Rattle.lq_store.specs.State.{State}
+use Rattle.lq_track.specs.Database.{Database}
+use Rattle.lq_turns.specs.Held.{StandsFor}
+use Rattle.lq_turns.specs.Schedule.{Job, Machine, all_moved, appended, start}
+use Rattle.lq_turns.specs.Script.{closing}
+use Rattle.lq_turns.specs.Session.{Session, all_called, left_by, session_on}
+use Rattle.lq_turns.specs.Stops.{IsLeft, Journal}
+use Rattle.lq_turns.specs.declared.call.Call.{Call}
+
+-- The store has the database of these calls, and behind the entries that were there those of the calls, for each of which there was room. No transaction is open.
+pub record Leaves (calls : List Call) (database : Database) (x y : State) : Type 0 where
+  pub dialect : y.dialect ≡ x.dialect
+  pub limit : y.limit ≡ x.limit
+  pub live : y.live ≡ true
+  pub shut : y.begun ≡ None
+  pub stands_for : StandsFor x.dialect y.committed (left_by x.dialect calls database)
+  pub entries : y.entries ≡ option_map (λ entries. entries ++ entries_of x.dialect (all_called x.dialect calls (session_on database)).entries) x.entries
+  pub used : y.used ≡ x.used + size_of_all (entries_of x.dialect (all_called x.dialect calls (session_on database)).entries)
+  pub room : HadRoom x.dialect x.limit x.used (all_called x.dialect calls (session_on database)).entries
+
+-- behind the entries that were there stand those that a stop of these calls may leave
+pub record LeavesFront (calls : List Call) (database : Database) (x y : State) : Type 0 where
+  pub dialect : y.dialect ≡ x.dialect
+  pub limit : y.limit ≡ x.limit
+  pub written : Journal
+  pub stops : IsLeft x.dialect calls database [] written
+  pub entries : y.entries ≡ option_map (λ entries. entries ++ entries_of x.dialect written) x.entries
+
+module _ {Answer : Type 0} {locked : Lock → Answer} {busy : ℕ → Answer} (job : Job Answer locked busy) (x : State) (database : Database) where
+  -- The refusal table: it is refused by the first of its checks that fails, and has made no call; or it has made all calls of its script, and answers what that comes to.
+  abbrev pub EndsAs : Answer → State → Type 0
+  EndsAs a y = ((refusal job database ≡ Some a) × Leaves [] database x y)
+      ⊎ ((refusal job database ≡ None) × (a ≡ job.answer database) × Leaves (job.script database) database x y)
+
+-- How the lock is left where the journal's room ended a command: it is free, or has its mark; or the call that frees it had no room; or its first call had none, and nothing was written.
+abbrev pub LeavesLock : State → Database → State → ℕ → ℕ → Type 0
+LeavesLock x database y used next = ((now : Database) × StandsFor x.dialect y.committed now × IsLetGo now.lock)
+    ⊎ (((s : Session) × (next ≡ size_of_all (entries_of x.dialect (appended x.dialect closing s))) × (is_full (end_of Release x.limit) used (entries_of x.dialect (appended x.dialect closing s)) ≡ true)) ⊎ Leaves [] database x y)
+
+-- the entries that were there, and what a stop of these calls may leave
+pub record IsLeftBehind (d : Dialect) (calls : List Call) (database : Database) (there left : List Entry) : Type 0 where
+  pub written : Journal
+  pub stops : IsLeft d calls database [] written
+  pub is : left ≡ there ++ entries_of d written
+
+-- how a command ends by itself, on the database that its store stands for
+abbrev pub EndsAlone : {Answer : Type 0} {locked : Lock → Answer} {busy : ℕ → Answer} → Job Answer locked busy → State → Database → Option Answer → Result (Unit {0}) DrillFault → State → Type 0
+EndsAlone {Answer} job x database said (Ok u) y = (a : Answer) × (said ≡ Some a) × EndsAs job x database a y
+EndsAlone job x database said (Err fault.Disk) y = LeavesFront (job.script database) database x y
+EndsAlone job x database said (Err (fault.Full used next)) y = LeavesFront (job.script database) database x y × IsFullBy x.dialect (job.script database) database x.used x.limit used next
+EndsAlone job x database said (Err fault.OutOfMemory) y = LeavesFront (job.script database) database x y
+
+-- An answer that is not one to a fault is by the table.
+abbrev pub OneEnds : Type 0 → Type 0
+OneEnds Answer = (locked : Lock → Answer) (busy : ℕ → Answer) (failed : DrillFault → Answer) (job : Job Answer locked busy) (origin y : State) (database : Database) (met : Bool) (x : Machine Answer locked busy) (a : Answer)
+    → StandsAt failed origin.dialect job database (met ≡ true) x → answer_of 1 x.answers ≡ Some a → ((why : DrillFault) → answer_of 1 x.answers ≡ Some (failed why) → ⊥) → Shows origin y x → EndsAs job origin database a y
+
+-- What a step leaves that ended by a fault is what a stop of the script may leave.
+abbrev pub OneStops : Type 0 → Type 0
+OneStops Answer = (locked : Lock → Answer) (busy : ℕ → Answer) (failed : DrillFault → Answer) (job : Job Answer locked busy) (origin w y : State) (database : Database) (met : Bool) (x z : Machine Answer locked busy)
+    → StandsAt failed origin.dialect job database (met ≡ true) x → Shows origin w x → Steps failed origin.dialect (λ n. job) (met ≡ true) 1 x z → Brings origin.dialect x z w y → y.dialect ≡ w.dialect → y.limit ≡ w.limit
+    → LeavesFront (job.script database) database origin y
+
+-- And where the journal's room ended it the lock is free, or has its mark, or its first call or the one that frees the lock had no room.
+abbrev pub OneRests : Type 0 → Type 0
+OneRests Answer = (locked : Lock → Answer) (busy : ℕ → Answer) (failed : DrillFault → Answer) (job : Job Answer locked busy) (origin w y : State) (database : Database) (met : Bool) (x : Machine Answer locked busy) (used next : ℕ)
+    → StandsAt failed origin.dialect job database (met ≡ true) x → answer_of 1 x.answers ≡ None → Shows origin w x → Rests failed (λ n. job) 1 (met ≡ true) origin w y x (fault.Full used next) → LeavesLock origin database y used next
+
+-- Without a fault its steps are those of the schedule of this one runner.
+abbrev pub OneSteps : Type 0 → Type 0
+OneSteps Answer = (locked : Lock → Answer) (busy : ℕ → Answer) (failed : DrillFault → Answer) (job : Job Answer locked busy) (origin : State) (database : Database) (steps : ℕ) (x : Machine Answer locked busy)
+    → CameTo failed job origin database (false ≡ true) steps x → x ≡ all_moved Answer locked busy origin.dialect (λ n. job) (replicate steps 1) (start Answer locked busy database)

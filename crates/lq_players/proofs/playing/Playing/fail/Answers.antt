@@ -1,7 +1,0 @@
-use Rattle.std.proofs.Common.{subst}
-use Rattle.std.specs.Prelude.{Err}
-use Rattle.lq_players.specs.Answers.{Answers}
-use Rattle.lq_players.proofs.playing.Playing.fail.Goals as goal
-
-pub returns-clause-answers : goal.returns-clause-answers
-returns-clause-answers g c = subst (λ w. Answers (Err w) c.args.self.now.faulted c.finish.new.self.answer c.finish.new.self.faulted c.finish.result) c.fault_of.ensures c.finish.ensures.answers

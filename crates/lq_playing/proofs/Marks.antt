@@ -1,0 +1,52 @@
+-- Whether the lock of a command has a mark, and what is left to the command after a fault.
+use Rattle.std.proofs.Common.{ap, inl, inr, subst, sym, ◌∙◌}
+use Rattle.std.specs.List.{list_any}
+use Rattle.std.specs.Prelude.{Bool, List, None, Option, Some, [], false, if◌then◌else◌, refl, true, ℕ, ◌==◌, ◌++◌, ◌||◌, ◌∷◌, ◌≡◌}
+use Rattle.lq_base.specs.declared.tracking.Lock.{Lock}
+use Rattle.lq_drill.specs.Faults.{frees, has_bar, last_calls}
+use Rattle.lq_model.specs.declared.fault.StoreFault.{StoreFault}
+use Rattle.lq_playing.specs.Under.{IsPlain, ToCome}
+use Rattle.lq_run.specs.Holds.{IsBare, IsHeld, IsMarked}
+use Rattle.lq_turns.specs.Script.{closing}
+use Rattle.lq_turns.specs.Session.{Session}
+use Rattle.lq_turns.specs.declared.call.Call.{Call}
+use Rattle.lq_turns.specs.declared.call.Call.TheVariants.{Abort}
+use Rattle.lq_turns.specs.declared.stamp.Stamp.{Stamp}
+
+not_true : false ≡ true → ⊥
+not_true h = Prim.cc
+
+head_is : {a b : Call} {xs ys : List Call} → a ∷ xs ≡ b ∷ ys → a ≡ b
+head_is h = Prim.cc
+
+or_true : (b : Bool) → (b || true) ≡ true
+or_true true = refl
+or_true false = refl
+
+bar_in : (front back : List ℕ) → list_any (λ b. b == 124) (front ++ 124 ∷ back) ≡ true
+bar_in [] back = refl
+bar_in (b ∷ front) back = ap (λ r. (b == 124) || r) (bar_in front back) ∙ or_true (b == 124)
+
+pub bare_none : (stamp : Stamp) (lock : Lock) → IsPlain stamp → IsBare stamp lock → has_bar lock ≡ false
+bare_none stamp lock plain is = ap has_bar is ∙ plain
+
+pub marked_some : (stamp : Stamp) (lock : Lock) → IsMarked stamp lock → has_bar lock ≡ true
+marked_some stamp lock is = ap has_bar is.1 ∙ bar_in stamp.who is.0
+
+pub not_both : (stamp : Stamp) (lock : Lock) → IsPlain stamp → IsBare stamp lock → IsMarked stamp lock → ⊥
+not_both stamp lock plain bare marked = not_true (sym (bare_none stamp lock plain bare) ∙ marked_some stamp lock marked)
+
+-- the calls after a fault
+pub last_open : (s : Session) (b : Bool) → s.is_open ≡ true → has_bar s.committed.lock ≡ b → last_calls s ≡ Abort ∷ frees b
+last_open s b opened is = ap (λ o. if o then Abort ∷ frees (has_bar s.committed.lock) else frees (has_bar s.committed.lock)) opened ∙ ap (λ k. Abort ∷ frees k) is
+
+pub last_shut : (s : Session) (b : Bool) → s.is_open ≡ false → has_bar s.committed.lock ≡ b → last_calls s ≡ frees b
+last_shut s b shut is = ap (λ o. if o then Abort ∷ frees (has_bar s.committed.lock) else frees (has_bar s.committed.lock)) shut ∙ ap frees is
+
+-- the next of the command's calls is the holder's
+pub next_left : (stamp : Stamp) (f : Option StoreFault) (s : Session) (script left : List Call) → IsPlain stamp → ToCome stamp f s script left → (call : Call) (calls : List Call) → script ≡ call ∷ calls → (more : List Call) × (left ≡ call ∷ more)
+next_left stamp None s script left plain to call calls is = (calls, to ∙ is)
+next_left stamp (Some why) s script left plain to call calls is = elim to.1 [
+  | inl aborts ↦ (frees (has_bar s.committed.lock), to.0 ∙ last_open s (has_bar s.committed.lock) aborts.0 refl ∙ ap (λ c. c ∷ frees (has_bar s.committed.lock)) (head_is (sym aborts.1 ∙ is)))
+  | inr closes ↦ ([], to.0 ∙ last_shut s false closes.0 (bare_none stamp s.committed.lock plain closes.2) ∙ ap (λ c. c ∷ []) (head_is (sym closes.1 ∙ is)))
+]

@@ -1,0 +1,7 @@
+pub mod Answers
+pub mod Checked
+pub mod Judged
+pub mod Hindered
+pub mod Under
+pub mod Playing
+pub mod Resting
