@@ -6,7 +6,7 @@ use Rattle.lq_base.specs.declared.command.Command.TheVariants as command
 use Rattle.lq_base.specs.declared.command.Target.{Target}
 use Rattle.lq_base.specs.declared.command.Target.TheVariants as target
 use Rattle.lq_cli.specs.declared.line.Job.{Job}
-use Rattle.lq_cli.specs.declared.line.Job.TheVariants.{Run, UpdateSql, UpdateCount, UpdateTo, RollbackSql, History, Generate, Drill, Soak, ClearSums}
+use Rattle.lq_cli.specs.declared.line.Job.TheVariants.{Run, UpdateSql, UpdateCount, UpdateTo, UpdateTestingRollback, RollbackSql, History, Generate, Drill, Soak, ClearSums}
 use Rattle.lq_cli.specs.declared.line.Line.{Line}
 use Rattle.lq_cli.specs.declared.verb.Verb.{Verb}
 use Rattle.lq_cli.specs.declared.verb.Verb.TheVariants as verb
@@ -69,6 +69,7 @@ job_of verb.Update given = Some (Run command.Update)
 job_of verb.UpdateSql given = Some UpdateSql
 job_of verb.UpdateCount given = counting given
 job_of verb.UpdateToTag given = going given
+job_of verb.UpdateTestingRollback given = Some UpdateTestingRollback
 job_of verb.ChangelogSync given = Some (Run command.Sync)
 job_of verb.Rollback given = rollback (value given tag >>= to_tag)
 job_of verb.RollbackCount given = rollback (value given count >>= by_count)

@@ -3,7 +3,7 @@ use Rattle.std.specs.Prelude.{ℕ, Bool, true, false, List, [], ◌∷◌, Optio
 use Rattle.std.specs.Map.{lookup}
 use Rattle.std.specs.Str.{bytes_eq}
 use Rattle.lq_cli.specs.declared.verb.Verb.{Verb}
-use Rattle.lq_cli.specs.declared.verb.Verb.TheVariants.{Validate, Status, Update, UpdateSql, UpdateCount, UpdateToTag, ChangelogSync, Rollback, RollbackCount, RollbackToDate, RollbackSql, Tag, ReleaseLocks, History, GenerateChangelog, Drill, Soak, ClearChecksums}
+use Rattle.lq_cli.specs.declared.verb.Verb.TheVariants.{Validate, Status, Update, UpdateSql, UpdateCount, UpdateToTag, UpdateTestingRollback, ChangelogSync, Rollback, RollbackCount, RollbackToDate, RollbackSql, Tag, ReleaseLocks, History, GenerateChangelog, Drill, Soak, ClearChecksums}
 
 -- the names of the options
 abbrev pub url : List ℕ
@@ -59,6 +59,7 @@ form_of Update = filtered (url ∷ changelog_file ∷ [])
 form_of UpdateSql = filtered (url ∷ changelog_file ∷ [])
 form_of UpdateCount = filtered (url ∷ changelog_file ∷ count ∷ [])
 form_of UpdateToTag = filtered (url ∷ changelog_file ∷ tag ∷ [])
+form_of UpdateTestingRollback = filtered (url ∷ changelog_file ∷ [])
 form_of ChangelogSync = filtered (url ∷ changelog_file ∷ [])
 form_of Rollback = takes (url ∷ changelog_file ∷ tag ∷ []) [] true
 form_of RollbackCount = takes (url ∷ changelog_file ∷ count ∷ []) [] true
@@ -77,7 +78,8 @@ abbrev pub verbs : List (List ℕ × Verb)
 verbs =
     (codes "validate", Validate) ∷ (codes "status", Status) ∷ (codes "update", Update)
     ∷ (codes "update-sql", UpdateSql) ∷ (codes "update-count", UpdateCount)
-    ∷ (codes "update-to-tag", UpdateToTag) ∷ (codes "changelog-sync", ChangelogSync)
+    ∷ (codes "update-to-tag", UpdateToTag) ∷ (codes "update-testing-rollback", UpdateTestingRollback)
+    ∷ (codes "changelog-sync", ChangelogSync)
     ∷ (codes "rollback", Rollback) ∷ (codes "rollback-count", RollbackCount)
     ∷ (codes "rollback-to-date", RollbackToDate) ∷ (codes "rollback-sql", RollbackSql)
     ∷ (codes "clear-checksums", ClearChecksums)

@@ -22,9 +22,11 @@ impl Form {
     {
         match verb {
             Verb::Validate => Form::new(&["url", "changelog-file"], &[], true),
-            Verb::Status | Verb::Update | Verb::UpdateSql | Verb::ChangelogSync => {
-                Form::filtered_to(&["url", "changelog-file"])
-            }
+            Verb::Status
+            | Verb::Update
+            | Verb::UpdateSql
+            | Verb::UpdateTestingRollback
+            | Verb::ChangelogSync => Form::filtered_to(&["url", "changelog-file"]),
             Verb::UpdateCount => Form::filtered_to(&["url", "changelog-file", "count"]),
             Verb::UpdateToTag => Form::filtered_to(&["url", "changelog-file", "tag"]),
             Verb::Rollback => Form::new(&["url", "changelog-file", "tag"], &[], true),

@@ -26,6 +26,7 @@ pub fn job_of(alloc: Global, verb: Verb, given: &Chosen) -> Result<Job, WordsFau
         Verb::UpdateSql => Ok(Job::UpdateSql),
         Verb::UpdateCount => counting(given),
         Verb::UpdateToTag => going(alloc, given),
+        Verb::UpdateTestingRollback => Ok(Job::UpdateTestingRollback),
         Verb::ChangelogSync => Ok(Job::Run(Command::Sync)),
         Verb::Rollback => rollback_to_tag(alloc, given),
         Verb::RollbackCount => rollback_by_count(given),

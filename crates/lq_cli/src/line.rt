@@ -14,6 +14,8 @@ pub enum Job {
     UpdateCount(u64),
     /// To update by the changesets up to and with the first that sets this tag.
     UpdateTo(Text),
+    /// To update, to take back what ran, and to update again.
+    UpdateTestingRollback,
     /// To print what a rollback would execute.
     RollbackSql(Target),
     /// To take the checksum of each row.
@@ -36,6 +38,7 @@ impl Drop for Job {
             Job::UpdateSql => (),
             Job::UpdateCount(_) => (),
             Job::UpdateTo(it) => drop(it),
+            Job::UpdateTestingRollback => (),
             Job::RollbackSql(it) => drop(it),
             Job::ClearSums => (),
             Job::History => (),

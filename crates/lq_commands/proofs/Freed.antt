@@ -10,12 +10,13 @@ use Rattle.lq_model.specs.declared.fault.StoreFault.{StoreFault}
 use Rattle.lq_model.specs.declared.fault.StoreFault.TheVariants.{Disk}
 use Rattle.lq_run.specs.Commands.{HasDatabase, Leaves}
 use Rattle.lq_seen.specs.Printing.{Account}
+use Rattle.lq_stand.specs.Stays.{IsClean}
 use Rattle.lq_store.specs.Calls.{CountsDisk}
 use Rattle.lq_store.specs.State.{State}
 use Rattle.lq_tell.specs.declared.done.Done.{Done}
 use Rattle.lq_tell.specs.declared.status.Status.{Status}
 use Rattle.lq_tell.specs.declared.status.Status.TheVariants as status
-use Rattle.lq_track.specs.Database.{Database, IsDatabase}
+use Rattle.lq_track.specs.Database.{Database}
 use Rattle.lq_turns.proofs.AtOnce.{release_leaves}
 use Rattle.lq_turns.specs.Contents.{contents_of}
 use Rattle.lq_turns.specs.Laws.{at_rest}
@@ -62,7 +63,7 @@ pub freed_ready : (d : Dialect) (x y : State) → ((database : Database) → Has
 freed_ready d x y leaves at = record {
   database = freed d at.database;
   has = (leaves at.database at.has).database_is;
-  is = is_freed d at.database (IsDatabase d) (record { users = at.is.users; differ = at.is.differ; ordered = at.is.ordered }) (λ free. at.is);
+  clean = is_freed d at.database (IsClean d) at.clean (λ free. at.clean);
   small = is_freed d at.database (λ (e : Database). greatest e.rows ≤ 2147483647) at.small (λ free. at.small);
 }
 

@@ -1,13 +1,13 @@
 pub mod BareName
 mod Checked
 mod Cleared
-mod Commanded
-mod Endings
+pub mod Commanded
+pub mod Endings
 mod Freed
 pub mod Generates
 mod InOneTurn
 mod Inserted
-mod Jobbed
+pub mod Jobbed
 mod LoadedTexts
 mod MayWrite
 pub mod PlainRefusals
@@ -15,9 +15,10 @@ pub mod Planned
 mod Printed
 mod RolledBack
 mod Seen
+pub mod Sequenced
 mod Starts
 mod Stopped
-mod Telling
+pub mod Telling
 mod Updated
 pub mod ViewsRead
 pub mod Warned

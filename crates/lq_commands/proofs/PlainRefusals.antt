@@ -20,6 +20,7 @@ use Rattle.lq_turns.specs.declared.fault.Fault.{Fault}
 use Rattle.lq_seen.specs.View.{any_meaning}
 use Rattle.lq_commands.specs.Kinds.{is_diskless}
 use Rattle.lq_commands.specs.Refusals.{held, if_halts, if_not, if_some, invalid, no_way_back, own_halt, print_rollback, print_update, refusal, unreachable_by, unready, untagged}
+use Rattle.lq_commands.specs.Rehearsal.{bound_by, rehearsal_refusal, unrehearsed}
 use Rattle.lq_commands.specs.Scripts.{log_in, sets_in}
 use Rattle.lq_commands.specs.declared.given.Given.{Given}
 
@@ -141,6 +142,17 @@ module _ (given : Given) where
 
   print_rollback_refuses : (target : Target) (database : Database) → Refuses (print_rollback given target database)
   print_rollback_refuses target database = or_refuses (invalid given database.rows) (no_way_back given target database.rows) (invalid_refuses database.rows) (back_refuses target database.rows)
+
+  rehearsal_refuses : (database : Database) → Refuses (rehearsal_refusal given database)
+  rehearsal_refuses database =
+      or_refuses (unready given database) (option_or (unrehearsed given database.rows) (own_halt given database)) (unready_refuses database)
+      (or_refuses (unrehearsed given database.rows) (own_halt given database) (not_refuses (bound_by given database.rows)) (own_refuses database))
+
+  pub rehearsal_plain : (database : Database) → IsPlain (rehearsal_refusal given database)
+  rehearsal_plain database = so_plain (rehearsal_refusal given database) (rehearsal_refuses database)
+
+  pub rehearsal_not_full : (database : Database) → IfSome (rehearsal_refusal given database) IsNotFull
+  rehearsal_not_full database = so_not_full (rehearsal_refusal given database) (rehearsal_refuses database)
 
   -- so they are plain, and not of a full journal
 

@@ -1,9 +1,10 @@
 -- The scripts of commands as turns of their sources.
 use Rattle.std.proofs.Common.{ap, refl, sym, ◌∙◌}
 use Rattle.std.specs.List.{All, list_all, list_any}
-use Rattle.std.specs.Prelude.{Bool, List, None, Option, Some, [], false, if◌then◌else◌, is_some, not, option_map, suc, true, ℕ, ◌&&◌, ◌++◌, ◌||◌, ◌∷◌, ◌≡◌, ◌≢◌, ◌≤◌}
+use Rattle.std.specs.Prelude.{Bool, List, None, Ok, Option, Some, [], false, if◌then◌else◌, is_some, not, option_map, suc, true, ℕ, ◌&&◌, ◌++◌, ◌||◌, ◌∷◌, ◌≡◌, ◌≢◌, ◌≤◌}
 use Rattle.lq_base.specs.declared.command.Target.{Target}
 use Rattle.lq_base.specs.declared.dialect.Dialect.{Dialect}
+use Rattle.lq_base.specs.declared.run.OnFail.TheVariants.{Continue}
 use Rattle.lq_base.specs.declared.tracking.Tracked.{Tracked}
 use Rattle.lq_beside.proofs.OtherFits.{rollback_fits, sync_fits}
 use Rattle.lq_beside.proofs.UpdateFits.{update_fits}
@@ -25,9 +26,9 @@ use Rattle.lq_track.specs.Database.{Database, has_twin_rows}
 use Rattle.lq_turns.specs.Contents.{contents_of}
 use Rattle.lq_turns.specs.Rest.{OfRows, OfSets}
 use Rattle.lq_turns.specs.Rollback.{rollback_of, rows_kept, rows_undone, undo_turns}
-use Rattle.lq_turns.specs.Script.{has_work, rows_to_sync, sync_of, with_lock}
+use Rattle.lq_turns.specs.Script.{has_work, rows_to_sync, sync_of, update_calls, with_lock}
 use Rattle.lq_turns.specs.Session.{session_on}
-use Rattle.lq_turns.specs.Set.{IsKept as Keeps, Set}
+use Rattle.lq_turns.specs.Set.{Changelog, Condition, IsKept as Keeps, Set}
 use Rattle.lq_turns.specs.Settle.{is_halt, own_choice, what}
 use Rattle.lq_turns.specs.Turn.{made}
 use Rattle.lq_turns.specs.declared.call.Call.{Call}
@@ -36,7 +37,7 @@ use Rattle.lq_turns.specs.declared.deed.OnRows.{OnRows}
 use Rattle.lq_turns.specs.declared.deed.OnRows.TheVariants.{Cleared, Deleted, Filled, Inserted, Renewed, Tagged}
 use Rattle.lq_turns.specs.declared.stamp.Stamp.{Stamp}
 use Rattle.lq_turns.specs.declared.turn.Turn.{Turn}
-use Rattle.lq_commands.specs.Scripts.{log_in, rollback_script, rollback_to, sets_in, sync_script, taking_back, update_script}
+use Rattle.lq_commands.specs.Scripts.{log_in, rollback_script, rollback_to, sets_in, sets_script, sync_script, taking_back, update_script}
 use Rattle.lq_commands.specs.Turns.{turns_script}
 use Rattle.lq_commands.specs.declared.given.Given.{Given}
 
@@ -88,17 +89,41 @@ module _ (given : Given) (database : Database) where
   abbrev in_turns : List Call
   in_turns = turns_script d any_meaning given.stamp (OfSets (sets_in given)) database
 
-  pub no_update : has_work (sets_in given) database.rows ≡ false → update_script given database ≡ []
-  no_update none = ap (λ b. if b && not halts then in_turns else []) none
+  pub no_sets : has_work (sets_in given) database.rows ≡ false → sets_script given database ≡ []
+  no_sets none = ap (λ b. if b then in_turns else []) none
 
-  pub update_is : has_work (sets_in given) database.rows ≡ true → halts ≡ false → update_script given database ≡ in_turns
-  update_is some goes = ap (λ b. if b && not halts then in_turns else []) some ∙ ap (λ b. if not b then in_turns else []) goes
+  pub sets_are : has_work (sets_in given) database.rows ≡ true → sets_script given database ≡ in_turns
+  sets_are some = ap (λ b. if b then in_turns else []) some
+
+  -- where the changelog's own condition is passed
+  pub passed_script : halts ≡ false → sets_script given database ≡ update_script given database
+  passed_script goes = by (has_work (sets_in given) database.rows) where
+    by : (b : Bool) → (if b then in_turns else []) ≡ (if b && not halts then in_turns else [])
+    by true = sym (ap (λ h. if not h then in_turns else []) goes)
+    by false = refl
+
+  -- the same changesets without a condition of their changelog
+  abbrev passing : Condition
+  passing = record { told = λ c. Ok true; on_fail = Continue; on_error = Continue }
+
+  abbrev pub bare : Changelog AnyChange
+  bare = record (log_in given) { condition = passing }
+
+  pub sets_bare : sets_script given database ≡ update_calls d any_meaning given.stamp bare database
+  sets_bare = by (has_work (sets_in given) database.rows) where
+    by : (b : Bool) → (if b then in_turns else []) ≡ (if b && true then in_turns else [])
+    by true = refl
+    by false = refl
+
+  pub sets_fit : IsSound d database.users → has_twin_rows database.rows ≡ false → given.stamp.reading ≤ 253402300799999 → AreFor d given.changelog → All HasTexts (sets_in given)
+      → calls_fit d (sets_script given database) (session_on database) ≡ true
+  sets_fit sound differ time read texts =
+      ap (λ calls. calls_fit d calls (session_on database)) sets_bare
+      ∙ update_fits any_meaning kept d given.stamp bare database sound differ time (views_are_read d given.options given.changelog read) texts
 
   pub update_may : IsSound d database.users → has_twin_rows database.rows ≡ false → given.stamp.reading ≤ 253402300799999 → AreFor d given.changelog → All HasTexts (sets_in given)
-      → has_work (sets_in given) database.rows ≡ true → halts ≡ false → calls_fit d in_turns (session_on database) ≡ true
-  update_may sound differ time read texts some goes =
-      ap (λ calls. calls_fit d calls (session_on database)) (sym (update_is some goes))
-      ∙ update_fits any_meaning kept d given.stamp (log_in given) database sound differ time (views_are_read d given.options given.changelog read) texts
+      → has_work (sets_in given) database.rows ≡ true → calls_fit d in_turns (session_on database) ≡ true
+  update_may sound differ time read texts some = ap (λ calls. calls_fit d calls (session_on database)) (sym (sets_are some)) ∙ sets_fit sound differ time read texts
 
 -- a rollback
 

@@ -2,7 +2,7 @@
 use Rattle.std.proofs.Common.{ap, arith, inl, inr, refl, subst, sym, ◌∙◌}
 use Rattle.std.specs.List.{All, flat_map}
 use Rattle.std.specs.Option.{option_or}
-use Rattle.std.specs.Prelude.{Bool, Err, IfErr, IfOk, List, None, Ok, Option, Result, Some, [], false, if◌then◌else◌, is_some, min, true, ℕ, ◌++◌, ◌-◌, ◌^◌, ◌∷◌, ◌≡◌, ◌≤◌, ◌||◌}
+use Rattle.std.specs.Prelude.{Bool, Err, IfErr, IfOk, List, None, Ok, Option, Result, Some, [], false, if◌then◌else◌, is_some, min, not, true, ℕ, ◌++◌, ◌-◌, ◌^◌, ◌∷◌, ◌≡◌, ◌≤◌, ◌||◌}
 use Rattle.lq_base.specs.declared.command.Command.TheVariants as command
 use Rattle.lq_base.specs.declared.dialect.Dialect.{Dialect}
 use Rattle.lq_base.specs.declared.identity.Identity.{Identity}
@@ -10,10 +10,12 @@ use Rattle.lq_base.specs.declared.run.Happened.{Happened}
 use Rattle.lq_base.specs.declared.run.Printed.{Printed}
 use Rattle.lq_base.specs.declared.run.Why.{Why}
 use Rattle.lq_base.specs.declared.tracking.Tracked.{Tracked}
+use Rattle.lq_beside.proofs.TablesRead.{not_is}
 use Rattle.lq_beside.specs.Replays.{calls_fit}
 use Rattle.lq_changelog.specs.ShortTexts.{HasShortTexts}
 use Rattle.lq_kinds.specs.Dialects.{AreFor}
 use Rattle.lq_kinds.specs.declared.any_change.AnyChange.{AnyChange}
+use Rattle.lq_model.proofs.Lists.{and_left}
 use Rattle.lq_model.specs.declared.statement.Statement.{Statement}
 use Rattle.lq_plan.specs.Work.{work_from}
 use Rattle.lq_plan.specs.declared.turns.Item.{Item}
@@ -44,6 +46,7 @@ use Rattle.lq_turns.specs.Script.{has_work}
 use Rattle.lq_turns.specs.Session.{session_on}
 use Rattle.lq_turns.specs.Set.{Meaning, Set}
 use Rattle.lq_turns.specs.Settle.{Settled, all_settled, and_then, by_own, choice_of, greatest, is_halt, nothing_done, own_choice, settled_by, unless_stopped, what}
+use Rattle.lq_turns.specs.declared.call.Call.{Call}
 use Rattle.lq_turns.specs.declared.choice.Choice.{Choice}
 use Rattle.lq_turns.specs.declared.choice.Choice.TheVariants as choice
 use Rattle.lq_turns.specs.declared.choice.What.{What}
@@ -51,10 +54,10 @@ use Rattle.lq_turns.specs.declared.stamp.Stamp.{Stamp}
 use Rattle.lq_turns.specs.declared.stop.Stop.{Stop}
 use Rattle.lq_commands.proofs.Endings.{works_by, works_nothing}
 use Rattle.lq_commands.proofs.LoadedTexts.{view_has}
-use Rattle.lq_commands.proofs.Planned.{no_update, no_work, update_is, update_may}
+use Rattle.lq_commands.proofs.Planned.{no_sets, no_work, passed_script, sets_are, update_may}
 use Rattle.lq_commands.proofs.Warned.{quiet_lines}
 use Rattle.lq_commands.specs.Refusals.{Answers, IsFault, Passes, ends, if_halts, if_warns, own_halt, refusal, unready}
-use Rattle.lq_commands.specs.Scripts.{log_in, nothing_told, sets_in, settled_in, update_script}
+use Rattle.lq_commands.specs.Scripts.{log_in, nothing_told, sets_in, sets_script, settled_in, update_script}
 use Rattle.lq_commands.specs.Tells.{HasTold, IfFinished, TellsUpdate, status_by, stop_by, update_output}
 use Rattle.lq_commands.specs.Turns.{MayTurn, turns_script}
 use Rattle.lq_commands.specs.Works.{CrashesIn, FullAs, IsReady, OnIts, TellsFull, Works, is_finished, is_whole}
@@ -189,8 +192,8 @@ module _ (given : Given) (rows : List Tracked) (database : Database) (same : dat
   no_turn : has_work (sets_in given) database.rows ≡ false
   no_turn = ap (has_work (sets_in given)) same ∙ no_work rows 0 (sets_in given) (sym is ∙ none)
 
-  pub idle_works : (x : State) (r : Result Done Status) → IfOk r (λ (done : Done). done.status ≡ status.Done) → HasDatabase given.options.dialect x database → Works given.options.dialect (update_script given database) database x r x
-  idle_works x r is has = subst (λ calls. Works given.options.dialect calls database x r x) (sym (no_update given database no_turn)) (works_nothing given.options.dialect database x r is has)
+  pub idle_works : (x : State) (r : Result Done Status) → IfOk r (λ (done : Done). done.status ≡ status.Done) → HasDatabase given.options.dialect x database → Works given.options.dialect (sets_script given database) database x r x
+  idle_works x r is has = subst (λ calls. Works given.options.dialect calls database x r x) (sym (no_sets given database no_turn)) (works_nothing given.options.dialect database x r is has)
 
   abbrev idle : Settled
   idle = all_settled given.options.dialect any_meaning given.stamp.reading (sets_in given) (contents_of database)
@@ -220,32 +223,32 @@ module _ (given : Given) (x : State) (rows : List Tracked) (source : SetTurns) (
   d = given.options.dialect
 
   pub turns_may : (prints : Bool) → IsReady d x → OnIts d x (λ (database : Database). database.rows ≡ rows) → given.stamp.reading ≤ 253402300799999 → AreFor d given.changelog → All HasShortTexts given.changelog.sets
-      → has_work (sets_in given) rows ≡ true → OnIts d x (λ (database : Database). is_halt (own_choice (log_in given) (contents_of database)) ≡ false)
+      → has_work (sets_in given) rows ≡ true
       → ((e : Dialect) (stamp : Stamp) (c : Contents) → c.rows ≡ rows → greatest rows ≤ 2147483647 → Knows source e stamp (of_sets prints e stamp.reading (sets_in given) c) c)
       → (database : Database) → HasDatabase d x database → MayTurn d any_meaning given.stamp (OfSets (sets_left source)) (set_way source d given.stamp) database (settled_in prints given database)
-  turns_may prints ready are moment read short some goes knows database has =
+  turns_may prints ready are moment read short some knows database has =
       let same = are database has in
       let first = are ready.database ready.has in
-      let differ : has_twin_rows database.rows ≡ false = ap has_twin_rows (same ∙ sym first) ∙ ready.is.differ in
+      let differ : has_twin_rows database.rows ≡ false = ap has_twin_rows (same ∙ sym first) ∙ not_is (has_twin_rows ready.database.rows) (and_left (not (has_twin_rows ready.database.rows)) _ ready.clean) in
       let small : greatest rows ≤ 2147483647 = subst (λ (rs : List Tracked). greatest rs ≤ 2147483647) first ready.small in
       record {
         known = knows d given.stamp (contents_of database) same small;
         fits = subst (λ (xs : List (Set AnyChange)). calls_fit d (turns_script d any_meaning given.stamp (OfSets xs) database) (session_on database) ≡ true) (sym left)
-            (update_may given database has.committed.sound differ moment read (view_has given.options given.changelog short) (ap (has_work (sets_in given)) same ∙ some) (goes database has));
+            (update_may given database has.committed.sound differ moment read (view_has given.options given.changelog short) (ap (has_work (sets_in given)) same ∙ some));
       }
 
-  module _ (database : Database) (same : database.rows ≡ rows) (some : has_work (sets_in given) rows ≡ true) (goes : is_halt (own_choice (log_in given) (contents_of database)) ≡ false) where
-    script_is : turns_script d any_meaning given.stamp (OfSets (sets_left source)) database ≡ update_script given database
-    script_is = ap (λ (xs : List (Set AnyChange)). turns_script d any_meaning given.stamp (OfSets xs) database) left ∙ sym (update_is given database (ap (has_work (sets_in given)) same ∙ some) goes)
+  module _ (database : Database) (same : database.rows ≡ rows) (some : has_work (sets_in given) rows ≡ true) where
+    pub script_is : turns_script d any_meaning given.stamp (OfSets (sets_left source)) database ≡ sets_script given database
+    script_is = ap (λ (xs : List (Set AnyChange)). turns_script d any_meaning given.stamp (OfSets xs) database) left ∙ sym (sets_are given database (ap (has_work (sets_in given)) same ∙ some))
 
     pub turns_work : (y : State) (e : End) (r : Result Done Status) → IfOk r (λ (done : Done). is_finished done.status ≡ true → is_whole e ≡ true) → IfOk r (λ (done : Done). TellsFull e done.status)
         → LeavesAs d (turns_script d any_meaning given.stamp (OfSets (sets_left source)) database) database x e y → LeftBehind d (turns_script d any_meaning given.stamp (OfSets (sets_left source)) database) database x y
-        → FullAs d (turns_script d any_meaning given.stamp (OfSets (sets_left source)) database) database x e → Works d (update_script given database) database x r y
+        → FullAs d (turns_script d any_meaning given.stamp (OfSets (sets_left source)) database) database x e → Works d (sets_script given database) database x r y
     turns_work y e r whole tells leaves stops full =
-        works_by d (update_script given database) database x y e r whole tells (subst (λ calls. LeavesAs d calls database x e y) script_is leaves) (subst (λ calls. LeftBehind d calls database x y) script_is stops)
+        works_by d (sets_script given database) database x y e r whole tells (subst (λ calls. LeavesAs d calls database x e y) script_is leaves) (subst (λ calls. LeftBehind d calls database x y) script_is stops)
         (subst (λ calls. FullAs d calls database x e) script_is full)
 
-    pub turns_crash : (before now : Crashes) → CrashesIn d (turns_script d any_meaning given.stamp (OfSets (sets_left source)) database) database x before now → CrashesIn d (update_script given database) database x before now
+    pub turns_crash : (before now : Crashes) → CrashesIn d (turns_script d any_meaning given.stamp (OfSets (sets_left source)) database) database x before now → CrashesIn d (sets_script given database) database x before now
     turns_crash before now crash = subst (λ calls. CrashesIn d calls database x before now) script_is crash
 
 pub sets_told : (s : SetTurns) (d : Dialect) (stamp : Stamp) (told : Account) (e : End) → TellsAs (set_way s d stamp told) e → HasTold s.outcome told e
@@ -338,3 +341,7 @@ module _ (prints : Bool) (c : Contents) (a : Account) (before after : Done) (sta
 
   pub updated_tells : (by : Choice) → is_halt by ≡ false → after.own ≡ if_warns by → IfFinished before (TellsUpdate prints a before) → IfFinished after (TellsUpdate prints (account_by by c a) after)
   updated_tells by goes own tells = λ finished. own_tells by goes own (tells (ap is_finished (sym status_is) ∙ finished))
+
+-- what holds of the calls of the changesets holds of those of the update
+pub so_of_update : (given : Given) (database : Database) → is_halt (own_choice (log_in given) (contents_of database)) ≡ false → (P : List Call → Type 0) → P (sets_script given database) → P (update_script given database)
+so_of_update given database goes P holds = subst P (passed_script given database goes) holds

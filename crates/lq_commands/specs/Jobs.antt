@@ -1,9 +1,9 @@
 -- What a job does on the database of a store.
-use Rattle.std.specs.Prelude.{Bool, List, None, Option, Result, Some, [], false, true, ℕ, ◌≡◌}
+use Rattle.std.specs.Prelude.{Bool, List, None, Option, Result, Some, [], false, not, true, ℕ, ◌&&◌, ◌≡◌}
 use Rattle.lq_base.specs.declared.command.Command.{Command}
 use Rattle.lq_base.specs.declared.command.Command.TheVariants as command
 use Rattle.lq_cli.specs.declared.line.Job.{Job}
-use Rattle.lq_cli.specs.declared.line.Job.TheVariants.{Generate, History, RollbackSql, Run, UpdateCount, UpdateSql, UpdateTo, ClearSums}
+use Rattle.lq_cli.specs.declared.line.Job.TheVariants.{Generate, History, RollbackSql, Run, UpdateCount, UpdateSql, UpdateTestingRollback, UpdateTo, ClearSums}
 use Rattle.lq_store.specs.Crashes.{Crashes}
 use Rattle.lq_store.specs.State.{State}
 use Rattle.lq_tell.specs.declared.done.Done.{Done}
@@ -14,7 +14,8 @@ use Rattle.lq_turns.specs.declared.call.Call.{Call}
 use Rattle.lq_commands.specs.Generates.{generate_refusal}
 use Rattle.lq_commands.specs.Outputs.{TellsJob}
 use Rattle.lq_commands.specs.Parts.{counted_in}
-use Rattle.lq_commands.specs.Refusals.{Answers, print_rollback, print_update, refusal, held}
+use Rattle.lq_commands.specs.Refusals.{Answers, held, print_rollback, print_update, refusal}
+use Rattle.lq_commands.specs.Rehearsal.{rehearsal_refusal, rehearsal_script}
 use Rattle.lq_commands.specs.Scripts.{script, tag_in}
 use Rattle.lq_commands.specs.Works.{CrashesIn, IsKept, OnIts, Works, only_reads}
 use Rattle.lq_commands.specs.declared.given.Given.{Given}
@@ -26,13 +27,23 @@ is_own (UpdateCount count) = true
 is_own (UpdateTo tag) = true
 is_own ClearSums = true
 is_own History = true
+is_own UpdateTestingRollback = true
 is_own (Generate author) = true
 is_own _ = false
 
--- it needs no more than a store has: a changelog is generated from what the engine keeps
+-- a changelog is generated from what the engine keeps
+abbrev pub is_generated : Job → Bool
+is_generated (Generate author) = true
+is_generated _ = false
+
+-- it needs no more than a store has
 abbrev pub is_on_store : Job → Bool
-is_on_store (Generate author) = false
-is_on_store job = is_own job
+is_on_store job = is_own job && not (is_generated job)
+
+-- it is one run: a rehearsal is three
+abbrev pub is_single : Job → Bool
+is_single UpdateTestingRollback = false
+is_single job = is_on_store job
 
 -- The command that it is, and what that works with on a database: an update by part is the update of that part. One up to a tag is given that part.
 abbrev pub command_by : Job → Given → Database → Option (Command × Given)
@@ -51,12 +62,14 @@ refusal_of None database = None
 
 -- what is printed is written nowhere
 abbrev pub job_script : Job → Given → Database → List Call
+job_script UpdateTestingRollback given database = rehearsal_script given database
 job_script ClearSums given database = clear_calls database
 job_script job given database = calls_of (command_by job given database) database
 
 abbrev pub job_refusal : Job → Given → Database → Option Status
 job_refusal UpdateSql given database = print_update given database
 job_refusal (RollbackSql target) given database = print_rollback given target database
+job_refusal UpdateTestingRollback given database = rehearsal_refusal given database
 job_refusal (Generate author) given database = generate_refusal author given database
 job_refusal ClearSums given database = held database
 job_refusal job given database = refusal_of (command_by job given database) database

@@ -7,6 +7,7 @@ pub mod Outputs
 pub mod Parts
 pub mod Reading
 pub mod Refusals
+pub mod Rehearsal
 pub mod Scripts
 pub mod Stamp
 pub mod Stopping

@@ -5,7 +5,7 @@ use Rattle.lq_base.specs.declared.command.Command.TheVariants as command
 use Rattle.lq_base.specs.declared.command.Target.{Target}
 use Rattle.lq_base.specs.declared.tracking.Lock.{Lock}
 use Rattle.lq_cli.specs.declared.line.Job.{Job}
-use Rattle.lq_cli.specs.declared.line.Job.TheVariants.{Generate, History, RollbackSql, Run, UpdateCount, UpdateSql, UpdateTo, ClearSums}
+use Rattle.lq_cli.specs.declared.line.Job.TheVariants.{Generate, History, RollbackSql, Run, UpdateCount, UpdateSql, UpdateTestingRollback, UpdateTo, ClearSums}
 use Rattle.lq_report.specs.Output.{history_text, status_text, tagged_text, unrecorded_line, validated_text, cleared_text}
 use Rattle.lq_words.specs.Words.{held_text}
 use Rattle.lq_seen.specs.Printing.{Account}
@@ -19,6 +19,7 @@ use Rattle.lq_turns.specs.Rollback.{rows_kept}
 use Rattle.lq_commands.specs.Generates.{generate_text}
 use Rattle.lq_commands.specs.Inserts.{TellsSync, synced_in}
 use Rattle.lq_commands.specs.Parts.{counted_in}
+use Rattle.lq_commands.specs.Rehearsal.{TellsRun, rehearsed}
 use Rattle.lq_commands.specs.Scripts.{rolled_to, sets_in, updated_in}
 use Rattle.lq_commands.specs.Tells.{IfFinished, TellsRollback, TellsUpdate}
 use Rattle.lq_commands.specs.declared.given.Given.{Given}
@@ -53,6 +54,7 @@ TellsEnd (Run command.Sync) given database done = TellsSync (synced_in given dat
 TellsEnd (Run c) given database done = TellsText (at_once_text c given database) done
 TellsEnd (UpdateCount count) given database done = TellsUpdate false (updated_in false (counted_in count given database.rows) database) done
 TellsEnd (UpdateTo tag) given database done = TellsUpdate false (updated_in false given database) done
+TellsEnd UpdateTestingRollback given database done = TellsRun (rehearsed given database) done
 TellsEnd ClearSums given database done = TellsText (cleared_text (length database.rows)) done
 TellsEnd History given database done = TellsText (history_text database.rows) done
 TellsEnd (Generate author) given database done = TellsText (generate_text author given database) done

@@ -10,7 +10,7 @@ use Rattle.lq_seen.specs.View.{any_meaning, view_log}
 use Rattle.lq_track.specs.Database.{Database}
 use Rattle.lq_turns.specs.Contents.{Contents, contents_of}
 use Rattle.lq_turns.specs.Rollback.{rollback_of, rows_kept, rows_undone, undo_turns}
-use Rattle.lq_turns.specs.Script.{release_calls, sync_calls, tag_calls, update_calls}
+use Rattle.lq_turns.specs.Script.{has_work, release_calls, sets_calls, sync_calls, tag_calls, update_calls, with_lock}
 use Rattle.lq_turns.specs.Session.{left_by}
 use Rattle.lq_turns.specs.Set.{Changelog, Set}
 use Rattle.lq_turns.specs.Settle.{is_halt, nothing_done, own_choice, updated}
@@ -26,6 +26,13 @@ sets_in given = (log_in given).sets
 
 abbrev pub update_script : Given → Database → List Call
 update_script given database = update_calls given.options.dialect any_meaning given.stamp (log_in given) database
+
+-- the calls of its changesets, where the changelog's own condition is passed
+abbrev pub sets_script : Given → Database → List Call
+sets_script given database =
+    if has_work (sets_in given) database.rows
+    then with_lock given.stamp database (sets_calls given.options.dialect any_meaning given.stamp (sets_in given) (contents_of database))
+    else []
 
 -- what its changesets settle, and what is printed of them
 abbrev pub settled_in : Bool → Given → Database → Account

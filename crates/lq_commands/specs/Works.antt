@@ -9,21 +9,22 @@ use Rattle.lq_run.specs.Left.{IsFullIn}
 use Rattle.lq_run.specs.Stands.{HadRoom}
 use Rattle.lq_run.specs.declared.runner.End.{End}
 use Rattle.lq_run.specs.declared.runner.End.TheVariants as end
+use Rattle.lq_stand.specs.Stays.{IsClean}
 use Rattle.lq_store.specs.Crashes.{Crashes}
 use Rattle.lq_store.specs.State.{State}
 use Rattle.lq_tell.specs.declared.done.Done.{Done}
 use Rattle.lq_tell.specs.declared.status.Status.{Status}
 use Rattle.lq_tell.specs.declared.status.Status.TheVariants as status
-use Rattle.lq_track.specs.Database.{Database, IsDatabase}
+use Rattle.lq_track.specs.Database.{Database}
 use Rattle.lq_turns.specs.Session.{all_called, session_on}
 use Rattle.lq_turns.specs.Settle.{greatest}
 use Rattle.lq_turns.specs.declared.call.Call.{Call}
 
--- the database of a store on which commands run: its rows differ, and the last has a place of 31 bits
+-- the database of a store on which commands run: its rows differ, the users' objects stand apart from the tracking tables, and the last row has a place of 31 bits
 pub record IsReady (d : Dialect) (x : State) : Type 0 where
   pub database : Database
   pub has : HasDatabase d x database
-  pub is : IsDatabase d database
+  pub clean : IsClean d database
   pub small : greatest database.rows ≤ 2147483647
 
 -- for the database of a store

@@ -58,7 +58,7 @@ pub fn rows_in<S: Store>(
 pub fn check_faults(alloc: Global, given: &Given, rows: &[Tracked]) -> Result<(), Status>
     ensures { Passes (invalid given.now rows.now) result }
 {
-    let found = faults_of(alloc, &given.options, &given.changelog, rows)?;
+    let found = faults_of(alloc, &given.options, given.changelog.get(), rows)?;
     if found.is_empty() {
         return Ok(());
     }
@@ -85,7 +85,7 @@ pub fn check_own<S: Store>(
     match store.look(SESSION) {
         Ok(view) => {
             let dialect = given.options.dialect;
-            let choice = own_choice(alloc, &given.changelog, dialect, view, rows)?;
+            let choice = own_choice(alloc, given.changelog.get(), dialect, view, rows)?;
             own_answer(choice)
         }
         Err(_) => Err(Status::OutOfMemory),
@@ -129,7 +129,7 @@ pub fn check_ways(
     ensures ways { IfOk result (λ ways. AreWays given.now.changelog.sets rows.now ways) }
     ensures passes { Passes (irreversible given.now (reverse rows.now)) result }
 {
-    match reversible(alloc, &given.changelog, rows) {
+    match reversible(alloc, given.changelog.get(), rows) {
         Ok(ways) => Ok(ways),
         Err(ReverseFault::Not(of)) => Err(Status::NotReversible(of)),
         Err(ReverseFault::OutOfMemory) => Err(Status::OutOfMemory),

@@ -8,7 +8,7 @@ ghost use Rattle.lq_kinds.specs.Dialects.{AreFor};
 ghost use Rattle.lq_outside.specs.Count.{Rose};
 ghost use Rattle.lq_tell.specs.declared.status.Status.TheVariants.{DiskFault};
 ghost use Rattle.lq_commands.specs.AtOnce.{is_at_once};
-ghost use Rattle.lq_commands.specs.Jobs.{DidJob, is_on_store, job_tag};
+ghost use Rattle.lq_commands.specs.Jobs.{DidJob, is_single, job_tag};
 ghost use Rattle.lq_commands.specs.Outputs.{TellsJob};
 ghost use Rattle.lq_commands.specs.Refusals.{Answers, Passes, no_way_back, print_rollback, print_update, refusal};
 ghost use Rattle.lq_commands.specs.Scripts.{printed_script, script, tag_in};
@@ -79,17 +79,17 @@ pub fn run_command<S: Store, P: SqlText>(
     }
 }
 
-/// Does a job on the database of a store, whole: a command, an update by part of its changelog, the
-/// list of its rows, or taking their checksums; otherwise as `run_command`. An update up to a tag has
-/// that part of its changelog already.
-pub fn run_job<S: Store, P: SqlText>(
+/// Does a job that is one run on the database of a store, whole: a command, an update by part of its
+/// changelog, the list of its rows, or taking their checksums; otherwise as `run_command`. An update up
+/// to a tag has that part of its changelog already.
+pub fn run_single<S: Store, P: SqlText>(
     alloc: Global,
     job: &Job,
     given: Given,
     store: &mut S,
     sql: &P,
 ) -> Result<Done, Status>
-    requires own { is_on_store job.now ≡ true }
+    requires own { is_single job.now ≡ true }
     requires valid { S.valid store.old }
     requires ready { IsReady given.options.dialect (S.state store.old) }
     requires sql { P.dialect ≡ given.options.dialect }

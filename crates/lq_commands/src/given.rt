@@ -5,9 +5,11 @@ ghost use Rattle.lq_commands.specs.Stamp.{stamp_of};
 ghost use Rattle.lq_turns.specs.Stops.{is_mark};
 
 use crate::stamp::stamp_of;
+use lq_base::NoMemory;
 use lq_expr::Options;
 use lq_kinds::Changelog;
 use lq_outside::Clock;
+use lq_shared::Shared;
 use lq_tell::Status;
 use lq_turns::Stamp;
 use std::alloc::Global;
@@ -24,11 +26,33 @@ pub struct Asked {
 }
 
 /// What a command works with beside the database: what it was given, and the stamp that its rows carry.
+/// Several runs may have one changelog.
 #[derive(Drop)]
 pub struct Given {
-    pub changelog: Changelog,
+    pub changelog: Shared<Changelog>,
     pub options: Options,
     pub stamp: Stamp,
+}
+
+impl Given {
+    /// What the first run of a changelog works with.
+    pub fn new(
+        alloc: Global,
+        changelog: Changelog,
+        options: Options,
+        stamp: Stamp,
+    ) -> Result<Given, NoMemory>
+        ensures changelog { IfOk result (λ given. given.changelog ≡ changelog) }
+        ensures options { IfOk result (λ given. given.options ≡ options) }
+        ensures stamp { IfOk result (λ given. given.stamp ≡ stamp) }
+    {
+        let changelog = Shared::new(alloc, changelog)?;
+        Ok(Given {
+            changelog,
+            options,
+            stamp,
+        })
+    }
 }
 
 /// Reads the clock once, in milliseconds since 1970, for a command whose database is loaded and whom
@@ -50,9 +74,6 @@ pub fn stamped<C: Clock>(
     let reading = clock.now();
     let stamp = stamp_of(alloc, who, reading)?;
     let Asked { changelog, options } = asked;
-    Ok(Given {
-        changelog,
-        options,
-        stamp,
-    })
+    let given = Given::new(alloc, changelog, options, stamp)?;
+    Ok(given)
 }

@@ -68,7 +68,7 @@ fn listed(alloc: Global, given: &Given, rows: &[Tracked]) -> Result<Done, Status
     ensures quiet { IfOk result IsQuiet }
     ensures fault { IfErr result (λ s. s ≡ OutOfMemory) }
 {
-    let found = pending_of(alloc, &given.options, &given.changelog, rows)?;
+    let found = pending_of(alloc, &given.options, given.changelog.get(), rows)?;
     let text = status_text(alloc, found.as_slice())?;
     Ok(Done::with(alloc, text))
 }

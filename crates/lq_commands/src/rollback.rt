@@ -147,7 +147,7 @@ fn take_back<S: Store, P: SqlText>(
     let source = RowTurns::new(
         alloc,
         given.options.dialect,
-        &given.changelog,
+        given.changelog.get(),
         ways,
         undone,
         prints,

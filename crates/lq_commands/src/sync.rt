@@ -85,7 +85,7 @@ fn new_rows(alloc: Global, given: &Given, rows: &[Tracked]) -> Result<Items<Trac
     ensures dated { IfOk result (λ made. AreDated made) }
 {
     let reading = given.stamp.reading;
-    rows_to_sync(alloc, &given.changelog, &given.options, rows, reading)
+    rows_to_sync(alloc, given.changelog.get(), &given.options, rows, reading)
 }
 
 // The checks are passed: inserts the rows beside those before.

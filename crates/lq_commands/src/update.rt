@@ -6,27 +6,34 @@ ghost use Rattle.lq_outside.specs.Count.{Rose};
 ghost use Rattle.lq_tell.specs.declared.status.Status.TheVariants as status;
 ghost use Rattle.lq_run.specs.Faults.{is_disk_end};
 ghost use Rattle.lq_commands.specs.Refusals.{Answers, IsFault, ends, refusal};
-ghost use Rattle.lq_commands.specs.Scripts.{log_in, sets_in, settled_in, update_script, updated_in};
-ghost use Rattle.lq_seen.specs.Printing.{Account};
+ghost use Rattle.lq_commands.specs.Scripts.{sets_in, sets_script, settled_in, update_script, updated_in};
+ghost use Rattle.lq_seen.specs.Printing.{Account, of_sets};
 ghost use Rattle.lq_commands.specs.Stopping.{NamesStop};
 ghost use Rattle.lq_commands.specs.Tells.{HasTold, IfFinished, TellsUpdate, update_output};
 ghost use Rattle.lq_commands.specs.Works.{CrashesIn, IsKept, IsReady, KeptLock, OnIts, TellsFull, Works, is_finished, is_whole};
 ghost use Rattle.lq_base.specs.declared.command.Command.TheVariants as command;
-ghost use Rattle.lq_turns.specs.Contents.{contents_of};
+ghost use Rattle.lq_base.specs.declared.dialect.Dialect.{Dialect as Spoken};
+ghost use Rattle.lq_seen.specs.View.{view_log};
+ghost use Rattle.lq_sets.specs.SetTurns.{IsReadFor, Knows, sets_left};
+ghost use Rattle.lq_turns.specs.Contents.{Contents};
 ghost use Rattle.lq_turns.specs.Faults.{faults};
+ghost use Rattle.lq_turns.specs.Settle.{greatest};
+ghost use Rattle.lq_turns.specs.declared.stamp.Stamp.{Stamp as Clocked};
 ghost use Rattle.lq_turns.specs.Script.{has_work};
-ghost use Rattle.lq_turns.specs.Settle.{is_halt, own_choice};
 ghost use Rattle.lq_turns.specs.Stops.{is_mark};
 
 use crate::checks::{check_own, checked_rows};
 use crate::given::Given;
 use crate::running::{Ran, run_status, run_turns};
 use lq_base::{Happened, NoMemory, Printed, Text, Tracked, Why};
+use lq_expr::Options;
+use lq_kinds::Changelog;
 use lq_model::SqlText;
 use lq_report::{sql_text, update_text};
 use lq_run::End;
 use lq_seen::Outcome;
 use lq_sets::{SetTurns, work_of};
+use lq_shared::Shared;
 use lq_store::Store;
 use lq_tell::{Done, Status};
 use std::alloc::Global;
@@ -70,8 +77,9 @@ pub fn update<S: Store, P: SqlText>(
     Ok(with_own(done, own))
 }
 
-// The checks are passed.
-fn update_on<S: Store, P: SqlText>(
+/// Runs the changesets that have a turn on these rows, whatever the changelog's own precondition tells.
+/// The changelog goes with the rows.
+pub fn update_on<S: Store, P: SqlText>(
     alloc: Global,
     given: Given,
     rows: &[Tracked],
@@ -89,8 +97,6 @@ fn update_on<S: Store, P: SqlText>(
     requires rows { OnIts given.options.dialect (S.state store.old)
         (λ database. database.rows ≡ rows.now) }
     requires faultless { faults (sets_in given) rows.now ≡ [] }
-    requires goes { OnIts given.options.dialect (S.state store.old)
-        (λ database. is_halt (own_choice (log_in given) (contents_of database)) ≡ false) }
     ensures valid { S.valid store.new }
     ensures tells { IfOk result (λ done.
         OnIts given.options.dialect (S.state store.old) (λ database.
@@ -98,15 +104,15 @@ fn update_on<S: Store, P: SqlText>(
     ensures own { IfOk result (λ done. done.own ≡ None) }
     ensures answers { Answers None result }
     ensures works { OnIts given.options.dialect (S.state store.old) (λ database.
-        Works given.options.dialect (update_script given database) database (S.state store.old)
-        result (S.state store.new)) }
+        Works given.options.dialect (sets_script given database) database (S.state store.old) result
+        (S.state store.new)) }
     ensures any_moment { OnIts given.options.dialect (S.state store.old) (λ database.
-        CrashesIn given.options.dialect (update_script given database) database (S.state store.old)
+        CrashesIn given.options.dialect (sets_script given database) database (S.state store.old)
         (S.crashes store.old) (S.crashes store.new)) }
     ensures later { S.faults store.old ≤ S.faults store.new }
     ensures disk { result ≡ Err status.DiskFault → Rose (S.faults store.old) (S.faults store.new) }
 {
-    let work = work_of(alloc, &given.options, &given.changelog, rows)?;
+    let work = work_of(alloc, &given.options, given.changelog.get(), rows)?;
     if work.is_empty() {
         return no_turns(alloc, prints);
     }
@@ -143,8 +149,6 @@ fn run<S: Store, P: SqlText>(
     requires rows { OnIts given.options.dialect (S.state store.old)
         (λ database. database.rows ≡ rows.now) }
     requires faultless { faults (sets_in given) rows.now ≡ [] }
-    requires goes { OnIts given.options.dialect (S.state store.old)
-        (λ database. is_halt (own_choice (log_in given) (contents_of database)) ≡ false) }
     requires work { has_work (sets_in given) rows.now ≡ true }
     ensures valid { S.valid store.new }
     ensures tells { IfOk result (λ done.
@@ -153,10 +157,10 @@ fn run<S: Store, P: SqlText>(
     ensures own { IfOk result (λ done. done.own ≡ None) }
     ensures answers { Answers None result }
     ensures works { OnIts given.options.dialect (S.state store.old) (λ database.
-        Works given.options.dialect (update_script given database) database (S.state store.old)
-        result (S.state store.new)) }
+        Works given.options.dialect (sets_script given database) database (S.state store.old) result
+        (S.state store.new)) }
     ensures any_moment { OnIts given.options.dialect (S.state store.old) (λ database.
-        CrashesIn given.options.dialect (update_script given database) database (S.state store.old)
+        CrashesIn given.options.dialect (sets_script given database) database (S.state store.old)
         (S.crashes store.old) (S.crashes store.new)) }
     ensures later { S.faults store.old ≤ S.faults store.new }
     ensures disk { result ≡ Err status.DiskFault → Rose (S.faults store.old) (S.faults store.new) }
@@ -167,9 +171,32 @@ fn run<S: Store, P: SqlText>(
         stamp,
     } = given;
     let dialect = options.dialect;
-    let source = SetTurns::new(alloc, changelog, options, rows, prints)?;
+    let source = turns_of(alloc, changelog, options, rows, prints)?;
     let Ran { source, end } = run_turns(alloc, dialect, stamp, source, store, sql);
     ended(alloc, source.outcome, end, prints)
+}
+
+// The turns that the changelog has on these rows.
+fn turns_of(
+    alloc: Global,
+    changelog: Shared<Changelog>,
+    options: Options,
+    rows: &[Tracked],
+    prints: bool,
+) -> Result<SetTurns, NoMemory>
+    requires read { AreFor options.dialect changelog }
+    requires faultless { faults (view_log options changelog).sets rows.now ≡ [] }
+    ensures reads { IfOk result (λ source. IsReadFor source options.dialect) }
+    ensures left { IfOk result (λ source. sets_left source ≡ (view_log options changelog).sets) }
+    ensures knows { IfOk result (λ source. (d : Spoken) (stamp : Clocked) (c : Contents)
+        → c.rows ≡ rows.now
+        → greatest rows.now ≤ 2147483647
+        → Knows source d stamp
+        (of_sets prints d stamp.reading (view_log options changelog).sets c) c) }
+{
+    let shared = Shared::new(alloc, options)?;
+    let source = SetTurns::of_shared(alloc, changelog, shared, rows, prints)?;
+    Ok(source)
 }
 
 // What an update that had the lock did.

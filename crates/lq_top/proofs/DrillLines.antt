@@ -2,7 +2,7 @@
 use Rattle.std.proofs.Common.{ap, refl, sym, ◌∙◌}
 use Rattle.std.specs.Prelude.{Err, List, Ok, Option, Result, false, true, ℕ, ◌≡◌}
 use Rattle.lq_cli.specs.declared.line.Job.{Job}
-use Rattle.lq_cli.specs.declared.line.Job.TheVariants.{Drill, Generate, History, RollbackSql, Run, Soak, UpdateCount, UpdateSql, UpdateTo, ClearSums}
+use Rattle.lq_cli.specs.declared.line.Job.TheVariants.{Drill, History, RollbackSql, Run, Soak, UpdateCount, UpdateSql, UpdateTestingRollback, UpdateTo, Generate, ClearSums}
 use Rattle.lq_cli.specs.declared.line.Line.{Line}
 use Rattle.lq_expr.specs.declared.options.Options.{Options}
 use Rattle.lq_kinds.specs.declared.change_set.Changelog.{Changelog}
@@ -26,6 +26,7 @@ by_job (Run c) other drill = other refl
 by_job UpdateSql other drill = other refl
 by_job (UpdateCount count) other drill = other refl
 by_job (UpdateTo tag) other drill = other refl
+by_job UpdateTestingRollback other drill = other refl
 by_job ClearSums other drill = other refl
 by_job History other drill = other refl
 by_job (Generate author) other drill = other refl
@@ -43,6 +44,7 @@ other_given (Run c) source line plain = refl
 other_given UpdateSql source line plain = refl
 other_given (UpdateCount count) source line plain = refl
 other_given (UpdateTo tag) source line plain = refl
+other_given UpdateTestingRollback source line plain = refl
 other_given ClearSums source line plain = refl
 other_given History source line plain = refl
 other_given (Generate author) source line plain = refl

@@ -1,7 +1,7 @@
 -- Jobs by the commands that they are, and those that run a part of their changelog.
-use Rattle.std.proofs.Common.{ap, refl, subst, sym, ◌∙◌}
+use Rattle.std.proofs.Common.{ap, refl, subst, ◌∙◌}
 use Rattle.std.specs.Option.{option_map, option_or}
-use Rattle.std.specs.Prelude.{Bool, Err, IfSome, List, None, Ok, Option, Result, Some, [], false, if◌then◌else◌, true, ℕ, ◌&&◌, ◌∷◌, ◌≡◌, ◌⊎◌}
+use Rattle.std.specs.Prelude.{Bool, Err, IfSome, List, None, Ok, Option, Result, Some, [], false, if◌then◌else◌, true, ℕ, ◌&&◌, ◌∷◌, ◌≡◌}
 use Rattle.std.proofs.Common.{inl, inr}
 use Rattle.std.proofs.lemmas.List.Elements.{All-take}
 use Rattle.lq_base.specs.declared.command.Command.{Command}
@@ -9,8 +9,8 @@ use Rattle.lq_base.specs.declared.command.Command.TheVariants as command
 use Rattle.lq_base.specs.declared.tracking.Lock.{Lock}
 use Rattle.lq_base.specs.declared.tracking.Tracked.{Tracked}
 use Rattle.lq_cli.specs.declared.line.Job.{Job}
-use Rattle.lq_cli.specs.declared.line.Job.TheVariants.{Drill, Generate, History, RollbackSql, Run, Soak, UpdateCount, UpdateSql, UpdateTo, ClearSums}
-use Rattle.lq_commands.proofs.PlainRefusals.{IsPlain, refusal_plain, held_plain}
+use Rattle.lq_cli.specs.declared.line.Job.TheVariants.{Drill, History, RollbackSql, Run, Soak, UpdateCount, UpdateSql, UpdateTestingRollback, UpdateTo, Generate, ClearSums}
+use Rattle.lq_commands.proofs.PlainRefusals.{IsPlain, refusal_plain, rehearsal_plain, held_plain}
 use Rattle.lq_commands.specs.Parts.{counted_in, part_for}
 use Rattle.lq_commands.specs.Refusals.{Answers, IsFault, held, if_halts, if_some, invalid, own_halt, unready}
 use Rattle.lq_commands.specs.Scripts.{log_in, sets_in}
@@ -19,6 +19,7 @@ use Rattle.lq_changelog.specs.ShortTexts.{HasShortTexts}
 use Rattle.lq_generate.specs.Faults.{fault_at}
 use Rattle.lq_kinds.specs.Dialects.{AreFor, is_read_for}
 use Rattle.lq_kinds.specs.declared.change_set.Changelog.{Changelog}
+use Rattle.lq_model.proofs.Lists.{and_left}
 use Rattle.lq_portion.proofs.Parts.{all_first}
 use Rattle.lq_portion.specs.Portion.{up_to}
 use Rattle.lq_tell.specs.declared.done.Done.{Done}
@@ -28,7 +29,6 @@ use Rattle.lq_track.specs.Database.{Database}
 use Rattle.lq_turns.specs.Contents.{contents_of}
 use Rattle.lq_turns.specs.Faults.{faults}
 use Rattle.lq_turns.specs.Settle.{own_choice}
-use Rattle.lq_turns.specs.declared.call.Call.{Call}
 use Rattle.lq_turns.specs.declared.choice.Choice.{Choice}
 use Rattle.lq_turns.specs.declared.choice.Choice.TheVariants as choice
 use Rattle.lq_turns.specs.declared.fault.Fault.{Fault}
@@ -54,6 +54,7 @@ own_beside UpdateSql own = refl
 own_beside (UpdateCount count) own = refl
 own_beside (UpdateTo tag) own = refl
 own_beside (RollbackSql target) own = refl
+own_beside UpdateTestingRollback own = refl
 own_beside ClearSums own = refl
 own_beside History own = refl
 own_beside (Generate author) own = refl
@@ -66,6 +67,7 @@ own_calls UpdateSql own given database = absurd (false_true own)
 own_calls (UpdateCount count) own given database = refl
 own_calls (UpdateTo tag) own given database = refl
 own_calls (RollbackSql target) own given database = absurd (false_true own)
+own_calls UpdateTestingRollback own given database = refl
 own_calls ClearSums own given database = refl
 own_calls History own given database = refl
 own_calls (Generate author) own given database = refl
@@ -78,16 +80,7 @@ generate_plain (Some at) = refl
 
 -- a job of a store
 pub store_own : (job : Job) → is_on_store job ≡ true → is_own job ≡ true
-store_own (Run c) on = refl
-store_own UpdateSql on = on
-store_own (UpdateCount count) on = refl
-store_own (UpdateTo tag) on = refl
-store_own (RollbackSql target) on = on
-store_own ClearSums on = refl
-store_own History on = refl
-store_own (Generate author) on = refl
-store_own (Drill path) on = on
-store_own (Soak number sets) on = on
+store_own job on = and_left (is_own job) _ on
 
 -- which generates nothing
 pub store_again : (job : Job) → is_on_store job ≡ true → (given : Given) (database : Database) (done : Result Done Status) → MakesAgain job given database done
@@ -100,6 +93,7 @@ own_plain UpdateSql own given database = absurd (false_true own)
 own_plain (UpdateCount count) own given database = refusal_plain (counted_in count given database.rows) command.Update database
 own_plain (UpdateTo tag) own given database = refusal_plain given command.Update database
 own_plain (RollbackSql target) own given database = absurd (false_true own)
+own_plain UpdateTestingRollback own given database = rehearsal_plain given database
 own_plain ClearSums own given database = held_plain database
 own_plain History own given database = tt
 own_plain (Generate author) own given database = generate_plain (fault_at given.options.dialect author database.users)
@@ -167,6 +161,7 @@ has_aim (UpdateCount count) own given database done answers = no_goal (UpdateCou
 has_aim (UpdateTo tag) own given database (Ok done) answers = refl
 has_aim (UpdateTo tag) own given database (Err s) answers = not_missed s true (aims_so (job_refusal (UpdateTo tag) given database) (update_aims given database) s answers)
 has_aim (RollbackSql target) own given database done answers = no_goal (RollbackSql target) done refl
+has_aim UpdateTestingRollback own given database done answers = no_goal UpdateTestingRollback done refl
 has_aim ClearSums own given database done answers = no_goal ClearSums done refl
 has_aim History own given database done answers = no_goal History done refl
 has_aim (Generate author) own given database done answers = no_goal (Generate author) done refl
@@ -190,6 +185,7 @@ in_vain_goes_on UpdateSql g none = absurd (none_part none)
 in_vain_goes_on (UpdateCount count) g none = absurd (none_part none)
 in_vain_goes_on (UpdateTo tag) g none = refl
 in_vain_goes_on (RollbackSql target) g none = absurd (none_part none)
+in_vain_goes_on UpdateTestingRollback g none = absurd (none_part none)
 in_vain_goes_on ClearSums g none = absurd (none_part none)
 in_vain_goes_on History g none = absurd (none_part none)
 in_vain_goes_on (Generate author) g none = absurd (none_part none)
@@ -202,6 +198,7 @@ in_vain_beside UpdateSql g none = refl
 in_vain_beside (UpdateCount count) g none = refl
 in_vain_beside (UpdateTo tag) g none = refl
 in_vain_beside (RollbackSql target) g none = refl
+in_vain_beside UpdateTestingRollback g none = refl
 in_vain_beside ClearSums g none = refl
 in_vain_beside History g none = refl
 in_vain_beside (Generate author) g none = refl
@@ -228,6 +225,7 @@ module _ (given : Given) (database : Database) (run : Command × Given) where
   same_dialect (UpdateCount count) is = ap (λ (r : Command × Given). r.1.options.dialect) (some_same is)
   same_dialect (UpdateTo tag) is = ap (λ (r : Command × Given). r.1.options.dialect) (some_same is)
   same_dialect (RollbackSql target) is = absurd (none_some is)
+  same_dialect UpdateTestingRollback is = absurd (none_some is)
   same_dialect ClearSums is = absurd (none_some is)
   same_dialect History is = absurd (none_some is)
   same_dialect (Generate author) is = absurd (none_some is)
@@ -240,6 +238,7 @@ module _ (given : Given) (database : Database) (run : Command × Given) where
   command_on_file (UpdateCount count) is = refl
   command_on_file (UpdateTo tag) is = refl
   command_on_file (RollbackSql target) is = refl
+  command_on_file UpdateTestingRollback is = refl
   command_on_file ClearSums is = refl
   command_on_file History is = refl
   command_on_file (Generate author) is = refl
@@ -256,6 +255,7 @@ module _ (given : Given) (database : Database) (run : Command × Given) where
       subst (λ (r : Command × Given). RunsJob (Run r.0) r.1 database before s after) (some_same is)
       (record { ends = ran.ends; refused = ran.refused; reads = λ only. absurd (false_true only); works = ran.works; left = ran.left; opens = ran.opens; opens_cut = ran.opens_cut; room = ran.room; full = ran.full })
   runs_command (RollbackSql target) is before s after ran = absurd (none_some is)
+  runs_command UpdateTestingRollback is before s after ran = absurd (none_some is)
   runs_command ClearSums is before s after ran = absurd (none_some is)
   runs_command History is before s after ran = absurd (none_some is)
   runs_command (Generate author) is before s after ran = absurd (none_some is)
@@ -268,6 +268,7 @@ module _ (given : Given) (database : Database) (run : Command × Given) where
   says_command (UpdateCount count) is s before after said = subst (λ (r : Command × Given). SaysJob (Run r.0) r.1 database s before after) (some_same is) said
   says_command (UpdateTo tag) is s before after said = subst (λ (r : Command × Given). SaysJob (Run r.0) r.1 database s before after) (some_same is) said
   says_command (RollbackSql target) is s before after said = absurd (none_some is)
+  says_command UpdateTestingRollback is s before after said = absurd (none_some is)
   says_command ClearSums is s before after said = absurd (none_some is)
   says_command History is s before after said = absurd (none_some is)
   says_command (Generate author) is s before after said = absurd (none_some is)
@@ -281,6 +282,7 @@ module _ (given : Given) (database : Database) (run : Command × Given) where
   loaded_command (UpdateCount count) is loaded = subst (λ (r : Command × Given). IsLoaded r.1.options.dialect r.1.changelog) (some_same is) (counted_loaded count given database.rows loaded)
   loaded_command (UpdateTo tag) is loaded = subst (λ (r : Command × Given). IsLoaded r.1.options.dialect r.1.changelog) (some_same is) loaded
   loaded_command (RollbackSql target) is loaded = absurd (none_some is)
+  loaded_command UpdateTestingRollback is loaded = absurd (none_some is)
   loaded_command ClearSums is loaded = absurd (none_some is)
   loaded_command History is loaded = absurd (none_some is)
   loaded_command (Generate author) is loaded = absurd (none_some is)

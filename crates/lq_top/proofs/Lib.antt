@@ -34,6 +34,7 @@ pub mod OpensAgain
 pub mod Readings
 pub mod Ready
 pub mod RefusedKinds
+pub mod RehearsedFile
 pub mod Results
 pub mod Resumed
 pub mod Said

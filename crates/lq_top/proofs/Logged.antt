@@ -8,14 +8,15 @@ use Rattle.lq_base.specs.declared.command.Target.{Target}
 use Rattle.lq_cli.specs.Line.{line_of}
 use Rattle.lq_cli.specs.Job.{goal_of}
 use Rattle.lq_cli.specs.declared.line.Job.{Job}
-use Rattle.lq_cli.specs.declared.line.Job.TheVariants.{Drill, Generate, History, RollbackSql, Run, Soak, UpdateCount, UpdateSql, UpdateTo, ClearSums}
+use Rattle.lq_cli.specs.declared.line.Job.TheVariants.{Drill, History, RollbackSql, Run, Soak, UpdateCount, UpdateSql, UpdateTestingRollback, UpdateTo, Generate, ClearSums}
 use Rattle.lq_commands.proofs.Warned.{back_quiet}
 use Rattle.lq_commands.specs.Generates.{generate_text}
 use Rattle.lq_commands.specs.Inserts.{TellsSync, synced_in}
 use Rattle.lq_commands.specs.Outputs.{TellsJob, TellsText, at_once_text, back_in, released_text}
 use Rattle.lq_commands.specs.Parts.{counted_in}
 use Rattle.lq_commands.specs.Refusals.{if_halts, invalid, own_halt, unready}
-use Rattle.lq_commands.specs.Scripts.{log_in, sets_in, updated_in}
+use Rattle.lq_commands.specs.Rehearsal.{after_update, told_unless, updates}
+use Rattle.lq_commands.specs.Scripts.{log_in, sets_in, update_script, updated_in}
 use Rattle.lq_commands.specs.Tells.{TellsRollback, TellsUpdate}
 use Rattle.lq_commands.specs.Works.{is_finished}
 use Rattle.lq_commands.specs.declared.given.Given.{Given}
@@ -29,12 +30,13 @@ use Rattle.lq_tell.specs.declared.status.Status.{Status}
 use Rattle.lq_tell.specs.declared.status.Status.TheVariants as status
 use Rattle.lq_track.specs.Database.{Database}
 use Rattle.lq_turns.specs.Contents.{Contents, contents_of}
+use Rattle.lq_turns.specs.Session.{left_by}
 use Rattle.lq_turns.specs.Settle.{Settled, all_settled, by_own, own_choice}
 use Rattle.lq_turns.specs.declared.choice.Choice.{Choice}
 use Rattle.lq_turns.specs.declared.choice.Choice.TheVariants as choice
 use Rattle.lq_turns.specs.declared.stamp.Stamp.{Stamp}
-use Rattle.lq_top.proofs.Said.{halted_is}
-use Rattle.lq_top.proofs.Written.{Does, IsWritten, failed_unfinished, false_true, lines_same, none_some, quiet_invalid, quiet_unready, refused_for, was_over}
+use Rattle.lq_turns.specs.declared.stop.Stop.{Stop}
+use Rattle.lq_top.proofs.Written.{Does, IsWritten, failed_unfinished, false_true, halted_is, lines_same, none_some, only_run, own_only, quiet_invalid, quiet_unready, refused_for, was_over}
 use Rattle.lq_top.specs.Asks.{Asks, Files, asked_tag}
 use Rattle.lq_top.specs.Jobs.{DoesJob, DoesLine, is_on_file, job_refusal}
 use Rattle.lq_top.specs.Run.{given_by, is_over}
@@ -103,6 +105,7 @@ ok_warned (Run command.Sync) given database done on tells finished = sync_warned
 ok_warned (Run command.Release) given database done on tells finished = text_warned given database done (released_text database.lock) (tells finished)
 ok_warned (UpdateCount count) given database done on tells finished = update_warned (counted_in count given database.rows) database done false (tells finished)
 ok_warned (UpdateTo tag) given database done on tells finished = update_warned given database done false (tells finished)
+ok_warned UpdateTestingRollback given database done on tells finished = (tells finished).warned
 ok_warned ClearSums given database done on tells finished = text_warned given database done (cleared_text (length database.rows)) (tells finished)
 ok_warned History given database done on tells finished = text_warned given database done (history_text database.rows) (tells finished)
 ok_warned (Generate author) given database done on tells finished = text_warned given database done (generate_text author given database) (tells finished)
@@ -125,6 +128,11 @@ err_warned (UpdateCount count) given database x refused finished =
     own_quiet false part database x (halted_is (unready part database) (own_halt part database) x (quiet_unready part database) refused finished)
 err_warned (UpdateTo tag) given database x refused finished =
     own_quiet false given database x (halted_is (unready given database) (own_halt given database) x (quiet_unready given database) refused finished)
+err_warned UpdateTestingRollback given database x refused finished =
+    let halts = own_only given database x refused finished in
+    let stop = only_run given database x halts in
+    let more = (after_update given (length database.rows)).told (left_by given.options.dialect (update_script given database) database) in
+    own_quiet false given database x halts ∙ sym (ap (λ (o : Option Stop). flat_map warning_line (told_unless o ((updates given).told database) more).warned) stop.1)
 err_warned ClearSums given database x refused finished = refl
 err_warned History given database x refused finished = refl
 err_warned (Generate author) given database x refused finished = refl

@@ -4,13 +4,13 @@ use Rattle.std.specs.Prelude.{Bool, Err, List, None, Ok, Option, Result, Some, [
 use Rattle.lq_base.specs.declared.command.Command.{Command}
 use Rattle.lq_base.specs.declared.command.Command.TheVariants as command
 use Rattle.lq_base.specs.declared.dialect.Dialect.{Dialect}
-use Rattle.lq_base.specs.declared.tracking.Tracked.{Tracked}
 use Rattle.lq_cli.specs.declared.line.Job.{Job}
-use Rattle.lq_cli.specs.declared.line.Job.TheVariants.{Drill, Generate, History, RollbackSql, Run, Soak, UpdateCount, UpdateSql, UpdateTo, ClearSums}
+use Rattle.lq_cli.specs.declared.line.Job.TheVariants.{Drill, History, RollbackSql, Run, Soak, UpdateCount, UpdateSql, UpdateTestingRollback, UpdateTo, Generate, ClearSums}
+use Rattle.lq_rehearsal.proofs.FirstScripts.{AreFirst, rehearsal_first, rollback_first}
 use Rattle.lq_commands.proofs.Planned.{kept}
 use Rattle.lq_commands.proofs.ViewsRead.{views_are_read}
 use Rattle.lq_commands.specs.Parts.{counted_in}
-use Rattle.lq_commands.specs.Scripts.{log_in, rollback_to, script, sets_in}
+use Rattle.lq_commands.specs.Scripts.{log_in, script}
 use Rattle.lq_commands.specs.declared.given.Given.{Given}
 use Rattle.lq_entries.specs.Load.{folded, if_clean, is_clean, is_clean_database, read_entries, then_at}
 use Rattle.lq_entries.specs.Log.{entries_in, texts_of}
@@ -20,17 +20,14 @@ use Rattle.lq_kinds.specs.Dialects.{AreFor}
 use Rattle.lq_kinds.specs.declared.any_change.AnyChange.{AnyChange}
 use Rattle.lq_model.specs.Catalogue.{Catalogue, no_objects}
 use Rattle.lq_seen.specs.View.{any_meaning}
-use Rattle.lq_stand.proofs.FirstRows.{clear_is_first, release_is_first, sync_is_first, tag_is_first, undone_is_first, update_is_first}
+use Rattle.lq_stand.proofs.FirstRows.{clear_is_first, release_is_first, sync_is_first, tag_is_first, update_is_first}
 use Rattle.lq_stand.proofs.StaysClean.{calls_stay_clean, clean_is_found, stops_stay_clean}
-use Rattle.lq_stand.specs.First.{calls_are_first}
 use Rattle.lq_stand.specs.Stays.{IsClean}
 use Rattle.lq_store.specs.Journal.{Entry, database as catalogue_by, run_entries, run_texts}
 use Rattle.lq_track.specs.Database.{Database}
-use Rattle.lq_turns.specs.Rollback.{rollback_of, rows_kept, rows_undone, undo_turns}
-use Rattle.lq_turns.specs.Session.{left_by, session_on}
+use Rattle.lq_turns.specs.Session.{left_by}
 use Rattle.lq_turns.specs.declared.call.Call.{Call}
 use Rattle.lq_turns.specs.declared.stamp.Stamp.{Stamp}
-use Rattle.lq_turns.specs.declared.turn.Turn.{Turn}
 use Rattle.lq_top.proofs.InPart.{counted_read}
 use Rattle.lq_top.specs.Asks.{Asks, Files}
 use Rattle.lq_top.specs.Bytes.{Becomes, Holds, IsLeftOn, Opens, most_bytes}
@@ -122,35 +119,27 @@ module _ (given : Given) (database : Database) where
   abbrev d : Dialect
   d = given.options.dialect
 
-  abbrev AreFirst : List Call → Type 0
-  AreFirst calls = calls_are_first d calls (session_on database) ≡ true
-
-  turns_first : (rows : List Tracked) (o : Option (List Turn)) → undo_turns d any_meaning (sets_in given) rows ≡ o
-      → AreFirst (elim o as (λ _. List Call) [ Some turns ↦ rollback_of d given.stamp turns database | None ↦ [] ])
-  turns_first rows None is = refl
-  turns_first rows (Some turns) is = undone_is_first d any_meaning given.stamp (sets_in given) rows turns database is
-
-  back_first : (o : Option ℕ) → AreFirst (rollback_to given o database)
-  back_first None = refl
-  back_first (Some stay) = turns_first (rows_undone stay database.rows) (undo_turns d any_meaning (sets_in given) (rows_undone stay database.rows)) refl
+  abbrev IsFirst : List Call → Type 0
+  IsFirst calls = AreFirst given database calls
 
   module _ (told : Option (List ℕ)) (opens : Opens d told database) (read : AreFor d given.changelog) where
-    script_first : (c : Command) → AreFirst (script c given database)
+    script_first : (c : Command) → IsFirst (script c given database)
     script_first command.Validate = refl
     script_first command.Status = refl
     script_first command.Update = update_is_first any_meaning kept d given.stamp (log_in given) database opens.stands.sound (views_are_read d given.options given.changelog read)
     script_first (command.Tag name) = tag_is_first d name database
-    script_first (command.Rollback target) = back_first (rows_kept target database.rows)
+    script_first (command.Rollback target) = rollback_first given database target
     script_first command.Sync = sync_is_first AnyChange d given.stamp (log_in given) database
     script_first command.Release = release_is_first d database
 
-    job_first : (job : Job) → AreFirst (job_script job given database)
+    job_first : (job : Job) → IsFirst (job_script job given database)
     job_first (Run c) = script_first c
     job_first UpdateSql = refl
     job_first (UpdateCount count) =
         let part = counted_in count given database.rows in
         update_is_first any_meaning kept d given.stamp (log_in part) database opens.stands.sound (views_are_read d given.options part.changelog (counted_read count given database.rows read))
     job_first (UpdateTo tag) = script_first command.Update
+    job_first UpdateTestingRollback = rehearsal_first given database opens.stands.sound read
     job_first ClearSums = clear_is_first d database
     job_first History = refl
     job_first (Generate author) = refl

@@ -6,7 +6,7 @@ use Rattle.lq_base.specs.declared.dialect.Dialect.{Dialect}
 use Rattle.lq_commands.specs.Works.{IsReady}
 use Rattle.lq_db.specs.Db.{IsDb, IsNew, state}
 use Rattle.lq_session.specs.Session.{begun_in}
-use Rattle.lq_entries.specs.Load.{catalogue_of, is_clean}
+use Rattle.lq_entries.specs.Load.{catalogue_of, is_clean, is_clean_database}
 use Rattle.lq_entries.specs.Log.{entries_in}
 use Rattle.lq_db.specs.declared.db.Db.{Db}
 use Rattle.lq_journal.specs.State.{dialect_of, limit_of}
@@ -42,7 +42,7 @@ module _ {D P E : Type 0} (d p : Dialect) (told : Option (List ℕ)) (crashes : 
   is_ready clean =
       let sound = subst (λ e. IsSound e (kept h)) new.dialect_is is.is_held.sound in
       let it = clean_stands d (kept h) sound clean in
-      record { database = it.0; has = has_database it.0 it.1; is = it.2; small = places_are_small d (kept h) it.0 sound it.1 }
+      record { database = it.0; has = has_database it.0 it.1; clean = ap (is_clean_database d) (sym it.1.is) ∙ clean; small = places_are_small d (kept h) it.0 sound it.1 }
 
   -- the database that opens is the one that was loaded
   pub opened : (before : Option (List ℕ)) (database : Database) → told ≡ before → IfSome before (λ bytes. catalogue_of d most_bytes bytes ≡ Ok (kept h)) → Opens d before database → HasDatabase d (state told h db) database

@@ -7,6 +7,7 @@ use Rattle.std.specs.Prelude.{Bool, List, None, Ok, Option, Result, Some, [], fa
 use Rattle.lq_base.specs.declared.command.Command.{Command}
 use Rattle.lq_base.specs.declared.command.Command.TheVariants as command
 use Rattle.lq_base.specs.declared.command.Target.{Target}
+use Rattle.lq_base.specs.declared.command.Target.TheVariants.{Count}
 use Rattle.lq_base.specs.declared.dialect.Dialect.{Dialect}
 use Rattle.lq_base.specs.declared.dialect.Dialect.TheVariants.{Mysql, Postgresql}
 use Rattle.lq_base.specs.declared.identity.Identity.{Identity}
@@ -15,12 +16,13 @@ use Rattle.lq_base.specs.declared.tracking.Lock.{Lock}
 use Rattle.lq_base.specs.declared.tracking.Tracked.{Tracked}
 use Rattle.lq_changelog.specs.ShortTexts.{HasShortTexts}
 use Rattle.lq_cli.specs.declared.line.Job.{Job}
-use Rattle.lq_cli.specs.declared.line.Job.TheVariants.{Drill, Generate, History, RollbackSql, Run, Soak, UpdateCount, UpdateSql, UpdateTo, ClearSums}
-use Rattle.lq_commands.proofs.Planned.{kept}
+use Rattle.lq_cli.specs.declared.line.Job.TheVariants.{Drill, History, RollbackSql, Run, Soak, UpdateCount, UpdateSql, UpdateTestingRollback, UpdateTo, Generate, ClearSums}
+use Rattle.lq_commands.proofs.Planned.{bare, kept, sets_bare}
 use Rattle.lq_commands.proofs.ViewsRead.{views_are_read}
 use Rattle.lq_commands.specs.Refusals.{if_halts, if_some, invalid, own_halt, refusal, unready}
 use Rattle.lq_commands.specs.Parts.{counted_in}
-use Rattle.lq_commands.specs.Scripts.{log_in, rollback_to, sets_in, update_script, updated_in}
+use Rattle.lq_commands.specs.Rehearsal.{came, rehearsal_script, takes_back, updates}
+use Rattle.lq_commands.specs.Scripts.{log_in, rollback_script, rollback_to, sets_in, sets_script, update_script, updated_in}
 use Rattle.lq_commands.specs.Tells.{status_by}
 use Rattle.lq_commands.specs.Works.{is_finished}
 use Rattle.lq_commands.specs.declared.given.Given.{Given}
@@ -32,6 +34,9 @@ use Rattle.lq_model.proofs.Lists.{and_true}
 use Rattle.lq_model.specs.Names.{is_empty}
 use Rattle.lq_model.specs.Sound.{IsSound}
 use Rattle.lq_model.specs.declared.caller.Room.TheVariants.{Ordinary}
+use Rattle.lq_rehearsal.proofs.Cut.{in_one, none_written}
+use Rattle.lq_rehearsal.proofs.FirstScripts.{rollback_sound, update_sound}
+use Rattle.lq_rehearsal.proofs.Shut.{rollback_over, update_over}
 use Rattle.lq_run.specs.Stands.{entries_of}
 use Rattle.lq_seen.proofs.OwnSums.{own_sum}
 use Rattle.lq_seen.specs.Selection.{is_met}
@@ -46,8 +51,10 @@ use Rattle.lq_track.specs.Log.{identity_of}
 use Rattle.lq_turns.proofs.Known.{faultless_are_apart}
 use Rattle.lq_turns.proofs.Locked.{led_both}
 use Rattle.lq_turns.proofs.Returns.{rollback_resumes}
+use Rattle.lq_turns.proofs.Rolled.{rollback_leaves}
 use Rattle.lq_turns.proofs.Stands.{rollback_stops, sync_stops, update_stops}
 use Rattle.lq_turns.proofs.Trails.{update_resumes}
+use Rattle.lq_turns.proofs.Updates.{update_leaves}
 use Rattle.lq_turns.specs.Again.{are_twins, has_own_sum}
 use Rattle.lq_turns.specs.Contents.{Contents, contents_of}
 use Rattle.lq_turns.specs.Deed.{all_done}
@@ -55,7 +62,7 @@ use Rattle.lq_turns.specs.Faults.{faults}
 use Rattle.lq_turns.specs.Laws.{AreKnown, AreRead, at_rest, rollback_calls}
 use Rattle.lq_turns.specs.Ran.{RanSince, Run as RunOf, are_reversible}
 use Rattle.lq_turns.specs.Rollback.{rollback_of, rows_kept, rows_undone, undo_turns}
-use Rattle.lq_turns.specs.Script.{clearing, closing, last_row, release_calls, tag_of, update_calls}
+use Rattle.lq_turns.specs.Script.{calls_unless, clearing, closing, last_row, release_calls, tag_of, update_calls}
 use Rattle.lq_turns.specs.Session.{all_called, left_by, session_on}
 use Rattle.lq_turns.specs.Set.{Changelog, Set}
 use Rattle.lq_turns.specs.Settle.{tested, updated}
@@ -71,6 +78,7 @@ use Rattle.lq_turns.specs.declared.deed.OnRows.{OnRows}
 use Rattle.lq_turns.specs.declared.deed.OnRows.TheVariants.{Cleared, Tagged}
 use Rattle.lq_turns.specs.declared.fault.Fault.{Fault}
 use Rattle.lq_turns.specs.declared.stamp.Stamp.{Stamp}
+use Rattle.lq_turns.specs.declared.stop.Stop.{Stop}
 use Rattle.lq_turns.specs.declared.turn.Turn.{Turn}
 use Rattle.lq_top.proofs.InPart.{command_on_file, counted_read, loaded_command, runs_command, says_command}
 use Rattle.lq_top.proofs.Unchanged.{holds_it}
@@ -78,8 +86,8 @@ use Rattle.lq_top.proofs.Written.{Does, IsWritten, failed_unfinished, false_true
 use Rattle.lq_top.specs.Asks.{Asks, Files}
 use Rattle.lq_top.specs.Bytes.{Becomes, IsLeftOn, Opens, most_bytes}
 use Rattle.lq_entries.specs.Log.{entries_in}
-use Rattle.lq_top.specs.Jobs.{DoesLine, IsLoaded, is_on_file, job_refusal, job_script}
-use Rattle.lq_top.specs.Resumed.{EndsSo, LeavesMarked, RollbackResumes, StandsHeld, UpdateHeld, UpdateResumes, turns_to}
+use Rattle.lq_top.specs.Jobs.{DoesLine, IsLoaded, is_on_file, job_script}
+use Rattle.lq_top.specs.Resumed.{BackHeld, EndsSo, LeavesMarked, RehearsalHeld, RollbackResumes, StandsHeld, UpdateHeld, UpdateResumes, turns_to}
 use Rattle.lq_top.specs.Run.{EndsBy, IsOutside, Runs, given_by, is_over}
 use Rattle.lq_top.specs.Says.{Said, SaysJob}
 
@@ -366,6 +374,80 @@ counted_or : (count : ℕ) (given : Given) (rows : List Tracked) (before after :
 counted_or count given rows before after (inl read) = inl (counted_read count given rows read)
 counted_or count given rows before after (inr same) = inr same
 
+-- a rehearsal stands as the run that was stopped
+
+module _ (given : Given) (database now : Database) (sound : IsSound given.options.dialect database.users) (unlocked : database.lock ≡ free) (read : AreFor given.options.dialect given.changelog) (locked : now.lock.locked ≡ true) where
+  abbrev its : Dialect
+  its = given.options.dialect
+
+  abbrev one : Database
+  one = left_by its (update_script given database) database
+
+  abbrev target : Target
+  target = Count (came (length database.rows) one)
+
+  abbrev back : List Call
+  back = rollback_script given target one
+
+  abbrev two : Database
+  two = left_by its back one
+
+  abbrev Stands : Option Deed → Type 0
+  Stands last = RehearsalHeld given database last now
+
+  one_free : one.lock ≡ free
+  one_free = (update_leaves any_meaning kept its given.stamp (log_in given) database sound unlocked (views_are_read its given.options given.changelog read)).lock
+
+  one_sound : IsSound its one.users
+  one_sound = update_sound given database sound read
+
+  turns_free : (o : Option (List Turn)) → (left_by its (of_turns given target one o) one).lock ≡ free
+  turns_free None = one_free
+  turns_free (Some turns) = (rollback_leaves its given.stamp turns one one_free).lock
+
+  two_free : two.lock ≡ free
+  two_free = ap (λ (calls : List Call). (left_by its calls one).lock) (turns_by given target one (rows_kept target one.rows)) ∙ turns_free (turns_to given target one)
+
+  in_update : (front left : Journal) → (all_called its (update_script given database) (session_on database)).entries ≡ front ++ left → all_done its (joined front) database ≡ Ok now → UpdateHeld given database (last_or None (joined front)) now
+  in_update front left is led = λ goes. update_stops any_meaning kept its given.stamp (log_in given) database now front left sound (views_are_read its given.options given.changelog read) unlocked goes is led locked
+
+  in_back : (front left : Journal) → (all_called its back (session_on one)).entries ≡ front ++ left → all_done its (joined front) one ≡ Ok now → BackHeld given target one (last_or None (joined front)) now
+  in_back front left is led =
+      back_stands given target one now front (turns_to given target one) refl
+      (subst (λ (calls : List Call). IsLeft its calls one [] front) (turns_by given target one (rows_kept target one.rows)) (record { front = front; rest = left; entries = is; now = now; led = led; is = inl refl })) led one_free locked
+
+  in_last : (front left : Journal) → (all_called its (sets_script given two) (session_on two)).entries ≡ front ++ left → all_done its (joined front) two ≡ Ok now → UpdateHeld given two (last_or None (joined front)) now
+  in_last front left is led = λ goes.
+      update_stops any_meaning kept its given.stamp (bare given two) two now front left (rollback_sound given one one_sound read target) (views_are_read its given.options given.changelog read) two_free goes
+      (ap (λ (calls : List Call). (all_called its calls (session_on two)).entries) (sym (sets_bare given two)) ∙ is) led locked
+
+  -- behind a run that was stopped there is none
+
+  in_again : (o : Option Stop) (front left : Journal) → (all_called its (calls_unless o (sets_script given two)) (session_on two)).entries ≡ front ++ left → all_done its (joined front) two ≡ Ok now → Stands (last_or None (joined front))
+  in_again None front left is led = inr (inr (in_last front left is led))
+  in_again (Some stop) front left is led = absurd (none_written its two now two_free locked front left is led)
+
+  in_rest : (o p : Option Stop) (front left : Journal) → (all_called its (calls_unless o (back ++ calls_unless p (sets_script given two))) (session_on one)).entries ≡ front ++ left → all_done its (joined front) one ≡ Ok now → Stands (last_or None (joined front))
+  in_rest None p front left is led =
+      in_one its back (calls_unless p (sets_script given two)) one now (rollback_over given one target) two_free locked Stands front left is led (λ more whole. inr (inl (in_back front more whole led)))
+      (λ behind more so. in_again p behind left more so)
+  in_rest (Some stop) p front left is led = absurd (none_written its one now one_free locked front left is led)
+
+  in_runs : (o p : Option Stop) (front left : Journal) → (all_called its (update_script given database ++ calls_unless o (back ++ calls_unless p (sets_script given two))) (session_on database)).entries ≡ front ++ left → all_done its (joined front) database ≡ Ok now
+      → Stands (last_or None (joined front))
+  in_runs o p front left is led =
+      in_one its (update_script given database) (calls_unless o (back ++ calls_unless p (sets_script given two))) database now (update_over given database) one_free locked Stands front left is led (λ more whole. inl (in_update front more whole led))
+      (λ behind more so. in_rest o p behind left more so)
+
+module _ (given : Given) (database : Database) (before after : Option (List ℕ)) (opens : Opens given.options.dialect before database) (unlocked : database.lock ≡ free) where
+  rehearsal_stands : IsReadOr given before after → (left : IsLeftOn given.options.dialect (rehearsal_script given database) database before after) → left.now.lock.locked ≡ true → RehearsalHeld given database (last_or None (joined left.written)) left.now
+  rehearsal_stands (inl read) left locked =
+      let it = front_led given.options.dialect database left.now (rehearsal_script given database) left.written left.stops left.led locked in
+      let one = left_by given.options.dialect (update_script given database) database in
+      in_runs given database left.now opens.stands.sound unlocked read locked ((updates given).told database).stop ((takes_back given (length database.rows)).told one).stop left.written it.0 it.1 left.led
+  rehearsal_stands (inr same) left locked =
+      absurd (unlocked_held left.now database (ap (λ (e : Database). e.lock) (sym (same_left given.options.dialect (rehearsal_script given database) database before after opens same left))) unlocked locked)
+
 module _ (given : Given) (database : Database) (before after : Option (List ℕ)) (opens : Opens given.options.dialect before database) (unlocked : database.lock ≡ free) where
   stands : (job : Job) → (is_on_file job ≡ true → IsReadOr given before after) → (left : IsLeftOn given.options.dialect (job_script job given database) database before after) → left.now.lock.locked ≡ true → StandsHeld job given database (last_or None (joined left.written)) left.now
   stands (Run command.Validate) read left locked = none_held given.options.dialect database left.now left.written left.stops left.led unlocked locked
@@ -382,6 +464,7 @@ module _ (given : Given) (database : Database) (before after : Option (List ℕ)
   stands (UpdateCount count) read left locked =
       held_stands (counted_in count given database.rows) database before after opens unlocked (counted_or count given database.rows before after (read refl)) left locked
   stands (UpdateTo tag) read left locked = held_stands given database before after opens unlocked (read refl) left locked
+  stands UpdateTestingRollback read left locked = rehearsal_stands given database before after opens unlocked (read refl) left locked
   stands ClearSums read left locked = clear_held given.options.dialect database left.now (is_empty database.rows) left.written left.stops left.led unlocked locked
   stands History read left locked = none_held given.options.dialect database left.now left.written left.stops left.led unlocked locked
   stands (Generate author) read left locked = none_held given.options.dialect database left.now left.written left.stops left.led unlocked locked

@@ -10,14 +10,15 @@ use Rattle.lq_base.specs.declared.dialect.Dialect.{Dialect}
 use Rattle.lq_base.specs.declared.tracking.Lock.{Lock}
 use Rattle.lq_base.specs.declared.tracking.Tracked.{Tracked}
 use Rattle.lq_cli.specs.declared.line.Job.{Job}
-use Rattle.lq_cli.specs.declared.line.Job.TheVariants.{Drill, Generate, History, RollbackSql, Run, Soak, UpdateCount, UpdateSql, UpdateTo, ClearSums}
+use Rattle.lq_cli.specs.declared.line.Job.TheVariants.{Drill, History, RollbackSql, Run, Soak, UpdateCount, UpdateSql, UpdateTestingRollback, UpdateTo, Generate, ClearSums}
 use Rattle.lq_commands.proofs.Planned.{kept}
 use Rattle.lq_commands.specs.Generates.{generate_text}
 use Rattle.lq_commands.specs.Inserts.{TellsSync, synced_in}
 use Rattle.lq_commands.specs.Outputs.{TellsJob, TellsText, at_once_text, back_in, released_text}
 use Rattle.lq_commands.specs.Parts.{counted_in}
 use Rattle.lq_commands.specs.Refusals.{Answers, held, if_halts, if_not, if_some, invalid, no_way_back, own_halt, refusal, unreachable_by, unready, untagged}
-use Rattle.lq_commands.specs.Scripts.{log_in, nothing_told, rolled_to, sets_in, updated_in}
+use Rattle.lq_commands.specs.Rehearsal.{TellsRun, Told, after_update, rehearsed, told_unless, unrehearsed, updates}
+use Rattle.lq_commands.specs.Scripts.{log_in, nothing_told, rolled_to, sets_in, update_script, updated_in}
 use Rattle.lq_commands.specs.Tells.{TellsRollback, TellsUpdate, status_by, update_told}
 use Rattle.lq_commands.specs.Works.{is_finished}
 use Rattle.lq_commands.specs.declared.given.Given.{Given}
@@ -42,22 +43,24 @@ use Rattle.lq_turns.specs.Faults.{faults}
 use Rattle.lq_turns.specs.Laws.{AreKnown}
 use Rattle.lq_turns.specs.Ran.{RanSince, Run as RunOf, are_reversible}
 use Rattle.lq_turns.specs.Rollback.{all_rolled, not_reversible, rolled_as, rows_kept, rows_undone, undo_turn, undo_turns}
+use Rattle.lq_turns.specs.Session.{left_by}
 use Rattle.lq_turns.specs.Set.{Set}
 use Rattle.lq_turns.specs.Settle.{Settled, all_settled, by_own, own_choice, unless_stopped}
 use Rattle.lq_turns.specs.Turn.{Ending}
 use Rattle.lq_turns.specs.declared.choice.Choice.{Choice}
 use Rattle.lq_turns.specs.declared.choice.Choice.TheVariants as choice
 use Rattle.lq_turns.specs.declared.stamp.Stamp.{Stamp}
+use Rattle.lq_turns.specs.declared.stop.Stop.{Stop}
 use Rattle.lq_turns.specs.declared.turn.Turn.{Turn}
 use Rattle.laws_generate.specs.Again.{TextComesAgain}
 use Rattle.lq_top.proofs.ShortTag.{IsSigned, signed_line}
-use Rattle.lq_top.proofs.Written.{Does, IsWritten, Quiet, failed_unfinished, false_true, none_some, quiet_generate, quiet_held, quiet_invalid, quiet_not, quiet_or, quiet_unready, quiet_untagged, quiet_way, refused_for, some_same, was_over}
+use Rattle.lq_top.proofs.Written.{Does, IsWritten, failed_unfinished, false_true, halted_is, none_some, only_run, own_only, quiet_generate, quiet_held, quiet_invalid, quiet_not, quiet_or, quiet_unready, quiet_untagged, quiet_way, refused_for, some_same, was_over}
 use Rattle.lq_top.specs.Asks.{Asks, Files}
 use Rattle.lq_top.specs.Bytes.{OnFile}
 use Rattle.lq_top.specs.Headline.{GoesBack, IsTaken, is_taken}
 use Rattle.lq_top.specs.Jobs.{DoesJob, DoesLine, MakesAgain, is_on_file, job_refusal}
 use Rattle.lq_top.specs.Run.{EndsBy, Runs, given_by, is_end}
-use Rattle.lq_top.specs.Says.{ComesAgain, Said, SaidInPart, Says, SaysJob, SaysRollback, SaysUpdate, unless_refused}
+use Rattle.lq_top.specs.Says.{ComesAgain, Said, SaidInPart, Says, SaysJob, SaysRehearsal, SaysRollback, SaysUpdate, unless_refused}
 
 some_none : {s : Status} → (let o : Option Status = Some s in o) ≡ None → ⊥
 some_none h = Prim.cc
@@ -97,11 +100,7 @@ or_none : (a b : Option Status) → option_or a b ≡ None → b ≡ None
 or_none None b is = is
 or_none (Some x) b is = absurd (some_none is)
 
--- what is refused in such a way is refused by the changelog's own precondition
-
-pub halted_is : (o h : Option Status) (x : Status) → Quiet o → option_or o h ≡ Some x → is_finished x ≡ true → h ≡ Some x
-halted_is None h x quiet is finished = is
-halted_is (Some refused) h x quiet is finished = absurd (quiet_not x (Some refused) quiet is finished)
+-- an update that the changelog's own precondition halts
 
 halted_status : (by : Choice) (x : Status) → if_halts by ≡ Some x → (c : Contents) (t : Settled) → x ≡ status_by (by_own by c t).stop
 halted_status (choice.Halts why) x is c t = sym (some_same is)
@@ -138,6 +137,23 @@ module _ (given : Given) (database : Database) (s : Status) (before after : Opti
     output = whole ∙ sym (ap (λ (o : Option Status). behind (unless_refused o (update_told prints (updated_in prints given database)))) halts);
   }
 
+  rehearsal_said : (done : Done) → own_halt given database ≡ None → s ≡ done.status → TellsRun (rehearsed given database) done → Wrote done → SaysRehearsal given database s before after
+  rehearsal_said done goes is tells whole = record {
+    status = is ∙ tells.status;
+    output = whole ∙ ap behind (ap text_or_none tells.out ∙ sym (ap (λ (o : Option Status). unless_refused o (rehearsed given database).text) goes));
+  }
+
+  abbrev told_by : Option Stop → Told
+  told_by o = told_unless o ((updates given).told database) ((after_update given (length database.rows)).told (left_by given.options.dialect (update_script given database) database))
+
+  rehearsal_halted : (x : Status) → own_halt given database ≡ Some x → s ≡ x → after ≡ option_map (λ (out : List ℕ). out ++ []) before → SaysRehearsal given database s before after
+  rehearsal_halted x halts is whole =
+      let stop = only_run given database x halts in
+      record {
+        status = is ∙ own_status false given database x halts ∙ ap status_by (sym (ap (λ (o : Option Stop). (told_by o).stop) stop.1));
+        output = whole ∙ sym (ap (λ (o : Option Status). behind (unless_refused o (rehearsed given database).text)) halts);
+      }
+
   rollback_said : (prints : Bool) (target : Target) (done : Done) → s ≡ done.status → TellsRollback prints (back_in prints given target database) done → Wrote done → SaysRollback prints given target database s before after
   rollback_said prints target done is tells whole = record { status = is ∙ tells.status; output = whole ∙ ap behind (ap text_or_none tells.out) }
 
@@ -165,6 +181,9 @@ says_ok (UpdateCount count) given database s before after done none tells is fin
     update_said part database s before after false done (or_none (unready part database) (own_halt part database) none) is (tells finished) whole
 says_ok (UpdateTo tag) given database s before after done none tells is finished whole =
     update_said given database s before after false done (or_none (unready given database) (own_halt given database) none) is (tells finished) whole
+says_ok UpdateTestingRollback given database s before after done none tells is finished whole =
+    let goes = or_none (unrehearsed given database.rows) (own_halt given database) (or_none (unready given database) (option_or (unrehearsed given database.rows) (own_halt given database)) none) in
+    rehearsal_said given database s before after done goes is (tells finished) whole
 says_ok ClearSums given database s before after done none tells is finished whole = text_said given database s before after (cleared_text (length database.rows)) done is (tells finished) whole
 says_ok History given database s before after done none tells is finished whole = text_said given database s before after (history_text database.rows) done is (tells finished) whole
 says_ok (Generate author) given database s before after done none tells is finished whole = text_said given database s before after (generate_text author given database) done is (tells finished) whole
@@ -191,6 +210,8 @@ says_err (UpdateCount count) given database s before after x refused finished is
     update_halted part database s before after false x (halted_is (unready part database) (own_halt part database) x (quiet_unready part database) refused finished) is whole
 says_err (UpdateTo tag) given database s before after x refused finished is whole =
     update_halted given database s before after false x (halted_is (unready given database) (own_halt given database) x (quiet_unready given database) refused finished) is whole
+says_err UpdateTestingRollback given database s before after x refused finished is whole =
+    rehearsal_halted given database s before after x (own_only given database x refused finished) is whole
 says_err ClearSums given database s before after x refused finished is whole = absurd (quiet_not x (held database) (quiet_held database) refused finished)
 says_err History given database s before after x refused finished is whole = absurd (none_some refused)
 says_err (Generate author) given database s before after x refused finished is whole = absurd (quiet_not x _ (quiet_generate (fault_at given.options.dialect author database.users)) refused finished)
@@ -224,6 +245,8 @@ says_line (UpdateCount count) given file left done s before after ended does who
     says_does (UpdateCount count) given database file left done s before after ended (does refl database opens) finished (whole (finished_output s finished))
 says_line (UpdateTo tag) given file left done s before after ended does whole = λ database opens finished.
     says_does (UpdateTo tag) given database file left done s before after ended (does refl database opens) finished (whole (finished_output s finished))
+says_line UpdateTestingRollback given file left done s before after ended does whole = λ database opens finished.
+    says_does UpdateTestingRollback given database file left done s before after ended (does refl database opens) finished (whole (finished_output s finished))
 says_line ClearSums given file left done s before after ended does whole = λ database opens finished.
     says_does ClearSums given database file left done s before after ended (does refl database opens) finished (whole (finished_output s finished))
 says_line History given file left done s before after ended does whole = λ database opens finished.
@@ -355,7 +378,7 @@ taken_end status.WriteFault end done = refl
 taken_end status.OutOfMemory end done = end
 taken_end (status.Busy session) end done = end
 
-is_taken_by : (s : Status) → EndsBy None s → (is_finished s ≡ true → s ≡ status.Done) → IsTaken s
+pub is_taken_by : (s : Status) → EndsBy None s → (is_finished s ≡ true → s ≡ status.Done) → IsTaken s
 is_taken_by s (inl end) done = inl (taken_end s end done)
 is_taken_by s (inr out) done = inr out
 

@@ -11,7 +11,7 @@ use Rattle.lq_base.specs.declared.dialect.Dialect.{Dialect}
 use Rattle.lq_cli.specs.Line.{line_of}
 use Rattle.lq_cli.specs.Values.{each}
 use Rattle.lq_cli.specs.declared.line.Job.{Job}
-use Rattle.lq_cli.specs.declared.line.Job.TheVariants.{Drill, Generate, History, RollbackSql, Run, Soak, UpdateCount, UpdateSql, UpdateTo, ClearSums}
+use Rattle.lq_cli.specs.declared.line.Job.TheVariants.{Drill, History, RollbackSql, Run, Soak, UpdateCount, UpdateSql, UpdateTestingRollback, UpdateTo, Generate, ClearSums}
 use Rattle.lq_cli.specs.declared.line.Line.{Line}
 use Rattle.lq_lines.specs.Commands.{command_of, is_empty, is_run, only_run, url_word, with_url, words_in}
 use Rattle.lq_lines.specs.File.{both_of, cut_lines, is_steps, lines_in, lines_of, lines_with}
@@ -73,6 +73,7 @@ tag_short (Run command.Release) short = tt
 tag_short UpdateSql short = tt
 tag_short (UpdateCount count) short = tt
 tag_short (UpdateTo tag) short = tt
+tag_short UpdateTestingRollback short = tt
 tag_short ClearSums short = tt
 tag_short History short = tt
 tag_short (Generate author) short = tt

@@ -1,7 +1,8 @@
 -- What the status of a run says, from what its command did and how its texts were written.
 use Rattle.std.proofs.Common.{ap, inl, inr, refl, subst, sym, ◌∙◌}
+use Rattle.std.proofs.lemmas.List.{append-nil}
 use Rattle.std.specs.Option.{option_map, option_or}
-use Rattle.std.specs.Prelude.{Bool, Err, IfSome, List, None, Ok, Option, Result, Some, [], false, if◌then◌else◌, is_some, not, true, ℕ, ◌&&◌, ◌++◌, ◌∷◌, ◌≡◌, ◌⊎◌}
+use Rattle.std.specs.Prelude.{Bool, Err, IfSome, List, None, Ok, Option, Result, Some, [], false, if◌then◌else◌, is_some, length, not, true, ℕ, ◌&&◌, ◌++◌, ◌∷◌, ◌≡◌, ◌⊎◌}
 use Rattle.lq_base.specs.declared.command.Command.{Command}
 use Rattle.lq_base.specs.declared.command.Command.TheVariants as command
 use Rattle.lq_base.specs.declared.dialect.Dialect.{Dialect}
@@ -10,11 +11,12 @@ use Rattle.lq_base.specs.declared.run.Why.{Why}
 use Rattle.lq_base.specs.declared.tracking.Lock.{Lock}
 use Rattle.lq_base.specs.declared.tracking.Tracked.{Tracked}
 use Rattle.lq_cli.specs.declared.line.Job.{Job}
-use Rattle.lq_cli.specs.declared.line.Job.TheVariants.{Drill, Generate, History, RollbackSql, Run, Soak, UpdateCount, UpdateSql, UpdateTo, ClearSums}
-use Rattle.lq_commands.proofs.PlainRefusals.{IsNotFull, refusal_not_full, held_not_full}
+use Rattle.lq_cli.specs.declared.line.Job.TheVariants.{Drill, History, RollbackSql, Run, Soak, UpdateCount, UpdateSql, UpdateTestingRollback, UpdateTo, Generate, ClearSums}
+use Rattle.lq_commands.proofs.PlainRefusals.{IsNotFull, refusal_not_full, rehearsal_not_full, held_not_full}
 use Rattle.lq_commands.specs.Parts.{counted_in}
-use Rattle.lq_commands.specs.Refusals.{Answers, IsFault, ends, held, if_halts, if_not, if_some, invalid, unreachable_by, unready, untagged}
-use Rattle.lq_commands.specs.Scripts.{log_in, script, sets_in}
+use Rattle.lq_commands.specs.Refusals.{Answers, IsFault, ends, held, if_halts, if_not, if_some, invalid, own_halt, unreachable_by, unready, untagged}
+use Rattle.lq_commands.specs.Rehearsal.{after_update, bound_by, rehearsal_refusal, unrehearsed, updates as update_run}
+use Rattle.lq_commands.specs.Scripts.{log_in, script, sets_in, update_script}
 use Rattle.lq_commands.specs.Works.{is_finished}
 use Rattle.lq_commands.specs.declared.given.Given.{Given}
 use Rattle.lq_generate.specs.Faults.{fault_at}
@@ -31,16 +33,19 @@ use Rattle.lq_tell.specs.declared.status.Status.{Status}
 use Rattle.lq_tell.specs.declared.status.Status.TheVariants as status
 use Rattle.lq_track.specs.Database.{Database}
 use Rattle.lq_track.specs.Lock.{free}
-use Rattle.lq_turns.specs.Contents.{contents_of}
+use Rattle.lq_turns.specs.Contents.{Contents, contents_of}
 use Rattle.lq_turns.specs.Faults.{faults}
 use Rattle.lq_turns.specs.Rollback.{not_reversible, rows_kept, rows_undone}
-use Rattle.lq_turns.specs.Script.{has_work}
-use Rattle.lq_turns.specs.Settle.{is_halt, own_choice}
+use Rattle.lq_turns.specs.Script.{calls_unless, has_work}
+use Rattle.lq_turns.specs.Session.{left_by as left_after}
+use Rattle.lq_turns.specs.Settle.{Settled, all_settled, by_own, is_halt, own_choice}
 use Rattle.lq_turns.specs.declared.call.Call.{Call}
 use Rattle.lq_turns.specs.declared.choice.Choice.{Choice}
 use Rattle.lq_turns.specs.declared.choice.Choice.TheVariants as choice
 use Rattle.lq_turns.specs.declared.fault.Fault.{Fault}
 use Rattle.lq_turns.specs.declared.stamp.Stamp.{Stamp}
+use Rattle.lq_turns.specs.declared.stop.Stop.{Stop}
+use Rattle.lq_turns.specs.declared.stop.Stop.TheVariants.{Halted}
 use Rattle.lq_top.proofs.InPart.{command_on_file, loaded_command, runs_command, same_dialect}
 use Rattle.lq_top.proofs.Kept.{restores, syncs, updates}
 use Rattle.lq_top.proofs.OnFiles.{by_end}
@@ -421,6 +426,32 @@ pub quiet_way : (given : Given) (o : Option ℕ) (rows : List Tracked) → Quiet
 quiet_way given None rows = refl
 quiet_way given (Some stay) rows = quiet_if_not (not_reversible given.options.dialect any_meaning (sets_in given) (rows_undone stay rows))
 
+-- what is refused in such a way is refused by the changelog's own precondition
+
+pub halted_is : (o h : Option Status) (x : Status) → Quiet o → option_or o h ≡ Some x → is_finished x ≡ true → h ≡ Some x
+halted_is None h x quiet is finished = is
+halted_is (Some refused) h x quiet is finished = absurd (quiet_not x (Some refused) quiet is finished)
+
+-- so is a rehearsal
+pub own_only : (given : Given) (database : Database) (x : Status) → rehearsal_refusal given database ≡ Some x → is_finished x ≡ true → own_halt given database ≡ Some x
+own_only given database x is finished =
+    halted_is (unrehearsed given database.rows) (own_halt given database) x (quiet_if_not (bound_by given database.rows))
+    (halted_is (unready given database) (option_or (unrehearsed given database.rows) (own_halt given database)) x (quiet_unready given database) is finished) finished
+
+halted_stop : (by : Choice) (x : Status) → if_halts by ≡ Some x → (c : Contents) (t : Settled) → (stop : Stop) × ((by_own by c t).stop ≡ Some stop)
+halted_stop (choice.Halts why) x is c t = (Halted None why, refl)
+halted_stop choice.Passes x is c t = absurd (none_some is)
+halted_stop choice.Fills x is c t = absurd (none_some is)
+halted_stop choice.Skips x is c t = absurd (none_some is)
+halted_stop (choice.Marks what) x is c t = absurd (none_some is)
+halted_stop (choice.Runs what why) x is c t = absurd (none_some is)
+
+-- then its update is its last run
+pub only_run : (given : Given) (database : Database) (x : Status) → own_halt given database ≡ Some x → (stop : Stop) × (((update_run given).told database).stop ≡ Some stop)
+only_run given database x is =
+    let c = contents_of database in
+    halted_stop (own_choice (log_in given) c) x is c (all_settled given.options.dialect any_meaning given.stamp.reading (sets_in given) c)
+
 own_halts : (o : Option Status) (c : Choice) (s : Status) → Quiet o → option_or o (if_halts c) ≡ Some s → is_finished s ≡ true → is_halt c ≡ true
 own_halts (Some refused) c s quiet is finished = absurd (quiet_not s (Some refused) quiet is finished)
 own_halts None (choice.Halts why) s quiet is finished = refl
@@ -452,6 +483,13 @@ no_job_script : (job : Job) (given : Given) (database : Database) (s : Status) �
 no_job_script (Run c) given database s is finished = no_script c given database s is finished
 no_job_script (UpdateCount count) given database s is finished = no_script command.Update (counted_in count given database.rows) database s is finished
 no_job_script (UpdateTo tag) given database s is finished = no_script command.Update given database s is finished
+no_job_script UpdateTestingRollback given database s is finished =
+    let halts = own_only given database s is finished in
+    let stop = only_run given database s halts in
+    let d = given.options.dialect in
+    let more = (after_update given (length database.rows)).calls (left_after d (update_script given database) database) in
+    ap (λ (o : Option Stop). update_script given database ++ calls_unless o more) stop.1 ∙ append-nil (update_script given database)
+    ∙ no_turns (has_work (sets_in given) database.rows) (is_halt (own_choice (log_in given) (contents_of database))) _ (own_halts None (own_choice (log_in given) (contents_of database)) s tt halts finished)
 no_job_script ClearSums given database s is finished = absurd (quiet_not s (held database) (quiet_held database) is finished)
 no_job_script History given database s is finished = refl
 no_job_script (Generate author) given database s is finished = refl
@@ -520,6 +558,7 @@ job_not_full : (job : Job) (given : Given) (database : Database) → IfSome (job
 job_not_full (Run c) given database = refusal_not_full given c database
 job_not_full (UpdateCount count) given database = refusal_not_full (counted_in count given database.rows) command.Update database
 job_not_full (UpdateTo tag) given database = refusal_not_full given command.Update database
+job_not_full UpdateTestingRollback given database = rehearsal_not_full given database
 job_not_full ClearSums given database = held_not_full database
 job_not_full History given database = tt
 job_not_full (Generate author) given database = generate_not_full (fault_at given.options.dialect author database.users)
@@ -573,7 +612,7 @@ module _ (job : Job) (given : Given) (before : Option (List ℕ)) (done : Result
   pub runs : DoesLine job given before done after → is_on_file job ≡ true → OnFile given.options.dialect before (λ database. RunsJob job given database before s after)
   runs does on database opens = runs_by database opens (does on database opens)
 
-  over_does : (database : Database) → Opens given.options.dialect before database → Does job given database before done after → is_over s ≡ true
+  pub over_does : (database : Database) → Opens given.options.dialect before database → Does job given database before done after → is_over s ≡ true
       → IsLoaded given.options.dialect given.changelog × Becomes given.options.dialect (job_script job given database) database before after
   over_does database opens (inl (failed, same)) over = absurd (failed_unfinished done failed (was_over done s by over))
   over_does database opens (inr (loaded, does)) over = (loaded, becomes_by job given database before done after opens does (was_over done s by over))

@@ -1,11 +1,12 @@
--- The headline: what a rollback goes back to, and what an update and a changelog-sync leave.
+-- The headline: what a rollback goes back to, and what an update, a changelog-sync and a rehearsal leave.
 use Rattle.std.specs.Prelude.{Bool, List, Option, Some, [], false, length, map, true, ℕ, ◌≡◌, ◌⊎◌}
 use Rattle.lq_base.specs.declared.command.Command.TheVariants as command
 use Rattle.lq_base.specs.declared.command.Target.{Target}
-use Rattle.lq_cli.specs.declared.line.Job.TheVariants.{ClearSums, Run as Runs}
+use Rattle.lq_cli.specs.declared.line.Job.TheVariants.{ClearSums, Run as Runs, UpdateTestingRollback}
 use Rattle.lq_commands.specs.Scripts.{log_in}
 use Rattle.lq_commands.specs.declared.given.Given.{Given}
 use Rattle.lq_kinds.specs.declared.any_change.AnyChange.{AnyChange}
+use Rattle.lq_rehearsal.specs.Returns.{MayReturn}
 use Rattle.lq_seen.specs.View.{any_meaning, view_log}
 use Rattle.lq_tell.specs.declared.status.Status.{Status}
 use Rattle.lq_tell.specs.declared.status.Status.TheVariants as status
@@ -77,3 +78,16 @@ module _ {words : List (List ℕ)} {files : Files} (asks : Asks words files) (st
   abbrev pub HasCleared : Type 0
   HasCleared = asks.line.job ≡ ClearSums → OnFile asks.line.options.dialect before (λ database. is_over s ≡ true
       → Holds asks.line.options.dialect after (record database { rows = map without_sum database.rows }))
+
+-- An update-testing-rollback whose update runs each changeset for the first time, so that all of it can be taken back, on a database that nobody else changed.
+pub record Rehearses (words : List (List ℕ)) (files : Files) (stamp : Stamp) (told : Option (List ℕ)) : Type 0 where
+  pub asks : Asks words files
+  pub is_rehearsal : asks.line.job ≡ UpdateTestingRollback
+  pub database : Database
+  pub opens : Opens asks.line.options.dialect told database
+  pub may : MayReturn (given_by asks stamp) database
+
+-- it leaves what the update alone leaves
+abbrev pub HasRehearsed : {words : List (List ℕ)} {files : Files} {stamp : Stamp} {told : Option (List ℕ)} → Rehearses words files stamp told → Status → Option (List ℕ) → Type 0
+HasRehearsed {stamp = stamp} it s after = is_over s ≡ true
+    → HoldsSame it.asks.line.options.dialect after (at_rest it.database (updated it.asks.line.options.dialect any_meaning stamp.reading (log_of it.asks) (contents_of it.database)).contents)

@@ -3,11 +3,13 @@ use Rattle.std.specs.List.{last_or, list_all}
 use Rattle.std.specs.Prelude.{List, None, Option, Some, false, length, option_and_then, true, ℕ, ◌≡◌, ◌⊎◌}
 use Rattle.lq_base.specs.declared.command.Command.TheVariants as command
 use Rattle.lq_base.specs.declared.command.Target.{Target}
+use Rattle.lq_base.specs.declared.command.Target.TheVariants.{Count}
 use Rattle.lq_base.specs.declared.dialect.Dialect.TheVariants.{Postgresql}
 use Rattle.lq_cli.specs.declared.line.Job.{Job}
-use Rattle.lq_cli.specs.declared.line.Job.TheVariants.{Run as Runs, UpdateCount, UpdateTo}
+use Rattle.lq_cli.specs.declared.line.Job.TheVariants.{Run as Runs, UpdateCount, UpdateTestingRollback, UpdateTo}
 use Rattle.lq_commands.specs.Parts.{counted_in}
-use Rattle.lq_commands.specs.Scripts.{log_in, sets_in}
+use Rattle.lq_commands.specs.Rehearsal.{came}
+use Rattle.lq_commands.specs.Scripts.{log_in, rollback_script, sets_in, update_script}
 use Rattle.lq_commands.specs.Tells.{status_by}
 use Rattle.lq_commands.specs.declared.given.Given.{Given}
 use Rattle.lq_kinds.specs.declared.any_change.AnyChange.{AnyChange}
@@ -22,6 +24,7 @@ use Rattle.lq_turns.specs.Laws.{AreKnown, at_rest}
 use Rattle.lq_turns.specs.Ran.{RanSince, Run, are_reversible}
 use Rattle.lq_turns.specs.Rollback.{rows_kept, rows_undone, undo_turns}
 use Rattle.lq_turns.specs.Script.{update_calls}
+use Rattle.lq_turns.specs.Session.{left_by}
 use Rattle.lq_turns.specs.Settle.{Settled, updated}
 use Rattle.lq_turns.specs.Stops.{IsSteady, joined}
 use Rattle.lq_turns.specs.Synced.{synced}
@@ -93,13 +96,26 @@ abbrev pub UpdateHeld : Given → Database → Option Deed → Database → Type
 UpdateHeld given database last now = none_gives_way given.options.dialect any_meaning given.stamp (sets_in given) (contents_of database) ≡ true
     → UpdateStands given.options.dialect any_meaning given.stamp (sets_in given) (contents_of database) last now
 
--- So a job stands that was stopped and holds the lock. An update, also by part, and a rollback in the same way. A changelog-sync: all its rows are there, or none. No other job holds the lock.
+-- so a rollback stands, in the same way
+abbrev pub BackHeld : Given → Target → Database → Option Deed → Database → Type 0
+BackHeld given target database last now = (turns : List Turn) × (turns_to given target database ≡ Some turns) × RollbackStands given.options.dialect given.stamp turns (contents_of database) last now
+
+-- so a rehearsal stands: as its update, as its rollback behind that, or as its second update behind both
+abbrev pub RehearsalHeld : Given → Database → Option Deed → Database → Type 0
+RehearsalHeld given database last now =
+    let one = left_by given.options.dialect (update_script given database) database in
+    let target = Count (came (length database.rows) one) in
+    let two = left_by given.options.dialect (rollback_script given target one) one in
+    UpdateHeld given database last now ⊎ (BackHeld given target one last now ⊎ UpdateHeld given two last now)
+
+-- So a job stands that was stopped and holds the lock. An update, also by part, and a rollback in the same way, and a rehearsal as one of its runs. A changelog-sync: all its rows are there, or none. No other job holds the lock.
 abbrev pub StandsHeld : Job → Given → Database → Option Deed → Database → Type 0
 StandsHeld (Runs command.Update) given database last now = UpdateHeld given database last now
 StandsHeld (UpdateCount count) given database last now = UpdateHeld (counted_in count given database.rows) database last now
 StandsHeld (UpdateTo tag) given database last now = UpdateHeld given database last now
-StandsHeld (Runs (command.Rollback target)) given database last now = (turns : List Turn) × (turns_to given target database ≡ Some turns) × RollbackStands given.options.dialect given.stamp turns (contents_of database) last now
+StandsHeld (Runs (command.Rollback target)) given database last now = BackHeld given target database last now
 StandsHeld (Runs command.Sync) given database last now = IsBetween given.stamp (contents_of database) now ⊎ IsBetween given.stamp (synced given.stamp.reading (sets_in given) (contents_of database)).contents now
+StandsHeld UpdateTestingRollback given database last now = RehearsalHeld given database last now
 StandsHeld job given database last now = ⊥
 
 -- where a stop of the job, which began with a free lock, left the lock held

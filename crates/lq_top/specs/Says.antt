@@ -5,12 +5,13 @@ use Rattle.lq_base.specs.declared.command.Command.TheVariants as command
 use Rattle.lq_base.specs.declared.command.Target.{Target}
 use Rattle.lq_cli.specs.Job.{goal_of}
 use Rattle.lq_cli.specs.declared.line.Job.{Job}
-use Rattle.lq_cli.specs.declared.line.Job.TheVariants.{Generate, History, RollbackSql, Run, UpdateCount, UpdateSql, UpdateTo, ClearSums}
+use Rattle.lq_cli.specs.declared.line.Job.TheVariants.{History, RollbackSql, Run, UpdateCount, UpdateSql, UpdateTestingRollback, UpdateTo, Generate, ClearSums}
 use Rattle.lq_commands.specs.Generates.{generate_text}
 use Rattle.lq_commands.specs.Inserts.{synced_in}
 use Rattle.lq_commands.specs.Outputs.{at_once_text, back_in}
 use Rattle.lq_commands.specs.Parts.{counted_in}
 use Rattle.lq_commands.specs.Refusals.{own_halt}
+use Rattle.lq_commands.specs.Rehearsal.{rehearsed}
 use Rattle.lq_commands.specs.Scripts.{updated_in}
 use Rattle.lq_commands.specs.Tells.{rollback_told, status_by, update_told}
 use Rattle.lq_commands.specs.Works.{is_finished}
@@ -46,6 +47,10 @@ SaysUpdate prints given database s before after =
 abbrev pub SaysRollback : Bool → Given → Target → Database → Status → Option (List ℕ) → Option (List ℕ) → Type 0
 SaysRollback prints given target database s before after = Says (back_in prints given target database).settled.stop (rollback_told prints (back_in prints given target database)) s before after
 
+-- a rehearsal says what each of its runs says
+abbrev pub SaysRehearsal : Given → Database → Status → Option (List ℕ) → Option (List ℕ) → Type 0
+SaysRehearsal given database s before after = Says (rehearsed given database).stop (unless_refused (own_halt given database) (rehearsed given database).text) s before after
+
 -- of each changeset what was done, or the statements that ran, where those are to be printed; an update by part says so of that part
 abbrev pub SaysJob : Job → Given → Database → Status → Option (List ℕ) → Option (List ℕ) → Type 0
 SaysJob (Run command.Update) given database s before after = SaysUpdate false given database s before after
@@ -54,6 +59,7 @@ SaysJob (Run command.Sync) given database s before after = Says (synced_in given
 SaysJob (Run c) given database s before after = Says None (at_once_text c given database) s before after
 SaysJob (UpdateCount count) given database s before after = SaysUpdate false (counted_in count given database.rows) database s before after
 SaysJob (UpdateTo tag) given database s before after = SaysUpdate false given database s before after
+SaysJob UpdateTestingRollback given database s before after = SaysRehearsal given database s before after
 SaysJob ClearSums given database s before after = Says None (cleared_text (length database.rows)) s before after
 SaysJob History given database s before after = Says None (history_text database.rows) s before after
 SaysJob (Generate author) given database s before after = Says None (generate_text author given database) s before after
@@ -78,11 +84,12 @@ pub record SaidInPart {words : List (List ℕ)} {files : Files} (asks : Asks wor
   pub said : Said asks stamp told wanted before (option_map (λ (out : List ℕ). out ++ text) before)
   pub part : IsPart text before after
 
--- the lines of a job's warnings: of an update those of its turns in order, the changelog's own first; of another there are none
+-- the lines of a job's warnings: of an update, and of the runs of a rehearsal, those of its turns in order, the changelog's own first; of another there are none
 abbrev pub job_warnings : Job → Given → Database → List ℕ
 job_warnings (Run command.Update) given database = flat_map warning_line (updated_in false given database).settled.warned
 job_warnings (UpdateCount count) given database = flat_map warning_line (updated_in false (counted_in count given database.rows) database).settled.warned
 job_warnings (UpdateTo tag) given database = flat_map warning_line (updated_in false given database).settled.warned
+job_warnings UpdateTestingRollback given database = flat_map warning_line (rehearsed given database).warned
 job_warnings UpdateSql given database = flat_map warning_line (updated_in true given database).settled.warned
 job_warnings _ given database = []
 

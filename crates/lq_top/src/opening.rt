@@ -15,12 +15,13 @@ ghost use Rattle.lq_top.specs.Jobs.{is_on_store, job_tag};
 ghost use Rattle.lq_top.specs.Worked.{WorkedOn};
 
 use lq_cli::Job;
-use lq_commands::{Asked, run_job, stamped};
+use lq_commands::{Asked, stamped};
 use lq_db::Db;
 use lq_engine::Engine;
 use lq_journal::LoadFault;
 use lq_model::SqlText;
 use lq_outside::{Clock, Disk, LoadRefused};
+use lq_rehearsal::run_job;
 use lq_store::Executor;
 use lq_tell::{Done, Status};
 use std::alloc::Global;

@@ -35,6 +35,7 @@ use lq_kinds::Changelog;
 use lq_model::{Look, SqlText};
 use lq_outside::{Clock, Disk, Files, SureDisk, SureFiles};
 use lq_report::{Soaked, soak_text};
+use lq_shared::Shared;
 use lq_store::{Executor, Store};
 use lq_tell::{Done, SOAK_PATH, Status, soak_changelog, table_name};
 use lq_track::read_rows;
@@ -288,7 +289,7 @@ fn given_by<P: SqlText>(alloc: Global, sql: &P, soaker: Soaker<'_>) -> Result<Gi
         given.changelog) }
 {
     let stamp = stamp_of(alloc, soaker.who, soaker.reading)?;
-    let changelog = made_changelog(alloc, sql, soaker.dialect, soaker.seed)?;
+    let changelog = shared_changelog(alloc, sql, soaker.dialect, soaker.seed)?;
     let options = Options {
         dialect: soaker.dialect,
         contexts: Items::new(alloc),
@@ -299,6 +300,22 @@ fn given_by<P: SqlText>(alloc: Global, sql: &P, soaker: Soaker<'_>) -> Result<Gi
         options,
         stamp,
     })
+}
+
+fn shared_changelog<P: SqlText>(
+    alloc: Global,
+    sql: &P,
+    dialect: Dialect,
+    seed: Seed,
+) -> Result<Shared<Changelog>, NoMemory>
+    requires { P.dialect ≡ dialect }
+    ensures read { IfOk result (λ g. AreFor dialect g) }
+    ensures short { IfOk result (λ g. All HasShortTexts g.sets) }
+    ensures made { IfOk result (λ g. IsMade dialect seed.number seed.sets g) }
+{
+    let changelog = made_changelog(alloc, sql, dialect, seed)?;
+    let shared = Shared::new(alloc, changelog)?;
+    Ok(shared)
 }
 
 // The changelog that is made from the seed: all of it is valid, so what is missing is memory.

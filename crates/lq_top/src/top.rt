@@ -17,7 +17,7 @@ ghost use Rattle.lq_top.specs.Asks.{Asks, AsksInVain, HasFault, HasNoForm, HasNo
 ghost use Rattle.lq_top.specs.Bytes.{IsDamagedAt};
 ghost use Rattle.lq_top.specs.Clock.{ReadAtMostOnce, ReadUpTo};
 ghost use Rattle.lq_top.specs.Drilled.{AsksDrill, RunsDrill};
-ghost use Rattle.lq_top.specs.Headline.{GoesBack, GoneBack, HasCleared, HasSynced, HasUpdated, IsTaken};
+ghost use Rattle.lq_top.specs.Headline.{GoesBack, GoneBack, HasCleared, HasRehearsed, HasSynced, HasUpdated, IsTaken, Rehearses};
 ghost use Rattle.lq_top.specs.Jobs.{is_apart, misses};
 ghost use Rattle.lq_top.specs.Resumed.{LeavesMarked, RollbackResumes, UpdateResumes};
 ghost use Rattle.lq_top.specs.Run.{Crashes, EndsInVain, EndsUnread, IsDamage, IsLogged, IsLoggedInPart, IsSafe, IsUnread, OpensAtCrash, Runs, SparesDamage};
@@ -151,6 +151,14 @@ pub fn run<F: Files, D: Disk, C: Clock, O: Sink, L: Sink>(
     ensures cleared { (asks : Asks (map (λ word. string_bytes word) words.now) (F.told files.old))
         → HasCleared asks (stamp_of who.now (C.last clock.new)) (D.told disk) result.status
         (D.told result.disk) }
+
+    // A rehearsal of first turns that can be taken back: nothing refuses it, and it leaves what its update leaves.
+    ensures rehearsed { Rehearses (map (λ word. string_bytes word) words.now) (F.told files.old)
+        (stamp_of who.now (C.last clock.new)) (D.told disk)
+        → IsTaken result.status }
+    ensures rehearsal { (it : Rehearses (map (λ word. string_bytes word) words.now)
+        (F.told files.old) (stamp_of who.now (C.last clock.new)) (D.told disk))
+        → HasRehearsed it result.status (D.told result.disk) }
 
     // A steady update, and a rollback by tag or date, that were stopped any number of times, in postgresql.
     ensures resumed_update { (asks : Asks (map (λ word. string_bytes word) words.now)

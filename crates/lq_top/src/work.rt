@@ -396,7 +396,7 @@ fn is_on_store(job: &Job) -> bool
 {
     match job {
         Job::Run(_) | Job::UpdateCount(_) | Job::UpdateTo(_) => true,
-        Job::ClearSums | Job::History => true,
+        Job::UpdateTestingRollback | Job::ClearSums | Job::History => true,
         _ => false,
     }
 }

@@ -9,7 +9,7 @@ const FILE: &str = "--changelog-file=a.json";
 
 #[test]
 fn commands_are_read(rt: HostRuntime) -> Result<(), Fail> {
-    let cases: [(&[&str], &str); 35] = [
+    let cases: [(&[&str], &str); 37] = [
         (
             &["validate", URL, FILE],
             "Run(Validate) Postgresql db a.json",
@@ -80,6 +80,20 @@ fn commands_are_read(rt: HostRuntime) -> Result<(), Fail> {
                 FILE,
             ],
             "UpdateTo(v 1) Mysql a/b.db a.json @a @b Name(l)",
+        ),
+        (
+            &["update-testing-rollback", URL, FILE, "-Dx=1"],
+            "UpdateTestingRollback Postgresql db a.json x=1",
+        ),
+        (
+            &[
+                "update-testing-rollback",
+                "--label-filter=l",
+                "--context-filter=a,b",
+                MY,
+                FILE,
+            ],
+            "UpdateTestingRollback Mysql a/b.db a.json @a @b Name(l)",
         ),
         (&["clear-checksums", MY], "ClearSums Mysql a/b.db -"),
         (&["history", MY], "History Mysql a/b.db -"),

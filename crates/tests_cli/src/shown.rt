@@ -66,6 +66,7 @@ fn append_job(job: &Job, to: &mut Text) -> Result<(), NoMemory> {
         Job::UpdateSql => to.push_str("UpdateSql"),
         Job::UpdateCount(count) => append_number("UpdateCount", i128::from(*count), to),
         Job::UpdateTo(tag) => append_named("UpdateTo", tag, to),
+        Job::UpdateTestingRollback => to.push_str("UpdateTestingRollback"),
         Job::RollbackSql(target) => append_back("RollbackSql", target, to),
         Job::ClearSums => to.push_str("ClearSums"),
         Job::History => to.push_str("History"),

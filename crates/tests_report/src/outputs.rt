@@ -1,8 +1,8 @@
 use crate::made::{happened, identities, lock, printed, tracked};
 use lq_base::{Did, Exec, Items, NoMemory, Text};
 use lq_report::{
-    Soaked, history_text, release_text, rollback_text, soak_text, sql_text, status_text, sync_text,
-    tagged_text, update_text, validated_text,
+    Soaked, cleared_text, history_text, release_text, rollback_text, soak_text, sql_text,
+    status_text, sync_text, tagged_text, update_text, validated_text,
 };
 use std::alloc::Global;
 use std::test::Fail;
@@ -16,6 +16,7 @@ enum Output {
     UpdateSql,
     History,
     NoHistory,
+    Cleared,
     Tag,
     Rollback,
     RollbackSql,
@@ -102,6 +103,7 @@ fn made(alloc: Global, output: Output) -> Result<Text, NoMemory> {
         Output::UpdateSql => sql(alloc, false),
         Output::History => listed(alloc, &ROWS),
         Output::NoHistory => listed(alloc, &[]),
+        Output::Cleared => cleared_text(alloc, 12),
         Output::Tag => tagged_text(alloc, "v1"),
         Output::Rollback => back(alloc),
         Output::RollbackSql => sql(alloc, true),
@@ -138,6 +140,7 @@ fn commands_write_their_texts(rt: HostRuntime) -> Result<(), Fail> {
             "1 1970-01-01 00:00:01.000 EXECUTED db/a.json::1::ann\n2 1970-01-01 00:00:02.500 RERAN db/a.json::2::ann tag v 1\n12 1969-12-31 23:59:59.999 MARK_RAN db/a.json::3::ann tag é\n",
         ),
         (Output::NoHistory, ""),
+        (Output::Cleared, "checksums cleared: 12\n"),
         (Output::Tag, "tagged v1\n"),
         (
             Output::Rollback,

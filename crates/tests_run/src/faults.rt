@@ -1,5 +1,5 @@
 use crate::running::{Failing, FileText, NONE, Step, play, run_over};
-use crate::shop::{BACK_THREE, DRILL, RELEASE, SHOP, UPDATE};
+use crate::shop::{BACK_THREE, DRILL, REHEARSE, RELEASE, SHOP, UPDATE};
 use std::alloc::Global;
 use std::process::Abort;
 
@@ -35,6 +35,7 @@ fn assert_faults(rt: &impl Abort, alloc: Global, words: &str, bytes: &[u8]) {
 fn failing_files_and_outputs(rt: HostRuntime) {
     let first = run_over(&rt, rt.alloc(), UPDATE, &FILES, b"", NONE);
     assert_faults(&rt, rt.alloc(), UPDATE, b"");
+    assert_faults(&rt, rt.alloc(), REHEARSE, b"");
     assert_faults(&rt, rt.alloc(), BACK_THREE, &first.bytes);
     assert_faults(&rt, rt.alloc(), DRILL, b"");
 }
@@ -93,6 +94,8 @@ fn calls_of(rt: &impl Abort, alloc: Global, words: &str, bytes: &[u8]) -> u64 {
 fn failing_disk_calls(rt: HostRuntime) {
     // sync, size, read; header, sync; and for each of five entries two writes and two syncs.
     assert_eq!(rt; calls_of(&rt, rt.alloc(), UPDATE, b""), 25);
+    // And so for each of three runs.
+    assert_eq!(rt; calls_of(&rt, rt.alloc(), REHEARSE, b""), 65);
     let first = run_over(&rt, rt.alloc(), UPDATE, &FILES, b"", NONE);
     // sync, size, read; and for each of five entries two writes and two syncs.
     assert_eq!(rt; calls_of(&rt, rt.alloc(), BACK_THREE, &first.bytes), 23);

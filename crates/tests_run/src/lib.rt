@@ -32,6 +32,8 @@ mod real;
 #[cfg(test)]
 mod refusals;
 #[cfg(test)]
+mod rehearsals;
+#[cfg(test)]
 mod running;
 #[cfg(test)]
 mod shop;

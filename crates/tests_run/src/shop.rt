@@ -37,6 +37,8 @@ pub const UPDATE: &str = "update --url=postgresql:db --changelog-file=db/a.json"
 
 pub const UPDATE_MYSQL: &str = "update --url=mysql:db --changelog-file=db/a.json";
 
+pub const REHEARSE: &str = "update-testing-rollback --url=postgresql:db --changelog-file=db/a.json";
+
 pub const DRILL: &str = "drill --url=postgresql:db --runs=runs";
 
 pub const DRILL_MYSQL: &str = "drill --url=mysql:db --runs=runs";

@@ -27,7 +27,7 @@ fn stopped(rt: &impl Abort, alloc: Global) -> Vec<u8> {
     left
 }
 
-const RELEASED: [Step; 7] = [
+const RELEASED: [Step; 8] = [
     Step {
         words: UPDATE_MYSQL,
         code: 6,
@@ -36,6 +36,12 @@ const RELEASED: [Step; 7] = [
     },
     Step {
         words: "update-count --url=mysql:db --changelog-file=db/a.json --count=0",
+        code: 6,
+        out: "",
+        log: LOCKED,
+    },
+    Step {
+        words: "update-testing-rollback --url=mysql:db --changelog-file=db/a.json",
         code: 6,
         out: "",
         log: LOCKED,

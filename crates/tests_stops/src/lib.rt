@@ -12,6 +12,8 @@ mod journal;
 #[cfg(test)]
 mod places;
 #[cfg(test)]
+mod rehearsals;
+#[cfg(test)]
 mod running;
 #[cfg(test)]
 mod shop;

@@ -14,8 +14,8 @@ pub const HELD: Lock = (Some(LOCKED), RELEASED);
 /// What a stop leaves: the lock, and what the stopped command tells that is run again.
 pub type Left = (Lock, End);
 
-// What a command tells that a fault of the disk ends.
-const STOPPED: End = (11, "", "liquibase: database fault\n");
+/// What a command tells that a fault of the disk ends.
+pub const STOPPED: End = (11, "", "liquibase: database fault\n");
 
 /// A command that is stopped at each call of the disk.
 #[derive(Clone, Copy)]
@@ -32,8 +32,8 @@ pub struct Stops {
     pub after: &'static [Step],
 }
 
-// How many entries stand after so many calls: each is written, synced, opened by its gate and synced.
-fn entries(before: u64, calls: u64) -> usize {
+/// How many entries stand after so many calls: each is written, synced, opened by its gate and synced.
+pub fn entries(before: u64, calls: u64) -> usize {
     (calls.saturating_add(1).saturating_sub(before) / 4) as usize
 }
 

@@ -1,6 +1,9 @@
-use Rattle.std.proofs.Common.{inr, refl, rules}
+use Rattle.std.proofs.Common.{ap, inr, refl, rules, sym, ◌∙◌}
 use Rattle.std.specs.Prelude.{Err, None, reverse, ◌≡◌}
+use Rattle.lq_kinds.specs.declared.change_set.Changelog.{Changelog}
+use Rattle.lq_seen.specs.View.{any_meaning, views}
 use Rattle.lq_tell.specs.declared.status.Status.TheVariants as status
+use Rattle.lq_turns.specs.Rollback.{undo_turns}
 use Rattle.lq_commands.proofs.Endings.{untouched_crashes, untouched_works}
 use Rattle.lq_commands.proofs.RolledBack.{err_answers, has_turns, idle_tells, idle_works, memory_no_disk, no_rows, still_some, taken_so, taken_tells_ok}
 use Rattle.lq_commands.proofs.Updated.{answers_done, no_disk, ok_on_its}
@@ -60,22 +63,22 @@ run-requires-clause-knows g c = c.in_ok-source.ensures.knows
 
 pub run-requires-clause-some : goal.run-requires-clause-some
 run-requires-clause-some g c =
-    has_turns c.args.given (reverse c.args.undone.now) (reverse c.in_ok-source.source.turns) (c.in_ok-source.ensures.turns c.args.given.options)
+    has_turns c.args.given (reverse c.args.undone.now) (reverse c.in_ok-source.source.turns) (ap (λ (x : Changelog). undo_turns c.args.given.options.dialect any_meaning (views c.args.given.options x.sets) (reverse c.args.undone.now)) (sym c.get.ensures) ∙ c.in_ok-source.ensures.turns c.args.given.options)
     (still_some c.args.undone.now c.is_empty.result c.is_empty.ensures c.if-is_empty.false)
 
 pub returns-clause-tells : goal.returns-clause-tells
 returns-clause-tells g c =
-    taken_tells_ok c.args.given (g.S.Store.state c.args.store.now) c.args.prints c.run.result (reverse c.args.undone.now) (reverse c.in_ok-source.source.turns) (c.in_ok-source.ensures.turns c.args.given.options) c.run.ensures.tells
+    taken_tells_ok c.args.given (g.S.Store.state c.args.store.now) c.args.prints c.run.result (reverse c.args.undone.now) (reverse c.in_ok-source.source.turns) (ap (λ (x : Changelog). undo_turns c.args.given.options.dialect any_meaning (views c.args.given.options x.sets) (reverse c.args.undone.now)) (sym c.get.ensures) ∙ c.in_ok-source.ensures.turns c.args.given.options) c.run.ensures.tells
 
 pub returns-clause-works : goal.returns-clause-works
 returns-clause-works g c = λ database has.
     let x = g.S.Store.state c.args.store.now in
     let y = g.S.Store.state c.run.new.store in
-    taken_so c.args.given database (λ calls. Works c.args.given.options.dialect calls database x c.run.result y) (reverse c.args.undone.now) (reverse c.in_ok-source.source.turns) (c.in_ok-source.ensures.turns c.args.given.options) (c.run.ensures.works database has)
+    taken_so c.args.given database (λ calls. Works c.args.given.options.dialect calls database x c.run.result y) (reverse c.args.undone.now) (reverse c.in_ok-source.source.turns) (ap (λ (x : Changelog). undo_turns c.args.given.options.dialect any_meaning (views c.args.given.options x.sets) (reverse c.args.undone.now)) (sym c.get.ensures) ∙ c.in_ok-source.ensures.turns c.args.given.options) (c.run.ensures.works database has)
 
 pub returns-clause-any_moment : goal.returns-clause-any_moment
 returns-clause-any_moment g c = λ database has.
     let x = g.S.Store.state c.args.store.now in
     let before = g.S.Store.crashes c.args.store.now in
     let now = g.S.Store.crashes c.run.new.store in
-    taken_so c.args.given database (λ calls. CrashesIn c.args.given.options.dialect calls database x before now) (reverse c.args.undone.now) (reverse c.in_ok-source.source.turns) (c.in_ok-source.ensures.turns c.args.given.options) (c.run.ensures.any_moment database has)
+    taken_so c.args.given database (λ calls. CrashesIn c.args.given.options.dialect calls database x before now) (reverse c.args.undone.now) (reverse c.in_ok-source.source.turns) (ap (λ (x : Changelog). undo_turns c.args.given.options.dialect any_meaning (views c.args.given.options x.sets) (reverse c.args.undone.now)) (sym c.get.ensures) ∙ c.in_ok-source.ensures.turns c.args.given.options) (c.run.ensures.any_moment database has)

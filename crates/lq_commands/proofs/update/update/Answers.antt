@@ -1,11 +1,13 @@
 use Rattle.std.proofs.Common.{rules, ◌∙◌}
-use Rattle.std.specs.Prelude.{Err, ◌≡◌}
+use Rattle.std.specs.Prelude.{Err, Ok, ◌≡◌}
+use Rattle.lq_run.specs.Crashes.{LeftBehind}
 use Rattle.lq_turns.specs.Contents.{contents_of}
 use Rattle.lq_turns.specs.Settle.{own_choice}
 use Rattle.lq_commands.proofs.Endings.{untouched_crashes, untouched_works, works_left, works_same}
-use Rattle.lq_commands.proofs.Updated.{not_halt, own_answers, passed, rows_answers, updated_tells}
+use Rattle.lq_commands.proofs.Updated.{not_halt, own_answers, passed, rows_answers, so_of_update, updated_tells}
 use Rattle.lq_commands.specs.Refusals.{unready}
 use Rattle.lq_commands.specs.Scripts.{log_in, settled_in, update_script}
+use Rattle.lq_commands.specs.Works.{CrashesIn, Works}
 use Rattle.lq_commands.proofs.update.update.Goals as goal
 
 pub returns-in_err-rows-clause-answers : goal.returns-in_err-rows-clause-answers
@@ -34,8 +36,15 @@ returns-in_err-own-clause-works g c = λ database has.
 pub returns-in_err-own-clause-any_moment : goal.returns-in_err-own-clause-any_moment
 returns-in_err-own-clause-any_moment g c = λ database has. untouched_crashes c.args.given.options.dialect (update_script c.args.given database) database (g.S.Store.state c.args.store.now) (g.S.Store.crashes c.args.store.now)
 
-pub update_on-requires-clause-goes : goal.update_on-requires-clause-goes
-update_on-requires-clause-goes g c = λ database has. not_halt (own_choice (log_in c.args.given) (contents_of database)) c.in_ok-own.own (c.in_ok-own.ensures.passes database has)
+pub returns-in_err-done-clause-any_moment : goal.returns-in_err-done-clause-any_moment
+returns-in_err-done-clause-any_moment g c = λ database has.
+    so_of_update c.args.given database (not_halt (own_choice (log_in c.args.given) (contents_of database)) c.in_ok-own.own (c.in_ok-own.ensures.passes database has))
+    (λ calls. CrashesIn c.args.given.options.dialect calls database (g.S.Store.state c.args.store.now) (g.S.Store.crashes c.args.store.now) (g.S.Store.crashes c.update_on.new.store)) (c.update_on.ensures.any_moment database has)
+
+pub returns-clause-any_moment : goal.returns-clause-any_moment
+returns-clause-any_moment g c = λ database has.
+    so_of_update c.args.given database (not_halt (own_choice (log_in c.args.given) (contents_of database)) c.in_ok-own.own (c.in_ok-own.ensures.passes database has))
+    (λ calls. CrashesIn c.args.given.options.dialect calls database (g.S.Store.state c.args.store.now) (g.S.Store.crashes c.args.store.now) (g.S.Store.crashes c.update_on.new.store)) (c.update_on.ensures.any_moment database has)
 
 pub returns-clause-tells : goal.returns-clause-tells
 returns-clause-tells g c = λ database has.
@@ -46,8 +55,14 @@ returns-clause-tells g c = λ database has.
 pub returns-in_err-done-clause-works : goal.returns-in_err-done-clause-works
 returns-in_err-done-clause-works g c = λ database has.
     let is : c.from_residual-in_err-done.result ≡ Err c.in_err-done.field-0.0 = search rules in
-    works_left c.args.given.options.dialect (update_script c.args.given database) database (g.S.Store.state c.args.store.now) (g.S.Store.state c.update_on.new.store) c.from_residual-in_err-done.result c.in_err-done.field-0.0 is (c.in_err-done.ensures.works database has)
+    let goes = not_halt (own_choice (log_in c.args.given) (contents_of database)) c.in_ok-own.own (c.in_ok-own.ensures.passes database has) in
+    works_left c.args.given.options.dialect (update_script c.args.given database) database (g.S.Store.state c.args.store.now) (g.S.Store.state c.update_on.new.store) c.from_residual-in_err-done.result c.in_err-done.field-0.0 is
+    (so_of_update c.args.given database goes (λ calls. LeftBehind c.args.given.options.dialect calls database (g.S.Store.state c.args.store.now) (g.S.Store.state c.update_on.new.store)) (c.in_err-done.ensures.works database has))
 
 pub returns-clause-works : goal.returns-clause-works
 returns-clause-works g c = λ database has.
-    works_same c.args.given.options.dialect (update_script c.args.given database) database (g.S.Store.state c.args.store.now) (g.S.Store.state c.update_on.new.store) c.in_ok-done.done c.with_own.result c.with_own.ensures.status (c.in_ok-done.ensures.works database has)
+    let x = g.S.Store.state c.args.store.now in
+    let y = g.S.Store.state c.update_on.new.store in
+    let goes = not_halt (own_choice (log_in c.args.given) (contents_of database)) c.in_ok-own.own (c.in_ok-own.ensures.passes database has) in
+    works_same c.args.given.options.dialect (update_script c.args.given database) database x y c.in_ok-done.done c.with_own.result c.with_own.ensures.status
+    (so_of_update c.args.given database goes (λ calls. Works c.args.given.options.dialect calls database x (Ok c.in_ok-done.done) y) (c.in_ok-done.ensures.works database has))

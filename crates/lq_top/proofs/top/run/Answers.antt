@@ -10,6 +10,7 @@ use Rattle.lq_top.proofs.DamagedFiles.{spares_damage}
 use Rattle.lq_top.proofs.DrillRuns.{ends_formless, runs_drill, settled_as}
 use Rattle.lq_top.proofs.Logged.{has_warned}
 use Rattle.lq_top.proofs.OpensAgain.{crash_opens}
+use Rattle.lq_top.proofs.RehearsedFile.{has_rehearsed, is_rehearsed}
 use Rattle.lq_top.proofs.Resumed.{crash_marked, has_gone_on_back, has_resumed, leaves_marked}
 use Rattle.lq_top.proofs.Said.{comes_again, has_said, said_in_part, succeeds}
 use Rattle.lq_top.proofs.SoakSays.{says_soak}
@@ -214,3 +215,22 @@ returns-clause-cleared g c =
     let file = g.D.Disk.told c.args.disk in
     let left = g.D.Disk.told c.work-disk.result.disk in
     λ asks. has_cleared asks stamp file c.tell-status.result left (has_run stamp file c.work-disk.result.done left c.tell-status.result by asks (c.work-disk.ensures.does asks))
+
+pub returns-clause-rehearsed : goal.returns-clause-rehearsed
+returns-clause-rehearsed g c =
+    let by : IsWritten c.work-disk.result.done c.tell-status.result = record { kind = c.work-disk.ensures.kind; ended = c.tell-status.ensures.status; cut = c.tell-status.ensures.cut; had = c.tell-status.ensures.had } in
+    let stamp = stamp_of c.args.who.now (g.C.Clock.last c.work-disk.new.clock) in
+    let file = g.D.Disk.told c.args.disk in
+    let left = g.D.Disk.told c.work-disk.result.disk in
+    λ it. is_rehearsed stamp file c.work-disk.result.done left c.tell-status.result by it (c.work-disk.ensures.does it.asks) (g.O.Sink.told c.args.out.now) (g.O.Sink.told c.tell-status.new.out)
+    (has_run stamp file c.work-disk.result.done left c.tell-status.result by it.asks (c.work-disk.ensures.does it.asks))
+    (has_said it.asks stamp file left c.work-disk.result.done c.tell-status.result (g.O.Sink.told c.args.out.now) (g.O.Sink.told c.tell-status.new.out) by (c.work-disk.ensures.does it.asks) c.tell-status.ensures.whole)
+
+pub returns-clause-rehearsal : goal.returns-clause-rehearsal
+returns-clause-rehearsal g c =
+    let by : IsWritten c.work-disk.result.done c.tell-status.result = record { kind = c.work-disk.ensures.kind; ended = c.tell-status.ensures.status; cut = c.tell-status.ensures.cut; had = c.tell-status.ensures.had } in
+    let stamp = stamp_of c.args.who.now (g.C.Clock.last c.work-disk.new.clock) in
+    let file = g.D.Disk.told c.args.disk in
+    let left = g.D.Disk.told c.work-disk.result.disk in
+    λ it. has_rehearsed stamp file c.work-disk.result.done left c.tell-status.result by it (c.work-disk.ensures.does it.asks)
+    (has_run stamp file c.work-disk.result.done left c.tell-status.result by it.asks (c.work-disk.ensures.does it.asks))

@@ -5,7 +5,7 @@ use Rattle.lq_cli.specs.declared.line.Job.{Job}
 use Rattle.lq_cli.specs.declared.line.Job.TheVariants.{ClearSums, History, Run, UpdateCount, UpdateTo}
 use Rattle.lq_commands.proofs.Jobbed.{cleared_did, did_as, listed_did, updated_did}
 use Rattle.lq_commands.specs.Jobs.{job_tag}
-use Rattle.lq_commands.proofs.command.run_job.Goals as goal
+use Rattle.lq_commands.proofs.command.run_single.Goals as goal
 
 pub run_command-requires-clause-tag : goal.run_command-requires-clause-tag
 run_command-requires-clause-tag g c = subst (λ (job : Job). IfSome (job_tag job) (λ tag. char_count tag ≤ 255)) c.in-Run.is c.requires.tag
