@@ -105,8 +105,16 @@ fn assert_full_behind(rt: &impl Abort, alloc: Global, first: &[Step]) {
 }
 
 #[test]
-fn a_rehearsal_ends_where_the_journal_is_full(rt: HostRuntime) {
+fn a_rehearsal_has_no_room_for_its_update(rt: HostRuntime) {
     assert_full_behind(&rt, rt.alloc(), &[]);
+}
+
+#[test]
+fn a_rehearsal_has_no_room_for_its_rollback(rt: HostRuntime) {
     assert_full_behind(&rt, rt.alloc(), &[UPDATED]);
+}
+
+#[test]
+fn a_rehearsal_has_no_room_for_its_second_update(rt: HostRuntime) {
     assert_full_behind(&rt, rt.alloc(), &[UPDATED, TAKEN_BACK]);
 }
