@@ -73,6 +73,7 @@ RequiredSuffice = list_all (λ words. is_some (line_of words)) (
     ∷ with_changelog (codes "rollback-sql") (codes "--tag=v1" ∷ [])
     ∷ (codes "tag" ∷ codes "--url=mysql:f" ∷ codes "--tag=v1" ∷ [])
     ∷ (codes "clear-checksums" ∷ codes "--url=mysql:f" ∷ [])
+    ∷ with_changelog (codes "undo-unrecorded") []
     ∷ (codes "release-locks" ∷ codes "--url=mysql:f" ∷ [])
     ∷ (codes "history" ∷ codes "--url=mysql:f" ∷ [])
     ∷ (codes "generate-changelog" ∷ codes "--url=mysql:f" ∷ codes "--author=a" ∷ [])
@@ -131,6 +132,8 @@ CommandsAreRefused = AreNone (
     ∷ (codes "tag" ∷ codes "--url=mysql:f" ∷ codes "--tag=" ∷ [])
     ∷ (codes "tag" ∷ codes "--url=mysql:f" ∷ codes "--tag=v1" ∷ codes "-Dx=1" ∷ [])
     ∷ with_changelog (codes "clear-checksums") []
+    ∷ (codes "undo-unrecorded" ∷ codes "--url=mysql:f" ∷ [])
+    ∷ with_changelog (codes "undo-unrecorded") (codes "--context-filter=a" ∷ [])
     ∷ with_changelog (codes "update-count") []
     ∷ with_changelog (codes "update-to-tag") []
     ∷ with_changelog (codes "update-to-tag") (codes "--count=1" ∷ [])

@@ -21,7 +21,9 @@ impl Form {
             ≡ form_of verb }
     {
         match verb {
-            Verb::Validate => Form::new(&["url", "changelog-file"], &[], true),
+            Verb::Validate | Verb::UndoUnrecorded => {
+                Form::new(&["url", "changelog-file"], &[], true)
+            }
             Verb::Status
             | Verb::Update
             | Verb::UpdateSql

@@ -35,6 +35,7 @@ pub fn job_of(alloc: Global, verb: Verb, given: &Chosen) -> Result<Job, WordsFau
         Verb::Tag => tagging(alloc, given),
         Verb::ClearChecksums => Ok(Job::ClearSums),
         Verb::ReleaseLocks => Ok(Job::Run(Command::Release)),
+        Verb::UndoUnrecorded => Ok(Job::UndoUnrecorded),
         Verb::History => Ok(Job::History),
         Verb::GenerateChangelog => generating(alloc, given),
         Verb::Drill => drilling(alloc, given),

@@ -20,6 +20,8 @@ pub enum Job {
     RollbackSql(Target),
     /// To take the checksum of each row.
     ClearSums,
+    /// To take back the part of a changeset that a stop left without a row.
+    UndoUnrecorded,
     /// To print the rows of the changesets that ran, in the order in which they did.
     History,
     /// To print a changelog by this author that makes the present objects.
@@ -41,6 +43,7 @@ impl Drop for Job {
             Job::UpdateTestingRollback => (),
             Job::RollbackSql(it) => drop(it),
             Job::ClearSums => (),
+            Job::UndoUnrecorded => (),
             Job::History => (),
             Job::Generate(it) => drop(it),
             Job::Drill(it) => drop(it),

@@ -8,7 +8,7 @@ pub mod Generates
 mod InOneTurn
 mod Inserted
 pub mod Jobbed
-mod LoadedTexts
+pub mod LoadedTexts
 mod MayWrite
 pub mod PlainRefusals
 pub mod Planned

@@ -89,6 +89,7 @@ is_plain (status.Halted place why) is = refl
 is_plain (status.Refused identity statement kept reason) is = absurd (false_true is)
 is_plain status.NoTarget is = refl
 is_plain (status.NotReversible of) is = refl
+is_plain status.NothingToUndo is = absurd (false_true is)
 is_plain (status.NotWritable at) is = absurd (false_true is)
 is_plain status.DiskFault is = absurd (false_true is)
 is_plain (status.Damaged at) is = absurd (false_true is)

@@ -301,6 +301,7 @@ no_output (status.Invalid faults) none finished = not_true finished
 no_output (status.Locked lock) none finished = not_true finished
 no_output status.NoTarget none finished = not_true finished
 no_output (status.NotReversible identity) none finished = not_true finished
+no_output status.NothingToUndo none finished = not_true finished
 no_output (status.NotWritable at) none finished = not_true finished
 no_output status.DiskFault none finished = not_true finished
 no_output (status.Damaged at) none finished = not_true finished

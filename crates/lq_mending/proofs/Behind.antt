@@ -6,8 +6,8 @@ use Rattle.std.specs.Prelude.{IfSome, List, None, Option, Some, [], true, â„•, â
 use Rattle.lq_base.specs.declared.dialect.Dialect.{Dialect}
 use Rattle.lq_beside.specs.Replays.{calls_fit}
 use Rattle.lq_run.proofs.Behind.{leaves_left}
-use Rattle.lq_mending.proofs.Left.{leaves_so}
-use Rattle.lq_mending.proofs.Replayed.{in_front}
+use Rattle.lq_run.proofs.Left.{leaves_so}
+use Rattle.lq_run.proofs.Replayed.{in_front}
 use Rattle.lq_run.proofs.Since.{front_of_map, leave_wider}
 use Rattle.lq_run.specs.Commands.{HasDatabase, LeavesAs}
 use Rattle.lq_run.specs.Crashes.{LeftBehind, LeftInCommand}

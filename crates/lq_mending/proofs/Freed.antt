@@ -8,8 +8,8 @@ use Rattle.lq_model.specs.declared.caller.Room.TheVariants.{Release}
 use Rattle.lq_model.specs.declared.fault.StoreFault.{StoreFault}
 use Rattle.lq_model.specs.declared.fault.StoreFault.TheVariants as fault
 use Rattle.lq_run.proofs.Ending.{opened_is}
-use Rattle.lq_mending.proofs.Grows.{calls_grow, closing_entry}
-use Rattle.lq_mending.proofs.Left.{ok_err}
+use Rattle.lq_run.proofs.Grows.{calls_grow, closing_entry}
+use Rattle.lq_run.proofs.Left.{ok_err}
 use Rattle.lq_run.specs.Crashing.{CrashesFor}
 use Rattle.lq_run.specs.Does.{AloneFor, Breaks, DoesAlone, HasNoRoom}
 use Rattle.lq_run.specs.Ends.{IsBefore}

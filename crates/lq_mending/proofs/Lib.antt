@@ -6,9 +6,6 @@ pub mod Fitting
 pub mod Behind
 pub mod Freed
 pub mod Whole
-pub mod Stated
-pub mod Grows
-pub mod Full
-pub mod Left
-pub mod Counting
-pub mod Replayed
+pub mod Undone
+pub mod Passing
+pub mod Marking

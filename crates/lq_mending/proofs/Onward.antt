@@ -5,7 +5,7 @@ use Rattle.std.specs.Prelude.{Bool, List, [], false, true, ◌++◌, ◌||◌, �
 use Rattle.lq_base.specs.declared.dialect.Dialect.{Dialect}
 use Rattle.lq_model.specs.declared.caller.Room.{Room}
 use Rattle.lq_model.specs.declared.caller.Room.TheVariants.{Ordinary, Release}
-use Rattle.lq_mending.proofs.Grows.{calls_grow}
+use Rattle.lq_run.proofs.Grows.{calls_grow}
 use Rattle.lq_run.specs.Ends.{IsBefore}
 use Rattle.lq_run.specs.NoChanges.{no_changes}
 use Rattle.lq_turns.specs.Contents.{Contents, contents_of}

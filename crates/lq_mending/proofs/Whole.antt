@@ -14,7 +14,7 @@ use Rattle.lq_model.specs.Step.{step}
 use Rattle.lq_model.specs.declared.caller.By.TheVariants.{User}
 use Rattle.lq_model.specs.declared.statement.Statement.{Statement}
 use Rattle.lq_reverse.specs.Back.{back}
-use Rattle.lq_mending.proofs.Left.{stands_there}
+use Rattle.lq_run.proofs.Left.{stands_there}
 use Rattle.lq_run.proofs.Since.{leave_then}
 use Rattle.lq_run.specs.Commands.{HasDatabase}
 use Rattle.lq_run.specs.Faults.{is_disk_end}

@@ -12,7 +12,7 @@ ghost use Rattle.lq_run.specs.Steps.{end_of};
 
 use crate::taking_back::take_back;
 use lq_model::{SqlText, Statement, StoreFault};
-use lq_repair::Unrecorded;
+use lq_repair::{Unrecorded, next_back};
 use lq_run::{End, free_lock};
 use lq_statement::laws::statements_read_back;
 use lq_store::Store;
@@ -64,7 +64,7 @@ pub fn repair<S: Store, P: SqlText>(
     statements_read_back();
     let _count = statements.len();
     let mut rest = statements;
-    while let Some((statement, before)) = rest.split_last() {
+    while let Some((statement, before)) = next_back(rest) {
         let number = rest.len();
         match take_back(alloc, of, number, statement, session, store, sql) {
             Ok(()) => rest = before,

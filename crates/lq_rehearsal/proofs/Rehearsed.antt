@@ -67,6 +67,7 @@ done_is status.WriteFault is = absurd (not_true is)
 done_is status.OutOfMemory is = absurd (not_true is)
 done_is (status.Busy session) is = absurd (not_true is)
 done_is (status.NotWritable place) is = absurd (not_true is)
+done_is status.NothingToUndo is = absurd (not_true is)
 
 pub done_not : (s : Status) → is_done s ≡ false → s ≡ status.Done → ⊥
 done_not s is done = not_true (sym is ∙ ap is_done done)

@@ -3,6 +3,8 @@
 
 mod counting;
 mod laying;
+mod order;
 
 pub use counting::standing;
 pub use laying::{Unrecorded, back_hand};
+pub use order::next_back;

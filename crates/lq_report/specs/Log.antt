@@ -1,6 +1,6 @@
 -- The lines of the log. Each begins with `liquibase: ` and ends with a line feed.
 use Rattle.std.specs.Fmt.{decimal}
-use Rattle.std.specs.Prelude.{ℕ, List, [], ◌++◌, Option, codes}
+use Rattle.std.specs.Prelude.{ℕ, List, [], ◌++◌, ◌==◌, ◌&&◌, Bool, Option, codes, if◌then◌else◌, length}
 use Rattle.std.specs.Option.{option_map_or}
 use Rattle.lq_base.specs.declared.dialect.Dialect.{Dialect}
 use Rattle.lq_base.specs.declared.identity.Identity.{Identity}
@@ -31,6 +31,7 @@ fixed_line fixed.Usage = said (codes "usage: liquibase COMMAND --url=DIALECT:FIL
 fixed_line fixed.ReadFault = said (codes "cannot read the files")
 fixed_line fixed.TooMany = said (codes "changelog fault: too many changesets or files")
 fixed_line fixed.NothingToTag = said (codes "no changeset to tag")
+fixed_line fixed.NothingToUndo = said (codes "nothing to undo")
 fixed_line fixed.DiskFault = said (codes "database fault")
 fixed_line fixed.WriteFault = said (codes "cannot write the output")
 fixed_line fixed.OutOfMemory = said (codes "out of memory")
@@ -49,8 +50,16 @@ refused_line identity statement kept reason =
 unfoldable pub no_tag_line : List ℕ → List ℕ
 no_tag_line tag = log_line (codes "no changeset has the tag " ++ tag)
 
+-- it has neither id nor author
+abbrev pub has_file_alone : Identity → Bool
+has_file_alone identity = (length identity.id == 0) && (length identity.author == 0)
+
+-- a changeset; a mark that names none is its text alone
+abbrev pub undoable_text : Identity → List ℕ
+undoable_text identity = if has_file_alone identity then identity.file else identity_text identity
+
 unfoldable pub not_reversible_line : Identity → List ℕ
-not_reversible_line identity = log_line (codes "no rollback for " ++ identity_text identity)
+not_reversible_line identity = log_line (codes "no rollback for " ++ undoable_text identity)
 
 unfoldable pub not_writable_line : List ℕ → List ℕ
 not_writable_line at = log_line (codes "cannot write " ++ at)

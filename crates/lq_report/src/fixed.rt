@@ -12,6 +12,8 @@ pub enum FixedLine {
     TooMany,
     /// `tag` found no row.
     NothingToTag,
+    /// The lock is free, or has no mark of a changeset that a stop cut off.
+    NothingToUndo,
     /// The database file could not be read or written.
     DiskFault,
     /// The output could not be written.
@@ -33,6 +35,7 @@ impl FixedLine {
             FixedLine::ReadFault => "liquibase: cannot read the files\n",
             FixedLine::TooMany => "liquibase: changelog fault: too many changesets or files\n",
             FixedLine::NothingToTag => "liquibase: no changeset to tag\n",
+            FixedLine::NothingToUndo => "liquibase: nothing to undo\n",
             FixedLine::DiskFault => "liquibase: database fault\n",
             FixedLine::WriteFault => "liquibase: cannot write the output\n",
             FixedLine::OutOfMemory => "liquibase: out of memory\n",

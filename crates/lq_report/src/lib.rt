@@ -27,7 +27,7 @@ pub use fixed::{FixedLine, validated_text};
 pub use happened::{rollback_text, sync_text, update_text};
 pub use history::history_text;
 pub use lock::{append_locked, release_text};
-pub use mark::{Mark, mark_of};
+pub use mark::{Form, Mark, mark_of, mark_text};
 pub use printed::sql_text;
 pub use run_log::{
     append_busy, append_damaged, append_full, append_halted, append_no_tag, append_not_reversible,

@@ -1,7 +1,8 @@
-ghost use Rattle.std.specs.Prelude.{◌≡◌, ◌++◌, OnOk, option_map};
+ghost use Rattle.std.specs.Prelude.{◌≡◌, ◌++◌, IfOk, OnOk, option_map};
 ghost use Rattle.lq_report.specs.Mark.{at_last_bar, is_count, statement_of, mark_of, mark_text};
 
 use lq_base::{NoMemory, Text, is_digits};
+use std::alloc::Global;
 
 /// What a marked statement is: a changeset's own, one that takes a row back, or one that takes back a statement without a row.
 #[derive(Clone, Copy)]
@@ -91,4 +92,14 @@ pub(crate) fn append_mark(
         Form::Back => ", back statement ",
     };
     to.push_all(&[before, mark.identity, kind, mark.statement, after])
+}
+
+/// `IDENTITY, statement K`, or with `undo statement` or `back statement`.
+pub fn mark_text(alloc: Global, mark: &Mark) -> Result<Text, NoMemory>
+    ensures { IfOk result (λ text.
+        text ≡ mark_text (mark.now.identity.now, mark.now.form, mark.now.statement.now)) }
+{
+    let mut text = Text::new(alloc, "")?;
+    append_mark("", mark, "", &mut text)?;
+    Ok(text)
 }

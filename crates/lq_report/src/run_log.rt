@@ -1,5 +1,5 @@
-ghost use Rattle.std.specs.Prelude.{◌≡◌, ◌++◌, OnOk};
-ghost use Rattle.lq_report.specs.Log.{warning_line, halted_line, refused_line, no_tag_line, not_reversible_line, not_writable_line, damaged_line, full_line, busy_line};
+ghost use Rattle.std.specs.Prelude.{◌≡◌, ◌++◌, ◌==◌, OnOk, length};
+ghost use Rattle.lq_report.specs.Log.{warning_line, halted_line, refused_line, no_tag_line, not_reversible_line, not_writable_line, damaged_line, full_line, busy_line, has_file_alone, undoable_text};
 
 use crate::log_line::{append_line, append_parts};
 use crate::parts::{append_counted, append_named, append_place, append_why};
@@ -77,8 +77,30 @@ pub fn append_not_reversible(
     ensures { OnOk result (to.new ≡ to.old ++ not_reversible_line identity.now) }
 {
     let mut text = Text::new(alloc, "no rollback for ")?;
-    identity.append_to(&mut text)?;
+    append_undoable(identity, &mut text)?;
     append_line(alloc, text.as_str(), to)
+}
+
+// A changeset. A mark that names none is an identity with its text for the file, and no more.
+fn append_undoable(identity: &Identity, to: &mut Text) -> Result<(), NoMemory>
+    ensures { OnOk result (to.new ≡ to.old ++ undoable_text identity.now) }
+{
+    if has_file_alone(identity) {
+        return to.push_str(identity.file.as_str());
+    }
+    identity.append_to(to)
+}
+
+fn has_file_alone(identity: &Identity) -> bool
+    ensures { result ≡ has_file_alone identity.now }
+{
+    is_nothing(&identity.id) && is_nothing(&identity.author)
+}
+
+fn is_nothing(text: &Text) -> bool
+    ensures { result ≡ (length text.now == 0) }
+{
+    text.as_str().is_empty()
 }
 
 /// Appends the line for what a generated changelog cannot say.

@@ -3,7 +3,7 @@ pub mod Doing
 pub mod Rooms
 mod AllWorks
 mod ToldCalls
-mod Stated
+pub mod Stated
 mod WentOn
 mod Makes
 mod Takes
@@ -11,18 +11,18 @@ mod Known
 mod Stepping
 pub mod Losing
 mod Names
-mod Grows
-mod Full
+pub mod Grows
+pub mod Full
 pub mod Keeping
 pub mod Ending
 mod Opens
 pub mod Begins
-mod Counting
+pub mod Counting
 pub mod Beside
-mod Left
+pub mod Left
 pub mod Whole
 mod Stopped
-mod Replayed
+pub mod Replayed
 pub mod Behind
 pub mod Since
 mod CallCrashes

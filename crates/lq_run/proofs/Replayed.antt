@@ -341,3 +341,43 @@ module _ (read : StatementsReadBack) (d : Dialect) (calls : List Call) (database
       by : IsCut s.entries (Locks Freed ∷ []) front → LeftInCommand d calls database there left
       by (inl all) = in_closed there left (left_is ∙ ap (λ es. there ++ entries_of d es) (all ∙ sym entries_are))
       by (inr begun) = in_front there left front (begun.0 ++ before.more) (before.entries ∙ ap (λ es. es ++ before.more) begun.1 ∙ append_assoc front begun.0 before.more) left_is
+
+-- the texts of what a stop leaves are read back
+
+abbrev pub IsRead : Dialect → Deed → Type 0
+IsRead d deed = statement_in d (deed_text d deed) ≡ Some (made_of d deed).1
+
+abbrev pub AreRead : Dialect → List Deed → Type 0
+AreRead d [] = Unit {0}
+AreRead d (deed ∷ deeds) = IsRead d deed × AreRead d deeds
+
+read_both : (d : Dialect) (deeds more : List Deed) → AreRead d deeds → AreRead d more → AreRead d (deeds ++ more)
+read_both d [] more first second = second
+read_both d (deed ∷ deeds) more first second = (first.0, read_both d deeds more first.1 second)
+
+module _ (read : StatementsReadBack) (d : Dialect) where
+  deeds_read : (deeds : List Deed) (a b : Database) → Goes d deeds a b → AreRead d deeds
+  deeds_read [] a b go = tt
+  deeds_read (deed ∷ deeds) a b go = (read d (made_of d deed).1 (is_stated d deed a go.0 go.1 go.2), deeds_read deeds go.0 b go.3)
+
+  entries_read : (entries : Journal) (a b : Database) → AllGo d entries a b → AreRead d (joined entries)
+  entries_read [] a b go = tt
+  entries_read (deeds ∷ entries) a b go = read_both d deeds (joined entries) (deeds_read deeds a go.0 go.1) (entries_read entries go.0 b go.2)
+
+  -- what a mark's deed sets, and what frees the lock
+  pub mark_read : (by : List ℕ) → IsRead d (Locks (Marked by))
+  mark_read by = read d (made_of d (Locks (Marked by))).1 (stated_marked d by)
+
+  freed_read : AreRead d (joined freed)
+  freed_read = (read d (made_of d (Locks Freed)).1 (stated_freed d), tt)
+
+  pub left_read : (calls : List Call) (database : Database) → calls_fit d calls (session_on database) ≡ true → (written : Journal) → IsLeft d calls database [] written → AreRead d (joined written)
+  left_read calls database fit written left = elim left.is as (λ _. AreRead d (joined written)) [
+    | inl front ↦ subst (λ es. AreRead d (joined es)) (sym front) of_front
+    | inr closed ↦ subst (λ es. AreRead d (joined es)) (sym closed.0) (subst (AreRead d) (sym (joined_both left.front freed)) (read_both d (joined left.front) (joined freed) of_front freed_read))
+  ] where
+    of_front : AreRead d (joined left.front)
+    of_front =
+        let all = all_go read d calls database fit in
+        let parts = all_parted d left.front left.rest database (all_called d calls (session_on database)).committed (subst (λ es. AllGo d es database (all_called d calls (session_on database)).committed) left.entries all) in
+        entries_read left.front database parts.mid parts.first

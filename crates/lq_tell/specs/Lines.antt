@@ -47,6 +47,7 @@ status_lines tag (status.Halted place why) = halted_at place why
 status_lines tag (status.Refused identity statement kept reason) = refused_line identity statement kept reason
 status_lines tag status.NoTarget = no_target_line tag
 status_lines tag (status.NotReversible identity) = not_reversible_line identity
+status_lines tag status.NothingToUndo = fixed_line fixed.NothingToUndo
 status_lines tag (status.NotWritable at) = not_writable_line at
 status_lines tag status.DiskFault = fixed_line fixed.DiskFault
 status_lines tag (status.Damaged at) = damaged_line at

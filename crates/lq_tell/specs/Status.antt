@@ -21,4 +21,5 @@ code_of (status.Full used next) = 13
 code_of status.WriteFault = 14
 code_of status.OutOfMemory = 15
 code_of (status.Busy session) = 16
+code_of status.NothingToUndo = 18
 code_of (status.NotWritable at) = 19

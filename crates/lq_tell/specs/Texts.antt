@@ -16,6 +16,7 @@ has_output (status.Halted place why) = true
 has_output (status.Refused identity statement kept reason) = true
 has_output status.NoTarget = false
 has_output (status.NotReversible identity) = false
+has_output status.NothingToUndo = false
 has_output (status.NotWritable at) = false
 has_output status.DiskFault = false
 has_output (status.Damaged at) = false

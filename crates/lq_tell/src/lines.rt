@@ -49,6 +49,7 @@ fn append_status(
         } => append_refused(alloc, identity, *statement, *kept, *reason, to),
         Status::NoTarget => append_no_target(alloc, tag, to),
         Status::NotReversible(of) => append_not_reversible(alloc, of, to),
+        Status::NothingToUndo => append_fixed(FixedLine::NothingToUndo, to),
         Status::NotWritable(at) => append_not_writable(alloc, at.as_str(), to),
         Status::DiskFault => append_fixed(FixedLine::DiskFault, to),
         Status::Damaged { at } => append_damaged(*at, to),

@@ -33,6 +33,8 @@ pub enum Status {
     NoTarget,
     /// Nothing takes the row of this changeset back.
     NotReversible(Identity),
+    /// The lock is free, or has no mark of a changeset that a stop cut off.
+    NothingToUndo,
     /// A changelog cannot say what stands here: an object, a column of one, or all of it.
     NotWritable(Text),
     /// The database file could not be read or written.
@@ -90,6 +92,7 @@ impl Status {
             Status::WriteFault => 14,
             Status::OutOfMemory => 15,
             Status::Busy(_) => 16,
+            Status::NothingToUndo => 18,
             Status::NotWritable(_) => 19,
         }
     }

@@ -116,6 +116,7 @@ no_copy_place d told (status.Halted identity why) is place damaged = absurd is
 no_copy_place d told (status.Refused identity statement kept reason) is place damaged = absurd is
 no_copy_place d told status.NoTarget is place damaged = absurd is
 no_copy_place d told (status.NotReversible of) is place damaged = absurd is
+no_copy_place d told status.NothingToUndo is place damaged = absurd is
 no_copy_place d told (status.NotWritable at) is place damaged = absurd is
 no_copy_place d told (status.Full used next) is place damaged = absurd is
 no_copy_place d told status.WriteFault is place damaged = absurd is

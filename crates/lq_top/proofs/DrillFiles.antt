@@ -33,6 +33,7 @@ finds_same files meant other same (Err (status.Halted place why)) finds = absurd
 finds_same files meant other same (Err (status.Refused identity statement kept reason)) finds = absurd finds
 finds_same files meant other same (Err status.NoTarget) finds = absurd finds
 finds_same files meant other same (Err (status.NotReversible identity)) finds = absurd finds
+finds_same files meant other same (Err status.NothingToUndo) finds = absurd finds
 finds_same files meant other same (Err (status.NotWritable at)) finds = absurd finds
 finds_same files meant other same (Err status.DiskFault) finds = absurd finds
 finds_same files meant other same (Err (status.Damaged at)) finds = absurd finds

@@ -2,7 +2,7 @@
 use Rattle.std.proofs.Common.{ap, refl, sym, ◌∙◌}
 use Rattle.std.specs.Prelude.{Err, List, Ok, Option, Result, false, true, ℕ, ◌≡◌}
 use Rattle.lq_cli.specs.declared.line.Job.{Job}
-use Rattle.lq_cli.specs.declared.line.Job.TheVariants.{Drill, History, RollbackSql, Run, Soak, UpdateCount, UpdateSql, UpdateTestingRollback, UpdateTo, Generate, ClearSums}
+use Rattle.lq_cli.specs.declared.line.Job.TheVariants.{Drill, History, RollbackSql, Run, Soak, UpdateCount, UpdateSql, UpdateTestingRollback, UpdateTo, Generate, ClearSums, UndoUnrecorded}
 use Rattle.lq_cli.specs.declared.line.Line.{Line}
 use Rattle.lq_expr.specs.declared.options.Options.{Options}
 use Rattle.lq_kinds.specs.declared.change_set.Changelog.{Changelog}
@@ -33,6 +33,7 @@ by_job (Generate author) other drill = other refl
 by_job (RollbackSql target) other drill = other refl
 by_job (Drill runs) other drill = drill runs refl
 by_job (Soak number sets) other drill = other refl
+by_job UndoUnrecorded other drill = other refl
 
 -- what the files give them
 
@@ -51,6 +52,7 @@ other_given (Generate author) source line plain = refl
 other_given (RollbackSql target) source line plain = refl
 other_given (Drill runs) source line plain = absurd (true_false plain)
 other_given (Soak number sets) source line plain = refl
+other_given UndoUnrecorded source line plain = refl
 
 -- a drill that cannot be read has the fault of its files
 
@@ -74,4 +76,5 @@ meant_same told faults crashes files meant other same job options stamp before d
   in_vain = λ source whole tells gives. did.in_vain source whole tells (same source ∙ gives);
   does = λ source whole g tells gives. did.does source whole g tells (same source ∙ gives);
   any_moment = λ source whole g tells gives. did.any_moment source whole g tells (same source ∙ gives);
+  undone = λ source whole g tells gives. did.undone source whole g tells (same source ∙ gives);
 }

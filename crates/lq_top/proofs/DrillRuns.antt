@@ -85,6 +85,7 @@ module _ (d : Dialect) (who : List ℕ) (drill : Drilling) (readings : List ℕ)
   part_ends (status.Refused identity statement kept reason) kind did = absurd (false_true kind)
   part_ends status.NoTarget kind did = absurd (false_true kind)
   part_ends (status.NotReversible identity) kind did = absurd (false_true kind)
+  part_ends status.NothingToUndo kind did = absurd (false_true kind)
   part_ends (status.NotWritable at) kind did = absurd (false_true kind)
   part_ends status.WriteFault kind did = absurd (false_true kind)
   part_ends (status.Busy session) kind did = absurd (false_true kind)
@@ -116,6 +117,7 @@ undrilled (status.Halted place why) kind has = false_true kind
 undrilled (status.Refused identity statement kept reason) kind has = false_true kind
 undrilled status.NoTarget kind has = false_true kind
 undrilled (status.NotReversible identity) kind has = false_true kind
+undrilled status.NothingToUndo kind has = false_true kind
 undrilled (status.NotWritable at) kind has = false_true kind
 undrilled status.WriteFault kind has = false_true kind
 undrilled (status.Busy session) kind has = false_true kind

@@ -21,12 +21,12 @@ use Rattle.lq_turns.specs.declared.stamp.Stamp.{Stamp}
 use Rattle.lq_top.proofs.DamagedFiles.{fails_so, files_tell, spares_by}
 use Rattle.lq_top.proofs.InPart.{in_vain_goes_on}
 use Rattle.lq_top.proofs.LeftOnFile.{crashes_on, since_none}
-use Rattle.lq_top.proofs.Loading.{failing, fails_does, fails_in_vain, false_true, fault_given, files_damage, files_kind, is_loaded, line_kind, no_changelog_fault, no_disk_fault, no_files, not_less, not_loaded as fault_not_loaded, ok_same, some_line}
+use Rattle.lq_top.proofs.Loading.{failing, fails_anyway, fails_does, fails_in_vain, false_true, fault_given, files_damage, files_kind, is_loaded, line_kind, no_changelog_fault, no_disk_fault, no_files, not_less, not_loaded as fault_not_loaded, ok_same, some_line}
 use Rattle.lq_top.specs.Asks.{Asks, Files, asked_by, file_status, given_to}
 use Rattle.lq_top.specs.Bytes.{CrashesOn, OnFile, given_at}
 use Rattle.lq_top.specs.Jobs.{DoesJob, IsLoaded, is_on_file, job_script, misses}
 use Rattle.lq_top.specs.Run.{Crashes, given_by}
-use Rattle.lq_top.specs.Worked.{CrashesJob, WorkedBy, WorkedOn, WorkedWith}
+use Rattle.lq_top.specs.Worked.{CrashesJob, UndoneOn, WorkedBy, WorkedOn, WorkedWith}
 
 files_unfinished : (f : LoadFault) → is_finished (file_status f) ≡ true → ⊥
 files_unfinished load.Read finished = false_true finished
@@ -63,6 +63,7 @@ module _ {D : Type 0} (told : D → Option (List ℕ)) (faults : D → ℕ) (cra
         let part = subst (λ (h : Changelog). part_for job h ≡ Some g) (sym (ok_same (sym (found source tells) ∙ gives))) is_part in
         inr (did.loaded g part, did.does g part on database opens);
     any_moment = λ source whole g tells gives is_part. did.any_moment g (subst (λ (h : Changelog). part_for job h ≡ Some g) (sym (ok_same (sym (found source tells) ∙ gives))) is_part);
+    undone = λ source whole g tells gives is_part is. inr (did.undone g (subst (λ (h : Changelog). part_for job h ≡ Some g) (sym (ok_same (sym (found source tells) ∙ gives))) is_part) is);
   }
 
   pub unloaded_worked : (f : LoadFault) → Finds files meant (Err f) → WorkedBy told faults crashes files meant job options stamp before (failing (file_status f)) before
@@ -83,6 +84,7 @@ module _ {D : Type 0} (told : D → Option (List ℕ)) (faults : D → ℕ) (cra
     in_vain = λ source whole tells gives none. fails_in_vain files meant f finds source tells whole gives before;
     does = λ source whole g tells gives is_part. fails_does files meant f finds source tells whole gives job (given_at (asked_by options g) stamp) (told before);
     any_moment = λ source whole g tells gives is_part on database opens. since_none options.dialect (job_script job (given_at (asked_by options g) stamp) database) database (told before) (crashes before);
+    undone = λ source whole g tells gives is_part is. inl (fails_anyway files meant f finds source tells whole gives before);
   }
 
 some_part : {a b : Changelog} → (let o : Option Changelog = Some a in o) ≡ Some b → a ≡ b
@@ -103,6 +105,7 @@ module _ {D : Type 0} (told : D → Option (List ℕ)) (faults : D → ℕ) (cra
     loaded = λ g is_part. subst (λ (h : Changelog). IsLoaded options.dialect h) (some_part (sym is ∙ is_part)) loaded;
     does = λ g is_part. subst (λ (h : Changelog). is_on_file job ≡ true → OnFile options.dialect (told before) (λ database. DoesJob job (given_at (asked_by options h) stamp) database (told before) done (told after))) (some_part (sym is ∙ is_part)) did.does;
     any_moment = λ g is_part. subst (λ (h : Changelog). CrashesJob job (given_at (asked_by options h) stamp) (told before) (crashes before) (crashes after)) (some_part (sym is ∙ is_part)) did.any_moment;
+    undone = λ g is_part undoes. subst (λ (h : Changelog). UndoneOn told faults crashes options h before done after) (some_part (sym is ∙ is_part)) (did.undone undoes);
   }
 
   -- there is none
@@ -122,6 +125,7 @@ module _ {D : Type 0} (told : D → Option (List ℕ)) (faults : D → ℕ) (cra
     loaded = λ g is_part. absurd (none_part (sym none ∙ is_part));
     does = λ g is_part. absurd (none_part (sym none ∙ is_part));
     any_moment = λ g is_part. absurd (none_part (sym none ∙ is_part));
+    undone = λ g is_part. absurd (none_part (sym none ∙ is_part));
   }
     where
       target_disk : failing status.NoTarget ≡ Err status.DiskFault → ⊥

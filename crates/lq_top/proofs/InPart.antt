@@ -9,7 +9,7 @@ use Rattle.lq_base.specs.declared.command.Command.TheVariants as command
 use Rattle.lq_base.specs.declared.tracking.Lock.{Lock}
 use Rattle.lq_base.specs.declared.tracking.Tracked.{Tracked}
 use Rattle.lq_cli.specs.declared.line.Job.{Job}
-use Rattle.lq_cli.specs.declared.line.Job.TheVariants.{Drill, History, RollbackSql, Run, Soak, UpdateCount, UpdateSql, UpdateTestingRollback, UpdateTo, Generate, ClearSums}
+use Rattle.lq_cli.specs.declared.line.Job.TheVariants.{Drill, History, RollbackSql, Run, Soak, UpdateCount, UpdateSql, UpdateTestingRollback, UpdateTo, Generate, ClearSums, UndoUnrecorded}
 use Rattle.lq_commands.proofs.PlainRefusals.{IsPlain, refusal_plain, rehearsal_plain, held_plain}
 use Rattle.lq_commands.specs.Parts.{counted_in, part_for}
 use Rattle.lq_commands.specs.Refusals.{Answers, IsFault, held, if_halts, if_some, invalid, own_halt, unready}
@@ -60,6 +60,7 @@ own_beside History own = refl
 own_beside (Generate author) own = refl
 own_beside (Drill path) own = refl
 own_beside (Soak number sets) own = absurd (false_true own)
+own_beside UndoUnrecorded own = refl
 
 pub own_calls : (job : Job) → is_own job ≡ true → (given : Given) (database : Database) → job_calls job given database ≡ job_script job given database
 own_calls (Run c) own given database = refl
@@ -73,6 +74,7 @@ own_calls History own given database = refl
 own_calls (Generate author) own given database = refl
 own_calls (Drill path) own given database = refl
 own_calls (Soak number sets) own given database = refl
+own_calls UndoUnrecorded own given database = refl
 
 generate_plain : (o : Option (List ℕ)) → IsPlain (option_map status.NotWritable o)
 generate_plain None = tt
@@ -99,6 +101,7 @@ own_plain History own given database = tt
 own_plain (Generate author) own given database = generate_plain (fault_at given.options.dialect author database.users)
 own_plain (Drill path) own given database = tt
 own_plain (Soak number sets) own given database = tt
+own_plain UndoUnrecorded own given database = tt
 
 -- it had its part
 
@@ -167,6 +170,7 @@ has_aim History own given database done answers = no_goal History done refl
 has_aim (Generate author) own given database done answers = no_goal (Generate author) done refl
 has_aim (Drill path) own given database done answers = no_goal (Drill path) done refl
 has_aim (Soak number sets) own given database done answers = no_goal (Soak number sets) done refl
+has_aim UndoUnrecorded own given database done answers = no_goal UndoUnrecorded done refl
 
 pub memory_aim : (job : Job) (s : Status) → s ≡ status.OutOfMemory → misses job s ≡ false
 memory_aim job s memory = ap (misses job) memory
@@ -191,6 +195,7 @@ in_vain_goes_on History g none = absurd (none_part none)
 in_vain_goes_on (Generate author) g none = absurd (none_part none)
 in_vain_goes_on (Drill path) g none = absurd (none_part none)
 in_vain_goes_on (Soak number sets) g none = absurd (none_part none)
+in_vain_goes_on UndoUnrecorded g none = absurd (none_part none)
 
 pub in_vain_beside : (job : Job) (g : Changelog) → part_for job g ≡ None → is_apart job ≡ false
 in_vain_beside (Run c) g none = refl
@@ -204,6 +209,7 @@ in_vain_beside History g none = refl
 in_vain_beside (Generate author) g none = refl
 in_vain_beside (Drill path) g none = refl
 in_vain_beside (Soak number sets) g none = absurd (none_part none)
+in_vain_beside UndoUnrecorded g none = refl
 
 -- the first changesets were read for the dialect that all were
 
@@ -231,6 +237,7 @@ module _ (given : Given) (database : Database) (run : Command × Given) where
   same_dialect (Generate author) is = absurd (none_some is)
   same_dialect (Drill path) is = absurd (none_some is)
   same_dialect (Soak number sets) is = absurd (none_some is)
+  same_dialect UndoUnrecorded is = absurd (none_some is)
 
   pub command_on_file : (job : Job) → command_by job given database ≡ Some run → is_on_file job ≡ true
   command_on_file (Run c) is = refl
@@ -244,6 +251,7 @@ module _ (given : Given) (database : Database) (run : Command × Given) where
   command_on_file (Generate author) is = refl
   command_on_file (Drill path) is = absurd (none_some is)
   command_on_file (Soak number sets) is = absurd (none_some is)
+  command_on_file UndoUnrecorded is = absurd (none_some is)
 
   pub runs_command : (job : Job) → command_by job given database ≡ Some run → (before : Option (List ℕ)) (s : Status) (after : Option (List ℕ)) → RunsJob job given database before s after → RunsJob (Run run.0) run.1 database before s after
   runs_command (Run c) is before s after ran = subst (λ (r : Command × Given). RunsJob (Run r.0) r.1 database before s after) (some_same is) ran
@@ -261,6 +269,7 @@ module _ (given : Given) (database : Database) (run : Command × Given) where
   runs_command (Generate author) is before s after ran = absurd (none_some is)
   runs_command (Drill path) is before s after ran = absurd (none_some is)
   runs_command (Soak number sets) is before s after ran = absurd (none_some is)
+  runs_command UndoUnrecorded is before s after ran = absurd (none_some is)
 
   pub says_command : (job : Job) → command_by job given database ≡ Some run → (s : Status) (before after : Option (List ℕ)) → SaysJob job given database s before after → SaysJob (Run run.0) run.1 database s before after
   says_command (Run c) is s before after said = subst (λ (r : Command × Given). SaysJob (Run r.0) r.1 database s before after) (some_same is) said
@@ -274,6 +283,7 @@ module _ (given : Given) (database : Database) (run : Command × Given) where
   says_command (Generate author) is s before after said = absurd (none_some is)
   says_command (Drill path) is s before after said = absurd (none_some is)
   says_command (Soak number sets) is s before after said = absurd (none_some is)
+  says_command UndoUnrecorded is s before after said = absurd (none_some is)
 
   -- whose changelog was loaded
   pub loaded_command : (job : Job) → command_by job given database ≡ Some run → IsLoaded given.options.dialect given.changelog → IsLoaded run.1.options.dialect run.1.changelog
@@ -288,3 +298,4 @@ module _ (given : Given) (database : Database) (run : Command × Given) where
   loaded_command (Generate author) is loaded = absurd (none_some is)
   loaded_command (Drill path) is loaded = absurd (none_some is)
   loaded_command (Soak number sets) is loaded = absurd (none_some is)
+  loaded_command UndoUnrecorded is loaded = absurd (none_some is)

@@ -46,6 +46,10 @@ pub mod SoakRuns
 pub mod SoakSays
 pub mod SoakTables
 pub mod Soaked
+pub mod TakenBack
 pub mod Unchanged
+pub mod UndoneOn
+pub mod UndoneOpens
+pub mod UndoneRuns
 pub mod WithClock
 pub mod Written

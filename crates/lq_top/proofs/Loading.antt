@@ -1,6 +1,6 @@
 -- What a command does with what its files give.
 use Rattle.std.proofs.Common.{ap, arith, inl, inr, refl, subst, sym, ◌∙◌}
-use Rattle.std.specs.Prelude.{Bool, Err, List, None, Ok, Option, Result, Some, false, true, ℕ, ◌≡◌, ◌≤◌}
+use Rattle.std.specs.Prelude.{Bool, Err, List, None, Ok, Option, Result, Some, false, true, ℕ, ◌≡◌, ◌≤◌, ◌⊎◌}
 use Rattle.lq_base.specs.declared.dialect.Dialect.{Dialect}
 use Rattle.lq_cli.specs.Line.{line_of}
 use Rattle.lq_cli.specs.declared.line.Job.{Job}
@@ -111,6 +111,11 @@ module _ (told : Files) (meant : Source → Loaded Changelog) (f : LoadFault) wh
   fails_in_vain (inl (inr is)) source tells g gives disk = (inr (inl (ap (λ (e : LoadFault). failing (file_status e)) is)), refl)
   fails_in_vain (inr all) source tells g gives disk = absurd (err_ok (sym (all source tells) ∙ gives))
 
+  pub fails_anyway : {D : Type 0} → Finds told meant (Err f) → (source : Source) → IsTold told source → (g : Changelog) → meant source ≡ Ok g → (disk : D) → ((failing (file_status f) ≡ Err status.ReadFault) ⊎ (failing (file_status f) ≡ Err status.OutOfMemory)) × (disk ≡ disk)
+  fails_anyway (inl (inl is)) source tells g gives disk = (inr (ap (λ (e : LoadFault). failing (file_status e)) is), refl)
+  fails_anyway (inl (inr is)) source tells g gives disk = (inl (ap (λ (e : LoadFault). failing (file_status e)) is), refl)
+  fails_anyway (inr all) source tells g gives disk = absurd (err_ok (sym (all source tells) ∙ gives))
+
   pub fault_given : Finds told meant (Err f) → (fault : LoadFault) → failing (file_status f) ≡ Err (status.Changelog fault) → (source : Source) → IsTold told source → meant source ≡ Err fault
   fault_given (inl (inl is)) fault told_is source tells = absurd (memory_not (ap file_status (sym is) ∙ same_status told_is)) where
     memory_not : status.OutOfMemory ≡ status.Changelog fault → ⊥
@@ -158,6 +163,7 @@ of_line (status.Halted place why) is = refl
 of_line (status.Refused identity statement kept reason) is = refl
 of_line status.NoTarget is = refl
 of_line (status.NotReversible identity) is = refl
+of_line status.NothingToUndo is = refl
 of_line (status.NotWritable at) is = refl
 of_line status.DiskFault is = refl
 of_line (status.Damaged at) is = refl
@@ -181,6 +187,7 @@ not_files (status.Halted place why) kind files = files
 not_files (status.Refused identity statement kept reason) kind files = files
 not_files status.NoTarget kind files = files
 not_files (status.NotReversible identity) kind files = files
+not_files status.NothingToUndo kind files = files
 not_files (status.NotWritable at) kind files = files
 not_files status.DiskFault kind files = files
 not_files (status.Damaged at) kind files = files
@@ -210,6 +217,7 @@ of_soak (status.Halted place why) is = is
 of_soak (status.Refused identity statement kept reason) is = is
 of_soak status.NoTarget is = is
 of_soak (status.NotReversible identity) is = is
+of_soak status.NothingToUndo is = is
 of_soak (status.NotWritable at) is = is
 of_soak status.DiskFault is = refl
 of_soak (status.Damaged at) is = refl
@@ -233,6 +241,7 @@ soak_whole d told (status.Halted place why) kind = tt
 soak_whole d told (status.Refused identity statement kept reason) kind = tt
 soak_whole d told status.NoTarget kind = tt
 soak_whole d told (status.NotReversible identity) kind = tt
+soak_whole d told status.NothingToUndo kind = tt
 soak_whole d told (status.NotWritable at) kind = tt
 soak_whole d told status.DiskFault kind = tt
 soak_whole d told (status.Damaged at) kind = absurd (false_true kind)
@@ -285,6 +294,7 @@ of_words (status.Halted place why) is = refl
 of_words (status.Refused identity statement kept reason) is = refl
 of_words status.NoTarget is = refl
 of_words (status.NotReversible identity) is = refl
+of_words status.NothingToUndo is = refl
 of_words (status.NotWritable at) is = refl
 of_words status.DiskFault is = refl
 of_words (status.Damaged at) is = refl

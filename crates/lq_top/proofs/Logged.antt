@@ -8,7 +8,7 @@ use Rattle.lq_base.specs.declared.command.Target.{Target}
 use Rattle.lq_cli.specs.Line.{line_of}
 use Rattle.lq_cli.specs.Job.{goal_of}
 use Rattle.lq_cli.specs.declared.line.Job.{Job}
-use Rattle.lq_cli.specs.declared.line.Job.TheVariants.{Drill, History, RollbackSql, Run, Soak, UpdateCount, UpdateSql, UpdateTestingRollback, UpdateTo, Generate, ClearSums}
+use Rattle.lq_cli.specs.declared.line.Job.TheVariants.{Drill, History, RollbackSql, Run, Soak, UpdateCount, UpdateSql, UpdateTestingRollback, UpdateTo, Generate, ClearSums, UndoUnrecorded}
 use Rattle.lq_commands.proofs.Warned.{back_quiet}
 use Rattle.lq_commands.specs.Generates.{generate_text}
 use Rattle.lq_commands.specs.Inserts.{TellsSync, synced_in}
@@ -54,6 +54,7 @@ beside_over (status.Halted place why) over = refl
 beside_over (status.Refused identity statement kept reason) over = refl
 beside_over status.NoTarget over = refl
 beside_over (status.NotReversible identity) over = refl
+beside_over status.NothingToUndo over = refl
 beside_over (status.NotWritable at) over = refl
 beside_over status.DiskFault over = absurd (false_true over)
 beside_over (status.Damaged at) over = refl
@@ -113,6 +114,7 @@ ok_warned UpdateSql given database done on tells finished = update_warned given 
 ok_warned (RollbackSql target) given database done on tells finished = rollback_warned given database done true target (tells finished)
 ok_warned (Drill path) given database done on tells finished = absurd (false_true on)
 ok_warned (Soak number sets) given database done on tells finished = absurd (false_true on)
+ok_warned UndoUnrecorded given database done on tells finished = absurd (false_true on)
 
 err_warned : (job : Job) (given : Given) (database : Database) (x : Status) → job_refusal job given database ≡ Some x → is_finished x ≡ true → [] ≡ job_warnings job given database
 err_warned (Run command.Validate) given database x refused finished = refl
@@ -141,6 +143,7 @@ err_warned UpdateSql given database x refused finished =
 err_warned (RollbackSql target) given database x refused finished = refl
 err_warned (Drill path) given database x refused finished = refl
 err_warned (Soak number sets) given database x refused finished = refl
+err_warned UndoUnrecorded given database x refused finished = refl
 
 job_warned : (job : Job) (given : Given) (database : Database) (file left : Option (List ℕ)) (done : Result Done Status) → is_on_file job ≡ true → DoesJob job given database file done left → is_finished (status_done done) ≡ true
     → warnings_of done ≡ job_warnings job given database

@@ -26,6 +26,7 @@ use Rattle.lq_top.proofs.LeftOnFile.{since_after, since_none, since_read}
 use Rattle.lq_top.proofs.OnFiles.{does_nothing, does_there, fault_kind, fault_rises, fault_tells, load_unfinished, memory_kind, memory_no_disk, memory_tells, memory_unfinished, moments_there, refused_does, rose_later, settled_after}
 use Rattle.lq_top.proofs.OnReady.{ready_kind, ready_tells}
 use Rattle.lq_top.proofs.Ready.{opened}
+use Rattle.lq_top.proofs.UndoneOn.{memory_undone}
 use Rattle.lq_top.specs.Bytes.{OnFile, TellsDamage, load_status, most_bytes}
 use Rattle.lq_top.specs.Jobs.{DoesJob, MakesAgain, goes_on, is_apart, is_on_file, is_own, job_reads, job_refusal, job_script, misses}
 use Rattle.lq_top.specs.Kinds.{IsOfDatabase}
@@ -62,6 +63,7 @@ module _ {D : Type 0} (told : D → Option (List ℕ)) (faults : D → ℕ) (cra
     has_part = no_goal job done no_tag;
     does = λ on. absurd (true_false (sym on ∙ off));
     any_moment = λ on. absurd (true_false (sym on ∙ off));
+    undone = λ is. absurd (true_false (sym apart ∙ ap is_apart is));
   }
 
   -- a command on a database that was loaded
@@ -105,6 +107,7 @@ module _ {D : Type 0} (told : D → Option (List ℕ)) (faults : D → ℕ) (cra
           let has = opened d p (told (disk_in db)) (crashes (disk_in db)) h db is new (told (disk_in db)) database refl read opens in
           moments_there d p (told (disk_in db)) (crashes (disk_in db)) h db is new.limit_is opens.bytes opens.told_is (told (disk_in left)) (crashes (disk_in left)) k left valid database has
           (job_script job given database) r (works database has) (moments database has);
+      undone = λ is. absurd (true_false (sym own ∙ ap is_own is));
     }
 
   module _ (given : Given) (disk : D) where
@@ -123,6 +126,7 @@ module _ {D : Type 0} (told : D → Option (List ℕ)) (faults : D → ℕ) (cra
       has_part = memory_aim job s memory;
       does = λ on database opens. does_nothing job given database (told disk) (told disk) s memory opens refl;
       any_moment = λ on database opens. since_none given.options.dialect (job_script job given database) database (told disk) (crashes disk);
+      undone = λ is. memory_undone told faults crashes given.options given.changelog disk s memory;
     }
 
     module _ (sound : IsSound (told disk) (crashes disk)) (after : D) (same : told after ≡ told disk) (later : faults disk ≤ faults after) (read : LeavesOnly (crashes disk) (crashes after) (crashes disk).leaves) where
@@ -143,6 +147,7 @@ module _ {D : Type 0} (told : D → Option (List ℕ)) (faults : D → ℕ) (cra
         any_moment = λ on database opens.
             since_after given.options.dialect (job_script job given database) database (told disk) (crashes disk) sound (crashes after) (crashes last) read
             (subst (λ o. CrashesJob job given o (crashes after) (crashes last)) same did.any_moment on database opens);
+        undone = λ is. absurd (true_false (sym own ∙ ap is_own is));
       }
 
       -- it could not be loaded
@@ -160,4 +165,5 @@ module _ {D : Type 0} (told : D → Option (List ℕ)) (faults : D → ℕ) (cra
         has_part = ap (misses job) is_status ∙ load_aim job f;
         does = λ on. refused_does (told disk) (told after) (faults disk) (faults after) f s is_status job given is same;
         any_moment = λ on database opens. since_read given.options.dialect (job_script job given database) database (told disk) (crashes disk) sound (crashes after) read;
+        undone = λ is. absurd (true_false (sym own ∙ ap is_own is));
       }

@@ -107,7 +107,7 @@ module _ {D P E : Type 0} (d p : Dialect) (told : Option (List ℕ)) (crashes : 
       is_left_on d calls database told there.0 (sym entries_were ∙ there.1) (kept h) (leads there.0 there.1) has.committed now it.0
       (sym (ap (λ e. entries_in e (limit_of left.journal) now) same.0 ∙ ap (λ n. entries_in d n now) same.1) ∙ it.1) it.2
 
-  works_there : (calls : List Call) (r : Result Done Status) → Works d calls database x r y → WorksOn d calls database told r now
+  pub works_there : (calls : List Call) (r : Result Done Status) → Works d calls database x r y → WorksOn d calls database told r now
   works_there calls (Ok done) works = (λ finished. becomes_there calls (works.0 finished), λ unfinished. left_there calls (works.1 unfinished))
   works_there calls (Err s) behind = left_there calls behind
 
@@ -142,7 +142,7 @@ module _ {D P E : Type 0} (d p : Dialect) (told : Option (List ℕ)) (crashes : 
     λ used next same. full_on calls used next (room.1 used next same),
   )
 
-  room_there : (calls : List Call) (r : Result Done Status) → Works d calls database x r y → IfOk r (λ (ended : Done). TellsRoomOn d calls database told ended.status)
+  pub room_there : (calls : List Call) (r : Result Done Status) → Works d calls database x r y → IfOk r (λ (ended : Done). TellsRoomOn d calls database told ended.status)
   room_there calls (Ok done) works = room_on calls done.status (λ finished. (works.0 finished).room, works.2)
   room_there calls (Err s) behind = tt
 

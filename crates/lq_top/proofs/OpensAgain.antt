@@ -5,7 +5,7 @@ use Rattle.lq_base.specs.declared.command.Command.{Command}
 use Rattle.lq_base.specs.declared.command.Command.TheVariants as command
 use Rattle.lq_base.specs.declared.dialect.Dialect.{Dialect}
 use Rattle.lq_cli.specs.declared.line.Job.{Job}
-use Rattle.lq_cli.specs.declared.line.Job.TheVariants.{Drill, History, RollbackSql, Run, Soak, UpdateCount, UpdateSql, UpdateTestingRollback, UpdateTo, Generate, ClearSums}
+use Rattle.lq_cli.specs.declared.line.Job.TheVariants.{Drill, History, RollbackSql, Run, Soak, UpdateCount, UpdateSql, UpdateTestingRollback, UpdateTo, Generate, ClearSums, UndoUnrecorded}
 use Rattle.lq_rehearsal.proofs.FirstScripts.{AreFirst, rehearsal_first, rollback_first}
 use Rattle.lq_commands.proofs.Planned.{kept}
 use Rattle.lq_commands.proofs.ViewsRead.{views_are_read}
@@ -22,10 +22,11 @@ use Rattle.lq_model.specs.Catalogue.{Catalogue, no_objects}
 use Rattle.lq_seen.specs.View.{any_meaning}
 use Rattle.lq_stand.proofs.FirstRows.{clear_is_first, release_is_first, sync_is_first, tag_is_first, update_is_first}
 use Rattle.lq_stand.proofs.StaysClean.{calls_stay_clean, clean_is_found, stops_stay_clean}
+use Rattle.lq_stand.specs.First.{calls_are_first}
 use Rattle.lq_stand.specs.Stays.{IsClean}
 use Rattle.lq_store.specs.Journal.{Entry, database as catalogue_by, run_entries, run_texts}
 use Rattle.lq_track.specs.Database.{Database}
-use Rattle.lq_turns.specs.Session.{left_by}
+use Rattle.lq_turns.specs.Session.{left_by, session_on}
 use Rattle.lq_turns.specs.declared.call.Call.{Call}
 use Rattle.lq_turns.specs.declared.stamp.Stamp.{Stamp}
 use Rattle.lq_top.proofs.InPart.{counted_read}
@@ -113,7 +114,20 @@ module _ (d : Dialect) where
       by (Err at) read there = absurd (err_ok read)
       by (Ok entries) read there = clean_is holds.catalogue (used_by entries) opens.catalogue (is_clean d holds.catalogue) (sym (ap (if_clean d (used_by entries)) (leads_to entries there)) ∙ read)
 
--- the new rows of each command are the first of their identities, and stand behind all others
+-- after calls whose new rows are the first of their identities, and stand behind all others, and after a stop of them
+
+module _ (d : Dialect) (told : Option (List ℕ)) (database : Database) (opens : Opens d told database) (calls : List Call) (first : calls_are_first d calls (session_on database) ≡ true) where
+  pub opens_behind : (after : Option (List ℕ)) → Becomes d calls database told after → Opens d after (left_by d calls database)
+  opens_behind after becomes =
+      holds_opens d after (left_by d calls database) becomes.holds
+      (calls_stay_clean d calls database becomes.holds.catalogue (was_clean d told database opens) first becomes.holds.stands)
+
+  pub opens_stopped : (after : Option (List ℕ)) (left : IsLeftOn d calls database told after) → Opens d after left.now
+  opens_stopped after left =
+      holds_opens d after left.now left.holds
+      (stops_stay_clean d calls database left.now left.written left.holds.catalogue (was_clean d told database opens) first left.stops left.led left.holds.stands)
+
+-- the new rows of each command are such
 
 module _ (given : Given) (database : Database) where
   abbrev d : Dialect
@@ -146,18 +160,15 @@ module _ (given : Given) (database : Database) where
     job_first (RollbackSql target) = refl
     job_first (Drill path) = refl
     job_first (Soak number sets) = refl
+    job_first UndoUnrecorded = refl
 
     -- after its calls
     pub opens_after : (job : Job) (after : Option (List ℕ)) → Becomes d (job_script job given database) database told after → Opens d after (left_by d (job_script job given database) database)
-    opens_after job after becomes =
-        holds_opens d after (left_by d (job_script job given database) database) becomes.holds
-        (calls_stay_clean d (job_script job given database) database becomes.holds.catalogue (was_clean d told database opens) (job_first job) becomes.holds.stands)
+    opens_after job after becomes = opens_behind d told database opens (job_script job given database) (job_first job) after becomes
 
     -- after a stop of them
     pub opens_left : (job : Job) (after : Option (List ℕ)) (left : IsLeftOn d (job_script job given database) database told after) → Opens d after left.now
-    opens_left job after left =
-        holds_opens d after left.now left.holds
-        (stops_stay_clean d (job_script job given database) database left.now left.written left.holds.catalogue (was_clean d told database opens) (job_first job) left.stops left.led left.holds.stands)
+    opens_left job after left = opens_stopped d told database opens (job_script job given database) (job_first job) after left
 
 -- where nothing was written it opens still
 pub opens_same : (d : Dialect) (told after : Option (List ℕ)) (database now : Database) → Opens d told database → after ≡ told → Holds d after now → Opens d after now

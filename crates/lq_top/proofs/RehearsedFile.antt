@@ -48,6 +48,7 @@ finished_over (status.Halted place why) finished = finished
 finished_over (status.Refused identity statement held reason) finished = finished
 finished_over status.NoTarget finished = finished
 finished_over (status.NotReversible identity) finished = finished
+finished_over status.NothingToUndo finished = finished
 finished_over (status.NotWritable at) finished = finished
 finished_over status.DiskFault finished = finished
 finished_over (status.Damaged at) finished = finished

@@ -4,6 +4,7 @@ use Rattle.std.proofs.lemmas.List.Elements.{All-head, All-tail}
 use Rattle.std.specs.List.{All, last_or, list_all}
 use Rattle.std.specs.Option.{option_map, option_or}
 use Rattle.std.specs.Prelude.{Bool, List, None, Ok, Option, Result, Some, [], false, if◌then◌else◌, length, not, option_and_then, true, ℕ, ◌&&◌, ◌++◌, ◌||◌, ◌∷◌, ◌≡◌, ◌⊎◌}
+use Rattle.laws_undo.specs.Undone.{UndoMends}
 use Rattle.lq_base.specs.declared.command.Command.{Command}
 use Rattle.lq_base.specs.declared.command.Command.TheVariants as command
 use Rattle.lq_base.specs.declared.command.Target.{Target}
@@ -16,8 +17,9 @@ use Rattle.lq_base.specs.declared.tracking.Lock.{Lock}
 use Rattle.lq_base.specs.declared.tracking.Tracked.{Tracked}
 use Rattle.lq_changelog.specs.ShortTexts.{HasShortTexts}
 use Rattle.lq_cli.specs.declared.line.Job.{Job}
-use Rattle.lq_cli.specs.declared.line.Job.TheVariants.{Drill, History, RollbackSql, Run, Soak, UpdateCount, UpdateSql, UpdateTestingRollback, UpdateTo, Generate, ClearSums}
+use Rattle.lq_cli.specs.declared.line.Job.TheVariants.{Drill, History, RollbackSql, Run, Soak, UpdateCount, UpdateSql, UpdateTestingRollback, UpdateTo, Generate, ClearSums, UndoUnrecorded}
 use Rattle.lq_commands.proofs.Planned.{bare, kept, sets_bare}
+use Rattle.lq_commands.proofs.LoadedTexts.{view_has}
 use Rattle.lq_commands.proofs.ViewsRead.{views_are_read}
 use Rattle.lq_commands.specs.Refusals.{if_halts, if_some, invalid, own_halt, refusal, unready}
 use Rattle.lq_commands.specs.Parts.{counted_in}
@@ -86,10 +88,11 @@ use Rattle.lq_top.proofs.Written.{Does, IsWritten, failed_unfinished, false_true
 use Rattle.lq_top.specs.Asks.{Asks, Files}
 use Rattle.lq_top.specs.Bytes.{Becomes, IsLeftOn, Opens, most_bytes}
 use Rattle.lq_entries.specs.Log.{entries_in}
-use Rattle.lq_top.specs.Jobs.{DoesLine, IsLoaded, is_on_file, job_script}
-use Rattle.lq_top.specs.Resumed.{BackHeld, EndsSo, LeavesMarked, RehearsalHeld, RollbackResumes, StandsHeld, UpdateHeld, UpdateResumes, turns_to}
-use Rattle.lq_top.specs.Run.{EndsBy, IsOutside, Runs, given_by, is_over}
+use Rattle.lq_top.specs.Jobs.{DoesLine, IsLoaded, command_by, is_on_file, job_script}
+use Rattle.lq_top.specs.Resumed.{BackHeld, EndsSo, LeavesMarked, RehearsalHeld, RollbackResumes, StandsHeld, UpdateHeld, UpdateResumes, turns_to, without_stop}
+use Rattle.lq_top.specs.Run.{EndsBy, HoldsSame, IsOutside, Runs, given_by, is_over}
 use Rattle.lq_top.specs.Says.{Said, SaysJob}
+use Rattle.lq_top.specs.TakenBack.{UpdateMends}
 
 -- what the law on updates asks of a view of a changelog
 
@@ -169,6 +172,7 @@ over_is (status.Halted place why) over = inl over
 over_is (status.Refused identity statement before reason) over = inl over
 over_is status.NoTarget over = inl over
 over_is (status.NotReversible identity) over = inl over
+over_is status.NothingToUndo over = inl over
 over_is (status.NotWritable at) over = inl over
 over_is status.DiskFault over = inl over
 over_is (status.Damaged at) over = inl over
@@ -200,6 +204,16 @@ module _ (job : Job) (given : Given) (before : Option (List ℕ)) (done : Result
     | inr made ↦ made.0
   ]
 
+-- a law at mysql, of an update in that dialect
+mended_at : (part : Given) (start database : Database) → part.options.dialect ≡ Mysql
+    → SameDatabase (left_by Mysql (update_calls Mysql any_meaning part.stamp (log_in part) database) database) (at_rest start (updated Mysql any_meaning part.stamp.reading (log_in part) (contents_of start)).contents)
+    × ((updated Mysql any_meaning part.stamp.reading (log_in part) (contents_of database)).stop ≡ (updated Mysql any_meaning part.stamp.reading (log_in part) (contents_of start)).stop)
+    → SameDatabase (left_by part.options.dialect (update_script part database) database) (at_rest start (without_stop part start).contents)
+    × ((updated part.options.dialect any_meaning part.stamp.reading (log_in part) (contents_of database)).stop ≡ (without_stop part start).stop)
+mended_at part start database is law =
+    subst (λ (d : Dialect). SameDatabase (left_by d (update_calls d any_meaning part.stamp (log_in part) database) database) (at_rest start (updated d any_meaning part.stamp.reading (log_in part) (contents_of start)).contents)
+    × ((updated d any_meaning part.stamp.reading (log_in part) (contents_of database)).stop ≡ (updated d any_meaning part.stamp.reading (log_in part) (contents_of start)).stop)) (sym is) law
+
 module _ {words : List (List ℕ)} {files : Files} (asks : Asks words files) (stamp : Stamp) (before : Option (List ℕ)) (done : Result Done Status) (s : Status) (after : Option (List ℕ)) where
   abbrev given : Given
   given = given_by asks stamp
@@ -207,23 +221,49 @@ module _ {words : List (List ℕ)} {files : Files} (asks : Asks words files) (st
   abbrev d : Dialect
   d = asks.line.options.dialect
 
+  -- an update that goes on, by a law of what it leaves then
+
+  abbrev GoesOn : Given → Database → Database → Type 0
+  GoesOn part start database =
+      SameDatabase (left_by part.options.dialect (update_script part database) database) (at_rest start (without_stop part start).contents)
+      × ((updated part.options.dialect any_meaning part.stamp.reading (log_in part) (contents_of database)).stop ≡ (without_stop part start).stop)
+
+  gone_on : (out_before out_after : Option (List ℕ)) → IsWritten done s → DoesLine asks.line.job (given_by asks stamp) before done after → Runs asks stamp before s after → Said asks stamp before s out_before out_after
+      → (part : Given) (start database : Database) → Opens d before database → command_by asks.line.job (given_by asks stamp) database ≡ Some (command.Update, part) → database.lock ≡ free → IsSteady part.options.dialect any_meaning part.stamp (log_in part) (contents_of start) → is_over s ≡ true
+      → (AreRead part.options.dialect any_meaning (sets_in part) → All HasShortTexts part.changelog.sets → list_all has_own_sum (sets_in part) ≡ true → are_twins (sets_in part) ≡ false → GoesOn part start database)
+      → HoldsSame part.options.dialect after (at_rest start (without_stop part start).contents) × EndsSo (status_by (without_stop part start).stop) s
+  gone_on out_before out_after by does runs said part start database opens is unlocked steady over law =
+      let job = asks.line.job in
+      let run : Command × Given = (command.Update, part) in
+      let on = command_on_file given database run job is in
+      let ran = runs_command given database run job is before s after (runs on database opens) in
+      let loaded = loaded_command given database run job is (was_loaded job given before done after s by database (does on database opens) over) in
+      let goes : own_halt part database ≡ None = ap (λ told. if_halts (tested New (log_in part).condition told)) (steady.bare (contents_of database)) in
+      let apart = faultless_are_apart AnyChange (sets_in part) database.rows (are_here part.options part.changelog.sets) (faultless part database s unlocked goes ran.ends over) in
+      let it = law (views_are_read part.options.dialect part.options part.changelog loaded.read) loaded.short (own_sums part.options part.changelog.sets loaded.short) apart in
+      let made = ran.works over in (
+        (left_by part.options.dialect (update_script part database) database, made.holds, it.0),
+        ends_so (status_by (without_stop part start).stop) s over
+            (λ finished. update_status part database s out_before out_after (says_command given database run job is s out_before out_after (said database opens finished)) ∙ ap status_by it.1),
+      )
+
   pub has_resumed : (out_before out_after : Option (List ℕ)) → IsWritten done s → DoesLine asks.line.job (given_by asks stamp) before done after → Runs asks stamp before s after → Said asks stamp before s out_before out_after
       → UpdateResumes asks stamp before s after
   has_resumed out_before out_after by does runs said = λ database opens was over.
-      let job = asks.line.job in
       let part = was.part in
-      let run : Command × Given = (command.Update, part) in
-      let on = command_on_file given database run job was.is_update in
-      let ran = runs_command given database run job was.is_update before s after (runs on database opens) in
-      let loaded = loaded_command given database run job was.is_update (was_loaded job given before done after s by database (does on database opens) over) in
-      let goes : own_halt part database ≡ None = ap (λ told. if_halts (tested New (log_in part).condition told)) (was.steady.bare (contents_of database)) in
-      let apart = faultless_are_apart AnyChange (sets_in part) database.rows (are_here part.options part.changelog.sets) (faultless part database s was.stopped.unlocked goes ran.ends over) in
-      let law = updates_at part.options.dialect was.is_postgresql part.stamp (log_in part) was.start database was.sound was.unlocked (views_are_read part.options.dialect part.options part.changelog loaded.read) (own_sums part.options part.changelog.sets loaded.short) apart was.steady was.stopped in
-      let made = ran.works over in (
-        (left_by part.options.dialect (update_script part database) database, made.holds, law.0),
-        ends_so (status_by (updated part.options.dialect any_meaning part.stamp.reading (log_in part) (contents_of was.start)).stop) s over
-            (λ finished. update_status part database s out_before out_after (says_command given database run job was.is_update s out_before out_after (said database opens finished)) ∙ ap status_by law.1),
-      )
+      gone_on out_before out_after by does runs said part was.start database opens was.is_update was.stopped.unlocked was.steady over
+      (λ read short own apart. updates_at part.options.dialect was.is_postgresql part.stamp (log_in part) was.start database was.sound was.unlocked read own apart was.steady was.stopped)
+
+  -- between stops that undo-unrecorded takes back
+  pub has_mended : UndoMends → (out_before out_after : Option (List ℕ)) → IsWritten done s → DoesLine asks.line.job (given_by asks stamp) before done after → Runs asks stamp before s after → Said asks stamp before s out_before out_after
+      → UpdateMends asks stamp before s after
+  has_mended mends out_before out_after by does runs said = λ database opens was over.
+      let part = was.part in
+      let steady = subst (λ (d : Dialect). IsSteady d any_meaning part.stamp (log_in part) (contents_of was.start)) (sym was.is_mysql) was.steady in
+      gone_on out_before out_after by does runs said part was.start database opens was.is_update was.rests steady over
+      (λ read short own apart. mended_at part was.start database was.is_mysql
+      (mends part.options part.changelog part.stamp was.begin was.start database was.stops was.last was.is_mysql was.sound was.unlocked was.time (view_has part.options part.changelog short)
+      (subst (λ (d : Dialect). AreRead d any_meaning (sets_in part)) was.is_mysql read) own apart was.steady was.fits was.stopped was.led was.rests))
 
   pub has_gone_on_back : Runs asks stamp before s after → RollbackResumes asks stamp before s after
   has_gone_on_back runs = λ database opens was over.
@@ -472,6 +512,7 @@ module _ (given : Given) (database : Database) (before after : Option (List ℕ)
   stands (RollbackSql target) read left locked = none_held given.options.dialect database left.now left.written left.stops left.led unlocked locked
   stands (Drill path) read left locked = none_held given.options.dialect database left.now left.written left.stops left.led unlocked locked
   stands (Soak number sets) read left locked = none_held given.options.dialect database left.now left.written left.stops left.led unlocked locked
+  stands UndoUnrecorded read left locked = none_held given.options.dialect database left.now left.written left.stops left.led unlocked locked
 
 module _ {words : List (List ℕ)} {files : Files} (asks : Asks words files) (stamp : Stamp) (before : Option (List ℕ)) where
   read_or : (database : Database) (done : Result Done Status) (after : Option (List ℕ)) → Does asks.line.job (given_by asks stamp) database before done after → IsReadOr (given_by asks stamp) before after

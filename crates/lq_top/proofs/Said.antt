@@ -10,7 +10,7 @@ use Rattle.lq_base.specs.declared.dialect.Dialect.{Dialect}
 use Rattle.lq_base.specs.declared.tracking.Lock.{Lock}
 use Rattle.lq_base.specs.declared.tracking.Tracked.{Tracked}
 use Rattle.lq_cli.specs.declared.line.Job.{Job}
-use Rattle.lq_cli.specs.declared.line.Job.TheVariants.{Drill, History, RollbackSql, Run, Soak, UpdateCount, UpdateSql, UpdateTestingRollback, UpdateTo, Generate, ClearSums}
+use Rattle.lq_cli.specs.declared.line.Job.TheVariants.{Drill, History, RollbackSql, Run, Soak, UpdateCount, UpdateSql, UpdateTestingRollback, UpdateTo, Generate, ClearSums, UndoUnrecorded}
 use Rattle.lq_commands.proofs.Planned.{kept}
 use Rattle.lq_commands.specs.Generates.{generate_text}
 use Rattle.lq_commands.specs.Inserts.{TellsSync, synced_in}
@@ -67,7 +67,7 @@ some_none h = Prim.cc
 
 -- statuses
 
-finished_output : (s : Status) → is_finished s ≡ true → has_output s ≡ true
+pub finished_output : (s : Status) → is_finished s ≡ true → has_output s ≡ true
 finished_output status.Done is = is
 finished_output status.Usage is = is
 finished_output status.ReadFault is = is
@@ -78,6 +78,7 @@ finished_output (status.Halted place why) is = is
 finished_output (status.Refused identity statement kept reason) is = is
 finished_output status.NoTarget is = is
 finished_output (status.NotReversible identity) is = is
+finished_output status.NothingToUndo is = is
 finished_output (status.NotWritable at) is = is
 finished_output status.DiskFault is = is
 finished_output (status.Damaged at) is = is
@@ -87,12 +88,12 @@ finished_output status.OutOfMemory is = is
 finished_output (status.Busy session) is = is
 
 -- where it came to its end and its text was written it ended so
-ended_so : (x s : Status) → EndsAs x s → is_finished s ≡ true → s ≡ x
+pub ended_so : (x s : Status) → EndsAs x s → is_finished s ≡ true → s ≡ x
 ended_so x s (inl is) finished = is
 ended_so x s (inr (inl is)) finished = absurd (false_true (sym (ap is_finished is) ∙ finished))
 ended_so x s (inr (inr is)) finished = absurd (false_true (sym (ap is_finished is) ∙ finished))
 
-ok_refusal : (o : Option Status) (done : Done) → Answers o (Ok done) → o ≡ None
+pub ok_refusal : (o : Option Status) (done : Done) → Answers o (Ok done) → o ≡ None
 ok_refusal None done answers = refl
 ok_refusal (Some refused) done answers = absurd answers
 
@@ -192,6 +193,7 @@ says_ok UpdateSql given database s before after done none tells is finished whol
 says_ok (RollbackSql target) given database s before after done none tells is finished whole = rollback_said given database s before after true target done is (tells finished) whole
 says_ok (Drill path) given database s before after done none tells is finished whole = tt
 says_ok (Soak number sets) given database s before after done none tells is finished whole = tt
+says_ok UndoUnrecorded given database s before after done none tells is finished whole = tt
 
 says_err : (job : Job) (given : Given) (database : Database) (s : Status) (before after : Option (List ℕ)) (x : Status) → job_refusal job given database ≡ Some x → is_finished x ≡ true → s ≡ x
     → after ≡ option_map (λ (out : List ℕ). out ++ []) before → SaysJob job given database s before after
@@ -221,6 +223,7 @@ says_err (RollbackSql target) given database s before after x refused finished i
     absurd (quiet_not x _ (quiet_or (invalid given database.rows) (unreachable_by given (rows_kept target database.rows) database.rows) (quiet_invalid given database.rows) (quiet_way given (rows_kept target database.rows) database.rows)) refused finished)
 says_err (Drill path) given database s before after x refused finished is whole = tt
 says_err (Soak number sets) given database s before after x refused finished is whole = tt
+says_err UndoUnrecorded given database s before after x refused finished is whole = tt
 
 says_by : (job : Job) (given : Given) (database : Database) (file left : Option (List ℕ)) (done : Result Done Status) (s : Status) (before after : Option (List ℕ)) → EndsAs (status_done done) s → DoesJob job given database file done left
     → is_finished s ≡ true → after ≡ option_map (λ (out : List ℕ). out ++ out_text done) before → SaysJob job given database s before after
@@ -259,6 +262,7 @@ says_line (RollbackSql target) given file left done s before after ended does wh
     says_does (RollbackSql target) given database file left done s before after ended (does refl database opens) finished (whole (finished_output s finished))
 says_line (Drill path) given file left done s before after ended does whole = λ database opens finished. tt
 says_line (Soak number sets) given file left done s before after ended does whole = λ database opens finished. tt
+says_line UndoUnrecorded given file left done s before after ended does whole = λ database opens finished. tt
 
 pub has_said : {words : List (List ℕ)} {files : Files} (asks : Asks words files) (stamp : Stamp) (file left : Option (List ℕ)) (done : Result Done Status) (s : Status) (before after : Option (List ℕ)) → IsWritten done s
     → DoesLine asks.line.job (given_by asks stamp) file done left → (has_output s ≡ true → after ≡ option_map (λ (out : List ℕ). out ++ out_text done) before) → Said asks stamp file s before after
@@ -370,6 +374,7 @@ taken_end (status.Halted place why) end done = absurd (not_done (status.Halted p
 taken_end (status.Refused identity statement kept reason) end done = absurd (not_done (status.Refused identity statement kept reason) refl (done refl))
 taken_end status.NoTarget end done = end
 taken_end (status.NotReversible identity) end done = end
+taken_end status.NothingToUndo end done = end
 taken_end (status.NotWritable at) end done = end
 taken_end status.DiskFault end done = end
 taken_end (status.Damaged at) end done = end

@@ -26,6 +26,7 @@ plain_passes (status.Halted identity why) is = is
 plain_passes (status.Refused identity statement kept reason) is = is
 plain_passes status.NoTarget is = is
 plain_passes (status.NotReversible of) is = is
+plain_passes status.NothingToUndo is = is
 plain_passes (status.NotWritable at) is = is
 plain_passes status.DiskFault is = refl
 plain_passes (status.Damaged place) is = is

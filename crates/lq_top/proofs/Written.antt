@@ -11,7 +11,7 @@ use Rattle.lq_base.specs.declared.run.Why.{Why}
 use Rattle.lq_base.specs.declared.tracking.Lock.{Lock}
 use Rattle.lq_base.specs.declared.tracking.Tracked.{Tracked}
 use Rattle.lq_cli.specs.declared.line.Job.{Job}
-use Rattle.lq_cli.specs.declared.line.Job.TheVariants.{Drill, History, RollbackSql, Run, Soak, UpdateCount, UpdateSql, UpdateTestingRollback, UpdateTo, Generate, ClearSums}
+use Rattle.lq_cli.specs.declared.line.Job.TheVariants.{Drill, History, RollbackSql, Run, Soak, UpdateCount, UpdateSql, UpdateTestingRollback, UpdateTo, Generate, ClearSums, UndoUnrecorded}
 use Rattle.lq_commands.proofs.PlainRefusals.{IsNotFull, refusal_not_full, rehearsal_not_full, held_not_full}
 use Rattle.lq_commands.specs.Parts.{counted_in}
 use Rattle.lq_commands.specs.Refusals.{Answers, IsFault, ends, held, if_halts, if_not, if_some, invalid, own_halt, unreachable_by, unready, untagged}
@@ -74,10 +74,10 @@ read_full h = Prim.cc
 disk_full : {used next : ℕ} → status.DiskFault ≡ status.Full used next → ⊥
 disk_full h = Prim.cc
 
-memory_full : {used next : ℕ} → status.OutOfMemory ≡ status.Full used next → ⊥
+pub memory_full : {used next : ℕ} → status.OutOfMemory ≡ status.Full used next → ⊥
 memory_full h = Prim.cc
 
-write_full : {used next : ℕ} → status.WriteFault ≡ status.Full used next → ⊥
+pub write_full : {used next : ℕ} → status.WriteFault ≡ status.Full used next → ⊥
 write_full h = Prim.cc
 
 pub some_same : {a b : Status} → (let o : Option Status = Some a in o) ≡ Some b → a ≡ b
@@ -103,6 +103,7 @@ over_finished (status.Halted place why) un over = over
 over_finished (status.Refused identity statement kept reason) un over = over
 over_finished status.NoTarget un over = over
 over_finished (status.NotReversible identity) un over = over
+over_finished status.NothingToUndo un over = over
 over_finished (status.NotWritable at) un over = over
 over_finished status.DiskFault un over = over
 over_finished (status.Damaged at) un over = over
@@ -122,6 +123,7 @@ output_finished (status.Halted place why) has = has
 output_finished (status.Refused identity statement kept reason) has = has
 output_finished status.NoTarget has = has
 output_finished (status.NotReversible identity) has = has
+output_finished status.NothingToUndo has = has
 output_finished (status.NotWritable at) has = has
 output_finished status.DiskFault has = has
 output_finished (status.Damaged at) has = has
@@ -141,6 +143,7 @@ ends_so (status.Halted place why) is = is
 ends_so (status.Refused identity statement kept reason) is = is
 ends_so status.NoTarget is = is
 ends_so (status.NotReversible identity) is = is
+ends_so status.NothingToUndo is = is
 ends_so (status.NotWritable at) is = is
 ends_so status.DiskFault is = is
 ends_so (status.Damaged at) is = is
@@ -160,6 +163,7 @@ ends_unwritten (status.Halted place why) is = refl
 ends_unwritten (status.Refused identity statement kept reason) is = refl
 ends_unwritten status.NoTarget is = refl
 ends_unwritten (status.NotReversible identity) is = refl
+ends_unwritten status.NothingToUndo is = refl
 ends_unwritten (status.NotWritable at) is = refl
 ends_unwritten status.DiskFault is = refl
 ends_unwritten (status.Damaged at) is = refl
@@ -189,6 +193,7 @@ caused_not_ends (status.Halted place why) caused is = false_true caused
 caused_not_ends (status.Refused identity statement kept reason) caused is = false_true caused
 caused_not_ends status.NoTarget caused is = false_true is
 caused_not_ends (status.NotReversible identity) caused is = false_true is
+caused_not_ends status.NothingToUndo caused is = false_true is
 caused_not_ends (status.NotWritable at) caused is = false_true is
 caused_not_ends status.DiskFault caused is = false_true is
 caused_not_ends (status.Damaged at) caused is = false_true is
@@ -278,6 +283,7 @@ tells_damage d told done (status.Halted place why) by damaged = tt
 tells_damage d told done (status.Refused identity statement kept reason) by damaged = tt
 tells_damage d told done status.NoTarget by damaged = tt
 tells_damage d told done (status.NotReversible identity) by damaged = tt
+tells_damage d told done status.NothingToUndo by damaged = tt
 tells_damage d told done (status.NotWritable at) by damaged = tt
 tells_damage d told done status.DiskFault by damaged = tt
 tells_damage d told done (status.Damaged at) by damaged = subst (TellsDamage d told) (cause done (status.Damaged at) (status.Damaged at) by refl refl) damaged
@@ -298,6 +304,7 @@ no_files_left done (status.Halted place why) by unread usage files = absurd unre
 no_files_left done (status.Refused identity statement kept reason) by unread usage files = absurd unread
 no_files_left done status.NoTarget by unread usage files = absurd unread
 no_files_left done (status.NotReversible identity) by unread usage files = absurd unread
+no_files_left done status.NothingToUndo by unread usage files = absurd unread
 no_files_left done (status.NotWritable at) by unread usage files = absurd unread
 no_files_left done status.DiskFault by unread usage files = absurd unread
 no_files_left done (status.Damaged at) by unread usage files = absurd unread
@@ -324,6 +331,7 @@ is_target (status.Locked lock) is = absurd (false_true is)
 is_target (status.Halted place why) is = absurd (false_true is)
 is_target (status.Refused identity statement kept reason) is = absurd (false_true is)
 is_target (status.NotReversible identity) is = absurd (false_true is)
+is_target status.NothingToUndo is = absurd (false_true is)
 is_target (status.NotWritable at) is = absurd (false_true is)
 is_target status.DiskFault is = absurd (false_true is)
 is_target (status.Damaged at) is = absurd (false_true is)
@@ -352,7 +360,7 @@ no_words done s by (inr is) = either (λ same. inr same) (λ memory. inr memory)
 
 -- how a run ends
 
-outside_ends : (r : Option Status) (s : Status) → IsOutside s → EndsBy r s
+pub outside_ends : (r : Option Status) (s : Status) → IsOutside s → EndsBy r s
 outside_ends None s out = inr out
 outside_ends (Some refused) s out = inr out
 
@@ -375,7 +383,7 @@ ok_ends x s is (inl same) = inl (ap is_end same ∙ ends_so x is)
 ok_ends x s is (inr (inl memory)) = inr (inr (inr memory))
 ok_ends x s is (inr (inr write)) = inl (ap is_end write)
 
-ends_by : (r : Option Status) (done : Result Done Status) (s : Status) → IsWritten done s → Answers r done → EndsBy r s
+pub ends_by : (r : Option Status) (done : Result Done Status) (s : Status) → IsWritten done s → Answers r done → EndsBy r s
 ends_by None (Ok done) s by answers = ok_ends done.status s answers by.ended
 ends_by None (Err x) s by answers = inr (of_fault x s answers (err_ends x s by))
 ends_by (Some refused) (Ok done) s by answers = absurd answers
@@ -497,6 +505,7 @@ no_job_script UpdateSql given database s is finished = refl
 no_job_script (RollbackSql target) given database s is finished = refl
 no_job_script (Drill path) given database s is finished = refl
 no_job_script (Soak number sets) given database s is finished = refl
+no_job_script UndoUnrecorded given database s is finished = refl
 
 -- what it leaves
 
@@ -531,11 +540,11 @@ pub failed_unfinished : (done : Result Done Status) → Failed done → is_finis
 failed_unfinished done (inl is) finished = false_true (sym (ap (λ r. is_finished (status_done r)) is) ∙ finished)
 failed_unfinished done (inr is) finished = false_true (sym (ap (λ r. is_finished (status_done r)) is) ∙ finished)
 
-failed_outside : (done : Result Done Status) (s : Status) → IsWritten done s → Failed done → IsOutside s
+pub failed_outside : (done : Result Done Status) (s : Status) → IsWritten done s → Failed done → IsOutside s
 failed_outside done s by (inl is) = either (λ same. inl same) (λ memory. inr (inr memory)) (failed_ends done status.ReadFault s by is)
 failed_outside done s by (inr is) = either (λ same. inr (inr same)) (λ memory. inr (inr memory)) (failed_ends done status.OutOfMemory s by is)
 
-outside_not_full : (s : Status) → IsOutside s → IsNotFull s
+pub outside_not_full : (s : Status) → IsOutside s → IsNotFull s
 outside_not_full s (inl read) used next is = read_full (sym read ∙ is)
 outside_not_full s (inr (inl disk)) used next is = disk_full (sym disk ∙ is)
 outside_not_full s (inr (inr memory)) used next is = memory_full (sym memory ∙ is)
@@ -544,7 +553,7 @@ fault_not_full : (s : Status) → IsFault s → IsNotFull s
 fault_not_full s (inl disk) used next is = disk_full (sym disk ∙ is)
 fault_not_full s (inr memory) used next is = memory_full (sym memory ∙ is)
 
-err_not_full : (o : Option Status) (s : Status) → IfSome o IsNotFull → Answers o (Err s) → IsNotFull s
+pub err_not_full : (o : Option Status) (s : Status) → IfSome o IsNotFull → Answers o (Err s) → IsNotFull s
 err_not_full None s never fault = fault_not_full s fault
 err_not_full (Some refused) s never (inl same) = λ used next is. never used next (sym same ∙ is)
 err_not_full (Some refused) s never (inr fault) = fault_not_full s fault
@@ -566,6 +575,7 @@ job_not_full UpdateSql given database = refusal_not_full given command.Update (r
 job_not_full (RollbackSql target) given database = refusal_not_full given (command.Rollback target) (record database { lock = free })
 job_not_full (Drill path) given database = tt
 job_not_full (Soak number sets) given database = tt
+job_not_full UndoUnrecorded given database = tt
 
 -- how full a full journal was is told by the status of the run
 full_by : (job : Job) (given : Given) (database : Database) (before : Option (List ℕ)) (done : Result Done Status) (after : Option (List ℕ)) (s : Status) → EndsAs (status_done done) s → DoesJob job given database before done after

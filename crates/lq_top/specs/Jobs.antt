@@ -5,7 +5,7 @@ use Rattle.lq_base.specs.declared.command.Command.TheVariants as command
 use Rattle.lq_base.specs.declared.dialect.Dialect.{Dialect}
 use Rattle.lq_changelog.specs.ShortTexts.{HasShortTexts}
 use Rattle.lq_cli.specs.declared.line.Job.{Job}
-use Rattle.lq_cli.specs.declared.line.Job.TheVariants.{Drill, Generate, RollbackSql, Soak, UpdateSql, UpdateTo}
+use Rattle.lq_cli.specs.declared.line.Job.TheVariants.{Drill, Generate, RollbackSql, Soak, UndoUnrecorded, UpdateSql, UpdateTo}
 use Rattle.lq_commands.specs.Generates.{generate_text}
 use Rattle.lq_commands.specs.Outputs.{TellsJob}
 use Rattle.lq_commands.specs.Refusals.{Answers}
@@ -24,10 +24,11 @@ use Rattle.laws_generate.specs.Again.{TextComesAgain}
 use Rattle.lq_top.specs.Bytes.{HadRoomOn, OnFile, SaysFullOn, WorksOn}
 pub use Rattle.lq_commands.specs.Jobs.{command_by, is_on_store, is_own, job_reads, job_refusal, job_script, job_tag}
 
--- it works on the file alone: a soak has a database of its own, and in a drill commands work beside one another
+-- Its calls are those of the file's database: a soak has a database of its own, in a drill commands work beside one another, and what undo-unrecorded takes back hangs on the journal's last text too.
 abbrev pub is_on_file : Job → Bool
 is_on_file (Drill path) = false
 is_on_file (Soak number sets) = false
+is_on_file UndoUnrecorded = false
 is_on_file _ = true
 
 -- it has a database of its own, and leaves the file as it is

@@ -15,4 +15,6 @@ pub mod Resumed
 pub mod Run
 pub mod Says
 pub mod Soaked
+pub mod TakenBack
+pub mod Undone
 pub mod Worked

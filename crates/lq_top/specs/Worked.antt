@@ -2,6 +2,7 @@
 use Rattle.std.specs.Prelude.{Bool, Err, IsTrue, List, None, Ok, Option, Result, Some, false, true, ℕ, ◌≡◌, ◌≤◌, ◌⊎◌}
 use Rattle.lq_base.specs.declared.dialect.Dialect.{Dialect}
 use Rattle.lq_cli.specs.declared.line.Job.{Job}
+use Rattle.lq_cli.specs.declared.line.Job.TheVariants.{UndoUnrecorded}
 use Rattle.lq_commands.specs.Parts.{part_for}
 use Rattle.lq_commands.specs.Works.{is_finished}
 use Rattle.lq_commands.specs.declared.given.Given.{Given}
@@ -24,6 +25,7 @@ use Rattle.lq_top.specs.Bytes.{IsDamagedAt, IsLeftOn, OnFile, TellsDamage, WasLe
 use Rattle.lq_top.specs.Jobs.{DoesJob, DoesLine, IsLoaded, is_apart, is_on_file, is_own, job_script, misses}
 use Rattle.lq_top.specs.Kinds.{IsNotLoaded, IsOfDatabase, IsOfFiles, IsOfLine}
 use Rattle.lq_top.specs.Run.{SparesDamage, TellsPlace}
+use Rattle.lq_top.specs.Undone.{DoesUndo, undo_calls}
 
 -- A crash at any moment of these calls leaves what a stop of them may leave; or, since an earlier moment, the entries of what one before them might have left.
 pub record CrashesSince (d : Dialect) (calls : List Call) (database : Database) (told : Option (List ℕ)) (before now : DiskCrashes) : Type 0 where
@@ -64,6 +66,16 @@ module _ {D : Type 0} (told : D → Option (List ℕ)) (faults : D → ℕ) (cra
     pub later : faults before ≤ faults after
     pub fault : done ≡ Err status.DiskFault → Rose (faults before) (faults after)
 
+  -- what undo-unrecorded did with what was given
+  pub record UndoneOn (o : Options) (g : Changelog) (before : D) (done : Result Done Status) (after : D) : Type 0 where
+    pub does : OnFile o.dialect (told before) (λ database. DoesUndo o g (told before) database done (told after))
+    pub any_moment : OnFile o.dialect (told before) (λ database. CrashesSince o.dialect (undo_calls o g (told before) database) database (told before) (crashes before) (crashes after))
+    pub safe : is_finished (status_done done) ≡ true → Settled (told after) (crashes after)
+
+  -- the same where the files may fail after all
+  abbrev pub UndoneBy : Options → Changelog → D → Result Done Status → D → Type 0
+  UndoneBy o g before done after = (((done ≡ Err status.ReadFault) ⊎ (done ≡ Err status.OutOfMemory)) × (after ≡ before)) ⊎ UndoneOn o g before done after
+
   -- what a job did with what was given
   pub record WorkedOn (job : Job) (given : Given) (before : D) (done : Result Done Status) (after : D) : Type 0 where
     pub used : UsedDisk job given.options.dialect before done after
@@ -71,6 +83,7 @@ module _ {D : Type 0} (told : D → Option (List ℕ)) (faults : D → ℕ) (cra
     pub has_part : has_missed job done ≡ false
     pub does : is_on_file job ≡ true → OnFile given.options.dialect (told before) (λ database. DoesJob job given database (told before) done (told after))
     pub any_moment : CrashesJob job given (told before) (crashes before) (crashes after)
+    pub undone : job ≡ UndoUnrecorded → UndoneOn given.options given.changelog before done after
 
   -- what it did with a changelog that its files give: with the part that it runs, where there is one
   pub record WorkedWith (job : Job) (options : Options) (whole : Changelog) (stamp : Stamp) (before : D) (done : Result Done Status) (after : D) : Type 0 where
@@ -81,6 +94,7 @@ module _ {D : Type 0} (told : D → Option (List ℕ)) (faults : D → ℕ) (cra
     pub loaded : (g : Changelog) → part_for job whole ≡ Some g → IsLoaded options.dialect g
     pub does : (g : Changelog) → part_for job whole ≡ Some g → is_on_file job ≡ true → OnFile options.dialect (told before) (λ database. DoesJob job (given_at (asked_by options g) stamp) database (told before) done (told after))
     pub any_moment : (g : Changelog) → part_for job whole ≡ Some g → CrashesJob job (given_at (asked_by options g) stamp) (told before) (crashes before) (crashes after)
+    pub undone : (g : Changelog) → part_for job whole ≡ Some g → job ≡ UndoUnrecorded → UndoneOn options g before done after
 
   -- what it did with what its files give: a changelog, or a fault
   pub record WorkedBy (files : Files) (meant : Source → Loaded Changelog) (job : Job) (options : Options) (stamp : Stamp) (before : D) (done : Result Done Status) (after : D) : Type 0 where
@@ -93,3 +107,4 @@ module _ {D : Type 0} (told : D → Option (List ℕ)) (faults : D → ℕ) (cra
     pub in_vain : (source : Source) (whole : Changelog) → IsTold files source → meant source ≡ Ok whole → part_for job whole ≡ None → InVain done before after
     pub does : (source : Source) (whole g : Changelog) → IsTold files source → meant source ≡ Ok whole → part_for job whole ≡ Some g → DoesLine job (given_at (asked_by options g) stamp) (told before) done (told after)
     pub any_moment : (source : Source) (whole g : Changelog) → IsTold files source → meant source ≡ Ok whole → part_for job whole ≡ Some g → CrashesJob job (given_at (asked_by options g) stamp) (told before) (crashes before) (crashes after)
+    pub undone : (source : Source) (whole g : Changelog) → IsTold files source → meant source ≡ Ok whole → part_for job whole ≡ Some g → job ≡ UndoUnrecorded → UndoneBy options g before done after

@@ -8,6 +8,7 @@ mod generating;
 mod opening;
 mod soak;
 mod top;
+mod undoing;
 mod work;
 
 pub use lq_cli::database_path;

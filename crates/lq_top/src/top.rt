@@ -23,8 +23,11 @@ ghost use Rattle.lq_top.specs.Resumed.{LeavesMarked, RollbackResumes, UpdateResu
 ghost use Rattle.lq_top.specs.Run.{Crashes, EndsInVain, EndsUnread, IsDamage, IsLogged, IsLoggedInPart, IsSafe, IsUnread, OpensAtCrash, Runs, SparesDamage};
 ghost use Rattle.lq_top.specs.Says.{ComesAgain, Said, SaidInPart, Warns};
 ghost use Rattle.lq_top.specs.Soaked.{SaysSoak};
+ghost use Rattle.lq_top.specs.TakenBack.{TakesPartBack, UpdateMends};
+ghost use Rattle.lq_top.specs.Undone.{CrashesUndone, IsUndoneSafe, RunsUndone, UndoneOpens};
 
 use crate::work::{Ending, work};
+use laws_undo::laws::{parts_are_taken_back, undo_mends};
 use lq_base::Text;
 use lq_outside::{Clock, Disk, Files, Sink};
 use lq_tell::{Status, tell};
@@ -192,6 +195,29 @@ pub fn run<F: Files, D: Disk, C: Clock, O: Sink, L: Sink>(
         (D.crashes disk) result.status (D.told result.disk) (D.crashes result.disk)
         (O.told out.old) (O.told out.new) }
 
+    // What undo-unrecorded is refused for, in the order of its checks, what its calls leave, and what it says; a crash of the machine at any moment of it, and after its end.
+    ensures undone { (asks : Asks (map (λ word. string_bytes word) words.now) (F.told files.old))
+        → RunsUndone asks (D.told disk) result.status (D.told result.disk) (O.told out.old)
+        (O.told out.new) }
+    ensures undone_at_crash { (asks : Asks (map (λ word. string_bytes word) words.now)
+        (F.told files.old))
+        → CrashesUndone asks (D.told disk) (D.crashes disk) (D.crashes result.disk) }
+    ensures undone_safe { (asks : Asks (map (λ word. string_bytes word) words.now)
+        (F.told files.old))
+        → IsUndoneSafe asks result.status (D.told result.disk) (D.crashes result.disk) }
+
+    // What such a crash left is opened again. Where an update was stopped within a changeset that ran for the first time, it comes back to what stood before, also after stops of its own; and a steady update in mysql that was stopped so, any number of times, leaves what it would have left.
+    ensures undone_opens { (asks : Asks (map (λ word. string_bytes word) words.now)
+        (F.told files.old))
+        → (bytes : List ℕ)
+        → UndoneOpens asks (D.told disk) bytes }
+    ensures taken_back { (asks : Asks (map (λ word. string_bytes word) words.now)
+        (F.told files.old))
+        → TakesPartBack asks (D.told disk) result.status (D.told result.disk) }
+    ensures mended { (asks : Asks (map (λ word. string_bytes word) words.now) (F.told files.old))
+        → UpdateMends asks (stamp_of who.now (C.last clock.new)) (D.told disk) result.status
+        (D.told result.disk) }
+
     // The clock is read at most once, and by a drill for each of its commands.
     ensures once { asks_drill (line_of (map (λ word. string_bytes word) words.now)) ≡ false
         → ReadAtMostOnce (C.to_come clock.old) (C.to_come clock.new) (C.last clock.new) }
@@ -210,6 +236,8 @@ pub fn run<F: Files, D: Disk, C: Clock, O: Sink, L: Sink>(
         (asked_tag (line_of (map (λ word. string_bytes word) words.now))) result.status
         (L.told log.old) (L.told log.new) }
 {
+    parts_are_taken_back();
+    undo_mends();
     let Ending { disk, done, tag } = work(alloc, words, who, files, disk, clock);
     let status = tell(alloc, done, text_of(&tag), out, log);
     Ended { status, disk }

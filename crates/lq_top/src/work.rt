@@ -23,7 +23,7 @@ ghost use Rattle.lq_top.specs.Jobs.{DoesLine, is_apart, is_on_store, is_own, job
 ghost use Rattle.lq_top.specs.Kinds.{IsNotLoaded, IsOfFiles, IsOfWords};
 ghost use Rattle.lq_top.specs.Run.{Crashes};
 ghost use Rattle.lq_top.specs.Soaked.{TellsSoakOf};
-ghost use Rattle.lq_top.specs.Worked.{InVain, Spares, WorkedBy, WorkedOn, WorkedWith, has_missed};
+ghost use Rattle.lq_top.specs.Worked.{InVain, Spares, UndoneBy, WorkedBy, WorkedOn, WorkedWith, has_missed};
 
 use crate::changelogs::{changelog_of, file_status, part_for};
 use crate::copying::{Printing, on_copy};
@@ -31,6 +31,7 @@ use crate::drilling::drill;
 use crate::generating::generate_on;
 use crate::opening::{Worked, on_disk};
 use crate::soak::{Seed, soak};
+use crate::undoing::undo_on;
 use lq_base::{Dialect, Text};
 use lq_cli::{Job, Line, WordsFault, read_words};
 use lq_commands::Asked;
@@ -128,6 +129,10 @@ pub fn work<F: Files, D: Disk, C: Clock>(
         (D.crashes result.disk) }
     ensures settled { AsksDrill (map (λ word. string_bytes word) words.now) (F.told files.old)
         → IsSettled D.told D.faults D.crashes result.done result.disk }
+    ensures undone { (asks : Asks (map (λ word. string_bytes word) words.now) (F.told files.old))
+        → asks.line.job ≡ job.UndoUnrecorded
+        → UndoneBy D.told D.faults D.crashes asks.line.options asks.changelog disk result.done
+        result.disk }
 {
     match read_words(alloc, words) {
         Ok(line) => on_line(alloc, line, who, files, disk, clock),
@@ -386,6 +391,7 @@ fn on_job<D: Disk, C: Clock, P: SqlText + Drop + Copy>(
             let done = soak(alloc, sql, asked.options.dialect, seed, who, clock);
             Worked { disk, done }
         }
+        Job::UndoUnrecorded => undo_on(alloc, disk, sql, asked),
         _ => unreachable!(),
     }
 }

@@ -9,7 +9,7 @@ const FILE: &str = "--changelog-file=a.json";
 
 #[test]
 fn commands_are_read(rt: HostRuntime) -> Result<(), Fail> {
-    let cases: [(&[&str], &str); 37] = [
+    let cases: [(&[&str], &str); 39] = [
         (
             &["validate", URL, FILE],
             "Run(Validate) Postgresql db a.json",
@@ -96,6 +96,14 @@ fn commands_are_read(rt: HostRuntime) -> Result<(), Fail> {
             "UpdateTestingRollback Mysql a/b.db a.json @a @b Name(l)",
         ),
         (&["clear-checksums", MY], "ClearSums Mysql a/b.db -"),
+        (
+            &["undo-unrecorded", FILE, MY],
+            "UndoUnrecorded Mysql a/b.db a.json",
+        ),
+        (
+            &["undo-unrecorded", "-Dx=1", URL, FILE],
+            "UndoUnrecorded Postgresql db a.json x=1",
+        ),
         (&["history", MY], "History Mysql a/b.db -"),
         (
             &["generate-changelog", "--author", "ann b", MY],
@@ -181,7 +189,7 @@ fn commands_are_read(rt: HostRuntime) -> Result<(), Fail> {
 
 #[test]
 fn other_words_are_usage(rt: HostRuntime) -> Result<(), Fail> {
-    let cases: [&[&str]; 84] = [
+    let cases: [&[&str]; 91] = [
         &[],
         &["updates", URL, FILE],
         &["Update", URL, FILE],
@@ -276,6 +284,13 @@ fn other_words_are_usage(rt: HostRuntime) -> Result<(), Fail> {
         &["update-to-tag", URL, FILE, "--tag=t", "--count=1"],
         &["clear-checksums"],
         &["clear-checksums", URL, FILE],
+        &["undo-unrecorded", URL],
+        &["undo-unrecorded", FILE],
+        &["undo-unrecorded", URL, FILE, FILE],
+        &["undo-unrecorded", URL, FILE, "--count=1"],
+        &["undo-unrecorded", URL, FILE, "--context-filter=a"],
+        &["undo-unrecorded", URL, FILE, "--label-filter=l"],
+        &["undo", URL, FILE],
         &["history"],
         &["history", URL, URL],
         &["history", URL, FILE],

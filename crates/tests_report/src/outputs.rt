@@ -1,8 +1,8 @@
-use crate::made::{happened, identities, lock, printed, tracked};
+use crate::made::{happened, identities, identity, lock, printed, tracked};
 use lq_base::{Did, Exec, Items, NoMemory, Text};
 use lq_report::{
     Soaked, cleared_text, history_text, release_text, rollback_text, soak_text, sql_text,
-    status_text, sync_text, tagged_text, update_text, validated_text,
+    status_text, sync_text, tagged_text, undone_text, update_text, validated_text,
 };
 use std::alloc::Global;
 use std::test::Fail;
@@ -23,7 +23,10 @@ enum Output {
     Sync,
     Release,
     ReleaseMarked,
+    ReleaseMarkedBack,
     ReleaseFree,
+    Undone,
+    NoneUndone,
     Soak,
 }
 
@@ -52,6 +55,11 @@ fn soaked(alloc: Global) -> Result<Text, NoMemory> {
 fn released(alloc: Global, by: &str) -> Result<Text, NoMemory> {
     let held = lock(alloc, by)?;
     release_text(alloc, Some(&held))
+}
+
+fn undone(alloc: Global, count: u64) -> Result<Text, NoMemory> {
+    let of = identity(alloc, "1")?;
+    undone_text(alloc, &of, count)
 }
 
 fn updated(alloc: Global, all: &[(Did, &str)], not_fresh: u64) -> Result<Text, NoMemory> {
@@ -110,7 +118,10 @@ fn made(alloc: Global, output: Output) -> Result<Text, NoMemory> {
         Output::Sync => synced(alloc),
         Output::Release => released(alloc, "bob"),
         Output::ReleaseMarked => released(alloc, "bob|db/a.json::1::ann|2"),
+        Output::ReleaseMarkedBack => released(alloc, "bob|db/a.json::1::ann|back 2"),
         Output::ReleaseFree => release_text(alloc, None),
+        Output::Undone => undone(alloc, 3),
+        Output::NoneUndone => undone(alloc, 0),
         Output::Soak => soaked(alloc),
     }
 }
@@ -162,7 +173,16 @@ fn commands_write_their_texts(rt: HostRuntime) -> Result<(), Fail> {
             Output::ReleaseMarked,
             "lock released: held by bob since 1970-01-01 00:00:01.000\nunrecorded: db/a.json::1::ann, statement 2\n",
         ),
+        (
+            Output::ReleaseMarkedBack,
+            "lock released: held by bob since 1970-01-01 00:00:01.000\nunrecorded: db/a.json::1::ann, back statement 2\n",
+        ),
         (Output::ReleaseFree, "lock free\n"),
+        (Output::Undone, "undone db/a.json::1::ann, 3 statements\n"),
+        (
+            Output::NoneUndone,
+            "undone db/a.json::1::ann, 0 statements\n",
+        ),
         (
             Output::Soak,
             "soak: 1 changesets, 3 entries, 812 bytes, md5 d41d8cd98f00b204e9800998ecf8427e\nsoak: 6 entries, 0 rows, 0 tables\n",

@@ -1,5 +1,5 @@
 use crate::made::{identity, lock};
-use lq_base::{Lock, NoMemory, Reason, Text, Why};
+use lq_base::{Identity, Lock, NoMemory, Reason, Text, Why};
 use lq_report::{
     FixedLine, append_busy, append_changed, append_damaged, append_full, append_halted,
     append_locked, append_no_tag, append_not_reversible, append_refused, append_twice,
@@ -15,6 +15,7 @@ enum Line {
     Changed,
     Locked,
     LockedMarked,
+    LockedMarkedBack,
     LockedBroken,
     LockedByNobody,
     Halted,
@@ -22,6 +23,7 @@ enum Line {
     Refused,
     NoTag,
     NotReversible,
+    NamesNothing,
     Damaged,
     Full,
     Busy,
@@ -43,6 +45,16 @@ fn append_lock_of_nobody(alloc: Global, to: &mut Text) -> Result<(), NoMemory> {
     append_locked(alloc, &held, to)
 }
 
+// A mark that names no changeset is an identity with its text for the file.
+fn append_mark(alloc: Global, to: &mut Text) -> Result<(), NoMemory> {
+    let of = Identity {
+        file: Text::new(alloc, "db/a.json::1::ann, back statement 2")?,
+        id: Text::new(alloc, "")?,
+        author: Text::new(alloc, "")?,
+    };
+    append_not_reversible(alloc, &of, to)
+}
+
 fn append_of_changeset(alloc: Global, id: &str, line: Line, to: &mut Text) -> Result<(), NoMemory> {
     let at = identity(alloc, id)?;
     match line {
@@ -61,6 +73,8 @@ fn made(alloc: Global, line: Line) -> Result<Text, NoMemory> {
         Line::Fixed(fixed) => to.push_str(fixed.text())?,
         Line::Locked => append_lock(alloc, "bob", &mut to)?,
         Line::LockedMarked => append_lock(alloc, "bob|db/a.json::1::ann|undo 2", &mut to)?,
+        Line::LockedMarkedBack => append_lock(alloc, "bob|db/a.json::1::ann|back 2", &mut to)?,
+        Line::NamesNothing => append_mark(alloc, &mut to)?,
         Line::LockedBroken => append_lock(alloc, "bob\n|db/a.json::\r1::ann|2", &mut to)?,
         Line::LockedByNobody => append_lock_of_nobody(alloc, &mut to)?,
         Line::HaltedAtChangelog => append_halted(alloc, None, Why::Error(Reason::NotOne), &mut to)?,
@@ -95,6 +109,10 @@ fn runs_write_their_lines(rt: HostRuntime) -> Result<(), Fail> {
             "liquibase: no changeset to tag\n",
         ),
         (
+            Line::Fixed(FixedLine::NothingToUndo),
+            "liquibase: nothing to undo\n",
+        ),
+        (
             Line::Fixed(FixedLine::DiskFault),
             "liquibase: database fault\n",
         ),
@@ -123,6 +141,10 @@ fn runs_write_their_lines(rt: HostRuntime) -> Result<(), Fail> {
             "liquibase: locked by bob since 1970-01-01 00:00:01.000\nliquibase: unrecorded: db/a.json::1::ann, undo statement 2\n",
         ),
         (
+            Line::LockedMarkedBack,
+            "liquibase: locked by bob since 1970-01-01 00:00:01.000\nliquibase: unrecorded: db/a.json::1::ann, back statement 2\n",
+        ),
+        (
             Line::LockedBroken,
             "liquibase: locked by bob_ since 1970-01-01 00:00:01.000\nliquibase: unrecorded: db/a.json::_1::ann, statement 2\n",
         ),
@@ -146,6 +168,10 @@ fn runs_write_their_lines(rt: HostRuntime) -> Result<(), Fail> {
         (
             Line::NotReversible,
             "liquibase: no rollback for db/a.json::1::ann\n",
+        ),
+        (
+            Line::NamesNothing,
+            "liquibase: no rollback for db/a.json::1::ann, back statement 2\n",
         ),
         (Line::Damaged, "liquibase: database damaged at 12\n"),
         (

@@ -10,6 +10,8 @@ mod implicit;
 #[cfg(test)]
 mod journal;
 #[cfg(test)]
+mod mending;
+#[cfg(test)]
 mod places;
 #[cfg(test)]
 mod rehearsals;
@@ -19,3 +21,5 @@ mod running;
 mod shop;
 #[cfg(test)]
 mod stops;
+#[cfg(test)]
+mod undone;

@@ -1,7 +1,7 @@
 use Rattle.std.proofs.Common.{ap, arith, refl, rules, subst, sym, ◌∙◌}
 use Rattle.std.specs.Prelude.{[], reverse, ◌≡◌}
 use Rattle.lq_hand.specs.Hand.{IsReady, calls_left, hand_place, place_of}
-use Rattle.lq_mending.proofs.Counting.{rose_later}
+use Rattle.lq_run.proofs.Counting.{rose_later}
 use Rattle.lq_run.proofs.Ending.{ready_at}
 use Rattle.lq_run.proofs.Since.{leave_none, leave_then}
 use Rattle.lq_run.specs.NoChanges.{no_changes}

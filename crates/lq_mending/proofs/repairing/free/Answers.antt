@@ -1,6 +1,6 @@
 use Rattle.std.proofs.Common.{ap, subst, sym, true, ◌≡◌, ◌∙◌}
 use Rattle.std.specs.Prelude.{Err}
-use Rattle.lq_mending.proofs.Counting.{end_disk, is_the_disk}
+use Rattle.lq_run.proofs.Counting.{end_disk, is_the_disk}
 use Rattle.lq_run.specs.Faults.{is_disk_end}
 use Rattle.lq_turns.specs.Script.{closing}
 use Rattle.lq_turns.specs.Session.{called}

@@ -1,7 +1,7 @@
 use Rattle.std.proofs.Common.{ap, arith, refl, rules}
 use Rattle.std.specs.Prelude.{Err, [], length, ◌++◌, ◌∷◌, ◌≡◌}
 use Rattle.laws_repair.specs.Repair.{repair_calls, undo_calls}
-use Rattle.lq_mending.proofs.Counting.{rose_later}
+use Rattle.lq_run.proofs.Counting.{rose_later}
 use Rattle.lq_run.proofs.Since.{leave_none}
 use Rattle.lq_turns.specs.Script.{closing}
 use Rattle.lq_turns.specs.Session.{session_on}

@@ -11,9 +11,12 @@ use Rattle.lq_top.proofs.DrillRuns.{ends_formless, runs_drill, settled_as}
 use Rattle.lq_top.proofs.Logged.{has_warned}
 use Rattle.lq_top.proofs.OpensAgain.{crash_opens}
 use Rattle.lq_top.proofs.RehearsedFile.{has_rehearsed, is_rehearsed}
-use Rattle.lq_top.proofs.Resumed.{crash_marked, has_gone_on_back, has_resumed, leaves_marked}
+use Rattle.lq_top.proofs.Resumed.{crash_marked, has_gone_on_back, has_mended, has_resumed, leaves_marked}
 use Rattle.lq_top.proofs.Said.{comes_again, has_said, said_in_part, succeeds}
 use Rattle.lq_top.proofs.SoakSays.{says_soak}
+use Rattle.lq_top.proofs.TakenBack.{has_taken_back}
+use Rattle.lq_top.proofs.UndoneOpens.{undone_crash_opens}
+use Rattle.lq_top.proofs.UndoneRuns.{crash_undone, has_undone, undone_safe}
 use Rattle.lq_top.proofs.Written.{IsWritten, cause, ends_in_vain, ends_unread, gone_back, had_missed, has_run, has_synced, has_updated, is_logged, is_logged_part, no_files_left, no_words, tag_so, tells_damage, was_over, written_fault}
 use Rattle.lq_top.proofs.top.run.Goals as goal
 use Rattle.lq_top.specs.Asks.{asked_tag}
@@ -234,3 +237,35 @@ returns-clause-rehearsal g c =
     let left = g.D.Disk.told c.work-disk.result.disk in
     λ it. has_rehearsed stamp file c.work-disk.result.done left c.tell-status.result by it (c.work-disk.ensures.does it.asks)
     (has_run stamp file c.work-disk.result.done left c.tell-status.result by it.asks (c.work-disk.ensures.does it.asks))
+
+pub returns-clause-undone : goal.returns-clause-undone
+returns-clause-undone g c =
+    let by : IsWritten c.work-disk.result.done c.tell-status.result = record { kind = c.work-disk.ensures.kind; ended = c.tell-status.ensures.status; cut = c.tell-status.ensures.cut; had = c.tell-status.ensures.had } in
+    λ asks. has_undone g.D.Disk.told g.D.Disk.faults g.D.Disk.crashes asks c.args.disk c.work-disk.result.done c.work-disk.result.disk (c.work-disk.ensures.undone asks) c.tell-status.result by (g.O.Sink.told c.args.out.now) (g.O.Sink.told c.tell-status.new.out) c.tell-status.ensures.whole
+
+pub returns-clause-undone_at_crash : goal.returns-clause-undone_at_crash
+returns-clause-undone_at_crash g c = λ asks. crash_undone g.D.Disk.told g.D.Disk.faults g.D.Disk.crashes asks c.args.disk c.work-disk.result.done c.work-disk.result.disk (c.work-disk.ensures.undone asks) (g.met.D.Disk.sound c.args.disk)
+
+pub returns-clause-undone_safe : goal.returns-clause-undone_safe
+returns-clause-undone_safe g c =
+    let by : IsWritten c.work-disk.result.done c.tell-status.result = record { kind = c.work-disk.ensures.kind; ended = c.tell-status.ensures.status; cut = c.tell-status.ensures.cut; had = c.tell-status.ensures.had } in
+    λ asks. undone_safe g.D.Disk.told g.D.Disk.faults g.D.Disk.crashes asks c.args.disk c.work-disk.result.done c.work-disk.result.disk (c.work-disk.ensures.undone asks) c.tell-status.result by
+
+pub returns-clause-undone_opens : goal.returns-clause-undone_opens
+returns-clause-undone_opens g c = λ asks bytes. undone_crash_opens asks (g.D.Disk.told c.args.disk) bytes
+
+pub returns-clause-taken_back : goal.returns-clause-taken_back
+returns-clause-taken_back g c =
+    let by : IsWritten c.work-disk.result.done c.tell-status.result = record { kind = c.work-disk.ensures.kind; ended = c.tell-status.ensures.status; cut = c.tell-status.ensures.cut; had = c.tell-status.ensures.had } in
+    λ asks. has_taken_back c.parts_are_taken_back.ensures asks (g.D.Disk.told c.args.disk) c.tell-status.result (g.D.Disk.told c.work-disk.result.disk) (g.O.Sink.told c.args.out.now) (g.O.Sink.told c.tell-status.new.out)
+    (has_undone g.D.Disk.told g.D.Disk.faults g.D.Disk.crashes asks c.args.disk c.work-disk.result.done c.work-disk.result.disk (c.work-disk.ensures.undone asks) c.tell-status.result by (g.O.Sink.told c.args.out.now) (g.O.Sink.told c.tell-status.new.out) c.tell-status.ensures.whole)
+
+pub returns-clause-mended : goal.returns-clause-mended
+returns-clause-mended g c =
+    let by : IsWritten c.work-disk.result.done c.tell-status.result = record { kind = c.work-disk.ensures.kind; ended = c.tell-status.ensures.status; cut = c.tell-status.ensures.cut; had = c.tell-status.ensures.had } in
+    let stamp = stamp_of c.args.who.now (g.C.Clock.last c.work-disk.new.clock) in
+    let file = g.D.Disk.told c.args.disk in
+    let left = g.D.Disk.told c.work-disk.result.disk in
+    λ asks. has_mended asks stamp file c.work-disk.result.done c.tell-status.result left c.undo_mends.ensures (g.O.Sink.told c.args.out.now) (g.O.Sink.told c.tell-status.new.out) by (c.work-disk.ensures.does asks)
+    (has_run stamp file c.work-disk.result.done left c.tell-status.result by asks (c.work-disk.ensures.does asks))
+    (has_said asks stamp file left c.work-disk.result.done c.tell-status.result (g.O.Sink.told c.args.out.now) (g.O.Sink.told c.tell-status.new.out) by (c.work-disk.ensures.does asks) c.tell-status.ensures.whole)

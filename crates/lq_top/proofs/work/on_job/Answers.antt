@@ -32,6 +32,19 @@ returns-in-Generate-clause-worked g c =
 pub returns-in-Generate-clause-once : goal.returns-in-Generate-clause-once
 returns-in-Generate-clause-once g c = inl refl
 
+pub returns-in-UndoUnrecorded-clause-worked : goal.returns-in-UndoUnrecorded-clause-worked
+returns-in-UndoUnrecorded-clause-worked g c =
+    let ran = c.undo_on in
+    let stamp = stamp_of c.args.who.now (g.C.Clock.last c.args.clock.now) in
+    subst (λ job. WorkedOn g.D.Disk.told g.D.Disk.faults g.D.Disk.crashes job (given_at c.args.asked stamp) c.args.disk ran.result.done ran.result.disk)
+    (sym c.in-UndoUnrecorded.is) (ran.ensures.worked stamp)
+
+pub returns-in-UndoUnrecorded-clause-once : goal.returns-in-UndoUnrecorded-clause-once
+returns-in-UndoUnrecorded-clause-once g c = inl refl
+
+pub returns-in-UndoUnrecorded-clause-soaks : goal.returns-in-UndoUnrecorded-clause-soaks
+returns-in-UndoUnrecorded-clause-soaks g c = no_soak c.args.job.now c.args.asked.options.dialect (stamp_of c.args.who.now (g.C.Clock.last c.args.clock.now)) c.undo_on.result.done (ap is_apart c.in-UndoUnrecorded.is)
+
 -- a soak has a database of its own
 
 pub returns-in-Soak-clause-worked : goal.returns-in-Soak-clause-worked

@@ -3,6 +3,7 @@ use Rattle.lq_top.proofs.DamagedFiles.{spares_by}
 use Rattle.lq_top.proofs.InPart.{no_goal}
 use Rattle.lq_top.proofs.LeftOnFile.{since_read}
 use Rattle.lq_top.proofs.Unchanged.{printed_does, prints_no_command, prints_no_goal, prints_on_file}
+use Rattle.lq_top.proofs.UndoneOn.{prints_no_undo}
 use Rattle.lq_top.proofs.work.printed.Goals as goal
 use Rattle.lq_top.specs.Bytes.{given_at}
 use Rattle.lq_top.specs.Copies.{job_of}
@@ -28,4 +29,5 @@ returns-clause-worked g c =
           printed_does c.args.printing given database told ran.result (g.D.Disk.told ran.new.disk) opens (ran.ensures.answers database opens) (ran.ensures.tells database opens) ran.ensures.room ran.ensures.told;
       any_moment = λ on database opens.
           since_read given.options.dialect (job_script (job_of c.args.printing) given database) database told (g.D.Disk.crashes c.args.disk) (g.met.D.Disk.sound c.args.disk) (g.D.Disk.crashes ran.new.disk) ran.ensures.any_moment;
+      undone = λ is. prints_no_undo c.args.printing is;
     }

@@ -1,0 +1,3 @@
+pub mod Texts
+pub mod Undoing
+pub mod Mending

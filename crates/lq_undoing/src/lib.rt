@@ -1,0 +1,6 @@
+//! undo-unrecorded as a command on a store: how it ends, and what it writes.
+#![tactic(auto)]
+
+mod command;
+
+pub use command::undo;

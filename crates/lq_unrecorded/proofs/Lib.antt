@@ -1,0 +1,2 @@
+pub mod MarkParts
+pub mod Naming
