@@ -59,13 +59,10 @@ fn write_texts(to: &mut Canon, names: &[Name]) -> Result<(), NoMemory>
     ensures begun { OnOk result (to.new.begun ≡ to.old.begun) }
     ensures front { OnErr result (GoesOn to.old to.new) }
 {
-    match names {
-        [] => Ok(()),
-        [name, rest @ ..] => {
-            to.text(name.as_key())?;
-            write_texts(to, rest)
-        }
+    for name in names {
+        to.text(name.as_key())?;
     }
+    Ok(())
 }
 
 fn write_names(to: &mut Canon, names: &[Name]) -> Result<(), NoMemory>
@@ -136,13 +133,10 @@ fn write_maps<T: Written>(to: &mut Canon, items: &[T]) -> Result<(), NoMemory>
     ensures begun { OnOk result (to.new.begun ≡ to.old.begun) }
     ensures front { OnErr result (GoesOn to.old to.new) }
 {
-    match items {
-        [] => Ok(()),
-        [item, rest @ ..] => {
-            write_map(to, item)?;
-            write_maps(to, rest)
-        }
+    for item in items {
+        write_map(to, item)?;
     }
+    Ok(())
 }
 
 fn write_list<T: Written>(to: &mut Canon, items: &[T]) -> Result<(), NoMemory>

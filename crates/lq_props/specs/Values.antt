@@ -1,5 +1,6 @@
 -- Values by name, and by file and name.
-use Rattle.std.specs.Prelude.{◌≡◌, ◌<◌, ℕ, List, length, Option, Some, None, String, option_map, option_and_then, string_bytes, unwrap_or, if◌then◌else◌}
+use Rattle.std.specs.Prelude.{◌≡◌, ◌==◌, ℕ, false, List, length, Option, Some, None, String, option_map, option_and_then, string_bytes, unwrap_or, if◌then◌else◌}
+use Rattle.std.specs.List.{list_any}
 use Rattle.std.specs.Str.{bytes_eq}
 use Rattle.std.specs.declared.alloc.Global.{Global}
 use Rattle.indexmap.specs.IndexMap.{IndexMap, get_by_text}
@@ -23,7 +24,7 @@ abbrev pub defined_in_file : (List ℕ → List ℕ → Option (List ℕ)) → L
 defined_in_file look file name value f n = if bytes_eq file f then defined (look f) name value n else look f n
 
 module _ {S T U V : Type 0} where
-  -- no name with more bytes than this has a value
-  abbrev pub NoLonger : IndexMap (String Global) (String Global) S → IndexMap (String Global) (IndexMap (String Global) (String Global) T) U → IndexMap (String Global) (String Global) V → ℕ → Type 0
-  NoLonger command files global longest =
-      (name : List ℕ) → longest < length name → (value_in command name ≡ None) × ((file : List ℕ) → value_in_file files file name ≡ None) × (value_in global name ≡ None)
+  -- each name that has a value has one of these lengths
+  abbrev pub AreOfLengths : IndexMap (String Global) (String Global) S → IndexMap (String Global) (IndexMap (String Global) (String Global) T) U → IndexMap (String Global) (String Global) V → List ℕ → Type 0
+  AreOfLengths command files global lengths =
+      (name : List ℕ) → list_any (λ n. length name == n) lengths ≡ false → (value_in command name ≡ None) × ((file : List ℕ) → value_in_file files file name ≡ None) × (value_in global name ≡ None)

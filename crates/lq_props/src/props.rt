@@ -1,13 +1,13 @@
 ghost use Rattle.std.specs.Prelude.{◌≡◌, ℕ, List, None, OnOk, OnErr, IfOk, option_map};
 ghost use Rattle.lq_props.specs.declared.scope.Scope.{Scope};
 ghost use Rattle.lq_props.specs.Replaced.{replaced};
-ghost use Rattle.lq_props.specs.Values.{NoLonger};
+ghost use Rattle.lq_props.specs.Values.{AreOfLengths};
 ghost use Rattle.std.proofs.Props.{props};
 
 use crate::replacing::append_replaced;
 use crate::scope::Scope;
 use crate::values::{define_in, define_in_file, value_in, value_in_file};
-use indexmap::IndexMap;
+use indexmap::{IndexMap, IndexSet};
 use lq_base::{NoMemory, Text};
 use std::alloc::Global;
 
@@ -18,9 +18,9 @@ pub struct Props {
     command: IndexMap<String, String>,
     files: IndexMap<String, IndexMap<String, String>>,
     global: IndexMap<String, String>,
-    // The most bytes that a name has had: a longer one needs no look.
-    longest: usize,
-    ghost no_longer: { NoLonger command files global longest } by { Prim.hlevel props },
+    // The lengths of the names that were defined: a name of another length needs no look.
+    lengths: IndexSet<usize>,
+    ghost of_lengths: { AreOfLengths command files global lengths.keys } by { Prim.hlevel props },
 }
 
 impl Props {
@@ -34,7 +34,7 @@ impl Props {
             command: IndexMap::new(alloc),
             files: IndexMap::new(alloc),
             global: IndexMap::new(alloc),
-            longest: 0,
+            lengths: IndexSet::new(alloc),
         }
     }
 
@@ -52,7 +52,7 @@ impl Props {
         ensures err { OnErr result
             ((s : Scope) (n : List ℕ) → own self.new s n ≡ own self.old s n) }
     {
-        self.longest = self.longest.max(name.len());
+        self.lengths.insert(name.len())?;
         match scope {
             Scope::Command => define_in(&mut self.command, alloc, name, value),
             Scope::File(file) => {
@@ -67,7 +67,7 @@ impl Props {
     pub fn value(&self, file: &str, name: &str) -> Option<&str>
         ensures { option_map (λ value. value.now) result ≡ value_of self.now file.now name.now }
     {
-        if name.len() > self.longest {
+        if !self.lengths.contains(&name.len()) {
             return None;
         }
         if let Some(value) = value_in(&self.command, name) {

@@ -6,6 +6,7 @@ pub mod NestedComment
 pub mod PieceOrder
 pub mod PieceSteps
 pub mod QuotedText
+pub mod Search
 pub mod TriviaSteps
 pub mod UnitSteps
 pub mod WholeText

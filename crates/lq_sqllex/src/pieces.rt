@@ -85,14 +85,31 @@ pub fn split(
     ensures pieces { IfOk result (λ found. pieces dialect text.now delimiter.now ≡ Some found) }
     ensures unclosed { result ≡ Err SplitFault.Unclosed → pieces dialect text.now delimiter.now ≡ None }
 {
+    // A longer delimiter is compared whole only where so much of it stands.
+    let front = &delimiter.as_bytes()[..delimiter.len().min(32)];
     let mut found = Items::new(alloc);
     let mut start = 0;
     let mut place = 0;
+    // From the place up to `clear` no delimiter begins: once comparing it in vain has cost as much
+    // as looking for the next one, that one is looked for.
+    let mut clear = 0;
+    let mut spent: usize = 0;
     while place < text.len() {
-        if is_delimited_at(dialect, delimiter, text, place) {
-            keep(alloc, dialect, &text[start..place], &mut found)?;
-            place += delimiter.len();
-            start = place;
+        if clear <= place && is_delimited(dialect, front, from(text.as_bytes(), place)) {
+            if is_delimited_at(dialect, delimiter, text, place) {
+                keep(alloc, dialect, &text[start..place], &mut found)?;
+                place += delimiter.len();
+                start = place;
+            } else {
+                let rest = text.get(place..).unwrap_or("");
+                let both = rest.as_bytes().iter().zip(delimiter.as_bytes());
+                spent = spent.saturating_add(both.take_while(|(one, other)| one == other).count());
+                if spent > delimiter.len() {
+                    clear = place + rest.find(delimiter).unwrap_or(rest.len());
+                    spent = 0;
+                }
+                place += 1;
+            }
         } else {
             let Some(count) = together_at(dialect, text, place) else {
                 return Err(SplitFault::Unclosed);

@@ -186,3 +186,106 @@ fn a_wrong_line_before_is_told(rt: HostRuntime) {
     tell_deep(&rt, rt.alloc(), "a.yaml", "a:\n\tb\n", &cases, "\n");
     tell_deep(&rt, rt.alloc(), "a.yaml", "a: 1\n b: 2\n", &cases, "\n")
 }
+
+// A file of nothing but lists is read to 127 levels, and then holds no changelog.
+#[test]
+fn lists_alone_have_127_levels(rt: HostRuntime) {
+    let cases = [
+        Deep {
+            opening: "[",
+            count: 127,
+            inside: "",
+            closing: "]",
+            wanted: "liquibase: changelog fault: db/a.json: : bad\n",
+        },
+        Deep {
+            opening: "[",
+            count: 200,
+            inside: "",
+            closing: "]",
+            wanted: "liquibase: changelog fault: db/a.json: not JSON\n",
+        },
+    ];
+    tell_deep(&rt, rt.alloc(), "db/a.json", "", &cases, "")
+}
+
+const CONTEXT: &str = r#"{"databaseChangeLog":[{"changeSet":{"id":1,"author":"ann","context":""#;
+
+#[test]
+fn contexts_have_64_levels(rt: HostRuntime) {
+    let cases = [
+        Deep {
+            opening: "(",
+            count: 65,
+            inside: "a",
+            closing: ")",
+            wanted: "liquibase: changelog fault: db/a.json: databaseChangeLog[0].changeSet.context: bad\n",
+        },
+        Deep {
+            opening: "!",
+            count: 65,
+            inside: "a",
+            closing: "",
+            wanted: "liquibase: changelog fault: db/a.json: databaseChangeLog[0].changeSet.context: bad\n",
+        },
+        Deep {
+            opening: "!",
+            count: 8,
+            inside: "a",
+            closing: "",
+            wanted: "\ndb/a.json::1::ann context !!!!!!!!a",
+        },
+    ];
+    tell_deep(&rt, rt.alloc(), "db/a.json", CONTEXT, &cases, r#""}}]}"#)
+}
+
+const CONDITIONS: &str =
+    r#"{"databaseChangeLog":[{"changeSet":{"id":1,"author":"ann","preConditions":["#;
+
+// They end with the levels of JSON.
+#[test]
+fn conditions_are_read_in_one_another(rt: HostRuntime) {
+    let cases = [
+        Deep {
+            opening: r#"{"not":["#,
+            count: 60,
+            inside: r#"{"tableExists":{"tableName":"t"}}"#,
+            closing: "]}",
+            wanted: "\na.json::1::ann asks 1",
+        },
+        Deep {
+            opening: r#"{"not":["#,
+            count: 61,
+            inside: r#"{"tableExists":{"tableName":"t"}}"#,
+            closing: "]}",
+            wanted: "liquibase: changelog fault: a.json: not JSON\n",
+        },
+    ];
+    tell_deep(&rt, rt.alloc(), "a.json", CONDITIONS, &cases, "]}}]}")
+}
+
+// Sequences in one another, one in a line and each two blanks deeper.
+fn steps(alloc: Global, count: usize) -> Result<String, AllocError> {
+    let mut text = String::new(alloc);
+    for level in 0..count {
+        push_times(&mut text, "  ", level)?;
+        text.push_str("-\n")?;
+    }
+    Ok(text)
+}
+
+fn told_steps(rt: &impl Abort, alloc: Global, count: usize) -> Text {
+    let text = steps(alloc, count).expect(rt, "memory");
+    told_bytes(rt, alloc, "db/a.yaml", text.as_bytes())
+}
+
+#[test]
+fn steps_have_64_levels(rt: HostRuntime) {
+    for (count, wanted) in [
+        (64, "liquibase: changelog fault: db/a.yaml: : bad\n"),
+        (65, "liquibase: changelog fault: db/a.yaml: too deep\n"),
+    ] {
+        let told = told_steps(&rt, rt.alloc(), count);
+        assert_eq!(rt; told.as_str(), wanted);
+    }
+}

@@ -1,4 +1,4 @@
-use crate::asked::told_held;
+use crate::asked::{told_bytes, told_held};
 use crate::given::{Held, hold};
 use crate::made::between;
 use lq_base::{Items, Text};
@@ -88,4 +88,19 @@ fn includes_have_32_levels(rt: HostRuntime) {
         ),
     ];
     tell_below(&rt, rt.alloc(), &rows)
+}
+
+#[test]
+fn a_file_that_includes_itself_is_too_deep(rt: HostRuntime) {
+    for text in [
+        r#"{"databaseChangeLog":[{"include":{"file":"db/a.json"}}]}"#,
+        r#"{"databaseChangeLog":[{"include":{"file":"a.json","relativeToChangelogFile":true}}]}"#,
+        r#"{"databaseChangeLog":[{"includeAll":{"path":"db"}}]}"#,
+    ] {
+        let told = told_bytes(&rt, rt.alloc(), "db/a.json", text.as_bytes());
+        assert_eq!(rt;
+            told.as_str(),
+            "liquibase: changelog fault: db/a.json: includes too deep\n"
+        );
+    }
 }

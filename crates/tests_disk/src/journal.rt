@@ -9,7 +9,7 @@ use lq_outside::{Disk, Fuse, MemDisk, SureDisk};
 use std::alloc::{AllocError, Global};
 use std::test::Fail;
 
-const PGSQL: &[u8] = b"LQJOURNAL1 PGSQL";
+pub const PGSQL: &[u8] = b"LQJOURNAL1 PGSQL";
 
 const ONE: &[u8] = b"\x01\x00\x00\x00\x13T\x00\x00\x00\x0eDROP TABLE \"t\"\x00";
 
@@ -64,8 +64,8 @@ fn is_loaded(
     Ok(line.as_str() == want)
 }
 
-// Whether a file of this head, and of what comes behind it, is loaded so.
-fn is_read(
+/// Whether a file of this head, and of what comes behind it, is loaded so.
+pub fn is_read(
     alloc: Global,
     dialect: Dialect,
     head: &[u8],

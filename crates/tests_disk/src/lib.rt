@@ -5,6 +5,8 @@
 #[cfg(test)]
 mod journal;
 #[cfg(test)]
+mod lengths;
+#[cfg(test)]
 mod one_table;
 #[cfg(test)]
 mod outside;

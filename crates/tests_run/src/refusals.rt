@@ -1,5 +1,5 @@
 use crate::running::{FileText, NONE, Step, play, run_over};
-use crate::shop::{BACK_ONE, SHOP, UPDATE, UPDATE_MYSQL};
+use crate::shop::{BACK_ONE, SHOP, STATUS, UPDATE, UPDATE_MYSQL};
 use std::alloc::Global;
 use std::process::Abort;
 
@@ -56,6 +56,28 @@ fn a_damaged_file_is_left_alone(rt: HostRuntime) {
     let mysql = run_over(&rt, rt.alloc(), UPDATE_MYSQL, &[SHOP], b"", NONE);
     let left = play(&rt, rt.alloc(), &[SHOP], &mysql.bytes, &[DAMAGED]);
     assert!(rt; left == mysql.bytes);
+}
+
+const DAMAGED_BEHIND: [Step; 2] = [
+    Step {
+        words: UPDATE,
+        code: 12,
+        out: "",
+        log: "liquibase: database damaged at 17\n",
+    },
+    Step {
+        words: STATUS,
+        code: 12,
+        out: "",
+        log: "liquibase: database damaged at 17\n",
+    },
+];
+
+#[test]
+fn damage_behind_the_header_is_told_at_its_place(rt: HostRuntime) {
+    let endless = b"LQJOURNAL1 PGSQL\x01\xff\xff\xff\xff".as_slice();
+    let left = play(&rt, rt.alloc(), &[SHOP], endless, &DAMAGED_BEHIND);
+    assert!(rt; left.as_slice() == endless);
 }
 
 const NO_ROW: [Step; 2] = [

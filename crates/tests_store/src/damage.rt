@@ -37,8 +37,13 @@ fn push_entry(alloc: Global, out: &mut Vec<u8>, texts: &str) -> Result<(), Alloc
     out.extend_from_slice(body.as_slice())
 }
 
-// A journal of entries with `/` between, and the bytes from its last gate on.
-fn journal(alloc: Global, head: &[u8], entries: &str, end: &[u8]) -> Result<Vec<u8>, AllocError> {
+/// A journal of entries with `/` between, and the bytes from its last gate on.
+pub fn journal(
+    alloc: Global,
+    head: &[u8],
+    entries: &str,
+    end: &[u8],
+) -> Result<Vec<u8>, AllocError> {
     let mut out = Vec::from_slice(alloc, head)?;
     for entry in entries.split('/') {
         out.push(1)?;

@@ -9,6 +9,8 @@ mod damage;
 #[cfg(test)]
 mod faults;
 #[cfg(test)]
+mod last;
+#[cfg(test)]
 mod opened;
 #[cfg(test)]
 mod play;

@@ -61,6 +61,7 @@ fn show_told(out: &mut String, told: Told) -> Result<(), AllocError> {
 pub fn play<S: Store>(alloc: Global, store: &mut S, script: &str) -> Result<String, Fail>
     requires valid { S.valid store.old }
     requires noted { IsNoted None (S.state store.old) }
+    ensures valid { S.valid store.new }
 {
     let mut out = String::new(alloc);
     let mut holder = None;

@@ -1,5 +1,6 @@
-use Rattle.std.proofs.Common.{◌≡◌, ◌≤◌, ◌-◌, length, take, drop}
+use Rattle.std.proofs.Common.{◌≡◌, ◌≤◌, ◌<◌, ◌-◌, ℕ, false, length, take, drop}
 use Rattle.std.specs.Str.{IsCharBoundary}
+use Rattle.lq_base.specs.SqlByte.{begins}
 use Rattle.lq_sqllex.specs.Pieces.{pieces}
 use Rattle.lq_sqllex.proofs.PieceSteps.{going}
 use Rattle.lq_sqllex.proofs.pieces.split.Given as goal
@@ -10,6 +11,7 @@ invariant-loop-place l = record {
   order : l.start ≤ l.place;
   within : l.place ≤ length l.text;
   boundary : IsCharBoundary l.text l.start;
+  clear : (k : ℕ) → l.place ≤ k → k < l.clear → begins l.delimiter (drop k l.text) ≡ false;
 }
 
 abbrev pub decreases-loop-place : goal.decreases-loop-place
