@@ -5,8 +5,8 @@ from typing import Optional
 
 from . import conditions
 from .made_tables import Tables, add_foreign_key, add_unique, create_index
-from .making import Step, change
-from .schema import MYSQL, POSTGRESQL, Column, ForeignKey, Index, Key, Row, Table, View, listed, quoted
+from .making import Step, change, placed_change
+from .schema import MYSQL, POSTGRESQL, Column, ForeignKey, Index, Key, Name, Row, Table, View, listed, quoted
 
 
 class Parts(Tables):
@@ -64,7 +64,7 @@ class Parts(Tables):
         table, columns = self.place_for(3, True) or (None, ())
         if not table:
             return None
-        key = Key(self.name("uq"), columns)
+        key = Key(self.name("uq", table.name.schema), columns)
         table.uniques.append(key)
         return Step([add_unique(table, key)],
                     [change("dropUniqueConstraint", tableName=table.name, constraintName=key.name)])
@@ -85,7 +85,7 @@ class Parts(Tables):
         table, columns = self.place_for(3, unique) or (None, ())
         if not table:
             return None
-        index = Index(self.name("ix"), columns, unique)
+        index = Index(self.name("ix", table.name.schema), columns, unique)
         table.indexes.append(index)
         return Step([create_index(table, index)], [change("dropIndex", indexName=index.name, tableName=table.name)])
 
@@ -168,10 +168,19 @@ class Parts(Tables):
         if not table:
             return None
         query, needs = self.query(table)
-        view = View(self.name("v"), [], table.name, needs, query)
+        view = View(self.placed("v"), [], table.name, needs, query)
         self.schema.views[view.name] = view
-        return Step([change("createView", viewName=view.name, selectQuery=query)],
-                    [change("dropView", viewName=view.name)])
+        return Step([self.view_made(view.name, query)], [self.view_gone(view.name)])
+
+    def view_made(self, view: Name, query: str, **more) -> dict:
+        """The change that makes a view, perhaps in the place of another."""
+        word = "CREATE OR REPLACE VIEW" if more else "CREATE VIEW"
+        return placed_change(view, f"{word} {quoted(self.profile, view)} AS {query}",
+                             change("createView", viewName=view, selectQuery=query, **more))
+
+    def view_gone(self, view: Name) -> dict:
+        """The change that drops a view."""
+        return placed_change(view, f"DROP VIEW {quoted(self.profile, view)}", change("dropView", viewName=view))
 
     def replace_view(self) -> Optional[Step]:
         """Puts another query in the place of a view's; PostgreSQL wants the columns that it has, and perhaps more."""
@@ -182,9 +191,8 @@ class Parts(Tables):
         first = tuple(name for name in table.names() if quoted(self.profile, name) in was.split(" FROM ")[0])
         first = tuple(sorted(first, key=lambda name: was.index(quoted(self.profile, name))))
         view.query, view.needs = self.query(table, first)
-        undo = [change("dropView", viewName=view.name), change("createView", viewName=view.name, selectQuery=was)]
-        made = change("createView", viewName=view.name, selectQuery=view.query, replaceIfExists=True)
-        return Step([made], undo, False)
+        undo = [self.view_gone(view.name), self.view_made(view.name, was)]
+        return Step([self.view_made(view.name, view.query, replaceIfExists=True)], undo, False)
 
     def drop_view(self) -> Optional[Step]:
         """Drops a view, but not one of all columns whose table has got more since: made anew it would have those too."""
@@ -193,19 +201,23 @@ class Parts(Tables):
         if not view:
             return None
         del self.schema.views[view.name]
-        return Step([change("dropView", viewName=view.name)],
-                    [change("createView", viewName=view.name, selectQuery=view.query)], False)
+        return Step([self.view_gone(view.name)], [self.view_made(view.name, view.query)], False)
 
     def rename_view(self) -> Optional[Step]:
         """Renames a view."""
         view = self.pick(self.schema.views.values())
         if not view:
             return None
-        old, view.name = view.name, self.name("v")
+        old = view.name
+        view.name = old._replace(text=self.name("v", old.schema))
         del self.schema.views[old]
         self.schema.views[view.name] = view
-        return Step([change("renameView", oldViewName=old, newViewName=view.name)],
-                    [change("renameView", oldViewName=view.name, newViewName=old)])
+        return Step([self.view_renamed(old, view.name)], [self.view_renamed(view.name, old)])
+
+    def view_renamed(self, old: Name, new: Name) -> dict:
+        """The change that renames a view."""
+        sql = f"ALTER VIEW {quoted(self.profile, old)} RENAME TO {quoted(self.profile, new.text)}"
+        return placed_change(old, sql, change("renameView", oldViewName=old, newViewName=new))
 
     def change_sequence(self) -> Optional[Step]:
         """Makes, renames or drops a sequence; MySQL has none."""
@@ -213,22 +225,32 @@ class Parts(Tables):
             return None
         name = self.pick(self.sequences)
         if not name or self.chance(0.5):
-            name = self.name("s")
+            name = self.placed("s")
             self.sequences[name] = (self.random.randint(1, 1000), self.random.choice([1, 2, 10]))
-            return Step([self.sequence(name)], [change("dropSequence", sequenceName=name)])
+            return Step([self.sequence(name)], [self.sequence_gone(name)])
         if self.chance(0.5):
             undo = self.sequence(name)
             del self.sequences[name]
-            return Step([change("dropSequence", sequenceName=name)], [undo], False)
-        new = self.name("s")
+            return Step([self.sequence_gone(name)], [undo], False)
+        new = name._replace(text=self.name("s", name.schema))
         self.sequences[new] = self.sequences.pop(name)
-        return Step([change("renameSequence", oldSequenceName=name, newSequenceName=new)],
-                    [change("renameSequence", oldSequenceName=new, newSequenceName=name)])
+        return Step([self.sequence_renamed(name, new)], [self.sequence_renamed(new, name)])
 
-    def sequence(self, name: str) -> dict:
+    def sequence(self, name: Name) -> dict:
         """The change that makes a sequence."""
         start, step = self.sequences[name]
-        return change("createSequence", sequenceName=name, startValue=start, incrementBy=step)
+        sql = f"CREATE SEQUENCE {quoted(self.profile, name)} START WITH {start} INCREMENT BY {step}"
+        return placed_change(name, sql, change("createSequence", sequenceName=name, startValue=start, incrementBy=step))
+
+    def sequence_gone(self, name: Name) -> dict:
+        """The change that drops a sequence."""
+        sql = f"DROP SEQUENCE {quoted(self.profile, name)}"
+        return placed_change(name, sql, change("dropSequence", sequenceName=name))
+
+    def sequence_renamed(self, old: Name, new: Name) -> dict:
+        """The change that renames a sequence."""
+        sql = f"ALTER SEQUENCE {quoted(self.profile, old)} RENAME TO {quoted(self.profile, new.text)}"
+        return placed_change(old, sql, change("renameSequence", oldSequenceName=old, newSequenceName=new))
 
 
 def has_twins(rows: list[Row], columns: tuple[str, ...]) -> bool:

@@ -5,9 +5,8 @@ from typing import Optional
 
 from . import conditions
 from .made_parts import Parts, has_parent, has_twins
-from .made_tables import insert_row
-from .making import Step, change, stated
-from .schema import MYSQL, Column, Row, Table, equals, insert, literal, quoted
+from .making import Step, change, placed_change
+from .schema import MYSQL, Column, Name, Row, Table, equals, literal, quoted
 
 
 class Rows(Parts):
@@ -23,8 +22,8 @@ class Rows(Parts):
             if said and row not in table.rows and self.goes_in(table, table.rows, row):
                 self.count_on(table, said)
                 table.rows.append(row)
-                done = self.statement(insert(self.profile, table.name, said), insert_row(table.name, said))
-                undo = change("delete", tableName=table.name, where=equals(self.profile, row))
+                done = self.statement(table.name, *self.insert_row(table.name, said))
+                undo = placed_change(table.name, *self.delete_of(table, equals(self.profile, row)))
                 return Step([done], [undo], False)
         return None
 
@@ -78,14 +77,7 @@ class Rows(Parts):
             return None
         undo = [self.put_back(table, row, names) for row in hit]
         table.rows = after
-        return Step([self.update_of(table, said, test.sql)], undo, False)
-
-    def update_of(self, table: Table, said: Row, where: str) -> dict:
-        """The change that gives rows these values."""
-        sets = ", ".join(f"{quoted(self.profile, name)} = {literal(self.profile, said[name])}" for name in said)
-        columns = [{"column": {"name": name, **stated(value)}} for name, value in said.items()]
-        return self.statement(f"UPDATE {quoted(self.profile, table.name)} SET {sets} WHERE {where}",
-                              change("update", tableName=table.name, columns=columns, where=where))
+        return Step([self.statement(table.name, *self.update_of(table, said, test.sql))], undo, False)
 
     def delete(self) -> Optional[Step]:
         """Deletes rows, with those that cascade; nothing that another row needs."""
@@ -96,13 +88,18 @@ class Rows(Parts):
         gone = self.gone_with(table, [row for row in table.rows if test.on(row)])
         if gone is None:
             return None
-        undo = [insert_row(it.name, row) for it in self.schema.parents_first() for row in gone.get(it.name, [])]
+        undo = [placed_change(it.name, *self.insert_row(it.name, row)) for it in self.schema.parents_first()
+                for row in gone.get(it.name, [])]
         for name, rows in gone.items():
             self.schema.tables[name].rows = [row for row in self.schema.tables[name].rows if row not in rows]
-        sql = f"DELETE FROM {quoted(self.profile, table.name)} WHERE {test.sql}"
-        return Step([self.statement(sql, change("delete", tableName=table.name, where=test.sql))], undo, False)
+        return Step([self.statement(table.name, *self.delete_of(table, test.sql))], undo, False)
 
-    def gone_with(self, table: Table, rows: list[Row]) -> Optional[dict[str, list[Row]]]:
+    def delete_of(self, table: Table, where: str) -> tuple[str, dict]:
+        """The SQL and the change that delete rows."""
+        return (f"DELETE FROM {quoted(self.profile, table.name)} WHERE {where}",
+                change("delete", tableName=table.name, where=where))
+
+    def gone_with(self, table: Table, rows: list[Row]) -> Optional[dict[Name, list[Row]]]:
         """All rows that go with these, by table; None where one that stays needs one."""
         gone = {table.name: rows}
         for it in self.schema.parents_first():
@@ -115,13 +112,13 @@ class Rows(Parts):
                 there += [row for row in lost if row not in there]
         return gone
 
-    def statement(self, sql: str, spelt: dict) -> dict:
+    def statement(self, table: Name, sql: str, spelt: dict) -> dict:
         """A change of rows, at times as SQL."""
-        return change("sql", sql=sql) if self.chance(0.25) else spelt
+        return change("sql", sql=sql) if self.chance(0.25) else placed_change(table, sql, spelt)
 
     def create_by_sql(self) -> Optional[Step]:
         """A table in SQL, made and given a column more."""
-        table = Table(self.name("t"), [self.column(), self.column()])
+        table = Table(self.placed("t"), [self.column(), self.column()])
         self.schema.tables[table.name], self.next[table.name] = table, 1
         name, (first, second) = quoted(self.profile, table.name), map(self.column_sql, table.columns)
         script = f"create table {name} ({first}); -- and then\nALTER TABLE {name} ADD {second}"

@@ -5,8 +5,9 @@ from dataclasses import replace
 from decimal import Decimal
 from typing import Optional
 
-from .making import Making, Step, change, stated
-from .schema import MYSQL, Column, ForeignKey, Index, Key, Kind, Table, Value, equals
+from .making import Making, Step, change, placed_change, stated
+from .schema import (MYSQL, POSTGRESQL, Column, ForeignKey, Index, Key, Kind, Name, Row, Table, Value, equals, insert,
+                     literal, quoted)
 
 
 class Tables(Making):
@@ -17,47 +18,47 @@ class Tables(Making):
         limits: dict = {}
         if table.primary and column.name in table.primary.columns:
             limits["primaryKey"] = True
-            if table.primary.name != "pk_" + table.name:
+            if table.primary.name != f"pk_{table.name.text}":
                 limits["primaryKeyName"] = table.primary.name
         elif not column.nullable:
             limits["nullable"] = False
         for key in table.uniques if inline else []:
             if key.columns == (column.name,):
                 limits["unique"] = True
-                if key.name != f"uq_{table.name}_{column.name}":
+                if key.name != f"uq_{table.name.text}_{column.name}":
                     limits["uniqueConstraintName"] = key.name
         for key in table.foreign if inline else []:
             if key.columns == (column.name,):
-                limits.update(references=f"{key.parent}({key.targets[0]})", foreignKeyName=key.name)
+                limits.update(references=f"{key.parent.text}({key.targets[0]})", foreignKeyName=key.name)
         spelt = {"name": column.name, "type": self.spelt(column.kind), **stated(column.default, "defaultValue"), **more}
         if column.numbered:
             spelt["autoIncrement"] = True
         return {"column": {**spelt, "constraints": limits} if limits else spelt}
 
-    def parent_column(self) -> Optional[tuple[Table, Column]]:
-        """A column that a foreign key of one column may aim at, with its table, as `references` can spell it."""
+    def parent_column(self, schema: str) -> Optional[tuple[Table, Column]]:
+        """A column that a foreign key of one column may aim at, with its table, as `references` can spell it there."""
         return self.pick((table, table.column(key.columns[0])) for table in self.schema.tables.values()
-                         for key in table.keys() if len(key.columns) == 1 and "(" not in table.name)
+                         for key in table.keys() if table.name.schema == schema and len(key.columns) == 1)
 
-    def child_column(self) -> Optional[tuple[Column, ForeignKey]]:
+    def child_column(self, schema: str) -> Optional[tuple[Column, ForeignKey]]:
         """A new column that may be null, with a foreign key at a column that is there."""
-        found = self.parent_column()
+        found = self.parent_column(schema)
         if not found:
             return None
         parent, target = found
         column = Column(self.name("c"), target.kind)
-        return column, ForeignKey(self.name("fk"), (column.name,), parent.name, (target.name,))
+        return column, ForeignKey(self.name("fk", schema), (column.name,), parent.name, (target.name,))
 
     def create_table(self) -> Step:
         """A new table, with a key as a rule, perhaps with unique columns and a foreign key."""
-        table = Table(self.name("t"), [self.column() for _ in range(self.random.randint(1, 6))])
+        table = Table(self.placed("t"), [self.column() for _ in range(self.random.randint(1, 6))])
         if self.chance(0.7):
             self.put_key(table)
         for column in table.columns:
             is_in_key = table.primary and column.name in table.primary.columns
             if self.chance(0.15) and self.is_keyable(column) and not is_in_key:
                 table.uniques.append(Key(self.named("uq", table.name, column.name)[0], (column.name,)))
-        child = self.child_column() if self.chance(0.3) else None
+        child = self.child_column(table.name.schema) if self.chance(0.3) else None
         if child:
             table.columns.append(child[0])
             table.foreign.append(child[1])
@@ -91,7 +92,12 @@ class Tables(Making):
         made += [add_unique(table, key) for key in table.uniques]
         made += [create_index(table, index) for index in table.indexes]
         made += [add_foreign_key(table, key) for key in table.foreign]
-        return made + [insert_row(it, row) for row in table.rows]
+        return made + [placed_change(it, *self.insert_row(it, row)) for row in table.rows]
+
+    def insert_row(self, table: Name, row: Row) -> tuple[str, dict]:
+        """The SQL and the change that insert a row."""
+        columns = [{"column": {"name": name, **stated(value)}} for name, value in row.items()]
+        return insert(self.profile, table, row), change("insert", tableName=table, columns=columns)
 
     def drop_table(self) -> Optional[Step]:
         """Drops a table that nothing needs and whose key has its columns in their order."""
@@ -108,7 +114,8 @@ class Tables(Making):
         table = self.pick(it for it in self.schema.tables.values() if not self.is_in_view(it.name))
         if not table:
             return None
-        old, new = table.name, self.name("t")
+        old = table.name
+        new = old._replace(text=self.name("t", old.schema))
         del self.schema.tables[old]
         self.schema.tables[new] = table
         self.next[new], table.name = self.next[old], new
@@ -120,7 +127,7 @@ class Tables(Making):
     def add_column(self) -> Optional[Step]:
         """Adds a column: with a foreign key, with a value for the rows that are there, or plain."""
         table = self.pick(self.schema.tables.values())
-        child = self.child_column() if self.chance(0.3) else None
+        child = self.child_column(table.name.schema) if self.chance(0.3) else None
         if not table or len(table.columns) > 9 or child and not self.may_aim(table, child[1].parent):
             return None
         column, value = child[0] if child else self.column(), None
@@ -146,7 +153,7 @@ class Tables(Making):
                   for key in table.uniques if column.name in key.columns]
         return parts + [change("dropColumn", tableName=table.name, columnName=column.name)]
 
-    def may_aim(self, table: Table, parent: str) -> bool:
+    def may_aim(self, table: Table, parent: Name) -> bool:
         """A foreign key from the table at the parent leads to no circle."""
         it = self.schema.tables[parent]
         return it is not table and table not in self.schema.ancestors(it)
@@ -174,8 +181,14 @@ class Tables(Making):
     def put_back(self, table: Table, row: dict, names: list[str]) -> dict:
         """The update that gives a row its values again."""
         where = equals(self.profile, {name: row[name] for name in table.primary.columns})
-        columns = [{"column": {"name": name, **stated(row[name])}} for name in names]
-        return change("update", tableName=table.name, columns=columns, where=where)
+        return placed_change(table.name, *self.update_of(table, {name: row[name] for name in names}, where))
+
+    def update_of(self, table: Table, said: Row, where: str) -> tuple[str, dict]:
+        """The SQL and the change that give rows these values."""
+        sets = ", ".join(f"{quoted(self.profile, name)} = {literal(self.profile, said[name])}" for name in said)
+        columns = [{"column": {"name": name, **stated(value)}} for name, value in said.items()]
+        return (f"UPDATE {quoted(self.profile, table.name)} SET {sets} WHERE {where}",
+                change("update", tableName=table.name, columns=columns, where=where))
 
     def rename_column(self) -> Optional[Step]:
         """Renames a column that no view names."""
@@ -290,12 +303,6 @@ def add_default(table: Table, column: Column) -> dict:
 def drop_default(table: Table, column: Column) -> dict:
     """The change that takes a column's default away."""
     return change("dropDefaultValue", tableName=table.name, columnName=column.name)
-
-
-def insert_row(table: str, row: dict) -> dict:
-    """The change that inserts a row."""
-    columns = [{"column": {"name": name, **stated(value)}} for name, value in row.items()]
-    return change("insert", tableName=table, columns=columns)
 
 
 def add_unique(table: Table, key: Key) -> dict:

@@ -28,11 +28,15 @@ class Maker(Rows):
                 return step
 
     def change_set(self, number: int, steps: list[Step]) -> dict:
-        """A changeset of steps; with a rollback block where generated inverses fall short, and at times elsewhere."""
+        """A changeset of steps; with a rollback block where generated inverses fall short, and at times elsewhere.
+
+        SQL has none.
+        """
         made = {"id": str(number), "author": "maker", "changes": [it for step in steps for it in step.changes]}
         if self.chance(0.1):
             made["runInTransaction"] = False
-        if not all(step.generated for step in steps) or self.chance(0.15):
+        is_sql = any("sql" in it for it in made["changes"])
+        if is_sql or not all(step.generated for step in steps) or self.chance(0.15):
             made["rollback"] = [it for step in reversed(steps) for it in step.undo]
         return {"changeSet": made}
 

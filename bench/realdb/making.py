@@ -6,7 +6,8 @@ from decimal import Decimal
 from random import Random
 from typing import NamedTuple, Optional
 
-from .schema import MYSQL, POSTGRESQL, Column, ForeignKey, Index, Key, Kind, Moment, Schema, Table, Value, decimal
+from .schema import (MYSQL, POSTGRESQL, PUBLIC, SCHEMAS, Column, ForeignKey, Index, Key, Kind, Moment, Name, Schema,
+                     Table, Value, decimal)
 
 WORDS = ["order", "customer", "Item", "stock", "price list", "größe", "note", "select", "user", "value", "état",
          "Group"]
@@ -15,6 +16,8 @@ TEXTS = ["", "a", "it's", "back\\slash", "two\nlines", "tab\there", 'said "so"',
 WORDS_OF_KINDS = ["int", "bigint", "boolean", "varchar", "varchar", "text", "timestamp", "decimal", "decimal"]
 SPELLINGS = {"int": ["int", "INTEGER"], "boolean": ["boolean", "bool"], "text": ["text", "clob"],
              "timestamp": ["timestamp", "datetime", "datetime(3)"]}
+SCHEMA_KEYS = {"tableName": "schemaName", "oldTableName": "schemaName", "baseTableName": "baseTableSchemaName",
+               "referencedTableName": "referencedTableSchemaName"}
 FIRST_YEAR = datetime(1000, 1, 1)
 
 
@@ -33,9 +36,10 @@ class Making:
         self.profile = profile
         self.random = Random(f"{profile} {number}")
         self.schema = Schema()
-        self.sequences: dict[str, tuple[int, int]] = {}
-        self.used: set[str] = set()
-        self.next: dict[str, int] = {}
+        self.sequences: dict[Name, tuple[int, int]] = {}
+        self.used: set[Name] = set()
+        self.made: list[str] = []
+        self.next: dict[Name, int] = {}
 
     def chance(self, share: float) -> bool:
         """True in this share of all cases."""
@@ -46,28 +50,40 @@ class Making:
         things = list(things)
         return self.random.choice(things) if things else None
 
-    def name(self, prefix: str) -> str:
-        """A name that nothing had before, in any case of its letters."""
+    def placed(self, prefix: str) -> Name:
+        """A name for something new in any schema; in MySQL there is one."""
+        schema = self.random.choice(SCHEMAS) if self.profile == POSTGRESQL and self.chance(0.7) else PUBLIC
+        return Name(self.name(prefix, schema), schema)
+
+    def name(self, prefix: str, schema: str = PUBLIC) -> str:
+        """A name that nothing of its schema had before, in any case of its letters."""
         while True:
             name = f"{prefix}_{self.random.choice(WORDS)}_{self.random.randint(1, 99)}"
             if self.chance(0.1):
                 name += self.random.choice(['"', "`", "'", ".", " x"])
-            if name.lower() not in self.used:
-                self.used.add(name.lower())
+            if self.profile == POSTGRESQL and self.chance(0.4):  # one of another schema
+                name = self.pick(it for it in self.made if it.startswith(prefix + "_")) or name
+            if self.is_new(name, schema):
                 return name
 
-    def default_name(self, prefix: str, *parts: str) -> Optional[str]:
-        """The name that a part gets where none is stated, unless it was had before."""
-        name = "_".join([prefix, *parts])
-        if len(name.encode()) > 63 or name.lower() in self.used:
-            return None
-        self.used.add(name.lower())
-        return name
+    def is_new(self, name: str, schema: str) -> bool:
+        """Nothing of the schema had the name before; from now on something has."""
+        key = Name(name.lower(), schema)
+        if key in self.used:
+            return False
+        self.used.add(key)
+        self.made.append(name)
+        return True
 
-    def named(self, prefix: str, *parts: str) -> tuple[str, bool]:
-        """A name for a part, and whether it has to be stated."""
-        name = self.default_name(prefix, *parts) if self.chance(0.2) else None
-        return (name, False) if name else (self.name(prefix), True)
+    def default_name(self, prefix: str, table: Name, *parts: str) -> Optional[str]:
+        """The name that a table's part gets where none is stated, unless it was had before."""
+        name = "_".join([prefix, table.text, *parts])
+        return name if len(name.encode()) <= 63 and self.is_new(name, table.schema) else None
+
+    def named(self, prefix: str, table: Name, *parts: str) -> tuple[str, bool]:
+        """A name for a table's part, and whether it has to be stated."""
+        name = self.default_name(prefix, table, *parts) if self.chance(0.2) else None
+        return (name, False) if name else (self.name(prefix, table.schema), True)
 
     def kind(self) -> Kind:
         """A type of any sort; MySQL has at most 30 decimals and 65,535 bytes in a row."""
@@ -116,7 +132,7 @@ class Making:
         """One of the words of a type."""
         return self.random.choice(SPELLINGS.get(kind.word, [str(kind)]))
 
-    def is_in_view(self, table: str, column: Optional[str] = None) -> bool:
+    def is_in_view(self, table: Name, column: Optional[str] = None) -> bool:
         """A view names the table, or this column of it."""
         return any(it.table == table and (column is None or column in it.needs) for it in self.schema.views.values())
 
@@ -150,5 +166,13 @@ def stated(value: Value, family: str = "value") -> dict:
 
 
 def change(kind: str, **keys) -> dict:
-    """A change; keys that are None are left out."""
-    return {kind: {key: value for key, value in keys.items() if value is not None}}
+    """A change; keys that are None are left out, and a name's schema has a key of its own."""
+    schemas = {SCHEMA_KEYS[key]: name.schema for key, name in keys.items()
+               if isinstance(name, Name) and name.schema != PUBLIC and key in SCHEMA_KEYS}
+    texts = {key: value.text if isinstance(value, Name) else value for key, value in keys.items()}
+    return {kind: {key: value for key, value in {**texts, **schemas}.items() if value is not None}}
+
+
+def placed_change(name: Name, sql: str, spelt: dict) -> dict:
+    """A change of a type that knows `public` alone; in another schema it is SQL."""
+    return spelt if name.schema == PUBLIC else change("sql", sql=sql)

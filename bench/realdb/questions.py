@@ -8,7 +8,8 @@ from pathlib import Path
 from typing import Callable, NamedTuple, Optional
 
 from .making import change
-from .schema import MYSQL, Index, Key, ForeignKey, Schema, Table, View, equals, quoted
+from .schema import (MYSQL, PUBLIC, SCHEMAS, ForeignKey, Index, Key, Name, Schema, Table, View, equals,
+                     quoted)
 
 FILE = "questions.json"
 SHOWN = 160  # characters of a question that are told
@@ -63,20 +64,35 @@ def ask_names(questions: Questions, schema: Schema, names: set[str]) -> None:
     sorts = [("tableExists", "tableName", schema.tables), ("viewExists", "viewName", schema.views)]
     if questions.profile != MYSQL:
         sorts.append(("sequenceExists", "sequenceName", schema.sequences))
-    for condition, key, there in sorts:
+        for place in SCHEMAS:
+            ask_space(questions, place, schema.taken(place), names)
+    for condition, key, of in sorts:
+        there = [name.text for name in of if name.schema == PUBLIC]
         for name in there:
             questions.holds(f"{condition} {name}", [{condition: {key: name}}])
         gone = sorted(names - set(there))
         questions.lacks(f"{condition} none but {sorted(there)}", [{condition: {key: name}} for name in gone])
-    for table in schema.tables.values():
+    for table in [it for name, it in schema.tables.items() if name.schema == PUBLIC]:
         ask_columns(questions, table, names)
         ask_keys(questions, table, names)
+
+
+def ask_space(questions: Questions, schema: str, taken: set[str], names: set[str]) -> None:
+    """Asks which names of a schema's shared space are taken: a sequence can have each of the others."""
+    def made(name: str) -> str:
+        sequence = quoted(questions.profile, Name(name, schema))
+        return f"CREATE SEQUENCE {sequence} START WITH 1 INCREMENT BY 1; DROP SEQUENCE {sequence}"
+
+    free = "; ".join(map(made, sorted(names - taken)))
+    questions.does(f"no names in {schema} but {sorted(taken)}", {"sql": {"sql": free}}, True)
+    for name in sorted(taken):
+        questions.does(f"{name} again in {schema}", {"sql": {"sql": made(name)}}, False)
 
 
 def ask_columns(questions: Questions, table: Table, names: set[str]) -> None:
     """Asks for a table's columns and for no others."""
     def condition(name: str) -> dict:
-        return {"columnExists": {"tableName": table.name, "columnName": name}}
+        return {"columnExists": {"tableName": table.name.text, "columnName": name}}
 
     for name in table.names():
         questions.holds(f"column {name} of {table.name}", [condition(name)])
@@ -86,7 +102,7 @@ def ask_columns(questions: Questions, table: Table, names: set[str]) -> None:
 
 def ask_keys(questions: Questions, table: Table, names: set[str]) -> None:
     """Asks for a table's keys, constraints and indexes, and for no others."""
-    it = table.name
+    it = table.name.text
     sorts = {
         "unique": (lambda name: {"uniqueConstraintExists": {"tableName": it, "constraintName": name}}, table.uniques),
         "index": (lambda name: {"indexExists": {"tableName": it, "indexName": name}}, table.indexes),
@@ -112,12 +128,12 @@ def ask_keys(questions: Questions, table: Table, names: set[str]) -> None:
 def row_conditions(profile: str, of: Table | View) -> list[dict]:
     """The conditions that hold where a table or view has just its rows."""
     count = f"SELECT COUNT(*) FROM {quoted(profile, of.name)}"
-    if isinstance(of, View):
+    if isinstance(of, View) or of.name.schema != PUBLIC:
         conditions = [sql_check(count, len(of.rows))]
     elif of.rows:
-        conditions = [{"rowCount": {"tableName": of.name, "expectedRows": len(of.rows)}}]
+        conditions = [{"rowCount": {"tableName": of.name.text, "expectedRows": len(of.rows)}}]
     else:
-        conditions = [{"tableIsEmpty": {"tableName": of.name}}]
+        conditions = [{"tableIsEmpty": {"tableName": of.name.text}}]
     alike = Counter(tuple(row.items()) for row in of.rows)
     conditions += [sql_check(f"{count} WHERE {equals(profile, dict(row))}", times) for row, times in alike.items()]
     return conditions
@@ -146,7 +162,8 @@ class Apart:
     def ask(self) -> None:
         """Views first, then what no part has, then foreign keys, and then the rest."""
         for name in self.schema.views:
-            self.questions.does(f"drop view {name}", change("dropView", viewName=name), True)
+            drop = {"sql": {"sql": f"DROP VIEW {quoted(self.questions.profile, name)}"}}
+            self.questions.does(f"drop view {name}", drop, True)
         for table in self.schema.tables.values():
             for name in [name for name in table.names() if name not in table.covered()]:
                 self.drop_column(table, name)

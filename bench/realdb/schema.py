@@ -6,6 +6,8 @@ from decimal import Decimal
 from typing import NamedTuple, Optional, Union
 
 POSTGRESQL, MYSQL = "postgresql", "mysql"
+PUBLIC = "public"
+SCHEMAS = [PUBLIC, "north", "south", 'The "old". one']  # those of examples/schemas, and one to be quoted with care
 
 
 class Moment(str):
@@ -14,6 +16,16 @@ class Moment(str):
 
 Value = Union[None, bool, int, Decimal, Moment, str]
 Row = dict[str, Value]
+
+
+class Name(NamedTuple):
+    """The name of a table, a view or a sequence, and its schema; in MySQL that is always `public`."""
+
+    text: str
+    schema: str = PUBLIC
+
+    def __str__(self) -> str:
+        return self.text if self.schema == PUBLIC else f"{self.schema}.{self.text}"
 
 
 class Kind(NamedTuple):
@@ -58,7 +70,7 @@ class ForeignKey(NamedTuple):
 
     name: str
     columns: tuple[str, ...]
-    parent: str
+    parent: Name
     targets: tuple[str, ...]
     cascade: bool = False
 
@@ -67,7 +79,7 @@ class ForeignKey(NamedTuple):
 class Table:
     """A table with what belongs to it, and its rows."""
 
-    name: str
+    name: Name
     columns: list[Column] = field(default_factory=list)
     primary: Optional[Key] = None
     uniques: list[Key] = field(default_factory=list)
@@ -96,9 +108,9 @@ class Table:
 class View:
     """A view: its columns, the table and all columns that its query names, its query and its rows."""
 
-    name: str
+    name: Name
     columns: list[Column]
-    table: str = ""
+    table: Optional[Name] = None
     needs: frozenset[str] = frozenset()
     query: str = ""
     rows: list[Row] = field(default_factory=list)
@@ -108,19 +120,25 @@ class View:
 class Schema:
     """A database's tables, views and sequences by name."""
 
-    tables: dict[str, Table] = field(default_factory=dict)
-    views: dict[str, View] = field(default_factory=dict)
-    sequences: set[str] = field(default_factory=set)
+    tables: dict[Name, Table] = field(default_factory=dict)
+    views: dict[Name, View] = field(default_factory=dict)
+    sequences: set[Name] = field(default_factory=set)
 
     def is_empty(self) -> bool:
         """Nothing is there."""
         return not (self.tables or self.views or self.sequences)
 
+    def taken(self, schema: str) -> set[str]:
+        """The names of a schema's shared space in PostgreSQL."""
+        names = {it.text for it in [*self.tables, *self.views, *self.sequences] if it.schema == schema}
+        return names | {part.name for table in self.tables.values() if table.name.schema == schema
+                        for part in [*table.keys(), *table.indexes]}
+
     def parents_first(self) -> list[Table]:
         """The tables, each behind those that its foreign keys aim at."""
-        done: dict[str, Table] = {}
+        done: dict[Name, Table] = {}
 
-        def take(name: str, path: frozenset[str]) -> None:
+        def take(name: Name, path: frozenset[Name]) -> None:
             if name in done or name in path:
                 return
             for key in self.tables[name].foreign:
@@ -133,7 +151,7 @@ class Schema:
 
     def ancestors(self, table: Table) -> list[Table]:
         """The other tables that a row of this one needs rows in, parents first."""
-        needed: set[str] = set()
+        needed: set[Name] = set()
         open_names = [key.parent for key in table.foreign]
         while open_names:
             name = open_names.pop()
@@ -148,8 +166,11 @@ def decimal(units: int, places: int) -> Decimal:
     return Decimal(f"{units}E-{places}")
 
 
-def quoted(profile: str, name: str) -> str:
-    """A name in the quotes of the profile."""
+def quoted(profile: str, name: str | Name) -> str:
+    """A name in the quotes of the profile, behind its schema where that is not `public`."""
+    if isinstance(name, Name):
+        parts = name[:1] if name.schema == PUBLIC else (name.schema, name.text)
+        return ".".join(quoted(profile, part) for part in parts)
     quote = '"' if profile == POSTGRESQL else "`"
     return quote + name.replace(quote, 2 * quote) + quote
 
@@ -192,7 +213,7 @@ def equals(profile: str, row: Row) -> str:
     return " AND ".join(f"{quoted(profile, name)} {signs[name]} {literal(profile, row[name])}" for name in row)
 
 
-def insert(profile: str, table: str, row: Row) -> str:
+def insert(profile: str, table: Name, row: Row) -> str:
     """The INSERT of a row."""
     values = ", ".join(literal(profile, value) for value in row.values())
     return f"INSERT INTO {quoted(profile, table)} ({listed(profile, row)}) VALUES ({values})"

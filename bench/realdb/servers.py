@@ -12,8 +12,9 @@ import time
 from pathlib import Path
 from typing import Iterator, NamedTuple, Optional, Union
 
-from .schema import MYSQL, POSTGRESQL
+from .schema import MYSQL, POSTGRESQL, SCHEMAS, quoted
 
+DATABASE = "trial"  # in MariaDB
 PATIENCE = 120  # seconds for one call of a client, and for a server to come up or go down
 
 
@@ -160,7 +161,7 @@ class Server:
 
 
 class Postgres(Server):
-    """PostgreSQL; the schema is `public`."""
+    """PostgreSQL; the schemas are there before a changelog runs, and others than those of SCHEMAS are not."""
 
     profile, title, package, account = POSTGRESQL, "PostgreSQL", "postgresql", "postgres"
     programs = ["psql", "initdb", "postgres"]
@@ -185,7 +186,9 @@ class Postgres(Server):
         return f"'{number}:' || " + " || ',' || ".join(parts)
 
     def make_schema(self) -> None:
-        self.run("SET client_min_messages = warning; DROP SCHEMA IF EXISTS public CASCADE; CREATE SCHEMA public;")
+        names = [quoted(POSTGRESQL, name) for name in SCHEMAS]
+        made = "".join(f"DROP SCHEMA IF EXISTS {name} CASCADE; CREATE SCHEMA {name}; " for name in names)
+        self.run("SET client_min_messages = warning; " + made)
 
 
 class MariaDb(Server):
@@ -207,14 +210,14 @@ class MariaDb(Server):
     def client(self, lenient: bool, in_schema: bool) -> list[str]:
         words = [self.program("mariadb"), "--no-defaults", "--protocol=tcp", "--host=127.0.0.1", f"--port={self.port}",
                  "--user=root", "--batch", "--skip-column-names", "--default-character-set=utf8mb4"]
-        return words + ["--force"] * lenient + ["trial"] * in_schema
+        return words + ["--force"] * lenient + [DATABASE] * in_schema
 
     def packed(self, number: int, fields: list[str]) -> str:
         parts = (f"COALESCE(HEX(CAST({field} AS CHAR)), '-')" for field in fields)
         return f"CONCAT('{number}:', " + ", ',', ".join(parts) + ")"
 
     def make_schema(self) -> None:
-        self.run("DROP DATABASE IF EXISTS trial; CREATE DATABASE trial;", in_schema=False)
+        self.run(f"DROP DATABASE IF EXISTS {DATABASE}; CREATE DATABASE {DATABASE};", in_schema=False)
 
 
 def free_port() -> int:

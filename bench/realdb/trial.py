@@ -51,6 +51,13 @@ def shop_cases(examples: Path, folder: Path) -> Iterator[Case]:
                 yield Case(f"shop {release} in {form}, {context}", place, root, [f"--context-filter={context}"])
 
 
+def schemas_case(examples: Path, folder: Path) -> Case:
+    """Tables of one name in two schemas, for postgresql alone."""
+    place = folder / "schemas"
+    shutil.copytree(examples / "schemas", place)
+    return Case("schemas", place, "shops.yaml")
+
+
 def made_cases(profile: str, first: int, count: int, folder: Path) -> Iterator[Case]:
     """So many changelogs that are made from numbers."""
     for number in range(first, first + count):
@@ -122,7 +129,7 @@ class Trial:
         except Refused as refused:
             wrong = [f"the server refused: {refusal(str(refused), script)}"]
         if not wrong and is_back not in (None, schema.is_empty()):
-            left = sorted([*schema.tables, *schema.views, *schema.sequences])
+            left = [str(name) for name in sorted([*schema.tables, *schema.views, *schema.sequences])]
             wrong = [f"both still have {', '.join(left)}" if left else "both have nothing"]
         self.differences += [f"{stage}: {it}" for it in wrong]
 

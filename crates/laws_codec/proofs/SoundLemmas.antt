@@ -85,6 +85,7 @@ module _ (d : Dialect) where
       let a1 = and_right _ _ first in let a2 = and_right _ _ a1 in let a3 = and_right _ _ a2 in
       let b0 = and_left (are_lists it) _ second in let b1 = and_right (are_lists it) _ second in
       let b2 = and_left (is_key_well d it) _ b1 in let b3 = and_right (is_key_well d it) _ b1 in
+      let b4 = and_right _ _ b3 in
       record {
         some = not_so_true _ (and_left _ _ first);
         differ = not_so_true _ (and_left _ _ a1);
@@ -96,7 +97,8 @@ module _ (d : Dialect) where
         key = and_left _ _ b2;
         key_named = and_right _ _ b2;
         numbered = and_left _ _ b3;
-        within = within_from d (not_so_true _ (and_right _ _ b3));
+        within = within_from d (not_so_true _ (and_left _ _ b4));
+        public = not_so_true _ (and_right _ _ b4);
       } where
         within_from : (d : Dialect) → repeats (own_names d it) ≡ false → AreApartWithin d it
         within_from Postgresql off = λ n. once_if (constraint_names it) n off
@@ -106,7 +108,7 @@ module _ (d : Dialect) where
   table_test it is =
       and_true _ _
       (and_true _ _ (ap not is.some) (and_true _ _ (ap not is.differ) (and_true _ _ is.kinds (and_true _ _ is.rows is.defaults))))
-      (and_true _ _ (and_true _ _ is.lists is.foreign) (and_true _ _ (and_true _ _ is.key is.key_named) (and_true _ _ is.numbered (ap not (differ_within d is.within)))))
+      (and_true _ _ (and_true _ _ is.lists is.foreign) (and_true _ _ (and_true _ _ is.key is.key_named) (and_true _ _ is.numbered (and_true _ _ (ap not (differ_within d is.within)) (ap not is.public)))))
     where
       differ_within : (d : Dialect) → AreApartWithin d it → repeats (own_names d it) ≡ false
       differ_within Postgresql once = differ_if (constraint_names it) once
@@ -127,7 +129,7 @@ module _ (d : Dialect) where
       let objects = and_left (has_sound_objects d c) (has_sound_rows c) rest in
       let rows = and_right (has_sound_objects d c) (has_sound_rows c) rest in
       let order1 = and_right _ _ order in
-      let o1 = and_right _ _ objects in let o2 = and_right _ _ o1 in let o3 = and_right _ _ o2 in
+      let o1 = and_right _ _ objects in let o2 = and_right _ _ o1 in let o3 = and_right _ _ o2 in let o4 = and_right _ _ o3 in
       let r1 = and_right _ _ rows in let r2 = and_right _ _ r1 in let r3 = and_right _ _ r2 in let r4 = and_right _ _ r3 in
       record {
         ordered = sorted_keys c.tables (to_T _ (and_left _ _ order));
@@ -136,8 +138,9 @@ module _ (d : Dialect) where
         tables = λ t it there. table_sound it (at_key (is_sound_table d) t c.tables it (and_left _ _ objects) there);
         views = and_left _ _ o1;
         apart = apart_from d c (and_left _ _ o2);
-        steps = not_so_true _ (and_left _ _ o3);
-        sequences = and_right _ _ o3;
+        schemas = and_left _ _ o3;
+        steps = not_so_true _ (and_left _ _ o4);
+        sequences = and_right _ _ o4;
         no_null = not_so_true _ (and_left _ _ rows);
         no_twins = not_so_true _ (and_left _ _ r1);
         aimed = not_so_true _ (and_left _ _ r2);
@@ -152,5 +155,5 @@ module _ (d : Dialect) where
       (and_true _ _ (from_T _ (sorted_entries c.tables is.ordered)) (and_true _ _ (from_T _ (sorted_entries c.views is.ordered_views)) (from_T _ (sorted_entries c.sequences is.ordered_sequences))))
       (and_true _ _
       (and_true _ _ (at_all (is_sound_table d) c.tables (sorted_entries c.tables is.ordered) (λ q it there. table_test it (is.tables q it there)))
-      (and_true _ _ is.views (and_true _ _ (apart_test d c is.apart) (and_true _ _ (ap not is.steps) is.sequences))))
+      (and_true _ _ is.views (and_true _ _ (apart_test d c is.apart) (and_true _ _ is.schemas (and_true _ _ (ap not is.steps) is.sequences)))))
       (and_true _ _ (ap not is.no_null) (and_true _ _ (ap not is.no_twins) (and_true _ _ (ap not is.aimed) (and_true _ _ (ap not is.alike) (and_true _ _ (ap not is.parents) (ap not is.small)))))))

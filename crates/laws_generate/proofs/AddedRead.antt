@@ -5,7 +5,7 @@ use Rattle.std.specs.Option.{option_map}
 use Rattle.std.specs.Ordering.{int_eq}
 use Rattle.std.specs.Prelude.{Bool, List, None, Ok, Option, Some, [], codes, false, if◌then◌else◌, is_some, map, not, pos, refl, true, ℕ, ℤ, ◌&&◌, ◌∷◌, ◌≡◌}
 use Rattle.std.specs.Str.{bytes_eq}
-use Rattle.lq_base.specs.Name.{is_name}
+use Rattle.lq_base.specs.Name.{is_name, is_object, schema_of, text_of, within as in_schema}
 use Rattle.lq_base.specs.declared.dialect.Dialect.{Dialect}
 use Rattle.lq_base.specs.declared.dialect.Dialect.TheVariants.{Mysql, Postgresql}
 use Rattle.lq_base.specs.declared.name.Name.{Name}
@@ -32,10 +32,16 @@ use Rattle.lq_views.specs.CreateSequence.{an_increment, create_sequence, is_not_
 use Rattle.lq_views.specs.CreateView.{create_view}
 use Rattle.lq_views.specs.QueryText.{a_query}
 use Rattle.lq_generate.specs.Added.{foreign_rows, foreign_tree, if_cascade, index_column_rows, index_column_tree, index_rows, index_tree, key_rows, key_tree, listed, sequence_rows, sequence_tree, unique_rows, unique_tree, view_rows, view_tree}
+use Rattle.lq_keys.specs.declared.add_foreign_key.AddForeignKeyConstraint.{AddForeignKeyConstraint}
+use Rattle.lq_keys.specs.declared.create_index.CreateIndex.{CreateIndex}
+use Rattle.lq_keys.specs.declared.index_column.IndexColumn.{IndexColumn}
+use Rattle.lq_primary_keys.specs.declared.add_primary_key.AddPrimaryKey.{AddPrimaryKey}
+use Rattle.lq_uniques.specs.declared.add_unique.AddUniqueConstraint.{AddUniqueConstraint}
+use Rattle.laws_made.specs.CreatedAs.{so_if}
 use Rattle.laws_made.specs.AddedAs.{cascade_if, foreign_change, index_change, index_column_of, key_change, sequence_change, unique_change, view_change}
 use Rattle.lq_generate.specs.Created.{named_in}
 use Rattle.lq_generate.specs.Rows.{Row, map_node, under}
-use Rattle.laws_generate.proofs.CreatedRead.{Fits, items_are, name_read, name_there, nowhere, so_read}
+use Rattle.laws_generate.proofs.CreatedRead.{Fits, items_are, name_read, name_there, no_catalogue, nowhere, schema_read, so_read, text_named, whole}
 use Rattle.laws_generate.proofs.NamesListed.{AreListed, names_read}
 use Rattle.laws_generate.proofs.NodesRead.{list_is, map_is, printed_text, text_is}
 use Rattle.laws_generate.proofs.RowsRead.{all_known, row_found}
@@ -72,7 +78,10 @@ sequence_read s x name moves =
 
 -- addPrimaryKey
 
-pub key_read : (d : Dialect) (t : Name) (k : Key) → is_name t ≡ true → AreListed k.columns → Fits is_name (named_in d (Some k)) → add_primary_key (key_tree d t k) ≡ Ok (key_change d t k)
+abbrev key_at : List Name → Option Name → Name → AddPrimaryKey
+key_at columns name t = record { table_name = t; column_names = columns; constraint_name = name }
+
+pub key_read : (d : Dialect) (t : Name) (k : Key) → is_object d t ≡ true → AreListed k.columns → Fits is_name (named_in d (Some k)) → add_primary_key d (key_tree d t k) ≡ Ok (key_change d t k)
 unfolding add_primary_key
 key_read d t k name columns named =
     let rs = key_rows d t k in
@@ -81,28 +90,33 @@ key_read d t k name columns named =
       row_found (codes "tableName") rs refl,
       row_found (codes "columnNames") rs refl,
       row_found (codes "constraintName") rs refl,
-      nowhere rs refl refl refl,
-      name_read t name,
+      schema_read d (codes "schemaName") t rs name refl refl,
+      no_catalogue rs refl refl,
+      name_read (text_of t) (text_named d t name),
       list_read k.columns columns,
       name_there (codes "constraintName") (named_in d (Some k)) named,
-    ) refl
+    ) (ap (λ n. Ok (key_at k.columns (named_in d (Some k)) n)) (whole d t name))
 
 -- addUniqueConstraint
 
-pub unique_read : (t : Name) (u : Unique) → is_name t ≡ true → AreListed u.columns → is_name u.name ≡ true → add_unique (unique_tree t u) ≡ Ok (unique_change t u)
+abbrev unique_at : List Name → Name → Name → AddUniqueConstraint
+unique_at columns name t = record { table_name = t; column_names = columns; constraint_name = Some name }
+
+pub unique_read : (d : Dialect) (t : Name) (u : Unique) → is_object d t ≡ true → AreListed u.columns → is_name u.name ≡ true → add_unique d (unique_tree t u) ≡ Ok (unique_change t u)
 unfolding add_unique
-unique_read t u name columns named =
+unique_read d t u name columns named =
     let rs = unique_rows t u in
     rw (
       all_known (codes "tableName" ∷ codes "columnNames" ∷ codes "constraintName" ∷ codes "schemaName" ∷ codes "catalogName" ∷ codes "remarks" ∷ []) rs refl,
       row_found (codes "tableName") rs refl,
       row_found (codes "columnNames") rs refl,
       row_found (codes "constraintName") rs refl,
-      nowhere rs refl refl refl,
-      name_read t name,
+      schema_read d (codes "schemaName") t rs name refl refl,
+      no_catalogue rs refl refl,
+      name_read (text_of t) (text_named d t name),
       list_read u.columns columns,
       name_read u.name named,
-    ) refl
+    ) (ap (λ n. Ok (unique_at u.columns u.name n)) (whole d t name))
 
 -- createIndex
 
@@ -121,9 +135,12 @@ index_columns_read : (ns : List Name) → is_empty ns ≡ false → AllByRecursi
 index_columns_read [] some h = absurd Prim.cc
 index_columns_read (n ∷ ns) some h = items_are (a_column index_column) index_column_tree index_column_of (λ n. is_name n ≡ true) index_item (codes "columns") 0 (n ∷ ns) h
 
-pub index_read : (t : Name) (x : Index) → is_name t ≡ true → is_empty x.columns ≡ false → AllByRecursion (λ n. is_name n ≡ true) x.columns → is_name x.name ≡ true → create_index (index_tree t x) ≡ Ok (index_change t x)
+abbrev index_at : Name → List IndexColumn → Option Bool → Name → CreateIndex
+index_at name columns unique t = record { index_name = Some name; table_name = t; columns = columns; unique = unique }
+
+pub index_read : (d : Dialect) (t : Name) (x : Index) → is_object d t ≡ true → is_empty x.columns ≡ false → AllByRecursion (λ n. is_name n ≡ true) x.columns → is_name x.name ≡ true → create_index d (index_tree t x) ≡ Ok (index_change t x)
 unfolding create_index
-index_read t x name some columns named =
+index_read d t x name some columns named =
     let rs = index_rows t x in
     rw (
       all_known (codes "indexName" ∷ codes "tableName" ∷ codes "columns" ∷ codes "unique" ∷ codes "schemaName" ∷ codes "catalogName" ∷ codes "remarks" ∷ []) rs refl,
@@ -131,13 +148,14 @@ index_read t x name some columns named =
       row_found (codes "tableName") rs refl,
       row_found (codes "columns") rs refl,
       row_found (codes "unique") rs refl,
-      nowhere rs refl refl refl,
+      schema_read d (codes "schemaName") t rs name refl refl,
+      no_catalogue rs refl refl,
       name_read x.name named,
-      name_read t name,
+      name_read (text_of t) (text_named d t name),
       list_is (map index_column_tree x.columns),
       index_columns_read x.columns some columns,
       so_read (codes "unique") x.unique,
-    ) refl
+    ) (ap (λ n. Ok (index_at x.name (map index_column_of x.columns) (so_if x.unique) n)) (whole d t name))
 
 -- addForeignKeyConstraint
 
@@ -145,30 +163,35 @@ cascade_read : (key : List ℕ) (b : Bool) → at_optional key an_on_delete (if_
 cascade_read key true = rw (text_is (codes "CASCADE")) refl
 cascade_read key false = refl
 
-pub foreign_read : (t : Name) (f : ForeignKey) → is_name t ≡ true → is_name f.name ≡ true → is_name f.table ≡ true → AreListed f.columns → AreListed f.targets → add_foreign_key (foreign_tree t f) ≡ Ok (foreign_change t f)
+abbrev foreign_at : ForeignKey → Name → Name → AddForeignKeyConstraint
+foreign_at f t table = foreign_change t (record f { table = table })
+
+pub foreign_read : (d : Dialect) (t : Name) (f : ForeignKey) → is_object d t ≡ true → is_name f.name ≡ true → is_object d f.table ≡ true → AreListed f.columns → AreListed f.targets → add_foreign_key d (foreign_tree t f) ≡ Ok (foreign_change t f)
 unfolding add_foreign_key
-foreign_read t f name named table columns targets =
+foreign_read d t f name named table columns targets =
     let rs = foreign_rows t f in
     rw (
       row_found (codes "deferrable") rs refl,
       row_found (codes "initiallyDeferred") rs refl,
       row_found (codes "validate") rs refl,
       row_found (codes "onUpdate") rs refl,
-      all_known (codes "constraintName" ∷ codes "baseTableName" ∷ codes "baseColumnNames" ∷ codes "referencedTableName" ∷ codes "referencedColumnNames" ∷ codes "onDelete" ∷ codes "schemaName" ∷ codes "catalogName" ∷ codes "remarks" ∷ codes "deferrable" ∷ codes "initiallyDeferred" ∷ codes "validate" ∷ codes "onUpdate" ∷ []) rs refl,
+      all_known (codes "constraintName" ∷ codes "baseTableName" ∷ codes "baseColumnNames" ∷ codes "referencedTableName" ∷ codes "referencedColumnNames" ∷ codes "onDelete" ∷ codes "baseTableSchemaName" ∷ codes "referencedTableSchemaName" ∷ codes "catalogName" ∷ codes "remarks" ∷ codes "deferrable" ∷ codes "initiallyDeferred" ∷ codes "validate" ∷ codes "onUpdate" ∷ []) rs refl,
       row_found (codes "constraintName") rs refl,
       row_found (codes "baseTableName") rs refl,
       row_found (codes "baseColumnNames") rs refl,
       row_found (codes "referencedTableName") rs refl,
       row_found (codes "referencedColumnNames") rs refl,
       row_found (codes "onDelete") rs refl,
-      nowhere rs refl refl refl,
+      schema_read d (codes "baseTableSchemaName") t rs name refl refl,
+      schema_read d (codes "referencedTableSchemaName") f.table rs table refl refl,
+      no_catalogue rs refl refl,
       name_read f.name named,
-      name_read t name,
+      name_read (text_of t) (text_named d t name),
       list_read f.columns columns,
-      name_read f.table table,
+      name_read (text_of f.table) (text_named d f.table table),
       list_read f.targets targets,
       cascade_read (codes "onDelete") f.cascade,
-    ) refl
+    ) (ap (λ n. Ok (foreign_at f n (in_schema (schema_of f.table) (text_of f.table)))) (whole d t name) ∙ ap (λ n. Ok (foreign_at f t n)) (whole d f.table table))
 
 -- createView
 

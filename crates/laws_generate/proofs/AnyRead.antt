@@ -25,23 +25,23 @@ use Rattle.lq_generate.specs.Rows.{under}
 use Rattle.laws_generate.proofs.NodesRead.{map_is}
 
 module _ (d : Dialect) (n : Node) where
-  pub any_table : (x : CreateTable) → create_table n ≡ Ok x → any_change d (under (codes "createTable") n) ≡ Ok (any.CreateTable x)
+  pub any_table : (x : CreateTable) → create_table d n ≡ Ok x → any_change d (under (codes "createTable") n) ≡ Ok (any.CreateTable x)
   unfolding any_change named
   any_table x h = ap (at_only d) (map_is ((codes "createTable", n) ∷ [])) ∙ ap (λ r. within (codes "createTable") (map_found (λ x. any.CreateTable x) r)) h
 
-  pub any_key : (x : AddPrimaryKey) → add_primary_key n ≡ Ok x → any_change d (under (codes "addPrimaryKey") n) ≡ Ok (any.AddPrimaryKey x)
+  pub any_key : (x : AddPrimaryKey) → add_primary_key d n ≡ Ok x → any_change d (under (codes "addPrimaryKey") n) ≡ Ok (any.AddPrimaryKey x)
   unfolding any_change named named_key
   any_key x h = ap (at_only d) (map_is ((codes "addPrimaryKey", n) ∷ [])) ∙ ap (λ r. within (codes "addPrimaryKey") (map_found (λ x. any.AddPrimaryKey x) r)) h
 
-  pub any_unique : (x : AddUniqueConstraint) → add_unique n ≡ Ok x → any_change d (under (codes "addUniqueConstraint") n) ≡ Ok (any.AddUniqueConstraint x)
+  pub any_unique : (x : AddUniqueConstraint) → add_unique d n ≡ Ok x → any_change d (under (codes "addUniqueConstraint") n) ≡ Ok (any.AddUniqueConstraint x)
   unfolding any_change named named_key
   any_unique x h = ap (at_only d) (map_is ((codes "addUniqueConstraint", n) ∷ [])) ∙ ap (λ r. within (codes "addUniqueConstraint") (map_found (λ x. any.AddUniqueConstraint x) r)) h
 
-  pub any_index : (x : CreateIndex) → create_index n ≡ Ok x → any_change d (under (codes "createIndex") n) ≡ Ok (any.CreateIndex x)
+  pub any_index : (x : CreateIndex) → create_index d n ≡ Ok x → any_change d (under (codes "createIndex") n) ≡ Ok (any.CreateIndex x)
   unfolding any_change named named_key
   any_index x h = ap (at_only d) (map_is ((codes "createIndex", n) ∷ [])) ∙ ap (λ r. within (codes "createIndex") (map_found (λ x. any.CreateIndex x) r)) h
 
-  pub any_foreign : (x : AddForeignKeyConstraint) → add_foreign_key n ≡ Ok x → any_change d (under (codes "addForeignKeyConstraint") n) ≡ Ok (any.AddForeignKeyConstraint x)
+  pub any_foreign : (x : AddForeignKeyConstraint) → add_foreign_key d n ≡ Ok x → any_change d (under (codes "addForeignKeyConstraint") n) ≡ Ok (any.AddForeignKeyConstraint x)
   unfolding any_change named named_key
   any_foreign x h = ap (at_only d) (map_is ((codes "addForeignKeyConstraint", n) ∷ [])) ∙ ap (λ r. within (codes "addForeignKeyConstraint") (map_found (λ x. any.AddForeignKeyConstraint x) r)) h
 

@@ -7,7 +7,7 @@ use Rattle.std.specs.Option.{option_map}
 use Rattle.std.specs.Prelude.{Bool, Err, List, None, Ok, Option, Some, [], codes, false, if◌then◌else◌, is_some, map, nat_le, not, option_and_then, refl, true, unsigned_abs, zero, suc, ℕ, ℤ, ◌&&◌, ◌+◌, ◌∷◌, ◌≡◌}
 use Rattle.lq_base.specs.Kind.{is_kind, kind_of as kind_named}
 use Rattle.lq_base.specs.Moment.{IsMoment, is_moment, moment_of, moment_text}
-use Rattle.lq_base.specs.Name.{is_name}
+use Rattle.lq_base.specs.Name.{is_key_in, is_name, is_object, parts_of, public, schema_in, schema_of, text_of, within as in_schema}
 use Rattle.lq_base.specs.Number.{fixed_text, number_of}
 use Rattle.lq_base.specs.declared.dialect.Dialect.{Dialect}
 use Rattle.lq_base.specs.declared.dialect.Dialect.TheVariants.{Mysql, Postgresql}
@@ -22,15 +22,18 @@ use Rattle.lq_model.specs.declared.constraint.Key.{Key}
 use Rattle.lq_tree.specs.Found.{Found, Taken, and_then, map_found, or_bad, within}
 use Rattle.lq_tree.specs.Given.{a_kind, a_name, a_truth, if_so}
 use Rattle.lq_tree.specs.Items.{a_column, column_in, is_empty, items_from, only, some_items_in}
-use Rattle.lq_tree.specs.Keys.{at_optional, at_required, is_public, place, public_at}
+use Rattle.lq_tree.specs.Keys.{at_optional, at_required, catalogue, is_public, place, public_at, schema_at, schema_named}
+use Rattle.lq_tree.specs.Look as look
 use Rattle.lq_tree.specs.Look.{printed_of, value_at}
 use Rattle.lq_tree.specs.Values.{at_member, member, number_given}
 use Rattle.lq_tree.specs.declared.node.Node.{Node, Text as TextNode, Truth as TruthNode, Whole as WholeNode}
 use Rattle.lq_tree.specs.declared.values.GivenValue.{GivenValue}
 use Rattle.lq_tree.specs.declared.values.GivenValue.TheVariants as given
 use Rattle.lq_tables.specs.CreateTable.{column_keys, create_table, created_column, created_constraints}
+use Rattle.lq_base.proofs.BesideLemmas.{is_whole}
 use Rattle.lq_base.proofs.KindSpelled.{names-kind_of}
 use Rattle.lq_base.proofs.MomentLemmas.{moment_of-moment_text}
+use Rattle.lq_base.proofs.NameLemmas.{names_tell_keys, parts_of_name}
 use Rattle.lq_base.proofs.NumberPrinted.{number_of-fixed_text, number_of-whole_text}
 use Rattle.lq_base.specs.declared.fault.KindFault.TheVariants.{Bad}
 use Rattle.lq_base.specs.Spells.{NamesKind}
@@ -40,13 +43,15 @@ use Rattle.std.specs.Fmt.{decimal}
 use Rattle.lq_generate.specs.Created.{constraints_at, column_rows, column_tree, constraints_rows, created_rows, created_tree, date_at, date_text, key_name_of, number_at, text_at, truth_at}
 use Rattle.laws_made.specs.CreatedAs.{constraints_in, column_of, constraints_of, created, given_of}
 use Rattle.laws_generate.specs.RowAt.{row_at}
-use Rattle.lq_generate.specs.Rows.{Row, map_node, under}
+use Rattle.lq_generate.specs.Rows.{Row, map_node, schema_at as schema_row, under}
 use Rattle.lq_generate.specs.Types.{type_text}
 use Rattle.lq_tables.specs.ValueKeys.{default_keys}
+use Rattle.lq_tables.specs.declared.create_table.CreateTable.{CreateTable}
+use Rattle.lq_tables.specs.declared.create_table.CreatedColumn.{CreatedColumn}
 use Rattle.lq_tables.specs.declared.create_table.CreatedConstraints.{CreatedConstraints}
 use Rattle.laws_made.specs.Written.{IsWritten}
 use Rattle.laws_generate.proofs.NodesRead.{list_is, map_is, printed_text, printed_whole, text_is, truth_is}
-use Rattle.laws_generate.proofs.RowsRead.{all_known, differ, row_found}
+use Rattle.laws_generate.proofs.RowsRead.{all_known, and_left, differ, row_found}
 
 -- a name is read as that name
 pub name_read : (n : Name) → is_name n ≡ true → a_name (TextNode n) ≡ Ok n
@@ -202,7 +207,45 @@ not_there key rs h none = ap at_key (row_found key rs h ∙ none) where
 pub nowhere : (rs : List Row) → differ rs ≡ true → row_at (codes "schemaName") rs ≡ None → row_at (codes "catalogName") rs ≡ None → place.says (map_node rs) ≡ Ok tt
 nowhere rs h a b = ap (λ r. and_then r (λ _. public_at (codes "catalogName") (map_node rs))) (not_there (codes "schemaName") rs h a) ∙ not_there (codes "catalogName") rs h b
 
-pub created_read : (d : Dialect) (t : Name) (it : Table) → is_name t ≡ true → is_empty it.columns ≡ false → AllByRecursion (IsWritable d it.key) it.columns → create_table (created_tree d t it) ≡ Ok (created d t it)
+-- no catalogue
+pub no_catalogue : (rs : List Row) → differ rs ≡ true → row_at (codes "catalogName") rs ≡ None → catalogue.says (map_node rs) ≡ Ok tt
+no_catalogue rs h none = not_there (codes "catalogName") rs h none
+
+-- the schema of a name
+
+abbrev schema_told : Dialect → List ℕ → Option (List ℕ) → Found Name
+schema_told d key o = elim o [ None ↦ Err (Bad key) | Some t ↦ schema_named d key t ]
+
+abbrev at_schema : Dialect → List ℕ → Option Node → Found Name
+at_schema d key o = elim o [ None ↦ Ok public | Some value ↦ schema_told d key (look.text_of value) ]
+
+abbrev schema_node : Option (List ℕ × List ℕ) → Option Node
+schema_node o = if is_some o then Some (TextNode (schema_in o)) else None
+
+a_schema : (key schema : List ℕ) → is_name schema ≡ true → schema_named Postgresql key schema ≡ Ok schema
+a_schema key schema named = ap (λ b. if b then Ok schema else Err (Bad key)) named
+
+schema_is : (d : Dialect) (key t : List ℕ) (o : Option (List ℕ × List ℕ)) → parts_of t ≡ o → is_object d t ≡ true → at_schema d key (schema_node o) ≡ Ok (schema_in o)
+schema_is d key t None is h = refl
+schema_is Postgresql key t (Some p) is h = ap (schema_told Postgresql key) (text_is p.0) ∙ a_schema key p.0 (and_left (is_name p.0) _ (ap (is_key_in t) (sym is) ∙ h))
+schema_is Mysql key t (Some p) is h = absurd (nothing (sym is ∙ parts_of_name t h)) where
+  nothing : Some p ≡ None → ⊥
+  nothing e = Prim.cc
+
+pub schema_read : (d : Dialect) (key : List ℕ) (t : Name) (rs : List Row) → is_object d t ≡ true → differ rs ≡ true → row_at key rs ≡ schema_row t → schema_at d key (map_node rs) ≡ Ok (schema_of t)
+schema_read d key t rs h apart there = ap (at_schema d key) (row_found key rs apart ∙ there) ∙ schema_is d key t (parts_of t) refl h
+
+-- a name is its text in its schema
+pub whole : (d : Dialect) (t : Name) → is_object d t ≡ true → in_schema (schema_of t) (text_of t) ≡ t
+whole d t h = (names_tell_keys t (is_whole d t h)).2
+
+pub text_named : (d : Dialect) (t : Name) → is_object d t ≡ true → is_name (text_of t) ≡ true
+text_named d t h = (names_tell_keys t (is_whole d t h)).1
+
+abbrev table_at : List CreatedColumn → Name → CreateTable
+table_at columns t = record { table_name = t; columns = columns }
+
+pub created_read : (d : Dialect) (t : Name) (it : Table) → is_object d t ≡ true → is_empty it.columns ≡ false → AllByRecursion (IsWritable d it.key) it.columns → create_table d (created_tree d t it) ≡ Ok (created d t it)
 unfolding create_table
 created_read d t it name some h =
     let rs = created_rows d t it in
@@ -210,8 +253,9 @@ created_read d t it name some h =
       all_known (codes "tableName" ∷ codes "columns" ∷ codes "schemaName" ∷ codes "catalogName" ∷ codes "remarks" ∷ []) rs refl,
       row_found (codes "tableName") rs refl,
       row_found (codes "columns") rs refl,
-      nowhere rs refl refl refl,
-      name_read t name,
+      schema_read d (codes "schemaName") t rs name refl refl,
+      no_catalogue rs refl refl,
+      name_read (text_of t) (text_named d t name),
       list_is (map (column_tree d it.key) it.columns),
       columns_read d it.key it.columns some h,
-    ) refl
+    ) (ap (λ n. Ok (table_at (map (column_of d it.key) it.columns) n)) (whole d t name))

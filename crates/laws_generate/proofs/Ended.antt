@@ -33,17 +33,17 @@ use Rattle.laws_generate.specs.Again.{IsFileOf, MayGenerate, SetsRun, TextComesA
 use Rattle.laws_generate.specs.Sets.{generated_changelog, without_rows}
 
 abbrev pub ReadBack : Dialect → Type 0
-ReadBack d = (q : Query) → is_query q ≡ true → query_in d (query_text d q) ≡ Some q
+ReadBack d = (q : Query) → is_query d q ≡ true → query_in d (query_text d q) ≡ Some q
 
 pub is_written : (d : Dialect) (author : List ℕ) (c : Catalogue) → MayGenerate d c → IsWritable (generated_tree d author c)
 is_written d author c may = generated_writable d author c (tables_fit d c may.sound may.names may.fine) (sequences_fit d c may.sound may.names may.fine)
 
 module _ (d : Dialect) (back : ReadBack d) (author : List ℕ) (c : Catalogue) (may : MayGenerate d c) where
   can : Can d c
-  can = can_write d c may.sound may.names may.fine (queries_spelled d back c may.sound may.names)
+  can = can_write d c may.sound may.names may.fine (queries_spelled d back c may.sound may.names may.fine)
 
   made : MayMake d c
-  made = may_make d c may.apart (defaults_written d c may.sound may.names may.fine) (queries_spelled d back c may.sound may.names)
+  made = may_make d c may.apart (defaults_written d c may.sound may.names may.fine) (queries_spelled d back c may.sound may.names may.fine)
 
   pub is_read : is_label author ≡ true → (source : Source) (path bytes : List ℕ) → IsFileOf d author c source path bytes → changelog source path d [] ≡ Ok (generated_changelog d path author c)
   is_read signed source path bytes file =

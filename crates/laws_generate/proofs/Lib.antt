@@ -2,6 +2,7 @@ pub mod NodesRead
 pub mod RowsRead
 pub mod CreatedRead
 pub mod NamesListed
+pub mod PlainNames
 pub mod Queries
 pub mod CanWrite
 pub mod Writable

@@ -4,7 +4,7 @@ use Rattle.std.proofs.Common.{arith, ap, sym, ◌∙◌, append_assoc}
 use Rattle.std.specs.List.{AllByRecursion, flat_map, list_all, list_any, position, position_or_len}
 use Rattle.std.specs.Option.{option_map}
 use Rattle.std.specs.Prelude.{nat_lt, if◌then◌else◌, Bool, Err, List, None, Ok, Option, Result, Some, [], codes, cond, false, length, map, not, refl, true, ℕ, ◌+◌, ◌++◌, ◌∷◌, ◌≡◌}
-use Rattle.lq_base.specs.Name.{is_name}
+use Rattle.lq_base.specs.Name.{is_name, is_object}
 use Rattle.lq_base.specs.declared.dialect.Dialect.{Dialect}
 use Rattle.lq_base.specs.declared.dialect.Dialect.TheVariants.{Mysql, Postgresql}
 use Rattle.lq_base.specs.declared.name.Name.{Name}
@@ -101,7 +101,7 @@ sequences_are_read ss h = each_with CanSequence (IsRead Postgresql) pair_of_sequ
 pub tables_are_read : (d : Dialect) (ts : List (Name × Table)) → AllByRecursion (CanTable d) ts → AllByRecursion (IsRead d) (map (pair_of_table d) ts)
 tables_are_read d ts h = each_with (CanTable d) (IsRead d) (pair_of_table d) (λ e c. (any_table d (created_tree d e.0 e.1) (created d e.0 e.1) (created_read d e.0 e.1 c.name c.some c.columns), (refl, no_load (codes "createTable") (created_tree d e.0 e.1) refl))) ts h
 
-key_is_read : (d : Dialect) (t : Name) (key : Option Key) → is_name t ≡ true → ((k : Key) → key ≡ Some k → AreListed k.columns × Fits is_name (named_in d (Some k))) → AllByRecursion (IsRead d) (pairs_of_key d t key)
+key_is_read : (d : Dialect) (t : Name) (key : Option Key) → is_object d t ≡ true → ((k : Key) → key ≡ Some k → AreListed k.columns × Fits is_name (named_in d (Some k))) → AllByRecursion (IsRead d) (pairs_of_key d t key)
 key_is_read d t None name h = tt
 key_is_read d t (Some k) name h = ((any_key d (key_tree d t k) (key_change d t k) (key_read d t k name (h k refl).0 (h k refl).1), (refl, no_load (codes "addPrimaryKey") (key_tree d t k) refl)), tt)
 
@@ -117,12 +117,12 @@ fillings_are_read d ts h = lists_with (CanFill d) (IsRead d) (pairs_of_filling d
   one e c =
       both_of (IsRead d) (pairs_of_own_key d e) (map (pair_of_unique e.0) e.1.uniques ++ map (pair_of_index e.0) e.1.indexes) (own_key_is_read d e c)
       (both_of (IsRead d) (map (pair_of_unique e.0) e.1.uniques) (map (pair_of_index e.0) e.1.indexes)
-      (each_with (λ (u : Unique). AreListed u.columns × (is_name u.name ≡ true)) (IsRead d) (pair_of_unique e.0) (λ u a. (any_unique d (unique_tree e.0 u) (unique_change e.0 u) (unique_read e.0 u c.name a.0 a.1), (refl, no_load (codes "addUniqueConstraint") (unique_tree e.0 u) refl))) e.1.uniques c.uniques)
-      (each_with (λ (x : Index). (is_empty x.columns ≡ false) × (AllByRecursion (λ n. is_name n ≡ true) x.columns × (is_name x.name ≡ true))) (IsRead d) (pair_of_index e.0) (λ x a. (any_index d (index_tree e.0 x) (index_change e.0 x) (index_read e.0 x c.name a.0 a.1.0 a.1.1), (refl, no_load (codes "createIndex") (index_tree e.0 x) refl))) e.1.indexes c.indexes))
+      (each_with (λ (u : Unique). AreListed u.columns × (is_name u.name ≡ true)) (IsRead d) (pair_of_unique e.0) (λ u a. (any_unique d (unique_tree e.0 u) (unique_change e.0 u) (unique_read d e.0 u c.name a.0 a.1), (refl, no_load (codes "addUniqueConstraint") (unique_tree e.0 u) refl))) e.1.uniques c.uniques)
+      (each_with (λ (x : Index). (is_empty x.columns ≡ false) × (AllByRecursion (λ n. is_name n ≡ true) x.columns × (is_name x.name ≡ true))) (IsRead d) (pair_of_index e.0) (λ x a. (any_index d (index_tree e.0 x) (index_change e.0 x) (index_read d e.0 x c.name a.0 a.1.0 a.1.1), (refl, no_load (codes "createIndex") (index_tree e.0 x) refl))) e.1.indexes c.indexes))
 
 pub aims_are_read : (d : Dialect) (ts : List (Name × Table)) → AllByRecursion (CanFill d) ts → AllByRecursion (IsRead d) (flat_map pairs_of_aims ts)
-aims_are_read d ts h = lists_with (CanFill d) (IsRead d) pairs_of_aims (λ e c. each_with (λ (f : ForeignKey). ((is_name f.name ≡ true) × (is_name f.table ≡ true)) × (AreListed f.columns × AreListed f.targets)) (IsRead d) (pair_of_foreign e.0)
-    (λ f a. (any_foreign d (foreign_tree e.0 f) (foreign_change e.0 f) (foreign_read e.0 f c.name a.0.0 a.0.1 a.1.0 a.1.1), (refl, no_load (codes "addForeignKeyConstraint") (foreign_tree e.0 f) refl))) e.1.foreign c.foreign) ts h
+aims_are_read d ts h = lists_with (CanFill d) (IsRead d) pairs_of_aims (λ e c. each_with (λ (f : ForeignKey). ((is_name f.name ≡ true) × (is_object d f.table ≡ true)) × (AreListed f.columns × AreListed f.targets)) (IsRead d) (pair_of_foreign e.0)
+    (λ f a. (any_foreign d (foreign_tree e.0 f) (foreign_change e.0 f) (foreign_read d e.0 f c.name a.0.0 a.0.1 a.1.0 a.1.1), (refl, no_load (codes "addForeignKeyConstraint") (foreign_tree e.0 f) refl))) e.1.foreign c.foreign) ts h
 
 pub views_are_read : (d : Dialect) (vs : List (Name × View)) → AllByRecursion (CanView d) vs → AllByRecursion (IsRead d) (map (pair_of_view d) vs)
 views_are_read d vs h = each_with (CanView d) (IsRead d) (pair_of_view d) (λ v c. (any_view d (view_tree d v.0 v.1) (view_change d v.0 v.1) (view_read d v.0 v.1 c.0 c.1), (refl, no_load (codes "createView") (view_tree d v.0 v.1) refl))) vs h

@@ -6,8 +6,9 @@ use Rattle.std.specs.List.{AllByRecursion, flat_map, list_all}
 use Rattle.std.specs.Map.{keys_of, values_of}
 use Rattle.std.specs.Option.{option_map, unwrap_or}
 use Rattle.std.specs.Ordering.{is_lt, nat_cmp}
-use Rattle.std.specs.Prelude.{Bool, List, None, Option, Some, [], codes, cond, false, if◌then◌else◌, map, max, not, refl, suc, true, ℕ, ℤ, ◌&&◌, ◌++◌, ◌∷◌, ◌≡◌, ◌≤◌}
+use Rattle.std.specs.Prelude.{Bool, List, None, Option, Some, [], codes, cond, false, if◌then◌else◌, is_some, map, max, not, refl, suc, true, ℕ, ℤ, ◌&&◌, ◌++◌, ◌∷◌, ◌≡◌, ◌≤◌}
 use Rattle.serde_json.specs.Read.{max_depth}
+use Rattle.lq_base.specs.Name.{parts_of, schema_in}
 use Rattle.lq_base.specs.Value.{is_int32, is_int64, is_value_of}
 use Rattle.lq_base.specs.declared.dialect.Dialect.{Dialect}
 use Rattle.lq_base.specs.declared.kind.Kind.{Kind}
@@ -19,7 +20,7 @@ use Rattle.lq_generate.specs.Added.{foreign_rows, foreign_tree, if_cascade, inde
 use Rattle.lq_generate.specs.Created.{column_rows, column_tree, constraints_at, constraints_rows, created_rows, created_tree, date_at, if_true, named_in, number_at, text_at, truth_at}
 use Rattle.lq_generate.specs.Faults.{is_long, is_out}
 use Rattle.lq_generate.specs.Generated.{added_items, five_sets, foreign_item, foreign_items, generated_tree, index_item, is_numbered, key_items, own_key_items, sequence_item, set_rows, set_tree, set_trees, table_item, unique_item, view_item}
-use Rattle.lq_generate.specs.Rows.{Row, map_node, present, under}
+use Rattle.lq_generate.specs.Rows.{Row, map_node, present, schema_at, under}
 use Rattle.lq_jsontext.specs.JsonText.{IsWritable, are_held, is_held, levels, most}
 use Rattle.lq_model.proofs.Lists.{and_left, and_right, and_true}
 use Rattle.lq_model.specs.Catalogue.{Catalogue, Sequence, Table, View}
@@ -210,6 +211,12 @@ name_fine : (k : ℕ) (o : Option Name) → IfFine k (option_map (λ (n : Name).
 name_fine k None = tt
 name_fine k (Some n) = text_fine k n
 
+schema_fine : (k : ℕ) (n : Name) → IfFine k (schema_at n)
+schema_fine k n = by (parts_of n) where
+  by : (o : Option (List ℕ × List ℕ)) → IfFine k (if is_some o then Some (TextNode (schema_in o)) else None)
+  by None = tt
+  by (Some parts) = text_fine k parts.0
+
 cascade_fine : (k : ℕ) (b : Bool) → IfFine k (if_cascade b)
 cascade_fine k true = text_fine k (codes "CASCADE")
 cascade_fine k false = tt
@@ -307,7 +314,7 @@ fits_each (c ∷ cs) h = (and_left (default_fits c) _ h, fits_each cs (and_right
 pub created_fine : (d : Dialect) (t : Name) (it : Table) → list_all default_fits it.columns ≡ true → Fine 5 (created_tree d t it)
 created_fine d t it fits =
     rows_fine 4 (created_rows d t it) refl
-    (list_fine 3 (map (column_tree d it.key) it.columns) (each_fine (λ (c : Column). default_fits c ≡ true) 3 (column_tree d it.key) (column_fine d it.key) it.columns (fits_each it.columns fits)), (text_fine 4 t, tt))
+    (list_fine 3 (map (column_tree d it.key) it.columns) (each_fine (λ (c : Column). default_fits c ≡ true) 3 (column_tree d it.key) (column_fine d it.key) it.columns (fits_each it.columns fits)), (schema_fine 4 t, (text_fine 4 _, tt)))
 
 pub sequence_fine : (s : Name) (x : Sequence) → is_out x ≡ false → Fine 5 (sequence_tree s x)
 sequence_fine s x h =
@@ -318,10 +325,10 @@ sequence_fine s x h =
       twice false g = absurd Prim.cc
 
 pub key_fine : (d : Dialect) (t : Name) (k : Key) → Fine 5 (key_tree d t k)
-key_fine d t k = deeper 1 5 (key_tree d t k) (omega arith) (rows_fine 0 (key_rows d t k) refl (text_fine 0 _, (name_fine 0 (named_in d (Some k)), (text_fine 0 t, tt))))
+key_fine d t k = deeper 1 5 (key_tree d t k) (omega arith) (rows_fine 0 (key_rows d t k) refl (text_fine 0 _, (name_fine 0 (named_in d (Some k)), (schema_fine 0 t, (text_fine 0 _, tt)))))
 
 pub unique_fine : (t : Name) (u : Unique) → Fine 5 (unique_tree t u)
-unique_fine t u = deeper 1 5 (unique_tree t u) (omega arith) (rows_fine 0 (unique_rows t u) refl (text_fine 0 _, (text_fine 0 u.name, (text_fine 0 t, tt))))
+unique_fine t u = deeper 1 5 (unique_tree t u) (omega arith) (rows_fine 0 (unique_rows t u) refl (text_fine 0 _, (text_fine 0 u.name, (schema_fine 0 t, (text_fine 0 _, tt)))))
 
 index_column_fine : (n : Name) → Fine 2 (index_column_tree n)
 index_column_fine n = under_fine 1 (codes "column") _ (under_fine 0 (codes "name") (TextNode n) (text_fine 0 n))
@@ -330,12 +337,12 @@ pub index_fine : (t : Name) (x : Index) → Fine 5 (index_tree t x)
 index_fine t x =
     deeper 4 5 (index_tree t x) (omega arith)
     (rows_fine 3 (index_rows t x) refl
-    (list_fine 2 (map index_column_tree x.columns) (each_fine (λ (n : Name). Unit {0}) 2 index_column_tree (λ n u. index_column_fine n) x.columns (always x.columns)), (text_fine 3 x.name, (text_fine 3 t, (so_fine 3 x.unique, tt)))))
+    (list_fine 2 (map index_column_tree x.columns) (each_fine (λ (n : Name). Unit {0}) 2 index_column_tree (λ n u. index_column_fine n) x.columns (always x.columns)), (text_fine 3 x.name, (schema_fine 3 t, (text_fine 3 _, (so_fine 3 x.unique, tt))))))
 
 pub foreign_fine : (t : Name) (f : ForeignKey) → Fine 5 (foreign_tree t f)
 foreign_fine t f =
     deeper 1 5 (foreign_tree t f) (omega arith)
-    (rows_fine 0 (foreign_rows t f) refl (text_fine 0 _, (text_fine 0 t, (text_fine 0 f.name, (cascade_fine 0 f.cascade, (text_fine 0 _, (text_fine 0 f.table, tt)))))))
+    (rows_fine 0 (foreign_rows t f) refl (text_fine 0 _, (text_fine 0 _, (schema_fine 0 t, (text_fine 0 f.name, (cascade_fine 0 f.cascade, (text_fine 0 _, (text_fine 0 _, (schema_fine 0 f.table, tt)))))))))
 
 pub view_fine : (d : Dialect) (v : Name) (it : View) → Fine 5 (view_tree d v it)
 view_fine d v it = deeper 1 5 (view_tree d v it) (omega arith) (rows_fine 0 (view_rows d v it) refl (text_fine 0 _, (text_fine 0 v, tt)))

@@ -2,16 +2,16 @@
 use Rattle.std.proofs.Common.{ap, sym, ◌∙◌}
 use Rattle.std.specs.List.{AllByRecursion, flat_map, list_any}
 use Rattle.std.specs.Prelude.{Bool, List, None, Option, Some, [], false, map, not, refl, true, ℕ, ◌&&◌, ◌++◌, ◌||◌, ◌∷◌, ◌≡◌}
-use Rattle.lq_base.specs.Name.{is_named}
+use Rattle.lq_base.specs.Name.{beside, is_named}
 use Rattle.lq_base.specs.declared.dialect.Dialect.{Dialect}
 use Rattle.lq_base.specs.declared.dialect.Dialect.TheVariants.{Mysql, Postgresql}
 use Rattle.lq_base.specs.declared.name.Name.{Name}
 use Rattle.lq_model.proofs.Lists.{and_left, and_right, any-append, any-map, append-nil, or_false, or_left, or_right}
 use Rattle.lq_model.specs.Catalogue.{Catalogue, Sequence, Table, View}
-use Rattle.lq_model.specs.NameSpaces.{object_names, shared_names}
+use Rattle.lq_model.specs.NameSpaces.{names_inside, object_names, shared_names}
 use Rattle.lq_model.specs.Names.{is_in}
 use Rattle.lq_model.specs.Reserved.{is_reserved, is_tracking, lock_key, takes_lock_key}
-use Rattle.lq_model.specs.TableNames.{constraint_names, foreign_names, inner_names, key_list}
+use Rattle.lq_model.specs.TableNames.{constraint_names, foreign_names, inner_names, key_list, placed}
 use Rattle.lq_model.specs.declared.caller.By.TheVariants.{User}
 use Rattle.lq_model.specs.declared.column.Column.{Column}
 use Rattle.lq_model.specs.declared.constraint.ForeignKey.{ForeignKey}
@@ -90,11 +90,11 @@ module _ (d : Dialect) (c : Catalogue) (apart : is_apart d c ≡ true) where
   abbrev lock : Name → Bool
   lock n = is_named lock_key n
 
-  in_flat : (es : List (Name × Table)) (e : Name × Table) (more : List (Name × Table)) → list_any lock (tables_inner (es ++ e ∷ more)) ≡ false → list_any lock (inner_names e.1) ≡ false
-  in_flat [] e more h = left lock (inner_names e.1) _ h
-  in_flat (x ∷ es) e more h = in_flat es e more (right lock (inner_names x.1) (tables_inner (es ++ e ∷ more)) h)
+  in_flat : (es : List (Name × Table)) (e : Name × Table) (more : List (Name × Table)) → list_any lock (tables_inner (es ++ e ∷ more)) ≡ false → list_any lock (names_inside e) ≡ false
+  in_flat [] e more h = left lock (names_inside e) _ h
+  in_flat (x ∷ es) e more h = in_flat es e more (right lock (names_inside x) (tables_inner (es ++ e ∷ more)) h)
 
-  lock_inner : (e : Dialect) → takes_key e c ≡ false → (done : List (Name × Table)) (x : Name × Table) (more : List (Name × Table)) → c.tables ≡ done ++ x ∷ more → e ≡ Postgresql → list_any lock (inner_names x.1) ≡ false
+  lock_inner : (e : Dialect) → takes_key e c ≡ false → (done : List (Name × Table)) (x : Name × Table) (more : List (Name × Table)) → c.tables ≡ done ++ x ∷ more → e ≡ Postgresql → list_any lock (names_inside x) ≡ false
   lock_inner Postgresql h done x more is pg = in_flat done x more (ap (λ ts. list_any lock (tables_inner ts)) (sym is) ∙ right lock (object_names c) (tables_inner c.tables) h)
   lock_inner Mysql h done x more is pg = absurd Prim.cc
 
@@ -128,8 +128,12 @@ module _ (d : Dialect) (c : Catalogue) (apart : is_apart d c ≡ true) where
     aims_out : list_any is_tracking (foreign_names x.1 ++ map (λ (f : ForeignKey). f.table) x.1.foreign) ≡ false
     aims_out = right is_tracking (inner_names x.1) _ inside
 
-    inner_unlocked : d ≡ Postgresql → list_any lock (inner_names x.1) ≡ false
-    inner_unlocked pg = lock_inner d unlocked done x more is pg
+    -- whether what is inside the table counts as the lock's key
+    abbrev lock_at : Name → Bool
+    lock_at n = lock (beside x.0 n)
+
+    inner_unlocked : d ≡ Postgresql → list_any lock_at (inner_names x.1) ≡ false
+    inner_unlocked pg = sym (any-map lock (beside x.0) (inner_names x.1)) ∙ lock_inner d unlocked done x more is pg
 
     pair_free : (n : Name) → is_tracking n ≡ false → is_reserved User (x.0 ∷ n ∷ []) ≡ false
     pair_free n h = or_false _ _ named (or_false _ _ h refl)
@@ -137,15 +141,15 @@ module _ (d : Dialect) (c : Catalogue) (apart : is_apart d c ≡ true) where
     pub table_free : AllByRecursion (λ (c : Column). IsWritten c.default) x.1.columns → IsFreeTable d x
     table_free written = record {
       reserved = or_false _ _ named (ap (list_any is_tracking) (append-nil (constraint_names (bare x.1))) ∙ own_out is_tracking x.1 inner);
-      lock = unlocked_names (x.0 ∷ inner_names (bare x.1)) (λ pg. or_false _ _ (out lock (λ (x : Name × Table). x.0) c.tables done x more is (table_names lock (lock_objects d unlocked pg))) (own_out lock x.1 (inner_unlocked pg)));
+      lock = unlocked_names (x.0 ∷ placed x.0 (inner_names (bare x.1))) (λ pg. or_false _ _ (out lock (λ (x : Name × Table). x.0) c.tables done x more is (table_names lock (lock_objects d unlocked pg))) (any-map lock (beside x.0) (inner_names (bare x.1)) ∙ own_out lock_at x.1 (inner_unlocked pg)));
       written = written;
     }
 
     pub things_free : AreFree d x
     things_free = record {
-      key = λ k has. (pair_free k.name (key_out is_tracking x.1 inner k has), unlocked_name k.name (λ pg. key_out lock x.1 (inner_unlocked pg) k has));
-      uniques = λ us u rest has. (pair_free u.name (unique_out is_tracking x.1 inner us u rest has), unlocked_name u.name (λ pg. unique_out lock x.1 (inner_unlocked pg) us u rest has));
-      indexes = λ xs i rest has. (pair_free i.name (index_out is_tracking x.1 inner xs i rest has), unlocked_name i.name (λ pg. index_out lock x.1 (inner_unlocked pg) xs i rest has));
+      key = λ k has. (pair_free k.name (key_out is_tracking x.1 inner k has), unlocked_name (beside x.0 k.name) (λ pg. key_out lock_at x.1 (inner_unlocked pg) k has));
+      uniques = λ us u rest has. (pair_free u.name (unique_out is_tracking x.1 inner us u rest has), unlocked_name (beside x.0 u.name) (λ pg. unique_out lock_at x.1 (inner_unlocked pg) us u rest has));
+      indexes = λ xs i rest has. (pair_free i.name (index_out is_tracking x.1 inner xs i rest has), unlocked_name (beside x.0 i.name) (λ pg. index_out lock_at x.1 (inner_unlocked pg) xs i rest has));
       foreign = λ fs f rest has. or_false _ _ named (or_false _ _ (out is_tracking (λ (f : ForeignKey). f.name) x.1.foreign fs f rest has (left is_tracking (foreign_names x.1) _ aims_out))
           (or_false _ _ (out is_tracking (λ (f : ForeignKey). f.table) x.1.foreign fs f rest has (right is_tracking (foreign_names x.1) _ aims_out)) refl));
     }

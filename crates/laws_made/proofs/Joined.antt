@@ -21,7 +21,7 @@ use Rattle.lq_model.specs.Names.{same_names}
 use Rattle.lq_model.specs.Reserved.{is_reserved, takes_lock_key}
 use Rattle.lq_model.specs.Sound.{IsSound, IsSoundTable, default_fits, is_key_of, is_not_null, is_numbered_well}
 use Rattle.lq_model.specs.Step.{run, step}
-use Rattle.lq_model.specs.TableNames.{constraint_names, inner_names, key_list}
+use Rattle.lq_model.specs.TableNames.{constraint_names, inner_names, key_list, placed}
 use Rattle.lq_model.specs.declared.caller.By.TheVariants.{User}
 use Rattle.lq_model.specs.declared.column.Column.{Column}
 use Rattle.lq_model.specs.declared.column.ColumnDef.{ColumnDef}
@@ -108,10 +108,10 @@ no_uniques d t key (c ∷ cs) = ap (λ us. unique_of t (column_of d key c) ++ us
   none true = refl
   none false = refl
 
-no_foreign : (d : Dialect) (key : Option Key) (cs : List Column) → flat_map foreign_of (map (column_of d key) cs) ≡ []
-no_foreign d key [] = refl
-no_foreign d key (c ∷ cs) = ap (λ fs. foreign_of (column_of d key c) ++ fs) (no_foreign d key cs) ∙ ap (λ fs. fs ++ []) (none (c.nullable && not c.numbered)) where
-  none : (b : Bool) → option_to_list (option_and_then (λ (cs : CreatedConstraints). foreign_stated c.name cs.references cs.foreign_key_name) (if b then None else Some (constraints_of d key c))) ≡ []
+no_foreign : (d : Dialect) (t : Name) (key : Option Key) (cs : List Column) → flat_map (foreign_of t) (map (column_of d key) cs) ≡ []
+no_foreign d t key [] = refl
+no_foreign d t key (c ∷ cs) = ap (λ fs. foreign_of t (column_of d key c) ++ fs) (no_foreign d t key cs) ∙ ap (λ fs. fs ++ []) (none (c.nullable && not c.numbered)) where
+  none : (b : Bool) → option_to_list (option_and_then (λ (cs : CreatedConstraints). foreign_stated t c.name cs.references cs.foreign_key_name) (if b then None else Some (constraints_of d key c))) ≡ []
   none true = refl
   none false = refl
 
@@ -121,11 +121,11 @@ makes_table d e = CreateTable e.0 (defs_of d e.1.key e.1.columns) (own_key e.1) 
 
 pub statement_is : (d : Dialect) (t : Name) (it : Table) → IsSoundTable d it → creates d (created d t it) ≡ makes_table d (t, it)
 statement_is d t it fine =
-    rw (key_made d t it fine.differ fine.numbered fine.key_named, no_uniques d t it.key it.columns, no_foreign d it.key it.columns) refl
+    rw (key_made d t it fine.differ fine.numbered fine.key_named, no_uniques d t it.key it.columns, no_foreign d t it.key it.columns) refl
 
 pub record IsFreeTable (d : Dialect) (e : Name × Table) : Type 0 where
   pub reserved : is_reserved User (e.0 ∷ constraint_names (bare e.1) ++ []) ≡ false
-  pub lock : takes_lock_key User d (e.0 ∷ inner_names (bare e.1)) ≡ false
+  pub lock : takes_lock_key User d (e.0 ∷ placed e.0 (inner_names (bare e.1))) ≡ false
   pub written : AllByRecursion (λ (c : Column). IsWritten c.default) e.1.columns
 
 pub table_step : (d : Dialect) (c : Catalogue) → IsSound d c → (done : List (Name × Table)) (e : Name × Table) (more : List (Name × Table)) → c.tables ≡ done ++ e ∷ more → IsFreeTable d e

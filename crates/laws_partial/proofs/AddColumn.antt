@@ -127,11 +127,11 @@ both d ss ts spelled before behind c p first rest sound are ran = (elim (cut ss 
 column_part : (d : Dialect) (t : Name) (x : AddedColumn) → list_all (is_statement d) (column_gives d t x) ≡ true → PartOf d (column_gives d t x)
 column_part d t x fine =
     let u = joins t (unique_of t x) in
-    let f = refers t (foreign_of x) in
+    let f = refers t (foreign_of t x) in
     let begin : list_all (is_statement d) (made d t x) ≡ true = all-append_left (is_statement d) (made d t x) (u ++ f) fine in
     let end : list_all (is_statement d) (u ++ f) ≡ true = all-append_right (is_statement d) (made d t x) (u ++ f) fine in
     both d (made d t x) (u ++ f) begin (λ c p first rest sound are ran. made_part d t x c p first rest sound begin are ran)
-    (both d u f (all-append_left (is_statement d) u f end) (joins_part d t (unique_of t x)) (refers_part d t (foreign_of x)))
+    (both d u f (all-append_left (is_statement d) u f end) (joins_part d t (unique_of t x)) (refers_part d t (foreign_of t x)))
 
 all_parts : (d : Dialect) (t : Name) (xs : List AddedColumn) → list_all (is_statement d) (flat_map (column_gives d t) xs) ≡ true → PartOf d (flat_map (column_gives d t) xs)
 all_parts d t [] fine = λ c p first rest sound are ran. no_part d first rest c p are ran

@@ -52,7 +52,7 @@ create_table_parts : PartsBack create_table.is_for create_table.gives create_tab
 create_table_parts d x c p undoing first rest right sound new taken are ran = single create_table.is_for create_table.gives create_table.effect create_table.is_fresh create_table.inverse create_table_laws.does create_table_laws.restores d x (create_table.creates d x) refl refl c p first rest right sound new are ran
 
 rename_table_parts : PartsBack rename_table.is_for rename_table.gives rename_table.is_fresh rename_table.inverse
-rename_table_parts d x c p undoing first rest right sound new taken are ran = single rename_table.is_for rename_table.gives rename_table.effect rename_table.is_fresh rename_table.inverse rename_table_laws.does rename_table_laws.restores d x (statement.RenameTable x.old_table_name x.new_table_name) refl refl c p first rest right sound new are ran
+rename_table_parts d x c p undoing first rest right sound new taken are ran = single rename_table.is_for rename_table.gives rename_table.effect rename_table.is_fresh rename_table.inverse rename_table_laws.does rename_table_laws.restores d x (statement.RenameTable x.old_table_name (rename_table.renamed_to x)) refl refl c p first rest right sound new are ran
 
 rename_column_parts : PartsBack rename_column.is_for rename_column.gives rename_column.is_fresh rename_column.inverse
 rename_column_parts d x c p undoing first rest right sound new taken are ran = single rename_column.is_for rename_column.gives rename_column.effect rename_column.is_fresh rename_column.inverse rename_column_laws.does rename_column_laws.restores d x (rename_column.renames x.table_name x.old_column_name x.new_column_name) refl refl c p first rest right sound new are ran

@@ -4,7 +4,7 @@ use Rattle.std.specs.List.{AllByRecursion, flat_map, list_all, list_any}
 use Rattle.std.specs.List.Sorted.{IsStrictlySortedBy}
 use Rattle.std.specs.Map.{keys_of}
 use Rattle.std.specs.Prelude.{Bool, List, None, Ok, Option, Some, [], cond, false, is_none, is_some, map, not, refl, true, ℕ, ◌&&◌, ◌+◌, ◌++◌, ◌||◌, ◌∷◌, ◌≡◌, ◌≤◌}
-use Rattle.lq_base.specs.Name.{is_named, name_cmp}
+use Rattle.lq_base.specs.Name.{beside, is_named, name_cmp}
 use Rattle.lq_base.specs.declared.dialect.Dialect.{Dialect}
 use Rattle.lq_base.specs.declared.dialect.Dialect.TheVariants.{Mysql, Postgresql}
 use Rattle.lq_base.specs.declared.name.Name.{Name}
@@ -12,6 +12,7 @@ use Rattle.lq_model.proofs.Counts.{once}
 use Rattle.lq_model.proofs.Decide.{IsFree, IsSettled, settles}
 use Rattle.lq_model.proofs.Lists.{all-append_left, all-append_right, and_left, and_right, any-append, named_itself, or_false}
 use Rattle.lq_model.proofs.NameCounts.{constraint_sum, foreign_at, index_sum, indexes_at, inner_sum, keys_at, last_count, uniques_at}
+use Rattle.lq_model.proofs.Places.{times_beside}
 use Rattle.lq_model.proofs.Times.{none_times, times-append}
 use Rattle.lq_model.specs.AddConstraint.{add_foreign_key, add_primary_key, add_unique, create_index, with_foreign, with_index, with_key, with_unique}
 use Rattle.lq_model.specs.Catalogue.{Catalogue, Table, table_of, the_table, with_table}
@@ -23,7 +24,7 @@ use Rattle.lq_model.specs.Reserved.{is_reserved, takes_lock_key}
 use Rattle.lq_model.specs.ResultTests.{is_loose, misses_target}
 use Rattle.lq_model.specs.Sound.{IsSound, IsSoundTable, are_columns, is_not_null}
 use Rattle.lq_model.specs.Step.{step}
-use Rattle.lq_model.specs.TableNames.{column_lists, column_missing, constraint_names, has_column, index_names, inner_names, key_list, target_lists}
+use Rattle.lq_model.specs.TableNames.{column_lists, column_missing, constraint_names, has_column, index_names, inner_names, key_list, placed, target_lists}
 use Rattle.lq_model.specs.declared.caller.By.TheVariants.{User}
 use Rattle.lq_model.specs.declared.constraint.ForeignKey.{ForeignKey}
 use Rattle.lq_model.specs.declared.constraint.Key.{Key}
@@ -96,8 +97,13 @@ module _ (d : Dialect) (c : Catalogue) (sound : IsSound d c) (done : List (Name 
   puts : (p q : Table) → with_table (weave p) e.0 q ≡ weave q
   puts p q = put d c done e more is sound.ordered keyed made keyed_part made_part p q
 
-  shared : (n : Name) (p : Table) → times n (shared_names (weave p)) + times n (inner_names it) ≤ times n (shared_names c) + times n (inner_names p)
-  shared n p = shared_woven d c done e more is sound.ordered keyed made keyed_part made_part n p
+  -- a name inside the table, where it counts
+  shared : (n : Name) (p : Table) → times (beside e.0 n) (shared_names (weave p)) + times n (inner_names it) ≤ times (beside e.0 n) (shared_names c) + times n (inner_names p)
+  shared n p =
+      let s = shared_woven d c done e more is sound.ordered keyed made keyed_part made_part (beside e.0 n) p in
+      let a = times_beside e.0 n (inner_names it) in
+      let b = times_beside e.0 n (inner_names p) in
+      omega (arith, s, a, b)
 
   aimed : (q : Table) → q.foreign ≡ [] → is_loose (weave q) ≡ false
   aimed q none =
@@ -127,7 +133,7 @@ module _ (d : Dialect) (c : Catalogue) (sound : IsSound d c) (done : List (Name 
 
   -- its key
 
-  key_free : (e2 : Dialect) (k : Key) → it.key ≡ Some k → own_key it ≡ None → AreApart e2 c → key_taken e2 (made it) k.name (weave (made it)) ≡ false
+  key_free : (e2 : Dialect) (k : Key) → it.key ≡ Some k → own_key it ≡ None → AreApart e2 c → key_taken e2 e.0 (made it) k.name (weave (made it)) ≡ false
   key_free Postgresql k has none apart =
       let n = k.name in
       let p = made it in
@@ -138,11 +144,11 @@ module _ (d : Dialect) (c : Catalogue) (sound : IsSound d c) (done : List (Name 
       let o = itself n in
       let u : keys_at n it ≡ once (is_named n n) + 0 = ap (λ key. times n (map (λ (k : Key). k.name) (key_list key))) has in
       let v : keys_at n p ≡ 0 = ap (λ key. times n (map (λ (k : Key). k.name) (key_list key))) none in
-      let a = apart n in
-      or_false _ _ (none_times n (shared_names (weave p)) (omega (arith, s, x, y, o, u, v, a))) (none_times n (constraint_names p) (omega (arith, z, v)))
+      let a = apart (beside e.0 n) in
+      or_false _ _ (none_times (beside e.0 n) (shared_names (weave p)) (omega (arith, s, x, y, o, u, v, a))) (none_times n (constraint_names p) (omega (arith, z, v)))
   key_free Mysql k has none apart = refl
 
-  pub key_step : (k : Key) → it.key ≡ Some k → own_key it ≡ None → is_reserved User (e.0 ∷ k.name ∷ []) ≡ false → takes_lock_key User d (k.name ∷ []) ≡ false
+  pub key_step : (k : Key) → it.key ≡ Some k → own_key it ≡ None → is_reserved User (e.0 ∷ k.name ∷ []) ≡ false → takes_lock_key User d (placed e.0 (k.name ∷ [])) ≡ false
       → step User d (AddPrimaryKey e.0 k) (weave (made it)) ≡ Ok (weave (filled it it.key [] [] []), 0)
   key_step k has none reserved lock =
       let p = made it in
@@ -156,7 +162,7 @@ module _ (d : Dialect) (c : Catalogue) (sound : IsSound d c) (done : List (Name 
       (record {
         reserved = reserved;
         missing = or_false _ _ (here p) (ap (λ T. column_missing T k.columns) (the p) ∙ all_there it k.columns (key_fine k has));
-        exists = or_false _ _ (ap (λ (T : Table). is_some T.key) (the p) ∙ ap is_some none) (or_false _ _ (ap (λ T. key_taken d T k.name g) (the p) ∙ key_free d k has none sound.apart) (or_false _ _ lock (none_twice it k.columns (key_fine k has))));
+        exists = or_false _ _ (ap (λ (T : Table). is_some T.key) (the p) ∙ ap is_some none) (or_false _ _ (ap (λ T. key_taken d e.0 T k.name g) (the p) ∙ key_free d k has none sound.apart) (or_false _ _ lock (none_twice it k.columns (key_fine k has))));
         depends = refl;
         wrong = refl;
         wide = refl;
@@ -164,7 +170,7 @@ module _ (d : Dialect) (c : Catalogue) (sound : IsSound d c) (done : List (Name 
 
   -- a unique constraint
 
-  unique_free : (e2 : Dialect) (us : List Unique) (u : Unique) (rest : List Unique) → it.uniques ≡ us ++ u ∷ rest → AreApart e2 c → AreApartWithin e2 it → unique_taken e2 (filled it it.key us [] []) u.name (weave (filled it it.key us [] [])) ≡ false
+  unique_free : (e2 : Dialect) (us : List Unique) (u : Unique) (rest : List Unique) → it.uniques ≡ us ++ u ∷ rest → AreApart e2 c → AreApartWithin e2 it → unique_taken e2 e.0 (filled it it.key us [] []) u.name (weave (filled it it.key us [] [])) ≡ false
   unique_free Postgresql us u rest has apart within =
       let n = u.name in
       let p = filled it it.key us [] [] in
@@ -176,9 +182,9 @@ module _ (d : Dialect) (c : Catalogue) (sound : IsSound d c) (done : List (Name 
       let o = itself n in
       let v : uniques_at n it ≡ times n (map (λ (u : Unique). u.name) (us ++ u ∷ rest)) = ap (λ us. times n (map (λ (u : Unique). u.name) us)) has in
       let m = middle_count (λ (u : Unique). u.name) n us u rest in
-      let a = apart n in
+      let a = apart (beside e.0 n) in
       let b = within n in
-      or_false _ _ (none_times n (shared_names (weave p)) (omega (arith, s, x, y, o, v, m, a))) (none_times n (constraint_names p) (omega (arith, z, w, o, v, m, b)))
+      or_false _ _ (none_times (beside e.0 n) (shared_names (weave p)) (omega (arith, s, x, y, o, v, m, a))) (none_times n (constraint_names p) (omega (arith, z, w, o, v, m, b)))
   unique_free Mysql us u rest has apart within =
       let n = u.name in
       let p = filled it it.key us [] [] in
@@ -190,7 +196,7 @@ module _ (d : Dialect) (c : Catalogue) (sound : IsSound d c) (done : List (Name 
       let b = within n in
       none_times n (index_names p) (omega (arith, x, y, o, v, m, b))
 
-  pub unique_step : (us : List Unique) (u : Unique) (rest : List Unique) → it.uniques ≡ us ++ u ∷ rest → is_reserved User (e.0 ∷ u.name ∷ []) ≡ false → takes_lock_key User d (u.name ∷ []) ≡ false
+  pub unique_step : (us : List Unique) (u : Unique) (rest : List Unique) → it.uniques ≡ us ++ u ∷ rest → is_reserved User (e.0 ∷ u.name ∷ []) ≡ false → takes_lock_key User d (placed e.0 (u.name ∷ [])) ≡ false
       → step User d (AddUnique e.0 u) (weave (filled it it.key us [] [])) ≡ Ok (weave (filled it it.key (us ++ u ∷ []) [] []), 0)
   unique_step us u rest has reserved lock =
       let p = filled it it.key us [] [] in
@@ -202,7 +208,7 @@ module _ (d : Dialect) (c : Catalogue) (sound : IsSound d c) (done : List (Name 
       (record {
         reserved = reserved;
         missing = or_false _ _ (here p) (ap (λ T. column_missing T u.columns) (the p) ∙ all_there it u.columns (unique_fine us u rest has));
-        exists = or_false _ _ (ap (λ T. unique_taken d T u.name g) (the p) ∙ unique_free d us u rest has sound.apart fine.within) (or_false _ _ lock (none_twice it u.columns (unique_fine us u rest has)));
+        exists = or_false _ _ (ap (λ T. unique_taken d e.0 T u.name g) (the p) ∙ unique_free d us u rest has sound.apart fine.within) (or_false _ _ lock (none_twice it u.columns (unique_fine us u rest has)));
         depends = refl;
         wrong = refl;
         wide = refl;
@@ -210,7 +216,7 @@ module _ (d : Dialect) (c : Catalogue) (sound : IsSound d c) (done : List (Name 
 
   -- an index
 
-  index_free : (e2 : Dialect) (xs : List Index) (x : Index) (rest : List Index) → it.indexes ≡ xs ++ x ∷ rest → AreApart e2 c → AreApartWithin e2 it → index_taken e2 (filled it it.key it.uniques xs []) x.name (weave (filled it it.key it.uniques xs [])) ≡ false
+  index_free : (e2 : Dialect) (xs : List Index) (x : Index) (rest : List Index) → it.indexes ≡ xs ++ x ∷ rest → AreApart e2 c → AreApartWithin e2 it → index_taken e2 e.0 (filled it it.key it.uniques xs []) x.name (weave (filled it it.key it.uniques xs [])) ≡ false
   index_free Postgresql xs i rest has apart within =
       let n = i.name in
       let p = filled it it.key it.uniques xs [] in
@@ -220,8 +226,8 @@ module _ (d : Dialect) (c : Catalogue) (sound : IsSound d c) (done : List (Name 
       let o = itself n in
       let v : indexes_at n it ≡ times n (map (λ (i : Index). i.name) (xs ++ i ∷ rest)) = ap (λ xs. times n (map (λ (i : Index). i.name) xs)) has in
       let m = middle_count (λ (i : Index). i.name) n xs i rest in
-      let a = apart n in
-      none_times n (shared_names (weave p)) (omega (arith, s, x, y, o, v, m, a))
+      let a = apart (beside e.0 n) in
+      none_times (beside e.0 n) (shared_names (weave p)) (omega (arith, s, x, y, o, v, m, a))
   index_free Mysql xs i rest has apart within =
       let n = i.name in
       let p = filled it it.key it.uniques xs [] in
@@ -233,7 +239,7 @@ module _ (d : Dialect) (c : Catalogue) (sound : IsSound d c) (done : List (Name 
       let b = within n in
       none_times n (index_names p) (omega (arith, x, y, o, v, m, b))
 
-  pub index_step : (xs : List Index) (x : Index) (rest : List Index) → it.indexes ≡ xs ++ x ∷ rest → is_reserved User (e.0 ∷ x.name ∷ []) ≡ false → takes_lock_key User d (x.name ∷ []) ≡ false
+  pub index_step : (xs : List Index) (x : Index) (rest : List Index) → it.indexes ≡ xs ++ x ∷ rest → is_reserved User (e.0 ∷ x.name ∷ []) ≡ false → takes_lock_key User d (placed e.0 (x.name ∷ [])) ≡ false
       → step User d (CreateIndex e.0 x) (weave (filled it it.key it.uniques xs [])) ≡ Ok (weave (filled it it.key it.uniques (xs ++ x ∷ []) []), 0)
   index_step xs x rest has reserved lock =
       let p = filled it it.key it.uniques xs [] in
@@ -245,7 +251,7 @@ module _ (d : Dialect) (c : Catalogue) (sound : IsSound d c) (done : List (Name 
       (record {
         reserved = reserved;
         missing = or_false _ _ (here p) (ap (λ T. column_missing T x.columns) (the p) ∙ all_there it x.columns (index_fine xs x rest has));
-        exists = or_false _ _ (ap (λ T. index_taken d T x.name g) (the p) ∙ index_free d xs x rest has sound.apart fine.within) (or_false _ _ lock (none_twice it x.columns (index_fine xs x rest has)));
+        exists = or_false _ _ (ap (λ T. index_taken d e.0 T x.name g) (the p) ∙ index_free d xs x rest has sound.apart fine.within) (or_false _ _ lock (none_twice it x.columns (index_fine xs x rest has)));
         depends = refl;
         wrong = refl;
         wide = refl;

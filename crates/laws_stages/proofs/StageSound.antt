@@ -13,6 +13,7 @@ use Rattle.lq_base.specs.declared.name.Name.{Name}
 use Rattle.lq_model.proofs.Lists.{all-append_left, and_left, and_right, and_true, or_false, true_false}
 use Rattle.lq_model.proofs.Maps.{not_some, some_same}
 use Rattle.lq_model.proofs.NameCounts.{constraint_sum, inner_sum, keys_at}
+use Rattle.lq_model.proofs.PublicNames.{public_by, schemas_fewer}
 use Rattle.lq_model.proofs.Times.{times-append}
 use Rattle.lq_model.specs.Catalogue.{Catalogue, Sequence, Table, View, table_of}
 use Rattle.lq_model.specs.Kinds.{is_number, kinds_differ}
@@ -88,6 +89,7 @@ bare_sound d it h = record {
   key_named = of_own (λ k. list_all (λ (x : Key). is_key_name d x.name) (key_list k) ≡ true) it refl h.key_named;
   numbered = numbered_still it (own_key it) it.columns (own_is it) h.numbered;
   within = bare_within d it h.within;
+  public = public_by it (bare it) [] refl (λ n. let k = own_keys n it in omega (arith, k)) h.public;
 }
 
 -- ---- the catalogue
@@ -134,6 +136,9 @@ no_views : IsStrictlySortedBy name_cmp (let ks : List Name = [] in ks)
 unfolding IsStrictlySortedBy
 no_views = tt
 
+abbrev named : {X : Type 0} → List (Name × X) → List Name
+named es = map (λ e. e.0) es
+
 module _ (d : Dialect) (c : Catalogue) (sound : IsSound d c) (done more : List (Name × Table)) (is : c.tables ≡ done ++ more) (apart : AreApart d (stage c.sequences done)) where
   pub stage_sound : IsSound d (stage c.sequences done)
   stage_sound = record {
@@ -143,6 +148,7 @@ module _ (d : Dialect) (c : Catalogue) (sound : IsSound d c) (done more : List (
     tables = λ q it there. table_sound q it (sym (looked q done) ∙ there);
     views = refl;
     apart = apart;
+    schemas = schemas_fewer d (object_names c) (object_names (stage c.sequences done)) fewer sound.schemas;
     steps = sound.steps;
     sequences = sound.sequences;
     no_null = none_of (λ e. table_has_null e.1) done (λ e. refl);
@@ -152,6 +158,16 @@ module _ (d : Dialect) (c : Catalogue) (sound : IsSound d c) (done more : List (
     parents = none_of (λ e. has_orphan (stage c.sequences done) e.1) done (λ e. refl);
     small = none_of (λ e. is_full e.1) done (λ e. refl);
   } where
+    fewer : (n : Name) → times n (object_names (stage c.sequences done)) ≤ times n (object_names c)
+    fewer n =
+        let front = named (map bare_entry done) in
+        let a : times n (named c.tables) ≡ times n (front ++ named more) = ap (λ ts. times n (named ts)) is ∙ ap (times n) (keys_front done more) in
+        let b = times-append n front (named more) in
+        let p = times-append n (named c.tables) (named c.views ++ named c.sequences) in
+        let q = times-append n (named c.views) (named c.sequences) in
+        let r = times-append n front (named c.sequences) in
+        omega (arith, a, b, p, q, r)
+
     table_sound : (q : Name) (it : Table) → option_map bare (lookup (is_named q) done) ≡ Some it → IsSoundTable d it
     table_sound q it there = by (lookup (is_named q) done) refl there where
       by : (o : Option Table) → lookup (is_named q) done ≡ o → option_map bare o ≡ Some it → IsSoundTable d it

@@ -14,12 +14,13 @@ use Rattle.lq_base.specs.declared.name.Name.{Name}
 use Rattle.lq_base.specs.declared.reason.Reason.{Reason}
 use Rattle.lq_model.proofs.Counts.{once}
 use Rattle.lq_model.proofs.NameCounts.{inner_sum}
+use Rattle.lq_model.proofs.Places.{placed_less}
 use Rattle.lq_model.proofs.Times.{none_times, times-append}
 use Rattle.lq_model.specs.Catalogue.{Catalogue, Sequence, Table, View, with_new}
-use Rattle.lq_model.specs.NameSpaces.{object_names, shared_names}
+use Rattle.lq_model.specs.NameSpaces.{names_inside, object_names, shared_names}
 use Rattle.lq_model.specs.Names.{is_in, times}
 use Rattle.lq_model.specs.Step.{run, step}
-use Rattle.lq_model.specs.TableNames.{inner_names, key_list}
+use Rattle.lq_model.specs.TableNames.{inner_names, key_list, placed}
 use Rattle.lq_model.specs.declared.caller.By.TheVariants.{User}
 use Rattle.lq_model.specs.declared.column.Column.{Column}
 use Rattle.lq_model.specs.declared.constraint.Key.{Key}
@@ -83,7 +84,7 @@ stages d makes ss all done (e ∷ more) is each =
 -- its names are free: they stand in the space once
 
 abbrev pub tables_inner : List (Name × Table) → List Name
-tables_inner es = flat_map (λ (x : Name × Table). inner_names x.1) es
+tables_inner es = flat_map names_inside es
 
 pub names_same : (n : Name) (done : List (Name × Table)) → map (λ (x : Name × Table). x.0) (map bare_entry done) ≡ map (λ (x : Name × Table). x.0) done
 names_same n [] = refl
@@ -101,17 +102,17 @@ inner_fewer n it = by (list_any (λ (c : Column). c.numbered) it.columns) where
 pub inner_all_fewer : (n : Name) (done : List (Name × Table)) → times n (tables_inner (map bare_entry done)) ≤ times n (tables_inner done)
 inner_all_fewer n [] = omega arith
 inner_all_fewer n (x ∷ done) =
-    let a = times-append n (inner_names (bare x.1)) (tables_inner (map bare_entry done)) in
-    let b = times-append n (inner_names x.1) (tables_inner done) in
-    let c = inner_fewer n x.1 in
+    let a = times-append n (names_inside (bare_entry x)) (tables_inner (map bare_entry done)) in
+    let b = times-append n (names_inside x) (tables_inner done) in
+    let c = placed_less x.0 (inner_names (bare x.1)) (inner_names x.1) (λ m. inner_fewer m x.1) n in
     let r = inner_all_fewer n done in
     omega (arith, a, b, c, r)
 
 pub inner_split : (n : Name) (done : List (Name × Table)) (more : List (Name × Table)) → times n (tables_inner (done ++ more)) ≡ times n (tables_inner done) + times n (tables_inner more)
 inner_split n [] more = omega arith
 inner_split n (x ∷ done) more =
-    let a = times-append n (inner_names x.1) (tables_inner (done ++ more)) in
-    let b = times-append n (inner_names x.1) (tables_inner done) in
+    let a = times-append n (names_inside x) (tables_inner (done ++ more)) in
+    let b = times-append n (names_inside x) (tables_inner done) in
     let r = inner_split n done more in
     omega (arith, a, b, r)
 
@@ -121,7 +122,7 @@ keys_split n (x ∷ done) more = let r = keys_split n done more in omega (arith,
 
 -- what stands there, and what the next table brings, is no more than what all have
 pub counted : (n : Name) (c : Catalogue) (done : List (Name × Table)) (e : Name × Table) (more : List (Name × Table)) → c.tables ≡ done ++ e ∷ more
-    → times n (shared_names (stage c.sequences done)) + (once (is_named n e.0) + times n (inner_names (bare e.1))) ≤ times n (shared_names c)
+    → times n (shared_names (stage c.sequences done)) + (once (is_named n e.0) + times n (placed e.0 (inner_names (bare e.1)))) ≤ times n (shared_names c)
 counted n c done e more is =
     let own = map (λ (x : Name × Table). x.0) (map bare_entry done) in
     let vs = map (λ (x : Name × View). x.0) c.views in
@@ -138,6 +139,6 @@ counted n c done e more is =
     let v = keys_split n done (e ∷ more) in
     let w : times n (tables_inner c.tables) ≡ times n (tables_inner (done ++ e ∷ more)) = ap (λ es. times n (tables_inner es)) is in
     let z = inner_split n done (e ∷ more) in
-    let f = times-append n (inner_names e.1) (tables_inner more) in
-    let g = inner_fewer n e.1 in
+    let f = times-append n (names_inside e) (tables_inner more) in
+    let g = placed_less e.0 (inner_names (bare e.1)) (inner_names e.1) (λ m. inner_fewer m e.1) n in
     omega (arith, a, b, p, q, r, x, y, u, v, w, z, f, g)

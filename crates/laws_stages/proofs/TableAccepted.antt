@@ -22,7 +22,7 @@ use Rattle.lq_model.specs.Names.{is_empty, is_in, repeats, times}
 use Rattle.lq_model.specs.Reserved.{is_reserved, takes_lock_key}
 use Rattle.lq_model.specs.Sound.{IsSound, IsSoundTable, are_columns}
 use Rattle.lq_model.specs.Step.{step}
-use Rattle.lq_model.specs.TableNames.{column_lists, column_missing, constraint_names, foreign_names, has_column, inner_names, key_list}
+use Rattle.lq_model.specs.TableNames.{column_lists, column_missing, constraint_names, foreign_names, has_column, inner_names, key_list, placed}
 use Rattle.lq_model.specs.declared.caller.By.TheVariants.{User}
 use Rattle.lq_model.specs.declared.column.ColumnDef.{ColumnDef}
 use Rattle.lq_model.specs.declared.constraint.ForeignKey.{ForeignKey}
@@ -106,7 +106,7 @@ module _ (c : Catalogue) (done : List (Name × Table)) (e : Name × Table) (more
   once_only (Some k) = refl
 
   -- none of these names is taken
-  names_free : (ns : List Name) → ((n : Name) → times n ns ≤ times n (inner_names (bare e.1))) → AreApart Postgresql c → list_any (λ n. is_named e.0 n || is_in n (shared_names (stage c.sequences done))) ns ≡ false
+  names_free : (ns : List Name) → ((n : Name) → times n ns ≤ times n (placed e.0 (inner_names (bare e.1)))) → AreApart Postgresql c → list_any (λ n. is_named e.0 n || is_in n (shared_names (stage c.sequences done))) ns ≡ false
   names_free [] few apart = refl
   names_free (m ∷ ns) few apart =
       let f = few m in
@@ -126,7 +126,7 @@ module _ (c : Catalogue) (done : List (Name × Table)) (e : Name × Table) (more
           absurd (omega (arith, f, a, b, o, p))
 
   pub not_clashing : (d : Dialect) → AreApart d c → are_clashing d e.0 (bare e.1) (stage c.sequences done) ≡ false
-  not_clashing Postgresql apart = or_false _ _ (once_only (own_key e.1)) (names_free (inner_names (bare e.1)) (λ n. omega arith) apart)
+  not_clashing Postgresql apart = or_false _ _ (once_only (own_key e.1)) (names_free (placed e.0 (inner_names (bare e.1))) (λ n. omega arith) apart)
   not_clashing Mysql apart = refl
 
   module _ (d : Dialect) (sound : IsSound d c) (defs : List ColumnDef) (key : Option Key) (made : new_table defs key [] [] ≡ bare e.1)
@@ -135,7 +135,7 @@ module _ (c : Catalogue) (done : List (Name × Table)) (e : Name × Table) (more
       (right : (list_any (λ (x : ColumnDef). is_wrong (into_kind (literal_of x) x.kind)) defs || (list_any numbers_wrongly defs || repeats_number defs)) ≡ false)
       (wide : list_any (λ (x : ColumnDef). is_wide (into_kind (literal_of x) x.kind)) defs ≡ false)
       (reserved : is_reserved User (e.0 ∷ constraint_names (bare e.1) ++ []) ≡ false)
-      (lock : takes_lock_key User d (e.0 ∷ inner_names (bare e.1)) ≡ false) where
+      (lock : takes_lock_key User d (e.0 ∷ placed e.0 (inner_names (bare e.1))) ≡ false) where
     pub table_accepted : step User d (CreateTable e.0 defs key [] []) (stage c.sequences done) ≡ Ok (stage c.sequences (done ++ e ∷ []), 0)
     table_accepted =
         let g = stage c.sequences done in
@@ -145,7 +145,7 @@ module _ (c : Catalogue) (done : List (Name × Table)) (e : Name × Table) (more
         accepts d (create_table User d e.0 defs key [] [] g) after (stage_sound d c sound (done ++ e ∷ []) more now (stage_apart d c (done ++ e ∷ []) more now sound.apart)) result (record {
           reserved = ap (λ x. is_reserved User (e.0 ∷ constraint_names x ++ [])) made ∙ reserved;
           missing = ap (λ x. lacks_own x || false) made ∙ or_false _ _ (or_false _ _ (lists_there (bare e.1) (column_lists (bare e.1)) bare_fine.lists) refl) refl;
-          exists = ap (λ x. is_taken d e.0 g || (are_clashing d e.0 x g || (takes_lock_key User d (e.0 ∷ inner_names x) || lists_twice x))) made
+          exists = ap (λ x. is_taken d e.0 g || (are_clashing d e.0 x g || (takes_lock_key User d (e.0 ∷ placed e.0 (inner_names x)) || lists_twice x))) made
               ∙ or_false _ _ (not_taken d sound.apart) (or_false _ _ (not_clashing d sound.apart) (or_false _ _ lock (or_false _ _ bare_fine.differ (or_false _ _ (lists_once (bare e.1) (column_lists (bare e.1)) bare_fine.lists) refl))));
           depends = depends;
           wrong = right;

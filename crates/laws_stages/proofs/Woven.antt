@@ -15,9 +15,10 @@ use Rattle.lq_base.specs.declared.value.Value.{Value}
 use Rattle.lq_model.proofs.Counts.{once}
 use Rattle.lq_model.proofs.Decide.{IsSettled}
 use Rattle.lq_model.proofs.Lists.{and_left, and_right, any-append, named_itself, or_false}
+use Rattle.lq_model.proofs.Places.{placed_less}
 use Rattle.lq_model.proofs.Times.{times-append}
 use Rattle.lq_model.specs.Catalogue.{Catalogue, Sequence, Table, View, no_table, table_of, the_table, with_table}
-use Rattle.lq_model.specs.NameSpaces.{AreApart, all_foreign_names, object_names, shared_names}
+use Rattle.lq_model.specs.NameSpaces.{AreApart, all_foreign_names, names_inside, object_names, shared_names}
 use Rattle.lq_model.specs.Names.{times}
 use Rattle.lq_model.specs.ResultTests.{has_null, has_orphan, has_orphans, has_twins, is_full, is_loose, is_overfull, lacks_parent, misses_target, table_has_null, table_has_twins, unique_lists}
 use Rattle.lq_model.specs.Row.{has_bad_null, has_equals, picked}
@@ -70,9 +71,9 @@ module _ (F : Table → Table) (part : (it : Table) → IsPart (F it) it) (n : N
   pub inner_on : (es : List (Name × Table)) → times n (tables_inner (map (on F) es)) ≤ times n (tables_inner es)
   inner_on [] = omega arith
   inner_on (x ∷ es) =
-      let a = times-append n (inner_names (F x.1)) (tables_inner (map (on F) es)) in
-      let b = times-append n (inner_names x.1) (tables_inner es) in
-      let c = (part x.1).inner n in
+      let a = times-append n (names_inside (x.0, F x.1)) (tables_inner (map (on F) es)) in
+      let b = times-append n (names_inside x) (tables_inner es) in
+      let c = placed_less x.0 (inner_names (F x.1)) (inner_names x.1) (part x.1).inner n in
       let r = inner_on es in
       omega (arith, a, b, c, r)
 
@@ -132,7 +133,7 @@ module _ (d : Dialect) (c : Catalogue) (done : List (Name × Table)) (e : Name �
   -- no name stands there more often than in the whole, as far as the one table goes
 
   module _ (n : Name) (p : Table) where
-    pub shared_woven : times n (shared_names (woven p)) + times n (inner_names e.1) ≤ times n (shared_names c) + times n (inner_names p)
+    pub shared_woven : times n (shared_names (woven p)) + times n (names_inside e) ≤ times n (shared_names c) + times n (names_inside (e.0, p))
     shared_woven =
         let own = map (λ (x : Name × Table). x.0) (map (on F) done ++ (e.0, p) ∷ map (on B) more) in
         let vs = map (λ (x : Name × View). x.0) c.views in
@@ -152,8 +153,8 @@ module _ (d : Dialect) (c : Catalogue) (done : List (Name × Table)) (e : Name �
         let w : times n (tables_inner c.tables) ≡ times n (tables_inner (done ++ e ∷ more)) = ap (λ es. times n (tables_inner es)) is in
         let z = inner_split n done (e ∷ more) in
         let z2 = inner_split n (map (on F) done) ((e.0, p) ∷ map (on B) more) in
-        let m = times-append n (inner_names e.1) (tables_inner more) in
-        let m2 = times-append n (inner_names p) (tables_inner (map (on B) more)) in
+        let m = times-append n (names_inside e) (tables_inner more) in
+        let m2 = times-append n (names_inside (e.0, p)) (tables_inner (map (on B) more)) in
         let i1 = inner_on F front n done in
         let i2 = inner_on B back n more in
         omega (arith, a, b, g, h, r, u, v, v2, k1, k2, w, z, z2, m, m2, i1, i2)

@@ -7,6 +7,7 @@ use Rattle.lq_model.specs.Catalogue.{Catalogue, Sequence, Table, View}
 use Rattle.lq_model.specs.Reserved.{is_reserved, takes_lock_key}
 use Rattle.lq_model.specs.Sound.{IsSound}
 use Rattle.lq_model.specs.Step.{run}
+use Rattle.lq_model.specs.TableNames.{placed}
 use Rattle.lq_model.specs.declared.caller.By.TheVariants.{User}
 use Rattle.lq_model.specs.declared.column.Column.{Column}
 use Rattle.lq_model.specs.declared.constraint.ForeignKey.{ForeignKey}
@@ -68,7 +69,7 @@ aims e = map (λ f. AddForeignKey e.0 f) e.1.foreign
 -- no name that a table's things have is reserved, nor the lock table's key
 
 abbrev pub IsFreeName : Dialect → Name → Name → Type 0
-IsFreeName d t n = (is_reserved User (t ∷ n ∷ []) ≡ false) × (takes_lock_key User d (n ∷ []) ≡ false)
+IsFreeName d t n = (is_reserved User (t ∷ n ∷ []) ≡ false) × (takes_lock_key User d (placed t (n ∷ [])) ≡ false)
 
 pub record AreFree (d : Dialect) (e : Name × Table) : Type 0 where
   pub key : (k : Key) → e.1.key ≡ Some k → IsFreeName d e.0 k.name

@@ -107,16 +107,19 @@ module _ (d : Dialect) where
     pub more_since : (entries after : List Entry) (database now : Database) (calls : List Call) (written : Journal) (since : Since before start entries database) → calls_fit d calls (session_on database) ≡ true
         → IsLeft d calls database [] written → after ≡ entries ++ entries_of d written → all_done d (joined written) database ≡ Ok now
         → (more : Since before start after now) × (last_or None (joined more.written) ≡ last_or (last_or None (joined since.written)) (joined written))
-    more_since entries after database now calls written since fit left are led = (record {
-      written = since.written ++ written;
-      are =
-          are
-          ∙ ap (λ (es : List Entry). es ++ entries_of d written) since.are
-          ∙ append_assoc before (entries_of d since.written) (entries_of d written)
-          ∙ ap (λ (es : List Entry). before ++ es) (sym (map-append (entry_of d) since.written written));
-      led = ap (λ (deeds : List Deed). all_done d deeds start) (joined_both since.written written) ∙ done_both d (joined since.written) (joined written) start ∙ ap (next d (joined written)) since.led ∙ led;
-      read = subst (AreReadBack d) (sym (joined_both since.written written)) (both_read (joined since.written) (joined written) since.read (as_read (joined written) (left_read read d calls database fit written left)));
-    }, last_more since.written written)
+    more_since entries after database now calls written since fit left are led = (
+      record {
+        written = since.written ++ written;
+        are =
+            are
+            ∙ ap (λ (es : List Entry). es ++ entries_of d written) since.are
+            ∙ append_assoc before (entries_of d since.written) (entries_of d written)
+            ∙ ap (λ (es : List Entry). before ++ es) (sym (map-append (entry_of d) since.written written));
+        led = ap (λ (deeds : List Deed). all_done d deeds start) (joined_both since.written written) ∙ done_both d (joined since.written) (joined written) start ∙ ap (next d (joined written)) since.led ∙ led;
+        read = subst (AreReadBack d) (sym (joined_both since.written written)) (both_read (joined since.written) (joined written) since.read (as_read (joined written) (left_read read d calls database fit written left)));
+      },
+      last_more since.written written,
+    )
 
   -- what a stop has behind a journal
   pub left_on : (calls : List Call) (database : Database) (before after : Journal) → IsLeft d calls database before after → (written : Journal) × (after ≡ before ++ written) × IsLeft d calls database [] written

@@ -7,6 +7,7 @@ use Rattle.lq_base.specs.declared.literal.Literal.TheVariants.{Int, Fixed}
 use Rattle.lq_base.specs.declared.value.Value.{Value}
 use Rattle.lq_base.specs.Kind.{is_kind, kind_of, kind_text}
 use Rattle.lq_base.specs.Moment.{IsMoment, moment_of, moment_text}
+use Rattle.lq_base.specs.Name.{is_name, is_name_key, schema_of, text_of, within}
 use Rattle.lq_base.specs.Number.{number_of, whole_text, fixed_text}
 use Rattle.lq_base.specs.Spells.{SpellsNumber, SpellsMoment, NamesKind}
 use Rattle.lq_base.specs.Value.{is_value_of, into_kind}
@@ -53,3 +54,13 @@ WholeReadsBack = (n : ℤ) → unsigned_abs n < 10 ^ 38 → SpellsNumber (whole_
 -- so does that of a decimal number of at most 38 digits, where one digit at least is left before its dot
 abbrev pub FixedReadsBack : Type 0
 FixedReadsBack = (units : ℤ) (scale : ℕ) → unsigned_abs units < 10 ^ 38 → 0 < scale → scale < 38 → SpellsNumber (fixed_text units scale) (Fixed units scale)
+
+-- a key tells the schema and the text of its name
+abbrev pub KeysTellNames : Type 0
+KeysTellNames = (schema text : List ℕ) → is_name schema ≡ true → is_name text ≡ true
+    → (is_name_key (within schema text) ≡ true) × (schema_of (within schema text) ≡ schema) × (text_of (within schema text) ≡ text)
+
+-- and is made of them
+abbrev pub NamesTellKeys : Type 0
+NamesTellKeys = (key : List ℕ) → is_name_key key ≡ true
+    → (is_name (schema_of key) ≡ true) × (is_name (text_of key) ≡ true) × (within (schema_of key) (text_of key) ≡ key)

@@ -1,7 +1,7 @@
 //! What holds of the definitions that the contracts cite. Each function is empty: its contract is
 //! the law.
 
-ghost use Rattle.lq_base.specs.Laws.{IntoIsValue, MomentReadsBack, NumberOfSpells, SpellsGivesNumberOf, MomentOfSpells, SpellsGivesMomentOf, KindOfNames, NamesGiveKindOf, KindReadsBack, WholeReadsBack, FixedReadsBack};
+ghost use Rattle.lq_base.specs.Laws.{IntoIsValue, MomentReadsBack, NumberOfSpells, SpellsGivesNumberOf, MomentOfSpells, SpellsGivesMomentOf, KindOfNames, NamesGiveKindOf, KindReadsBack, WholeReadsBack, FixedReadsBack, KeysTellNames, NamesTellKeys};
 
 /// What a literal becomes in a kind is null or a value of the kind.
 pub fn into_is_value()
@@ -57,4 +57,14 @@ pub fn whole_reads_back()
 /// spells it. (38 after it and the 0 before it would be 39.)
 pub fn fixed_reads_back()
     ensures { FixedReadsBack }
+{}
+
+/// The key of a text in a schema is that of a name, and tells both.
+pub fn keys_tell_names()
+    ensures { KeysTellNames }
+{}
+
+/// The key of a name is that of its text in its schema.
+pub fn names_tell_keys()
+    ensures { NamesTellKeys }
 {}

@@ -18,6 +18,7 @@ mod moment;
 mod name;
 mod number;
 mod parts;
+mod places;
 mod reason;
 mod run;
 mod text;
@@ -42,6 +43,7 @@ pub use number::{
     read_number, value_after,
 };
 pub use parts::{both, cut};
+pub use places::{is_placed, placed};
 pub use reason::Reason;
 pub use run::{Did, Happened, OnFail, Printed, Why};
 pub use sqlite_items::{Boxed, Items};

@@ -20,13 +20,12 @@ use Rattle.lq_model.proofs.Kept.{lookup_other}
 use Rattle.lq_model.proofs.Lists.{and_left, and_right, and_true, or_false, true_false}
 use Rattle.lq_model.proofs.Maps.{lookup-set_value, none_if, not_some, some_same}
 use Rattle.lq_model.specs.Catalogue.{Catalogue, Table, table_of, with_table}
-use Rattle.lq_model.specs.NameSpaces.{is_taken}
+use Rattle.lq_model.specs.NameSpaces.{is_taken, names_inside}
 use Rattle.lq_model.specs.Names.{is_empty, is_in}
 use Rattle.lq_model.proofs.Decide.{IsSettled}
 use Rattle.lq_model.specs.Sound.{IsSound}
 use Rattle.lq_model.specs.Step.{step}
 use Rattle.lq_model.specs.declared.statement.Statement.TheVariants.{Update}
-use Rattle.lq_model.specs.TableNames.{inner_names}
 use Rattle.lq_model.specs.declared.caller.By.TheVariants.{Program}
 use Rattle.lq_track.specs.Columns.{moment_or_null, text_or_null}
 use Rattle.lq_track.specs.Database.{Database, has_rows, is_lock, lock_from, lock_in, lock_in_rows, moment_in, rows_from, text_in}
@@ -255,11 +254,11 @@ module _ (d : Dialect) (c : Catalogue) (database : Database) (stands : StandsFor
       (subst (λ x. StandsFor d (with_log d c lock' database.lock so sound read named) x) (ap (λ (x : Database). record x { has_log = true }) (sym (database_is d c database stands)))
       (stands_with d c database stands (with_log d c lock' database.lock so sound read named) (Some log_bare) lock' database.rows database.lock (log_beside d c lock' database.lock so sound read named) (log_users d c lock' database.lock so sound read named) rows read stands.few))
 
-  log_inner : (n : Name) → list_any (λ (e : Name × Table). is_in n (inner_names e.1)) (both_there log' None) ≡ false
+  log_inner : (n : Name) → list_any (λ (e : Name × Table). is_in n (names_inside e)) (both_there log' None) ≡ false
   log_inner n = at log' refl where
-    at : (o : Option Table) → log' ≡ o → list_any (λ (e : Name × Table). is_in n (inner_names e.1)) (both_there o None) ≡ false
+    at : (o : Option Table) → log' ≡ o → list_any (λ (e : Name × Table). is_in n (names_inside e)) (both_there o None) ≡ false
     at None is = refl
-    at (Some it) is = or_false _ _ (ap (λ (x : Table). is_in n (inner_names x)) (log_made_so it database.rows (ap rows_from (sym is) ∙ rows_read d c database stands)).1) refl
+    at (Some it) is = or_false _ _ (ap (λ (x : Table). is_in n (names_inside (log_table, x))) (log_made_so it database.rows (ap rows_from (sym is) ∙ rows_read d c database stands)).1) refl
 
   pub lock_told : fits_lock LockMade database ≡ true → Agrees d (done d (Locks LockMade) database) (step Program d (lock_made d) c)
   lock_told fit =

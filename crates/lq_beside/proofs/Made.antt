@@ -13,13 +13,13 @@ use Rattle.lq_model.proofs.Lists.{and_left, any-append, and_true, or_false, or_l
 use Rattle.lq_model.proofs.Maps.{any_none-insert_entry, found, lookup-insert_entry, sorted-insert_entry}
 use Rattle.lq_model.specs.Catalogue.{Catalogue, Table, table_of, with_new}
 use Rattle.lq_model.specs.CreateTable.{create_table, lists_twice}
-use Rattle.lq_model.specs.NameSpaces.{are_clashing, is_taken, object_names, shared_names}
+use Rattle.lq_model.specs.NameSpaces.{are_clashing, is_taken, names_inside, object_names, shared_names}
 use Rattle.lq_model.specs.Names.{is_in}
 use Rattle.lq_model.specs.Plan.{Plan}
 use Rattle.lq_model.specs.Reserved.{takes_lock_key}
 use Rattle.lq_model.specs.Sound.{IsSound}
 use Rattle.lq_model.specs.Step.{step}
-use Rattle.lq_model.specs.TableNames.{inner_names}
+use Rattle.lq_model.specs.TableNames.{inner_names, placed}
 use Rattle.lq_model.specs.declared.caller.By.TheVariants.{Program}
 use Rattle.lq_track.specs.Database.{lock_from}
 use Rattle.lq_track.specs.Lock.{lock_column, lock_key, lock_key_name, lock_order, lock_table}
@@ -40,9 +40,10 @@ log_bare = log_at 1 []
 abbrev pub lock_bare : Dialect → Table
 lock_bare d = lock_at d 1 []
 
-lock_inner : (d : Dialect) (n : Name) → is_named n (lock_key_name d) ≡ false → (lock : Option Table) (l : Lock) → lock_from d lock ≡ Some l → list_any (λ (e : Name × Table). is_in n (inner_names e.1)) (both_there None lock) ≡ false
+lock_inner : (d : Dialect) (n : Name) → is_named n (lock_key_name d) ≡ false → (lock : Option Table) (l : Lock) → lock_from d lock ≡ Some l → list_any (λ (e : Name × Table). is_in n (names_inside e)) (both_there None lock) ≡ false
+unfolding lock_table
 lock_inner d n apart None l h = refl
-lock_inner d n apart (Some it) l h = or_false _ _ (ap (λ (x : Table). is_in n (inner_names x)) (lock_made_so d it l h).0 ∙ or_false _ _ apart refl) refl
+lock_inner d n apart (Some it) l h = or_false _ _ (ap (λ (x : Table). is_in n (names_inside (lock_table, x))) (lock_made_so d it l h).0 ∙ or_false _ _ apart refl) refl
 
 log_apart : (d : Dialect) → is_named log_table (lock_key_name d) ≡ false
 unfolding log_table lock_key_name
@@ -107,26 +108,26 @@ module _ (d : Dialect) (c : Catalogue) (lock : Option Table) (l : Lock) (so : Is
   unfolding log_plan
   log_run = settles log_plan (subst IsSettled (sym log_result) (settled_beside d (both_there (Some log_bare) lock) with_log log_beside (subst (IsSound d) (sym log_users) sound))) log_unopposed ∙ ap (λ e. Ok (e, 0)) log_result
 
-key_free : (c : Catalogue) (log : Option Table) → IsBeside Postgresql (both_there log None) c → ((n : Name) → list_any (λ (e : Name × Table). is_in n (inner_names e.1)) (both_there log None) ≡ false) → list_any (λ n. is_taken Postgresql n (users c)) (own_names Postgresql) ≡ false → is_in (lock_key_name Postgresql) (shared_names c) ≡ false
+key_free : (c : Catalogue) (log : Option Table) → IsBeside Postgresql (both_there log None) c → ((n : Name) → list_any (λ (e : Name × Table). is_in n (names_inside e)) (both_there log None) ≡ false) → list_any (λ n. is_taken Postgresql n (users c)) (own_names Postgresql) ≡ false → is_in (lock_key_name Postgresql) (shared_names c) ≡ false
 unfolding log_table lock_table lock_key_name
 key_free c log so inner free =
     let key = lock_key_name Postgresql in
     let key_is : is_taken Postgresql key (users c) ≡ false = or_left _ _ (or_right (is_taken Postgresql lock_table (users c)) _ (or_right (is_taken Postgresql log_table (users c)) _ free)) in
-    let objects = or_left _ _ (sym (any-append (is_named key) (object_names (users c)) (flat_map (λ (e : Name × Table). inner_names e.1) (users c).tables)) ∙ key_is) in
+    let objects = or_left _ _ (sym (any-append (is_named key) (object_names (users c)) (flat_map names_inside (users c).tables)) ∙ key_is) in
     let keys = or_left _ _ (sym (any-append (is_named key) (map (λ (e : Name × Table). e.0) (users c).tables) (map (λ e. e.0) c.views ++ map (λ e. e.0) c.sequences)) ∙ objects) in
     free_in Postgresql (both_there log None) c so key (none_is (table_of c key) (ap is_some (sym (table_same c key refl)) ∙ sym (found key (users c).tables) ∙ keys)) (inner key) key_is where
       none_is : (o : Option Table) → is_some o ≡ false → is_none o ≡ true
       none_is None h = refl
       none_is (Some it) h = sym h
 
-lock_clash : (d : Dialect) (c : Catalogue) (log : Option Table) → IsBeside d (both_there log None) c → ((n : Name) → list_any (λ (e : Name × Table). is_in n (inner_names e.1)) (both_there log None) ≡ false) → list_any (λ n. is_taken d n (users c)) (own_names d) ≡ false
-    → (are_clashing d lock_table (lock_bare d) c || (takes_lock_key Program d (lock_table ∷ inner_names (lock_bare d)) || lists_twice (lock_bare d))) ≡ false
+lock_clash : (d : Dialect) (c : Catalogue) (log : Option Table) → IsBeside d (both_there log None) c → ((n : Name) → list_any (λ (e : Name × Table). is_in n (names_inside e)) (both_there log None) ≡ false) → list_any (λ n. is_taken d n (users c)) (own_names d) ≡ false
+    → (are_clashing d lock_table (lock_bare d) c || (takes_lock_key Program d (lock_table ∷ placed lock_table (inner_names (lock_bare d))) || lists_twice (lock_bare d))) ≡ false
 unfolding lock_table lock_column lock_order lock_key_name
 lock_clash Postgresql c log so inner free = or_false _ _ (or_false _ _ refl (or_false _ _ (or_false _ _ refl (key_free c log so inner free)) refl)) refl
 lock_clash Mysql c log so inner free = refl
 
 module _ (d : Dialect) (c : Catalogue) (log : Option Table) (so : IsBeside d (both_there log None) c) (sound : IsSound d (users c))
-    (log_inner : (n : Name) → list_any (λ (e : Name × Table). is_in n (inner_names e.1)) (both_there log None) ≡ false) (free : list_any (λ n. is_taken d n (users c)) (own_names d) ≡ false) where
+    (log_inner : (n : Name) → list_any (λ (e : Name × Table). is_in n (names_inside e)) (both_there log None) ≡ false) (free : list_any (λ n. is_taken d n (users c)) (own_names d) ≡ false) where
   abbrev pub with_lock : Catalogue
   with_lock = with_new c lock_table (lock_bare d)
 

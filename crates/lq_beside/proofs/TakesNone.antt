@@ -12,14 +12,13 @@ use Rattle.lq_model.proofs.Lists.{any-append, any_less, or_false, or_left, or_ri
 use Rattle.lq_model.proofs.Maps.{found, none_if, sorted_entries}
 use Rattle.lq_model.proofs.Times.{apart_right, none_times, times-append, times_some}
 use Rattle.lq_model.specs.Catalogue.{Catalogue, Table, table_of}
-use Rattle.lq_model.specs.NameSpaces.{AreApart, is_taken, object_names}
+use Rattle.lq_model.specs.NameSpaces.{AreApart, is_taken, names_inside, object_names}
 use Rattle.lq_model.specs.Names.{is_in, times}
 use Rattle.lq_model.specs.ResultTests.{misses_target}
 use Rattle.lq_model.specs.Sound.{IsSound}
 use Rattle.lq_model.specs.declared.constraint.ForeignKey.{ForeignKey}
 use Rattle.lq_model.specs.Statement.{is_statement}
 use Rattle.lq_model.specs.Step.{step}
-use Rattle.lq_model.specs.TableNames.{inner_names}
 use Rattle.lq_model.specs.declared.caller.By.TheVariants.{Program, User}
 use Rattle.lq_model.specs.declared.statement.Statement.{Statement}
 use Rattle.lq_track.specs.Lock.{free, lock_column, lock_key_name, lock_order, lock_table}
@@ -47,11 +46,11 @@ apart_left : (n : Name) (xs ys : List Name) → times n (xs ++ ys) ≤ 1 → is_
 apart_left n xs ys few there = none_times n xs (omega (arith, times-append n xs ys, few, times_some n ys there))
 
 -- what is taken by entries, as what is taken by those that pass a test and by the others
-parts_times : (r : Name → Bool) (n : Name) (es : List (Name × Table)) → times n (flat_map (λ (e : Name × Table). inner_names e.1) es) ≡ times n (flat_map (λ (e : Name × Table). inner_names e.1) (only r es)) + times n (flat_map (λ (e : Name × Table). inner_names e.1) (only (λ k. not (r k)) es))
+parts_times : (r : Name → Bool) (n : Name) (es : List (Name × Table)) → times n (flat_map names_inside es) ≡ times n (flat_map names_inside (only r es)) + times n (flat_map names_inside (only (λ k. not (r k)) es))
 parts_times r n [] = refl
-parts_times r n (e ∷ es) = elim (r e.0) as (λ b. times n (inner_names e.1 ++ flat_map (λ (x : Name × Table). inner_names x.1) es) ≡ times n (flat_map (λ (x : Name × Table). inner_names x.1) (cond b (e ∷ only r es) (only r es))) + times n (flat_map (λ (x : Name × Table). inner_names x.1) (cond (not b) (e ∷ only (λ k. not (r k)) es) (only (λ k. not (r k)) es)))) [
-  | true ↦ omega (arith, times-append n (inner_names e.1) (flat_map (λ (x : Name × Table). inner_names x.1) es), times-append n (inner_names e.1) (flat_map (λ (x : Name × Table). inner_names x.1) (only r es)), parts_times r n es)
-  | false ↦ omega (arith, times-append n (inner_names e.1) (flat_map (λ (x : Name × Table). inner_names x.1) es), times-append n (inner_names e.1) (flat_map (λ (x : Name × Table). inner_names x.1) (only (λ k. not (r k)) es)), parts_times r n es)
+parts_times r n (e ∷ es) = elim (r e.0) as (λ b. times n (names_inside e ++ flat_map names_inside es) ≡ times n (flat_map names_inside (cond b (e ∷ only r es) (only r es))) + times n (flat_map names_inside (cond (not b) (e ∷ only (λ k. not (r k)) es) (only (λ k. not (r k)) es)))) [
+  | true ↦ omega (arith, times-append n (names_inside e) (flat_map names_inside es), times-append n (names_inside e) (flat_map names_inside (only r es)), parts_times r n es)
+  | false ↦ omega (arith, times-append n (names_inside e) (flat_map names_inside es), times-append n (names_inside e) (flat_map names_inside (only (λ k. not (r k)) es)), parts_times r n es)
 ]
 
 no_key : (c : Catalogue) (n : Name) → is_tracker n ≡ true → is_in n (map (λ (e : Name × Table). e.0) (users c).tables) ≡ false
@@ -64,7 +63,7 @@ abbrev keys : Catalogue → List Name
 keys c = map (λ (e : Name × Table). e.0) c.tables
 
 abbrev inners : List (Name × Table) → List Name
-inners es = flat_map (λ (e : Name × Table). inner_names e.1) es
+inners es = flat_map names_inside es
 
 module _ (c : Catalogue) (n : Name) (is : is_tracker n ≡ true) (there : is_in n (keys c) ≡ true) where
   objects_free : times n (object_names c) ≤ 1 → is_in n (object_names (users c)) ≡ false
@@ -85,7 +84,7 @@ abbrev key : Name
 key = lock_key_name Postgresql
 
 one_key : times key (inners (both_there (Some log_bare) (Some (lock_bare Postgresql)))) ≡ 1
-unfolding lock_key_name
+unfolding lock_key_name lock_table
 one_key = refl
 
 key_is_free : is_tracker key ≡ false

@@ -1,6 +1,6 @@
 -- What is asked of a statement's result is the same of the users' objects in it.
 use Rattle.std.proofs.Common.{ap, subst, sym, ◌∙◌}
-use Rattle.std.specs.List.{list_any}
+use Rattle.std.specs.List.{list_all, list_any}
 use Rattle.std.specs.Option.{unwrap_or}
 use Rattle.std.specs.Prelude.{Bool, Err, List, [], cond, false, not, refl, true, ℕ, ◌&&◌, ◌∷◌, ◌≡◌}
 use Rattle.lq_base.specs.Name.{is_named}
@@ -14,7 +14,7 @@ use Rattle.lq_model.specs.Reasons.{unless}
 use Rattle.lq_model.specs.ResultTests.{has_null, has_orphan, has_twins, is_full, is_loose, is_overfull, lacks_parent, misses_target, table_has_null, table_has_twins}
 use Rattle.lq_model.specs.TableNames.{target_lists}
 use Rattle.lq_model.specs.declared.constraint.ForeignKey.{ForeignKey}
-use Rattle.lq_model.proofs.Lists.{and_left, and_no_right, and_right, any_none, any_same, same_name, true_false}
+use Rattle.lq_model.proofs.Lists.{and_left, and_no_right, and_right, any_none, any_same, or_false, same_name, true_false}
 use Rattle.lq_track.specs.Database.{has_no_more}
 use Rattle.lq_beside.specs.Beside.{IsBeside, SameAnswer, is_harmless, is_tracker, is_users, only, takes_no_name, targets_tracker, users}
 use Rattle.lq_beside.proofs.Parts.{any_alike, any_filtered, any_only, lookup_in}
@@ -81,6 +81,17 @@ module _ (d : Dialect) (ts : List (Name × Table)) (c : Catalogue) (so : IsBesid
   pub any_users : (g : Name × Table → Bool) → ((k : Name) (it : Table) → is_harmless d it ≡ true → g (k, it) ≡ false) → list_any g (users c).tables ≡ list_any g c.tables
   any_users g out = any_only (λ e. is_users e.0) g c.tables
       (ap (list_any g) (not_users c.tables ∙ so.are) ∙ any_none g (λ e. is_harmless d e.1) ts (λ e h. out e.0 e.1 h) so.harmless)
+
+  -- and what no harmless tracking table has
+  pub any_users_at : (g : Name × Table → Bool) → ((k : Name) (it : Table) → is_tracker k ≡ true → is_harmless d it ≡ true → g (k, it) ≡ false) → list_any g (users c).tables ≡ list_any g c.tables
+  any_users_at g out = any_only (λ e. is_users e.0) g c.tables
+      (ap (list_any g) (not_users c.tables) ∙ each c.tables (ap (list_all (λ (e : Name × Table). is_harmless d e.1)) so.are ∙ so.harmless)) where
+        each : (es : List (Name × Table)) → list_all (λ e. is_harmless d e.1) (only is_tracker es) ≡ true → list_any g (only is_tracker es) ≡ false
+        each [] h = refl
+        each (e ∷ es) h = elim (is_tracker e.0) as (λ b. is_tracker e.0 ≡ b → list_all (λ x. is_harmless d x.1) (cond b (e ∷ only is_tracker es) (only is_tracker es)) ≡ true → list_any g (cond b (e ∷ only is_tracker es) (only is_tracker es)) ≡ false) [
+          | true ↦ λ is all. or_false _ _ (out e.0 e.1 is (and_left (is_harmless d e.1) _ all)) (each es (and_right (is_harmless d e.1) _ all))
+          | false ↦ λ is all. each es all
+        ] refl h
 
   pub users_aimed : list_any (λ e. targets_tracker e.1) (users c).tables ≡ false
   users_aimed = any_filtered (λ e. is_users e.0) (λ e. targets_tracker e.1) c.tables so.aimed

@@ -9,7 +9,7 @@ use lib.IntN.{negsuc}
 use Rattle.std.proofs.lemmas.Bool.{leb-true, ltb-true}
 use Rattle.std.proofs.lemmas.Int.{to_z-of_z}
 use Rattle.std.specs.Str.{is_utf8}
-use Rattle.lq_base.specs.Name.{is_name}
+use Rattle.lq_base.specs.Name.{is_name_key}
 use Rattle.lq_base.specs.Value.{is_int64}
 use Rattle.lq_codec.proofs.Laws.{and_left, and_right, both_true, is_counted, is_mapped, is_only_if, some_is}
 use Rattle.lq_codec.specs.Codec.{IsCodec, counted, only_if}
@@ -120,7 +120,7 @@ is_text = is_only_if is_utf8 (counted count byte) (is_counted byte is_byte count
 
 pub is_name_codec : IsCodec name
 unfolding name
-is_name_codec = is_only_if is_name text is_text
+is_name_codec = is_only_if is_name_key text is_text
 
 truth_there : (b : Bool) (n : ℕ) → place_of_truth b ≡ Some n → truth_of_place n ≡ b
 truth_there false n is = ap truth_of_place (sym (some_is 0 n is))

@@ -4,7 +4,7 @@ use Rattle.std.specs.List.{list_all, list_any}
 use Rattle.std.specs.Ordering.{int_eq}
 use Rattle.std.specs.Prelude.{Bool, List, not, pos, ◌&&◌}
 use Rattle.lq_base.specs.Kind.{is_kind}
-use Rattle.lq_base.specs.Name.{name_cmp}
+use Rattle.lq_base.specs.Name.{is_elsewhere, name_cmp}
 use Rattle.lq_base.specs.declared.dialect.Dialect.{Dialect}
 use Rattle.lq_base.specs.declared.dialect.Dialect.TheVariants.{Mysql, Postgresql}
 use Rattle.lq_base.specs.declared.name.Name.{Name}
@@ -13,8 +13,8 @@ use Rattle.lq_model.specs.NameSpaces.{all_foreign_names, object_names, shared_na
 use Rattle.lq_model.specs.Names.{is_empty, repeats}
 use Rattle.lq_model.specs.ResultTests.{has_null, has_orphans, has_twins, is_loose, is_overfull}
 use Rattle.lq_model.specs.Row.{row_fits}
-use Rattle.lq_model.specs.Sound.{are_columns, default_fits, is_key_name, is_not_null, is_numbered_well, is_unlike, is_view, may_have}
-use Rattle.lq_model.specs.TableNames.{column_lists, column_names, constraint_names, index_names, key_list}
+use Rattle.lq_model.specs.Sound.{are_columns, default_fits, is_key_name, is_not_null, is_numbered_well, is_unlike, is_view, may_have, may_name}
+use Rattle.lq_model.specs.TableNames.{column_lists, column_names, constraint_names, index_names, key_list, own_names as all_names}
 
 -- the names of one table that have to differ
 abbrev pub own_names : Dialect → Table → List Name
@@ -44,7 +44,8 @@ abbrev pub has_sound_lists : Dialect → Table → Bool
 has_sound_lists d it =
     are_lists it
     && (is_key_well d it
-    && (list_all (is_numbered_well it) it.columns && not (repeats (own_names d it))))
+    && (list_all (is_numbered_well it) it.columns
+    && (not (repeats (own_names d it)) && not (list_any is_elsewhere (all_names it)))))
 
 abbrev pub is_sound_table : Dialect → Table → Bool
 is_sound_table d it = has_sound_columns it && has_sound_lists d it
@@ -71,7 +72,8 @@ has_sound_objects d c =
     list_all (λ e. is_sound_table d e.1) c.tables
     && (list_all (λ e. is_view c e.1) c.views
     && (are_apart d c
-    && (not (list_any (λ e. int_eq e.1.step (pos 0)) c.sequences) && may_have d c.sequences)))
+    && (may_name d (object_names c)
+    && (not (list_any (λ e. int_eq e.1.step (pos 0)) c.sequences) && may_have d c.sequences))))
 
 abbrev pub is_sound : Dialect → Catalogue → Bool
 is_sound d c = are_in_order c && (has_sound_objects d c && has_sound_rows c)

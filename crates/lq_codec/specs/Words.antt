@@ -2,7 +2,7 @@
 use Rattle.std.specs.Prelude.{Bool, List, None, Option, Some, [], bytes_eq, drop, false, if◌then◌else◌, int_le, length, nat_lt, neg_ℤ, pos, suc, take, true, unsigned_abs, zero, ℕ, ℤ, ◌&&◌, ◌-◌, ◌∷◌, ◌^◌}
 use Rattle.std.specs.Int.{cast_signed, cast_unsigned, from_be_bytes, to_be_bytes, w128}
 use Rattle.std.specs.Str.{is_utf8}
-use Rattle.lq_base.specs.Name.{is_name}
+use Rattle.lq_base.specs.Name.{is_name_key}
 use Rattle.lq_base.specs.Value.{is_int64}
 use Rattle.lq_codec.specs.Codec.{Codec, counted, mapped, one, only_if}
 
@@ -64,8 +64,9 @@ byte = record { ok = any_byte; write = λ b. b ∷ []; read = read_byte }
 unfoldable pub text : Codec (List ℕ)
 text = only_if is_utf8 (counted count byte)
 
+-- a name is its key
 unfoldable pub name : Codec (List ℕ)
-name = only_if is_name text
+name = only_if is_name_key text
 
 -- a truth value is the byte 0 or 1
 abbrev pub truth_of_place : ℕ → Bool

@@ -1,8 +1,8 @@
 -- addDefaultValue: a column gets a default.
 use Rattle.std.specs.Option.{option_map}
-use Rattle.std.specs.Prelude.{Bool, Err, List, None, Ok, Option, Result, Some, [], codes, is_none, ◌&&◌, ◌∷◌}
+use Rattle.std.specs.Prelude.{Bool, Err, List, None, Ok, Option, Result, Some, [], codes, is_none, ◌&&◌, ◌++◌, ◌∷◌}
 use Rattle.lq_base.specs.Kind.{is_kind}
-use Rattle.lq_base.specs.Name.{is_name}
+use Rattle.lq_base.specs.Name.{is_name, is_object, text_of, within}
 use Rattle.lq_base.specs.Options.{if_there}
 use Rattle.lq_base.specs.Value.{into_kind}
 use Rattle.lq_base.specs.declared.dialect.Dialect.{Dialect}
@@ -18,12 +18,12 @@ use Rattle.lq_model.specs.Effect.{effect_of}
 use Rattle.lq_model.specs.Kinds.{kind_in}
 use Rattle.lq_model.specs.Literals.{value_in}
 use Rattle.lq_model.specs.Look.{column_at}
-use Rattle.lq_model.specs.Written.{Row, change_of}
+use Rattle.lq_model.specs.Written.{Row, change_of, schema_row}
 use Rattle.lq_model.specs.declared.statement.Statement.{Statement}
 use Rattle.lq_model.specs.declared.statement.Statement.TheVariants as statement
 use Rattle.lq_tree.specs.Found.{Found, Taken, and_then}
 use Rattle.lq_tree.specs.Given.{a_kind, a_name}
-use Rattle.lq_tree.specs.Keys.{Keys, a_change, fields, optional, required, ◌⊛◌}
+use Rattle.lq_tree.specs.Keys.{Keys, a_change_in, fields, optional, required, ◌⊛◌}
 use Rattle.lq_tree.specs.Values.{is_given, literal_of}
 use Rattle.lq_tree.specs.declared.values.GivenValue.{GivenValue}
 use Rattle.lq_columns.specs.DefaultKeys.{default_keys, default_rows}
@@ -32,11 +32,11 @@ use Rattle.lq_columns.specs.declared.add_default_value.AddDefaultValue.{AddDefau
 -- its keys
 
 -- one value has to be there
-abbrev pub stated : Name → Name → Option Kind → Option GivenValue → Found AddDefaultValue
-stated table column kind None = Err (Missing (codes "defaultValue"))
-stated table column kind (Some value) = Ok (record { table_name = table; column_name = column; column_data_type = kind; default_value = value })
+abbrev pub stated : Name → Name → Option Kind → Option GivenValue → Name → Found AddDefaultValue
+stated table column kind None schema = Err (Missing (codes "defaultValue"))
+stated table column kind (Some value) schema = Ok (record { table_name = within schema table; column_name = column; column_data_type = kind; default_value = value })
 
-abbrev pub keys : Keys (Found AddDefaultValue)
+abbrev pub keys : Keys (Name → Found AddDefaultValue)
 keys =
     fields stated
     ⊛ required (codes "tableName") a_name
@@ -45,12 +45,12 @@ keys =
     ⊛ default_keys
 
 -- which is tested after all keys
-unfoldable pub add_default_value : Taken AddDefaultValue
-add_default_value n = and_then (a_change keys n) (λ found. found)
+unfoldable pub add_default_value : Dialect → Taken AddDefaultValue
+add_default_value d n = and_then (a_change_in d keys n) (λ found. found)
 
 -- its names are names, the kind that is stated is a kind, and the value can be written
 abbrev pub is_for : Dialect → AddDefaultValue → Bool
-is_for d x = is_name x.table_name && (is_name x.column_name && (if_there is_kind x.column_data_type && is_given x.default_value))
+is_for d x = is_object d x.table_name && (is_name x.column_name && (if_there is_kind x.column_data_type && is_given x.default_value))
 
 -- what it does
 
@@ -79,10 +79,10 @@ inverse d x = Some (statement.DropDefault x.table_name x.column_name ∷ [])
 
 abbrev pub rows : AddDefaultValue → List Row
 rows x =
-    (codes "tableName", Some (text x.table_name))
+    (codes "tableName", Some (text (text_of x.table_name)))
     ∷ (codes "columnName", Some (text x.column_name))
     ∷ (codes "columnDataType", option_map kind_value x.column_data_type)
-    ∷ default_rows x.default_value
+    ∷ (default_rows x.default_value ++ (codes "schemaName", schema_row x.table_name) ∷ [])
 
 abbrev pub canonical_of : AddDefaultValue → CanonicalChange
 canonical_of x = change_of (codes "addDefaultValue") (rows x)

@@ -2,13 +2,13 @@
 use Rattle.std.proofs.Common.{ap, subst, sym, ◌∙◌}
 use Rattle.std.specs.Prelude.{codes, is_none, refl, true, ◌≡◌}
 use Rattle.lq_base.specs.Kind.{is_kind}
-use Rattle.lq_base.specs.Name.{is_name}
+use Rattle.lq_base.specs.Name.{is_name, is_object}
 use Rattle.lq_base.specs.Options.{if_there}
 use Rattle.lq_base.specs.declared.dialect.Dialect.{Dialect}
 use Rattle.lq_model.proofs.Columns.{each_of_first}
 use Rattle.lq_model.proofs.Effects.{does_so, one_back_where, one_becomes, restores_so, some_same}
 use Rattle.lq_model.proofs.Lists.{and_left, and_right}
-use Rattle.lq_model.proofs.Told.{keys_told, kinds_told, text_told}
+use Rattle.lq_model.proofs.Told.{keys_told, kinds_told, object_told, text_told}
 use Rattle.lq_model.proofs.UndoChanges.{drop_default_after}
 use Rattle.lq_model.specs.Changes.{AreReturns, AreStatements, AreTold, HaveEffect, TakeBack}
 use Rattle.lq_model.specs.Effect.{Becomes, GoesBack}
@@ -25,18 +25,18 @@ use Rattle.std.specs.List.{list_all}
 use Rattle.lq_model.specs.Statement.{is_statement}
 
 -- what is right of it
-record IsRight (x : AddDefaultValue) : Type 0 where
-  table : is_name x.table_name ≡ true
+record IsRight (d : Dialect) (x : AddDefaultValue) : Type 0 where
+  table : is_object d x.table_name ≡ true
   column : is_name x.column_name ≡ true
   kind : if_there is_kind x.column_data_type ≡ true
   value : is_given x.default_value ≡ true
 
-right_of : (d : Dialect) (x : AddDefaultValue) → is_for d x ≡ true → IsRight x
+right_of : (d : Dialect) (x : AddDefaultValue) → is_for d x ≡ true → IsRight d x
 right_of d x h =
-    let a = and_right (is_name x.table_name) _ h in
+    let a = and_right (is_object d x.table_name) _ h in
     let b = and_right (is_name x.column_name) _ a in
     record {
-      table = and_left (is_name x.table_name) _ h;
+      table = and_left (is_object d x.table_name) _ h;
       column = and_left (is_name x.column_name) _ a;
       kind = and_left (if_there is_kind x.column_data_type) _ b;
       value = and_right (if_there is_kind x.column_data_type) _ b;
@@ -72,6 +72,6 @@ told d x y right also e =
     let is : rows x ≡ rows y = keys_told (codes "addDefaultValue") (codes "addDefaultValue") (rows x) (rows y) refl refl e in
     let r = right_of d x right in
     let s = right_of d y also in
-    same x y (text_told (ap (nth_value 0) is)) (text_told (ap (nth_value 1) is))
+    same x y (object_told d x.table_name y.table_name r.table s.table (ap (nth_value 0) is) (ap (nth_value 7) is)) (text_told (ap (nth_value 1) is))
     (kinds_told x.column_data_type y.column_data_type r.kind s.kind (ap (nth_value 2) is))
     (value_told x.default_value y.default_value r.value s.value (ap (nth_value 3) is) (ap (nth_value 4) is) (ap (nth_value 5) is) (ap (nth_value 6) is))

@@ -2,13 +2,15 @@
 use Rattle.std.proofs.Common.{ap}
 use Rattle.std.specs.Prelude.{codes, refl, ◌≡◌}
 use Rattle.lq_model.proofs.Effects.{does_so, one_becomes, restores_so}
-use Rattle.lq_model.proofs.Told.{keys_told, text_told}
+use Rattle.lq_model.proofs.Lists.{and_left}
+use Rattle.lq_model.proofs.Told.{keys_told, object_told, text_told}
 use Rattle.lq_model.specs.Changes.{AreReturns, AreStatements, AreTold, HaveEffect, TakeBack}
 use Rattle.lq_model.specs.Effect.{Becomes, GoesBack}
 use Rattle.lq_model.specs.Written.{nth_value}
 use Rattle.lq_model.specs.declared.statement.Statement.TheVariants as statement
 use Rattle.lq_columns.specs.DropColumn.{becomes, canonical_of, effect, gives, inverse, is_for, is_fresh, rows}
 use Rattle.lq_columns.specs.declared.drop_column.DropColumn.{DropColumn}
+use Rattle.lq_base.specs.Name.{is_object}
 
 pub spelled : AreStatements is_for gives
 spelled d x h = rw h refl
@@ -34,4 +36,4 @@ same x y table column = rw (table, column) refl
 pub told : AreTold is_for canonical_of
 told d x y right also e =
     let is : rows x ≡ rows y = keys_told (codes "dropColumn") (codes "dropColumn") (rows x) (rows y) refl refl e in
-    same x y (text_told (ap (nth_value 0) is)) (text_told (ap (nth_value 1) is))
+    same x y (object_told d x.table_name y.table_name (and_left (is_object d x.table_name) _ right) (and_left (is_object d y.table_name) _ also) (ap (nth_value 0) is) (ap (nth_value 2) is)) (text_told (ap (nth_value 1) is))

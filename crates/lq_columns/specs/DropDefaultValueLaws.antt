@@ -2,12 +2,12 @@
 use Rattle.std.proofs.Common.{ap}
 use Rattle.std.specs.Prelude.{codes, refl, true, ◌≡◌}
 use Rattle.lq_base.specs.Kind.{is_kind}
-use Rattle.lq_base.specs.Name.{is_name}
+use Rattle.lq_base.specs.Name.{is_name, is_object}
 use Rattle.lq_base.specs.Options.{if_there}
 use Rattle.lq_base.specs.declared.dialect.Dialect.{Dialect}
 use Rattle.lq_model.proofs.Effects.{does_so, one_becomes, restores_so}
 use Rattle.lq_model.proofs.Lists.{and_left, and_right}
-use Rattle.lq_model.proofs.Told.{keys_told, kinds_told, text_told}
+use Rattle.lq_model.proofs.Told.{keys_told, kinds_told, object_told, text_told}
 use Rattle.lq_model.specs.Changes.{AreReturns, AreStatements, AreTold, HaveEffect, TakeBack}
 use Rattle.lq_model.specs.Effect.{Becomes, GoesBack}
 use Rattle.lq_model.specs.Written.{nth_value}
@@ -17,8 +17,8 @@ use Rattle.lq_columns.specs.declared.drop_default_value.DropDefaultValue.{DropDe
 
 pub spelled : AreStatements is_for gives
 spelled d x h =
-    let a = and_right (is_name x.table_name) _ h in
-    rw (and_left (is_name x.table_name) _ h, and_left (is_name x.column_name) _ a) refl
+    let a = and_right (is_object d x.table_name) _ h in
+    rw (and_left (is_object d x.table_name) _ h, and_left (is_name x.column_name) _ a) refl
 
 pub returned : AreReturns is_for inverse
 returned d x undoing right taken = absurd Prim.cc
@@ -39,10 +39,10 @@ same : (x y : DropDefaultValue) → x.table_name ≡ y.table_name → x.column_n
 same x y table column kind = rw (table, column, kind) refl
 
 kinded : (d : Dialect) (x : DropDefaultValue) → is_for d x ≡ true → if_there is_kind x.column_data_type ≡ true
-kinded d x h = and_right (is_name x.column_name) _ (and_right (is_name x.table_name) _ h)
+kinded d x h = and_right (is_name x.column_name) _ (and_right (is_object d x.table_name) _ h)
 
 pub told : AreTold is_for canonical_of
 told d x y right also e =
     let is : rows x ≡ rows y = keys_told (codes "dropDefaultValue") (codes "dropDefaultValue") (rows x) (rows y) refl refl e in
-    same x y (text_told (ap (nth_value 0) is)) (text_told (ap (nth_value 1) is))
+    same x y (object_told d x.table_name y.table_name (and_left (is_object d x.table_name) _ right) (and_left (is_object d y.table_name) _ also) (ap (nth_value 0) is) (ap (nth_value 3) is)) (text_told (ap (nth_value 1) is))
     (kinds_told x.column_data_type y.column_data_type (kinded d x right) (kinded d y also) (ap (nth_value 2) is))

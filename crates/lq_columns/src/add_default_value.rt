@@ -5,9 +5,10 @@ ghost use Rattle.lq_columns.specs.AddDefaultValue.{add_default_value, is_for};
 use crate::default_keys::{DefaultAt, default_value};
 use lq_base::{Dialect, Duplicate, Items, Kind, KindFault, Name, NoMemory};
 use lq_model::{
-    Canon, Change, Field, Fields, Look, SqlText, Statement, Undo, kind_field, write_change_of,
+    Canon, Change, Field, Fields, Look, SqlText, Statement, Undo, kind_field, schema_field,
+    write_change_of,
 };
-use lq_tree::{GivenValue, Node, known, missing, optional, public, required};
+use lq_tree::{GivenValue, Node, catalogue, in_schema, known, missing, optional, required, schema};
 use std::alloc::Global;
 
 /// A column gets a default (Liquibase's documentation, "addDefaultValue").
@@ -57,15 +58,17 @@ impl AddDefaultValue {
         dialect: Dialect,
         _sql: &P,
     ) -> Result<AddDefaultValue, KindFault>
-        ensures read { Reads (add_default_value node.now) result }
+        ensures read { Reads (add_default_value dialect node.now) result }
         ensures right { IfOk result (λ x. is_for dialect x ≡ true) }
     {
         known(alloc, node, &KEYS)?;
-        let table_name = required(alloc, node, "tableName")?;
+        let table: Name = required(alloc, node, "tableName")?;
         let column_name = required(alloc, node, "columnName")?;
         let column_data_type = optional(alloc, node, "columnDataType")?;
         let stated = default_value(alloc, node)?;
-        public(alloc, node)?;
+        let schema = schema(alloc, node, dialect, "schemaName")?;
+        catalogue(alloc, node)?;
+        let table_name = in_schema(alloc, dialect, &schema, &table)?;
         let Some(default_value) = stated else {
             return Err(missing(alloc, "defaultValue"));
         };
@@ -131,12 +134,17 @@ impl Change for AddDefaultValue {
 
     fn canon(&self, to: &mut Canon) -> Result<(), NoMemory> {
         let fields = [
-            ("tableName", Some(Field::Text(self.table_name.as_key()))),
+            ("tableName", Some(Field::Text(self.table_name.text()))),
             ("columnName", Some(Field::Text(self.column_name.as_key()))),
             ("columnDataType", kind_field(self.column_data_type)),
         ];
         let default = DefaultAt(&self.default_value);
-        write_change_of(to, "addDefaultValue", &(Fields(&fields), default))
+        let place = [("schemaName", schema_field(&self.table_name))];
+        write_change_of(
+            to,
+            "addDefaultValue",
+            &(Fields(&fields), default, Fields(&place)),
+        )
     }
 
     ghost spelled = { spelled };

@@ -3,8 +3,8 @@ ghost use Rattle.lq_tree.specs.Found.{Reads};
 ghost use Rattle.lq_columns.specs.DropColumn.{is_for, drop_column};
 
 use lq_base::{Dialect, Duplicate, Items, KindFault, Name, NoMemory};
-use lq_model::{Canon, Change, Field, Look, SqlText, Statement, Undo, write_change};
-use lq_tree::{Node, known, public, required};
+use lq_model::{Canon, Change, Field, Look, SqlText, Statement, Undo, schema_field, write_change};
+use lq_tree::{Node, catalogue, in_schema, known, required, schema};
 use std::alloc::Global;
 
 /// A column of a table is dropped (Liquibase's documentation, "dropColumn").
@@ -31,13 +31,15 @@ impl DropColumn {
         dialect: Dialect,
         _sql: &P,
     ) -> Result<DropColumn, KindFault>
-        ensures read { Reads (drop_column node.now) result }
+        ensures read { Reads (drop_column dialect node.now) result }
         ensures right { IfOk result (λ x. is_for dialect x ≡ true) }
     {
         known(alloc, node, &KEYS)?;
-        let table_name = required(alloc, node, "tableName")?;
+        let table: Name = required(alloc, node, "tableName")?;
         let column_name = required(alloc, node, "columnName")?;
-        public(alloc, node)?;
+        let schema = schema(alloc, node, dialect, "schemaName")?;
+        catalogue(alloc, node)?;
+        let table_name = in_schema(alloc, dialect, &schema, &table)?;
         Ok(DropColumn {
             table_name,
             column_name,
@@ -92,8 +94,9 @@ impl Change for DropColumn {
             to,
             "dropColumn",
             &[
-                ("tableName", Some(Field::Text(self.table_name.as_key()))),
+                ("tableName", Some(Field::Text(self.table_name.text()))),
                 ("columnName", Some(Field::Text(self.column_name.as_key()))),
+                ("schemaName", schema_field(&self.table_name)),
             ],
         )
     }

@@ -3,8 +3,10 @@ ghost use Rattle.lq_tree.specs.Found.{Reads};
 ghost use Rattle.lq_columns.specs.DropDefaultValue.{is_for, drop_default_value};
 
 use lq_base::{Dialect, Duplicate, Items, Kind, KindFault, Name, NoMemory};
-use lq_model::{Canon, Change, Field, Look, SqlText, Statement, Undo, kind_field, write_change};
-use lq_tree::{Node, known, optional, public, required};
+use lq_model::{
+    Canon, Change, Field, Look, SqlText, Statement, Undo, kind_field, schema_field, write_change,
+};
+use lq_tree::{Node, catalogue, in_schema, known, optional, required, schema};
 use std::alloc::Global;
 
 /// A column has no default any more (Liquibase's documentation, "dropDefaultValue").
@@ -34,14 +36,16 @@ impl DropDefaultValue {
         dialect: Dialect,
         _sql: &P,
     ) -> Result<DropDefaultValue, KindFault>
-        ensures read { Reads (drop_default_value node.now) result }
+        ensures read { Reads (drop_default_value dialect node.now) result }
         ensures right { IfOk result (λ x. is_for dialect x ≡ true) }
     {
         known(alloc, node, &KEYS)?;
-        let table_name = required(alloc, node, "tableName")?;
+        let table: Name = required(alloc, node, "tableName")?;
         let column_name = required(alloc, node, "columnName")?;
         let column_data_type = optional(alloc, node, "columnDataType")?;
-        public(alloc, node)?;
+        let schema = schema(alloc, node, dialect, "schemaName")?;
+        catalogue(alloc, node)?;
+        let table_name = in_schema(alloc, dialect, &schema, &table)?;
         Ok(DropDefaultValue {
             table_name,
             column_name,
@@ -97,9 +101,10 @@ impl Change for DropDefaultValue {
             to,
             "dropDefaultValue",
             &[
-                ("tableName", Some(Field::Text(self.table_name.as_key()))),
+                ("tableName", Some(Field::Text(self.table_name.text()))),
                 ("columnName", Some(Field::Text(self.column_name.as_key()))),
                 ("columnDataType", kind_field(self.column_data_type)),
+                ("schemaName", schema_field(&self.table_name)),
             ],
         )
     }

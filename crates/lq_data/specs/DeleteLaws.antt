@@ -13,9 +13,10 @@ use Rattle.lq_data.specs.Delete.{becomes, canonical_of, effect, gives, inverse, 
 use Rattle.lq_data.specs.GivenTest.{test_of}
 use Rattle.lq_data.specs.GivenTestLaws.{test_told, where_right}
 use Rattle.lq_data.specs.declared.delete.Delete.{Delete}
+use Rattle.lq_base.proofs.BesideLemmas.{object_of_name}
 
 pub spelled : AreStatements is_for gives
-spelled d x h = rw (and_left (is_name x.table_name) _ h, where_right d x.test (and_right (is_name x.table_name) _ h)) refl
+spelled d x h = rw (object_of_name d x.table_name (and_left (is_name x.table_name) _ h), where_right d x.test (and_right (is_name x.table_name) _ h)) refl
 
 pub returned : AreReturns is_for inverse
 returned d x undoing right taken = absurd Prim.cc

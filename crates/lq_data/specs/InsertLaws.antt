@@ -17,11 +17,12 @@ use Rattle.lq_data.specs.ColumnValueLaws.{columns_told, literals_right, names_ri
 use Rattle.lq_data.specs.Insert.{becomes, canonical_of, effect, gives, inverse, is_for, is_fresh, rows}
 use Rattle.lq_data.specs.declared.column_value.ColumnValue.{ColumnValue}
 use Rattle.lq_data.specs.declared.insert.Insert.{Insert}
+use Rattle.lq_base.proofs.BesideLemmas.{object_of_name}
 
 pub spelled : AreStatements is_for gives
 spelled d x h =
     let some = and_right (is_name x.table_name) _ h in
-    rw (and_left (is_name x.table_name) _ h, names_right x.columns some, some_literals x.columns some, literals_right x.columns some) refl
+    rw (object_of_name d x.table_name (and_left (is_name x.table_name) _ h), names_right x.columns some, some_literals x.columns some, literals_right x.columns some) refl
 
 pub returned : AreReturns is_for inverse
 returned d x undoing right taken = absurd Prim.cc

@@ -18,6 +18,7 @@ use Rattle.lq_data.specs.GivenTest.{is_test, test_of}
 use Rattle.lq_data.specs.GivenTestLaws.{test_told, where_right}
 use Rattle.lq_data.specs.Update.{becomes, canonical_of, effect, gives, inverse, is_for, is_fresh, rows}
 use Rattle.lq_data.specs.declared.update.Update.{Update}
+use Rattle.lq_base.proofs.BesideLemmas.{object_of_name}
 
 -- what is right of one that was read
 record IsRight (d : Dialect) (x : Update) : Type 0 where
@@ -37,7 +38,7 @@ right_of d x h =
 pub spelled : AreStatements is_for gives
 spelled d x h =
     let r = right_of d x h in
-    rw (r.table, some_sets x.columns r.columns, set_names_right x.columns r.columns, set_literals_right x.columns r.columns, where_right d x.test r.test) refl
+    rw (object_of_name d x.table_name r.table, some_sets x.columns r.columns, set_names_right x.columns r.columns, set_literals_right x.columns r.columns, where_right d x.test r.test) refl
 
 pub returned : AreReturns is_for inverse
 returned d x undoing right taken = absurd Prim.cc

@@ -47,8 +47,8 @@ ran d text s h k n at spelled is (meant, new) =
 -- an engine in which nothing was made
 pub nothing_sound : (d : Dialect) → IsSound d no_objects
 unfolding IsStrictlySortedBy
-nothing_sound Postgresql = record { ordered = tt; ordered_views = tt; ordered_sequences = tt; tables = λ t it there. not_some (sym there); views = refl; apart = λ n. omega arith; steps = refl; sequences = refl; no_null = refl; no_twins = refl; aimed = refl; alike = refl; parents = refl; small = refl }
-nothing_sound Mysql = record { ordered = tt; ordered_views = tt; ordered_sequences = tt; tables = λ t it there. not_some (sym there); views = refl; apart = (λ n. omega arith, λ n. omega arith); steps = refl; sequences = refl; no_null = refl; no_twins = refl; aimed = refl; alike = refl; parents = refl; small = refl }
+nothing_sound Postgresql = record { ordered = tt; ordered_views = tt; ordered_sequences = tt; tables = λ t it there. not_some (sym there); views = refl; apart = λ n. omega arith; schemas = refl; steps = refl; sequences = refl; no_null = refl; no_twins = refl; aimed = refl; alike = refl; parents = refl; small = refl }
+nothing_sound Mysql = record { ordered = tt; ordered_views = tt; ordered_sequences = tt; tables = λ t it there. not_some (sym there); views = refl; apart = (λ n. omega arith, λ n. omega arith); schemas = refl; steps = refl; sequences = refl; no_null = refl; no_twins = refl; aimed = refl; alike = refl; parents = refl; small = refl }
 
 folded_step : (d : Dialect) (entry : Placed) (more : List Placed) (c e : Catalogue) → folded d (entry ∷ more) c ≡ Ok e → (f : Catalogue) × (run_texts d entry.texts c ≡ Some f) × (folded d more f ≡ Ok e)
 folded_step d entry more c e h = by (run_texts d entry.texts c) refl h

@@ -71,18 +71,18 @@ module _ (p : List Name → Bool) (keys us : List (List Name)) (u : List Name) w
       ∙ ap (λ b. p u || b) (or_right (list_any p (keys ++ us)) _ all) ∙ or-false (p u)
 
 -- what is found nowhere is found in no less
-pub index_less : (n : Name) (p : List Name → Bool) (is : List Index) → list_any p (map (λ i. i.columns) (filter (λ i. i.unique) is)) ≡ false → list_any p (map (λ i. i.columns) (filter (λ i. i.unique) (filter (λ i. not (is_named n i.name)) is))) ≡ false
-index_less n p [] h = refl
-index_less n p (i ∷ is) h = whether i.unique
+pub index_less : (named : Index → Bool) (p : List Name → Bool) (is : List Index) → list_any p (map (λ i. i.columns) (filter (λ i. i.unique) is)) ≡ false → list_any p (map (λ i. i.columns) (filter (λ i. i.unique) (filter (λ i. not (named i)) is))) ≡ false
+index_less named p [] h = refl
+index_less named p (i ∷ is) h = whether i.unique
     (λ u. let g = ap (λ b. list_any p (map (λ i. i.columns) (cond b (i ∷ filter (λ i. i.unique) is) (filter (λ i. i.unique) is)))) (sym u) ∙ h in
-    elim (is_named n i.name) as (λ b. list_any p (map (λ i. i.columns) (filter (λ i. i.unique) (cond (not b) (i ∷ filter (λ i. not (is_named n i.name)) is) (filter (λ i. not (is_named n i.name)) is)))) ≡ false) [
-      | true ↦ index_less n p is (or_right (p i.columns) _ g)
-      | false ↦ rw (u) (or_false _ _ (or_left (p i.columns) _ g) (index_less n p is (or_right (p i.columns) _ g)))
+    elim (named i) as (λ b. list_any p (map (λ i. i.columns) (filter (λ i. i.unique) (cond (not b) (i ∷ filter (λ i. not (named i)) is) (filter (λ i. not (named i)) is)))) ≡ false) [
+      | true ↦ index_less named p is (or_right (p i.columns) _ g)
+      | false ↦ rw (u) (or_false _ _ (or_left (p i.columns) _ g) (index_less named p is (or_right (p i.columns) _ g)))
     ])
     (λ u. let g = ap (λ b. list_any p (map (λ i. i.columns) (cond b (i ∷ filter (λ i. i.unique) is) (filter (λ i. i.unique) is)))) (sym u) ∙ h in
-    elim (is_named n i.name) as (λ b. list_any p (map (λ i. i.columns) (filter (λ i. i.unique) (cond (not b) (i ∷ filter (λ i. not (is_named n i.name)) is) (filter (λ i. not (is_named n i.name)) is)))) ≡ false) [
-      | true ↦ index_less n p is g
-      | false ↦ rw (u) (index_less n p is g)
+    elim (named i) as (λ b. list_any p (map (λ i. i.columns) (filter (λ i. i.unique) (cond (not b) (i ∷ filter (λ i. not (named i)) is) (filter (λ i. not (named i)) is)))) ≡ false) [
+      | true ↦ index_less named p is g
+      | false ↦ rw (u) (index_less named p is g)
     ])
 
 -- the lists of a table in three parts, of which the first two become less
@@ -216,7 +216,7 @@ module _ (by : By) (d : Dialect) (t : Name) (c : Catalogue) (sound : IsSound d c
       (λ free.
       let there = here c t (or_left _ _ free.missing) in
       same_found d c t sound there new (λ ns. refl) refl _ _ _ (old_nulls d c t sound there new)
-      (same_twins d c t sound there new (λ ns. refl) refl (λ p h. lists_less p keys uniques indexes keys uniques _ (λ e. e) (λ e. e) (index_less n p it.indexes) h)) (λ p h. h))
+      (same_twins d c t sound there new (λ ns. refl) refl (λ p h. lists_less p keys uniques indexes keys uniques _ (λ e. e) (λ e. e) (index_less (λ i. is_named n i.name) p it.indexes) h)) (λ p h. h))
 
   pub add_primary_key_judged : (k : Key) → decide (add_primary_key by d t k c) ≡ judged (add_primary_key by d t k c) (add_primary_key_faults t k c)
   add_primary_key_judged k =

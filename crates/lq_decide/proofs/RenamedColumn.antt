@@ -24,10 +24,10 @@ use Rattle.lq_model.specs.declared.constraint.Key.{Key}
 use Rattle.lq_model.specs.declared.constraint.Unique.{Unique}
 use Rattle.lq_model.specs.declared.index.Index.{Index}
 use Rattle.lq_model.proofs.Decide.{here}
+use Rattle.lq_model.proofs.Entries.{lookup-entries}
 use Rattle.lq_model.proofs.Kept.{never}
 use Rattle.lq_model.proofs.Lists.{and_true, any-map, any_less, any_less_both, any_none, any_same, map-map, map_same, named_itself, not_false, not_true, or_false, or_left, or_right, other_way, same_name, true_false, whether}
 use Rattle.lq_model.proofs.Maps.{below_gone, not_some, sorted_entries}
-use Rattle.lq_model.proofs.UndoRenameColumn.{lookup-entries}
 use Rattle.lq_model.proofs.Untouched.{IsUntouched, aims, not_in_columns, not_in_lists, same_list, unused}
 use Rattle.lq_decide.specs.Faults.{no_faults}
 use Rattle.lq_decide.specs.Judged.{judged}

@@ -6,13 +6,13 @@ use Rattle.std.specs.Option.{option_map}
 use Rattle.std.specs.Ordering.{match_ordering}
 use Rattle.std.specs.Prelude.{Bool, List, None, Option, Some, [], cond, false, is_some, map, not, refl, ◌&&◌, ◌||◌, ◌∷◌, ◌≡◌}
 use Rattle.std.specs.declared.cmp.Ordering.TheVariants.{Equal, Greater, Less}
-use Rattle.lq_base.specs.Name.{is_named, name_cmp}
+use Rattle.lq_base.specs.Name.{beside, is_named, name_cmp}
 use Rattle.lq_base.specs.declared.dialect.Dialect.{Dialect}
 use Rattle.lq_base.specs.declared.name.Name.{Name}
 use Rattle.lq_base.specs.declared.value.Value.{Value}
 use Rattle.lq_model.specs.Catalogue.{Catalogue, Table, no_table, table_of, the_table, with_new, without_table}
 use Rattle.lq_model.specs.CreateTable.{create_table, new_table}
-use Rattle.lq_model.specs.DropConstraint.{drop_index, without_index}
+use Rattle.lq_model.specs.DropConstraint.{drop_index, without_index_in}
 use Rattle.lq_model.specs.DropTable.{drop_table}
 use Rattle.lq_model.specs.Names.{same_names}
 use Rattle.lq_model.specs.Needs.{is_targeted, is_viewed, targets_table}
@@ -27,9 +27,10 @@ use Rattle.lq_model.specs.declared.constraint.ForeignKey.{ForeignKey}
 use Rattle.lq_model.specs.declared.constraint.Key.{Key}
 use Rattle.lq_model.specs.declared.constraint.Unique.{Unique}
 use Rattle.lq_model.proofs.Absent.{free_of, untargeted}
+use Rattle.lq_model.proofs.Entries.{lookup-entries}
 use Rattle.lq_model.proofs.Kept.{never}
 use Rattle.lq_model.proofs.Lists.{any-map, any_less, any_less_both, any_same, named_itself, or_left, or_right, other_way, same_name, whether}
-use Rattle.lq_model.proofs.Maps.{any_none-remove_entry, found, lookup-insert_entry, lookup-remove_entry, lookup-values, sorted_entries}
+use Rattle.lq_model.proofs.Maps.{any_none-remove_entry, found, lookup-insert_entry, lookup-remove_entry, sorted_entries}
 use Rattle.lq_decide.specs.Faults.{create_table_faults, misses_new, no_faults}
 use Rattle.lq_decide.specs.Judged.{judged}
 use Rattle.lq_decide.proofs.Judge.{IsFound, judge, quiet_found}
@@ -130,28 +131,28 @@ drop_table_judged by d t c sound = judge (drop_table by d t c) no_faults
 -- an index, wherever it is
 module _ (d : Dialect) (c : Catalogue) (n : Name) (sound : IsSound d c) where
   abbrev less : Catalogue
-  less = record c { tables = map (λ x. (x.0, without_index n x.1)) c.tables }
+  less = record c { tables = map (λ x. (x.0, without_index_in n x.0 x.1)) c.tables }
 
-  less_looked : (k : Name) → the_table less k ≡ without_index n (the_table c k)
-  less_looked k = ap (λ o. unwrap_or o no_table) (lookup-values (is_named k) (without_index n) c.tables) ∙ at (table_of c k) where
-    at : (o : Option Table) → unwrap_or (option_map (without_index n) o) no_table ≡ without_index n (unwrap_or o no_table)
+  less_looked : (k : Name) → the_table less k ≡ without_index_in n k (the_table c k)
+  less_looked k = ap (λ o. unwrap_or o no_table) (lookup-entries k (without_index_in n) c.tables) ∙ at (table_of c k) where
+    at : (o : Option Table) → unwrap_or (option_map (without_index_in n k) o) no_table ≡ without_index_in n k (unwrap_or o no_table)
     at None = refl
     at (Some x) = refl
 
   less_aimed : is_loose less ≡ false
-  less_aimed = any-map (λ (x : Name × Table). list_any (misses_target less) x.1.foreign) (λ (x : Name × Table). (x.0, without_index n x.1)) c.tables
+  less_aimed = any-map (λ (x : Name × Table). list_any (misses_target less) x.1.foreign) (λ (x : Name × Table). (x.0, without_index_in n x.0 x.1)) c.tables
       ∙ any_same _ _ c.tables (λ x. any_same (misses_target less) (misses_target c) x.1.foreign (λ f. ap (λ y. not (list_any (same_names f.targets) (target_lists y))) (less_looked f.table))) ∙ sound.aimed
 
-  less_twins : (x : Table) → table_has_twins x ≡ false → table_has_twins (without_index n x) ≡ false
-  less_twins x h = lists_less (λ ns. has_equals (map (picked x.columns ns) x.rows)) (map (λ (k : Key). k.columns) (key_list x.key)) (map (λ (u : Unique). u.columns) x.uniques) _ _ _ _ (λ e. e) (λ e. e) (index_less n _ x.indexes) h
+  less_twins : (t : Name) (x : Table) → table_has_twins x ≡ false → table_has_twins (without_index_in n t x) ≡ false
+  less_twins t x h = lists_less (λ ns. has_equals (map (picked x.columns ns) x.rows)) (map (λ (k : Key). k.columns) (key_list x.key)) (map (λ (u : Unique). u.columns) x.uniques) _ _ _ _ (λ e. e) (λ e. e) (index_less (λ i. is_named n (beside t i.name)) _ x.indexes) h
 
   less_found : IsFound [] less no_faults
   less_found = quiet_found false [] less
-      (any-map (λ (x : Name × Table). table_has_null x.1) (λ (x : Name × Table). (x.0, without_index n x.1)) c.tables ∙ sound.no_null)
-      (any-map (λ (x : Name × Table). table_has_twins x.1) (λ (x : Name × Table). (x.0, without_index n x.1)) c.tables ∙ any_less _ (λ (x : Name × Table). table_has_twins x.1) c.tables (λ x h. less_twins x.1 h) sound.no_twins)
-      (any-map (λ (x : Name × Table). has_orphan less x.1) (λ (x : Name × Table). (x.0, without_index n x.1)) c.tables
+      (any-map (λ (x : Name × Table). table_has_null x.1) (λ (x : Name × Table). (x.0, without_index_in n x.0 x.1)) c.tables ∙ sound.no_null)
+      (any-map (λ (x : Name × Table). table_has_twins x.1) (λ (x : Name × Table). (x.0, without_index_in n x.0 x.1)) c.tables ∙ any_less _ (λ (x : Name × Table). table_has_twins x.1) c.tables (λ x h. less_twins x.0 x.1 h) sound.no_twins)
+      (any-map (λ (x : Name × Table). has_orphan less x.1) (λ (x : Name × Table). (x.0, without_index_in n x.0 x.1)) c.tables
       ∙ any_same _ _ c.tables (λ x. any_same _ _ x.1.foreign (λ f. any_same (lacks_parent less x.1.columns f) (lacks_parent c x.1.columns f) x.1.rows (λ r. ap (λ y. lacks_at y f (picked x.1.columns f.columns r)) (less_looked f.table)))) ∙ sound.parents)
-      (any-map (λ (x : Name × Table). is_full x.1) (λ (x : Name × Table). (x.0, without_index n x.1)) c.tables ∙ sound.small)
+      (any-map (λ (x : Name × Table). is_full x.1) (λ (x : Name × Table). (x.0, without_index_in n x.0 x.1)) c.tables ∙ sound.small)
 
 pub drop_any_index_judged : (by : By) (d : Dialect) (n : Name) (c : Catalogue) → IsSound d c → decide (drop_index by d n None c) ≡ judged (drop_index by d n None c) no_faults
 drop_any_index_judged by d n c sound = judge (drop_index by d n None c) no_faults (λ first. less_aimed d c n sound) (λ free. less_found d c n sound)

@@ -10,7 +10,7 @@ use Rattle.lq_base.specs.Name.{is_named, name_cmp}
 use Rattle.lq_base.specs.declared.name.Name.{Name}
 use Rattle.lq_engine.specs.Users.{is_tracking_table}
 use Rattle.lq_model.specs.Catalogue.{Catalogue, Sequence, Table, View}
-use Rattle.lq_model.specs.NameSpaces.{object_names, shared_names}
+use Rattle.lq_model.specs.NameSpaces.{names_inside, object_names, shared_names}
 use Rattle.lq_model.specs.Names.{is_in}
 use Rattle.lq_model.specs.Reserved.{is_reserved, is_tracking}
 use Rattle.lq_model.specs.TableNames.{foreign_names, inner_names, key_list}
@@ -112,10 +112,10 @@ within_are s it =
     ∙ ap (λ b. list_any (λ (f : ForeignKey). s f.name) it.foreign || b) (any-map s (λ (f : ForeignKey). f.table) it.foreign)))
 
 pub shared_are : (n : Name) (c : Catalogue) → IsOrdered c.tables
-    → (list_any (is_named n) (object_names (users_of c)) || list_any (λ e. not (is_tracking_table e.0) && list_any (is_named n) (inner_names e.1)) c.tables) ≡ is_in n (shared_names (users_of c))
+    → (list_any (is_named n) (object_names (users_of c)) || list_any (λ e. not (is_tracking_table e.0) && list_any (is_named n) (names_inside e)) c.tables) ≡ is_in n (shared_names (users_of c))
 shared_are n c h =
-    sym (any-append (is_named n) (object_names (users_of c)) (flat_map (λ (e : Name × Table). inner_names e.1) (users_of c).tables)
-    ∙ ap (λ b. list_any (is_named n) (object_names (users_of c)) || b) (any-flat_map (is_named n) (λ (e : Name × Table). inner_names e.1) (users_of c).tables ∙ sym (users_tables (λ e. list_any (is_named n) (inner_names e.1)) c h)))
+    sym (any-append (is_named n) (object_names (users_of c)) (flat_map names_inside (users_of c).tables)
+    ∙ ap (λ b. list_any (is_named n) (object_names (users_of c)) || b) (any-flat_map (is_named n) names_inside (users_of c).tables ∙ sym (users_tables (λ e. list_any (is_named n) (names_inside e)) c h)))
 
 pub tracking_are : (c : Catalogue) → IsOrdered c.tables
     → (list_any is_tracking (object_names (users_of c)) || (list_any (λ e. not (is_tracking_table e.0) && list_any is_tracking (names_within e.1)) c.tables || list_any (λ e. is_tracking e.1.query.table) c.views)) ≡ names_tracking (users_of c)

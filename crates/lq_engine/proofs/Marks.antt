@@ -10,7 +10,7 @@ use Rattle.lq_model.specs.Catalogue.{Catalogue, no_objects}
 use Rattle.lq_base.specs.declared.dialect.Dialect.TheVariants.{Mysql, Postgresql}
 use Rattle.lq_model.specs.NameSpaces.{AreApart}
 use Rattle.lq_model.specs.Names.{times}
-use Rattle.lq_model.specs.Sound.{IsSound, may_have}
+use Rattle.lq_model.specs.Sound.{IsSound, may_have, may_name}
 use Rattle.lq_model.proofs.Maps.{not_some}
 use Rattle.lq_rows.specs.Answers.{Continues}
 use Rattle.lq_engine.specs.Marks.{AllSound, AreMarks, IsGood, catalogues_at, stands_for}
@@ -106,6 +106,7 @@ nothing_sound d = record {
   tables = λ t it e. not_some (sym e);
   views = refl;
   apart = apart d;
+  schemas = schemas d;
   steps = refl;
   sequences = may d;
   no_null = refl;
@@ -118,6 +119,10 @@ nothing_sound d = record {
   apart : (d : Dialect) → AreApart d no_objects
   apart Postgresql = small_names
   apart Mysql = (small_names, small_names)
+
+  schemas : (d : Dialect) → may_name d [] ≡ true
+  schemas Postgresql = refl
+  schemas Mysql = refl
 
   may : (d : Dialect) → may_have d [] ≡ true
   may Postgresql = refl

@@ -3,7 +3,7 @@ ghost use Rattle.std.specs.Option.{option_copied};
 ghost use Rattle.std.specs.Prelude.{◌≡◌, ◌&&◌, ◌||◌, not};
 ghost use Rattle.lq_base.specs.Name.{is_named};
 ghost use Rattle.lq_engine.specs.Users.{is_sought, is_tracking_table};
-ghost use Rattle.lq_model.specs.NameSpaces.{object_names};
+ghost use Rattle.lq_model.specs.NameSpaces.{names_inside, object_names};
 ghost use Rattle.lq_model.specs.Reserved.{is_tracking, lock_key};
 ghost use Rattle.lq_model.specs.TableNames.{inner_names, key_list};
 ghost use Rattle.lq_parts.specs.Entries.{IsOrdered};
@@ -125,13 +125,22 @@ fn users_table_named(sought: Sought, table: &Name) -> bool
     !is_tracking_table(table) & is_sought(sought, table)
 }
 
+/// Whether the table's key, a unique constraint or an index of it counts by the name of the lock
+/// table's key: that is in `public`.
+#[tactic(auto, using(lq_model::proofs::PublicNames::lock_key_placed))]
+fn lock_key_inside(table: &Name, held: &Held) -> bool
+    ensures { result ≡ list_any (is_named lock_key) (names_inside (table.now, held.now.now)) }
+{
+    !table.is_elsewhere() & inner_named(Sought::LockKey, held)
+}
+
 fn users_key_named(table: &Name, held: &Held) -> bool
     ensures { result
         ≡
         (not (is_tracking_table table.now)
-        && list_any (is_named lock_key) (inner_names held.now.now)) }
+        && list_any (is_named lock_key) (names_inside (table.now, held.now.now))) }
 {
-    !is_tracking_table(table) & inner_named(Sought::LockKey, held)
+    !is_tracking_table(table) & lock_key_inside(table, held)
 }
 
 fn users_within_named(table: &Name, held: &Held) -> bool
@@ -153,8 +162,8 @@ fn one_table(sought: Sought, entries: &[(Name, Held)]) -> bool
 fn one_key(entries: &[(Name, Held)]) -> bool
     ensures { result
         ≡ list_any
-        (λ e. not (is_tracking_table e.0) && list_any (is_named lock_key) (inner_names e.1.now))
-        entries.now }
+        (λ e. not (is_tracking_table e.0)
+        && list_any (is_named lock_key) (names_inside (e.0, e.1.now))) entries.now }
 {
     entries
         .iter()
@@ -203,7 +212,7 @@ fn table_named(sought: Sought, parts: &Parts) -> bool
 fn table_has_key(parts: &Parts) -> bool
     ensures { result
         ≡ list_any
-        (λ e. not (is_tracking_table e.0) && list_any (is_named lock_key) (inner_names e.1))
+        (λ e. not (is_tracking_table e.0) && list_any (is_named lock_key) (names_inside e))
         parts.now.now.tables }
 {
     one_key(parts.tables())

@@ -21,6 +21,9 @@ joined (r ∷ rs) ss = by r.1 (joined rs ss) where
 pub three : (a b c : List Row) → (present a ++ present b) ++ present c ≡ present ((a ++ b) ++ c)
 three a b c = ap (λ es. es ++ present c) (joined a b) ∙ joined (a ++ b) c
 
+pub four : (a b c d : List Row) → ((present a ++ present b) ++ present c) ++ present d ≡ present (((a ++ b) ++ c) ++ d)
+four a b c d = ap (λ es. es ++ present d) (three a b c) ∙ joined ((a ++ b) ++ c) d
+
 pub five : (a b c d e : List Row) → (((present a ++ present b) ++ present c) ++ present d) ++ present e ≡ present ((((a ++ b) ++ c) ++ d) ++ e)
 five a b c d e =
     ap (λ es. (es ++ present d) ++ present e) (three a b c)

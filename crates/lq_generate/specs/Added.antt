@@ -2,6 +2,7 @@
 use Rattle.std.specs.List.{flat_map}
 use Rattle.std.specs.Option.{option_map}
 use Rattle.std.specs.Prelude.{Bool, List, None, Option, Some, [], codes, if◌then◌else◌, map, ℕ, ◌++◌, ◌∷◌}
+use Rattle.lq_base.specs.Name.{text_of}
 use Rattle.lq_base.specs.declared.dialect.Dialect.{Dialect}
 use Rattle.lq_base.specs.declared.name.Name.{Name}
 use Rattle.lq_model.specs.Catalogue.{Sequence, View}
@@ -12,7 +13,7 @@ use Rattle.lq_model.specs.declared.constraint.Unique.{Unique}
 use Rattle.lq_model.specs.declared.index.Index.{Index}
 use Rattle.lq_tree.specs.declared.node.Node.{List as ListNode, Node, Text as TextNode, Whole as WholeNode}
 use Rattle.lq_generate.specs.Created.{if_true, named_in}
-use Rattle.lq_generate.specs.Rows.{Row, map_node, under}
+use Rattle.lq_generate.specs.Rows.{Row, map_node, schema_at, under}
 
 abbrev pub after_comma : Name → List ℕ
 after_comma n = 44 ∷ n
@@ -40,7 +41,8 @@ abbrev pub key_rows : Dialect → Name → Key → List Row
 key_rows d t k =
     (codes "columnNames", Some (TextNode (listed k.columns)))
     ∷ (codes "constraintName", option_map (λ (n : Name). TextNode n) (named_in d (Some k)))
-    ∷ (codes "tableName", Some (TextNode t))
+    ∷ (codes "schemaName", schema_at t)
+    ∷ (codes "tableName", Some (TextNode (text_of t)))
     ∷ []
 
 abbrev pub key_tree : Dialect → Name → Key → Node
@@ -52,7 +54,8 @@ abbrev pub unique_rows : Name → Unique → List Row
 unique_rows t u =
     (codes "columnNames", Some (TextNode (listed u.columns)))
     ∷ (codes "constraintName", Some (TextNode u.name))
-    ∷ (codes "tableName", Some (TextNode t))
+    ∷ (codes "schemaName", schema_at t)
+    ∷ (codes "tableName", Some (TextNode (text_of t)))
     ∷ []
 
 abbrev pub unique_tree : Name → Unique → Node
@@ -70,7 +73,8 @@ abbrev pub index_rows : Name → Index → List Row
 index_rows t x =
     (codes "columns", Some (ListNode (map index_column_tree x.columns)))
     ∷ (codes "indexName", Some (TextNode x.name))
-    ∷ (codes "tableName", Some (TextNode t))
+    ∷ (codes "schemaName", schema_at t)
+    ∷ (codes "tableName", Some (TextNode (text_of t)))
     ∷ (codes "unique", if_true x.unique)
     ∷ []
 
@@ -86,7 +90,8 @@ if_cascade b = if b then Some (TextNode (codes "CASCADE")) else None
 abbrev pub foreign_front : Name → ForeignKey → List Row
 foreign_front t f =
     (codes "baseColumnNames", Some (TextNode (listed f.columns)))
-    ∷ (codes "baseTableName", Some (TextNode t))
+    ∷ (codes "baseTableName", Some (TextNode (text_of t)))
+    ∷ (codes "baseTableSchemaName", schema_at t)
     ∷ (codes "constraintName", Some (TextNode f.name))
     ∷ (codes "onDelete", if_cascade f.cascade)
     ∷ []
@@ -95,7 +100,8 @@ abbrev pub foreign_rows : Name → ForeignKey → List Row
 foreign_rows t f =
     foreign_front t f
     ++ (codes "referencedColumnNames", Some (TextNode (listed f.targets)))
-    ∷ (codes "referencedTableName", Some (TextNode f.table))
+    ∷ (codes "referencedTableName", Some (TextNode (text_of f.table)))
+    ∷ (codes "referencedTableSchemaName", schema_at f.table)
     ∷ []
 
 abbrev pub foreign_tree : Name → ForeignKey → Node

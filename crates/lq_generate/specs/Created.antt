@@ -2,6 +2,7 @@
 use Rattle.std.specs.Option.{option_map}
 use Rattle.std.specs.Prelude.{Bool, List, None, Option, Some, [], codes, false, if◌then◌else◌, map, not, true, ℕ, ℤ, ◌&&◌, ◌++◌, ◌∷◌}
 use Rattle.lq_base.specs.Moment.{is_moment, moment_text}
+use Rattle.lq_base.specs.Name.{text_of}
 use Rattle.lq_base.specs.Number.{fixed_text}
 use Rattle.lq_base.specs.declared.dialect.Dialect.{Dialect}
 use Rattle.lq_base.specs.declared.dialect.Dialect.TheVariants.{Mysql, Postgresql}
@@ -12,7 +13,7 @@ use Rattle.lq_model.specs.Catalogue.{Table}
 use Rattle.lq_model.specs.declared.column.Column.{Column}
 use Rattle.lq_model.specs.declared.constraint.Key.{Key}
 use Rattle.lq_tree.specs.declared.node.Node.{List as ListNode, Node, Text as TextNode, Truth as TruthNode, Whole as WholeNode}
-use Rattle.lq_generate.specs.Rows.{Row, map_node, under}
+use Rattle.lq_generate.specs.Rows.{Row, map_node, schema_at, under}
 use Rattle.lq_generate.specs.Types.{type_text}
 
 -- a default by the key of its sort
@@ -85,7 +86,8 @@ column_tree d key c = under (codes "column") (map_node (column_rows d key c))
 abbrev pub created_rows : Dialect → Name → Table → List Row
 created_rows d t it =
     (codes "columns", Some (ListNode (map (column_tree d it.key) it.columns)))
-    ∷ (codes "tableName", Some (TextNode t))
+    ∷ (codes "schemaName", schema_at t)
+    ∷ (codes "tableName", Some (TextNode (text_of t)))
     ∷ []
 
 -- what createTable takes

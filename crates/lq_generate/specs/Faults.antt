@@ -3,11 +3,12 @@ use Rattle.std.specs.List.{find, list_any}
 use Rattle.std.specs.Option.{option_map, option_or}
 use Rattle.std.specs.Prelude.{Bool, List, None, Option, Some, [], codes, cond, false, if◌then◌else◌, int_le, int_lt, length, nat_le, nat_lt, neg_ℤ, not, pos, true, ℕ, ℤ, ◌&&◌, ◌++◌, ◌^◌, ◌∷◌, ◌||◌}
 use Rattle.std.specs.Str.{bytes_eq}
+use Rattle.lq_base.specs.Name.{is_elsewhere, schema_of, text_of}
 use Rattle.lq_base.specs.declared.dialect.Dialect.{Dialect}
 use Rattle.lq_base.specs.declared.name.Name.{Name}
 use Rattle.lq_base.specs.declared.value.Value.{Value}
 use Rattle.lq_base.specs.declared.value.Value.TheVariants as value
-use Rattle.lq_model.specs.Catalogue.{Catalogue, Sequence, Table}
+use Rattle.lq_model.specs.Catalogue.{Catalogue, Sequence, Table, View}
 use Rattle.lq_model.specs.declared.column.Column.{Column}
 use Rattle.lq_model.specs.declared.constraint.ForeignKey.{ForeignKey}
 use Rattle.lq_model.specs.declared.constraint.Key.{Key}
@@ -19,8 +20,12 @@ use Rattle.lq_generate.specs.Generated.{generated_text, is_numbered}
 abbrev pub Place : Type 0
 Place = Name × Option Name
 
+-- outside `public` with the schema before it
+abbrev pub shown : Name → List ℕ
+shown n = if is_elsewhere n then schema_of n ++ 46 ∷ text_of n else n
+
 abbrev pub place_text : Place → List ℕ
-place_text p = elim p.1 [ None ↦ p.0 | Some column ↦ p.0 ++ 46 ∷ column ]
+place_text p = elim p.1 [ None ↦ shown p.0 | Some column ↦ shown p.0 ++ 46 ∷ column ]
 
 -- the first of a list in which there is a place
 abbrev pub first_of : {A : Type 0} → (A → Option Place) → List A → Option Place
@@ -35,7 +40,11 @@ abbrev pub is_out : Sequence → Bool
 is_out x = not (is_long x.start && is_long x.step)
 
 abbrev pub first_sequence : List (Name × Sequence) → Option Place
-first_sequence ss = option_map (λ (s : Name × Sequence). (s.0, None)) (find (λ (s : Name × Sequence). is_out s.1) ss)
+first_sequence ss = option_map (λ (s : Name × Sequence). (s.0, None)) (find (λ (s : Name × Sequence). is_out s.1 || is_elsewhere s.0) ss)
+
+-- a view outside `public`
+abbrev pub first_view : List (Name × View) → Option Place
+first_view vs = option_map (λ (v : Name × View). (v.0, None)) (find (λ (v : Name × View). is_elsewhere v.0) vs)
 
 -- a null, or a decimal number whose text has more than 38 digits: one before the dot and the scale's behind it
 abbrev pub is_unwritten : Option Value → Bool
@@ -82,7 +91,7 @@ first_table ts = option_or (first_of created_fault ts) (option_or (first_of adde
 
 -- the first in the output's order
 abbrev pub first_fault : Catalogue → Option Place
-first_fault c = option_or (first_sequence c.sequences) (first_table c.tables)
+first_fault c = option_or (first_sequence c.sequences) (option_or (first_table c.tables) (first_view c.views))
 
 -- a changelog's file has at most 16,777,216 bytes
 abbrev pub size_fault : List ℕ → Option (List ℕ)

@@ -5,7 +5,7 @@ ghost use Rattle.lq_generate.specs.Rows.{present};
 ghost use Rattle.lq_tree.specs.declared.node.Node.{Text as TextNode, Whole as WholeNode};
 
 use crate::created::named_in;
-use crate::rows::{true_if, under, with_name, with_node, with_some, with_text};
+use crate::rows::{true_if, under, with_name, with_node, with_schema, with_some, with_text};
 use lq_base::{Dialect, Items, Name, NoMemory, Text};
 use lq_model::{ForeignKey, Index, Key, Unique};
 use lq_parts::{Sequence, View};
@@ -72,7 +72,8 @@ pub fn key_tree(alloc: Global, dialect: Dialect, table: &Name, key: &Key) -> Res
     let columns = listed_node(alloc, key.columns.as_slice())?;
     let keyed = with_node(alloc, Items::new(alloc), "columnNames", columns)?;
     let named = with_name(alloc, keyed, "constraintName", named_in(dialect, Some(key)))?;
-    let placed = with_text(alloc, named, "tableName", table.as_key())?;
+    let within = with_schema(alloc, named, "schemaName", table)?;
+    let placed = with_text(alloc, within, "tableName", table.text())?;
     Ok(Node::Map(placed))
 }
 
@@ -83,7 +84,8 @@ pub fn unique_tree(alloc: Global, table: &Name, unique: &Unique) -> Result<Node,
     let columns = listed_node(alloc, unique.columns.as_slice())?;
     let keyed = with_node(alloc, Items::new(alloc), "columnNames", columns)?;
     let named = with_text(alloc, keyed, "constraintName", unique.name.as_key())?;
-    let placed = with_text(alloc, named, "tableName", table.as_key())?;
+    let within = with_schema(alloc, named, "schemaName", table)?;
+    let placed = with_text(alloc, within, "tableName", table.text())?;
     Ok(Node::Map(placed))
 }
 
@@ -111,7 +113,8 @@ pub fn index_tree(alloc: Global, table: &Name, index: &Index) -> Result<Node, No
     let columns = index_columns(alloc, index.columns.as_slice())?;
     let listed = with_node(alloc, Items::new(alloc), "columns", Node::List(columns))?;
     let named = with_text(alloc, listed, "indexName", index.name.as_key())?;
-    let placed = with_text(alloc, named, "tableName", table.as_key())?;
+    let within = with_schema(alloc, named, "schemaName", table)?;
+    let placed = with_text(alloc, within, "tableName", table.text())?;
     let marked = with_some(alloc, placed, "unique", true_if(index.unique))?;
     Ok(Node::Map(marked))
 }
@@ -136,8 +139,9 @@ fn foreign_front(
 {
     let columns = listed_node(alloc, foreign.columns.as_slice())?;
     let keyed = with_node(alloc, Items::new(alloc), "baseColumnNames", columns)?;
-    let placed = with_text(alloc, keyed, "baseTableName", table.as_key())?;
-    let named = with_text(alloc, placed, "constraintName", foreign.name.as_key())?;
+    let placed = with_text(alloc, keyed, "baseTableName", table.text())?;
+    let within = with_schema(alloc, placed, "baseTableSchemaName", table)?;
+    let named = with_text(alloc, within, "constraintName", foreign.name.as_key())?;
     let deleted = cascade(alloc, foreign.cascade)?;
     let bound = with_some(alloc, named, "onDelete", deleted)?;
     Ok(bound)
@@ -150,8 +154,9 @@ pub fn foreign_tree(alloc: Global, table: &Name, foreign: &ForeignKey) -> Result
     let targets = listed_node(alloc, foreign.targets.as_slice())?;
     let front = foreign_front(alloc, table, foreign)?;
     let aimed = with_node(alloc, front, "referencedColumnNames", targets)?;
-    let placed = with_text(alloc, aimed, "referencedTableName", foreign.table.as_key())?;
-    Ok(Node::Map(placed))
+    let placed = with_text(alloc, aimed, "referencedTableName", foreign.table.text())?;
+    let within = with_schema(alloc, placed, "referencedTableSchemaName", &foreign.table)?;
+    Ok(Node::Map(within))
 }
 
 /// What createView takes.

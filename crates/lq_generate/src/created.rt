@@ -7,7 +7,7 @@ ghost use Rattle.lq_generate.specs.Types.{type_text};
 ghost use Rattle.lq_generate.specs.Rows.{map_node, present};
 
 use crate::kinds::type_text;
-use crate::rows::{true_if, under, with_name, with_node, with_some, with_text};
+use crate::rows::{true_if, under, with_name, with_node, with_schema, with_some, with_text};
 use lq_base::{Dialect, Items, Name, NoMemory, Text, Value, append_fixed, is_moment, print_moment};
 use lq_model::{Column, Key};
 use lq_rows::Held;
@@ -25,7 +25,8 @@ pub fn created_tree(
 {
     let columns = column_nodes(alloc, dialect, held.key(), held.columns())?;
     let listed = with_node(alloc, Items::new(alloc), "columns", Node::List(columns))?;
-    let named = with_text(alloc, listed, "tableName", table.as_key())?;
+    let placed = with_schema(alloc, listed, "schemaName", table)?;
+    let named = with_text(alloc, placed, "tableName", table.text())?;
     Ok(Node::Map(named))
 }
 

@@ -1,7 +1,8 @@
 ghost use Rattle.std.specs.List.{find, list_any};
 ghost use Rattle.std.specs.Option.{option_copied, option_map, option_or};
-ghost use Rattle.std.specs.Prelude.{not, ◌≡◌, IfOk};
-ghost use Rattle.lq_generate.specs.Faults.{added_fault, created_fault, first_fault, first_of, first_sequence, foreign_fault, foreign_faults, is_long, is_lost, is_out, is_unwritten, first_table, key_fault, listed_fault, may_be_listed, own_key_fault, place_text};
+ghost use Rattle.std.specs.Prelude.{not, ◌≡◌, ◌||◌, IfOk};
+ghost use Rattle.lq_base.specs.Name.{is_elsewhere};
+ghost use Rattle.lq_generate.specs.Faults.{added_fault, created_fault, first_fault, first_of, first_sequence, first_view, foreign_fault, foreign_faults, is_long, is_lost, is_out, is_unwritten, first_table, key_fault, listed_fault, may_be_listed, own_key_fault, place_text, shown};
 ghost use Rattle.lq_tree.specs.Blanks.{is_comma, without_blanks};
 ghost use Rattle.std.specs.Str.{bytes_eq};
 ghost use Rattle.lq_generate.specs.Seen.{place_in, table_in, tables_in, with_tables};
@@ -9,7 +10,7 @@ ghost use Rattle.lq_generate.specs.Seen.{place_in, table_in, tables_in, with_tab
 use crate::sets::is_numbered;
 use lq_base::{Name, NoMemory, Text, Value};
 use lq_model::{Column, ForeignKey, Key, Unique};
-use lq_parts::{Parts, Sequence};
+use lq_parts::{Parts, Sequence, View};
 use lq_rows::Held;
 use lq_tree::without_blanks;
 use std::alloc::Global;
@@ -30,15 +31,33 @@ fn is_out(sequence: &Sequence) -> bool
 }
 
 fn find_out(sequences: &[(Name, Sequence)]) -> Option<&(Name, Sequence)>
-    ensures { option_copied result ≡ find (λ entry. is_out entry.1) sequences.now }
+    ensures { option_copied result
+        ≡ find (λ entry. is_out entry.1 || is_elsewhere entry.0) sequences.now }
 {
-    sequences.iter().find(|entry| is_out(&entry.1))
+    sequences
+        .iter()
+        .find(|entry| is_out(&entry.1) || entry.0.is_elsewhere())
 }
 
 fn first_sequence(sequences: &[(Name, Sequence)]) -> Option<Place<'_>>
     ensures { option_map place_in result ≡ first_sequence sequences.now }
 {
     match find_out(sequences) {
+        Some(entry) => Some((&entry.0, None)),
+        None => None,
+    }
+}
+
+fn find_elsewhere(views: &[(Name, View)]) -> Option<&(Name, View)>
+    ensures { option_copied result ≡ find (λ entry. is_elsewhere entry.0) views.now }
+{
+    views.iter().find(|entry| entry.0.is_elsewhere())
+}
+
+fn first_view(views: &[(Name, View)]) -> Option<Place<'_>>
+    ensures { option_map place_in result ≡ first_view views.now }
+{
+    match find_elsewhere(views) {
         Some(entry) => Some((&entry.0, None)),
         None => None,
     }
@@ -232,14 +251,29 @@ pub fn first_fault<'a>(parts: &'a Parts, tables: &[&'a (Name, Held)]) -> Option<
     if let Some(place) = first_sequence(parts.sequences()) {
         return Some(place);
     }
-    first_of_tables(tables)
+    if let Some(place) = first_of_tables(tables) {
+        return Some(place);
+    }
+    first_view(parts.views())
+}
+
+/// The object's name, and outside `public` SCHEMA.NAME.
+fn shown(alloc: Global, name: &Name) -> Result<Text, NoMemory>
+    ensures { IfOk result (λ text. text ≡ shown name.now) }
+{
+    if !name.is_elsewhere() {
+        return Text::new(alloc, name.as_key());
+    }
+    let mut text = Text::new(alloc, name.schema())?;
+    text.push_all(&[".", name.text()])?;
+    Ok(text)
 }
 
 /// How the place is told: the object's name, or TABLE.COLUMN.
 pub fn place_text(alloc: Global, place: Place<'_>) -> Result<Text, NoMemory>
     ensures { IfOk result (λ text. text ≡ place_text (place_in place.entry)) }
 {
-    let mut text = Text::new(alloc, place.0.as_key())?;
+    let mut text = shown(alloc, place.0)?;
     if let Some(column) = place.1 {
         text.push_all(&[".", column.as_key()])?;
     }

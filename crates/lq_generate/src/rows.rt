@@ -2,7 +2,7 @@ ghost use Rattle.std.specs.Option.{option_copied, option_map};
 ghost use Rattle.std.specs.Prelude.{[], ◌++◌, ◌∷◌, ◌≡◌, IfOk};
 ghost use Rattle.lq_tree.specs.declared.node.Node.{Text as TextNode};
 ghost use Rattle.lq_generate.specs.Created.{if_true};
-ghost use Rattle.lq_generate.specs.Rows.{present, under};
+ghost use Rattle.lq_generate.specs.Rows.{present, schema_at, under};
 
 use lq_base::{Items, Name, NoMemory, Text};
 use lq_tree::Node;
@@ -65,6 +65,21 @@ pub fn with_name(
         Some(name) => with_text(alloc, entries, key, name.as_key()),
         None => Ok(entries),
     }
+}
+
+/// The entries of a map, and the name's schema at one more key unless it is `public`.
+pub fn with_schema(
+    alloc: Global,
+    entries: Items<(Text, Node)>,
+    key: &str,
+    name: &Name,
+) -> Result<Items<(Text, Node)>, NoMemory>
+    ensures { IfOk result (λ more. more ≡ entries ++ present ((key.now, schema_at name.now) ∷ [])) }
+{
+    if !name.is_elsewhere() {
+        return Ok(entries);
+    }
+    with_text(alloc, entries, key, name.schema())
 }
 
 /// A map of one key.

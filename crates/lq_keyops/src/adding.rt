@@ -10,7 +10,7 @@ use crate::ending::{nothing_there, reshape};
 use crate::equal::{has_twins, lacks_one};
 use crate::names::{are_reserved, index_taken, no_tests, unique_taken};
 use lq_arm::{Tests, repeats, takes_lock_key};
-use lq_base::{Dialect, Duplicate, Name, NoMemory};
+use lq_base::{Dialect, Duplicate, Name, NoMemory, placed};
 use lq_model::{By, Index, Unique};
 use lq_parts::{Parts, RunFault};
 use lq_rows::{Held, Shape};
@@ -44,6 +44,7 @@ pub fn add_unique(
         return Err(nothing_there(reserved));
     };
     let names = unique.columns.as_slice();
+    let shared = placed(alloc, table, &unique.name)?;
     let shape = with_unique(alloc, held, unique)?;
     let missing = lacks_one(alloc, held, names)?;
     let twice = repeats(alloc, names)?;
@@ -51,8 +52,8 @@ pub fn add_unique(
     let tests = Tests {
         reserved,
         missing,
-        exists: unique_taken(parts, held, dialect, &unique.name)
-            | (takes_lock_key(by, dialect, &unique.name) | twice),
+        exists: unique_taken(parts, held, dialect, &unique.name, &shared)
+            | (takes_lock_key(by, dialect, &shared) | twice),
         twins,
         ..no_tests()
     };
@@ -98,6 +99,7 @@ pub fn create_index(
         return Err(nothing_there(reserved));
     };
     let names = index.columns.as_slice();
+    let shared = placed(alloc, table, &index.name)?;
     let shape = with_index(alloc, held, index)?;
     let missing = lacks_one(alloc, held, names)?;
     let twice = repeats(alloc, names)?;
@@ -105,8 +107,8 @@ pub fn create_index(
     let tests = Tests {
         reserved,
         missing,
-        exists: index_taken(parts, held, dialect, &index.name)
-            | (takes_lock_key(by, dialect, &index.name) | twice),
+        exists: index_taken(parts, held, dialect, &index.name, &shared)
+            | (takes_lock_key(by, dialect, &shared) | twice),
         twins,
         ..no_tests()
     };

@@ -2,7 +2,7 @@ ghost use Rattle.std.specs.List.{list_any};
 ghost use Rattle.std.specs.List.Sorted.{IsStrictlySortedBy};
 ghost use Rattle.std.specs.Map.{keys_of};
 ghost use Rattle.std.specs.Option.{option_copied};
-ghost use Rattle.std.specs.Prelude.{◌≡◌, None, OnErr, OnOk, is_some, true};
+ghost use Rattle.std.specs.Prelude.{◌≡◌, IfOk, None, OnErr, OnOk, is_some, true};
 ghost use Rattle.lq_base.specs.Name.{name_cmp};
 ghost use Rattle.lq_chain.specs.History.{changed};
 ghost use Rattle.lq_decide.specs.Faults.{no_faults};
@@ -12,35 +12,52 @@ ghost use Rattle.lq_model.specs.DropConstraint as spec;
 ghost use Rattle.lq_model.specs.Plan.{decide};
 ghost use Rattle.lq_model.specs.Sound.{IsSound};
 ghost use Rattle.lq_rows.specs.Answers.{Answers, Continues};
+ghost use Rattle.lq_rows.specs.Stored.{with_shape};
 ghost use Rattle.lq_keyops.specs.AllTables.{Finds, all_without};
 
-use crate::dropping::{drop_index_of, without_index};
+use crate::dropping::drop_index_of;
+use crate::lists::indexes_without_in;
 use crate::names::no_tests;
-use lq_arm::{Tests, is_index};
+use lq_arm::{Tests, is_index_inside};
 use lq_base::{Dialect, Duplicate, Name, NoMemory};
 use lq_model::By;
 use lq_parts::{Parts, RunFault};
 use lq_query::is_reserved;
-use lq_rows::Held;
+use lq_rows::{Held, Shape};
 use std::alloc::Global;
 
-/// Whether the table has an index of the name.
-fn is_on(held: &Held, name: &Name) -> bool
-    ensures { result ≡ spec.has_index name.now held.now.now }
+/// Whether the table has an index of the name in its schema.
+fn is_on(entry: &(Name, Held), name: &Name) -> bool
+    ensures { result ≡ spec.has_index_in name.now entry.now.0 entry.now.1.now }
 {
-    is_index(held, name)
+    is_index_inside(&entry.0, &entry.1, name)
 }
 
-/// The name of a table that has an index of the name.
+/// The name of a table that has an index of the name in its schema.
 fn table_with<'a>(tables: &'a [(Name, Held)], name: &Name) -> Option<&'a Name>
     ensures { Finds name.now tables.now (option_copied result) }
 {
     for entry in tables {
-        if is_on(&entry.1, name) {
+        if is_on(entry, name) {
             return Some(&entry.0);
         }
     }
     None
+}
+
+/// The table's shape without the indexes that count by the name.
+fn without_index_in(
+    alloc: Global,
+    table: &Name,
+    held: &Held,
+    name: &Name,
+) -> Result<Shape, NoMemory>
+    ensures { IfOk result (λ shape.
+        with_shape shape held.now.now ≡ spec.without_index_in name.now table.now held.now.now) }
+{
+    let mut shape = held.shape().duplicate(alloc)?;
+    shape.indexes = indexes_without_in(alloc, table, held.indexes(), name)?;
+    Ok(shape)
 }
 
 /// Takes the indexes of the name away from a table that is there.
@@ -50,13 +67,13 @@ fn drop_there(parts: &mut Parts, alloc: Global, table: &Name, name: &Name) -> Re
         (parts.new
         ≡ changed parts.old
         (with_table parts.old.now table.now
-        (spec.without_index name.now (the_table parts.old.now table.now)))) }
+        (spec.without_index_in name.now table.now (the_table parts.old.now table.now)))) }
     ensures err { OnErr result (parts.new ≡ parts.old) }
 {
     let Some(held) = parts.table(table) else {
         unreachable!();
     };
-    let shape = without_index(alloc, held, name)?;
+    let shape = without_index_in(alloc, table, held, name)?;
     parts.shape_table(table, shape)?;
     Ok(())
 }
@@ -86,7 +103,7 @@ fn anywhere_tests(parts: &Parts, by: By, dialect: Dialect, name: &Name) -> Tests
     }
 }
 
-/// Drops the index of that name, on whichever table it is.
+/// Drops the index of that name, on whichever table of its schema it is.
 fn drop_index_anywhere(
     parts: &mut Parts,
     alloc: Global,
@@ -108,7 +125,7 @@ fn drop_index_anywhere(
 }
 
 /// DROP INDEX on a sound catalogue, on someone's behalf: of a table's index, or without a table of the
-/// index of that name, on whichever table it is.
+/// index of that name, on whichever table of its schema it is.
 pub fn drop_index(
     parts: &mut Parts,
     alloc: Global,

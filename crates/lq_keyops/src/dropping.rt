@@ -175,7 +175,7 @@ pub fn drop_constraint(
 }
 
 /// The table's shape without the indexes of the name.
-pub fn without_index(alloc: Global, held: &Held, name: &Name) -> Result<Shape, NoMemory>
+fn without_index(alloc: Global, held: &Held, name: &Name) -> Result<Shape, NoMemory>
     ensures { IfOk result
         (λ shape. with_shape shape held.now.now ≡ spec.without_index name.now held.now.now) }
 {

@@ -1,10 +1,10 @@
 ghost use Rattle.std.specs.List.{filter};
 ghost use Rattle.std.specs.Option.{option_copied};
 ghost use Rattle.std.specs.Prelude.{◌≡◌, IfOk, not};
-ghost use Rattle.lq_base.specs.Name.{is_named};
+ghost use Rattle.lq_base.specs.Name.{beside, is_named};
 ghost use Rattle.lq_model.specs.DropConstraint as spec;
 
-use lq_base::{Duplicate, Items, Name, NoMemory};
+use lq_base::{Duplicate, Items, Name, NoMemory, is_placed};
 use lq_model::{ForeignKey, Index, Key, Unique};
 use std::alloc::Global;
 
@@ -54,6 +54,25 @@ pub fn indexes_without(
     let mut kept = Items::new(alloc);
     for index in indexes {
         if *name != index.name {
+            kept.push(index.duplicate(alloc)?)?;
+        }
+    }
+    Ok(kept)
+}
+
+/// The indexes of the table but those that count by the name.
+pub fn indexes_without_in(
+    alloc: Global,
+    table: &Name,
+    indexes: &[Index],
+    name: &Name,
+) -> Result<Items<Index>, NoMemory>
+    ensures { IfOk result (λ kept.
+        kept ≡ filter (λ i. not (is_named name.now (beside table.now i.name))) indexes.now) }
+{
+    let mut kept = Items::new(alloc);
+    for index in indexes {
+        if !is_placed(name, table, &index.name) {
             kept.push(index.duplicate(alloc)?)?;
         }
     }

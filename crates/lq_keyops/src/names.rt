@@ -1,4 +1,6 @@
 ghost use Rattle.std.specs.Prelude.{◌≡◌, ◌∷◌, [], ◌||◌};
+ghost use Rattle.lq_base.specs.Name.{beside};
+ghost use Rattle.lq_base.specs.declared.name.Name.{Name as Bytes};
 ghost use Rattle.lq_model.specs.NameSpaces as spaces;
 ghost use Rattle.lq_model.specs.Names.{is_in};
 ghost use Rattle.lq_model.specs.Reserved as reserved;
@@ -38,14 +40,14 @@ pub fn no_tests() -> Tests
     }
 }
 
-/// Whether the name is taken in PostgreSQL's one space. It looks at all tables.
+/// Whether the name is taken in PostgreSQL's shared spaces. It looks at all tables.
 fn stands_shared(parts: &Parts, name: &Name) -> bool
     ensures { result ≡ is_in name.now (spaces.shared_names parts.now.now) }
 {
     parts.has_object(name) || any_is_inner(parts.tables(), name)
 }
 
-/// Whether the name is taken in PostgreSQL's one space.
+/// Whether the name is taken in PostgreSQL's shared spaces.
 fn is_shared(parts: &Parts, name: &Name) -> bool
     ensures { result ≡ is_in name.now (spaces.shared_names parts.now.now) }
 {
@@ -55,32 +57,45 @@ fn is_shared(parts: &Parts, name: &Name) -> bool
     }
 }
 
-/// Whether a unique constraint of the table may not have the name.
-pub fn unique_taken(parts: &Parts, held: &Held, dialect: Dialect, name: &Name) -> bool
-    ensures { result ≡ spaces.unique_taken dialect held.now.now name.now parts.now.now }
+/// Whether a unique constraint of the table may not have the name, which counts as the one that is
+/// shared.
+pub fn unique_taken(
+    parts: &Parts,
+    held: &Held,
+    dialect: Dialect,
+    name: &Name,
+    shared: &Name,
+) -> bool
+    ensures { (table : Bytes)
+        → shared.now ≡ beside table name.now
+        → result ≡ spaces.unique_taken dialect table held.now.now name.now parts.now.now }
 {
     match dialect {
-        Dialect::Postgresql => is_shared(parts, name) || is_constraint(held, name),
+        Dialect::Postgresql => is_shared(parts, shared) || is_constraint(held, name),
         Dialect::Mysql => is_unique_or_index(held, name),
     }
 }
 
-/// Whether the key of the table may not have the name.
-pub fn key_taken(parts: &Parts, held: &Held, dialect: Dialect, name: &Name) -> bool
-    ensures { result ≡ spaces.key_taken dialect held.now.now name.now parts.now.now }
+/// Whether the key of the table may not have the name, which counts as the one that is shared.
+pub fn key_taken(parts: &Parts, held: &Held, dialect: Dialect, name: &Name, shared: &Name) -> bool
+    ensures { (table : Bytes)
+        → shared.now ≡ beside table name.now
+        → result ≡ spaces.key_taken dialect table held.now.now name.now parts.now.now }
 {
     match dialect {
-        Dialect::Postgresql => is_shared(parts, name) || is_constraint(held, name),
+        Dialect::Postgresql => is_shared(parts, shared) || is_constraint(held, name),
         Dialect::Mysql => false,
     }
 }
 
-/// Whether an index of the table may not have the name.
-pub fn index_taken(parts: &Parts, held: &Held, dialect: Dialect, name: &Name) -> bool
-    ensures { result ≡ spaces.index_taken dialect held.now.now name.now parts.now.now }
+/// Whether an index of the table may not have the name, which counts as the one that is shared.
+pub fn index_taken(parts: &Parts, held: &Held, dialect: Dialect, name: &Name, shared: &Name) -> bool
+    ensures { (table : Bytes)
+        → shared.now ≡ beside table name.now
+        → result ≡ spaces.index_taken dialect table held.now.now name.now parts.now.now }
 {
     match dialect {
-        Dialect::Postgresql => is_shared(parts, name),
+        Dialect::Postgresql => is_shared(parts, shared),
         Dialect::Mysql => is_unique_or_index(held, name),
     }
 }

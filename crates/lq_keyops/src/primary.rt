@@ -11,7 +11,7 @@ use crate::ending::{nothing_there, reshape};
 use crate::equal::{has_null_in, has_twins, lacks_one};
 use crate::names::{are_reserved, key_taken, no_tests};
 use lq_arm::{Tests, repeats, takes_lock_key};
-use lq_base::{Dialect, Duplicate, Items, Name, NoMemory};
+use lq_base::{Dialect, Duplicate, Items, Name, NoMemory, placed};
 use lq_model::{By, Column, Key};
 use lq_parts::{Parts, RunFault};
 use lq_rows::{Held, Shape};
@@ -73,6 +73,7 @@ pub fn add_primary_key(
         return Err(nothing_there(reserved));
     };
     let names = key.columns.as_slice();
+    let shared = placed(alloc, table, &key.name)?;
     let shape = with_key(alloc, held, key)?;
     let missing = lacks_one(alloc, held, names)?;
     let twice = repeats(alloc, names)?;
@@ -81,8 +82,8 @@ pub fn add_primary_key(
         reserved,
         missing,
         exists: held.key().is_some()
-            | (key_taken(parts, held, dialect, &key.name)
-                | (takes_lock_key(by, dialect, &key.name) | twice)),
+            | (key_taken(parts, held, dialect, &key.name, &shared)
+                | (takes_lock_key(by, dialect, &shared) | twice)),
         nulls: has_null_in(held, names),
         twins,
         ..no_tests()

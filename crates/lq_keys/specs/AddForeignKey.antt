@@ -1,24 +1,26 @@
 -- addForeignKeyConstraint: a table gets a foreign key.
 use Rattle.std.specs.Option.{option_map, unwrap_or}
-use Rattle.std.specs.Prelude.{Bool, List, None, Option, Result, Some, [], codes, false, if◌then◌else◌, not, true, ℕ, ◌&&◌, ◌||◌, ◌∷◌}
+use Rattle.std.specs.Prelude.{Bool, List, None, Option, Result, Some, [], codes, false, if◌then◌else◌, not, true, ℕ, ◌&&◌, ◌++◌, ◌||◌, ◌∷◌}
 use Rattle.std.specs.Str.{bytes_eq}
-use Rattle.lq_base.specs.Name.{is_name}
+use Rattle.lq_base.specs.Name.{is_name, is_object, text_of, within}
 use Rattle.lq_base.specs.Options.{if_there}
 use Rattle.lq_base.specs.declared.dialect.Dialect.{Dialect}
+use Rattle.lq_base.specs.declared.name.Name.{Name}
 use Rattle.lq_base.specs.declared.reason.Reason.{Reason}
 use Rattle.lq_model.specs.AddConstraint.{with_foreign}
 use Rattle.lq_model.specs.Canon.{CanonicalChange, list, text}
 use Rattle.lq_model.specs.Catalogue.{Catalogue, the_table, with_table}
 use Rattle.lq_model.specs.Effect.{effect_of}
-use Rattle.lq_model.specs.Written.{Row, change_of, texts}
+use Rattle.lq_model.specs.Written.{Row, change_of, schema_row, texts}
 use Rattle.lq_model.specs.declared.constraint.ForeignKey.{ForeignKey}
 use Rattle.lq_model.specs.declared.statement.Statement.{Statement}
 use Rattle.lq_model.specs.declared.statement.Statement.TheVariants as statement
 use Rattle.lq_tree.specs.Found.{Taken}
 use Rattle.lq_tree.specs.Given.{a_name}
 use Rattle.lq_tree.specs.Items.{are_some}
-use Rattle.lq_tree.specs.Keys.{Keys, fields, map_with, optional, place, required, ◌⊛◌}
-use Rattle.lq_tree.specs.Look.{text_of, truth_of, value_at}
+use Rattle.lq_tree.specs.Keys.{Keys, catalogue, fields, map_with, optional, required, schema_key, ◌⊛◌}
+use Rattle.lq_tree.specs.Look as look
+use Rattle.lq_tree.specs.Look.{truth_of, value_at}
 use Rattle.lq_tree.specs.Names.{some_names}
 use Rattle.lq_tree.specs.declared.node.Node.{Node}
 use Rattle.lq_keys.specs.Drops.{drops_foreign}
@@ -27,9 +29,9 @@ use Rattle.lq_keys.specs.declared.add_foreign_key.AddForeignKeyConstraint.{AddFo
 
 -- its keys
 
-abbrev pub keys : Keys AddForeignKeyConstraint
+abbrev pub keys : Keys (Name → Name → AddForeignKeyConstraint)
 keys =
-    fields (λ name table columns target targets deletion. record { constraint_name = name; base_table_name = table; base_column_names = columns; referenced_table_name = target; referenced_column_names = targets; on_delete = deletion })
+    fields (λ name table columns target targets deletion schema other. record { constraint_name = name; base_table_name = within schema table; base_column_names = columns; referenced_table_name = within other target; referenced_column_names = targets; on_delete = deletion })
     ⊛ required (codes "constraintName") a_name
     ⊛ required (codes "baseTableName") a_name
     ⊛ required (codes "baseColumnNames") some_names
@@ -46,7 +48,7 @@ abbrev pub is_true : Node → Bool
 is_true n = unwrap_or (truth_of n) false
 
 abbrev pub is_idle : Node → Bool
-is_idle n = elim (text_of n) [ None ↦ false | Some t ↦ bytes_eq t (codes "NO ACTION") || bytes_eq t (codes "RESTRICT") ]
+is_idle n = elim (look.text_of n) [ None ↦ false | Some t ↦ bytes_eq t (codes "NO ACTION") || bytes_eq t (codes "RESTRICT") ]
 
 -- the key where its value is accepted, else `remarks`, which is known anyway
 abbrev pub or_remarks : Bool → List ℕ → List ℕ
@@ -61,20 +63,29 @@ ignored n =
     ∷ or_remarks (if_there is_idle (value_at (codes "onUpdate") n)) (codes "onUpdate")
     ∷ []
 
--- with the place of its table
-abbrev pub all_keys : Keys AddForeignKeyConstraint
-all_keys = fields (λ change place. change) ⊛ keys ⊛ place
+-- with the schemas of both tables
+abbrev pub all_keys : Dialect → Keys AddForeignKeyConstraint
+all_keys d =
+    fields (λ change schema other catalogue. change schema other)
+    ⊛ keys
+    ⊛ schema_key d (codes "baseTableSchemaName")
+    ⊛ schema_key d (codes "referencedTableSchemaName")
+    ⊛ catalogue
 
-unfoldable pub add_foreign_key : Taken AddForeignKeyConstraint
-add_foreign_key n = map_with (ignored n) all_keys n
+-- its keys that are always known
+abbrev pub key_names : List (List ℕ)
+key_names = keys.names ++ (codes "baseTableSchemaName" ∷ codes "referencedTableSchemaName" ∷ codes "catalogName" ∷ [])
+
+unfoldable pub add_foreign_key : Dialect → Taken AddForeignKeyConstraint
+add_foreign_key d n = map_with (ignored n) (all_keys d) n
 
 -- its names are names, and it has a column and a target
 abbrev pub is_for : Dialect → AddForeignKeyConstraint → Bool
 is_for d x =
     is_name x.constraint_name
-    && (is_name x.base_table_name
+    && (is_object d x.base_table_name
     && (are_some is_name x.base_column_names
-    && (is_name x.referenced_table_name && are_some is_name x.referenced_column_names)))
+    && (is_object d x.referenced_table_name && are_some is_name x.referenced_column_names)))
 
 -- what it does
 
@@ -108,11 +119,13 @@ inverse d x = Some (drops_foreign d x.base_table_name x.constraint_name ∷ [])
 abbrev pub rows : AddForeignKeyConstraint → List Row
 rows x =
     (codes "constraintName", Some (text x.constraint_name))
-    ∷ (codes "baseTableName", Some (text x.base_table_name))
+    ∷ (codes "baseTableName", Some (text (text_of x.base_table_name)))
     ∷ (codes "baseColumnNames", Some (list (texts x.base_column_names)))
-    ∷ (codes "referencedTableName", Some (text x.referenced_table_name))
+    ∷ (codes "referencedTableName", Some (text (text_of x.referenced_table_name)))
     ∷ (codes "referencedColumnNames", Some (list (texts x.referenced_column_names)))
     ∷ (codes "onDelete", option_map (λ o. text (words o)) x.on_delete)
+    ∷ (codes "baseTableSchemaName", schema_row x.base_table_name)
+    ∷ (codes "referencedTableSchemaName", schema_row x.referenced_table_name)
     ∷ []
 
 abbrev pub canonical_of : AddForeignKeyConstraint → CanonicalChange

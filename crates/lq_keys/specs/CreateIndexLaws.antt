@@ -2,13 +2,13 @@
 use Rattle.std.proofs.Common.{ap, subst, sym, ◌∙◌}
 use Rattle.std.specs.List.{list_all}
 use Rattle.std.specs.Prelude.{List, [], codes, not, refl, true, ◌∷◌, ◌≡◌}
-use Rattle.lq_base.specs.Name.{is_name}
+use Rattle.lq_base.specs.Name.{is_name, is_object}
 use Rattle.lq_base.specs.Options.{if_there}
 use Rattle.lq_base.specs.declared.dialect.Dialect.{Dialect}
 use Rattle.lq_model.proofs.DefaultNames.{default_named}
 use Rattle.lq_model.proofs.Effects.{does_so, one_becomes, restores_so, some_same}
 use Rattle.lq_model.proofs.Lists.{all-map, and_left, and_right, and_true}
-use Rattle.lq_model.proofs.Told.{keys_told, map_told, maps_told, text_told, texts_told, truths_told}
+use Rattle.lq_model.proofs.Told.{keys_told, map_told, maps_told, object_told, text_told, texts_told, truths_told}
 use Rattle.lq_model.specs.Changes.{AreReturns, AreStatements, AreTold, HaveEffect, TakeBack}
 use Rattle.lq_model.specs.DefaultName.{index_name}
 use Rattle.lq_model.specs.Effect.{Becomes, GoesBack}
@@ -26,6 +26,7 @@ use Rattle.lq_keys.specs.NamedLaws.{named}
 use Rattle.lq_keys.specs.declared.create_index.CreateIndex.{CreateIndex}
 use Rattle.lq_keys.specs.declared.index_column.IndexColumn.{IndexColumn}
 use Rattle.lq_keys.specs.Drops.{drops_index}
+use Rattle.lq_base.proofs.BesideLemmas.{is_whole}
 
 all_columns : (xs : List IndexColumn) → are_some is_column xs ≡ true → list_all is_column xs ≡ true
 all_columns xs h = and_right (not (is_empty xs)) _ h
@@ -38,22 +39,22 @@ listed [] h = h
 listed (x ∷ xs) h = all_named (x ∷ xs) h
 
 columned : (d : Dialect) (x : CreateIndex) → is_for d x ≡ true → are_some is_column x.columns ≡ true
-columned d x h = and_right (is_name x.table_name) _ (and_right (if_there is_name x.index_name) _ h)
+columned d x h = and_right (is_object d x.table_name) _ (and_right (if_there is_name x.index_name) _ h)
 
 name_named : (d : Dialect) (x : CreateIndex) → is_for d x ≡ true → is_name (name_of x) ≡ true
 name_named d x h =
-    let t = and_left (is_name x.table_name) _ (and_right (if_there is_name x.index_name) _ h) in
-    named x.index_name (index_name x.table_name (names_of x.columns)) (and_left (if_there is_name x.index_name) _ h) (default_named d x.table_name (names_of x.columns) t (all_named x.columns (columned d x h))).3
+    let t = and_left (is_object d x.table_name) _ (and_right (if_there is_name x.index_name) _ h) in
+    named x.index_name (index_name x.table_name (names_of x.columns)) (and_left (if_there is_name x.index_name) _ h) (default_named d x.table_name (names_of x.columns) (is_whole d x.table_name t) (all_named x.columns (columned d x h))).3
 
 pub spelled : AreStatements is_for gives
 spelled d x h =
-    let t = and_left (is_name x.table_name) _ (and_right (if_there is_name x.index_name) _ h) in
+    let t = and_left (is_object d x.table_name) _ (and_right (if_there is_name x.index_name) _ h) in
     let ns = columned d x h in
     rw (t, name_named d x h, listed x.columns ns) refl
 
 pub returned : AreReturns is_for inverse
 returned d x undoing right taken =
-    let t = and_left (is_name x.table_name) _ (and_right (if_there is_name x.index_name) _ right) in
+    let t = and_left (is_object d x.table_name) _ (and_right (if_there is_name x.index_name) _ right) in
     let one = index_spelled d (name_of x) x.table_name (name_named d x right) t in
     subst (λ ss. list_all (is_statement d) ss ≡ true) (some_same taken) (and_true (is_statement d (drops_index d (name_of x) x.table_name)) true one refl)
 
@@ -81,6 +82,6 @@ same x y index table columns unique = rw (index, table, columns, unique) refl
 pub told : AreTold is_for canonical_of
 told d x y right also e =
     let is : rows x ≡ rows y = keys_told (codes "createIndex") (codes "createIndex") (rows x) (rows y) refl refl e in
-    same x y (texts_told x.index_name y.index_name (ap (nth_value 0) is)) (text_told (ap (nth_value 1) is))
+    same x y (texts_told x.index_name y.index_name (ap (nth_value 0) is)) (object_told d x.table_name y.table_name (and_left (is_object d x.table_name) _ (and_right (if_there is_name x.index_name) _ right)) (and_left (is_object d y.table_name) _ (and_right (if_there is_name y.index_name) _ also)) (ap (nth_value 1) is) (ap (nth_value 4) is))
     (maps_told column.rows is_column column_told x.columns y.columns (all_columns x.columns (columned d x right)) (all_columns y.columns (columned d y also)) (ap (nth_value 2) is))
     (truths_told x.unique y.unique (ap (nth_value 3) is))

@@ -1,10 +1,10 @@
 -- That dropForeignKeyConstraint keeps its promises.
 use Rattle.std.proofs.Common.{ap}
 use Rattle.std.specs.Prelude.{codes, refl, true, ◌≡◌}
-use Rattle.lq_base.specs.Name.{is_name}
+use Rattle.lq_base.specs.Name.{is_object}
 use Rattle.lq_model.proofs.Effects.{does_so, restores_so}
 use Rattle.lq_model.proofs.Lists.{and_left, and_right, and_true}
-use Rattle.lq_model.proofs.Told.{keys_told, text_told}
+use Rattle.lq_model.proofs.Told.{keys_told, object_told, text_told}
 use Rattle.lq_model.specs.Changes.{AreReturns, AreStatements, AreTold, HaveEffect, TakeBack}
 use Rattle.lq_model.specs.Effect.{Becomes, GoesBack}
 use Rattle.lq_model.specs.Statement.{is_statement}
@@ -17,7 +17,7 @@ use Rattle.lq_keys.specs.declared.drop_foreign_key.DropForeignKeyConstraint.{Dro
 pub spelled : AreStatements is_for gives
 spelled d x h =
     and_true (is_statement d (drops_foreign d x.base_table_name x.constraint_name)) true
-    (foreign_spelled d x.base_table_name x.constraint_name (and_left (is_name x.base_table_name) _ h) (and_right (is_name x.base_table_name) _ h)) refl
+    (foreign_spelled d x.base_table_name x.constraint_name (and_left (is_object d x.base_table_name) _ h) (and_right (is_object d x.base_table_name) _ h)) refl
 
 pub returned : AreReturns is_for inverse
 returned d x undoing right taken = absurd Prim.cc
@@ -40,4 +40,4 @@ same x y table name = rw (table, name) refl
 pub told : AreTold is_for canonical_of
 told d x y right also e =
     let is : rows x ≡ rows y = keys_told (codes "dropForeignKeyConstraint") (codes "dropForeignKeyConstraint") (rows x) (rows y) refl refl e in
-    same x y (text_told (ap (nth_value 0) is)) (text_told (ap (nth_value 1) is))
+    same x y (object_told d x.base_table_name y.base_table_name (and_left (is_object d x.base_table_name) _ right) (and_left (is_object d y.base_table_name) _ also) (ap (nth_value 0) is) (ap (nth_value 2) is)) (text_told (ap (nth_value 1) is))

@@ -4,7 +4,7 @@ use Rattle.std.specs.Prelude.{codes, refl, true, ◌≡◌}
 use Rattle.lq_base.specs.Name.{is_name}
 use Rattle.lq_model.proofs.Effects.{does_so, restores_so}
 use Rattle.lq_model.proofs.Lists.{and_left, and_right, and_true}
-use Rattle.lq_model.proofs.Told.{keys_told, text_told}
+use Rattle.lq_model.proofs.Told.{keys_told, object_told, text_told}
 use Rattle.lq_model.specs.Changes.{AreReturns, AreStatements, AreTold, HaveEffect, TakeBack}
 use Rattle.lq_model.specs.Effect.{Becomes, GoesBack}
 use Rattle.lq_model.specs.Statement.{is_statement}
@@ -40,4 +40,4 @@ same x y index table = rw (index, table) refl
 pub told : AreTold is_for canonical_of
 told d x y right also e =
     let is : rows x ≡ rows y = keys_told (codes "dropIndex") (codes "dropIndex") (rows x) (rows y) refl refl e in
-    same x y (text_told (ap (nth_value 0) is)) (text_told (ap (nth_value 1) is))
+    same x y (text_told (ap (nth_value 0) is)) (object_told d x.table_name y.table_name (and_right (is_name x.index_name) _ right) (and_right (is_name y.index_name) _ also) (ap (nth_value 1) is) (ap (nth_value 2) is))

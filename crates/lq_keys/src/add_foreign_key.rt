@@ -3,13 +3,15 @@ ghost use Rattle.lq_base.specs.Options.{if_there};
 ghost use Rattle.lq_tree.specs.Found.{Reads};
 ghost use Rattle.lq_tree.specs.Keys.{known};
 ghost use Rattle.lq_tree.specs.Look.{value_at};
-ghost use Rattle.lq_keys.specs.AddForeignKey.{add_foreign_key, all_keys, foreign_of, ignored, is_false, is_for, is_idle, is_true, or_remarks};
+ghost use Rattle.lq_keys.specs.AddForeignKey.{add_foreign_key, foreign_of, ignored, is_false, is_for, is_idle, is_true, key_names, or_remarks};
 
 use crate::drops::foreign_drop;
 use crate::on_delete::{OnDelete, cascades, on_delete_field};
-use lq_base::{Dialect, Duplicate, Items, KindFault, Name, NoMemory};
-use lq_model::{Canon, Change, Field, ForeignKey, Look, SqlText, Statement, Undo, write_change};
-use lq_tree::{Node, known, optional, public, required};
+use lq_base::{Dialect, Duplicate, Items, KindFault, Name, NoMemory, both};
+use lq_model::{
+    Canon, Change, Field, ForeignKey, Look, SqlText, Statement, Undo, schema_field, write_change,
+};
+use lq_tree::{Node, catalogue, in_schema, known, optional, required, schema};
 use std::alloc::Global;
 
 /// A table gets a foreign key (Liquibase's documentation, "addForeignKeyConstraint").
@@ -90,7 +92,7 @@ fn or_remarks(is_accepted: bool, key: &'static str) -> &'static str
 
 // Tests that the map has no other keys, nor one of those that it knows only at some values at another.
 fn only_known(alloc: Global, node: &Node) -> Result<(), KindFault>
-    ensures { Reads (known (all_keys.names ++ ignored node.now) node.now) result }
+    ensures { Reads (known (key_names ++ ignored node.now) node.now) result }
 {
     let keys = [
         "constraintName",
@@ -99,7 +101,8 @@ fn only_known(alloc: Global, node: &Node) -> Result<(), KindFault>
         "referencedTableName",
         "referencedColumnNames",
         "onDelete",
-        "schemaName",
+        "baseTableSchemaName",
+        "referencedTableSchemaName",
         "catalogName",
         "remarks",
         or_remarks(is_false_at(node, "deferrable"), "deferrable"),
@@ -120,17 +123,23 @@ impl AddForeignKeyConstraint {
         dialect: Dialect,
         _sql: &P,
     ) -> Result<AddForeignKeyConstraint, KindFault>
-        ensures read { Reads (add_foreign_key node.now) result }
+        ensures read { Reads (add_foreign_key dialect node.now) result }
         ensures right { IfOk result (λ x. is_for dialect x ≡ true) }
     {
         only_known(alloc, node)?;
         let constraint_name = required(alloc, node, "constraintName")?;
-        let base_table_name = required(alloc, node, "baseTableName")?;
+        let table: Name = required(alloc, node, "baseTableName")?;
         let base_column_names = required(alloc, node, "baseColumnNames")?;
-        let referenced_table_name = required(alloc, node, "referencedTableName")?;
+        let target: Name = required(alloc, node, "referencedTableName")?;
         let referenced_column_names = required(alloc, node, "referencedColumnNames")?;
         let on_delete = optional(alloc, node, "onDelete")?;
-        public(alloc, node)?;
+        let base = schema(alloc, node, dialect, "baseTableSchemaName")?;
+        let referenced = schema(alloc, node, dialect, "referencedTableSchemaName")?;
+        catalogue(alloc, node)?;
+        let (base_table_name, referenced_table_name) = both(
+            in_schema(alloc, dialect, &base, &table),
+            in_schema(alloc, dialect, &referenced, &target),
+        )?;
         Ok(AddForeignKeyConstraint {
             constraint_name,
             base_table_name,
@@ -214,7 +223,7 @@ impl Change for AddForeignKeyConstraint {
                 ),
                 (
                     "baseTableName",
-                    Some(Field::Text(self.base_table_name.as_key())),
+                    Some(Field::Text(self.base_table_name.text())),
                 ),
                 (
                     "baseColumnNames",
@@ -222,13 +231,18 @@ impl Change for AddForeignKeyConstraint {
                 ),
                 (
                     "referencedTableName",
-                    Some(Field::Text(self.referenced_table_name.as_key())),
+                    Some(Field::Text(self.referenced_table_name.text())),
                 ),
                 (
                     "referencedColumnNames",
                     Some(Field::Names(self.referenced_column_names.as_slice())),
                 ),
                 ("onDelete", on_delete_field(self.on_delete)),
+                ("baseTableSchemaName", schema_field(&self.base_table_name)),
+                (
+                    "referencedTableSchemaName",
+                    schema_field(&self.referenced_table_name),
+                ),
             ],
         )
     }

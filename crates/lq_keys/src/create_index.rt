@@ -7,9 +7,9 @@ use crate::index_column::{IndexColumn, names_of};
 use lq_base::{Dialect, Duplicate, Items, KindFault, Name, NoMemory};
 use lq_model::{
     Canon, Change, Field, Fields, Index, Look, MapsAt, SqlText, Statement, Undo, index_name,
-    name_field, truth_field, write_change_of,
+    name_field, schema_field, truth_field, write_change_of,
 };
-use lq_tree::{Node, known, optional, public, required, required_columns};
+use lq_tree::{Node, catalogue, in_schema, known, optional, required, required_columns, schema};
 use std::alloc::Global;
 
 /// An index is made (Liquibase's documentation, "createIndex").
@@ -54,15 +54,17 @@ impl CreateIndex {
         dialect: Dialect,
         _sql: &P,
     ) -> Result<CreateIndex, KindFault>
-        ensures read { Reads (create_index node.now) result }
+        ensures read { Reads (create_index dialect node.now) result }
         ensures right { IfOk result (λ x. is_for dialect x ≡ true) }
     {
         known(alloc, node, &KEYS)?;
         let index_name = optional(alloc, node, "indexName")?;
-        let table_name = required(alloc, node, "tableName")?;
+        let table: Name = required(alloc, node, "tableName")?;
         let columns = required_columns(alloc, node, "columns")?;
         let unique = optional(alloc, node, "unique")?;
-        public(alloc, node)?;
+        let schema = schema(alloc, node, dialect, "schemaName")?;
+        catalogue(alloc, node)?;
+        let table_name = in_schema(alloc, dialect, &schema, &table)?;
         Ok(CreateIndex {
             index_name,
             table_name,
@@ -142,18 +144,17 @@ impl Change for CreateIndex {
     fn canon(&self, to: &mut Canon) -> Result<(), NoMemory> {
         let names = [
             ("indexName", name_field(&self.index_name)),
-            ("tableName", Some(Field::Text(self.table_name.as_key()))),
+            ("tableName", Some(Field::Text(self.table_name.text()))),
         ];
         let columns = MapsAt {
             key: "columns",
             maps: self.columns.as_slice(),
         };
-        let unique = [("unique", truth_field(self.unique))];
-        write_change_of(
-            to,
-            "createIndex",
-            &(Fields(&names), columns, Fields(&unique)),
-        )
+        let last = [
+            ("unique", truth_field(self.unique)),
+            ("schemaName", schema_field(&self.table_name)),
+        ];
+        write_change_of(to, "createIndex", &(Fields(&names), columns, Fields(&last)))
     }
 
     ghost spelled = { spelled };

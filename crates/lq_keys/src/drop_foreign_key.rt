@@ -4,8 +4,8 @@ ghost use Rattle.lq_keys.specs.DropForeignKey.{is_for, drop_foreign_key};
 
 use crate::drops::foreign_drop;
 use lq_base::{Dialect, Items, KindFault, Name, NoMemory};
-use lq_model::{Canon, Change, Field, Look, SqlText, Statement, Undo, write_change};
-use lq_tree::{Node, known, public, required};
+use lq_model::{Canon, Change, Field, Look, SqlText, Statement, Undo, schema_field, write_change};
+use lq_tree::{Node, catalogue, in_schema, known, required, schema};
 use std::alloc::Global;
 
 /// A foreign key of a table is dropped (Liquibase's documentation, "dropForeignKeyConstraint").
@@ -18,7 +18,7 @@ pub struct DropForeignKeyConstraint {
 const KEYS: [&str; 5] = [
     "baseTableName",
     "constraintName",
-    "schemaName",
+    "baseTableSchemaName",
     "catalogName",
     "remarks",
 ];
@@ -32,13 +32,15 @@ impl DropForeignKeyConstraint {
         dialect: Dialect,
         _sql: &P,
     ) -> Result<DropForeignKeyConstraint, KindFault>
-        ensures read { Reads (drop_foreign_key node.now) result }
+        ensures read { Reads (drop_foreign_key dialect node.now) result }
         ensures right { IfOk result (λ x. is_for dialect x ≡ true) }
     {
         known(alloc, node, &KEYS)?;
-        let base_table_name = required(alloc, node, "baseTableName")?;
+        let table: Name = required(alloc, node, "baseTableName")?;
         let constraint_name = required(alloc, node, "constraintName")?;
-        public(alloc, node)?;
+        let schema = schema(alloc, node, dialect, "baseTableSchemaName")?;
+        catalogue(alloc, node)?;
+        let base_table_name = in_schema(alloc, dialect, &schema, &table)?;
         Ok(DropForeignKeyConstraint {
             base_table_name,
             constraint_name,
@@ -92,12 +94,13 @@ impl Change for DropForeignKeyConstraint {
             &[
                 (
                     "baseTableName",
-                    Some(Field::Text(self.base_table_name.as_key())),
+                    Some(Field::Text(self.base_table_name.text())),
                 ),
                 (
                     "constraintName",
                     Some(Field::Text(self.constraint_name.as_key())),
                 ),
+                ("baseTableSchemaName", schema_field(&self.base_table_name)),
             ],
         )
     }

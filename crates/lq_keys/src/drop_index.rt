@@ -4,8 +4,8 @@ ghost use Rattle.lq_keys.specs.DropIndex.{drop_index, is_for};
 
 use crate::drops::index_drop;
 use lq_base::{Dialect, Items, KindFault, Name, NoMemory};
-use lq_model::{Canon, Change, Field, Look, SqlText, Statement, Undo, write_change};
-use lq_tree::{Node, known, public, required};
+use lq_model::{Canon, Change, Field, Look, SqlText, Statement, Undo, schema_field, write_change};
+use lq_tree::{Node, catalogue, in_schema, known, required, schema};
 use std::alloc::Global;
 
 /// An index is dropped (Liquibase's documentation, "dropIndex").
@@ -33,13 +33,15 @@ impl DropIndex {
         dialect: Dialect,
         _sql: &P,
     ) -> Result<DropIndex, KindFault>
-        ensures read { Reads (drop_index node.now) result }
+        ensures read { Reads (drop_index dialect node.now) result }
         ensures right { IfOk result (λ x. is_for dialect x ≡ true) }
     {
         known(alloc, node, &KEYS)?;
         let index_name = required(alloc, node, "indexName")?;
-        let table_name = required(alloc, node, "tableName")?;
-        public(alloc, node)?;
+        let table: Name = required(alloc, node, "tableName")?;
+        let schema = schema(alloc, node, dialect, "schemaName")?;
+        catalogue(alloc, node)?;
+        let table_name = in_schema(alloc, dialect, &schema, &table)?;
         Ok(DropIndex {
             index_name,
             table_name,
@@ -92,7 +94,8 @@ impl Change for DropIndex {
             "dropIndex",
             &[
                 ("indexName", Some(Field::Text(self.index_name.as_key()))),
-                ("tableName", Some(Field::Text(self.table_name.as_key()))),
+                ("tableName", Some(Field::Text(self.table_name.text()))),
+                ("schemaName", schema_field(&self.table_name)),
             ],
         )
     }

@@ -2,7 +2,7 @@
 ghost use Rattle.std.specs.Prelude.{◌≡◌, IfOk};
 ghost use Rattle.lq_keys.specs.Drops.{drops_foreign, drops_index};
 
-use lq_base::{Dialect, Duplicate, Name, NoMemory, both};
+use lq_base::{Dialect, Duplicate, Name, NoMemory, both, placed};
 use lq_model::Statement;
 use std::alloc::Global;
 
@@ -22,7 +22,8 @@ pub(crate) fn foreign_drop(
     }
 }
 
-/// Drops the index of this name: under PostgreSQL without its table, under MySQL with it.
+/// Drops the index of this name on this table: under PostgreSQL by its name in the table's schema,
+/// under MySQL with the table.
 pub(crate) fn index_drop(
     alloc: Global,
     dialect: Dialect,
@@ -33,7 +34,7 @@ pub(crate) fn index_drop(
 {
     match dialect {
         Dialect::Postgresql => {
-            let name = name.duplicate(alloc)?;
+            let name = placed(alloc, table, name)?;
             Ok(Statement::DropIndex { name, table: None })
         }
         Dialect::Mysql => {

@@ -66,29 +66,29 @@ named_other d name n =
 -- a change of a key, a constraint or an index
 unfoldable pub named_key : Dialect → List ℕ → Taken AnyChange
 named_key d name n =
-    if bytes_eq name (codes "addPrimaryKey") then within (codes "addPrimaryKey") (map_found (λ x. AddPrimaryKey x) (add_primary_key.add_primary_key n))
-    else (if bytes_eq name (codes "dropPrimaryKey") then within (codes "dropPrimaryKey") (map_found (λ x. DropPrimaryKey x) (drop_primary_key.drop_primary_key n))
-    else (if bytes_eq name (codes "addForeignKeyConstraint") then within (codes "addForeignKeyConstraint") (map_found (λ x. AddForeignKeyConstraint x) (add_foreign_key.add_foreign_key n))
-    else (if bytes_eq name (codes "dropForeignKeyConstraint") then within (codes "dropForeignKeyConstraint") (map_found (λ x. DropForeignKeyConstraint x) (drop_foreign_key.drop_foreign_key n))
-    else (if bytes_eq name (codes "addUniqueConstraint") then within (codes "addUniqueConstraint") (map_found (λ x. AddUniqueConstraint x) (add_unique.add_unique n))
-    else (if bytes_eq name (codes "dropUniqueConstraint") then within (codes "dropUniqueConstraint") (map_found (λ x. DropUniqueConstraint x) (drop_unique.drop_unique n))
-    else (if bytes_eq name (codes "createIndex") then within (codes "createIndex") (map_found (λ x. CreateIndex x) (create_index.create_index n))
-    else (if bytes_eq name (codes "dropIndex") then within (codes "dropIndex") (map_found (λ x. DropIndex x) (drop_index.drop_index n))
+    if bytes_eq name (codes "addPrimaryKey") then within (codes "addPrimaryKey") (map_found (λ x. AddPrimaryKey x) (add_primary_key.add_primary_key d n))
+    else (if bytes_eq name (codes "dropPrimaryKey") then within (codes "dropPrimaryKey") (map_found (λ x. DropPrimaryKey x) (drop_primary_key.drop_primary_key d n))
+    else (if bytes_eq name (codes "addForeignKeyConstraint") then within (codes "addForeignKeyConstraint") (map_found (λ x. AddForeignKeyConstraint x) (add_foreign_key.add_foreign_key d n))
+    else (if bytes_eq name (codes "dropForeignKeyConstraint") then within (codes "dropForeignKeyConstraint") (map_found (λ x. DropForeignKeyConstraint x) (drop_foreign_key.drop_foreign_key d n))
+    else (if bytes_eq name (codes "addUniqueConstraint") then within (codes "addUniqueConstraint") (map_found (λ x. AddUniqueConstraint x) (add_unique.add_unique d n))
+    else (if bytes_eq name (codes "dropUniqueConstraint") then within (codes "dropUniqueConstraint") (map_found (λ x. DropUniqueConstraint x) (drop_unique.drop_unique d n))
+    else (if bytes_eq name (codes "createIndex") then within (codes "createIndex") (map_found (λ x. CreateIndex x) (create_index.create_index d n))
+    else (if bytes_eq name (codes "dropIndex") then within (codes "dropIndex") (map_found (λ x. DropIndex x) (drop_index.drop_index d n))
     else named_other d name n)))))))
 
 -- a change of the type of that name: of a table or a column, of a key or an index, or of another object or of rows
 unfoldable pub named : Dialect → List ℕ → Taken AnyChange
 named d name n =
-    if bytes_eq name (codes "createTable") then within (codes "createTable") (map_found (λ x. CreateTable x) (create_table.create_table n))
-    else (if bytes_eq name (codes "dropTable") then within (codes "dropTable") (map_found (λ x. DropTable x) (drop_table.drop_table n))
-    else (if bytes_eq name (codes "renameTable") then within (codes "renameTable") (map_found (λ x. RenameTable x) (rename_table.rename_table n))
-    else (if bytes_eq name (codes "addColumn") then within (codes "addColumn") (map_found (λ x. AddColumn x) (add_column.add_column n))
-    else (if bytes_eq name (codes "dropColumn") then within (codes "dropColumn") (map_found (λ x. DropColumn x) (drop_column.drop_column n))
-    else (if bytes_eq name (codes "renameColumn") then within (codes "renameColumn") (map_found (λ x. RenameColumn x) (rename_column.rename_column n))
+    if bytes_eq name (codes "createTable") then within (codes "createTable") (map_found (λ x. CreateTable x) (create_table.create_table d n))
+    else (if bytes_eq name (codes "dropTable") then within (codes "dropTable") (map_found (λ x. DropTable x) (drop_table.drop_table d n))
+    else (if bytes_eq name (codes "renameTable") then within (codes "renameTable") (map_found (λ x. RenameTable x) (rename_table.rename_table d n))
+    else (if bytes_eq name (codes "addColumn") then within (codes "addColumn") (map_found (λ x. AddColumn x) (add_column.add_column d n))
+    else (if bytes_eq name (codes "dropColumn") then within (codes "dropColumn") (map_found (λ x. DropColumn x) (drop_column.drop_column d n))
+    else (if bytes_eq name (codes "renameColumn") then within (codes "renameColumn") (map_found (λ x. RenameColumn x) (rename_column.rename_column d n))
     else (if bytes_eq name (codes "addNotNullConstraint") then within (codes "addNotNullConstraint") (map_found (λ x. AddNotNullConstraint x) (add_not_null.add_not_null d n))
     else (if bytes_eq name (codes "dropNotNullConstraint") then within (codes "dropNotNullConstraint") (map_found (λ x. DropNotNullConstraint x) (drop_not_null.drop_not_null d n))
-    else (if bytes_eq name (codes "addDefaultValue") then within (codes "addDefaultValue") (map_found (λ x. AddDefaultValue x) (add_default_value.add_default_value n))
-    else (if bytes_eq name (codes "dropDefaultValue") then within (codes "dropDefaultValue") (map_found (λ x. DropDefaultValue x) (drop_default_value.drop_default_value n))
+    else (if bytes_eq name (codes "addDefaultValue") then within (codes "addDefaultValue") (map_found (λ x. AddDefaultValue x) (add_default_value.add_default_value d n))
+    else (if bytes_eq name (codes "dropDefaultValue") then within (codes "dropDefaultValue") (map_found (λ x. DropDefaultValue x) (drop_default_value.drop_default_value d n))
     else named_key d name n)))))))))
 
 abbrev pub at_only : Dialect → Option (List (List ℕ × Node)) → Found AnyChange

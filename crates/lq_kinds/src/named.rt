@@ -56,7 +56,7 @@ fn create_table<P: SqlText>(
 ) -> Result<AnyChange, KindFault>
     ensures read { Reads
         (within (codes "createTable")
-        (map_found (λ x. any.CreateTable x) (create_table.create_table node.now))) result }
+        (map_found (λ x. any.CreateTable x) (create_table.create_table dialect node.now))) result }
     ensures right { IfOk result (λ x. is_for dialect x ≡ true) }
 {
     match CreateTable::read(alloc, node, dialect, sql) {
@@ -73,7 +73,7 @@ fn drop_table<P: SqlText>(
 ) -> Result<AnyChange, KindFault>
     ensures read { Reads
         (within (codes "dropTable")
-        (map_found (λ x. any.DropTable x) (drop_table.drop_table node.now))) result }
+        (map_found (λ x. any.DropTable x) (drop_table.drop_table dialect node.now))) result }
     ensures right { IfOk result (λ x. is_for dialect x ≡ true) }
 {
     match DropTable::read(alloc, node, dialect, sql) {
@@ -90,7 +90,7 @@ fn rename_table<P: SqlText>(
 ) -> Result<AnyChange, KindFault>
     ensures read { Reads
         (within (codes "renameTable")
-        (map_found (λ x. any.RenameTable x) (rename_table.rename_table node.now))) result }
+        (map_found (λ x. any.RenameTable x) (rename_table.rename_table dialect node.now))) result }
     ensures right { IfOk result (λ x. is_for dialect x ≡ true) }
 {
     match RenameTable::read(alloc, node, dialect, sql) {
@@ -107,7 +107,7 @@ fn add_column<P: SqlText>(
 ) -> Result<AnyChange, KindFault>
     ensures read { Reads
         (within (codes "addColumn")
-        (map_found (λ x. any.AddColumn x) (add_column.add_column node.now))) result }
+        (map_found (λ x. any.AddColumn x) (add_column.add_column dialect node.now))) result }
     ensures right { IfOk result (λ x. is_for dialect x ≡ true) }
 {
     match AddColumn::read(alloc, node, dialect, sql) {
@@ -124,7 +124,7 @@ fn drop_column<P: SqlText>(
 ) -> Result<AnyChange, KindFault>
     ensures read { Reads
         (within (codes "dropColumn")
-        (map_found (λ x. any.DropColumn x) (drop_column.drop_column node.now))) result }
+        (map_found (λ x. any.DropColumn x) (drop_column.drop_column dialect node.now))) result }
     ensures right { IfOk result (λ x. is_for dialect x ≡ true) }
 {
     match DropColumn::read(alloc, node, dialect, sql) {
@@ -141,7 +141,8 @@ fn rename_column<P: SqlText>(
 ) -> Result<AnyChange, KindFault>
     ensures read { Reads
         (within (codes "renameColumn")
-        (map_found (λ x. any.RenameColumn x) (rename_column.rename_column node.now))) result }
+        (map_found (λ x. any.RenameColumn x) (rename_column.rename_column dialect node.now)))
+        result }
     ensures right { IfOk result (λ x. is_for dialect x ≡ true) }
 {
     match RenameColumn::read(alloc, node, dialect, sql) {
@@ -158,7 +159,7 @@ fn add_primary_key<P: SqlText>(
 ) -> Result<AnyChange, KindFault>
     ensures read { Reads
         (within (codes "addPrimaryKey")
-        (map_found (λ x. any.AddPrimaryKey x) (add_primary_key.add_primary_key node.now)))
+        (map_found (λ x. any.AddPrimaryKey x) (add_primary_key.add_primary_key dialect node.now)))
         result }
     ensures right { IfOk result (λ x. is_for dialect x ≡ true) }
 {
@@ -176,8 +177,8 @@ fn drop_primary_key<P: SqlText>(
 ) -> Result<AnyChange, KindFault>
     ensures read { Reads
         (within (codes "dropPrimaryKey")
-        (map_found (λ x. any.DropPrimaryKey x) (drop_primary_key.drop_primary_key node.now)))
-        result }
+        (map_found (λ x. any.DropPrimaryKey x)
+        (drop_primary_key.drop_primary_key dialect node.now))) result }
     ensures right { IfOk result (λ x. is_for dialect x ≡ true) }
 {
     match DropPrimaryKey::read(alloc, node, dialect, sql) {
@@ -195,7 +196,7 @@ fn add_foreign_key<P: SqlText>(
     ensures read { Reads
         (within (codes "addForeignKeyConstraint")
         (map_found (λ x. any.AddForeignKeyConstraint x)
-        (add_foreign_key.add_foreign_key node.now))) result }
+        (add_foreign_key.add_foreign_key dialect node.now))) result }
     ensures right { IfOk result (λ x. is_for dialect x ≡ true) }
 {
     match AddForeignKeyConstraint::read(alloc, node, dialect, sql) {
@@ -213,7 +214,7 @@ fn drop_foreign_key<P: SqlText>(
     ensures read { Reads
         (within (codes "dropForeignKeyConstraint")
         (map_found (λ x. any.DropForeignKeyConstraint x)
-        (drop_foreign_key.drop_foreign_key node.now))) result }
+        (drop_foreign_key.drop_foreign_key dialect node.now))) result }
     ensures right { IfOk result (λ x. is_for dialect x ≡ true) }
 {
     match DropForeignKeyConstraint::read(alloc, node, dialect, sql) {
@@ -230,7 +231,8 @@ fn add_unique<P: SqlText>(
 ) -> Result<AnyChange, KindFault>
     ensures read { Reads
         (within (codes "addUniqueConstraint")
-        (map_found (λ x. any.AddUniqueConstraint x) (add_unique.add_unique node.now))) result }
+        (map_found (λ x. any.AddUniqueConstraint x) (add_unique.add_unique dialect node.now)))
+        result }
     ensures right { IfOk result (λ x. is_for dialect x ≡ true) }
 {
     match AddUniqueConstraint::read(alloc, node, dialect, sql) {
@@ -247,7 +249,7 @@ fn drop_unique<P: SqlText>(
 ) -> Result<AnyChange, KindFault>
     ensures read { Reads
         (within (codes "dropUniqueConstraint")
-        (map_found (λ x. any.DropUniqueConstraint x) (drop_unique.drop_unique node.now)))
+        (map_found (λ x. any.DropUniqueConstraint x) (drop_unique.drop_unique dialect node.now)))
         result }
     ensures right { IfOk result (λ x. is_for dialect x ≡ true) }
 {
@@ -301,8 +303,8 @@ fn add_default_value<P: SqlText>(
 ) -> Result<AnyChange, KindFault>
     ensures read { Reads
         (within (codes "addDefaultValue")
-        (map_found (λ x. any.AddDefaultValue x) (add_default_value.add_default_value node.now)))
-        result }
+        (map_found (λ x. any.AddDefaultValue x)
+        (add_default_value.add_default_value dialect node.now))) result }
     ensures right { IfOk result (λ x. is_for dialect x ≡ true) }
 {
     match AddDefaultValue::read(alloc, node, dialect, sql) {
@@ -320,7 +322,7 @@ fn drop_default_value<P: SqlText>(
     ensures read { Reads
         (within (codes "dropDefaultValue")
         (map_found (λ x. any.DropDefaultValue x)
-        (drop_default_value.drop_default_value node.now))) result }
+        (drop_default_value.drop_default_value dialect node.now))) result }
     ensures right { IfOk result (λ x. is_for dialect x ≡ true) }
 {
     match DropDefaultValue::read(alloc, node, dialect, sql) {
@@ -337,7 +339,7 @@ fn create_index<P: SqlText>(
 ) -> Result<AnyChange, KindFault>
     ensures read { Reads
         (within (codes "createIndex")
-        (map_found (λ x. any.CreateIndex x) (create_index.create_index node.now))) result }
+        (map_found (λ x. any.CreateIndex x) (create_index.create_index dialect node.now))) result }
     ensures right { IfOk result (λ x. is_for dialect x ≡ true) }
 {
     match CreateIndex::read(alloc, node, dialect, sql) {
@@ -354,7 +356,7 @@ fn drop_index<P: SqlText>(
 ) -> Result<AnyChange, KindFault>
     ensures read { Reads
         (within (codes "dropIndex")
-        (map_found (λ x. any.DropIndex x) (drop_index.drop_index node.now))) result }
+        (map_found (λ x. any.DropIndex x) (drop_index.drop_index dialect node.now))) result }
     ensures right { IfOk result (λ x. is_for dialect x ≡ true) }
 {
     match DropIndex::read(alloc, node, dialect, sql) {

@@ -4,7 +4,7 @@ use Rattle.std.proofs.lemmas.Bool.{eqb-true}
 use Rattle.std.specs.List.{list_all}
 use Rattle.std.specs.Prelude.{Bool, List, Ok, Some, [], codes, if◌then◌else◌, length, map, nat_eq, not, refl, true, false, ℕ, ◌∷◌, ◌≡◌}
 use Rattle.std.specs.Str.{bytes_eq}
-use Rattle.lq_base.specs.Name.{is_name}
+use Rattle.lq_base.specs.Name.{is_name, is_object}
 use Rattle.lq_base.specs.declared.dialect.Dialect.{Dialect}
 use Rattle.lq_base.specs.declared.literal.Literal.TheVariants as literal
 use Rattle.lq_base.specs.declared.name.Name.{Name}
@@ -27,6 +27,7 @@ use Rattle.lq_tree.specs.Items.{are_some}
 use Rattle.lq_load.specs.LoadData.{becomes, canonical_of, effect, gives, insert_of, inverse, is_for, is_fresh, lists, rows, with_rows}
 use Rattle.lq_load.specs.Rows.{Records}
 use Rattle.lq_load.specs.declared.load_data.LoadData.{LoadData}
+use Rattle.lq_base.proofs.BesideLemmas.{object_of_name}
 
 -- its statements
 
@@ -57,7 +58,7 @@ all_spelled : (d : Dialect) (t : Name) (ns : List Name) (rows : Records) → is_
 all_spelled d t ns [] named names even = refl
 all_spelled d t ns (row ∷ rows) named names even =
     and_true (is_statement d (insert_of t ns row)) _
-    (and_true (is_name t) _ named (and_true (list_all is_name ns) _ (all_named ns names) (and_true (not (is_empty (map literal_in row))) _ (some_fields ns row names (and_left (nat_eq (length row) (length ns)) _ even)) (literals_right row))))
+    (and_true (is_object d t) _ (object_of_name d t named) (and_true (list_all is_name ns) _ (all_named ns names) (and_true (not (is_empty (map literal_in row))) _ (some_fields ns row names (and_left (nat_eq (length row) (length ns)) _ even)) (literals_right row))))
     (all_spelled d t ns rows named names (and_right (nat_eq (length row) (length ns)) _ even))
 
 columns_right : (d : Dialect) (x : LoadData) → is_for d x ≡ true → are_some is_name x.columns ≡ true

@@ -1,9 +1,9 @@
 -- A column that is added keeps a catalogue sound.
-use Rattle.std.proofs.Common.{ap, sym, ◌∙◌}
+use Rattle.std.proofs.Common.{ap, arith, sym, ◌∙◌}
 use Rattle.std.specs.List.{list_all}
 use Rattle.std.specs.Prelude.{List, Ok, Some, [], cond, false, is_none, map, not, refl, true, ℕ, ◌&&◌, ◌++◌, ◌||◌, ◌∷◌, ◌≡◌}
 use Rattle.lq_base.specs.Kind.{is_kind}
-use Rattle.lq_base.specs.Name.{is_named}
+use Rattle.lq_base.specs.Name.{is_name, is_named}
 use Rattle.lq_base.specs.Value.{is_value_of}
 use Rattle.lq_base.specs.declared.dialect.Dialect.{Dialect}
 use Rattle.lq_base.specs.declared.dialect.Dialect.TheVariants.{Mysql, Postgresql}
@@ -27,6 +27,8 @@ use Rattle.lq_model.proofs.Decide.{accepted, here}
 use Rattle.lq_model.proofs.IntoKind.{default_into}
 use Rattle.lq_model.proofs.Kept.{kept_more, same_apart}
 use Rattle.lq_model.proofs.Lists.{all-append_left, all-map, all_both, all_more, all_one_more, and_left, and_right, and_true, any-append, map_append_one, or_false, or_left, or_right, other_way, same_name, true_false}
+use Rattle.lq_model.proofs.NameCounts.{last_count}
+use Rattle.lq_model.proofs.PublicNames.{one_public, public_by}
 use Rattle.lq_model.proofs.Shaped.{keeps}
 
 repeats_last : (ns : List Name) (n : Name) → repeats ns ≡ false → is_in n ns ≡ false → repeats (ns ++ n ∷ []) ≡ false
@@ -83,8 +85,8 @@ wider_within : (d : Dialect) (it : Table) (c : Column) → AreApartWithin d it �
 wider_within Postgresql it c h = h
 wider_within Mysql it c h = h
 
-wider_sound : (d : Dialect) (it : Table) (c : Column) → IsSoundTable d it → has_column it c.name ≡ false → is_kind c.kind ≡ true → default_fits c ≡ true → c.numbered ≡ false → IsSoundTable d (with_column c it)
-wider_sound d it c sound out known fit plain = record {
+wider_sound : (d : Dialect) (it : Table) (c : Column) → IsSoundTable d it → has_column it c.name ≡ false → is_kind c.kind ≡ true → default_fits c ≡ true → c.numbered ≡ false → is_name c.name ≡ true → IsSoundTable d (with_column c it)
+wider_sound d it c sound out known fit plain name = record {
   some = not_empty it.columns c;
   differ = ap repeats (map_append_one (λ x. x.name) it.columns c) ∙ repeats_last (column_names it) c.name sound.differ out;
   kinds = all_one_more _ it.columns c sound.kinds known;
@@ -96,14 +98,15 @@ wider_sound d it c sound out known fit plain = record {
   numbered = all_one_more _ it.columns c sound.numbered (ap (λ b. not b || (is_number c.kind && (is_none c.default && is_key_of it.key c.name))) plain);
   key_named = sound.key_named;
   within = wider_within d it c sound.within;
+  public = public_by it (with_column c it) (c.name ∷ []) (one_public c.name name) (λ n. let a = last_count (λ (x : Column). x.name) n it.columns c in omega (arith, a)) sound.public;
 }
 
-pub add_column_keeps : (by : By) (d : Dialect) (t : Name) (def : ColumnDef) (c e : Catalogue) (k : ℕ) → is_kind def.kind ≡ true → IsSound d c → step by d (AddColumn t def) c ≡ Ok (e, k) → IsSound d e
-add_column_keeps by d t def c e k known sound made =
+pub add_column_keeps : (by : By) (d : Dialect) (t : Name) (def : ColumnDef) (c e : Catalogue) (k : ℕ) → is_name def.name ≡ true → is_kind def.kind ≡ true → IsSound d c → step by d (AddColumn t def) c ≡ Ok (e, k) → IsSound d e
+add_column_keeps by d t def c e k name known sound made =
     let it = the_table c t in
     let p = add_column by d t def c in
     let ok = accepted p e k made in
     let there = here c t ok.missing in
     let new = with_column (column_of def) it in
     keeps d p e k made (kept_more d c t new sound there (kind_more it.columns (column_of def)) refl (same_apart d c t new there refl refl sound.apart)
-    (wider_sound d it (column_of def) (sound.tables t it there) ok.exists known (default_into def ok.wrong ok.wide) ok.depends))
+    (wider_sound d it (column_of def) (sound.tables t it there) ok.exists known (default_into def ok.wrong ok.wide) ok.depends name))

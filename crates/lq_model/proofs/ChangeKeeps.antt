@@ -1,9 +1,9 @@
 -- Statements that change a column in its place keep a catalogue sound.
 use Rattle.std.proofs.Common.{ap, sym, ◌∙◌}
 use Rattle.std.specs.List.{list_all, list_any}
-use Rattle.std.specs.Prelude.{Bool, List, None, Ok, Option, Some, [], cond, false, is_none, map, not, refl, true, ℕ, ◌&&◌, ◌||◌, ◌∷◌, ◌≡◌}
+use Rattle.std.specs.Prelude.{Bool, List, None, Ok, Option, Some, [], cond, false, is_none, map, not, refl, true, ℕ, ◌&&◌, ◌++◌, ◌||◌, ◌∷◌, ◌≡◌}
 use Rattle.lq_base.specs.Kind.{is_kind}
-use Rattle.lq_base.specs.Name.{is_named}
+use Rattle.lq_base.specs.Name.{is_elsewhere, is_named}
 use Rattle.lq_base.specs.Value.{into_kind, is_value_of}
 use Rattle.lq_base.specs.declared.dialect.Dialect.{Dialect}
 use Rattle.lq_base.specs.declared.dialect.Dialect.TheVariants.{Mysql, Postgresql}
@@ -20,10 +20,11 @@ use Rattle.lq_model.specs.Needs.{is_in_key}
 use Rattle.lq_model.specs.Row.{row_fits}
 use Rattle.lq_model.specs.Sound.{IsSound, IsSoundTable, are_columns, default_fits, is_key_of, is_not_null, is_numbered_well}
 use Rattle.lq_model.specs.Step.{step}
-use Rattle.lq_model.specs.TableNames.{column_lists, key_list}
+use Rattle.lq_model.specs.TableNames.{column_lists, constraint_names, key_list}
 use Rattle.lq_model.specs.declared.caller.By.{By}
 use Rattle.lq_model.specs.declared.column.Column.{Column}
 use Rattle.lq_model.specs.declared.constraint.Key.{Key}
+use Rattle.lq_model.specs.declared.index.Index.{Index}
 use Rattle.lq_model.specs.declared.statement.Statement.TheVariants.{DropDefault, DropNotNull, SetDefault, SetNotNull}
 use Rattle.lq_model.proofs.Between.{name_kept}
 use Rattle.lq_model.proofs.Decide.{accepted, here}
@@ -85,6 +86,7 @@ module _ (n : Name) (f : Column → Column) (same : (c : Column) → (f c).name 
         key_named = fine.key_named;
         numbered = numbered;
         within = within_still d it fine.within;
+        public = ap (λ ns. list_any is_elsewhere (ns ++ (constraint_names it ++ map (λ (i : Index). i.name) it.indexes))) stay ∙ fine.public;
       }
     where
       some_still : (cs : List Column) → is_empty cs ≡ false → is_empty (map (changed_at n f) cs) ≡ false

@@ -5,7 +5,7 @@ use Rattle.std.specs.List.{flat_map, list_all, list_any}
 use Rattle.std.specs.Option.{option_map, unwrap_or}
 use Rattle.std.specs.Prelude.{Bool, List, None, Ok, Option, Some, [], cond, false, is_none, is_some, map, not, refl, true, ℕ, ◌&&◌, ◌++◌, ◌+◌, ◌||◌, ◌∷◌, ◌≡◌, ◌≤◌}
 use Rattle.lq_base.specs.Kind.{is_kind}
-use Rattle.lq_base.specs.Name.{is_name, is_named}
+use Rattle.lq_base.specs.Name.{is_elsewhere, is_name, is_named, is_object}
 use Rattle.lq_base.specs.Value.{into_kind, is_value_of}
 use Rattle.lq_base.specs.declared.dialect.Dialect.{Dialect}
 use Rattle.lq_base.specs.declared.dialect.Dialect.TheVariants.{Mysql, Postgresql}
@@ -18,7 +18,7 @@ use Rattle.lq_model.specs.Catalogue.{Catalogue, Sequence, Table, View, no_table,
 use Rattle.lq_model.specs.CreateTable.{create_table, depends_in, key_column, lacks_own, lists_twice, new_table, numbers_wrongly, repeats_number}
 use Rattle.lq_model.specs.Kinds.{is_number, kinds_at, kinds_differ, same_kinds}
 use Rattle.lq_model.specs.Literals.{column_of, is_wide, is_wrong, literal_of, value_in}
-use Rattle.lq_model.specs.NameSpaces.{AreApart, AreApartWithin, all_foreign_names, are_clashing, is_taken, object_names, shared_names}
+use Rattle.lq_model.specs.NameSpaces.{AreApart, AreApartWithin, all_foreign_names, are_clashing, is_taken, names_inside, object_names, shared_names}
 use Rattle.lq_model.specs.Names.{is_empty, is_in, repeats, times}
 use Rattle.lq_model.specs.Needs.{targets_table}
 use Rattle.lq_model.specs.Plan.{Plan}
@@ -26,7 +26,7 @@ use Rattle.lq_model.specs.Reserved.{takes_lock_key}
 use Rattle.lq_model.specs.Sound.{IsSound, IsSoundTable, are_columns, default_fits, is_key_name, is_key_of, is_not_null, is_view}
 use Rattle.lq_model.specs.Statement.{is_column_def, is_foreign, is_key, is_name_list, is_pg, is_statement, is_unique}
 use Rattle.lq_model.specs.Step.{step}
-use Rattle.lq_model.specs.TableNames.{column_lists, column_missing, constraint_names, foreign_names, has_column, index_names, inner_names, key_list, target_lists}
+use Rattle.lq_model.specs.TableNames.{column_lists, column_missing, column_names, constraint_names, foreign_names, has_column, index_names, inner_names, key_list, placed, target_lists}
 use Rattle.lq_model.specs.declared.caller.By.{By}
 use Rattle.lq_model.specs.declared.column.Column.{Column}
 use Rattle.lq_model.specs.declared.column.ColumnDef.{ColumnDef}
@@ -40,11 +40,13 @@ use Rattle.lq_model.proofs.Counts.{inner-insert, keys-insert, once}
 use Rattle.lq_model.proofs.Decide.{IsAccepted, accepted}
 use Rattle.lq_model.proofs.IntoKind.{default_into}
 use Rattle.lq_model.proofs.Kept.{not_so_true}
-use Rattle.lq_model.proofs.Lists.{all-append, all-map, all_kept, all_more, all_none, and_left, and_right, and_true, any_less, any_less_both, named_itself, not_false, or_left, or_right, other_way, same_name, true_false, whether}
+use Rattle.lq_model.proofs.Lists.{all-append, all-map, all_kept, all_more, all_none, and_left, and_right, and_true, any-append, any_less, any_less_both, map-map, named_itself, not_false, or_false, or_left, or_right, other_way, same_name, true_false, whether}
 use Rattle.lq_model.proofs.Maps.{any_none-insert_entry, lookup-insert_entry, some_same, sorted-insert_entry, sorted_entries, sorted_keys}
+use Rattle.lq_model.proofs.PublicNames.{names_public, schemas_more}
 use Rattle.lq_model.proofs.Shaped.{IsShaped, keeps}
 use Rattle.lq_model.proofs.Times.{one_more, times-append, times_none}
 use Rattle.lq_model.proofs.ViewAt.{view_at, view_is}
+use Rattle.lq_model.proofs.Places.{placed_once}
 
 -- names that do not repeat stand there at most once
 pub once_if : (ns : List Name) (n : Name) → repeats ns ≡ false → times n ns ≤ 1
@@ -105,14 +107,14 @@ module _ (d : Dialect) (t : Name) (c : Catalogue) (it : Table) (sound : IsSound 
   objects_more : (n : Name) → times n (object_names after) ≡ times n (object_names c) + once (is_named n t)
   objects_more n =
       let others = map (λ (x : Name × View). x.0) c.views ++ map (λ (x : Name × Sequence). x.0) c.sequences in
-      let k = keys-insert inner_names n c.tables t it none in
+      let k = keys-insert names_inside n c.tables t it none in
       let p = times-append n (map (λ (x : Name × Table). x.0) after.tables) others in
       let q = times-append n (map (λ (x : Name × Table). x.0) c.tables) others in
       omega (arith, k, p, q)
 
   -- the catalogue with a new table
-  pub new_shaped : AreApart d after → IsSoundTable d it → list_any (kinds_differ after it) it.foreign ≡ false → IsShaped d after
-  new_shaped apart fine alike = record {
+  pub new_shaped : is_object d t ≡ true → AreApart d after → IsSoundTable d it → list_any (kinds_differ after it) it.foreign ≡ false → IsShaped d after
+  new_shaped object apart fine alike = record {
     ordered = sorted_keys after.tables (sorted-insert_entry c.tables t it (sorted_entries c.tables sound.ordered));
     ordered_views = sound.ordered_views;
     ordered_sequences = sound.ordered_sequences;
@@ -122,33 +124,34 @@ module _ (d : Dialect) (t : Name) (c : Catalogue) (it : Table) (sound : IsSound 
     ] (sym (new_looked q) ∙ is);
     views = all_kept (λ (v : Name × View). is_named t v.1.query.table) (λ (v : Name × View). is_view c v.1) _ c.views (λ v apart is. new_view v.1 apart is) (unviewed d c t sound none) sound.views;
     apart = apart;
+    schemas = schemas_more d t (object_names c) (object_names after) object (λ n. let m = objects_more n in omega (arith, m)) sound.schemas;
     steps = sound.steps;
     sequences = sound.sequences;
     alike = any_none-insert_entry (λ (x : Name × Table). list_any (kinds_differ after x.1) x.1.foreign) c.tables t it (λ n. refl) alike others_alike;
   }
 
   -- its names are apart from those that were there
-  pub new_apart : (k : Dialect) → ((n : Name) → is_pg k ≡ true → times n (inner_names it) ≤ 1) → is_taken k t c ≡ false → are_clashing k t it c ≡ false → AreApart k c → AreApart k after
+  pub new_apart : (k : Dialect) → ((n : Name) → is_pg k ≡ true → times n (placed t (inner_names it)) ≤ 1) → is_taken k t c ≡ false → are_clashing k t it c ≡ false → AreApart k c → AreApart k after
   new_apart Postgresql own free clash h = λ n.
       let shared = shared_names c in
       let o = objects_more n in
-      let i = inner-insert inner_names n c.tables t it none in
-      let p = times-append n (object_names after) (flat_map (λ (x : Name × Table). inner_names x.1) after.tables) in
-      let q = times-append n (object_names c) (flat_map (λ (x : Name × Table). inner_names x.1) c.tables) in
-      let mine : is_in t (inner_names it) ≡ false = clash_first t shared (inner_names it) (or_right (repeats (constraint_names it)) _ clash) in
-      let theirs : list_any (λ m. is_in m shared) (inner_names it) ≡ false = clash_second t shared (inner_names it) (or_right (repeats (constraint_names it)) _ clash) in
-      let both : times n (inner_names it) + times n shared ≤ 1 = apart_from (inner_names it) shared n (own n refl) (h n) theirs in
-      elim (is_named n t) as (λ b. is_named n t ≡ b → times n (shared_names after) ≡ (times n shared + once b) + times n (inner_names it) → times n (shared_names after) ≤ 1) [
+      let i = inner-insert names_inside n c.tables t it none in
+      let p = times-append n (object_names after) (flat_map names_inside after.tables) in
+      let q = times-append n (object_names c) (flat_map names_inside c.tables) in
+      let mine : is_in t (placed t (inner_names it)) ≡ false = clash_first t shared (placed t (inner_names it)) (or_right (repeats (constraint_names it)) _ clash) in
+      let theirs : list_any (λ m. is_in m shared) (placed t (inner_names it)) ≡ false = clash_second t shared (placed t (inner_names it)) (or_right (repeats (constraint_names it)) _ clash) in
+      let both : times n (placed t (inner_names it)) + times n shared ≤ 1 = apart_from (placed t (inner_names it)) shared n (own n refl) (h n) theirs in
+      elim (is_named n t) as (λ b. is_named n t ≡ b → times n (shared_names after) ≡ (times n shared + once b) + times n (placed t (inner_names it)) → times n (shared_names after) ≤ 1) [
         | true ↦ λ r is.
             let x : times n shared ≡ 0 = ap (λ m. times m shared) (same_name n t r) ∙ times_none t shared free in
-            let y : times n (inner_names it) ≡ 0 = ap (λ m. times m (inner_names it)) (same_name n t r) ∙ times_none t (inner_names it) mine in
+            let y : times n (placed t (inner_names it)) ≡ 0 = ap (λ m. times m (placed t (inner_names it))) (same_name n t r) ∙ times_none t (placed t (inner_names it)) mine in
             omega (arith, is, x, y)
         | false ↦ λ r is. omega (arith, is, both)
       ] refl (omega (arith, o, i, p, q))
   new_apart Mysql own free clash h = (
     λ n. one_more n t (times n (object_names after)) (object_names c) free (h.0 n) (objects_more n),
     λ n.
-        let i = inner-insert foreign_names n c.tables t it none in
+        let i = inner-insert (λ (x : Name × Table). foreign_names x.1) n c.tables t it none in
         let b : times n (foreign_names it) + times n (all_foreign_names c) ≤ 1 = apart_from (foreign_names it) (all_foreign_names c) n (once_if (foreign_names it) n (or_left (repeats (foreign_names it)) _ (or_right (repeats (index_names it)) _ clash))) (h.1 n) (or_right (repeats (foreign_names it)) _ (or_right (repeats (index_names it)) _ clash)) in
         omega (arith, i, b),
   )
@@ -238,12 +241,12 @@ new_inner Mysql t it c none clash n pg = true_false pg refl
 some_lists : {A : Type 0} (f : A → List Name) (p : A → Bool) (xs : List A) → ((x : A) → p x ≡ true → not (is_empty (f x)) ≡ true) → list_all p xs ≡ true → list_all (λ ns. not (is_empty ns)) (map f xs) ≡ true
 some_lists f p xs h all = all-map (λ ns. not (is_empty ns)) f xs ∙ all_more p _ xs h all
 
-foreign_fine : (it : Table) (fs : List ForeignKey) → list_all is_foreign fs ≡ true → list_any (λ f. repeats f.columns || repeats f.targets) fs ≡ false → list_any (λ f. column_missing it f.columns) fs ≡ false → list_all (λ f. are_columns it f.columns) fs ≡ true
-foreign_fine it [] some differ there = refl
-foreign_fine it (f ∷ fs) some differ there = and_true _ _
-    (and_true _ _ (and_left (not (is_empty f.columns)) _ (and_left (is_name_list f.columns) _ (and_right (is_name f.name) _ (and_left (is_foreign f) _ some))))
+foreign_fine : (d : Dialect) (it : Table) (fs : List ForeignKey) → list_all (is_foreign d) fs ≡ true → list_any (λ f. repeats f.columns || repeats f.targets) fs ≡ false → list_any (λ f. column_missing it f.columns) fs ≡ false → list_all (λ f. are_columns it f.columns) fs ≡ true
+foreign_fine d it [] some differ there = refl
+foreign_fine d it (f ∷ fs) some differ there = and_true _ _
+    (and_true _ _ (and_left (not (is_empty f.columns)) _ (and_left (is_name_list f.columns) _ (and_right (is_name f.name) _ (and_left (is_foreign d f) _ some))))
     (and_true _ _ (ap not (or_left (repeats f.columns) _ (or_left (repeats f.columns || repeats f.targets) _ differ))) (all_none (has_column it) f.columns (or_left (column_missing it f.columns) _ there))))
-    (foreign_fine it fs (and_right (is_foreign f) _ some) (or_right (repeats f.columns || repeats f.targets) _ differ) (or_right (column_missing it f.columns) _ there))
+    (foreign_fine d it fs (and_right (is_foreign d f) _ some) (or_right (repeats f.columns || repeats f.targets) _ differ) (or_right (column_missing it f.columns) _ there))
 
 module _ (by : By) (d : Dialect) (t : Name) (defs : List ColumnDef) (key : Option Key) (uniques : List Unique) (foreign : List ForeignKey) (c e : Catalogue) (k : ℕ) (valid : is_statement d (CreateTable t defs key uniques foreign) ≡ true) (made : step by d (CreateTable t defs key uniques foreign) c ≡ Ok (e, k)) where
   abbrev it' : Table
@@ -255,8 +258,8 @@ module _ (by : By) (d : Dialect) (t : Name) (defs : List ColumnDef) (key : Optio
   ok : IsAccepted p' e
   ok = accepted p' e k made
 
-  rest : (not (is_empty defs) && (list_all is_column_def defs && (list_all (is_key d) (key_list key) && (list_all is_unique uniques && list_all is_foreign foreign)))) ≡ true
-  rest = and_right (is_name t) _ valid
+  rest : (not (is_empty defs) && (list_all is_column_def defs && (list_all (is_key d) (key_list key) && (list_all is_unique uniques && list_all (is_foreign d) foreign)))) ≡ true
+  rest = and_right (is_object d t) _ valid
 
   defs_fine : list_all is_column_def defs ≡ true
   defs_fine = and_left _ _ (and_right (not (is_empty defs)) _ rest)
@@ -267,7 +270,7 @@ module _ (by : By) (d : Dialect) (t : Name) (defs : List ColumnDef) (key : Optio
   uniques_fine : list_all is_unique uniques ≡ true
   uniques_fine = and_left _ _ (and_right (list_all (is_key d) (key_list key)) _ (and_right (list_all is_column_def defs) _ (and_right (not (is_empty defs)) _ rest)))
 
-  foreigns_fine : list_all is_foreign foreign ≡ true
+  foreigns_fine : list_all (is_foreign d) foreign ≡ true
   foreigns_fine = and_right (list_all is_unique uniques) _ (and_right (list_all (is_key d) (key_list key)) _ (and_right (list_all is_column_def defs) _ (and_right (not (is_empty defs)) _ rest)))
 
   free : is_taken d t c ≡ false
@@ -277,7 +280,7 @@ module _ (by : By) (d : Dialect) (t : Name) (defs : List ColumnDef) (key : Optio
   clash = or_left _ _ (or_right _ _ ok.exists)
 
   twice : lists_twice it' ≡ false
-  twice = or_right (takes_lock_key by d (t ∷ inner_names it')) _ (or_right (are_clashing d t it' c) _ (or_right (is_taken d t c) _ ok.exists))
+  twice = or_right (takes_lock_key by d (t ∷ placed t (inner_names it'))) _ (or_right (are_clashing d t it' c) _ (or_right (is_taken d t c) _ ok.exists))
 
   own : lacks_own it' ≡ false
   own = or_left _ _ ok.missing
@@ -298,14 +301,21 @@ module _ (by : By) (d : Dialect) (t : Name) (defs : List ColumnDef) (key : Optio
     rows = refl;
     defaults = key_all (λ m k v u. is_value_of k (unwrap_or v value.Null)) key (map column_of defs) (defaults_fit defs (or_left _ _ ok.wrong) ok.wide);
     lists = lists_fine it' (column_lists it') some_columns_each (or_left _ _ (or_right _ _ twice)) (or_left _ _ own);
-    foreign = foreign_fine it' foreign foreigns_fine (or_right _ _ (or_right _ _ twice)) (or_right _ _ own);
+    foreign = foreign_fine d it' foreign foreigns_fine (or_right _ _ (or_right _ _ twice)) (or_right _ _ own);
     key = key_not_null key it' (map column_of defs) refl;
     key_named = all_more (is_key d) (λ x. is_key_name d x.name) (key_list key) (λ x h. and_left (is_key_name d x.name) _ (and_right (is_name x.name) _ h)) keys_fine;
     numbered = key_all (λ m k v u. not u || (is_number k && (is_none v && is_key_of key m))) key (map column_of defs) (numbered_all key defs ok.depends (or_left _ _ (or_right _ _ wrongs)));
     within = new_within d t it' c clash;
+    public = any-append is_elsewhere (column_names it') _ ∙ or_false _ _
+        (ap (list_any is_elsewhere) (key_columns_named key (map column_of defs) ∙ map-map (λ (x : Column). x.name) column_of defs) ∙ names_public (λ (x : ColumnDef). x.name) is_column_def defs (λ x h. and_left (is_name x.name) _ h) defs_fine)
+        (any-append is_elsewhere (constraint_names it') [] ∙ or_false _ _ (any-append is_elsewhere (map (λ (x : Key). x.name) (key_list key)) _ ∙ or_false _ _
+        (names_public (λ (x : Key). x.name) (is_key d) (key_list key) (λ x h. and_left (is_name x.name) _ h) keys_fine)
+        (any-append is_elsewhere (map (λ (x : Unique). x.name) uniques) _ ∙ or_false _ _
+        (names_public (λ (x : Unique). x.name) is_unique uniques (λ x h. and_left (is_name x.name) _ h) uniques_fine)
+        (names_public (λ (x : ForeignKey). x.name) (is_foreign d) foreign (λ x h. and_left (is_name x.name) _ h) foreigns_fine))) refl);
   }
 
   pub create_table_keeps : IsSound d c → IsSound d e
   create_table_keeps sound =
       let none = free_of d t c free in
-      keeps d p' e k made (new_shaped d t c it' sound none (new_apart d t c it' sound none d (new_inner d t it' c refl clash) free clash sound.apart) table_fine (or_left _ _ wrongs))
+      keeps d p' e k made (new_shaped d t c it' sound none (and_left (is_object d t) _ valid) (new_apart d t c it' sound none d (λ n pg. placed_once t (inner_names it') (λ m. new_inner d t it' c refl clash m pg) n) free clash sound.apart) table_fine (or_left _ _ wrongs))

@@ -5,13 +5,14 @@ use Rattle.std.specs.List.{flat_map, list_all, list_any}
 use Rattle.std.specs.Str.{is_utf8}
 use Rattle.std.specs.Prelude.{Bool, List, [], codes, cond, false, length, nat_le, nat_lt, not, refl, suc, take, true, zero, ℕ, ◌&&◌, ◌++◌, ◌==◌, ◌||◌, ◌≤◌, ◌∷◌, ◌≡◌}
 use Rattle.lq_base.specs.Character.{has_control, is_control}
-use Rattle.lq_base.specs.Name.{is_name}
+use Rattle.lq_base.specs.Name.{is_name, is_name_key, text_of}
 use Rattle.lq_base.specs.declared.dialect.Dialect.{Dialect}
 use Rattle.lq_base.specs.declared.dialect.Dialect.TheVariants.{Mysql, Postgresql}
 use Rattle.lq_base.specs.declared.name.Name.{Name}
 use Rattle.lq_model.specs.DefaultName.{DefaultNamesAreNames, cut, default_name, foreign_name, index_name, is_prefix, key_name, unique_name}
 use Rattle.lq_model.proofs.Lists.{and_left, and_right, true_false}
 use Rattle.lq_model.proofs.PlainText.{is_plain, plain_utf8}
+use Rattle.lq_base.proofs.NameLemmas.{is_name_key_name, names_tell_keys}
 
 -- a text of these bytes is plain and clean
 
@@ -54,9 +55,12 @@ not_true false h = refl
 pub name_clean : (name : List ℕ) → is_name name ≡ true → has_control name ≡ false
 name_clean name h = not_true (has_control name) (and_right (nat_le 1 (length name) && nat_le (length name) 63) _ h)
 
-columns_clean : (columns : List Name) → list_all is_name columns ≡ true → has_control (flat_map (λ column. codes "_" ++ column) columns) ≡ false
+pub text_named : (name : Name) → is_name_key name ≡ true → is_name (text_of name) ≡ true
+text_named name is = (names_tell_keys name is).1
+
+columns_clean : (columns : List Name) → list_all is_name columns ≡ true → has_control (flat_map (λ column. codes "_" ++ text_of column) columns) ≡ false
 columns_clean [] h = refl
-columns_clean (n ∷ ns) h = clean_joined (codes "_" ++ n) (flat_map (λ column. codes "_" ++ column) ns) (name_clean n (and_left (is_name n) _ h)) (columns_clean ns (and_right (is_name n) _ h))
+columns_clean (n ∷ ns) h = clean_joined (codes "_" ++ text_of n) (flat_map (λ column. codes "_" ++ text_of column) ns) (name_clean (text_of n) (text_named n (is_name_key_name n (and_left (is_name n) _ h)))) (columns_clean ns (and_right (is_name n) _ h))
 
 -- the front of a text
 
@@ -124,30 +128,30 @@ named prefix rest h clean =
     whole_named (cut 63 (prefix ++ rest)) (omega (arith, three, long)) (cut_length 63 (prefix ++ rest)) (cut_clean 63 (prefix ++ rest) clean)
 
 abbrev those : List Name → List ℕ
-those columns = flat_map (λ column. codes "_" ++ column) columns
+those columns = flat_map (λ column. codes "_" ++ text_of column) columns
 
-pub by_default : (prefix table : List ℕ) (columns : List Name) → is_prefix prefix ≡ true → has_control (prefix ++ table ++ flat_map (λ column. codes "_" ++ column) columns) ≡ false → is_name (default_name prefix table columns) ≡ true
+pub by_default : (prefix table : List ℕ) (columns : List Name) → is_prefix prefix ≡ true → has_control (prefix ++ text_of table ++ flat_map (λ column. codes "_" ++ text_of column) columns) ≡ false → is_name (default_name prefix table columns) ≡ true
 by_default prefix table columns h clean =
-    let apart : prefix ++ table ++ those columns ≡ prefix ++ (table ++ those columns) = append_assoc prefix table (those columns) in
-    ap (λ text. is_name (cut 63 text)) apart ∙ named prefix (table ++ those columns) h (ap has_control (sym apart) ∙ clean)
+    let apart : prefix ++ text_of table ++ those columns ≡ prefix ++ (text_of table ++ those columns) = append_assoc prefix (text_of table) (those columns) in
+    ap (λ text. is_name (cut 63 text)) apart ∙ named prefix (text_of table ++ those columns) h (ap has_control (sym apart) ∙ clean)
 
-of_names : (prefix table : List ℕ) (columns : List Name) → is_prefix prefix ≡ true → is_name table ≡ true → list_all is_name columns ≡ true → is_name (default_name prefix table columns) ≡ true
-of_names prefix table columns h t cs = by_default prefix table columns h (clean_joined (prefix ++ table) (those columns) (clean_joined prefix table (prefix_clean prefix h) (name_clean table t)) (columns_clean columns cs))
+of_names : (prefix table : List ℕ) (columns : List Name) → is_prefix prefix ≡ true → is_name_key table ≡ true → list_all is_name columns ≡ true → is_name (default_name prefix table columns) ≡ true
+of_names prefix table columns h t cs = by_default prefix table columns h (clean_joined (prefix ++ text_of table) (those columns) (clean_joined prefix (text_of table) (prefix_clean prefix h) (name_clean (text_of table) (text_named table t))) (columns_clean columns cs))
 
-key_named : (d : Dialect) (table : Name) → is_name table ≡ true → is_name (key_name d table) ≡ true
+key_named : (d : Dialect) (table : Name) → is_name_key table ≡ true → is_name (key_name d table) ≡ true
 unfolding key_name
 key_named Postgresql table t = of_names (codes "pk_") table [] refl t refl
 key_named Mysql table t = refl
 
-unique_named : (table : Name) (columns : List Name) → is_name table ≡ true → list_all is_name columns ≡ true → is_name (unique_name table columns) ≡ true
+unique_named : (table : Name) (columns : List Name) → is_name_key table ≡ true → list_all is_name columns ≡ true → is_name (unique_name table columns) ≡ true
 unfolding unique_name
 unique_named table columns t cs = of_names (codes "uq_") table columns refl t cs
 
-foreign_named : (table : Name) (columns : List Name) → is_name table ≡ true → list_all is_name columns ≡ true → is_name (foreign_name table columns) ≡ true
+foreign_named : (table : Name) (columns : List Name) → is_name_key table ≡ true → list_all is_name columns ≡ true → is_name (foreign_name table columns) ≡ true
 unfolding foreign_name
 foreign_named table columns t cs = of_names (codes "fk_") table columns refl t cs
 
-index_named : (table : Name) (columns : List Name) → is_name table ≡ true → list_all is_name columns ≡ true → is_name (index_name table columns) ≡ true
+index_named : (table : Name) (columns : List Name) → is_name_key table ≡ true → list_all is_name columns ≡ true → is_name (index_name table columns) ≡ true
 unfolding index_name
 index_named table columns t cs = of_names (codes "ix_") table columns refl t cs
 

@@ -1,9 +1,9 @@
 -- DROP COLUMN keeps a catalogue sound.
 use Rattle.std.proofs.Common.{ap, sym, ◌∙◌}
 use Rattle.std.specs.List.{list_all, list_any}
-use Rattle.std.specs.Prelude.{Bool, List, Ok, Some, [], cond, false, map, not, refl, true, ℕ, ◌||◌, ◌∷◌, ◌≡◌}
+use Rattle.std.specs.Prelude.{Bool, List, Ok, Some, [], cond, false, map, not, refl, true, ℕ, ◌++◌, ◌||◌, ◌∷◌, ◌≡◌}
 use Rattle.lq_base.specs.Kind.{is_kind}
-use Rattle.lq_base.specs.Name.{is_named}
+use Rattle.lq_base.specs.Name.{is_elsewhere, is_named}
 use Rattle.lq_base.specs.Value.{is_value_of}
 use Rattle.lq_base.specs.declared.dialect.Dialect.{Dialect}
 use Rattle.lq_base.specs.declared.dialect.Dialect.TheVariants.{Mysql, Postgresql}
@@ -18,14 +18,15 @@ use Rattle.lq_model.specs.Needs.{is_aimed, is_bound, is_in_foreign, is_shown}
 use Rattle.lq_model.specs.Row.{row_fits}
 use Rattle.lq_model.specs.Sound.{IsSound, are_columns, default_fits, is_not_null, is_numbered_well}
 use Rattle.lq_model.specs.Step.{step}
-use Rattle.lq_model.specs.TableNames.{column_lists, key_list}
+use Rattle.lq_model.specs.TableNames.{column_lists, column_names, constraint_names, key_list}
 use Rattle.lq_model.specs.declared.caller.By.{By}
 use Rattle.lq_model.specs.declared.column.Column.{Column}
+use Rattle.lq_model.specs.declared.index.Index.{Index}
 use Rattle.lq_model.specs.declared.statement.Statement.TheVariants.{DropColumn}
 use Rattle.lq_model.proofs.Decide.{accepted, here}
 use Rattle.lq_model.proofs.Kept.{kept_foreign, same_apart}
 use Rattle.lq_model.proofs.KeptKinds.{are_columns_still}
-use Rattle.lq_model.proofs.Lists.{all-map, all_kept, all_more, and_left, and_right, and_true, or_false, or_left, or_right, other_way, same_name, true_false}
+use Rattle.lq_model.proofs.Lists.{all-map, all_kept, all_more, and_left, and_right, and_true, any-append, or_false, or_left, or_right, other_way, same_name, true_false}
 use Rattle.lq_model.proofs.Shaped.{keeps, shape_of}
 
 module _ (n : Name) where
@@ -43,18 +44,18 @@ module _ (n : Name) where
     | false ↦ and_true _ _ (and_left (p c) _ h) (all_without p cs (and_right (p c) _ h))
   ]
 
-  in_without : (m : Name) (cs : List Column) → is_in m (map (λ c. c.name) cs) ≡ false → is_in m (map (λ c. c.name) (columns_without n cs)) ≡ false
-  in_without m [] h = refl
-  in_without m (c ∷ cs) h = elim (is_named n c.name) as (λ b. is_in m (map (λ c. c.name) (cond b cs (c ∷ columns_without n cs))) ≡ false) [
-    | true ↦ or_right (is_named m c.name) _ h
-    | false ↦ or_false _ _ (or_left (is_named m c.name) _ h) (in_without m cs (or_right (is_named m c.name) _ h))
+  none_without : (p : Name → Bool) (cs : List Column) → list_any p (map (λ c. c.name) cs) ≡ false → list_any p (map (λ c. c.name) (columns_without n cs)) ≡ false
+  none_without p [] h = refl
+  none_without p (c ∷ cs) h = elim (is_named n c.name) as (λ b. list_any p (map (λ c. c.name) (cond b cs (c ∷ columns_without n cs))) ≡ false) [
+    | true ↦ or_right (p c.name) _ h
+    | false ↦ or_false _ _ (or_left (p c.name) _ h) (none_without p cs (or_right (p c.name) _ h))
   ]
 
   differ_without : (cs : List Column) → repeats (map (λ c. c.name) cs) ≡ false → repeats (map (λ c. c.name) (columns_without n cs)) ≡ false
   differ_without [] h = refl
   differ_without (c ∷ cs) h = elim (is_named n c.name) as (λ b. repeats (map (λ c. c.name) (cond b cs (c ∷ columns_without n cs))) ≡ false) [
     | true ↦ or_right (is_in c.name (map (λ c. c.name) cs)) _ h
-    | false ↦ or_false _ _ (in_without c.name cs (or_left (is_in c.name (map (λ c. c.name) cs)) _ h)) (differ_without cs (or_right (is_in c.name (map (λ c. c.name) cs)) _ h))
+    | false ↦ or_false _ _ (none_without (is_named c.name) cs (or_left (is_in c.name (map (λ c. c.name) cs)) _ h)) (differ_without cs (or_right (is_in c.name (map (λ c. c.name) cs)) _ h))
   ]
 
   row_less : (cs : List Column) (row : List Value) → row_fits cs row ≡ true → row_fits (columns_without n cs) (row_without n cs row) ≡ true
@@ -98,6 +99,10 @@ drop_column_keeps by d t n c e k sound made =
       key_named = fine.key_named;
       numbered = all_without n (is_numbered_well it) it.columns fine.numbered;
       within = within_same d it n fine.within;
+      public =
+          let others = constraint_names it ++ map (λ (i : Index). i.name) it.indexes in
+          let none = sym (any-append is_elsewhere (column_names it) others) ∙ fine.public in
+          any-append is_elsewhere (column_names new) others ∙ or_false _ _ (none_without n is_elsewhere it.columns (or_left _ _ none)) (or_right (list_any is_elsewhere (column_names it)) _ none);
     }))
   where
     within_same : (d : Dialect) (it : Table) (n : Name) → AreApartWithin d it → AreApartWithin d (without_column n it)

@@ -3,12 +3,12 @@ use Rattle.std.proofs.Common.{ap, arith, sym, ◌∙◌}
 use Rattle.std.specs.List.{filter, list_all, list_any}
 use Rattle.std.specs.Prelude.{Bool, List, None, Ok, Option, Some, [], cond, false, is_none, map, not, refl, true, ℕ, ◌&&◌, ◌++◌, ◌||◌, ◌∷◌, ◌≡◌, ◌≤◌}
 use Rattle.lq_base.specs.Kind.{is_kind}
-use Rattle.lq_base.specs.Name.{is_named}
+use Rattle.lq_base.specs.Name.{beside, is_named}
 use Rattle.lq_base.specs.declared.dialect.Dialect.{Dialect}
 use Rattle.lq_base.specs.declared.dialect.Dialect.TheVariants.{Mysql, Postgresql}
 use Rattle.lq_base.specs.declared.name.Name.{Name}
 use Rattle.lq_model.specs.Catalogue.{Catalogue, Table, table_of, the_table, with_table}
-use Rattle.lq_model.specs.DropConstraint.{drop_constraint, drop_foreign_key, drop_index, drop_primary_key, drop_unique, uniques_without, without_constraint, without_foreign, without_index, without_its_key, without_key, without_unique}
+use Rattle.lq_model.specs.DropConstraint.{drop_constraint, drop_foreign_key, drop_index, drop_primary_key, drop_unique, uniques_without, without_constraint, without_foreign, without_index, without_index_in, without_its_key, without_key, without_unique}
 use Rattle.lq_model.specs.Kinds.{is_number, kind_of, kinds_differ}
 use Rattle.lq_model.specs.NameSpaces.{AreApartWithin}
 use Rattle.lq_model.specs.Names.{is_empty, is_in, repeats, times}
@@ -29,6 +29,7 @@ use Rattle.lq_model.proofs.Kept.{kept_columns, old_alike}
 use Rattle.lq_model.proofs.Lists.{all-append, all-append_left, all-append_right, all-map, all_more, none_all, or_false, or_left, or_right}
 use Rattle.lq_model.proofs.MappedTables.{mapped_shaped}
 use Rattle.lq_model.proofs.NameCounts.{apart_less, constraint_sum, fewer_count, foreign_at, index_sum, indexes_at, inner_sum, keys_at, uniques_at}
+use Rattle.lq_model.proofs.PublicNames.{columns_at, public_by}
 use Rattle.lq_model.proofs.Rows.{all_filtered}
 use Rattle.lq_model.proofs.Shaped.{IsShaped, keeps, shape_of}
 
@@ -86,6 +87,13 @@ less_sound d it less fine is = record {
   key_named = is.key_named;
   numbered = ap (λ cs. list_all (λ c. not c.numbered || (is_number c.kind && (is_none c.default && is_key_of less.key c.name))) cs) is.columns ∙ is.numbered;
   within = less_within d it less is fine.within;
+  public = public_by it less [] refl (λ n.
+      let a : columns_at n less ≡ columns_at n it = ap (λ cs. times n (map (λ (c : Column). c.name) cs)) is.columns in
+      let b = is.keys_fewer n in
+      let c = is.uniques_fewer n in
+      let e = is.foreign_fewer n in
+      let f = is.indexes_fewer n in
+      omega (arith, a, b, c, e, f)) fine.public;
 }
 
 -- the catalogue with less of a table, whose foreign keys are some of those that were there
@@ -230,33 +238,36 @@ drop_foreign_key_keeps by d t n c e k sound made =
     let there = here c t (or_left _ _ ok.missing) in
     keeps d p e k made (less_shaped d c t (without_foreign n (the_table c t)) (shape_of d c sound) there (foreign_less d n (the_table c t) (sound.tables t (the_table c t) there)) (λ q h. any_filtered q _ (the_table c t).foreign h))
 
-pub index_less : (d : Dialect) (n : Name) (it : Table) → IsSoundTable d it → IsLess d it (without_index n it)
-index_less d n it fine =
+less_of_indexes : (d : Dialect) (q : Index → Bool) (it : Table) → IsSoundTable d it → IsLess d it (record it { indexes = filter q it.indexes })
+less_of_indexes d q it fine =
     let ps = parts it fine.lists in
     record {
       columns = refl;
       rows = refl;
-      lists = lists_of (are_columns it) (map (λ (k : Key). k.columns) (key_list it.key)) (map (λ (u : Unique). u.columns) it.uniques) _ ps.0 ps.1 (lists_filtered (λ (i : Index). i.columns) (are_columns it) _ it.indexes ps.2);
+      lists = lists_of (are_columns it) (map (λ (k : Key). k.columns) (key_list it.key)) (map (λ (u : Unique). u.columns) it.uniques) _ ps.0 ps.1 (lists_filtered (λ (i : Index). i.columns) (are_columns it) q it.indexes ps.2);
       foreign = fine.foreign;
       key = fine.key;
       key_named = fine.key_named;
       numbered = fine.numbered;
       keys_fewer = λ m. omega arith;
       uniques_fewer = λ m. omega arith;
-      indexes_fewer = λ m. fewer_count (λ (i : Index). i.name) _ m it.indexes;
+      indexes_fewer = λ m. fewer_count (λ (i : Index). i.name) q m it.indexes;
       foreign_fewer = λ m. omega arith;
     }
 
-index_fewer : (n m : Name) (it : Table) → times m (inner_names (without_index n it)) ≤ times m (inner_names it)
-index_fewer n m it =
+pub index_less : (d : Dialect) (n : Name) (it : Table) → IsSoundTable d it → IsLess d it (without_index n it)
+index_less d n it fine = less_of_indexes d (λ i. not (is_named n i.name)) it fine
+
+index_fewer : (n m t : Name) (it : Table) → times m (inner_names (without_index_in n t it)) ≤ times m (inner_names it)
+index_fewer n m t it =
     let x = inner_sum m it in
-    let y = inner_sum m (without_index n it) in
-    let a = fewer_count (λ (i : Index). i.name) (λ i. not (is_named n i.name)) m it.indexes in
+    let y = inner_sum m (without_index_in n t it) in
+    let a = fewer_count (λ (i : Index). i.name) (λ i. not (is_named n (beside t i.name))) m it.indexes in
     omega (arith, x, y, a)
 
 pub drop_index_keeps : (by : By) (d : Dialect) (n : Name) (t : Option Name) (c e : Catalogue) (k : ℕ) → IsSound d c → step by d (DropIndex n t) c ≡ Ok (e, k) → IsSound d e
 drop_index_keeps by d n None c e k sound made =
-    keeps d (drop_index by d n None c) e k made (mapped_shaped d c (without_index n) (λ x. refl) (λ x. refl) (λ x fine. less_sound d x (without_index n x) fine (index_less d n x fine)) (λ m x. index_fewer n m x) (shape_of d c sound))
+    keeps d (drop_index by d n None c) e k made (mapped_shaped d c (without_index_in n) (λ t x. refl) (λ t x. refl) (λ t x fine. less_sound d x (without_index_in n t x) fine (less_of_indexes d (λ i. not (is_named n (beside t i.name))) x fine)) (λ m t x. index_fewer n m t x) (shape_of d c sound))
 drop_index_keeps by d n (Some t) c e k sound made =
     let p = drop_index by d n (Some t) c in
     let ok = accepted p e k made in

@@ -12,30 +12,31 @@ use Rattle.lq_base.specs.declared.name.Name.{Name}
 use Rattle.lq_model.specs.Catalogue.{Catalogue, Sequence, Table, View, no_table, table_of, without_table}
 use Rattle.lq_model.specs.DropTable.{drop_table}
 use Rattle.lq_model.specs.Kinds.{kinds_at, kinds_differ, same_kinds}
-use Rattle.lq_model.specs.NameSpaces.{AreApart, object_names}
+use Rattle.lq_model.specs.NameSpaces.{AreApart, names_inside, object_names}
 use Rattle.lq_model.specs.Names.{times}
 use Rattle.lq_model.specs.Needs.{is_targeted, is_viewed, targets_table}
 use Rattle.lq_model.specs.Sound.{IsSound, IsSoundTable, is_view}
 use Rattle.lq_model.specs.Step.{step}
-use Rattle.lq_model.specs.TableNames.{foreign_names, inner_names}
+use Rattle.lq_model.specs.TableNames.{foreign_names}
 use Rattle.lq_model.specs.declared.caller.By.{By}
 use Rattle.lq_model.specs.declared.constraint.ForeignKey.{ForeignKey}
 use Rattle.lq_model.specs.declared.statement.Statement.TheVariants.{DropTable}
 use Rattle.lq_model.proofs.Decide.{accepted}
 use Rattle.lq_model.proofs.Lists.{all_kept, any-map, any_less_both, named_itself, or_left, or_right}
 use Rattle.lq_model.proofs.Maps.{any_none-remove_entry, found, lookup-remove_entry, not_some, sorted-remove_entry, sorted_entries, sorted_keys}
+use Rattle.lq_model.proofs.PublicNames.{schemas_fewer}
 use Rattle.lq_model.proofs.Shaped.{IsShaped, keeps, shape_of}
 use Rattle.lq_model.proofs.Times.{times-append}
 use Rattle.lq_model.proofs.ViewAt.{view_at, view_is}
 
-pub times-remove_entry : {X : Type 0} (f : X → List Name) (n k : Name) (es : List (Name × X)) → times n (flat_map (λ (e : Name × X). f e.1) (remove_entry (is_named k) es)) ≤ times n (flat_map (λ (e : Name × X). f e.1) es)
+pub times-remove_entry : {X : Type 0} (f : Name × X → List Name) (n k : Name) (es : List (Name × X)) → times n (flat_map f (remove_entry (is_named k) es)) ≤ times n (flat_map f es)
 times-remove_entry f n k [] = omega arith
-times-remove_entry {X = X} f n k (e ∷ es) = elim (is_named k e.0) as (λ b. times n (flat_map (λ (x : Name × X). f x.1) (cond b es (e ∷ remove_entry (is_named k) es))) ≤ times n (flat_map (λ (x : Name × X). f x.1) (e ∷ es))) [
-  | true ↦ let a = times-append n (f e.1) (flat_map (λ (x : Name × X). f x.1) es) in omega (arith, a)
+times-remove_entry f n k (e ∷ es) = elim (is_named k e.0) as (λ b. times n (flat_map f (cond b es (e ∷ remove_entry (is_named k) es))) ≤ times n (flat_map f (e ∷ es))) [
+  | true ↦ let a = times-append n (f e) (flat_map f es) in omega (arith, a)
   | false ↦
       let r = times-remove_entry f n k es in
-      let a = times-append n (f e.1) (flat_map (λ (x : Name × X). f x.1) es) in
-      let b = times-append n (f e.1) (flat_map (λ (x : Name × X). f x.1) (remove_entry (is_named k) es)) in
+      let a = times-append n (f e) (flat_map f es) in
+      let b = times-append n (f e) (flat_map f (remove_entry (is_named k) es)) in
       omega (arith, r, a, b)
 ]
 
@@ -82,12 +83,12 @@ module _ (d : Dialect) (t : Name) (c : Catalogue) (shape : IsShaped d c) (unview
   apart_less : (k : Dialect) → AreApart k c → AreApart k e'
   apart_less Postgresql h = λ n.
       let o = objects_fewer n in
-      let i = times-remove_entry inner_names n t c.tables in
-      let p = times-append n (object_names e') (flat_map (λ (x : Name × Table). inner_names x.1) e'.tables) in
-      let q = times-append n (object_names c) (flat_map (λ (x : Name × Table). inner_names x.1) c.tables) in
+      let i = times-remove_entry names_inside n t c.tables in
+      let p = times-append n (object_names e') (flat_map names_inside e'.tables) in
+      let q = times-append n (object_names c) (flat_map names_inside c.tables) in
       let m = h n in
       omega (arith, o, i, p, q, m)
-  apart_less Mysql h = (λ n. let o = objects_fewer n in let m = h.0 n in omega (arith, o, m), λ n. let i = times-remove_entry foreign_names n t c.tables in let m = h.1 n in omega (arith, i, m))
+  apart_less Mysql h = (λ n. let o = objects_fewer n in let m = h.0 n in omega (arith, o, m), λ n. let i = times-remove_entry (λ (x : Name × Table). foreign_names x.1) n t c.tables in let m = h.1 n in omega (arith, i, m))
 
   pub dropped : IsShaped d e'
   dropped = record {
@@ -101,6 +102,7 @@ module _ (d : Dialect) (t : Name) (c : Catalogue) (shape : IsShaped d c) (unview
     views = all_kept (λ (v : Name × View). is_named t v.1.query.table) (λ (v : Name × View). is_view c v.1) _ c.views
         (λ v apart is. view_is e' v.1 ∙ ap (λ o. view_at o v.1) (looked_other v.1.query.table apart) ∙ sym (view_is c v.1) ∙ is) unviewed shape.views;
     apart = apart_less d shape.apart;
+    schemas = schemas_fewer d (object_names c) (object_names e') objects_fewer shape.schemas;
     steps = shape.steps;
     sequences = shape.sequences;
     alike = any_less_both (λ (x : Name × Table). targets_table t x.1) (λ (x : Name × Table). list_any (kinds_differ c x.1) x.1.foreign) _ e'.tables

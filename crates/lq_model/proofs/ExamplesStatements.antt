@@ -19,7 +19,7 @@ use Rattle.lq_model.specs.SqlDrop.{drop_object, drop_index, rename_table}
 use Rattle.lq_model.specs.SqlRows.{insert, stated_columns}
 use Rattle.lq_model.specs.SqlTable.{create_table, table_item, column_item, table_of}
 use Rattle.lq_model.specs.SqlParser.{same_kind, sees, after, expect, ended, enclosed, separated, many, many_of, led_by}
-use Rattle.lq_model.specs.SqlPart.{name, name_of, column_kind, kind_with, sized_with, kind_number, literal as literal_rule, number as number_rule}
+use Rattle.lq_model.specs.SqlPart.{name, name_of, column_kind, kind_with, sized_with, kind_number, literal as literal_rule, number as number_rule, object}
 use Rattle.lq_model.specs.declared.statement.Statement.TheVariants.{AddColumn, AddForeignKey, CreateSequence, CreateTable, DropIndex, DropTable, Insert, RenameTable}
 
 -- words in any case; an unquoted name is folded in postgresql and kept in mysql
@@ -29,7 +29,7 @@ pub drop_is_read :
     × (statement_in Postgresql (codes "drop table table") ≡ None)
     × (statement_in Postgresql (codes "drop table t;;") ≡ None)
     × (statement_in Postgresql (codes "drop table view") ≡ Some (DropTable (codes "view")))
-unfolding statement_in words kind_of_word unquoted statement drop_object same_kind sees after expect ended name name_of lexemes length_at
+unfolding statement_in words kind_of_word unquoted statement drop_object same_kind sees after expect ended name name_of lexemes length_at object
 drop_is_read = (refl, refl, refl, refl, refl)
 
 -- an index is named in mysql with its table, and in postgresql without
@@ -38,7 +38,7 @@ pub drop_index_is_read :
     × (statement_in Postgresql (codes "drop index i on t") ≡ None)
     × (statement_in Mysql (codes "drop index i on t") ≡ Some (DropIndex (codes "i") (Some (codes "t"))))
     × (statement_in Mysql (codes "drop index i") ≡ None)
-unfolding statement_in words kind_of_word unquoted statement drop_object drop_index same_kind sees after expect ended name name_of lexemes length_at
+unfolding statement_in words kind_of_word unquoted statement drop_object drop_index same_kind sees after expect ended name name_of lexemes length_at object
 drop_index_is_read = (
   refl,
   refl,
@@ -51,7 +51,7 @@ pub rename_is_read :
     (statement_in Mysql (codes "RENAME TABLE t TO i") ≡ Some (RenameTable (codes "t") (codes "i")))
     × (statement_in Mysql (codes "ALTER TABLE t RENAME TO i") ≡ Some (RenameTable (codes "t") (codes "i")))
     × (statement_in Postgresql (codes "RENAME TABLE t TO i") ≡ None)
-unfolding statement_in words kind_of_word unquoted statement rename_table alter alter_table rename_part rename_table_to new_name same_kind sees after expect ended name name_of lexemes length_at
+unfolding statement_in words kind_of_word unquoted statement rename_table alter alter_table rename_part rename_table_to new_name same_kind sees after expect ended name name_of lexemes length_at object
 rename_is_read = (
   refl,
   refl,
@@ -62,7 +62,7 @@ rename_is_read = (
 pub insert_is_read :
     (statement_in Mysql (codes "insert into t values ('a\\'b')") ≡ Some (Insert (codes "t") [] (literal.Text (codes "a'b") ∷ [])))
     × (statement_in Postgresql (codes "insert into t (id, up) values (-12, NULL)") ≡ Some (Insert (codes "t") (id ∷ up ∷ []) (literal.Int (neg_ℤ (pos 12)) ∷ literal.Null ∷ [])))
-unfolding statement_in words kind_of_word unquoted statement insert stated_columns enclosed separated literal_rule number_rule many many_of led_by same_kind sees after expect ended name name_of lexemes length_at
+unfolding statement_in words kind_of_word unquoted statement insert stated_columns enclosed separated literal_rule number_rule many many_of led_by same_kind sees after expect ended name name_of lexemes length_at object
 insert_is_read = (
   refl,
   refl,
@@ -73,7 +73,7 @@ pub sequence_is_read :
     (statement_in Postgresql (codes "create sequence s start with 5 increment by -1") ≡ Some (CreateSequence (codes "s") (pos 5) (neg_ℤ (pos 1))))
     × (statement_in Postgresql (codes "create sequence s start with 5 increment by 0") ≡ None)
     × (statement_in Mysql (codes "create sequence s start with 5 increment by 1") ≡ None)
-unfolding statement_in words kind_of_word unquoted statement create create_sequence whole step literal_rule number_rule same_kind sees after expect ended name name_of lexemes length_at
+unfolding statement_in words kind_of_word unquoted statement create create_sequence whole step literal_rule number_rule same_kind sees after expect ended name name_of lexemes length_at object
 sequence_is_read = (refl, refl, refl)
 
 -- clauses in any order, each once, and none of a constraint
@@ -82,7 +82,7 @@ pub add_is_read :
     × (statement_in Postgresql (codes "alter table t add column id int null null") ≡ None)
     × (statement_in Postgresql (codes "alter table t add column id int primary key") ≡ None)
     × (statement_in Postgresql (codes "alter table t add column id varchar(03)") ≡ None)
-unfolding statement_in words kind_of_word unquoted statement alter alter_table add add_column added_column stated_column column_clause column_kind kind_with sized_with kind_number plain_kind sized_kind literal_rule number_rule many many_of led_by same_kind sees after expect ended name name_of lexemes length_at
+unfolding statement_in words kind_of_word unquoted statement alter alter_table add add_column added_column stated_column column_clause column_kind kind_with sized_with kind_number plain_kind sized_kind literal_rule number_rule many many_of led_by same_kind sees after expect ended name name_of lexemes length_at object
 add_is_read = (
   refl,
   refl,
@@ -99,7 +99,7 @@ pub create_is_read :
     × (statement_in Mysql (codes "create table t (id int, constraint k primary key (id))") ≡ Some (CreateTable (codes "t") (def id kind.Int None ∷ []) (Some (key_on (codes "PRIMARY") (id ∷ []))) [] []))
     × (statement_in Postgresql (codes "create table t (id int primary key, primary key (id))") ≡ None)
     × (statement_in Postgresql (codes "create table t (primary key (id), id int)") ≡ None)
-unfolding statement_in words kind_of_word unquoted statement create create_table table_item column_item table_of stated_column column_clause identity target column_kind plain_kind column_key column_unique column_foreign foreign_stated key_name unique_name foreign_name table_constraint stated_name key foreign on_delete enclosed separated many many_of led_by same_kind sees after expect ended name name_of lexemes length_at
+unfolding statement_in words kind_of_word unquoted statement create create_table table_item column_item table_of stated_column column_clause identity target column_kind plain_kind column_key column_unique column_foreign foreign_stated key_name unique_name foreign_name table_constraint stated_name key foreign on_delete enclosed separated many many_of led_by same_kind sees after expect ended name name_of lexemes length_at object
 create_is_read = (
   rw (plain_cut (codes "pk_t") refl refl) refl,
   rw (plain_cut (codes "uq_t_up") refl refl, plain_cut (codes "fk_t_up") refl refl) refl,
@@ -111,5 +111,5 @@ create_is_read = (
 pub constraint_is_read :
     statement_in Postgresql (codes "alter table t add foreign key (up, id) references q (a, b) on delete cascade")
     ≡ Some (AddForeignKey (codes "t") (foreign_to (codes "fk_t_up_id") (up ∷ id ∷ []) (codes "q") (codes "a" ∷ codes "b" ∷ []) true))
-unfolding statement_in words kind_of_word unquoted statement alter alter_table add add_constraint foreign_name table_constraint stated_name foreign on_delete enclosed separated many many_of led_by same_kind sees after expect ended name name_of lexemes length_at
+unfolding statement_in words kind_of_word unquoted statement alter alter_table add add_constraint foreign_name table_constraint stated_name foreign on_delete enclosed separated many many_of led_by same_kind sees after expect ended name name_of lexemes length_at object
 constraint_is_read = rw (plain_cut (codes "fk_t_up_id") refl refl) refl

@@ -13,10 +13,10 @@ use Rattle.lq_base.specs.declared.dialect.Dialect.TheVariants.{Mysql, Postgresql
 use Rattle.lq_base.specs.declared.name.Name.{Name}
 use Rattle.lq_model.specs.Catalogue.{Catalogue, Table, View, no_table, table_of, the_table, with_table}
 use Rattle.lq_model.specs.Kinds.{kind_of, kinds_at, kinds_differ, same_kinds}
-use Rattle.lq_model.specs.NameSpaces.{AreApart, object_names}
+use Rattle.lq_model.specs.NameSpaces.{AreApart, names_inside, object_names}
 use Rattle.lq_model.specs.Names.{times}
-use Rattle.lq_model.specs.Sound.{IsSound, IsSoundTable, is_view}
-use Rattle.lq_model.specs.TableNames.{foreign_names, has_column, inner_names}
+use Rattle.lq_model.specs.Sound.{IsSound, IsSoundTable, is_view, may_name}
+use Rattle.lq_model.specs.TableNames.{foreign_names, has_column, inner_names, placed}
 use Rattle.lq_model.specs.Truth.{names_in}
 use Rattle.lq_model.specs.declared.constraint.ForeignKey.{ForeignKey}
 use Rattle.lq_model.proofs.KeptKinds.{kinds_same, view_still}
@@ -37,22 +37,22 @@ lookup_other t q x (e ∷ es) apart =
       | false ↦ λ p. ap (cond (is_named q e.0) (Some e.1)) (lookup_other t q x es apart)
     ] refl
 
-flat-set_value : {K X : Type 0} (test : K → Bool) (f : X → List Name) (es : List (K × X)) (x y : X) → lookup test es ≡ Some x → f y ≡ f x → flat_map (λ e. f e.1) (set_value test es y) ≡ flat_map (λ e. f e.1) es
-flat-set_value test f [] x y h same = refl
-flat-set_value test f (e ∷ es) x y h same =
-    elim (test e.0) as (λ b. cond b (Some e.1) (lookup test es) ≡ Some x → flat_map (λ z. f z.1) (cond b ((e.0, y) ∷ es) (e ∷ set_value test es y)) ≡ flat_map (λ z. f z.1) (e ∷ es)) [
-      | true ↦ λ q. ap (λ ns. ns ++ flat_map (λ z. f z.1) es) (same ∙ ap f (some_same (sym q)))
-      | false ↦ λ q. ap (λ ns. f e.1 ++ ns) (flat-set_value test f es x y q same)
-    ] h
+flat-set_value : {X : Type 0} (t : Name) (f : Name × X → List Name) (es : List (Name × X)) (x y : X) → lookup (is_named t) es ≡ Some x → f (t, y) ≡ f (t, x) → flat_map f (set_value (is_named t) es y) ≡ flat_map f es
+flat-set_value t f [] x y h same = refl
+flat-set_value t f (e ∷ es) x y h same =
+    elim (is_named t e.0) as (λ b. is_named t e.0 ≡ b → cond b (Some e.1) (lookup (is_named t) es) ≡ Some x → flat_map f (cond b ((e.0, y) ∷ es) (e ∷ set_value (is_named t) es y)) ≡ flat_map f (e ∷ es)) [
+      | true ↦ λ p q. ap (λ ns. ns ++ flat_map f es) (ap (λ z. f (z, y)) (sym (same_name t e.0 p)) ∙ same ∙ ap (λ z. f (z, x)) (same_name t e.0 p) ∙ ap (λ z. f (e.0, z)) (some_same (sym q)))
+      | false ↦ λ p q. ap (λ ns. f e ++ ns) (flat-set_value t f es x y q same)
+    ] refl h
 
 -- the names in the spaces stay where the table's do
 pub same_apart : (d : Dialect) (c : Catalogue) (t : Name) (it : Table) → table_of c t ≡ Some (the_table c t) → inner_names it ≡ inner_names (the_table c t) → foreign_names it ≡ foreign_names (the_table c t) → AreApart d c → AreApart d (with_table c t it)
 same_apart Postgresql c t it there same also h = λ n. subst (λ ns. times n ns ≤ 1) (sym (
-    ap (λ ks. (ks ++ (map (λ e. e.0) c.views ++ map (λ e. e.0) c.sequences)) ++ flat_map (λ e. inner_names e.1) (with_table c t it).tables) (keys-set_value (is_named t) c.tables it)
-    ∙ ap (λ ns. object_names c ++ ns) (flat-set_value (is_named t) inner_names c.tables (the_table c t) it there same))) (h n)
+    ap (λ ks. (ks ++ (map (λ e. e.0) c.views ++ map (λ e. e.0) c.sequences)) ++ flat_map names_inside (with_table c t it).tables) (keys-set_value (is_named t) c.tables it)
+    ∙ ap (λ ns. object_names c ++ ns) (flat-set_value t names_inside c.tables (the_table c t) it there (ap (placed t) same)))) (h n)
 same_apart Mysql c t it there same also h = (
   λ n. subst (λ ks. times n (ks ++ (map (λ e. e.0) c.views ++ map (λ e. e.0) c.sequences)) ≤ 1) (sym (keys-set_value (is_named t) c.tables it)) (h.0 n),
-  λ n. subst (λ ns. times n ns ≤ 1) (sym (flat-set_value (is_named t) foreign_names c.tables (the_table c t) it there also)) (h.1 n),
+  λ n. subst (λ ns. times n ns ≤ 1) (sym (flat-set_value t (λ (e : Name × Table). foreign_names e.1) c.tables (the_table c t) it there also)) (h.1 n),
 )
 
 pub the_table-with_table : (c : Catalogue) (t : Name) (it : Table) → table_of c t ≡ Some (the_table c t) → the_table (with_table c t it) t ≡ it
@@ -117,6 +117,7 @@ module _ (d : Dialect) (c : Catalogue) (t : Name) (it : Table) (sound : IsShaped
     ] refl;
     views = all_kept (λ e. shows q t e.1) (λ e. is_view c e.1) _ c.views (λ e none is. view_is e' e.1 ∙ view_kept e.1 none (sym (view_is c e.1) ∙ is)) untouched.shown sound.views;
     apart = apart;
+    schemas = ap (λ ks. may_name d (ks ++ (map (λ e. e.0) c.views ++ map (λ e. e.0) c.sequences))) (keys-set_value (is_named t) c.tables it) ∙ sound.schemas;
     steps = sound.steps;
     sequences = sound.sequences;
     alike = any_none-set_value (is_named t) (λ x. list_any (kinds_differ e' x.1) x.1.foreign) c.tables it others_alike (λ k p. alike);

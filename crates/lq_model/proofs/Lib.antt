@@ -13,6 +13,7 @@ pub mod Decide
 pub mod DropKeeps
 pub mod DropColumnKeeps
 pub mod Dropped
+pub mod Entries
 pub mod EqualKinds
 pub mod ExampleWorld
 pub mod Examples
@@ -31,6 +32,8 @@ pub mod ModifyKeeps
 pub mod MovedEntries
 pub mod NameCounts
 pub mod NoRowTaken
+pub mod Places
+pub mod PublicNames
 pub mod RenameColumnKeeps
 pub mod RenameEither
 pub mod RenameTables

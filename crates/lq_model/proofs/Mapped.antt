@@ -12,11 +12,11 @@ use Rattle.lq_base.specs.declared.name.Name.{Name}
 use Rattle.lq_base.specs.declared.value.Value.{Value}
 use Rattle.lq_model.specs.Catalogue.{Catalogue, Table, View, no_table, table_of}
 use Rattle.lq_model.specs.Kinds.{kinds_at, kinds_differ, same_kinds}
-use Rattle.lq_model.specs.NameSpaces.{AreApart, AreApartWithin, object_names}
+use Rattle.lq_model.specs.NameSpaces.{AreApart, AreApartWithin, names_inside, object_names}
 use Rattle.lq_model.specs.Names.{times}
 use Rattle.lq_model.specs.Row.{row_fits}
-use Rattle.lq_model.specs.Sound.{IsSoundTable, is_view}
-use Rattle.lq_model.specs.TableNames.{foreign_names, inner_names}
+use Rattle.lq_model.specs.Sound.{IsSoundTable, is_view, may_name}
+use Rattle.lq_model.specs.TableNames.{foreign_names, inner_names, placed}
 use Rattle.lq_model.specs.declared.constraint.ForeignKey.{ForeignKey}
 use Rattle.lq_model.proofs.Lists.{all_more, any-map, any_same}
 use Rattle.lq_model.proofs.Maps.{lookup-values, not_some, some_same}
@@ -36,6 +36,7 @@ with_rows d it rows next fine fit = record {
   key_named = fine.key_named;
   numbered = fine.numbered;
   within = same_within d it rows next fine.within;
+  public = fine.public;
 } where
   same_within : (d : Dialect) (it : Table) (rows : List (List Value)) (next : ℕ) → AreApartWithin d it → AreApartWithin d (record it { rows = rows; next = next })
   same_within Postgresql it rows next h = h
@@ -49,18 +50,18 @@ pub keys_of_values : {X : Type 0} (g : X → X) (es : List (Name × X)) → map 
 keys_of_values g [] = refl
 keys_of_values g (e ∷ es) = ap (λ ks. e.0 ∷ ks) (keys_of_values g es)
 
-pub flat-values : {X : Type 0} (f : X → List Name) (g : X → X) (es : List (Name × X)) → ((x : X) → f (g x) ≡ f x) → flat_map (λ (e : Name × X). f e.1) (map (λ e. (e.0, g e.1)) es) ≡ flat_map (λ e. f e.1) es
+pub flat-values : {X : Type 0} (f : Name × X → List Name) (g : X → X) (es : List (Name × X)) → ((e : Name × X) → f (e.0, g e.1) ≡ f e) → flat_map f (map (λ e. (e.0, g e.1)) es) ≡ flat_map f es
 flat-values f g [] same = refl
-flat-values {X = X} f g (e ∷ es) same = ap (λ ns. ns ++ flat_map (λ (x : Name × X). f x.1) (map (λ x. (x.0, g x.1)) es)) (same e.1) ∙ ap (λ ns. f e.1 ++ ns) (flat-values f g es same)
+flat-values f g (e ∷ es) same = ap (λ ns. ns ++ flat_map f (map (λ x. (x.0, g x.1)) es)) (same e) ∙ ap (λ ns. f e ++ ns) (flat-values f g es same)
 
 -- other tables whose names are the same
 pub mapped_apart : (d : Dialect) (c : Catalogue) (g : Table → Table) → ((x : Table) → inner_names (g x) ≡ inner_names x) → ((x : Table) → foreign_names (g x) ≡ foreign_names x) → AreApart d c → AreApart d (record c { tables = map (λ e. (e.0, g e.1)) c.tables })
 mapped_apart Postgresql c g inner foreign h = λ n. subst (λ ns. times n ns ≤ 1) (sym (
-    ap (λ ks. (ks ++ (map (λ e. e.0) c.views ++ map (λ e. e.0) c.sequences)) ++ flat_map (λ (e : Name × Table). inner_names e.1) (map (λ e. (e.0, g e.1)) c.tables)) (keys_of_values g c.tables)
-    ∙ ap (λ ns. object_names c ++ ns) (flat-values inner_names g c.tables inner))) (h n)
+    ap (λ ks. (ks ++ (map (λ e. e.0) c.views ++ map (λ e. e.0) c.sequences)) ++ flat_map names_inside (map (λ e. (e.0, g e.1)) c.tables)) (keys_of_values g c.tables)
+    ∙ ap (λ ns. object_names c ++ ns) (flat-values names_inside g c.tables (λ e. ap (placed e.0) (inner e.1))))) (h n)
 mapped_apart Mysql c g inner foreign h = (
   λ n. subst (λ ks. times n (ks ++ (map (λ e. e.0) c.views ++ map (λ e. e.0) c.sequences)) ≤ 1) (sym (keys_of_values g c.tables)) (h.0 n),
-  λ n. subst (λ ns. times n ns ≤ 1) (sym (flat-values foreign_names g c.tables foreign)) (h.1 n),
+  λ n. subst (λ ns. times n ns ≤ 1) (sym (flat-values (λ (e : Name × Table). foreign_names e.1) g c.tables (λ e. foreign e.1))) (h.1 n),
 )
 
 module _ (d : Dialect) (c : Catalogue) (r : Table → List (List Value)) (fit : (it : Table) → list_all (row_fits it.columns) it.rows ≡ true → list_all (row_fits it.columns) (r it) ≡ true) where
@@ -96,6 +97,7 @@ module _ (d : Dialect) (c : Catalogue) (r : Table → List (List Value)) (fit : 
         subst (IsSoundTable d) y.2 (with_rows d y.0 (r y.0) y.0.next fine (fit y.0 fine.rows));
     views = all_more (λ e. is_view c e.1) _ c.views (λ e is. view_is e' e.1 ∙ ap (λ o. view_at o e.1) (looked e.1.query.table) ∙ same_view e.1 (table_of c e.1.query.table) ∙ sym (view_is c e.1) ∙ is) shape.views;
     apart = mapped_apart d c g (λ x. refl) (λ x. refl) shape.apart;
+    schemas = ap (λ ks. may_name d (ks ++ (map (λ x. x.0) c.views ++ map (λ x. x.0) c.sequences))) (keys_of_values g c.tables) ∙ shape.schemas;
     steps = shape.steps;
     sequences = shape.sequences;
     alike = any-map (λ (x : Name × Table). list_any (kinds_differ e' x.1) x.1.foreign) (λ (x : Name × Table). (x.0, g x.1)) c.tables

@@ -56,8 +56,8 @@ module _ {X : Type 0} (es : List (Name × X)) (a b : Name) (x : X) (rise : IsStr
 
   pub moved_keys : (n : Name) → times n (map (λ (e : Name × X). e.0) moved) + once (is_named n a) ≡ times n (map (λ (e : Name × X). e.0) es) + once (is_named n b)
   moved_keys n =
-      let p = keys-insert (λ (y : X). []) n (remove_entry (is_named a) es) b x gone_still in
-      let q = keys-remove (λ (y : X). []) n es a x there in
+      let p = keys-insert (λ (y : Name × X). []) n (remove_entry (is_named a) es) b x gone_still in
+      let q = keys-remove (λ (y : Name × X). []) n es a x there in
       omega (arith, p, q)
 
   pub moved_none : (p : X → Bool) → p x ≡ false → list_any (λ (e : Name × X). p e.1) es ≡ false → list_any (λ (e : Name × X). p e.1) moved ≡ false

@@ -8,16 +8,17 @@ use Rattle.lq_base.specs.declared.dialect.Dialect.{Dialect}
 use Rattle.lq_base.specs.declared.dialect.Dialect.TheVariants.{Mysql, Postgresql}
 use Rattle.lq_base.specs.declared.name.Name.{Name}
 use Rattle.lq_model.specs.Catalogue.{Catalogue, Table, table_of, the_table, with_table}
-use Rattle.lq_model.specs.NameSpaces.{AreApart, all_foreign_names, object_names, shared_names}
+use Rattle.lq_model.specs.NameSpaces.{AreApart, all_foreign_names, names_inside, object_names, shared_names}
 use Rattle.lq_model.specs.Names.{is_in, times}
 use Rattle.lq_model.specs.Statement.{is_pg}
-use Rattle.lq_model.specs.TableNames.{constraint_names, foreign_names, index_names, inner_names, key_list}
+use Rattle.lq_model.specs.TableNames.{constraint_names, foreign_names, index_names, inner_names, key_list, placed}
 use Rattle.lq_model.specs.declared.constraint.ForeignKey.{ForeignKey}
 use Rattle.lq_model.specs.declared.constraint.Key.{Key}
 use Rattle.lq_model.specs.declared.constraint.Unique.{Unique}
 use Rattle.lq_model.specs.declared.index.Index.{Index}
 use Rattle.lq_model.proofs.Counts.{once}
 use Rattle.lq_model.proofs.Lists.{map_append_one}
+use Rattle.lq_model.proofs.Places.{placed_less}
 use Rattle.lq_model.proofs.Times.{one_more, times-append, times-set_value}
 
 module _ (n : Name) (it : Table) where
@@ -56,23 +57,23 @@ module _ (n : Name) (c : Catalogue) (t : Name) (it : Table) (there : table_of c 
   pub objects_same : times n (object_names (with_table c t it)) ≡ times n (object_names c)
   objects_same = ap (λ ks. times n (ks ++ (map (λ e. e.0) c.views ++ map (λ e. e.0) c.sequences))) (keys-set_value (is_named t) c.tables it)
 
-  pub shared_count : times n (shared_names (with_table c t it)) + times n (inner_names (the_table c t)) ≡ times n (shared_names c) + times n (inner_names it)
+  pub shared_count : times n (shared_names (with_table c t it)) + times n (placed t (inner_names (the_table c t))) ≡ times n (shared_names c) + times n (placed t (inner_names it))
   shared_count =
-      let a = times-set_value (is_named t) inner_names n c.tables (the_table c t) it there in
+      let a = times-set_value t names_inside n c.tables (the_table c t) it there in
       let o = objects_same in
-      let p = times-append n (object_names (with_table c t it)) (flat_map (λ (e : Name × Table). inner_names e.1) (with_table c t it).tables) in
-      let q = times-append n (object_names c) (flat_map (λ (e : Name × Table). inner_names e.1) c.tables) in
+      let p = times-append n (object_names (with_table c t it)) (flat_map names_inside (with_table c t it).tables) in
+      let q = times-append n (object_names c) (flat_map names_inside c.tables) in
       omega (arith, a, o, p, q)
 
   pub foreign_count : times n (all_foreign_names (with_table c t it)) + foreign_at n (the_table c t) ≡ times n (all_foreign_names c) + foreign_at n it
-  foreign_count = times-set_value (is_named t) foreign_names n c.tables (the_table c t) it there
+  foreign_count = times-set_value t (λ (e : Name × Table). foreign_names e.1) n c.tables (the_table c t) it there
 
 -- a name that is new stands there once
 pub new_once : (n m : Name) (xs : List Name) → is_in m xs ≡ false → times n xs ≤ 1 → times n xs + once (is_named n m) ≤ 1
 new_once n m xs out h = one_more n m (times n xs + once (is_named n m)) xs out h refl
 
 -- the names are apart where the table has, in its space, no more names than before and those that fit
-pub apart_by : (d : Dialect) (c : Catalogue) (t : Name) (it : Table) → table_of c t ≡ Some (the_table c t) → (is_pg d ≡ true → (n : Name) → times n (shared_names c) + times n (inner_names it) ≤ 1 + times n (inner_names (the_table c t))) → (is_pg d ≡ false → (n : Name) → times n (all_foreign_names c) + foreign_at n it ≤ 1 + foreign_at n (the_table c t)) → AreApart d c → AreApart d (with_table c t it)
+pub apart_by : (d : Dialect) (c : Catalogue) (t : Name) (it : Table) → table_of c t ≡ Some (the_table c t) → (is_pg d ≡ true → (n : Name) → times n (shared_names c) + times n (placed t (inner_names it)) ≤ 1 + times n (placed t (inner_names (the_table c t)))) → (is_pg d ≡ false → (n : Name) → times n (all_foreign_names c) + foreign_at n it ≤ 1 + foreign_at n (the_table c t)) → AreApart d c → AreApart d (with_table c t it)
 apart_by Postgresql c t it there pg my h = λ n. let s = shared_count n c t it there in let p = pg refl n in omega (arith, s, p)
 apart_by Mysql c t it there pg my h = (λ n. let o = objects_same n c t it there in let x = h.0 n in omega (arith, o, x), λ n. let s = foreign_count n c t it there in let p = my refl n in omega (arith, s, p))
 
@@ -81,7 +82,7 @@ apart_shared c h n = h n
 
 -- with no more names than before
 pub apart_less : (d : Dialect) (c : Catalogue) (t : Name) (it : Table) → table_of c t ≡ Some (the_table c t) → ((n : Name) → times n (inner_names it) ≤ times n (inner_names (the_table c t))) → ((n : Name) → foreign_at n it ≤ foreign_at n (the_table c t)) → AreApart d c → AreApart d (with_table c t it)
-apart_less Postgresql c t it there inner foreign h = λ n. let s = shared_count n c t it there in let p = inner n in let x = h n in omega (arith, s, p, x)
+apart_less Postgresql c t it there inner foreign h = λ n. let s = shared_count n c t it there in let p = placed_less t (inner_names it) (inner_names (the_table c t)) inner n in let x = h n in omega (arith, s, p, x)
 apart_less Mysql c t it there inner foreign h = (λ n. let o = objects_same n c t it there in let x = h.0 n in omega (arith, o, x), λ n. let s = foreign_count n c t it there in let p = foreign n in let x = h.1 n in omega (arith, s, p, x))
 
 pub last_count : {A : Type 0} (f : A → Name) (n : Name) (xs : List A) (x : A) → times n (map f (xs ++ x ∷ [])) ≡ times n (map f xs) + once (is_named n (f x))

@@ -6,7 +6,7 @@ use Rattle.lq_model.specs.CreateTable.{new_table}
 use Rattle.lq_model.specs.NameSpaces.{is_taken}
 use Rattle.lq_model.specs.NameSpaces.{are_clashing}
 use Rattle.lq_model.specs.Reserved.{takes_lock_key}
-use Rattle.lq_model.specs.TableNames.{inner_names}
+use Rattle.lq_model.specs.TableNames.{inner_names, placed}
 use Rattle.lq_model.specs.CreateTable.{lists_twice}
 use Rattle.lq_model.specs.NameSpaces.{key_taken}
 use Rattle.lq_model.specs.Names.{repeats}
@@ -58,7 +58,7 @@ drop_inner false a b r h = h
 by_user : (d : Dialect) (s : Statement) (c : Catalogue) → IsWeaker (plan User d s c) (plan Program d s c)
 by_user d (CreateTable t defs key uniques foreign) c =
     let it = new_table defs key uniques foreign in
-    record { reserved = refl; exists = λ e. drop_third (is_taken d t c) (are_clashing d t it c) (takes_lock_key User d (t ∷ inner_names it)) (lists_twice it) e; rest = refl }
+    record { reserved = refl; exists = λ e. drop_third (is_taken d t c) (are_clashing d t it c) (takes_lock_key User d (t ∷ placed t (inner_names it))) (lists_twice it) e; rest = refl }
 by_user d (DropTable t) c = same _ _ refl
 by_user d (RenameTable t to) c = record { reserved = refl; exists = λ e. drop_last _ _ e; rest = refl }
 by_user d (AddColumn t def) c = same _ _ refl
@@ -71,14 +71,14 @@ by_user d (SetDefault t n l) c = same _ _ refl
 by_user d (DropDefault t n) c = same _ _ refl
 by_user d (AddPrimaryKey t k) c =
     let it = the_table c t in
-    record { reserved = refl; exists = λ e. drop_third (is_some it.key) (key_taken d it k.name c) (takes_lock_key User d (k.name ∷ [])) (repeats k.columns) e; rest = refl }
-by_user d (AddUnique t u) c = record { reserved = refl; exists = λ e. drop_middle (unique_taken d (the_table c t) u.name c) (takes_lock_key User d (u.name ∷ [])) (repeats u.columns) e; rest = refl }
+    record { reserved = refl; exists = λ e. drop_third (is_some it.key) (key_taken d t it k.name c) (takes_lock_key User d (placed t (k.name ∷ []))) (repeats k.columns) e; rest = refl }
+by_user d (AddUnique t u) c = record { reserved = refl; exists = λ e. drop_middle (unique_taken d t (the_table c t) u.name c) (takes_lock_key User d (placed t (u.name ∷ []))) (repeats u.columns) e; rest = refl }
 by_user d (AddForeignKey t f) c = same _ _ refl
 by_user d (DropConstraint t n) c = same _ _ refl
 by_user d (DropPrimaryKey t) c = same _ _ refl
 by_user d (DropUnique t n) c = same _ _ refl
 by_user d (DropForeignKey t n) c = same _ _ refl
-by_user d (CreateIndex t i) c = record { reserved = refl; exists = λ e. drop_middle (index_taken d (the_table c t) i.name c) (takes_lock_key User d (i.name ∷ [])) (repeats i.columns) e; rest = refl }
+by_user d (CreateIndex t i) c = record { reserved = refl; exists = λ e. drop_middle (index_taken d t (the_table c t) i.name c) (takes_lock_key User d (placed t (i.name ∷ []))) (repeats i.columns) e; rest = refl }
 by_user d (DropIndex n None) c = same _ _ refl
 by_user d (DropIndex n (Some t)) c = same _ _ refl
 by_user d (CreateView v q replace) c =

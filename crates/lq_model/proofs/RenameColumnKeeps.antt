@@ -2,29 +2,30 @@
 use Rattle.std.proofs.Common.{ap, arith, sym, ◌∙◌}
 use Rattle.std.proofs.Math.Path.{subst}
 use Rattle.std.specs.FinMap.Entries.{is_sorted}
-use Rattle.std.specs.List.{flat_map, list_all, list_any}
+use Rattle.std.specs.List.{list_all, list_any}
 use Rattle.std.specs.List.Sorted.{IsStrictlySortedBy}
 use Rattle.std.specs.Map.{lookup}
 use Rattle.std.specs.Option.{option_map, unwrap_or}
 use Rattle.std.specs.Prelude.{Bool, List, None, Ok, Option, Some, T, [], cond, false, is_none, map, not, refl, true, ℕ, ◌&&◌, ◌++◌, ◌||◌, ◌∷◌, ◌≡◌, ◌≤◌}
 use Rattle.lq_base.specs.Kind.{is_kind}
-use Rattle.lq_base.specs.Name.{is_named, name_cmp}
+use Rattle.lq_base.specs.Name.{is_elsewhere, is_name, is_named, name_cmp}
 use Rattle.lq_base.specs.Value.{is_value_of}
 use Rattle.lq_base.specs.declared.dialect.Dialect.{Dialect}
 use Rattle.lq_base.specs.declared.dialect.Dialect.TheVariants.{Mysql, Postgresql}
 use Rattle.lq_base.specs.declared.kind.Kind.{Kind}
 use Rattle.lq_base.specs.declared.name.Name.{Name}
 use Rattle.lq_base.specs.declared.value.Value.{Value}
+use Rattle.lq_base.proofs.BesideLemmas.{not_elsewhere}
 use Rattle.lq_model.specs.Catalogue.{Catalogue, Sequence, Table, View, no_table, table_of, the_table}
 use Rattle.lq_model.specs.Kinds.{is_number, kind_of, kinds_at, kinds_differ, same_kinds}
-use Rattle.lq_model.specs.NameSpaces.{AreApartWithin, object_names}
+use Rattle.lq_model.specs.NameSpaces.{AreApartWithin, names_inside, object_names}
 use Rattle.lq_model.specs.Names.{is_empty, is_in, renamed, repeats, same_names, times}
 use Rattle.lq_model.specs.Needs.{aims_at, is_shown}
 use Rattle.lq_model.specs.RenameColumn.{name_at, names_at, rename_column, with_column_renamed}
 use Rattle.lq_model.specs.Row.{row_fits}
-use Rattle.lq_model.specs.Sound.{IsSound, IsSoundTable, are_columns, default_fits, is_key_name, is_key_of, is_not_null, is_numbered_well, is_unlike, is_view}
+use Rattle.lq_model.specs.Sound.{IsSound, IsSoundTable, are_columns, default_fits, is_key_name, is_key_of, is_not_null, is_numbered_well, is_unlike, is_view, may_name}
 use Rattle.lq_model.specs.Step.{step}
-use Rattle.lq_model.specs.TableNames.{column_lists, column_names, constraint_names, foreign_names, has_column, inner_names, key_list, target_lists}
+use Rattle.lq_model.specs.TableNames.{column_lists, column_names, constraint_names, foreign_names, has_column, inner_names, key_list, own_names, placed, target_lists}
 use Rattle.lq_model.specs.Truth.{names_in}
 use Rattle.lq_model.specs.declared.caller.By.{By}
 use Rattle.lq_model.specs.declared.column.Column.{Column}
@@ -38,12 +39,12 @@ use Rattle.lq_model.proofs.CreateKeeps.{some_columns}
 use Rattle.lq_model.proofs.Decide.{accepted, here}
 use Rattle.lq_model.proofs.Kept.{never, not_so_true}
 use Rattle.lq_model.proofs.KeptKinds.{view_still}
-use Rattle.lq_model.proofs.Lists.{all-append, all-append_left, all-append_right, all-map, all_kept, all_more, and_left, and_right, and_true, any-map, any_less_both, any_none, map-map, named_itself, not_false, not_true, or_false, or_left, or_right, other_way, same_name, true_false, whether}
+use Rattle.lq_model.proofs.Entries.{flat-entries, keys-entries, lookup-entries}
+use Rattle.lq_model.proofs.Lists.{all-append, all-append_left, all-append_right, all-map, all_kept, all_more, and_left, and_right, and_true, any-append, any-map, any_less_both, any_none, map-map, named_itself, not_false, not_true, or_false, or_left, or_right, other_way, same_name, true_false, whether}
 use Rattle.lq_model.proofs.Mapped.{mapped_some}
 use Rattle.lq_model.proofs.Maps.{below_gone, not_some, some_same, sorted_entries}
 use Rattle.lq_model.proofs.Shaped.{IsShaped, keeps}
 use Rattle.lq_model.proofs.Spaces.{moved_same}
-use Rattle.lq_model.proofs.UndoRenameColumn.{lookup-entries}
 use Rattle.lq_model.proofs.Untouched.{IsUntouched, not_in_columns, same_list, shows}
 use Rattle.lq_model.proofs.ViewAt.{view_at, view_is}
 
@@ -222,8 +223,25 @@ module _ (t : Name) (own : Bool) (a b : Name) (d : Dialect) (it : Table) (fine :
   within_too Postgresql h = λ n. subst (λ ns. times n ns ≤ 1) (sym constraints_named) (h n)
   within_too Mysql h = λ n. subst (λ ns. times n ns ≤ 1) (sym (ap (λ us. us ++ map (λ (i : Index). i.name) it'.indexes) uniques_named ∙ ap (λ is. map (λ (u : Unique). u.name) it.uniques ++ is) indexes_named)) (h n)
 
-  pub renamed_fine : IsSoundTable d it'
-  renamed_fine = record {
+  own_public : is_elsewhere b ≡ false → list_any is_elsewhere (own_names it') ≡ false
+  own_public plain =
+      let names = column_names it in
+      let others = constraint_names it ++ map (λ (i : Index). i.name) it.indexes in
+      let none = sym (any-append is_elsewhere names others) ∙ fine.public in
+      any-append is_elsewhere (column_names it') (constraint_names it' ++ map (λ (i : Index). i.name) it'.indexes)
+      ∙ or_false _ _ (ap (list_any is_elsewhere) (names_too own a b it.columns) ∙ all_public names (or_left _ _ none))
+      (ap (λ ns. list_any is_elsewhere (ns ++ map (λ (i : Index). i.name) it'.indexes)) constraints_named ∙ ap (λ ns. list_any is_elsewhere (constraint_names it ++ ns)) indexes_named ∙ or_right (list_any is_elsewhere names) _ none)
+    where
+      one_public : (o : Bool) (n : Name) → is_elsewhere n ≡ false → is_elsewhere (name_at o a b n) ≡ false
+      one_public false n h = h
+      one_public true n h = elim (is_named a n) as (λ x. is_elsewhere (cond x b n) ≡ false) [ true ↦ plain | false ↦ h ]
+
+      all_public : (ns : List Name) → list_any is_elsewhere ns ≡ false → list_any is_elsewhere (map r' ns) ≡ false
+      all_public [] h = refl
+      all_public (n ∷ ns) h = or_false _ _ (one_public own n (or_left (is_elsewhere n) _ h)) (all_public ns (or_right (is_elsewhere n) _ h))
+
+  pub renamed_fine : is_elsewhere b ≡ false → IsSoundTable d it'
+  renamed_fine plain = record {
     some = some_columns (as_renamed own a b) it.columns fine.some;
     differ = ap repeats (names_too own a b it.columns) ∙ differ_too own a b (column_names it) new fine.differ;
     kinds = all-map (λ c. is_kind c.kind) (as_renamed own a b) it.columns ∙ fine.kinds;
@@ -235,6 +253,7 @@ module _ (t : Name) (own : Bool) (a b : Name) (d : Dialect) (it : Table) (fine :
     key_named = key_named_too it.key fine.key_named;
     numbered = all-map (is_numbered_well it') (as_renamed own a b) it.columns ∙ all_more (is_numbered_well it) _ it.columns numbered_too fine.numbered;
     within = within_too d fine.within;
+    public = own_public plain;
   }
 
 -- the names in the spaces stay
@@ -254,14 +273,6 @@ plain_name own a b m h = elim own as (λ o. name_at o a b m ≡ m) [ true ↦ ap
 other_name : (a b : Name) (ns : List Name) → map (name_at false a b) ns ≡ ns
 other_name a b [] = refl
 other_name a b (n ∷ ns) = ap (λ ms. n ∷ ms) (other_name a b ns)
-
-flat-entries : (f : Table → List Name) (g : Name → Table → Table) (es : List (Name × Table)) → ((n : Name) (x : Table) → f (g n x) ≡ f x) → flat_map (λ (e : Name × Table). f e.1) (map (λ (e : Name × Table). (e.0, g e.0 e.1)) es) ≡ flat_map (λ (e : Name × Table). f e.1) es
-flat-entries f g [] same = refl
-flat-entries f g (e ∷ es) same = ap (λ ns. ns ++ flat_map (λ (x : Name × Table). f x.1) (map (λ (x : Name × Table). (x.0, g x.0 x.1)) es)) (same e.0 e.1) ∙ ap (λ ns. f e.1 ++ ns) (flat-entries f g es same)
-
-keys-entries : (g : Name → Table → Table) (es : List (Name × Table)) → map (λ (e : Name × Table). e.0) (map (λ (e : Name × Table). (e.0, g e.0 e.1)) es) ≡ map (λ (e : Name × Table). e.0) es
-keys-entries g [] = refl
-keys-entries g (e ∷ es) = ap (λ ks. e.0 ∷ ks) (keys-entries g es)
 
 -- what holds of each entry of a map, by its look-up, in order
 each_entry : (t : Name) (p q : Name × Table → Bool) (es : List (Name × Table)) → T (is_sorted name_cmp es) → ((n : Name) (x : Table) → lookup (is_named n) es ≡ Some x → p (n, x) ≡ false → q (n, x) ≡ false) → list_any p es ≡ false → list_any q es ≡ false
@@ -297,10 +308,10 @@ module _ (d : Dialect) (t a b : Name) (c : Catalogue) (sound : IsSound d c) (the
   free : IsUntouched c t (is_named b)
   free = nowhere d c t b sound there new
 
-  table_fine : (q : Name) (x : Table) → table_of e' q ≡ Some x → IsSoundTable d x
-  table_fine q x is =
+  table_fine : is_elsewhere b ≡ false → (q : Name) (x : Table) → table_of e' q ≡ Some x → IsSoundTable d x
+  table_fine plain q x is =
       let y = mapped_some (g' q) (table_of c q) x (sym (looked q) ∙ is) in
-      subst (IsSoundTable d) y.2 (renamed_fine t (is_named t q) a b d y.0 (sound.tables q y.0 y.1) (new_in q y.0 y.1))
+      subst (IsSoundTable d) y.2 (renamed_fine t (is_named t q) a b d y.0 (sound.tables q y.0 y.1) (new_in q y.0 y.1) plain)
 
   target_same : (f : ForeignKey) → aims_at t b f ≡ false → kinds_at (the_table e' f.table) (names_at (is_named t f.table) a b f.targets) ≡ kinds_at (the_table c f.table) f.targets
   target_same f out = ap (λ o. kinds_at (unwrap_or o no_table) (names_at (is_named t f.table) a b f.targets)) (looked f.table) ∙ at (table_of c f.table) refl where
@@ -356,29 +367,30 @@ module _ (d : Dialect) (t a b : Name) (c : Catalogue) (sound : IsSound d c) (the
   foreign_same : (n : Name) (x : Table) → foreign_names (g' n x) ≡ foreign_names x
   foreign_same n x = map-map (λ (f : ForeignKey). f.name) (λ (f : ForeignKey). record f { columns = names_at (is_named t n) a b f.columns; targets = names_at (is_named t f.table) a b f.targets }) x.foreign
 
-  pub column_renamed_shaped : IsShaped d e'
-  column_renamed_shaped = record {
+  pub column_renamed_shaped : is_elsewhere b ≡ false → IsShaped d e'
+  column_renamed_shaped plain = record {
     ordered = subst (IsStrictlySortedBy name_cmp) (sym (keys-entries g' c.tables)) sound.ordered;
     ordered_views = sound.ordered_views;
     ordered_sequences = sound.ordered_sequences;
-    tables = table_fine;
+    tables = table_fine plain;
     views = all_kept (λ (v : Name × View). shows (is_named a) t v.1 || shows (is_named b) t v.1) (λ (v : Name × View). is_view c v.1) _ c.views (λ v none is. view_kept v.1 none is)
         (any_less_both (λ (v : Name × View). shows (is_named a) t v.1) (λ (v : Name × View). shows (is_named b) t v.1) _ c.views (λ v p q. or_false _ _ p q) unseen free.shown) sound.views;
     apart = moved_same d c e' (record {
       objects = λ n.
           let s : times n (object_names e') ≡ times n (object_names c) = ap (λ ks. times n (ks ++ (map (λ (x : Name × View). x.0) c.views ++ map (λ (x : Name × Sequence). x.0) c.sequences))) (keys-entries g' c.tables) in
           omega (arith, s);
-      inner = λ n. ap (times n) (flat-entries inner_names g' c.tables inner_same);
-      foreign = λ n. ap (times n) (flat-entries foreign_names g' c.tables foreign_same);
+      inner = λ n. ap (times n) (flat-entries names_inside g' c.tables (λ x. ap (placed x.0) (inner_same x.0 x.1)));
+      foreign = λ n. ap (times n) (flat-entries (λ (x : Name × Table). foreign_names x.1) g' c.tables (λ x. foreign_same x.0 x.1));
     }) sound.apart;
+    schemas = ap (λ ks. may_name d (ks ++ (map (λ (x : Name × View). x.0) c.views ++ map (λ (x : Name × Sequence). x.0) c.sequences))) (keys-entries g' c.tables) ∙ sound.schemas;
     steps = sound.steps;
     sequences = sound.sequences;
     alike = alike_e;
   }
 
-pub rename_column_keeps : (by : By) (d : Dialect) (t a b : Name) (c e : Catalogue) (k : ℕ) → IsSound d c → step by d (RenameColumn t a b) c ≡ Ok (e, k) → IsSound d e
-rename_column_keeps by d t a b c e k sound made =
+pub rename_column_keeps : (by : By) (d : Dialect) (t a b : Name) (c e : Catalogue) (k : ℕ) → is_name b ≡ true → IsSound d c → step by d (RenameColumn t a b) c ≡ Ok (e, k) → IsSound d e
+rename_column_keeps by d t a b c e k name sound made =
     let p = rename_column by d t a b c in
     let ok = accepted p e k made in
     let there = here c t (or_left _ _ ok.missing) in
-    keeps d p e k made (column_renamed_shaped d t a b c sound there ok.exists ok.depends)
+    keeps d p e k made (column_renamed_shaped d t a b c sound there ok.exists ok.depends (not_elsewhere b name))

@@ -2,7 +2,7 @@
 use Rattle.std.proofs.Common.{ap, sym, ◌∙◌}
 use Rattle.std.proofs.Math.Path.{subst}
 use Rattle.std.specs.Prelude.{None, Ok, Option, Some, [], cond, false, is_none, is_some, refl, true, ℕ, ◌&&◌, ◌∷◌, ◌≡◌}
-use Rattle.lq_base.specs.Name.{is_named}
+use Rattle.lq_base.specs.Name.{is_beside, is_named, is_object}
 use Rattle.lq_base.specs.declared.dialect.Dialect.{Dialect}
 use Rattle.lq_base.specs.declared.name.Name.{Name}
 use Rattle.lq_model.specs.Catalogue.{Catalogue, Table, View, table_of, view_of}
@@ -55,29 +55,29 @@ module _ (d : Dialect) (a b : Name) (c : Catalogue) (sound : IsSound d c) (no_ta
         wide = refl;
       })
 
-pub rename_table_after : (d : Dialect) (a b : Name) (by : By) (c e : Catalogue) (k : ℕ) → IsSound d c → step by d (RenameTable a b) c ≡ Ok (e, k) → step by d (RenameTable b a) e ≡ Ok (c, 0)
-rename_table_after d a b by c e k sound made =
+pub rename_table_after : (d : Dialect) (a b : Name) → is_beside a b ≡ true → (by : By) (c e : Catalogue) (k : ℕ) → IsSound d c → step by d (RenameTable a b) c ≡ Ok (e, k) → step by d (RenameTable b a) e ≡ Ok (c, 0)
+rename_table_after d a b near by c e k sound made =
     let ok = accepted (rename_table by d a b c) e k made in
     let free = or_left (is_taken d b c) _ ok.exists in
     let lock = swap_lock by d a b (or_right (is_taken d b c) _ ok.exists) in
     let reserved = swap_reserved by a b ok.reserved in
     whether (is_some (table_of c a))
     (λ p. ap (step by d (RenameTable b a)) (sym (ap (λ r. cond r (table_renamed a b c) (view_renamed a b c)) (sym p) ∙ ok.result))
-    ∙ renames_back d a b c sound (here c a (some_if (table_of c a) p)) (free_of d b c free) by reserved lock)
+    ∙ renames_back d a b c sound (here c a (some_if (table_of c a) p)) (free_of d b c free) near by reserved lock)
     (λ p.
     let none = none_here (table_of c a) p in
     let it = some_there (view_of c a) (view_if (table_of c a) (view_of c a) ok.missing none) in
     ap (step by d (RenameTable b a)) (sym (ap (λ r. cond r (table_renamed a b c) (view_renamed a b c)) (sym p) ∙ ok.result))
     ∙ either_back d a b c sound none it.0 it.1 free by reserved lock)
 
-pub rename_table_keeps : (by : By) (d : Dialect) (a b : Name) (c e : Catalogue) (k : ℕ) → IsSound d c → step by d (RenameTable a b) c ≡ Ok (e, k) → IsSound d e
-rename_table_keeps by d a b c e k sound made =
+pub rename_table_keeps : (by : By) (d : Dialect) (a b : Name) (c e : Catalogue) (k : ℕ) → is_object d b ≡ true → is_beside a b ≡ true → IsSound d c → step by d (RenameTable a b) c ≡ Ok (e, k) → IsSound d e
+rename_table_keeps by d a b c e k object near sound made =
     let p' = rename_table by d a b c in
     let ok = accepted p' e k made in
     let free = or_left (is_taken d b c) _ ok.exists in
     keeps d p' e k made (whether (is_some (table_of c a))
-    (λ p. subst (IsShaped d) (ap (λ r. cond r (table_renamed a b c) (view_renamed a b c)) (sym p)) (table_shaped d a b c sound (here c a (some_if (table_of c a) p)) (free_of d b c free) free ok.depends))
+    (λ p. subst (IsShaped d) (ap (λ r. cond r (table_renamed a b c) (view_renamed a b c)) (sym p)) (table_shaped d a b c sound (here c a (some_if (table_of c a) p)) (free_of d b c free) near object free ok.depends))
     (λ p.
     let none = none_here (table_of c a) p in
     let it = some_there (view_of c a) (view_if (table_of c a) (view_of c a) ok.missing none) in
-    subst (IsShaped d) (ap (λ r. cond r (table_renamed a b c) (view_renamed a b c)) (sym p)) (view_shaped d a b c sound it.0 it.1 free)))
+    subst (IsShaped d) (ap (λ r. cond r (table_renamed a b c) (view_renamed a b c)) (sym p)) (view_shaped d a b c sound it.0 it.1 free object)))

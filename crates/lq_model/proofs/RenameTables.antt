@@ -7,24 +7,25 @@ use Rattle.std.specs.List.{flat_map, list_any}
 use Rattle.std.specs.Map.{lookup, remove_entry}
 use Rattle.std.specs.Option.{option_map, unwrap_or}
 use Rattle.std.specs.Prelude.{List, None, Ok, Option, Some, T, [], cond, false, is_none, is_some, map, not, refl, true, ◌&&◌, ◌++◌, ◌+◌, ◌||◌, ◌∷◌, ◌≡◌, ◌≤◌}
-use Rattle.lq_base.specs.Name.{is_named, name_cmp}
+use Rattle.lq_base.specs.Name.{is_beside, is_elsewhere, is_named, is_object, name_cmp}
 use Rattle.lq_base.specs.declared.dialect.Dialect.{Dialect}
 use Rattle.lq_base.specs.declared.dialect.Dialect.TheVariants.{Mysql, Postgresql}
 use Rattle.lq_base.specs.declared.name.Name.{Name}
 use Rattle.lq_model.specs.Catalogue.{Catalogue, Sequence, Table, View, no_table, table_of, the_table, view_of}
 use Rattle.lq_model.specs.Kinds.{kinds_at, kinds_differ, same_kinds}
-use Rattle.lq_model.specs.NameSpaces.{AreApartWithin, is_taken}
+use Rattle.lq_model.specs.NameSpaces.{AreApartWithin, is_taken, names_inside}
 use Rattle.lq_model.specs.Names.{renamed, times}
 use Rattle.lq_model.specs.Needs.{is_viewed, targets_table}
 use Rattle.lq_model.specs.Rename.{rename_table, retarget, retargeted, table_renamed, view_renamed}
 use Rattle.lq_model.specs.Reserved.{is_reserved, takes_lock_key}
 use Rattle.lq_model.specs.Sound.{IsSound, IsSoundTable, are_columns, is_unlike, is_view}
 use Rattle.lq_model.specs.Step.{step}
-use Rattle.lq_model.specs.TableNames.{foreign_names, inner_names, key_list}
+use Rattle.lq_model.specs.TableNames.{column_names, foreign_names, inner_names, key_list}
 use Rattle.lq_model.specs.declared.caller.By.{By}
 use Rattle.lq_model.specs.declared.constraint.ForeignKey.{ForeignKey}
 use Rattle.lq_model.specs.declared.constraint.Key.{Key}
 use Rattle.lq_model.specs.declared.constraint.Unique.{Unique}
+use Rattle.lq_model.specs.declared.index.Index.{Index}
 use Rattle.lq_model.specs.declared.statement.Statement.TheVariants.{RenameTable}
 use Rattle.lq_model.proofs.Absent.{untargeted, unviewed}
 use Rattle.lq_model.proofs.Counts.{inner-insert, inner-remove, inner-values, keys-insert, keys-remove, keys-values, once}
@@ -32,11 +33,13 @@ use Rattle.lq_model.proofs.Decide.{accepts}
 use Rattle.lq_model.proofs.Lists.{all-map, all_kept, any-map, any_less, any_less_both, map-map, named_itself, or_false, or_left, or_right, other_way, same_name}
 use Rattle.lq_model.proofs.Mapped.{mapped_some}
 use Rattle.lq_model.proofs.Maps.{any_none-insert_entry, any_none-remove_entry, at_lookup, lookup-insert_entry, lookup-remove_entry, lookup-values, not_some, same_maps, some_same, sorted-insert_entry, sorted-remove_entry, sorted-values, sorted_entries, sorted_keys}
+use Rattle.lq_model.proofs.PublicNames.{schemas_new}
 use Rattle.lq_model.proofs.Shaped.{IsShaped}
 use Rattle.lq_model.proofs.Spaces.{IsNamed, moved_apart, old_free}
 use Rattle.lq_model.proofs.Times.{times-append}
 use Rattle.lq_model.proofs.UndoRenameColumn.{renamed_back, turn}
 use Rattle.lq_model.proofs.ViewAt.{view_at, view_is}
+use Rattle.lq_model.proofs.Places.{placed_along}
 
 targets_back : (a b : Name) (fs : List ForeignKey) → list_any (λ f. is_named b f.table) fs ≡ false → map (retarget b a) (map (retarget a b) fs) ≡ fs
 targets_back a b [] h = refl
@@ -47,7 +50,7 @@ targets_back a b (f ∷ fs) h =
 retargeted_back : (a b : Name) (it : Table) → targets_table b it ≡ false → retargeted b a (retargeted a b it) ≡ it
 retargeted_back a b it h = ap (λ fs. record it { foreign = fs }) (targets_back a b it.foreign h)
 
-module _ (d : Dialect) (a b : Name) (c : Catalogue) (sound : IsSound d c) (there : table_of c a ≡ Some (the_table c a)) (gone : table_of c b ≡ None) where
+module _ (d : Dialect) (a b : Name) (c : Catalogue) (sound : IsSound d c) (there : table_of c a ≡ Some (the_table c a)) (gone : table_of c b ≡ None) (near : is_beside a b ≡ true) where
   abbrev pub it : Table
   it = the_table c a
 
@@ -110,18 +113,19 @@ module _ (d : Dialect) (a b : Name) (c : Catalogue) (sound : IsSound d c) (there
   keys_now : (n : Name) → times n (map (λ (x : Name × Table). x.0) e.tables) + once (is_named n a) ≡ times n (map (λ (x : Name × Table). x.0) c.tables) + once (is_named n b)
   keys_now n =
       let rest = remove_entry (is_named a) c.tables in
-      let p = keys-values inner_names n (retargeted a b) (insert_entry name_cmp rest b it) in
-      let q = keys-insert inner_names n rest b it gone_before in
-      let r = keys-remove inner_names n c.tables a it there in
+      let p = keys-values names_inside n (retargeted a b) (insert_entry name_cmp rest b it) in
+      let q = keys-insert names_inside n rest b it gone_before in
+      let r = keys-remove names_inside n c.tables a it there in
       omega (arith, p, q, r)
 
-  values_now : (f : Table → List Name) → ((x : Table) → f (retargeted a b x) ≡ f x) → (n : Name) → times n (flat_map (λ (x : Name × Table). f x.1) e.tables) ≡ times n (flat_map (λ (x : Name × Table). f x.1) c.tables)
-  values_now f same n =
+  values_now : (f : Name × Table → List Name) → ((m : Name) (x : Table) → f (m, retargeted a b x) ≡ f (m, x)) → f (b, it) ≡ f (a, it) → (n : Name) → times n (flat_map f e.tables) ≡ times n (flat_map f c.tables)
+  values_now f same along n =
       let rest = remove_entry (is_named a) c.tables in
-      let p = inner-values f n (retargeted a b) (insert_entry name_cmp rest b it) same in
+      let p = inner-values f n (retargeted a b) (insert_entry name_cmp rest b it) (λ x. same x.0 x.1) in
       let q = inner-insert f n rest b it gone_before in
       let r = inner-remove f n c.tables a it there in
-      omega (arith, p, q, r)
+      let s : times n (f (b, it)) ≡ times n (f (a, it)) = ap (times n) along in
+      omega (arith, p, q, r, s)
 
   named : IsNamed c e (λ n. once (is_named n a)) (λ n. once (is_named n b))
   named = record {
@@ -131,8 +135,8 @@ module _ (d : Dialect) (a b : Name) (c : Catalogue) (sound : IsSound d c) (there
         let p = times-append n (map (λ (x : Name × Table). x.0) e.tables) others in
         let q = times-append n (map (λ (x : Name × Table). x.0) c.tables) others in
         omega (arith, k, p, q);
-    inner = values_now inner_names (λ x. refl);
-    foreign = values_now foreign_names (λ x. map-map (λ (f : ForeignKey). f.name) (retarget a b) x.foreign);
+    inner = values_now names_inside (λ m x. refl) (sym (placed_along a b (inner_names it) near));
+    foreign = values_now (λ (x : Name × Table). foreign_names x.1) (λ m x. map-map (λ (f : ForeignKey). f.name) (retarget a b) x.foreign) refl;
   }
 
   pub renames_back : (by : By) → is_reserved by (b ∷ a ∷ []) ≡ false → takes_lock_key by d (b ∷ a ∷ []) ≡ false → step by d (RenameTable b a) e ≡ Ok (c, 0)
@@ -162,6 +166,7 @@ module _ (d : Dialect) (a b : Name) (c : Catalogue) (sound : IsSound d c) (there
     key_named = fine.key_named;
     numbered = fine.numbered;
     within = within_still d x fine.within;
+    public = ap (λ fs. list_any is_elsewhere (column_names x ++ ((map (λ (k : Key). k.name) (key_list x.key) ++ (map (λ (u : Unique). u.name) x.uniques ++ fs)) ++ map (λ (i : Index). i.name) x.indexes))) (map-map (λ (f : ForeignKey). f.name) (retarget a b) x.foreign) ∙ fine.public;
   } where
     within_still : (k : Dialect) (x : Table) → AreApartWithin k x → AreApartWithin k (retargeted a b x)
     within_still Postgresql x h = λ n. subst (λ fs. times n (map (λ (k : Key). k.name) (key_list x.key) ++ (map (λ (u : Unique). u.name) x.uniques ++ fs)) ≤ 1) (sym (map-map (λ (f : ForeignKey). f.name) (retarget a b) x.foreign)) (h n)
@@ -213,8 +218,8 @@ module _ (d : Dialect) (a b : Name) (c : Catalogue) (sound : IsSound d c) (there
       ∙ any_less _ (λ (x : Name × Table). at x.1) (insert_entry name_cmp (remove_entry (is_named a) c.tables) b it) (λ x h. alike_in x.1 (or_left (targets_table b x.1) _ h) (or_right (targets_table b x.1) _ h))
       (any_none-insert_entry (λ (x : Name × Table). at x.1) (remove_entry (is_named a) c.tables) b it (λ n. refl) (at_lookup (is_named a) at c.tables it all there) (any_none-remove_entry (is_named a) (λ (x : Name × Table). at x.1) c.tables all))
 
-  pub table_shaped : is_taken d b c ≡ false → is_viewed c a ≡ false → IsShaped d e
-  table_shaped free unseen = record {
+  pub table_shaped : is_object d b ≡ true → is_taken d b c ≡ false → is_viewed c a ≡ false → IsShaped d e
+  table_shaped object free unseen = record {
     ordered = sorted_keys e.tables sorted-e;
     ordered_views = sound.ordered_views;
     ordered_sequences = sound.ordered_sequences;
@@ -223,6 +228,7 @@ module _ (d : Dialect) (a b : Name) (c : Catalogue) (sound : IsSound d c) (there
         (λ x out is. view_same x.1 (or_left (is_named a x.1.query.table) _ out) (or_right (is_named a x.1.query.table) _ out) is)
         (any_less_both (λ (x : Name × View). is_named a x.1.query.table) (λ (x : Name × View). is_named b x.1.query.table) _ c.views (λ x p q. or_false _ _ p q) unseen (unviewed d c b sound gone)) sound.views;
     apart = moved_apart d c e a b apart named free sound.apart;
+    schemas = schemas_new d c e (λ n. once (is_named n a)) b object named sound.schemas;
     steps = sound.steps;
     sequences = sound.sequences;
     alike = alike_e;

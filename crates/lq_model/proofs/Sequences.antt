@@ -7,13 +7,13 @@ use Rattle.std.specs.List.Sorted.{IsStrictlySortedBy}
 use Rattle.std.specs.Map.{keys_of, remove_entry}
 use Rattle.std.specs.Ordering.{int_eq}
 use Rattle.std.specs.Prelude.{List, None, Ok, Option, Some, [], cond, false, is_none, map, pos, refl, true, ℕ, ℤ, ◌++◌, ◌+◌, ◌||◌, ◌∷◌, ◌≡◌}
-use Rattle.lq_base.specs.Name.{is_name, is_named, name_cmp}
+use Rattle.lq_base.specs.Name.{is_named, is_object, name_cmp}
 use Rattle.lq_base.specs.declared.dialect.Dialect.{Dialect}
 use Rattle.lq_base.specs.declared.dialect.Dialect.TheVariants.{Mysql, Postgresql}
 use Rattle.lq_base.specs.declared.literal.Literal.TheVariants as literal
 use Rattle.lq_base.specs.declared.name.Name.{Name}
 use Rattle.lq_model.specs.Catalogue.{Catalogue, Sequence, Table, View, sequence_of, view_of, with_sequence, without_sequence}
-use Rattle.lq_model.specs.NameSpaces.{AreApart, is_taken, object_names}
+use Rattle.lq_model.specs.NameSpaces.{AreApart, is_taken, names_inside, object_names}
 use Rattle.lq_model.specs.Names.{is_in, times}
 use Rattle.lq_model.specs.Reserved.{is_reserved, is_tracking, lock_key, takes_lock_key}
 use Rattle.lq_model.specs.Sequences.{create_sequence, drop_sequence, rename_sequence, sequence_renamed}
@@ -21,7 +21,6 @@ use Rattle.lq_model.specs.Sound.{IsSound, may_have}
 use Rattle.lq_model.specs.Spelled.{is_literal}
 use Rattle.lq_model.specs.Statement.{is_pg, is_statement}
 use Rattle.lq_model.specs.Step.{step}
-use Rattle.lq_model.specs.TableNames.{inner_names}
 use Rattle.lq_model.specs.declared.caller.By.{By}
 use Rattle.lq_model.specs.declared.caller.By.TheVariants.{Program, User}
 use Rattle.lq_model.specs.declared.statement.Statement.TheVariants.{CreateSequence, DropSequence, RenameSequence}
@@ -32,6 +31,7 @@ use Rattle.lq_model.proofs.Kept.{not_so_true}
 use Rattle.lq_model.proofs.Lists.{and_left, and_right, any-append, named_itself, or_false, or_left, or_right, true_false}
 use Rattle.lq_model.proofs.Maps.{any_none-insert_entry, any_none-remove_entry, at_lookup, found, lookup-insert_entry, none_if, sorted-insert_entry, sorted-remove_entry, sorted_entries, sorted_keys}
 use Rattle.lq_model.proofs.MovedEntries.{moved, moved_back, moved_keys, moved_none, moved_rise, moved_there, names_apart}
+use Rattle.lq_model.proofs.PublicNames.{schemas_sequences}
 use Rattle.lq_model.proofs.Shaped.{IsShaped, keeps, shape_of}
 use Rattle.lq_model.proofs.Spaces.{IsNamed, gone_apart, made_apart, moved_apart, old_free}
 use Rattle.lq_model.proofs.Times.{times-append}
@@ -50,7 +50,7 @@ swap_lock Program d a b h = refl
 
 -- what stands at a name that is free
 pub free_objects : (d : Dialect) (n : Name) (c : Catalogue) → is_taken d n c ≡ false → is_in n (object_names c) ≡ false
-free_objects Postgresql n c free = or_left _ _ (sym (any-append (is_named n) (object_names c) (flat_map (λ (x : Name × Table). inner_names x.1) c.tables)) ∙ free)
+free_objects Postgresql n c free = or_left _ _ (sym (any-append (is_named n) (object_names c) (flat_map names_inside c.tables)) ∙ free)
 free_objects Mysql n c free = free
 
 pub free_rest : (d : Dialect) (n : Name) (c : Catalogue) → is_taken d n c ≡ false → (is_in n (map (λ (x : Name × View). x.0) c.views) || is_in n (map (λ (x : Name × Sequence). x.0) c.sequences)) ≡ false
@@ -114,6 +114,7 @@ sequences_shaped d c ss shape rise apart steps may = record {
   tables = shape.tables;
   views = shape.views;
   apart = apart;
+  schemas = schemas_sequences d c ss shape.sequences may shape.schemas;
   steps = steps;
   sequences = may;
   alike = shape.alike;
@@ -131,8 +132,8 @@ create_sequence_keeps by d s start size c e k valid sound made =
     let free = or_left (is_taken d s c) _ ok.exists in
     let none = free_sequence d s c free in
     let ss = insert_entry name_cmp c.sequences s it in
-    let named = sequences_named c ss (λ n. 0) (λ n. once (is_named n s)) (λ n. let x = keys-insert (λ (y : Sequence). []) n c.sequences s it none in omega (arith, x)) in
-    let nonzero = not_so_true _ (and_right (is_literal (literal.Int size)) _ (and_right (is_literal (literal.Int start)) _ (and_right (is_name s) _ (and_right (is_pg d) _ valid)))) in
+    let named = sequences_named c ss (λ n. 0) (λ n. once (is_named n s)) (λ n. let x = keys-insert (λ (y : Name × Sequence). []) n c.sequences s it none in omega (arith, x)) in
+    let nonzero = not_so_true _ (and_right (is_literal (literal.Int size)) _ (and_right (is_literal (literal.Int start)) _ (and_right (is_object d s) _ (and_right (is_pg d) _ valid)))) in
     keeps d p e k made (sequences_shaped d c ss (shape_of d c sound) (sorted_keys ss (sorted-insert_entry c.sequences s it (sorted_entries c.sequences sound.ordered_sequences)))
     (made_apart d c (with_sequence c s it) s named free sound.apart)
     (any_none-insert_entry (λ (x : Name × Sequence). int_eq x.1.step (pos 0)) c.sequences s it (λ n. refl) nonzero sound.steps) (may_pg d ss (and_left (is_pg d) _ valid)))
@@ -143,7 +144,7 @@ drop_sequence_keeps by d s c e k valid sound made =
     let ok = accepted p e k made in
     let ss = remove_entry (is_named s) c.sequences in
     let it = some_there (sequence_of c s) ok.missing in
-    let named = sequences_named c ss (λ n. once (is_named n s)) (λ n. 0) (λ n. let x = keys-remove (λ (y : Sequence). []) n c.sequences s it.0 it.1 in omega (arith, x)) in
+    let named = sequences_named c ss (λ n. once (is_named n s)) (λ n. 0) (λ n. let x = keys-remove (λ (y : Name × Sequence). []) n c.sequences s it.0 it.1 in omega (arith, x)) in
     keeps d p e k made (sequences_shaped d c ss (shape_of d c sound) (sorted_keys ss (sorted-remove_entry s c.sequences (sorted_entries c.sequences sound.ordered_sequences)))
     (gone_apart d c (without_sequence c s) s named sound.apart)
     (any_none-remove_entry (is_named s) (λ (x : Name × Sequence). int_eq x.1.step (pos 0)) c.sequences sound.steps) (may_pg d ss (and_left (is_pg d) _ valid)))

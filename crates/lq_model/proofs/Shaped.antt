@@ -9,9 +9,9 @@ use Rattle.lq_base.specs.Name.{name_cmp}
 use Rattle.lq_base.specs.declared.dialect.Dialect.{Dialect}
 use Rattle.lq_base.specs.declared.name.Name.{Name}
 use Rattle.lq_model.specs.Catalogue.{Catalogue, Table, table_of}
-use Rattle.lq_model.specs.NameSpaces.{AreApart}
+use Rattle.lq_model.specs.NameSpaces.{AreApart, object_names}
 use Rattle.lq_model.specs.Plan.{Plan, decide}
-use Rattle.lq_model.specs.Sound.{IsSound, IsSoundTable, is_unlike, is_view, may_have}
+use Rattle.lq_model.specs.Sound.{IsSound, IsSoundTable, is_unlike, is_view, may_have, may_name}
 use Rattle.lq_model.proofs.Decide.{IsSettled, accepted, settled}
 
 pub record IsShaped (d : Dialect) (c : Catalogue) : Type 0 where
@@ -21,6 +21,7 @@ pub record IsShaped (d : Dialect) (c : Catalogue) : Type 0 where
   pub tables : (t : Name) (it : Table) → table_of c t ≡ Some it → IsSoundTable d it
   pub views : list_all (λ e. is_view c e.1) c.views ≡ true
   pub apart : AreApart d c
+  pub schemas : may_name d (object_names c) ≡ true
   pub steps : list_any (λ e. int_eq e.1.step (pos 0)) c.sequences ≡ false
   pub sequences : may_have d c.sequences ≡ true
   pub alike : is_unlike c ≡ false
@@ -33,6 +34,7 @@ shape_of d c sound = record {
   tables = sound.tables;
   views = sound.views;
   apart = sound.apart;
+  schemas = sound.schemas;
   steps = sound.steps;
   sequences = sound.sequences;
   alike = sound.alike;
@@ -46,6 +48,7 @@ sound_of d c shape tested = record {
   tables = shape.tables;
   views = shape.views;
   apart = shape.apart;
+  schemas = shape.schemas;
   steps = shape.steps;
   sequences = shape.sequences;
   no_null = tested.no_null;

@@ -6,10 +6,9 @@ use Rattle.lq_base.specs.Name.{is_named}
 use Rattle.lq_base.specs.declared.dialect.Dialect.{Dialect}
 use Rattle.lq_base.specs.declared.dialect.Dialect.TheVariants.{Mysql, Postgresql}
 use Rattle.lq_base.specs.declared.name.Name.{Name}
-use Rattle.lq_model.specs.Catalogue.{Catalogue, Table}
-use Rattle.lq_model.specs.NameSpaces.{AreApart, all_foreign_names, is_taken, object_names, shared_names}
+use Rattle.lq_model.specs.Catalogue.{Catalogue}
+use Rattle.lq_model.specs.NameSpaces.{AreApart, all_foreign_names, is_taken, names_inside, object_names, shared_names}
 use Rattle.lq_model.specs.Names.{times}
-use Rattle.lq_model.specs.TableNames.{inner_names}
 use Rattle.lq_model.proofs.Counts.{once, swapped}
 use Rattle.lq_model.proofs.Lists.{named_itself, same_name}
 use Rattle.lq_model.proofs.Times.{none_times, one_more, times-append, times_none}
@@ -17,15 +16,15 @@ use Rattle.lq_model.proofs.Times.{none_times, one_more, times-append, times_none
 -- the spaces of a catalogue e whose object names are those of c with n times more and less, and whose tables name the same
 pub record IsNamed (c e : Catalogue) (less more : Name → ℕ) : Type 0 where
   pub objects : (n : Name) → times n (object_names e) + less n ≡ times n (object_names c) + more n
-  pub inner : (n : Name) → times n (flat_map (λ (x : Name × Table). inner_names x.1) e.tables) ≡ times n (flat_map (λ (x : Name × Table). inner_names x.1) c.tables)
+  pub inner : (n : Name) → times n (flat_map names_inside e.tables) ≡ times n (flat_map names_inside c.tables)
   pub foreign : (n : Name) → times n (all_foreign_names e) ≡ times n (all_foreign_names c)
 
 shared_named : (c e : Catalogue) (less more : Name → ℕ) → IsNamed c e less more → (n : Name) → times n (shared_names e) + less n ≡ times n (shared_names c) + more n
 shared_named c e less more is n =
     let o = is.objects n in
     let i = is.inner n in
-    let p = times-append n (object_names e) (flat_map (λ (x : Name × Table). inner_names x.1) e.tables) in
-    let q = times-append n (object_names c) (flat_map (λ (x : Name × Table). inner_names x.1) c.tables) in
+    let p = times-append n (object_names e) (flat_map names_inside e.tables) in
+    let q = times-append n (object_names c) (flat_map names_inside c.tables) in
     omega (arith, o, i, p, q)
 
 -- one name more, that was free

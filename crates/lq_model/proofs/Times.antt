@@ -2,7 +2,7 @@
 use Rattle.std.proofs.Common.{ap, arith, sym, ◌∙◌}
 use Rattle.std.specs.List.{flat_map}
 use Rattle.std.specs.Map.{lookup, set_value}
-use Rattle.std.specs.Prelude.{Bool, List, Some, [], cond, false, refl, true, ℕ, ◌++◌, ◌+◌, ◌||◌, ◌∷◌, ◌≡◌, ◌≤◌}
+use Rattle.std.specs.Prelude.{List, Some, [], cond, false, refl, true, ℕ, ◌++◌, ◌+◌, ◌||◌, ◌∷◌, ◌≡◌, ◌≤◌}
 use Rattle.lq_base.specs.Name.{is_named}
 use Rattle.lq_base.specs.declared.name.Name.{Name}
 use Rattle.lq_model.specs.Names.{is_in, times}
@@ -41,21 +41,22 @@ pub apart_right : (n : Name) (xs ys : List Name) → times n (xs ++ ys) ≤ 1 �
 apart_right n xs ys h is = let s = times-append n xs ys in let o = times_some n xs is in none_times n ys (omega (arith, h, s, o))
 
 -- another table has other names
-pub times-set_value : {K X : Type 0} (test : K → Bool) (f : X → List Name) (n : Name) (es : List (K × X)) (x y : X) → lookup test es ≡ Some x → times n (flat_map (λ e. f e.1) (set_value test es y)) + times n (f x) ≡ times n (flat_map (λ e. f e.1) es) + times n (f y)
-times-set_value test f n [] x y h = not_some (sym h)
-times-set_value test f n (e ∷ es) x y h =
-    elim (test e.0) as (λ b. cond b (Some e.1) (lookup test es) ≡ Some x → times n (flat_map (λ z. f z.1) (cond b ((e.0, y) ∷ es) (e ∷ set_value test es y))) + times n (f x) ≡ times n (flat_map (λ z. f z.1) (e ∷ es)) + times n (f y)) [
-      | true ↦ λ q.
-          let a = times-append n (f y) (flat_map (λ z. f z.1) es) in
-          let b = times-append n (f e.1) (flat_map (λ z. f z.1) es) in
-          let s : times n (f e.1) ≡ times n (f x) = ap (λ z. times n (f z)) (some_same q) in
-          omega (arith, a, b, s)
-      | false ↦ λ q.
-          let r = times-set_value test f n es x y q in
-          let a = times-append n (f e.1) (flat_map (λ z. f z.1) (set_value test es y)) in
-          let b = times-append n (f e.1) (flat_map (λ z. f z.1) es) in
+pub times-set_value : {X : Type 0} (t : Name) (f : Name × X → List Name) (n : Name) (es : List (Name × X)) (x y : X) → lookup (is_named t) es ≡ Some x → times n (flat_map f (set_value (is_named t) es y)) + times n (f (t, x)) ≡ times n (flat_map f es) + times n (f (t, y))
+times-set_value t f n [] x y h = not_some (sym h)
+times-set_value t f n (e ∷ es) x y h =
+    elim (is_named t e.0) as (λ b. is_named t e.0 ≡ b → cond b (Some e.1) (lookup (is_named t) es) ≡ Some x → times n (flat_map f (cond b ((e.0, y) ∷ es) (e ∷ set_value (is_named t) es y))) + times n (f (t, x)) ≡ times n (flat_map f (e ∷ es)) + times n (f (t, y))) [
+      | true ↦ λ p q.
+          let a = times-append n (f (e.0, y)) (flat_map f es) in
+          let b = times-append n (f e) (flat_map f es) in
+          let s : times n (f e) ≡ times n (f (t, x)) = ap (λ z. times n (f (e.0, z))) (some_same q) ∙ ap (λ z. times n (f (z, x))) (sym (same_name t e.0 p)) in
+          let u : times n (f (e.0, y)) ≡ times n (f (t, y)) = ap (λ z. times n (f (z, y))) (sym (same_name t e.0 p)) in
+          omega (arith, a, b, s, u)
+      | false ↦ λ p q.
+          let r = times-set_value t f n es x y q in
+          let a = times-append n (f e) (flat_map f (set_value (is_named t) es y)) in
+          let b = times-append n (f e) (flat_map f es) in
           omega (arith, r, a, b)
-    ] h
+    ] refl h
 
 -- one name more, which was not there
 pub one_more : (n m : Name) (k : ℕ) (xs : List Name) → is_in m xs ≡ false → times n xs ≤ 1 → k ≡ times n xs + cond (is_named n m) 1 0 → k ≤ 1

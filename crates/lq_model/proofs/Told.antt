@@ -2,20 +2,24 @@
 use Rattle.std.proofs.Common.{arith, ap, sym, ◌∙◌}
 use Rattle.std.proofs.lemmas.Bool.{leb-true, ltb-true}
 use Rattle.std.specs.List.{list_all}
-use Rattle.std.specs.Prelude.{Bool, List, None, Option, Some, [], false, map, nat_le, option_map, refl, true, unsigned_abs, ℕ, ℤ, ◌<◌, ◌≤◌, ◌^◌, ◌∷◌, ◌≡◌}
+use Rattle.std.specs.Prelude.{Bool, List, None, Option, Some, [], false, if◌then◌else◌, is_some, map, nat_le, option_map, refl, true, unsigned_abs, ℕ, ℤ, ◌<◌, ◌^◌, ◌∷◌, ◌≡◌, ◌≤◌}
 use Rattle.lq_base.specs.Kind.{is_kind, kind_of, kind_text}
+use Rattle.lq_base.specs.Name.{is_name_key, is_object, parts_of, schema_in, schema_of, text_of, within}
 use Rattle.lq_base.specs.Number.{fixed_text, number_of}
 use Rattle.lq_base.specs.Options.{if_there}
+use Rattle.lq_base.specs.declared.dialect.Dialect.{Dialect}
 use Rattle.lq_base.specs.declared.dialect.Dialect.TheVariants.{Postgresql}
 use Rattle.lq_base.specs.declared.kind.Kind.{Kind}
 use Rattle.lq_base.specs.declared.literal.Literal.{Literal}
 use Rattle.lq_base.specs.declared.literal.Literal.TheVariants as literal
+use Rattle.lq_base.proofs.BesideLemmas.{is_whole}
 use Rattle.lq_base.proofs.KindSpelled.{kind_text-names, names-kind_of}
+use Rattle.lq_base.proofs.NameLemmas.{names_tell_keys}
 use Rattle.lq_base.proofs.NumberPrinted.{number_of-fixed_text}
 use Rattle.lq_model.specs.Canon.{CanonicalPairs, CanonicalValue, CanonicalValues, canonical_change, decimal_value, kind_value, list, map_of, number, text, truth, value}
 use Rattle.lq_model.specs.Names.{repeats}
 use Rattle.lq_model.specs.Spelled.{is_literal}
-use Rattle.lq_model.specs.Written.{Row, change_of, map_with, maps, texts}
+use Rattle.lq_model.specs.Written.{Row, change_of, map_with, maps, schema_row, texts}
 use Rattle.lq_model.proofs.CanonLemmas.{change_told}
 use Rattle.lq_model.proofs.Lists.{and_left, and_right}
 use Rattle.lq_model.proofs.RowsTold.{rows_told}
@@ -47,6 +51,22 @@ texts_told None None h = refl
 texts_told (Some t) (Some u) h = ap (λ x. Some x) (text_told h)
 texts_told None (Some u) h = absurd Prim.cc
 texts_told (Some t) None h = absurd Prim.cc
+
+-- a name by its text and its schema
+
+schemas_told : (o p : Option (List ℕ × List ℕ)) → (if is_some o then Some (text (schema_in o)) else None) ≡ (if is_some p then Some (text (schema_in p)) else None) → schema_in o ≡ schema_in p
+schemas_told None None e = refl
+schemas_told (Some a) (Some b) e = text_told e
+schemas_told None (Some b) e = absurd Prim.cc
+schemas_told (Some a) None e = absurd Prim.cc
+
+pub name_told : (a b : List ℕ) → is_name_key a ≡ true → is_name_key b ≡ true → text_of a ≡ text_of b → schema_row a ≡ schema_row b → a ≡ b
+name_told a b h g same schemas =
+    sym (names_tell_keys a h).2 ∙ ap (λ t. within (schema_of a) t) same ∙ ap (λ s. within s (text_of b)) (schemas_told (parts_of a) (parts_of b) schemas) ∙ (names_tell_keys b g).2
+
+-- the name of an object of a profile
+pub object_told : (d : Dialect) (a b : List ℕ) → is_object d a ≡ true → is_object d b ≡ true → Some (text (text_of a)) ≡ Some (text (text_of b)) → schema_row a ≡ schema_row b → a ≡ b
+object_told d a b h g same schemas = name_told a b (is_whole d a h) (is_whole d b g) (text_told same) schemas
 
 first_value : {v w : CanonicalValue} {vs ws : CanonicalValues} → value v vs ≡ value w ws → v ≡ w
 first_value h = Prim.cc

@@ -2,7 +2,7 @@
 use Rattle.std.proofs.Common.{ap, sym, ◌∙◌}
 use Rattle.std.specs.List.{filter, list_all, list_any}
 use Rattle.std.specs.Prelude.{Bool, List, None, Ok, Option, Some, [], cond, false, is_none, map, not, refl, true, ℕ, ◌&&◌, ◌++◌, ◌||◌, ◌∷◌, ◌≡◌}
-use Rattle.lq_base.specs.Name.{is_named}
+use Rattle.lq_base.specs.Name.{beside, is_named}
 use Rattle.lq_base.specs.declared.dialect.Dialect.TheVariants.{Postgresql}
 use Rattle.lq_base.specs.declared.name.Name.{Name}
 use Rattle.lq_model.specs.AddConstraint.{add_foreign_key, add_primary_key, add_unique, with_key}
@@ -96,7 +96,7 @@ drop_after_unique t u by c e k sound made =
     let it = the_table c t in
     let ok = accepted (add_unique by Postgresql t u c) e k made in
     let new = record it { uniques = it.uniques ++ u ∷ [] } in
-    let out = no_constraint it u.name (or_right (is_in u.name (shared_names c)) _ (or_left _ _ ok.exists)) in
+    let out = no_constraint it u.name (or_right (is_in (beside t u.name) (shared_names c)) _ (or_left _ _ ok.exists)) in
     ap (step by Postgresql (DropConstraint t u.name)) (sym ok.result)
     ∙ drop_back by t u.name new c sound (or_left _ _ ok.missing) ok.reserved (no_key u.name it.key _ out.keys)
     (any-append (is_named u.name) (map (λ k. k.name) (key_list it.key)) _ ∙ or_true_right _ _ (any-append (is_named u.name) (map (λ u. u.name) new.uniques) _ ∙ or_true_left _ _ (in_last u.name (λ u. u.name) it.uniques u refl)))
@@ -141,7 +141,7 @@ drop_after_key t k by c e n sound fresh made =
     let ok = accepted (add_primary_key by Postgresql t k c) e n made in
     let new = with_key k it in
     let none = no_option it.key (or_left _ _ ok.exists) in
-    let out = no_constraint it k.name (or_right (is_in k.name (shared_names c)) _ (or_left _ _ (or_right _ _ ok.exists))) in
+    let out = no_constraint it k.name (or_right (is_in (beside t k.name) (shared_names c)) _ (or_left _ _ (or_right _ _ ok.exists))) in
     let fine = sound.tables t it (here c t (or_left _ _ ok.missing)) in
     let same = keyed_same k it.columns fresh in
     ap (step by Postgresql (DropConstraint t k.name)) (sym ok.result)

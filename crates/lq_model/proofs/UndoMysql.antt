@@ -46,7 +46,7 @@ drop_unique_after t u by c e k sound made =
     let there = here c t (or_left _ _ ok.missing) in
     let new = with_unique u it in
     let now = the_table-with_table c t new there in
-    let out = or_left (is_in u.name (map (λ (x : Unique). x.name) it.uniques)) _ (sym (any-append (is_named u.name) (map (λ (x : Unique). x.name) it.uniques) (map (λ (x : Index). x.name) it.indexes)) ∙ or_left (unique_taken Mysql it u.name c) _ ok.exists) in
+    let out = or_left (is_in u.name (map (λ (x : Unique). x.name) it.uniques)) _ (sym (any-append (is_named u.name) (map (λ (x : Unique). x.name) it.uniques) (map (λ (x : Index). x.name) it.indexes)) ∙ or_left (unique_taken Mysql t it u.name c) _ ok.exists) in
     ap (step by Mysql (DropUnique t u.name)) (sym ok.result)
     ∙ undone Mysql (drop_unique by Mysql t u.name (with_table c t new)) t new c (without_unique u.name) sound there refl
     (ap (λ x. record it { uniques = x }) (last_goes u.name (λ (x : Unique). x.name) it.uniques u refl out))
@@ -115,7 +115,7 @@ drop_index_after t i by c e k sound made =
     let there = here c t (or_left _ _ ok.missing) in
     let new = with_index i it in
     let now = the_table-with_table c t new there in
-    let out = or_right (is_in i.name (map (λ (x : Unique). x.name) it.uniques)) _ (sym (any-append (is_named i.name) (map (λ (x : Unique). x.name) it.uniques) (map (λ (x : Index). x.name) it.indexes)) ∙ or_left (index_taken Mysql it i.name c) _ ok.exists) in
+    let out = or_right (is_in i.name (map (λ (x : Unique). x.name) it.uniques)) _ (sym (any-append (is_named i.name) (map (λ (x : Unique). x.name) it.uniques) (map (λ (x : Index). x.name) it.indexes)) ∙ or_left (index_taken Mysql t it i.name c) _ ok.exists) in
     ap (step by Mysql (DropIndex i.name (Some t))) (sym ok.result)
     ∙ undone Mysql (drop_index by Mysql i.name (Some t) (with_table c t new)) t new c (without_index i.name) sound there refl
     (ap (λ x. record it { indexes = x }) (last_goes i.name (λ (x : Index). x.name) it.indexes i refl out))

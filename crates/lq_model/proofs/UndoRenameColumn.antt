@@ -3,7 +3,6 @@ use Rattle.std.proofs.Common.{ap, sym, ◌∙◌}
 use Rattle.std.proofs.Math.Path.{subst}
 use Rattle.std.specs.FinMap.Entries.{below_all, is_sorted}
 use Rattle.std.specs.List.{list_any}
-use Rattle.std.specs.Map.{lookup}
 use Rattle.std.specs.Option.{option_map, unwrap_or}
 use Rattle.std.specs.Ordering.{is_lt}
 use Rattle.std.specs.Prelude.{Bool, List, None, Ok, Option, Some, T, [], cond, false, is_none, map, refl, true, ℕ, ◌&&◌, ◌||◌, ◌∷◌, ◌≡◌}
@@ -26,6 +25,7 @@ use Rattle.lq_model.specs.declared.index.Index.{Index}
 use Rattle.lq_model.specs.declared.statement.Statement.TheVariants.{RenameColumn}
 use Rattle.lq_model.proofs.AddDropColumn.{nowhere, nowhere_bound}
 use Rattle.lq_model.proofs.Decide.{accepted, accepts, here}
+use Rattle.lq_model.proofs.Entries.{lookup-entries}
 use Rattle.lq_model.proofs.Lists.{any-append, map-map, named_itself, not_false, not_true, or_false, or_left, or_right, same_name, true_false}
 use Rattle.lq_model.proofs.Maps.{at_lookup, same_maps, some_same, sorted_entries}
 
@@ -41,14 +41,6 @@ turn f g None h = refl
 turn f g (Some x) h = ap Some (h x refl)
 
 -- a map whose values go by their names
-pub lookup-entries : {X : Type 0} (q : Name) (g : Name → X → X) (es : List (Name × X)) → lookup (is_named q) (map (λ e. (e.0, g e.0 e.1)) es) ≡ option_map (g q) (lookup (is_named q) es)
-lookup-entries q g [] = refl
-lookup-entries q g (e ∷ es) =
-    elim (is_named q e.0) as (λ b. is_named q e.0 ≡ b → cond b (Some (g e.0 e.1)) (lookup (is_named q) (map (λ x. (x.0, g x.0 x.1)) es)) ≡ option_map (g q) (cond b (Some e.1) (lookup (is_named q) es))) [
-      | true ↦ λ p. ap (λ n. Some (g n e.1)) (sym (same_name q e.0 p))
-      | false ↦ λ p. lookup-entries q g es
-    ] refl
-
 below-entries : {X : Type 0} (g : Name → X → X) (k : Name) (es : List (Name × X)) → below_all name_cmp k (map (λ e. (e.0, g e.0 e.1)) es) ≡ below_all name_cmp k es
 below-entries g k [] = refl
 below-entries g k (e ∷ es) = ap (λ b. is_lt (name_cmp k e.0) && b) (below-entries g k es)

@@ -9,7 +9,7 @@ use Rattle.lq_model.specs.NameSpaces.{foreign_taken, index_taken, key_taken, uni
 use Rattle.lq_model.specs.Names.{repeats}
 use Rattle.lq_model.specs.Plan.{Plan, unopposed}
 use Rattle.lq_model.specs.Reserved.{is_reserved, takes_lock_key}
-use Rattle.lq_model.specs.TableNames.{column_missing}
+use Rattle.lq_model.specs.TableNames.{column_missing, placed}
 use Rattle.lq_model.specs.declared.caller.By.{By}
 use Rattle.lq_model.specs.declared.constraint.ForeignKey.{ForeignKey}
 use Rattle.lq_model.specs.declared.constraint.Key.{Key}
@@ -26,7 +26,7 @@ add_primary_key by d t k c =
     record (unopposed c) {
       reserved = is_reserved by (t ∷ k.name ∷ []);
       missing = is_none (table_of c t) || column_missing it k.columns;
-      exists = is_some it.key || (key_taken d it k.name c || (takes_lock_key by d (k.name ∷ []) || repeats k.columns));
+      exists = is_some it.key || (key_taken d t it k.name c || (takes_lock_key by d (placed t (k.name ∷ [])) || repeats k.columns));
       named = t ∷ [];
       result = with_table c t (with_key k it);
     }
@@ -40,7 +40,7 @@ add_unique by d t u c =
     record (unopposed c) {
       reserved = is_reserved by (t ∷ u.name ∷ []);
       missing = is_none (table_of c t) || column_missing it u.columns;
-      exists = unique_taken d it u.name c || (takes_lock_key by d (u.name ∷ []) || repeats u.columns);
+      exists = unique_taken d t it u.name c || (takes_lock_key by d (placed t (u.name ∷ [])) || repeats u.columns);
       named = t ∷ [];
       result = with_table c t (with_unique u it);
     }
@@ -69,7 +69,7 @@ create_index by d t i c =
     record (unopposed c) {
       reserved = is_reserved by (t ∷ i.name ∷ []);
       missing = is_none (table_of c t) || column_missing it i.columns;
-      exists = index_taken d it i.name c || (takes_lock_key by d (i.name ∷ []) || repeats i.columns);
+      exists = index_taken d t it i.name c || (takes_lock_key by d (placed t (i.name ∷ [])) || repeats i.columns);
       named = t ∷ [];
       result = with_table c t (with_index i it);
     }

@@ -12,7 +12,7 @@ use Rattle.lq_model.specs.Names.{is_in, repeats}
 use Rattle.lq_model.specs.Plan.{Plan, unopposed}
 use Rattle.lq_model.specs.Reserved.{is_reserved, takes_lock_key}
 use Rattle.lq_model.specs.Sound.{is_key_of}
-use Rattle.lq_model.specs.TableNames.{column_lists, column_missing, column_names, constraint_names, inner_names, key_list}
+use Rattle.lq_model.specs.TableNames.{column_lists, column_missing, column_names, constraint_names, inner_names, key_list, placed}
 use Rattle.lq_model.specs.declared.caller.By.{By}
 use Rattle.lq_model.specs.declared.column.Column.{Column}
 use Rattle.lq_model.specs.declared.column.ColumnDef.{ColumnDef}
@@ -67,7 +67,7 @@ create_table by d t defs key uniques foreign c =
     record (unopposed c) {
       reserved = is_reserved by (t ∷ constraint_names it ++ map (λ f. f.table) foreign);
       missing = lacks_own it || list_any (target_missing after) foreign;
-      exists = is_taken d t c || (are_clashing d t it c || (takes_lock_key by d (t ∷ inner_names it) || lists_twice it));
+      exists = is_taken d t c || (are_clashing d t it c || (takes_lock_key by d (t ∷ placed t (inner_names it)) || lists_twice it));
       depends = list_any (depends_in key) defs;
       wrong = list_any (λ e. is_wrong (into_kind (literal_of e) e.kind)) defs || (list_any (kinds_differ after it) foreign || (list_any numbers_wrongly defs || repeats_number defs));
       wide = list_any (λ e. is_wide (into_kind (literal_of e) e.kind)) defs;

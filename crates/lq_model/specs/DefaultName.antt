@@ -4,7 +4,7 @@ use Rattle.std.specs.List.{flat_map, list_all}
 use Rattle.std.specs.Str.{is_utf8}
 use Rattle.lq_base.specs.declared.dialect.Dialect.{Dialect}
 use Rattle.lq_base.specs.declared.dialect.Dialect.TheVariants.{Postgresql, Mysql}
-use Rattle.lq_base.specs.Name.{is_name}
+use Rattle.lq_base.specs.Name.{is_name, is_name_key, text_of}
 use Rattle.lq_base.specs.declared.name.Name.{Name}
 use Rattle.lq_model.specs.Sound.{primary}
 
@@ -19,7 +19,7 @@ is_prefix bytes = length bytes == 3 && list_all (λ byte. nat_le 95 byte && nat_
 
 -- `PREFIX_TABLE`, with one `_COLUMN` for each column
 abbrev pub default_name : List ℕ → Name → List Name → Name
-default_name prefix table columns = cut 63 (prefix ++ table ++ flat_map (λ column. codes "_" ++ column) columns)
+default_name prefix table columns = cut 63 (prefix ++ text_of table ++ flat_map (λ column. codes "_" ++ text_of column) columns)
 
 -- a primary key's
 unfoldable pub key_name : Dialect → Name → Name
@@ -38,9 +38,9 @@ foreign_name table columns = default_name (codes "fk_") table columns
 unfoldable pub index_name : Name → List Name → Name
 index_name table columns = default_name (codes "ix_") table columns
 
--- each of them is a name where the table's and the columns' are
+-- each of them is a name in `public` where the table's and the columns' are
 abbrev pub DefaultNamesAreNames : Type 0
-DefaultNamesAreNames = (d : Dialect) (table : Name) (columns : List Name) → is_name table ≡ true → list_all is_name columns ≡ true
+DefaultNamesAreNames = (d : Dialect) (table : Name) (columns : List Name) → is_name_key table ≡ true → list_all is_name columns ≡ true
     → (is_name (key_name d table) ≡ true)
     × (is_name (unique_name table columns) ≡ true)
     × (is_name (foreign_name table columns) ≡ true)

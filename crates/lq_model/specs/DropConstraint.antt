@@ -1,7 +1,7 @@
 -- What drops a key, a unique constraint, a foreign key or an index.
 use Rattle.std.specs.List.{filter, list_any}
 use Rattle.std.specs.Prelude.{Bool, List, None, Option, Some, [], cond, is_none, map, not, ◌&&◌, ◌||◌, ◌∷◌}
-use Rattle.lq_base.specs.Name.{is_named}
+use Rattle.lq_base.specs.Name.{beside, is_named}
 use Rattle.lq_base.specs.declared.dialect.Dialect.{Dialect}
 use Rattle.lq_base.specs.declared.name.Name.{Name}
 use Rattle.lq_model.specs.Catalogue.{Catalogue, Table, table_of, the_table, with_table}
@@ -91,12 +91,20 @@ without_index n it = record it { indexes = filter (λ i. not (is_named n i.name)
 abbrev pub has_index : Name → Table → Bool
 has_index n it = is_in n (map (λ i. i.name) it.indexes)
 
--- without a table it is the index of that name, on whichever table
+-- the index of that name in the table's schema
+
+abbrev pub without_index_in : Name → Name → Table → Table
+without_index_in n t it = record it { indexes = filter (λ i. not (is_named n (beside t i.name))) it.indexes }
+
+abbrev pub has_index_in : Name → Name → Table → Bool
+has_index_in n t it = is_in n (map (λ i. beside t i.name) it.indexes)
+
+-- without a table it is the index of that name, on whichever table of its schema
 abbrev pub drop_index : By → Dialect → Name → Option Name → Catalogue → Plan
 drop_index by d n None c = record (unopposed c) {
   reserved = is_reserved by (n ∷ []);
-  missing = not (list_any (λ e. has_index n e.1) c.tables);
-  result = record c { tables = map (λ e. (e.0, without_index n e.1)) c.tables };
+  missing = not (list_any (λ e. has_index_in n e.0 e.1) c.tables);
+  result = record c { tables = map (λ e. (e.0, without_index_in n e.0 e.1)) c.tables };
 }
 drop_index by d n (Some t) c = record (unopposed c) {
   reserved = is_reserved by (t ∷ n ∷ []);

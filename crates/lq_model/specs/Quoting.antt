@@ -1,5 +1,6 @@
 -- How names and strings stand in a text: PostgreSQL's manual, 4.1, and MySQL's, 9.1.1 and 9.2.
 use Rattle.std.specs.Prelude.{ℕ, Bool, if◌then◌else◌, ◌==◌, ◌||◌, List, [], ◌∷◌, ◌++◌}
+use Rattle.lq_base.specs.Name.{is_elsewhere, schema_of, text_of}
 use Rattle.lq_base.specs.declared.dialect.Dialect.{Dialect}
 use Rattle.lq_base.specs.declared.dialect.Dialect.TheVariants.{Postgresql, Mysql}
 use Rattle.lq_model.specs.Phrase.{words}
@@ -19,9 +20,13 @@ abbrev pub name_quote : Dialect → List ℕ
 name_quote Postgresql = words phrase.DoubleQuote
 name_quote Mysql = words phrase.GraveAccent
 
--- a name in its quotes, which are doubled inside
+-- a text in the quotes of names, which are doubled inside
+unfoldable pub quoted_text : Dialect → List ℕ → List ℕ
+quoted_text d text = name_quote d ++ doubled (is_name_quote d) text ++ name_quote d
+
+-- a name: its text, after its schema where that is not `public`
 unfoldable pub name_text : Dialect → List ℕ → List ℕ
-name_text d name = name_quote d ++ doubled (is_name_quote d) name ++ name_quote d
+name_text d name = if is_elsewhere name then quoted_text d (schema_of name) ++ words phrase.Dot ++ quoted_text d (text_of name) else quoted_text d name
 
 -- what a string has twice: `'`, in mysql also `\`
 abbrev pub is_string_mark : Dialect → ℕ → Bool

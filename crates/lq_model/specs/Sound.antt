@@ -6,7 +6,7 @@ use Rattle.std.specs.Option.{unwrap_or}
 use Rattle.std.specs.Ordering.{int_eq}
 use Rattle.std.specs.Prelude.{Bool, List, Option, Some, [], codes, false, is_none, is_some, not, pos, true, ◌&&◌, ◌||◌, ◌∷◌, ◌≡◌}
 use Rattle.lq_base.specs.Kind.{is_kind}
-use Rattle.lq_base.specs.Name.{is_named, name_cmp}
+use Rattle.lq_base.specs.Name.{is_elsewhere, is_named, name_cmp}
 use Rattle.lq_base.specs.Value.{is_value_of}
 use Rattle.lq_base.specs.declared.dialect.Dialect.{Dialect}
 use Rattle.lq_base.specs.declared.dialect.Dialect.TheVariants.{Mysql, Postgresql}
@@ -15,12 +15,12 @@ use Rattle.lq_base.specs.declared.value.Value.TheVariants as value
 use Rattle.lq_model.specs.Catalogue.{Catalogue, Sequence, Table, View, table_of, the_table}
 use Rattle.lq_model.specs.Comparison.{compares_wrongly}
 use Rattle.lq_model.specs.Kinds.{is_number, kinds_differ}
-use Rattle.lq_model.specs.NameSpaces.{AreApart, AreApartWithin}
+use Rattle.lq_model.specs.NameSpaces.{AreApart, AreApartWithin, object_names}
 use Rattle.lq_model.specs.Names.{is_empty, is_in, repeats, same_names}
 use Rattle.lq_model.specs.ResultTests.{has_null, has_orphans, has_twins, is_loose, is_overfull}
 use Rattle.lq_model.specs.Row.{row_fits}
 use Rattle.lq_model.specs.Spelled.{is_spelled}
-use Rattle.lq_model.specs.TableNames.{column_lists, column_names, key_list}
+use Rattle.lq_model.specs.TableNames.{column_lists, column_names, key_list, own_names}
 use Rattle.lq_model.specs.Truth.{names_in}
 use Rattle.lq_model.specs.declared.column.Column.{Column}
 use Rattle.lq_model.specs.declared.constraint.Key.{Key}
@@ -71,6 +71,8 @@ pub record IsSoundTable (d : Dialect) (it : Table) : Type 0 where
   pub numbered : list_all (is_numbered_well it) it.columns ≡ true
   -- the names of its constraints differ in their spaces
   pub within : AreApartWithin d it
+  -- what stands in it has names in `public`
+  pub public : list_any is_elsewhere (own_names it) ≡ false
 
 abbrev pub wanted_names : Wanted → List Name
 wanted_names (wanted.Columns ns) = ns
@@ -95,6 +97,11 @@ abbrev pub may_have : Dialect → List (Name × Sequence) → Bool
 may_have Postgresql ss = true
 may_have Mysql ss = is_empty ss
 
+-- MySQL has no schema but `public`
+abbrev pub may_name : Dialect → List Name → Bool
+may_name Postgresql ns = true
+may_name Mysql ns = not (list_any is_elsewhere ns)
+
 pub record IsSound (d : Dialect) (c : Catalogue) : Type 0 where
   -- the maps are in the order of their names
   pub ordered : IsStrictlySortedBy name_cmp (keys_of c.tables)
@@ -104,6 +111,7 @@ pub record IsSound (d : Dialect) (c : Catalogue) : Type 0 where
   pub views : list_all (λ e. is_view c e.1) c.views ≡ true
   -- names differ in their spaces
   pub apart : AreApart d c
+  pub schemas : may_name d (object_names c) ≡ true
   -- no sequence has the step 0
   pub steps : list_any (λ e. int_eq e.1.step (pos 0)) c.sequences ≡ false
   pub sequences : may_have d c.sequences ≡ true

@@ -1,12 +1,13 @@
 -- The grammar of ALTER.
 use Rattle.std.specs.Prelude.{true, false, if◌then◌else◌}
+use Rattle.lq_base.specs.Name.{beside, text_of}
 use Rattle.lq_base.specs.declared.dialect.Dialect.{Dialect}
 use Rattle.lq_base.specs.declared.dialect.Dialect.TheVariants.{Postgresql, Mysql}
 use Rattle.lq_base.specs.declared.name.Name.{Name}
 use Rattle.lq_model.specs.SqlColumn.{added_column}
 use Rattle.lq_model.specs.SqlConstraint.{begins_constraint, table_constraint}
 use Rattle.lq_model.specs.SqlParser.{Parser, ◌>>=◌, ◌>>◌, pure, refuse, peek, skip, eat, expect}
-use Rattle.lq_model.specs.SqlPart.{name, literal, column_kind}
+use Rattle.lq_model.specs.SqlPart.{name, object, literal, column_kind}
 use Rattle.lq_model.specs.declared.statement.Statement.{Statement}
 use Rattle.lq_model.specs.declared.statement.Statement.TheVariants.{AddColumn, AddForeignKey, AddPrimaryKey, AddUnique, DropColumn, DropConstraint, DropDefault, DropForeignKey, DropNotNull, DropPrimaryKey, DropUnique, Modify, RenameColumn, RenameSequence, RenameTable, RenameView, SetDefault, SetNotNull}
 use Rattle.lq_model.specs.declared.table_item.TableConstraint.{TableConstraint}
@@ -14,11 +15,12 @@ use Rattle.lq_model.specs.declared.table_item.TableConstraint.TheVariants as con
 use Rattle.lq_model.specs.declared.word.WordKind.{WordKind}
 use Rattle.lq_model.specs.declared.word.WordKind.TheVariants as word
 
--- `TO q`
-unfoldable pub new_name : Parser Name
-new_name = do
+-- `TO q`: a name of an object in the schema that it is in
+unfoldable pub new_name : Name → Parser Name
+new_name old = do
   expect word.To
-  name
+  to ← name
+  pure (beside old (text_of to))
 
 -- what follows ADD
 
@@ -92,12 +94,13 @@ alter_column d table = do
 unfoldable pub rename_column : Name → Parser Statement
 rename_column table = do
   column ← name
-  to ← new_name
+  expect word.To
+  to ← name
   pure (RenameColumn table column to)
 
 unfoldable pub rename_table_to : Name → Parser Statement
 rename_table_to table = do
-  to ← new_name
+  to ← new_name table
   pure (RenameTable table to)
 
 unfoldable pub rename_part : Name → Parser Statement
@@ -125,30 +128,30 @@ alter_table_by d table _ = refuse
 -- what follows ALTER TABLE
 unfoldable pub alter_table : Dialect → Parser Statement
 alter_table d = do
-  table ← name
+  table ← object d
   found ← peek
   alter_table_by d table found
 
 -- what follows ALTER VIEW and ALTER SEQUENCE: `q RENAME TO q`
 
-unfoldable pub alter_view : Parser Statement
-alter_view = do
-  view ← name
+unfoldable pub alter_view : Dialect → Parser Statement
+alter_view d = do
+  view ← object d
   expect word.Rename
-  to ← new_name
+  to ← new_name view
   pure (RenameView view to)
 
-unfoldable pub alter_sequence : Parser Statement
-alter_sequence = do
-  sequence ← name
+unfoldable pub alter_sequence : Dialect → Parser Statement
+alter_sequence d = do
+  sequence ← object d
   expect word.Rename
-  to ← new_name
+  to ← new_name sequence
   pure (RenameSequence sequence to)
 
 abbrev pub alter_by : Dialect → WordKind → Parser Statement
 alter_by d word.Table = skip >> alter_table d
-alter_by Postgresql word.View = skip >> alter_view
-alter_by Postgresql word.Sequence = skip >> alter_sequence
+alter_by Postgresql word.View = skip >> alter_view Postgresql
+alter_by Postgresql word.Sequence = skip >> alter_sequence Postgresql
 alter_by d _ = refuse
 
 unfoldable pub alter : Dialect → Parser Statement

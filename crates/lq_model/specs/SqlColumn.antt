@@ -9,7 +9,7 @@ use Rattle.lq_base.specs.declared.literal.Literal.{Literal}
 use Rattle.lq_base.specs.declared.name.Name.{Name}
 use Rattle.lq_model.specs.DefaultName.{key_name, unique_name, foreign_name}
 use Rattle.lq_model.specs.SqlParser.{Parser, ◌>>=◌, ◌>>◌, pure, refuse, given, peek, skip, expect, many}
-use Rattle.lq_model.specs.SqlPart.{name, name_of, literal, column_kind}
+use Rattle.lq_model.specs.SqlPart.{column_kind, literal, name, name_of, object}
 use Rattle.lq_model.specs.declared.column.ColumnDef.{ColumnDef}
 use Rattle.lq_model.specs.declared.constraint.ForeignKey.{ForeignKey}
 use Rattle.lq_model.specs.declared.constraint.Key.{Key}
@@ -33,9 +33,9 @@ identity = do
   expect word.Identity
 
 -- `q (q)`
-unfoldable pub target : Parser Target
-target = do
-  table ← name
+unfoldable pub target : Dialect → Parser Target
+target d = do
+  table ← object d
   expect word.Open
   column ← name
   expect word.Close
@@ -48,7 +48,7 @@ clause_by d word.Null = skip >> pure (Some (clause.Nullable true))
 clause_by d word.Default = skip >> (literal >>= (λ it. pure (Some (clause.Default it))))
 clause_by d word.Primary = skip >> (expect word.Key >> pure (Some clause.PrimaryKey))
 clause_by d word.Unique = skip >> pure (Some clause.Unique)
-clause_by d word.References = skip >> (target >>= (λ it. pure (Some (clause.References it))))
+clause_by d word.References = skip >> (target d >>= (λ it. pure (Some (clause.References it))))
 clause_by Postgresql word.Generated = identity >> pure (Some clause.Numbered)
 clause_by Mysql word.AutoIncrement = skip >> pure (Some clause.Numbered)
 clause_by d _ = pure None

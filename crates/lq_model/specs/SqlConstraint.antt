@@ -5,7 +5,7 @@ use Rattle.lq_base.specs.declared.dialect.Dialect.TheVariants.{Postgresql, Mysql
 use Rattle.lq_base.specs.declared.name.Name.{Name}
 use Rattle.lq_model.specs.DefaultName.{key_name, unique_name, foreign_name}
 use Rattle.lq_model.specs.SqlParser.{Parser, ◌>>=◌, ◌>>◌, pure, refuse, given, peek, skip, eat, expect, enclosed}
-use Rattle.lq_model.specs.SqlPart.{name, name_of}
+use Rattle.lq_model.specs.SqlPart.{name, name_of, object}
 use Rattle.lq_model.specs.declared.constraint.ForeignKey.{ForeignKey}
 use Rattle.lq_model.specs.declared.constraint.Key.{Key}
 use Rattle.lq_model.specs.declared.constraint.Unique.{Unique}
@@ -54,13 +54,13 @@ on_delete = do
   if stated then (do expect word.Delete; found ← peek; on_delete_by found) else pure false
 
 -- `FOREIGN KEY (c) REFERENCES q (c)`
-unfoldable pub foreign : Name → Option Name → Parser ForeignKey
-foreign table stated = do
+unfoldable pub foreign : Dialect → Name → Option Name → Parser ForeignKey
+foreign d table stated = do
   expect word.Foreign
   expect word.Key
   columns ← enclosed name
   expect word.References
-  target ← name
+  target ← object d
   targets ← enclosed name
   cascade ← on_delete
   named ← name_or (foreign_name table columns) stated
@@ -69,7 +69,7 @@ foreign table stated = do
 abbrev pub constraint_by : Dialect → Name → Option Name → WordKind → Parser TableConstraint
 constraint_by d table stated word.Primary = do found ← key d table stated; pure (constraint.Key found)
 constraint_by d table stated word.Unique = do found ← unique table stated; pure (constraint.Unique found)
-constraint_by d table stated word.Foreign = do found ← foreign table stated; pure (constraint.Foreign found)
+constraint_by d table stated word.Foreign = do found ← foreign d table stated; pure (constraint.Foreign found)
 constraint_by d table stated _ = refuse
 
 abbrev pub begins_constraint : WordKind → Bool

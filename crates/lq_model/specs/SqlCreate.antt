@@ -6,7 +6,7 @@ use Rattle.lq_base.specs.declared.dialect.Dialect.TheVariants.{Postgresql}
 use Rattle.lq_base.specs.declared.literal.Literal.{Literal}
 use Rattle.lq_base.specs.declared.literal.Literal.TheVariants as constant
 use Rattle.lq_model.specs.SqlParser.{Parser, ◌>>=◌, ◌>>◌, pure, refuse, peek, skip, expect, enclosed}
-use Rattle.lq_model.specs.SqlPart.{name, literal}
+use Rattle.lq_model.specs.SqlPart.{name, object, literal}
 use Rattle.lq_model.specs.SqlQuery.{query}
 use Rattle.lq_model.specs.SqlTable.{create_table}
 use Rattle.lq_model.specs.declared.statement.Statement.{Statement}
@@ -15,22 +15,22 @@ use Rattle.lq_model.specs.declared.word.WordKind.{WordKind}
 use Rattle.lq_model.specs.declared.word.WordKind.TheVariants as word
 
 -- `INDEX q ON q (c)`
-unfoldable pub create_index : Bool → Parser Statement
-create_index unique = do
+unfoldable pub create_index : Dialect → Bool → Parser Statement
+create_index d unique = do
   expect word.Index
   index ← name
   expect word.On
-  table ← name
+  table ← object d
   columns ← enclosed name
   pure (CreateIndex table (record { name = index; columns = columns; unique = unique }))
 
 -- `VIEW q AS query`
-unfoldable pub create_view : Bool → Parser Statement
-create_view replace = do
+unfoldable pub create_view : Dialect → Bool → Parser Statement
+create_view d replace = do
   expect word.View
-  view ← name
+  view ← object d
   expect word.As
-  it ← query
+  it ← query d
   pure (CreateView view it replace)
 
 abbrev pub whole_of : Literal → Parser ℤ
@@ -48,9 +48,9 @@ step = do
   if int_eq n (pos 0) then refuse else pure n
 
 -- `q START WITH n INCREMENT BY n`
-unfoldable pub create_sequence : Parser Statement
-create_sequence = do
-  sequence ← name
+unfoldable pub create_sequence : Dialect → Parser Statement
+create_sequence d = do
+  sequence ← object d
   expect word.Start
   expect word.With
   start ← whole
@@ -61,11 +61,11 @@ create_sequence = do
 
 abbrev pub create_by : Dialect → WordKind → Parser Statement
 create_by d word.Table = skip >> create_table d
-create_by d word.Index = create_index false
-create_by d word.Unique = skip >> create_index true
-create_by d word.View = create_view false
-create_by d word.Or = skip >> (expect word.Replace >> create_view true)
-create_by Postgresql word.Sequence = skip >> create_sequence
+create_by d word.Index = create_index d false
+create_by d word.Unique = skip >> create_index d true
+create_by d word.View = create_view d false
+create_by d word.Or = skip >> (expect word.Replace >> create_view d true)
+create_by Postgresql word.Sequence = skip >> create_sequence Postgresql
 create_by d _ = refuse
 
 unfoldable pub create : Dialect → Parser Statement

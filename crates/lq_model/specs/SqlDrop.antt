@@ -4,7 +4,7 @@ use Rattle.lq_base.specs.declared.dialect.Dialect.{Dialect}
 use Rattle.lq_base.specs.declared.dialect.Dialect.TheVariants.{Postgresql, Mysql}
 use Rattle.lq_model.specs.SqlAlter.{rename_table_to}
 use Rattle.lq_model.specs.SqlParser.{Parser, ◌>>=◌, ◌>>◌, pure, refuse, peek, skip, expect}
-use Rattle.lq_model.specs.SqlPart.{name}
+use Rattle.lq_model.specs.SqlPart.{name, object}
 use Rattle.lq_model.specs.declared.statement.Statement.{Statement}
 use Rattle.lq_model.specs.declared.statement.Statement.TheVariants.{DropIndex, DropSequence, DropTable, DropView}
 use Rattle.lq_model.specs.declared.word.WordKind.{WordKind}
@@ -13,7 +13,7 @@ use Rattle.lq_model.specs.declared.word.WordKind.TheVariants as word
 -- `q`, in mysql `q ON q`
 unfoldable pub drop_index : Dialect → Parser Statement
 drop_index Postgresql = do
-  index ← name
+  index ← object Postgresql
   pure (DropIndex index None)
 drop_index Mysql = do
   index ← name
@@ -22,10 +22,10 @@ drop_index Mysql = do
   pure (DropIndex index (Some table))
 
 abbrev pub drop_object_by : Dialect → WordKind → Parser Statement
-drop_object_by d word.Table = skip >> (do table ← name; pure (DropTable table))
+drop_object_by d word.Table = skip >> (do table ← object d; pure (DropTable table))
 drop_object_by d word.Index = skip >> drop_index d
-drop_object_by d word.View = skip >> (do view ← name; pure (DropView view))
-drop_object_by Postgresql word.Sequence = skip >> (do sequence ← name; pure (DropSequence sequence))
+drop_object_by d word.View = skip >> (do view ← object d; pure (DropView view))
+drop_object_by Postgresql word.Sequence = skip >> (do sequence ← object Postgresql; pure (DropSequence sequence))
 drop_object_by d _ = refuse
 
 unfoldable pub drop_object : Dialect → Parser Statement

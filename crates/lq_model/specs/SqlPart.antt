@@ -3,8 +3,10 @@ use Rattle.std.specs.Prelude.{ℕ, Bool, true, false, ◌&&◌, if◌then◌else
 use Rattle.std.specs.List.{list_any}
 use Rattle.std.specs.Str.Parse.{digits_value, starts_with_minus}
 use Rattle.lq_base.specs.Kind.{plain_number, plain_kind, sized_kind, decimal_kind}
-use Rattle.lq_base.specs.Name.{is_name}
+use Rattle.lq_base.specs.Name.{is_name, within}
 use Rattle.lq_base.specs.Number.{is_digits, is_dot, number_of, signed, without_minus}
+use Rattle.lq_base.specs.declared.dialect.Dialect.{Dialect}
+use Rattle.lq_base.specs.declared.dialect.Dialect.TheVariants.{Postgresql, Mysql}
 use Rattle.lq_base.specs.declared.kind.Kind.{Kind}
 use Rattle.lq_base.specs.declared.literal.Literal.{Literal}
 use Rattle.lq_base.specs.declared.literal.Literal.TheVariants as constant
@@ -26,6 +28,18 @@ unfoldable pub name : Parser Name
 name = do
   found ← peek
   if may_be_name found then taken >>= (λ it. given (name_of it)) else refuse
+
+-- a text in a schema that is stated
+abbrev pub qualified : Name → Name → Option Name
+qualified schema text = if is_name schema && is_name text then Some (within schema text) else None
+
+-- the name of a table, a view or a sequence, and of an index that is dropped: in postgresql a schema and a dot may stand before it
+unfoldable pub object : Dialect → Parser Name
+object Mysql = name
+object Postgresql = do
+  first ← name
+  more ← eat word.Dot
+  if more then name >>= (λ text. given (qualified first text)) else pure first
 
 -- literals
 

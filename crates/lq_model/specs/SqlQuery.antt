@@ -1,13 +1,14 @@
 -- The grammar of queries.
 use Rattle.std.specs.Prelude.{Bool, ◌&&◌, if◌then◌else◌, List, Some}
 use Rattle.lq_model.specs.SqlParser.{Parser, ◌>>=◌, ◌>>◌, pure, next, sees, eat, expect, separated}
-use Rattle.lq_model.specs.SqlPart.{name}
+use Rattle.lq_model.specs.SqlPart.{name, object}
 use Rattle.lq_model.specs.SqlTest.{where_test}
 use Rattle.lq_model.specs.declared.query.Query.{Query}
 use Rattle.lq_model.specs.declared.query.Wanted.{Wanted}
 use Rattle.lq_model.specs.declared.query.Wanted.TheVariants as wanted
 use Rattle.lq_model.specs.declared.word.Word.{Word}
 use Rattle.lq_model.specs.declared.word.WordKind.TheVariants as word
+use Rattle.lq_base.specs.declared.dialect.Dialect.{Dialect}
 
 -- COUNT is the count exactly where `(` follows it
 unfoldable pub sees_count : List Word → Bool
@@ -36,11 +37,11 @@ selected = do
   counted ← peek_count
   if all then pure wanted.All else (if counted then count else columns)
 
-unfoldable pub query : Parser Query
-query = do
+unfoldable pub query : Dialect → Parser Query
+query d = do
   expect word.Select
   found ← selected
   expect word.From
-  from ← name
+  from ← object d
   test ← where_test
   pure (record { wanted = found; table = from; test = test })

@@ -3,11 +3,12 @@ use Rattle.std.specs.Prelude.{if◌then◌else◌, List, []}
 use Rattle.lq_base.specs.declared.literal.Literal.{Literal}
 use Rattle.lq_base.specs.declared.name.Name.{Name}
 use Rattle.lq_model.specs.SqlParser.{Parser, ◌>>=◌, ◌>>◌, pure, peek, same_kind, expect, enclosed, separated}
-use Rattle.lq_model.specs.SqlPart.{name, literal}
+use Rattle.lq_model.specs.SqlPart.{literal, name, object}
 use Rattle.lq_model.specs.SqlTest.{where_test}
 use Rattle.lq_model.specs.declared.statement.Statement.{Statement}
 use Rattle.lq_model.specs.declared.statement.Statement.TheVariants.{Delete, Insert, Update}
 use Rattle.lq_model.specs.declared.word.WordKind.TheVariants as word
+use Rattle.lq_base.specs.declared.dialect.Dialect.{Dialect}
 
 -- the columns that get values: `(c)`, or all of the table's
 unfoldable pub stated_columns : Parser (List Name)
@@ -16,10 +17,10 @@ stated_columns = do
   if same_kind found word.Open then enclosed name else pure []
 
 -- `INTO q [(c)] VALUES (lit, ..)`
-unfoldable pub insert : Parser Statement
-insert = do
+unfoldable pub insert : Dialect → Parser Statement
+insert d = do
   expect word.Into
-  table ← name
+  table ← object d
   columns ← stated_columns
   expect word.Values
   values ← enclosed literal
@@ -34,18 +35,18 @@ assignment = do
   pure (column, value)
 
 -- `q SET q = lit, .. [WHERE test]`
-unfoldable pub update : Parser Statement
-update = do
-  table ← name
+unfoldable pub update : Dialect → Parser Statement
+update d = do
+  table ← object d
   expect word.Set
   sets ← separated assignment
   test ← where_test
   pure (Update table sets test)
 
 -- `FROM q [WHERE test]`
-unfoldable pub delete : Parser Statement
-delete = do
+unfoldable pub delete : Dialect → Parser Statement
+delete d = do
   expect word.From
-  table ← name
+  table ← object d
   test ← where_test
   pure (Delete table test)

@@ -15,9 +15,9 @@ statement_by d word.Create = skip >> create d
 statement_by d word.Drop = skip >> drop_object d
 statement_by d word.Alter = skip >> alter d
 statement_by Mysql word.Rename = skip >> rename_table
-statement_by d word.Insert = skip >> insert
-statement_by d word.Update = skip >> update
-statement_by d word.Delete = skip >> delete
+statement_by d word.Insert = skip >> insert d
+statement_by d word.Update = skip >> update d
+statement_by d word.Delete = skip >> delete d
 statement_by d _ = refuse
 
 unfoldable pub statement : Dialect → Parser Statement

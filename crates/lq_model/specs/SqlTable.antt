@@ -8,7 +8,7 @@ use Rattle.lq_model.specs.Names.{is_empty}
 use Rattle.lq_model.specs.SqlColumn.{stated_column, column_of, column_key, column_unique, column_foreign}
 use Rattle.lq_model.specs.SqlConstraint.{begins_constraint, table_constraint}
 use Rattle.lq_model.specs.SqlParser.{Parser, ◌>>=◌, pure, given, peek, enclosed}
-use Rattle.lq_model.specs.SqlPart.{name}
+use Rattle.lq_model.specs.SqlPart.{object}
 use Rattle.lq_model.specs.declared.column.ColumnDef.{ColumnDef}
 use Rattle.lq_model.specs.declared.constraint.ForeignKey.{ForeignKey}
 use Rattle.lq_model.specs.declared.constraint.Key.{Key}
@@ -85,6 +85,6 @@ table_of table items =
 -- `q (item, ..)`
 unfoldable pub create_table : Dialect → Parser Statement
 create_table d = do
-  table ← name
+  table ← object d
   items ← enclosed (table_item d table)
   given (table_of table items)

@@ -24,7 +24,7 @@ unfoldable pub test_in : Dialect → List ℕ → Option Test
 test_in d text = whole any_test d text
 
 unfoldable pub query_in : Dialect → List ℕ → Option Query
-query_in d text = whole query d text
+query_in d text = whole (query d) d text
 
 unfoldable pub statement_in : Dialect → List ℕ → Option Statement
 statement_in d text = whole (statement d) d text
@@ -35,7 +35,7 @@ StatementsAreSpelled d = (text : List ℕ) (s : Statement) → statement_in d te
 
 -- so is a query
 abbrev pub QueriesAreSpelled : Dialect → Type 0
-QueriesAreSpelled d = (text : List ℕ) (q : Query) → query_in d text ≡ Some q → is_query q ≡ true
+QueriesAreSpelled d = (text : List ℕ) (q : Query) → query_in d text ≡ Some q → is_query d q ≡ true
 
 -- so is a test
 abbrev pub TestsAreSpelled : Dialect → Type 0

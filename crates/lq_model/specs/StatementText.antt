@@ -4,9 +4,10 @@ use Rattle.lq_base.specs.declared.dialect.Dialect.{Dialect}
 use Rattle.lq_base.specs.declared.dialect.Dialect.TheVariants.{Postgresql, Mysql}
 use Rattle.lq_base.specs.declared.literal.Literal.{Literal}
 use Rattle.lq_base.specs.Kind.{kind_text}
+use Rattle.lq_base.specs.Name as name
 use Rattle.lq_base.specs.Number.{whole_text}
 use Rattle.lq_model.specs.Phrase.{words}
-use Rattle.lq_model.specs.Quoting.{name_text}
+use Rattle.lq_model.specs.Quoting.{name_text, quoted_text}
 use Rattle.lq_model.specs.TestText.{after_commas, listed, literal_text, names_text, query_text, where_text}
 use Rattle.lq_model.specs.declared.column.ColumnDef.{ColumnDef}
 use Rattle.lq_model.specs.declared.constraint.ForeignKey.{ForeignKey}
@@ -86,12 +87,16 @@ alter_table d table = words phrase.AlterTable ++ name_text d table
 abbrev pub alter_column : Dialect → List ℕ → List ℕ → List ℕ
 alter_column d table column = alter_table d table ++ words phrase.AlterColumn ++ name_text d column
 
+-- what is renamed stays in its schema, which its new name does not state
+abbrev pub to_text : Dialect → List ℕ → List ℕ
+to_text d to = quoted_text d (name.text_of to)
+
 -- the statement as `print` writes it; a statement that the dialect does not have is written as in the other one
 abbrev pub text_of : Dialect → Statement → List ℕ
 text_of d (CreateTable t columns key uniques foreign) = words phrase.CreateTable ++ name_text d t ++ words phrase.OpenNext ++ table_text d columns key uniques foreign ++ words phrase.Close
 text_of d (DropTable t) = words phrase.DropTable ++ name_text d t
-text_of Postgresql (RenameTable t to) = alter_table Postgresql t ++ words phrase.RenameTo ++ name_text Postgresql to
-text_of Mysql (RenameTable t to) = words phrase.RenameTable ++ name_text Mysql t ++ words phrase.To ++ name_text Mysql to
+text_of Postgresql (RenameTable t to) = alter_table Postgresql t ++ words phrase.RenameTo ++ to_text Postgresql to
+text_of Mysql (RenameTable t to) = words phrase.RenameTable ++ name_text Mysql t ++ words phrase.To ++ to_text Mysql to
 text_of d (AddColumn t column) = alter_table d t ++ words phrase.AddColumn ++ column_text d column
 text_of d (DropColumn t column) = alter_table d t ++ words phrase.DropColumn ++ name_text d column
 text_of d (RenameColumn t column to) = alter_table d t ++ words phrase.RenameColumn ++ name_text d column ++ words phrase.To ++ name_text d to
@@ -112,10 +117,10 @@ text_of Mysql (DropIndex name (Some t)) = words phrase.DropIndex ++ name_text My
 text_of d (DropIndex name t) = words phrase.DropIndex ++ name_text d name
 text_of d (CreateView view query replace) = words (create_view replace) ++ name_text d view ++ words phrase.As ++ query_text d query
 text_of d (DropView view) = words phrase.DropView ++ name_text d view
-text_of d (RenameView view to) = words phrase.AlterView ++ name_text d view ++ words phrase.RenameTo ++ name_text d to
+text_of d (RenameView view to) = words phrase.AlterView ++ name_text d view ++ words phrase.RenameTo ++ to_text d to
 text_of d (CreateSequence name start step) = words phrase.CreateSequence ++ name_text d name ++ words phrase.StartWith ++ whole_text start ++ words phrase.IncrementBy ++ whole_text step
 text_of d (DropSequence name) = words phrase.DropSequence ++ name_text d name
-text_of d (RenameSequence name to) = words phrase.AlterSequence ++ name_text d name ++ words phrase.RenameTo ++ name_text d to
+text_of d (RenameSequence name to) = words phrase.AlterSequence ++ name_text d name ++ words phrase.RenameTo ++ to_text d to
 text_of d (Insert t columns values) = words phrase.InsertInto ++ name_text d t ++ columns_text d columns ++ words phrase.Values ++ listed (map (literal_text d) values) ++ words phrase.Close
 text_of d (Update t sets test) = words phrase.Update ++ name_text d t ++ words phrase.Set ++ listed (map (set_text d) sets) ++ where_text d test
 text_of d (Delete t test) = words phrase.DeleteFrom ++ name_text d t ++ where_text d test

@@ -1,6 +1,7 @@
 -- The names that stand in a table.
 use Rattle.std.specs.List.{list_any}
 use Rattle.std.specs.Prelude.{Bool, List, None, Option, Some, [], map, not, ◌++◌, ◌∷◌}
+use Rattle.lq_base.specs.Name.{beside}
 use Rattle.lq_base.specs.declared.name.Name.{Name}
 use Rattle.lq_model.specs.Catalogue.{Table}
 use Rattle.lq_model.specs.Names.{is_in}
@@ -38,9 +39,17 @@ constraint_names it = map (λ k. k.name) (key_list it.key) ++ (map (λ u. u.name
 abbrev pub inner_names : Table → List Name
 inner_names it = map (λ k. k.name) (key_list it.key) ++ (map (λ u. u.name) it.uniques ++ map (λ i. i.name) it.indexes)
 
+-- where names inside a table count: in the table's schema
+abbrev pub placed : Name → List Name → List Name
+placed t ns = map (beside t) ns
+
 -- the names of its unique constraints and its indexes
 abbrev pub index_names : Table → List Name
 index_names it = map (λ u. u.name) it.uniques ++ map (λ i. i.name) it.indexes
 
 abbrev pub foreign_names : Table → List Name
 foreign_names it = map (λ f. f.name) it.foreign
+
+-- the names of its columns, its constraints and its indexes
+abbrev pub own_names : Table → List Name
+own_names it = column_names it ++ (constraint_names it ++ map (λ i. i.name) it.indexes)

@@ -1,7 +1,7 @@
 -- What takes a statement back.
 use Rattle.std.specs.List.{list_all}
 use Rattle.std.specs.Prelude.{Bool, List, None, Ok, Option, Some, [], false, is_none, not, true, ℕ, ℤ, ◌&&◌, ◌||◌, ◌∷◌, ◌≡◌}
-use Rattle.lq_base.specs.Name.{is_named}
+use Rattle.lq_base.specs.Name.{beside, is_beside, is_named}
 use Rattle.lq_base.specs.declared.dialect.Dialect.{Dialect}
 use Rattle.lq_base.specs.declared.dialect.Dialect.TheVariants.{Mysql, Postgresql}
 use Rattle.lq_base.specs.declared.kind.Kind.{Kind}
@@ -105,7 +105,7 @@ DropPrimaryKeyTakesBack = (t : Name) (k : Key) → TakesBackWhere Mysql (is_firm
 
 -- without a table under PostgreSQL, with it under MySQL
 abbrev pub DropIndexTakesBack : Type 0
-DropIndexTakesBack = (t : Name) (i : Index) → TakesBack Postgresql (CreateIndex t i) (DropIndex i.name None) × TakesBack Mysql (CreateIndex t i) (DropIndex i.name (Some t))
+DropIndexTakesBack = (t : Name) (i : Index) → TakesBack Postgresql (CreateIndex t i) (DropIndex (beside t i.name) None) × TakesBack Mysql (CreateIndex t i) (DropIndex i.name (Some t))
 
 -- views and sequences
 
@@ -123,9 +123,9 @@ DropSequenceTakesBack = (d : Dialect) (s : Name) (start size : ℤ) → TakesBac
 abbrev pub RenameColumnTakesBack : Type 0
 RenameColumnTakesBack = (d : Dialect) (t a b : Name) → TakesBack d (RenameColumn t a b) (RenameColumn t b a)
 
--- of a table, or of a view where the name is one's
+-- of a table, or of a view where the name is one's; in the schema that it is in
 abbrev pub RenameTableTakesBack : Type 0
-RenameTableTakesBack = (d : Dialect) (a b : Name) → TakesBack d (RenameTable a b) (RenameTable b a)
+RenameTableTakesBack = (d : Dialect) (a b : Name) → is_beside a b ≡ true → TakesBack d (RenameTable a b) (RenameTable b a)
 
 abbrev pub RenameViewTakesBack : Type 0
 RenameViewTakesBack = (d : Dialect) (a b : Name) → TakesBack d (RenameView a b) (RenameView b a)

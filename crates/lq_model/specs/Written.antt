@@ -1,5 +1,7 @@
 -- A change's keys in canonical text: those that were given, in the order of its type's table.
-use Rattle.std.specs.Prelude.{List, None, Option, Some, [], suc, zero, ℕ, ◌∷◌}
+use Rattle.std.specs.Prelude.{List, None, Option, Some, [], if◌then◌else◌, suc, zero, ℕ, ◌∷◌}
+use Rattle.lq_base.specs.Name.{is_elsewhere, schema_of}
+use Rattle.lq_base.specs.declared.name.Name.{Name}
 use Rattle.lq_model.specs.Canon.{CanonicalChange, CanonicalPairs, CanonicalValue, CanonicalValues, decimal_value, kind_value, list, map_of, no_pairs, no_values, number, pair, text, truth, value}
 use Rattle.lq_model.specs.declared.field.Field.{Field}
 use Rattle.lq_model.specs.declared.field.Field.TheVariants as field
@@ -42,6 +44,10 @@ field_value (field.Truth b) = truth b
 field_value (field.Kind k) = kind_value k
 field_value (field.Names ns) = list (texts ns.now)
 field_value (field.NamesOf ns) = list (texts ns.now)
+
+-- the schema of a name, which is stated where it is not `public`
+abbrev pub schema_row : Name → Option CanonicalValue
+schema_row n = if is_elsewhere n then Some (text (schema_of n)) else None
 
 -- the value of the key at a place of the table
 abbrev pub nth_value : ℕ → List Row → Option CanonicalValue

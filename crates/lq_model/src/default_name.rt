@@ -2,7 +2,7 @@ ghost use Rattle.std.specs.Prelude.{◌≡◌, ◌++◌, take, codes, true, fals
 ghost use Rattle.std.specs.List.{flat_map};
 ghost use Rattle.std.specs.Str.{is_utf8};
 ghost use Rattle.lq_base.specs.Character.{has_control};
-ghost use Rattle.lq_base.specs.Name.{IsName};
+ghost use Rattle.lq_base.specs.Name.{IsName, text_of};
 ghost use Rattle.lq_model.specs.DefaultName as spec;
 
 use lq_base::{Dialect, Name, NameFault, NoMemory};
@@ -45,14 +45,18 @@ fn full_name(
     columns: &[Name],
 ) -> Result<String, AllocError>
     requires { spec.is_prefix prefix.now ≡ true }
-    ensures value { IfOk result (λ text. string_bytes text ≡ prefix.now ++ table.now ++ flat_map (λ column. codes "_" ++ column) columns.now) }
+    ensures value { IfOk result (λ text.
+        string_bytes text
+        ≡ prefix.now
+        ++ text_of table.now
+        ++ flat_map (λ column. codes "_" ++ text_of column) columns.now) }
     ensures clean { IfOk result (λ text. has_control (string_bytes text) ≡ false) }
 {
     let mut text = String::from_str(alloc, prefix)?;
-    text.push_str(table.as_key())?;
+    text.push_str(table.text())?;
     for column in columns {
         text.push_str("_")?;
-        text.push_str(column.as_key())?;
+        text.push_str(column.text())?;
     }
     Ok(text)
 }

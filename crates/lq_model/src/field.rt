@@ -1,7 +1,7 @@
 ghost use Rattle.std.specs.Option.{option_map};
 ghost use Rattle.std.specs.Prelude.{◌≡◌};
 ghost use Rattle.lq_model.specs.Canon.{kind_value, text, truth};
-ghost use Rattle.lq_model.specs.Written.{field_value};
+ghost use Rattle.lq_model.specs.Written.{field_value, schema_row};
 
 use lq_base::{Items, Kind, Name, Text};
 
@@ -37,6 +37,17 @@ pub fn name_field(found: &Option<Name>) -> Option<Field>
     match found {
         Some(name) => Some(Field::Text(name.as_key())),
         None => None,
+    }
+}
+
+/// What a key with the schema of a name has: `public` is not stated.
+pub fn schema_field(name: &Name) -> Option<Field<'_>>
+    ensures { option_map field_value result ≡ schema_row name.now }
+{
+    if name.is_elsewhere() {
+        Some(Field::Text(name.schema()))
+    } else {
+        None
     }
 }
 

@@ -40,7 +40,7 @@ pub use column::{Column, ColumnDef};
 pub use constraint::{ForeignKey, Key, Unique};
 pub use default_name::{default_names_are_names, foreign_name, index_name, key_name, unique_name};
 pub use fault::{AskFault, KindFault, ParseFault, StoreFault};
-pub use field::{Field, kind_field, name_field, text_field, truth_field};
+pub use field::{Field, kind_field, name_field, schema_field, text_field, truth_field};
 pub use index::Index;
 pub use keeps_sound::statement_keeps_sound;
 pub use kinds::are_equal;

@@ -16,6 +16,8 @@ pub enum WordKind {
     Open,
     Close,
     Comma,
+    /// Between a schema and a text.
+    Dot,
     Semicolon,
     Star,
     Equal,
@@ -77,10 +79,11 @@ pub enum WordKind {
 }
 
 /// How the marks and the words of the statements are spelled; the words in any ASCII case.
-pub const SPELLINGS: [(&[u8], WordKind); 62] = [
+pub const SPELLINGS: [(&[u8], WordKind); 63] = [
     (b"(", WordKind::Open),
     (b")", WordKind::Close),
     (b",", WordKind::Comma),
+    (b".", WordKind::Dot),
     (b";", WordKind::Semicolon),
     (b"*", WordKind::Star),
     (b"=", WordKind::Equal),

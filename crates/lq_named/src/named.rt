@@ -1,7 +1,7 @@
 ghost use Rattle.std.specs.List.{AllByRecursion, list_all};
 ghost use Rattle.std.specs.Option.{option_copied};
 ghost use Rattle.std.specs.Prelude.{◌≡◌, ◌&&◌, true};
-ghost use Rattle.lq_base.specs.Name.{is_name};
+ghost use Rattle.lq_base.specs.Name.{is_name_key};
 ghost use Rattle.lq_model.specs.TableNames.{key_list};
 ghost use Rattle.lq_named.specs.Named.{HasNames, TableHasNames, are_names, has_names};
 ghost use Rattle.lq_parts.specs.Steps.{tables_of};
@@ -12,7 +12,7 @@ use lq_parts::{Parts, Sequence, View};
 use lq_rows::Held;
 
 fn a_name(name: &Name)
-    ensures { is_name name.now ≡ true }
+    ensures { is_name_key name.now ≡ true }
 {
     let _key = name.as_key();
 }
@@ -26,14 +26,14 @@ fn all_names(names: &[Name])
 }
 
 fn key_names(key: &Key)
-    ensures { (is_name key.now.name && are_names key.now.columns) ≡ true }
+    ensures { (is_name_key key.now.name && are_names key.now.columns) ≡ true }
 {
     a_name(&key.name);
     all_names(key.columns.as_slice());
 }
 
 fn own_key_names(key: Option<&Key>)
-    ensures { list_all (λ key. is_name key.name && are_names key.columns)
+    ensures { list_all (λ key. is_name_key key.name && are_names key.columns)
         (key_list (option_copied key.entry)) ≡ true }
 {
     if let Some(key) = key {
@@ -42,14 +42,14 @@ fn own_key_names(key: Option<&Key>)
 }
 
 fn unique_names(unique: &Unique)
-    ensures { (is_name unique.now.name && are_names unique.now.columns) ≡ true }
+    ensures { (is_name_key unique.now.name && are_names unique.now.columns) ≡ true }
 {
     a_name(&unique.name);
     all_names(unique.columns.as_slice());
 }
 
 fn all_uniques(uniques: &[Unique])
-    ensures { list_all (λ unique. is_name unique.name && are_names unique.columns) uniques.now
+    ensures { list_all (λ unique. is_name_key unique.name && are_names unique.columns) uniques.now
         ≡ true }
 {
     for unique in uniques {
@@ -58,14 +58,14 @@ fn all_uniques(uniques: &[Unique])
 }
 
 fn index_names(index: &Index)
-    ensures { (is_name index.now.name && are_names index.now.columns) ≡ true }
+    ensures { (is_name_key index.now.name && are_names index.now.columns) ≡ true }
 {
     a_name(&index.name);
     all_names(index.columns.as_slice());
 }
 
 fn all_indexes(indexes: &[Index])
-    ensures { list_all (λ index. is_name index.name && are_names index.columns) indexes.now
+    ensures { list_all (λ index. is_name_key index.name && are_names index.columns) indexes.now
         ≡ true }
 {
     for index in indexes {
@@ -91,7 +91,7 @@ fn all_foreign(keys: &[ForeignKey])
 }
 
 fn all_columns(columns: &[Column])
-    ensures { list_all (λ column. is_name column.name) columns.now ≡ true }
+    ensures { list_all (λ column. is_name_key column.name) columns.now ≡ true }
 {
     for column in columns {
         a_name(&column.name);
@@ -118,7 +118,7 @@ fn all_tables(tables: &[(Name, Held)])
 }
 
 fn all_views(views: &[(Name, View)])
-    ensures { list_all (λ view. is_name view.0) views.now ≡ true }
+    ensures { list_all (λ view. is_name_key view.0) views.now ≡ true }
 {
     for view in views {
         a_name(&view.0);
@@ -126,7 +126,7 @@ fn all_views(views: &[(Name, View)])
 }
 
 fn all_sequences(sequences: &[(Name, Sequence)])
-    ensures { list_all (λ sequence. is_name sequence.0) sequences.now ≡ true }
+    ensures { list_all (λ sequence. is_name_key sequence.0) sequences.now ≡ true }
 {
     for sequence in sequences {
         a_name(&sequence.0);

@@ -1,7 +1,7 @@
 -- addNotNullConstraint: a column's nulls become a value, where one is given, and the column is NOT NULL.
 use Rattle.std.specs.Option.{option_map, unwrap_or}
 use Rattle.std.specs.Prelude.{Bool, List, None, Option, Result, Some, [], codes, cond, false, is_none, map, not, true, ℕ, ◌&&◌, ◌++◌, ◌||◌, ◌∷◌}
-use Rattle.lq_base.specs.Name.{is_name}
+use Rattle.lq_base.specs.Name.{is_name, is_object, text_of, within}
 use Rattle.lq_base.specs.Options.{if_there}
 use Rattle.lq_base.specs.Value.{into_kind}
 use Rattle.lq_base.specs.declared.dialect.Dialect.{Dialect}
@@ -18,33 +18,33 @@ use Rattle.lq_model.specs.Look.{at_table, column_at, has_null_in}
 use Rattle.lq_model.specs.Row.{by_name, is_null}
 use Rattle.lq_model.specs.Statement.{is_pg}
 use Rattle.lq_model.specs.Update.{set_in}
-use Rattle.lq_model.specs.Written.{Row, change_of}
+use Rattle.lq_model.specs.Written.{Row, change_of, schema_row}
 use Rattle.lq_model.specs.declared.statement.Statement.{Statement}
 use Rattle.lq_model.specs.declared.statement.Statement.TheVariants.{Update}
 use Rattle.lq_model.specs.declared.test.Operand.TheVariants as operand
 use Rattle.lq_model.specs.declared.test.Test.{IsNull}
 use Rattle.lq_tree.specs.Found.{Taken}
 use Rattle.lq_tree.specs.Given.{a_kind, a_name, a_text}
-use Rattle.lq_tree.specs.Keys.{Keys, a_change, fields, optional, required, required_unless, ◌⊛◌}
+use Rattle.lq_tree.specs.Keys.{Keys, a_change_in, fields, optional, required, required_unless, ◌⊛◌}
 use Rattle.lq_nullable.specs.Nullable.{allowed, allowing, is_new, is_stated, kind_stated}
 use Rattle.lq_nullable.specs.declared.add_not_null.AddNotNullConstraint.{AddNotNullConstraint}
 
 -- its keys
 
-abbrev pub keys : Dialect → Keys AddNotNullConstraint
+abbrev pub keys : Dialect → Keys (Name → AddNotNullConstraint)
 keys d =
-    fields (λ table column kind value. record { table_name = table; column_name = column; column_data_type = kind; default_null_value = value })
+    fields (λ table column kind value schema. record { table_name = within schema table; column_name = column; column_data_type = kind; default_null_value = value })
     ⊛ required (codes "tableName") a_name
     ⊛ required (codes "columnName") a_name
     ⊛ required_unless (is_pg d) (codes "columnDataType") a_kind
     ⊛ optional (codes "defaultNullValue") a_text
 
 unfoldable pub add_not_null : Dialect → Taken AddNotNullConstraint
-add_not_null d = a_change (keys d)
+add_not_null d = a_change_in d (keys d)
 
 -- its names are names, and the kind is stated where it has to be
 abbrev pub is_for : Dialect → AddNotNullConstraint → Bool
-is_for d x = is_name x.table_name && (is_name x.column_name && is_stated d x.column_data_type)
+is_for d x = is_object d x.table_name && (is_name x.column_name && is_stated d x.column_data_type)
 
 -- what it does
 
@@ -85,10 +85,11 @@ inverse d x = Some (sets d x true ∷ [])
 
 abbrev pub rows : AddNotNullConstraint → List Row
 rows x =
-    (codes "tableName", Some (text x.table_name))
+    (codes "tableName", Some (text (text_of x.table_name)))
     ∷ (codes "columnName", Some (text x.column_name))
     ∷ (codes "columnDataType", option_map kind_value x.column_data_type)
     ∷ (codes "defaultNullValue", option_map (λ value. text value) x.default_null_value)
+    ∷ (codes "schemaName", schema_row x.table_name)
     ∷ []
 
 abbrev pub canonical_of : AddNotNullConstraint → CanonicalChange

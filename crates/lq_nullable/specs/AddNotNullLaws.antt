@@ -4,7 +4,7 @@ use Rattle.std.specs.List.{filter, list_all, list_any}
 use Rattle.std.specs.Option.{option_map, unwrap_or}
 use Rattle.std.specs.Prelude.{Bool, List, None, Ok, Option, Some, ℕ, [], codes, false, is_none, not, refl, true, ◌&&◌, ◌++◌, ◌||◌, ◌∷◌, ◌≡◌}
 use Rattle.lq_base.specs.Kind.{is_kind}
-use Rattle.lq_base.specs.Name.{is_name}
+use Rattle.lq_base.specs.Name.{is_name, is_object}
 use Rattle.lq_base.specs.Options.{if_there}
 use Rattle.lq_base.specs.declared.dialect.Dialect.{Dialect}
 use Rattle.lq_base.specs.declared.literal.Literal.TheVariants as literal
@@ -14,7 +14,7 @@ use Rattle.lq_model.proofs.Decide.{accepted, counted, here}
 use Rattle.lq_model.proofs.Effects.{Ran, does_so, ran_first, restores_so, some_same}
 use Rattle.lq_model.proofs.Lists.{and_left, and_right, and_true, not_false, or_left, or_right, true_false}
 use Rattle.lq_model.proofs.NoRowTaken.{update_of_none}
-use Rattle.lq_model.proofs.Told.{keys_told, kinds_told, text_told, texts_told}
+use Rattle.lq_model.proofs.Told.{keys_told, kinds_told, object_told, text_told, texts_told}
 use Rattle.lq_model.specs.Catalogue.{Catalogue, table_of, the_table, with_table}
 use Rattle.lq_model.specs.ChangeColumn.{with_changed}
 use Rattle.lq_model.specs.Changes.{AreReturns, AreStatements, AreTold, HaveEffect, TakeBack}
@@ -43,19 +43,19 @@ fill t n value = Update t ((n, literal.Text value) ∷ []) (Some (IsNull (operan
 pub spelled : AreStatements is_for gives
 spelled d x h = by x.default_null_value where
   a : (is_name x.column_name && is_stated d x.column_data_type) ≡ true
-  a = and_right (is_name x.table_name) _ h
+  a = and_right (is_object d x.table_name) _ h
 
   last : list_all (is_statement d) (sets d x false ∷ []) ≡ true
-  last = and_true (is_statement d (sets d x false)) true (allowing_spelled d x.table_name x.column_name x.column_data_type false (and_left (is_name x.table_name) _ h) (and_left (is_name x.column_name) _ a) (and_right (is_name x.column_name) _ a)) refl
+  last = and_true (is_statement d (sets d x false)) true (allowing_spelled d x.table_name x.column_name x.column_data_type false (and_left (is_object d x.table_name) _ h) (and_left (is_name x.column_name) _ a) (and_right (is_name x.column_name) _ a)) refl
 
   by : (v : Option (List ℕ)) → list_all (is_statement d) (fills x.table_name x.column_name v ++ sets d x false ∷ []) ≡ true
   by None = last
-  by (Some v) = rw (and_left (is_name x.table_name) _ h, and_left (is_name x.column_name) _ a) last
+  by (Some v) = rw (and_left (is_object d x.table_name) _ h, and_left (is_name x.column_name) _ a) last
 
 pub returned : AreReturns is_for inverse
 returned d x undoing right taken =
-    let a = and_right (is_name x.table_name) _ right in
-    let one = allowing_spelled d x.table_name x.column_name x.column_data_type true (and_left (is_name x.table_name) _ right) (and_left (is_name x.column_name) _ a) (and_right (is_name x.column_name) _ a) in
+    let a = and_right (is_object d x.table_name) _ right in
+    let one = allowing_spelled d x.table_name x.column_name x.column_data_type true (and_left (is_object d x.table_name) _ right) (and_left (is_name x.column_name) _ a) (and_right (is_name x.column_name) _ a) in
     subst (λ ss. list_all (is_statement d) ss ≡ true) (some_same taken) (and_true (is_statement d (sets d x true)) true one refl)
 
 becomes_so : Becomes gives becomes is_for
@@ -115,11 +115,11 @@ same : (x y : AddNotNullConstraint) → x.table_name ≡ y.table_name → x.colu
 same x y table column kind value = rw (table, column, kind, value) refl
 
 kinded : (d : Dialect) (x : AddNotNullConstraint) → is_for d x ≡ true → if_there is_kind x.column_data_type ≡ true
-kinded d x h = and_left (if_there is_kind x.column_data_type) _ (and_right (is_name x.column_name) _ (and_right (is_name x.table_name) _ h))
+kinded d x h = and_left (if_there is_kind x.column_data_type) _ (and_right (is_name x.column_name) _ (and_right (is_object d x.table_name) _ h))
 
 pub told : AreTold is_for canonical_of
 told d x y right also e =
     let is : rows x ≡ rows y = keys_told (codes "addNotNullConstraint") (codes "addNotNullConstraint") (rows x) (rows y) refl refl e in
-    same x y (text_told (ap (nth_value 0) is)) (text_told (ap (nth_value 1) is))
+    same x y (object_told d x.table_name y.table_name (and_left (is_object d x.table_name) _ right) (and_left (is_object d y.table_name) _ also) (ap (nth_value 0) is) (ap (nth_value 4) is)) (text_told (ap (nth_value 1) is))
     (kinds_told x.column_data_type y.column_data_type (kinded d x right) (kinded d y also) (ap (nth_value 2) is))
     (texts_told x.default_null_value y.default_null_value (ap (nth_value 3) is))

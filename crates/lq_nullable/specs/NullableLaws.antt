@@ -1,7 +1,7 @@
 -- That whether a column takes null can be set and taken back.
-use Rattle.std.specs.Prelude.{Bool, None, Ok, Option, Some, [], false, not, refl, true, ◌∷◌, ◌≡◌}
+use Rattle.std.specs.Prelude.{Bool, None, Ok, Option, Some, [], false, not, refl, true, ◌&&◌, ◌∷◌, ◌≡◌}
 use Rattle.lq_base.specs.Kind.{is_kind}
-use Rattle.lq_base.specs.Name.{is_name}
+use Rattle.lq_base.specs.Name.{is_name, is_object}
 use Rattle.lq_base.specs.Options.{if_there}
 use Rattle.lq_base.specs.declared.dialect.Dialect.{Dialect}
 use Rattle.lq_base.specs.declared.dialect.Dialect.TheVariants.{Mysql, Postgresql}
@@ -9,7 +9,7 @@ use Rattle.lq_base.specs.declared.kind.Kind.{Kind}
 use Rattle.lq_base.specs.declared.name.Name.{Name}
 use Rattle.lq_model.proofs.Columns.{each_of_first}
 use Rattle.lq_model.proofs.Effects.{one_back_where, one_becomes}
-use Rattle.lq_model.proofs.Lists.{and_left, true_false}
+use Rattle.lq_model.proofs.Lists.{and_left, and_true, true_false}
 use Rattle.lq_model.proofs.UndoChanges.{drop_not_null_after, set_not_null_after}
 use Rattle.lq_model.proofs.UndoModify.{modify_back}
 use Rattle.lq_model.specs.Catalogue.{Catalogue, the_table, with_table}
@@ -24,11 +24,11 @@ use Rattle.lq_model.specs.declared.caller.By.TheVariants.{User}
 use Rattle.lq_model.specs.declared.statement.Statement.TheVariants.{DropNotNull, Modify, SetNotNull}
 use Rattle.lq_nullable.specs.Nullable.{allowed, allowing, is_new, is_stated, kind_stated}
 
-pub allowing_spelled : (d : Dialect) (t n : Name) (stated : Option Kind) (nullable : Bool) → is_name t ≡ true → is_name n ≡ true → is_stated d stated ≡ true → is_statement d (allowing d t n (kind_stated stated) nullable) ≡ true
-allowing_spelled Postgresql t n stated true a b k = rw (a, b) refl
-allowing_spelled Postgresql t n stated false a b k = rw (a, b) refl
+pub allowing_spelled : (d : Dialect) (t n : Name) (stated : Option Kind) (nullable : Bool) → is_object d t ≡ true → is_name n ≡ true → is_stated d stated ≡ true → is_statement d (allowing d t n (kind_stated stated) nullable) ≡ true
+allowing_spelled Postgresql t n stated true a b k = and_true (is_object Postgresql t) (is_name n) a b
+allowing_spelled Postgresql t n stated false a b k = and_true (is_object Postgresql t) (is_name n) a b
 allowing_spelled Mysql t n None nullable a b k = true_false k refl
-allowing_spelled Mysql t n (Some stated) nullable a b k = rw (a, b, and_left (is_kind stated) _ k) refl
+allowing_spelled Mysql t n (Some stated) nullable a b k = and_true (is_object Mysql t) (is_name n && is_kind stated) a (and_true (is_name n) (is_kind stated) b (and_left (is_kind stated) _ k))
 
 -- what it gives
 pub allowing_becomes : (d : Dialect) (t n : Name) (k : Kind) (nullable : Bool) (c e : Catalogue) → run User d (allowing d t n k nullable ∷ []) c ≡ Ok e → with_table c t (with_changed n (allowed d k nullable) (the_table c t)) ≡ e

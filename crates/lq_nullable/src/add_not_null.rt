@@ -7,9 +7,9 @@ use crate::nullable::{allowing, is_new, is_pg};
 use lq_base::{Dialect, Duplicate, Items, Kind, KindFault, Literal, Name, NoMemory, Text, both};
 use lq_model::{
     Canon, Change, Field, Look, Operand, SqlText, Statement, Test, Undo, append_all, kind_field,
-    text_field, write_change,
+    schema_field, text_field, write_change,
 };
-use lq_tree::{Node, known, optional, public, required, required_unless};
+use lq_tree::{Node, catalogue, in_schema, known, optional, required, required_unless, schema};
 use std::alloc::Global;
 
 /// A column takes null no more (Liquibase's documentation, "addNotNullConstraint").
@@ -60,11 +60,13 @@ impl AddNotNullConstraint {
         ensures right { IfOk result (λ x. is_for dialect x ≡ true) }
     {
         known(alloc, node, &KEYS)?;
-        let table_name = required(alloc, node, "tableName")?;
+        let table: Name = required(alloc, node, "tableName")?;
         let column_name = required(alloc, node, "columnName")?;
         let column_data_type = required_unless(alloc, node, is_pg(dialect), "columnDataType")?;
         let default_null_value = optional(alloc, node, "defaultNullValue")?;
-        public(alloc, node)?;
+        let schema = schema(alloc, node, dialect, "schemaName")?;
+        catalogue(alloc, node)?;
+        let table_name = in_schema(alloc, dialect, &schema, &table)?;
         Ok(AddNotNullConstraint {
             table_name,
             column_name,
@@ -179,10 +181,11 @@ impl Change for AddNotNullConstraint {
             to,
             "addNotNullConstraint",
             &[
-                ("tableName", Some(Field::Text(self.table_name.as_key()))),
+                ("tableName", Some(Field::Text(self.table_name.text()))),
                 ("columnName", Some(Field::Text(self.column_name.as_key()))),
                 ("columnDataType", kind_field(self.column_data_type)),
                 ("defaultNullValue", text_field(&self.default_null_value)),
+                ("schemaName", schema_field(&self.table_name)),
             ],
         )
     }

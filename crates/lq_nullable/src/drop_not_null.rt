@@ -4,8 +4,10 @@ ghost use Rattle.lq_nullable.specs.DropNotNull.{drop_not_null, is_for, sets};
 
 use crate::nullable::{allowing, is_new, is_pg};
 use lq_base::{Dialect, Items, Kind, KindFault, Name, NoMemory};
-use lq_model::{Canon, Change, Field, Look, SqlText, Statement, Undo, kind_field, write_change};
-use lq_tree::{Node, known, public, required, required_unless};
+use lq_model::{
+    Canon, Change, Field, Look, SqlText, Statement, Undo, kind_field, schema_field, write_change,
+};
+use lq_tree::{Node, catalogue, in_schema, known, required, required_unless, schema};
 use std::alloc::Global;
 
 /// A column takes null (Liquibase's documentation, "dropNotNullConstraint").
@@ -39,10 +41,12 @@ impl DropNotNullConstraint {
         ensures right { IfOk result (λ x. is_for dialect x ≡ true) }
     {
         known(alloc, node, &KEYS)?;
-        let table_name = required(alloc, node, "tableName")?;
+        let table: Name = required(alloc, node, "tableName")?;
         let column_name = required(alloc, node, "columnName")?;
         let column_data_type = required_unless(alloc, node, is_pg(dialect), "columnDataType")?;
-        public(alloc, node)?;
+        let schema = schema(alloc, node, dialect, "schemaName")?;
+        catalogue(alloc, node)?;
+        let table_name = in_schema(alloc, dialect, &schema, &table)?;
         Ok(DropNotNullConstraint {
             table_name,
             column_name,
@@ -115,9 +119,10 @@ impl Change for DropNotNullConstraint {
             to,
             "dropNotNullConstraint",
             &[
-                ("tableName", Some(Field::Text(self.table_name.as_key()))),
+                ("tableName", Some(Field::Text(self.table_name.text()))),
                 ("columnName", Some(Field::Text(self.column_name.as_key()))),
                 ("columnDataType", kind_field(self.column_data_type)),
+                ("schemaName", schema_field(&self.table_name)),
             ],
         )
     }

@@ -18,14 +18,14 @@ pub fn are_reserved(by: By, first: &Name, second: &Name) -> bool
     is_reserved(by, first) || is_reserved(by, second)
 }
 
-/// Whether the name is taken in PostgreSQL's one space. It looks at all tables.
+/// Whether the name is taken in PostgreSQL's shared spaces. It looks at all tables.
 fn stands_shared(parts: &Parts, name: &Name) -> bool
     ensures { result ≡ is_in name.now (spaces.shared_names parts.now.now) }
 {
     parts.has_object(name) || any_is_inner(parts.tables(), name)
 }
 
-/// Whether the name is taken in PostgreSQL's one space.
+/// Whether the name is taken in PostgreSQL's shared spaces.
 fn is_shared(parts: &Parts, name: &Name) -> bool
     ensures { result ≡ is_in name.now (spaces.shared_names parts.now.now) }
 {

@@ -1,12 +1,13 @@
 -- What has words is read from them: tests and queries.
-use Rattle.std.proofs.Common.{◌≡◌, ◌<◌, ◌≤◌, ℕ, zero, suc, true, false, nat_le, List, [], ◌∷◌, length, Some, ap, ◌∙◌, refl, arith}
+use Rattle.std.proofs.Common.{◌≡◌, ◌<◌, ◌≤◌, ℕ, zero, suc, true, false, nat_le, List, [], ◌∷◌, length, Option, None, Some, ap, ◌∙◌, refl, arith}
 use Rattle.std.specs.List.{fold}
 use Rattle.lq_base.specs.declared.literal.Literal.{Literal}
 use Rattle.lq_base.specs.declared.literal.Literal.TheVariants as constant
+use Rattle.lq_base.specs.Name.{parts_of}
 use Rattle.lq_base.specs.Number.{fixed_text, whole_text}
 use Rattle.lq_model.specs.Spelled.{levels}
 use Rattle.lq_model.specs.SqlParser.{Parser, after, ended, expect, led_by, many, same_kind, sees, to_end}
-use Rattle.lq_model.specs.SqlPart.{literal, name, name_of, number}
+use Rattle.lq_model.specs.SqlPart.{literal, name, number}
 use Rattle.lq_model.specs.SqlTest.{any_test, comparison, most, nullness, operand, operator, primary, product, sum, term}
 use Rattle.lq_model.specs.SqlWord.{bare, with_text}
 use Rattle.lq_model.specs.Truth.{Both, Either, Turned}
@@ -19,6 +20,7 @@ use Rattle.lq_model.specs.declared.word.Word.{Word}
 use Rattle.lq_model.specs.declared.word.WordKind.{WordKind}
 use Rattle.lq_model.specs.declared.word.WordKind.TheVariants as word
 use Rattle.lq_parse.proofs.Chains.{many_none, many_one}
+use Rattle.lq_parse.proofs.Objects.{IsReadName, name_long, name_word, words_in}
 
 -- the canonical words of a literal, of an operand and of a test, before others
 
@@ -31,7 +33,7 @@ literal_words (constant.Int n) rest = with_text word.Number (whole_text n) ∷ r
 literal_words (constant.Fixed units scale) rest = with_text word.Number (fixed_text units scale) ∷ rest
 
 abbrev pub operand_words : Operand → List Word → List Word
-operand_words (side.Column c) rest = with_text word.Quoted c ∷ rest
+operand_words (side.Column c) rest = name_word c rest
 operand_words (side.Literal l) rest = literal_words l rest
 
 abbrev pub op_kind : Op → WordKind
@@ -60,7 +62,7 @@ IsLiteral (constant.Int n) = number (whole_text n) ≡ Some (constant.Int n)
 IsLiteral (constant.Fixed units scale) = number (fixed_text units scale) ≡ Some (constant.Fixed units scale)
 
 abbrev pub IsOperand : Operand → Type 0
-IsOperand (side.Column c) = name_of c ≡ Some c
+IsOperand (side.Column c) = IsReadName c
 IsOperand (side.Literal l) = IsLiteral l
 
 abbrev pub IsTest : Test → Type 0
@@ -82,7 +84,7 @@ literal_again (constant.Fixed units scale) rest h = rw h refl
 
 pub operand_again : (x : Operand) (rest : List Word) → IsOperand x → operand (operand_words x rest) ≡ Some (x, rest)
 unfolding operand name
-operand_again (side.Column c) rest h = rw h refl
+operand_again (side.Column c) rest h = rw (h.0, h.1) refl
 operand_again (side.Literal constant.Null) rest h = rw (literal_again constant.Null rest h) refl
 operand_again (side.Literal (constant.Bool true)) rest h = rw (literal_again (constant.Bool true) rest h) refl
 operand_again (side.Literal (constant.Bool false)) rest h = rw (literal_again (constant.Bool false) rest h) refl
@@ -180,9 +182,14 @@ sum_or p i i2 j a b n n2 e e2 end =
     sum_two p i i2 j a b (product_one p i (bare word.Or ∷ i2) a (term_plain p i n ∙ e) (no_and_at_or i2)) (product_one p i2 j b (term_plain p i2 n2 ∙ e2) end.and) end.or
 
 -- the first word of an operand or a test
+name_begins : (n : List ℕ) (o : Option (List ℕ × List ℕ)) (rest : List Word) → (sees word.Not (words_in n o rest) ≡ false) × (sees word.Open (words_in n o rest) ≡ false)
+unfolding sees same_kind
+name_begins n None rest = (refl, refl)
+name_begins n (Some parts) rest = (refl, refl)
+
 operand_begins : (x : Operand) (rest : List Word) → (sees word.Not (operand_words x rest) ≡ false) × (sees word.Open (operand_words x rest) ≡ false)
 unfolding sees same_kind
-operand_begins (side.Column c) rest = (refl, refl)
+operand_begins (side.Column c) rest = name_begins c (parts_of c) rest
 operand_begins (side.Literal constant.Null) rest = (refl, refl)
 operand_begins (side.Literal (constant.Bool true)) rest = (refl, refl)
 operand_begins (side.Literal (constant.Bool false)) rest = (refl, refl)
@@ -191,7 +198,7 @@ operand_begins (side.Literal (constant.Int n)) rest = (refl, refl)
 operand_begins (side.Literal (constant.Fixed u s)) rest = (refl, refl)
 
 operand_long : (x : Operand) (rest : List Word) → 0 < length (operand_words x rest)
-operand_long (side.Column c) rest = omega arith
+operand_long (side.Column c) rest = omega (arith, name_long c rest)
 operand_long (side.Literal constant.Null) rest = omega arith
 operand_long (side.Literal (constant.Bool true)) rest = omega arith
 operand_long (side.Literal (constant.Bool false)) rest = omega arith

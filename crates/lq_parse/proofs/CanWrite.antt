@@ -4,11 +4,11 @@ use Rattle.std.specs.List.{list_all}
 use Rattle.std.specs.Option.{option_and_then}
 use Rattle.std.proofs.lemmas.Bool.{and_from}
 use Rattle.lq_base.specs.Laws.{NumberOfSpells}
-use Rattle.lq_base.specs.Name.{is_name}
+use Rattle.lq_base.specs.Name.{is_name, is_object}
 use Rattle.lq_base.specs.declared.dialect.Dialect.{Dialect}
 use Rattle.lq_model.specs.Spelled.{is_literal, is_spelled, levels, test_literals}
 use Rattle.lq_model.specs.SqlParser.{Outcome, Parser, eat, expect, separated, to_end}
-use Rattle.lq_model.specs.SqlPart.{literal, name}
+use Rattle.lq_model.specs.SqlPart.{literal, name, object}
 use Rattle.lq_model.specs.SqlQuery.{columns, count, peek_count, query, selected}
 use Rattle.lq_model.specs.SqlTest.{any_test, where_test}
 use Rattle.lq_model.specs.SqlText.{query_in, read, test_in, whole}
@@ -22,7 +22,7 @@ use Rattle.lq_model.specs.declared.test.Test.{Test}
 use Rattle.lq_model.specs.declared.word.Word.{Word}
 use Rattle.lq_model.specs.declared.word.WordKind.TheVariants as word
 use Rattle.lq_parse.specs.Laws.{QueriesCanBeWritten, TestsCanBeWritten}
-use Rattle.lq_parse.proofs.Makes.{AllSo, IsLiteralText, IsNameText, IsWholeTest, IsWholeWhere, Makes, SomeSo, any_test_makes, literal_makes, makes_after, makes_if, makes_pure, makes_then, name_makes, separated_makes, to_end_makes, where_makes}
+use Rattle.lq_parse.proofs.Makes.{AllSo, IsLiteralText, IsNameText, IsObjectText, IsWholeTest, IsWholeWhere, Makes, SomeSo, any_test_makes, literal_makes, makes_after, makes_if, makes_pure, makes_then, name_makes, object_makes, separated_makes, to_end_makes, where_makes}
 use Rattle.lq_parse.proofs.NumberMakes.{number_makes}
 
 read_makes : {A : Type 0} (P : A → Type 0) (o : Outcome A) (it : A) → IfSome o (λ found. P found.0) → read o ≡ Some it → P it
@@ -74,19 +74,19 @@ selected_makes =
     (makes_after IsWantedText (expect word.Count) _ (λ a. makes_after IsWantedText (expect word.Open) _ (λ b. makes_after IsWantedText (expect word.Star) _ (λ c. makes_after IsWantedText (expect word.Close) _ (λ e. makes_pure IsWantedText wanted.Count refl)))))
     (makes_then (SomeSo IsNameText) IsWantedText (separated name) _ (separated_makes IsNameText name name_makes) (λ ns h. makes_pure IsWantedText (wanted.Columns ns) (some_names ns h))))))
 
-abbrev pub IsQueryText : Query → Type 0
-IsQueryText q = is_query q ≡ true
+abbrev pub IsQueryText : Dialect → Query → Type 0
+IsQueryText d q = is_query d q ≡ true
 
-query_is : (w : Wanted) (table : List ℕ) (test : Option Test) → IsWantedText w → IsNameText table → IsWholeWhere test → IsQueryText (record { wanted = w; table = table; test = test })
-query_is w table test a b c = and_from (is_wanted w) (is_name table && is_where test) a (and_from (is_name table) (is_where test) b (option_where test c))
+query_is : (d : Dialect) (w : Wanted) (table : List ℕ) (test : Option Test) → IsWantedText w → IsObjectText d table → IsWholeWhere test → IsQueryText d (record { wanted = w; table = table; test = test })
+query_is d w table test a b c = and_from (is_wanted w) (is_object d table && is_where test) a (and_from (is_object d table) (is_where test) b (option_where test c))
 
-pub query_makes : NumberOfSpells → Makes IsQueryText query
+pub query_makes : NumberOfSpells → (d : Dialect) → Makes (IsQueryText d) (query d)
 unfolding query
-query_makes spells =
-    makes_after IsQueryText (expect word.Select) _ (λ a. makes_then IsWantedText IsQueryText selected _ selected_makes (λ w is_wanted. makes_after IsQueryText (expect word.From) _ (λ b.
-    makes_then IsNameText IsQueryText name _ name_makes (λ table is_table. makes_then IsWholeWhere IsQueryText where_test _ (where_makes (any_test_makes (literals spells))) (λ test is_test.
-    makes_pure IsQueryText (record { wanted = w; table = table; test = test }) (query_is w table test is_wanted is_table is_test))))))
+query_makes spells d =
+    makes_after (IsQueryText d) (expect word.Select) _ (λ a. makes_then IsWantedText (IsQueryText d) selected _ selected_makes (λ w is_wanted. makes_after (IsQueryText d) (expect word.From) _ (λ b.
+    makes_then (IsObjectText d) (IsQueryText d) (object d) _ (object_makes d) (λ table is_table. makes_then IsWholeWhere (IsQueryText d) where_test _ (where_makes (any_test_makes (literals spells))) (λ test is_test.
+    makes_pure (IsQueryText d) (record { wanted = w; table = table; test = test }) (query_is d w table test is_wanted is_table is_test))))))
 
 pub queries_can : NumberOfSpells → QueriesCanBeWritten
 unfolding query_in
-queries_can spells d text q e = whole_makes IsQueryText query d text q (query_makes spells) e
+queries_can spells d text q e = whole_makes (IsQueryText d) (query d) d text q (query_makes spells d) e

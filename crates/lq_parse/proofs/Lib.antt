@@ -14,6 +14,7 @@ pub mod Many
 pub mod Meaning
 pub mod NumberMakes
 pub mod Numbers
+pub mod Objects
 pub mod Precedence
 pub mod QueryAgain
 pub mod QuotedNames

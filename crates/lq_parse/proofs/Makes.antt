@@ -1,14 +1,17 @@
 -- What is read can be written.
-use Rattle.std.proofs.Common.{◌≡◌, ℕ, zero, suc, Bool, true, false, nat_le, if◌then◌else◌, List, [], ◌∷◌, ◌++◌, length, Option, Some, None, IfSome, ◌∙◌, refl, tests}
+use Rattle.std.proofs.Common.{◌≡◌, ℕ, zero, suc, Bool, true, false, nat_le, ◌&&◌, if◌then◌else◌, List, [], ◌∷◌, ◌++◌, length, Option, Some, None, IfSome, ◌∙◌, refl, tests}
 use Rattle.std.specs.List.{fold, list_all}
 use Rattle.std.proofs.lemmas.Bool.{and_from}
 use Rattle.std.proofs.lemmas.List.Folds.{list_all-append}
-use Rattle.lq_base.specs.Name.{is_name}
+use Rattle.lq_base.proofs.NameLemmas.{is_name_key_name, keys_tell_names}
+use Rattle.lq_base.specs.Name.{is_name, is_object, within}
+use Rattle.lq_base.specs.declared.dialect.Dialect.{Dialect}
+use Rattle.lq_base.specs.declared.dialect.Dialect.TheVariants.{Mysql, Postgresql}
 use Rattle.lq_base.specs.declared.literal.Literal.{Literal}
 use Rattle.lq_base.specs.declared.literal.Literal.TheVariants as constant
 use Rattle.lq_model.specs.Spelled.{is_literal, levels, operand_literals, test_literals}
 use Rattle.lq_model.specs.SqlParser.{Outcome, Parser, ◌>>=◌, and_more, and_then, eat, ended, expect, given, led_by, many, many_of, peek, pure, refuse, same_kind, separated, skip, taken, to_end}
-use Rattle.lq_model.specs.SqlPart.{literal, literal_by, name, name_of, number}
+use Rattle.lq_model.specs.SqlPart.{literal, literal_by, name, name_of, number, object, qualified}
 use Rattle.lq_model.specs.SqlTest.{any_test, begins_literal, comparison, most, nullness, operand, operator, primary, product, sum, term, where_test}
 use Rattle.lq_model.specs.SqlWord.{may_be_name}
 use Rattle.lq_model.specs.Truth.{operand_names, test_names}
@@ -83,6 +86,22 @@ name_makes =
     makes_after IsNameText peek _ (λ found. makes_if IsNameText (may_be_name found) _ _
     (makes_after IsNameText taken _ (λ it. makes_given IsNameText (name_of it) (name_of_makes it)))
     (makes_refuse IsNameText))
+
+-- names of objects
+
+abbrev pub IsObjectText : Dialect → List ℕ → Type 0
+IsObjectText d n = is_object d n ≡ true
+
+qualified_makes : (schema text : List ℕ) → IsNameText schema → IsNameText text → IfSome (qualified schema text) (IsObjectText Postgresql)
+qualified_makes schema text h g = if_some (IsObjectText Postgresql) (is_name schema && is_name text) (within schema text) (λ both. (keys_tell_names schema text h g).0)
+
+pub object_makes : (d : Dialect) → Makes (IsObjectText d) (object d)
+unfolding object
+object_makes Mysql = name_makes
+object_makes Postgresql =
+    makes_then IsNameText (IsObjectText Postgresql) name _ name_makes (λ first h. makes_after (IsObjectText Postgresql) (eat word.Dot) _ (λ more. makes_if (IsObjectText Postgresql) more _ _
+    (makes_then IsNameText (IsObjectText Postgresql) name _ name_makes (λ text g. makes_given (IsObjectText Postgresql) (qualified first text) (qualified_makes first text h g)))
+    (makes_pure (IsObjectText Postgresql) first (is_name_key_name first h))))
 
 -- lists
 

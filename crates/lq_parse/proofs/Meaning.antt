@@ -50,10 +50,12 @@ words_same d a b found other is_a is_b same =
 
 pub words_are_the_meaning : WordsAreTheMeaning
 unfolding test_in query_in
-words_are_the_meaning d e a b same = (rw same refl, rw same refl)
+words_are_the_meaning = (λ d e a b same. rw same refl, λ d a b same. rw same refl)
 
 pub blanks_change_nothing : BlanksChangeNothing
-blanks_change_nothing d a b found other is_a is_b same = words_are_the_meaning d d a b (words_same d a b found other is_a is_b same)
+blanks_change_nothing d a b found other is_a is_b same =
+    let alike = words_same d a b found other is_a is_b same in
+    (words_are_the_meaning.0 d d a b alike, words_are_the_meaning.1 d a b alike)
 
 -- the kind depends on the word in small letters alone
 kind_by : (spellings : List (List ℕ × WordKind)) (other : WordKind) (a b : List ℕ) → str_to_ascii_lowercase a ≡ str_to_ascii_lowercase b → kind_in spellings other a ≡ kind_in spellings other b
@@ -103,22 +105,22 @@ keywords_in_any_case d k a b rest same =
     kind_is (kind_of_word word.Plain a) (folded d a) ∙ case_changes_nothing word.Plain a b same ∙ sym (kind_is (kind_of_word word.Plain b) (folded d b)) in
     (ap (λ found. same_kind found k) alike, ap (λ found. if same_kind found k then Some (tt, rest) else None) alike)
 
-counts_same : (a b : List ℕ) (rest : List Word) → query (bare word.Select ∷ with_text word.Count a ∷ bare word.Open ∷ rest) ≡ query (bare word.Select ∷ with_text word.Count b ∷ bare word.Open ∷ rest)
+counts_same : (d : Dialect) (a b : List ℕ) (rest : List Word) → query d (bare word.Select ∷ with_text word.Count a ∷ bare word.Open ∷ rest) ≡ query d (bare word.Select ∷ with_text word.Count b ∷ bare word.Open ∷ rest)
 unfolding query selected sees_count count sees after expect same_kind
-counts_same a b rest = refl
+counts_same d a b rest = refl
 
 count_word : kind_of_word word.Plain (codes "COUNT") ≡ word.Count
 unfolding kind_of_word
 count_word = refl
 
 count_by : (d : Dialect) (a : List ℕ) (rest : List Word) → kind_of_word word.Plain a ≡ word.Count
-    → query (bare word.Select ∷ (words_of d sort.Word a ++ (bare word.Open ∷ rest))) ≡ query (bare word.Select ∷ with_text word.Count (folded d a) ∷ bare word.Open ∷ rest)
-count_by d a rest is = ap (λ k. query (bare word.Select ∷ unquoted_word k (folded d a) ∷ bare word.Open ∷ rest)) is
+    → query d (bare word.Select ∷ (words_of d sort.Word a ++ (bare word.Open ∷ rest))) ≡ query d (bare word.Select ∷ with_text word.Count (folded d a) ∷ bare word.Open ∷ rest)
+count_by d a rest is = ap (λ k. query d (bare word.Select ∷ unquoted_word k (folded d a) ∷ bare word.Open ∷ rest)) is
 
 pub count_in_any_case : CountInAnyCase
 count_in_any_case d a rest same =
     count_by d a rest (case_changes_nothing word.Plain a (codes "COUNT") same ∙ count_word)
-    ∙ counts_same (folded d a) (folded d (codes "COUNT")) rest
+    ∙ counts_same d (folded d a) (folded d (codes "COUNT")) rest
     ∙ sym (count_by d (codes "COUNT") rest count_word)
 
 -- the plain spelling has the same words
@@ -168,4 +170,6 @@ spelled_same d a b found other is_a is_b same =
     plainly lexemes = kept_same d lexemes ∙ all_plain d (without_trivia lexemes)
 
 pub spellings_change_nothing : SpellingsChangeNothing
-spellings_change_nothing d a b found other is_a is_b same = words_are_the_meaning d d a b (spelled_same d a b found other is_a is_b same)
+spellings_change_nothing d a b found other is_a is_b same =
+    let alike = spelled_same d a b found other is_a is_b same in
+    (words_are_the_meaning.0 d d a b alike, words_are_the_meaning.1 d a b alike)

@@ -3,7 +3,7 @@ use Rattle.std.proofs.Common.{◌≡◌, ℕ, true, false, not, ◌&&◌, List, 
 use Rattle.std.specs.List.{list_all}
 use Rattle.std.specs.Prelude.{codes}
 use Rattle.std.proofs.lemmas.Bool.{and_parts}
-use Rattle.lq_base.specs.Name.{is_name}
+use Rattle.lq_base.specs.Name.{is_name, is_object, parts_of}
 use Rattle.lq_base.specs.SqlLexeme.{length_at}
 use Rattle.lq_base.specs.declared.dialect.Dialect.{Dialect}
 use Rattle.lq_base.specs.declared.dialect.Dialect.TheVariants.{Postgresql, Mysql}
@@ -11,7 +11,7 @@ use Rattle.lq_model.specs.Names.{is_empty}
 use Rattle.lq_model.specs.Phrase as text
 use Rattle.lq_model.specs.Quoting.{name_text}
 use Rattle.lq_model.specs.SqlParser.{after, ended, expect, same_kind, sees, to_end}
-use Rattle.lq_model.specs.SqlPart.{name, name_of}
+use Rattle.lq_model.specs.SqlPart.{name}
 use Rattle.lq_model.specs.SqlQuery.{columns, count, query, sees_count, selected}
 use Rattle.lq_model.specs.SqlTest.{where_test}
 use Rattle.lq_model.specs.SqlText.{query_in}
@@ -29,13 +29,11 @@ use Rattle.lq_parse.proofs.Again.{any_test_again, nothing_ends, test_words}
 use Rattle.lq_parse.proofs.Bytes.{Stops}
 use Rattle.lq_parse.proofs.Fronts.{Says, blank_says, capitals_say, keyword_says, mark_says}
 use Rattle.lq_parse.proofs.Lists.{EachItem, IsAgain, listed_says, separated_again, tail_words}
+use Rattle.lq_parse.proofs.Objects.{IsReadName, IsReadObject, name_fact, name_long, name_read, name_word, object_again, words_in}
 use Rattle.lq_parse.proofs.Quotes.{name_says}
 use Rattle.lq_parse.proofs.ReadBack.{all_words, where_facts, whole_is}
 use Rattle.lq_parse.proofs.Spoken.{Below, close_says, open_says, test_says, then}
-use Rattle.lq_parse.proofs.Written.{name_fact, test_fact}
-
-abbrev pub name_word : List ℕ → List Word → List Word
-name_word n rest = with_text word.Quoted n ∷ rest
+use Rattle.lq_parse.proofs.Written.{test_fact}
 
 abbrev pub names_words : List (List ℕ) → List Word → List Word
 names_words [] rest = rest
@@ -52,12 +50,8 @@ where_words (Some t) rest = bare word.Where ∷ test_words t rest
 
 -- names
 
-abbrev pub IsReadName : List ℕ → Type 0
-IsReadName n = name_of n ≡ Some n
-
 pub name_again : IsAgain IsReadName name name_word
-unfolding name
-name_again = record { read = λ n rest h. rw h refl; long = λ n rest. omega arith }
+name_again = record { read = name_read; long = name_long }
 
 pub each_name : (ns : List (List ℕ)) → list_all is_name ns ≡ true → EachItem IsReadName ns
 each_name [] is = tt
@@ -183,22 +177,49 @@ abbrev pub wanted_names : Wanted → List (List ℕ)
 wanted_names (wanted.Columns names) = names
 wanted_names _ = []
 
-pub query_again : (d : Dialect) (w : Wanted) (table : List ℕ) (test : Option Test) → is_wanted w ≡ true → EachItem IsReadName (wanted_names w) → IsReadName table
-    → where_test (where_words test []) ≡ Some (test, []) → to_end query (wanted_words d w (name_word table (where_words test []))) ≡ Some (record { wanted = w; table = table; test = test }, [])
-unfolding query selected sees_count count expect sees after same_kind name ended
-query_again d wanted.All table test is each one end = rw (one, end) refl
-query_again d wanted.Count table test is each one end = rw (one, end) refl
+pub no_dot : (test : Option Test) → sees word.Dot (where_words test []) ≡ false
+unfolding sees same_kind
+no_dot None = refl
+no_dot (Some t) = refl
+
+-- a name is no `*` and no count
+no_others : (n : List ℕ) (o : Option (List ℕ × List ℕ)) (rest : List Word) → (sees word.Star (words_in n o rest) ≡ false) × (sees_count (words_in n o rest) ≡ false)
+unfolding sees same_kind sees_count
+no_others n None rest = (refl, refl)
+no_others n (Some parts) rest = (refl, refl)
+
+columns_selected : (n : List ℕ) (ns : List (List ℕ)) (rest : List Word) → IsReadName n → EachItem IsReadName ns
+    → selected (names_words (n ∷ ns) (bare word.From ∷ rest)) ≡ Some (wanted.Columns (n ∷ ns), bare word.From ∷ rest)
+unfolding selected after
+columns_selected n ns rest one each =
+    let others = no_others n (parts_of n) (tail_words name_word ns (bare word.From ∷ rest)) in
+    rw (others.0, others.1, columns_again n ns rest one each) refl
+
+columns_query : (d : Dialect) (n : List ℕ) (ns : List (List ℕ)) (table : List ℕ) (test : Option Test) → IsReadName n → EachItem IsReadName ns → IsReadObject d table
+    → where_test (where_words test []) ≡ Some (test, []) → query d (wanted_words d (wanted.Columns (n ∷ ns)) (name_word table (where_words test []))) ≡ Some (record { wanted = wanted.Columns (n ∷ ns); table = table; test = test }, [])
+unfolding query expect sees same_kind
+columns_query d n ns table test first each one end = rw (columns_selected n ns (name_word table (where_words test [])) first each, object_again d table (where_words test []) one (no_dot test), end) refl
+
+pub query_again : (d : Dialect) (w : Wanted) (table : List ℕ) (test : Option Test) → is_wanted w ≡ true → EachItem IsReadName (wanted_names w) → IsReadObject d table
+    → where_test (where_words test []) ≡ Some (test, []) → query d (wanted_words d w (name_word table (where_words test []))) ≡ Some (record { wanted = w; table = table; test = test }, [])
+unfolding query selected sees_count count expect sees after same_kind
+query_again d wanted.All table test is each one end = rw (object_again d table (where_words test []) one (no_dot test), end) refl
+query_again d wanted.Count table test is each one end = rw (object_again d table (where_words test []) one (no_dot test), end) refl
 query_again d (wanted.Columns []) table test is each one end = absurd cc
-query_again d (wanted.Columns (n ∷ ns)) table test is each one end = rw (columns_again n ns (name_word table (where_words test [])) each.0 each.1, one, end) refl
+query_again d (wanted.Columns (n ∷ ns)) table test is each one end = columns_query d n ns table test each.0 each.1 one end
+
+whole_again : (d : Dialect) (ws : List Word) (q : Query) → query d ws ≡ Some (q, []) → to_end (query d) ws ≡ Some (q, [])
+unfolding ended expect sees after same_kind
+whole_again d ws q e = rw e refl
 
 pub queries_read : Below → QueriesReadBack
 unfolding query_in
 queries_read below d q can =
-    let a = and_parts (is_wanted q.wanted) (is_name q.table && is_where q.test) can in
-    let b = and_parts (is_name q.table) (is_where q.test) a.1 in
-    whole_is query d (query_text d q) (wanted_words d q.wanted (name_word q.table (where_words q.test []))) [] q
+    let a = and_parts (is_wanted q.wanted) (is_object d q.table && is_where q.test) can in
+    let b = and_parts (is_object d q.table) (is_where q.test) a.1 in
+    whole_is (query d) d (query_text d q) (wanted_words d q.wanted (name_word q.table (where_words q.test []))) [] q
     (all_words d (query_text d q) (λ ws. wanted_words d q.wanted (name_word q.table (where_words q.test ws))) (query_says below d q a.0 b.1))
-    (query_again d q.wanted q.table q.test a.0 (each_wanted q.wanted a.0) (name_fact q.table b.0) (where_again q.test b.1 below))
+    (whole_again d (wanted_words d q.wanted (name_word q.table (where_words q.test []))) q (query_again d q.wanted q.table q.test a.0 (each_wanted q.wanted a.0) b.0 (where_again q.test b.1 below)))
   where
     each_wanted : (w : Wanted) → is_wanted w ≡ true → EachItem IsReadName (wanted_names w)
     each_wanted wanted.All is = tt

@@ -4,10 +4,11 @@ use Rattle.std.specs.List.{fold}
 use Rattle.std.specs.Option.{option_and_then}
 use Rattle.std.proofs.lemmas.List.{length-map}
 use Rattle.lq_base.specs.declared.dialect.Dialect.{Dialect}
+use Rattle.lq_base.specs.declared.dialect.Dialect.TheVariants.{Mysql, Postgresql}
 use Rattle.lq_base.specs.declared.literal.Literal.TheVariants as constant
 use Rattle.lq_model.specs.Spelled.{levels}
 use Rattle.lq_model.specs.SqlParser.{Outcome, Parser, ◌>>=◌, after, and_more, and_then, eat, ended, expect, given, kind, led_by, many, many_of, next, peek, pure, refuse, same_kind, sees, separated, skip, taken, text, to_end}
-use Rattle.lq_model.specs.SqlPart.{literal, literal_by, name, name_of, number}
+use Rattle.lq_model.specs.SqlPart.{literal, literal_by, name, name_of, number, object, qualified}
 use Rattle.lq_model.specs.SqlQuery.{columns, count, peek_count, query, sees_count, selected}
 use Rattle.lq_model.specs.SqlTest.{any_test, begins_literal, comparison, most, nullness, operand, operator, operator_by, primary, product, sum, term, where_test}
 use Rattle.lq_model.specs.SqlText.{query_in, read, test_in, whole}
@@ -35,7 +36,7 @@ NoName kinds k = (n : WordKind) → Kept kinds n k
 -- the words that the grammar asks for, but for COUNT
 abbrev AreNoNames : (WordKind → WordKind) → WordKind → Type 0
 AreNoNames kinds n =
-    Kept kinds n word.And × Kept kinds n word.Or × Kept kinds n word.Not × Kept kinds n word.Is × Kept kinds n word.Null × Kept kinds n word.Open × Kept kinds n word.Close × Kept kinds n word.Semicolon × Kept kinds n word.End × Kept kinds n word.Comma × Kept kinds n word.Where × Kept kinds n word.Star × Kept kinds n word.Select × Kept kinds n word.From
+    Kept kinds n word.And × Kept kinds n word.Or × Kept kinds n word.Not × Kept kinds n word.Is × Kept kinds n word.Null × Kept kinds n word.Open × Kept kinds n word.Close × Kept kinds n word.Semicolon × Kept kinds n word.End × Kept kinds n word.Comma × Kept kinds n word.Where × Kept kinds n word.Star × Kept kinds n word.Select × Kept kinds n word.From × Kept kinds n word.Dot
 
 record Turns (turn : Word → Word) (kinds : WordKind → WordKind) : Type 0 where
   end : kinds word.End ≡ word.End
@@ -297,11 +298,19 @@ module _ (turn : Word → Word) (kinds : WordKind → WordKind) (it : Turns turn
       blind_then (eat word.Star) _ (blind_eat word.Star (λ k. (it.no_names k).11)) (λ all. blind_then peek_count _ (blind_counted count_is) (λ found.
       blind_if all _ _ (blind_pure wanted.All) (blind_if found _ _ (blind_count count_is) blind_columns)))
 
-  blind_query : NoName kinds word.Count → Blind turn query
+  blind_object : (d : Dialect) → Blind turn (object d)
+  unfolding object
+  blind_object Mysql = blind_name
+  blind_object Postgresql =
+      blind_then name _ blind_name (λ first. blind_then (eat word.Dot) _ (blind_eat word.Dot (λ k. (it.no_names k).14)) (λ more. blind_if more _ _
+      (blind_then name _ blind_name (λ text. blind_given (qualified first text)))
+      (blind_pure first)))
+
+  blind_query : NoName kinds word.Count → (d : Dialect) → Blind turn (query d)
   unfolding query
-  blind_query count_is =
+  blind_query count_is d =
       blind_then (expect word.Select) _ (blind_expect word.Select (λ k. (it.no_names k).12)) (λ a. blind_then selected _ (blind_selected count_is) (λ found.
-      blind_then (expect word.From) _ (blind_expect word.From (λ k. (it.no_names k).13)) (λ b. blind_then name _ blind_name (λ table.
+      blind_then (expect word.From) _ (blind_expect word.From (λ k. (it.no_names k).13)) (λ b. blind_then (object d) _ (blind_object d) (λ table.
       blind_then where_test _ blind_where (λ t. blind_pure (record { wanted = found; table = table; test = t }))))))
 
   -- the whole
@@ -335,8 +344,8 @@ quoted_text_by _ said = refl
 
 quoted_no_names : (n : WordKind) → AreNoNames quoted_kind n
 unfolding same_kind
-quoted_no_names word.Count = (refl, refl, refl, refl, refl, refl, refl, refl, refl, refl, refl, refl, refl, refl)
-quoted_no_names _ = (refl, refl, refl, refl, refl, refl, refl, refl, refl, refl, refl, refl, refl, refl)
+quoted_no_names word.Count = (refl, refl, refl, refl, refl, refl, refl, refl, refl, refl, refl, refl, refl, refl, refl)
+quoted_no_names _ = (refl, refl, refl, refl, refl, refl, refl, refl, refl, refl, refl, refl, refl, refl, refl)
 
 quoted_may_be : (n : WordKind) → may_be_name (quoted_kind n) ≡ may_be_name n
 quoted_may_be word.Count = refl
@@ -384,8 +393,8 @@ count_text_by _ said = refl
 
 count_no_names : (n : WordKind) → AreNoNames but_count_kind n
 unfolding same_kind
-count_no_names word.Count = (refl, refl, refl, refl, refl, refl, refl, refl, refl, refl, refl, refl, refl, refl)
-count_no_names _ = (refl, refl, refl, refl, refl, refl, refl, refl, refl, refl, refl, refl, refl, refl)
+count_no_names word.Count = (refl, refl, refl, refl, refl, refl, refl, refl, refl, refl, refl, refl, refl, refl, refl)
+count_no_names _ = (refl, refl, refl, refl, refl, refl, refl, refl, refl, refl, refl, refl, refl, refl, refl)
 
 count_may_be : (n : WordKind) → may_be_name (but_count_kind n) ≡ may_be_name n
 count_may_be word.Count = refl
@@ -426,4 +435,4 @@ quotes_change_no_test d e a b same = whole_same in_its_quotes quoted_kind quoted
 
 pub quotes_change_no_query : QuotesChangeNoQuery
 unfolding query_in
-quotes_change_no_query d e a b same = whole_same but_count but_count_kind count_turns query (blind_query but_count but_count_kind count_turns count_stays) d e a b same
+quotes_change_no_query d a b same = whole_same but_count but_count_kind count_turns (query d) (blind_query but_count but_count_kind count_turns count_stays d) d d a b same

@@ -1,20 +1,26 @@
 -- What stands in quotes is read as it was written.
-use Rattle.std.proofs.Common.{◌≡◌, ◌<◌, ℕ, ◌==◌, ◌||◌, ◌&&◌, Bool, true, false, if◌then◌else◌, List, [], ◌∷◌, ◌++◌, length, option_map, ap, ◌∙◌, sym, subst, refl, arith, length-append}
-use Rattle.std.specs.Prelude.{slice_index}
+use Rattle.std.proofs.Common.{◌≡◌, ◌<◌, ℕ, ◌==◌, ◌||◌, ◌&&◌, Bool, true, false, if◌then◌else◌, List, [], ◌∷◌, ◌++◌, length, Option, None, Some, is_some, option_map, ap, ◌∙◌, sym, subst, refl, arith, length-append, append_assoc}
+use Rattle.std.specs.Prelude.{codes, slice_index}
 use Rattle.std.proofs.lemmas.Bool.{eqb-true}
 use Rattle.std.proofs.lemmas.List.{append-nil}
+use Rattle.lq_base.specs.Name.{parts_of, schema_in, text_in}
 use Rattle.lq_base.specs.SqlByte.{escapes, is_text_quote}
+use Rattle.lq_base.specs.SqlLexeme.{length_at}
 use Rattle.lq_base.specs.SqlQuoted.{is_pair}
 use Rattle.lq_base.specs.declared.dialect.Dialect.{Dialect}
 use Rattle.lq_base.specs.declared.dialect.Dialect.TheVariants.{Postgresql, Mysql}
 use Rattle.lq_base.specs.declared.lexeme.LexemeSort.TheVariants as sort
+use Rattle.lq_model.specs.Phrase as phrases
 use Rattle.lq_model.specs.Quoting as model
-use Rattle.lq_model.specs.SqlWord.{inside, pair_text, unquoted, with_text, words}
+use Rattle.lq_model.specs.SqlWord.{bare, inside, kind_of_word, pair_text, unquoted, with_text, words}
+use Rattle.lq_model.specs.declared.phrase.Phrase.TheVariants as phrase
+use Rattle.lq_model.specs.declared.word.Word.{Word}
 use Rattle.lq_model.specs.declared.word.WordKind.TheVariants as word
 use Rattle.lq_sqllex.specs.Laws.{doubled, in_quotes, IsRead, LexemesGoOn, NamesAreRead, TextsAreRead}
 use Rattle.lq_parse.specs.Laws.{QuotedNamesAreOneWord, StringsAreOneWord}
 use Rattle.lq_parse.proofs.Bytes.{Each, Stops, each_is, stops}
-use Rattle.lq_parse.proofs.Fronts.{Says, lexeme_says}
+use Rattle.lq_parse.proofs.Fronts.{Says, lexeme_says, mark_says}
+use Rattle.lq_parse.proofs.Objects.{name_word, words_in}
 
 pub neither : (x y : Bool) → (x || y) ≡ false → (x ≡ false) × (y ≡ false)
 neither true y e = absurd cc
@@ -82,14 +88,63 @@ quoted_says go_on d quote name rest read other =
     lexeme_says go_on d sort.Name (in_quotes false quote name) rest (omega arith) is.0 is.1
     ∙ ap (λ x. option_map (λ more. with_text word.Quoted x ∷ more) (words d rest)) (unquoted_is false quote name)
 
-pub name_says : LexemesGoOn → NamesAreRead → (d : Dialect) (name rest : List ℕ) → Stops rest → Says d (model.name_text d name) (λ more. with_text word.Quoted name ∷ more) rest
-unfolding model.name_text Rattle.lq_model.specs.Phrase.words
-name_says go_on names Postgresql name rest stop =
-    ap (λ z. words Postgresql (34 ∷ (z ++ 34 ∷ []) ++ rest)) (doubled_same false 34 (λ b. b == 34) (λ b. plain_or (b == 34)) name)
-    ∙ quoted_says go_on Postgresql 34 name rest (names Postgresql 34 name refl) (apart 34 refl (refl, (refl, (refl, (refl, tt)))) rest stop)
-name_says go_on names Mysql name rest stop =
-    ap (λ z. words Mysql (96 ∷ (z ++ 96 ∷ []) ++ rest)) (doubled_same false 96 (λ b. b == 96) (λ b. plain_or (b == 96)) name)
-    ∙ quoted_says go_on Mysql 96 name rest (names Mysql 96 name refl) (apart 96 refl (refl, (refl, (refl, (refl, tt)))) rest stop)
+-- the byte that ends a name in quotes
+abbrev name_mark : Dialect → ℕ
+name_mark Postgresql = 34
+name_mark Mysql = 96
+
+text_says : LexemesGoOn → NamesAreRead → (d : Dialect) (text rest : List ℕ) → (slice_index rest 0 == name_mark d) ≡ false → Says d (model.quoted_text d text) (λ more. with_text word.Quoted text ∷ more) rest
+unfolding model.quoted_text phrases.words
+text_says go_on names Postgresql text rest other =
+    ap (λ z. words Postgresql (34 ∷ (z ++ 34 ∷ []) ++ rest)) (doubled_same false 34 (λ b. b == 34) (λ b. plain_or (b == 34)) text)
+    ∙ quoted_says go_on Postgresql 34 text rest (names Postgresql 34 text refl) other
+text_says go_on names Mysql text rest other =
+    ap (λ z. words Mysql (96 ∷ (z ++ 96 ∷ []) ++ rest)) (doubled_same false 96 (λ b. b == 96) (λ b. plain_or (b == 96)) text)
+    ∙ quoted_says go_on Mysql 96 text rest (names Mysql 96 text refl) other
+
+stops_name : (d : Dialect) (rest : List ℕ) → Stops rest → (slice_index rest 0 == name_mark d) ≡ false
+stops_name Postgresql rest stop = apart 34 refl (refl, (refl, (refl, (refl, tt)))) rest stop
+stops_name Mysql rest stop = apart 96 refl (refl, (refl, (refl, (refl, tt)))) rest stop
+
+-- a text in the quotes of names
+pub quoted_text_says : LexemesGoOn → NamesAreRead → (d : Dialect) (text rest : List ℕ) → Stops rest → Says d (model.quoted_text d text) (λ more. with_text word.Quoted text ∷ more) rest
+quoted_text_says go_on names d text rest stop = text_says go_on names d text rest (stops_name d rest stop)
+
+dot_says : LexemesGoOn → (d : Dialect) (text rest : List ℕ) → words d (phrases.words phrase.Dot ++ (model.quoted_text d text ++ rest)) ≡ option_map (λ ws. bare word.Dot ∷ ws) (words d (model.quoted_text d text ++ rest))
+unfolding model.quoted_text phrases.words length_at kind_of_word
+dot_says go_on Postgresql text rest = mark_says go_on Postgresql (codes ".") (model.quoted_text Postgresql text ++ rest) word.Dot (omega arith) refl refl refl
+dot_says go_on Mysql text rest = mark_says go_on Mysql (codes ".") (model.quoted_text Mysql text ++ rest) word.Dot (omega arith) refl refl refl
+
+joined_words : (f g h : List Word → List Word) (o : Option (List Word)) → option_map f (option_map g (option_map h o)) ≡ option_map (λ ws. f (g (h ws))) o
+joined_words f g h None = refl
+joined_words f g h (Some ws) = refl
+
+not_mark : (d : Dialect) (more : List ℕ) → (slice_index (phrases.words phrase.Dot ++ more) 0 == name_mark d) ≡ false
+unfolding phrases.words
+not_mark Postgresql more = refl
+not_mark Mysql more = refl
+
+-- a schema, a dot and a text
+both_say : LexemesGoOn → NamesAreRead → (d : Dialect) (schema text rest : List ℕ) → Stops rest
+    → Says d (model.quoted_text d schema ++ phrases.words phrase.Dot ++ model.quoted_text d text) (λ more. with_text word.Quoted schema ∷ bare word.Dot ∷ with_text word.Quoted text ∷ more) rest
+both_say go_on names d schema text rest stop =
+    let one = model.quoted_text d schema in
+    let two = model.quoted_text d text in
+    let dot = phrases.words phrase.Dot in
+    ap (words d) (append_assoc (one ++ dot) two rest ∙ append_assoc one dot (two ++ rest))
+    ∙ text_says go_on names d schema (dot ++ (two ++ rest)) (not_mark d (two ++ rest))
+    ∙ ap (option_map (λ more. with_text word.Quoted schema ∷ more))
+    (dot_says go_on d text rest ∙ ap (option_map (λ ws. bare word.Dot ∷ ws)) (quoted_text_says go_on names d text rest stop))
+    ∙ joined_words (λ more. with_text word.Quoted schema ∷ more) (λ ws. bare word.Dot ∷ ws) (λ more. with_text word.Quoted text ∷ more) (words d rest)
+
+name_by : LexemesGoOn → NamesAreRead → (d : Dialect) (n : List ℕ) (o : Option (List ℕ × List ℕ)) (rest : List ℕ) → Stops rest
+    → Says d (if is_some o then model.quoted_text d (schema_in o) ++ phrases.words phrase.Dot ++ model.quoted_text d (text_in n o) else model.quoted_text d n) (words_in n o) rest
+name_by go_on names d n None rest stop = quoted_text_says go_on names d n rest stop
+name_by go_on names d n (Some parts) rest stop = both_say go_on names d parts.0 parts.1 rest stop
+
+pub name_says : LexemesGoOn → NamesAreRead → (d : Dialect) (name rest : List ℕ) → Stops rest → Says d (model.name_text d name) (name_word name) rest
+unfolding model.name_text
+name_says go_on names d name rest stop = name_by go_on names d name (parts_of name) rest stop
 
 pub names_whole : LexemesGoOn → NamesAreRead → QuotedNamesAreOneWord
 names_whole go_on names d quote name rest is other = quoted_says go_on d quote name rest (names d quote name is) other

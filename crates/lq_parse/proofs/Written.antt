@@ -1,5 +1,5 @@
 -- What the laws ask of a test, part by part.
-use Rattle.std.proofs.Common.{◌≡◌, ℕ, Bool, true, List, ◌++◌, Some, ◌∙◌, sym, refl}
+use Rattle.std.proofs.Common.{◌≡◌, ℕ, Bool, true, List, ◌++◌, ◌∙◌, sym}
 use Rattle.std.specs.List.{list_all}
 use Rattle.std.proofs.lemmas.Bool.{and_parts}
 use Rattle.std.proofs.lemmas.List.Folds.{list_all-append}
@@ -7,21 +7,17 @@ use Rattle.lq_base.specs.Name.{is_name}
 use Rattle.lq_base.specs.declared.literal.Literal.{Literal}
 use Rattle.lq_base.specs.declared.literal.Literal.TheVariants as constant
 use Rattle.lq_model.specs.Spelled.{is_literal, operand_literals, test_literals}
-use Rattle.lq_model.specs.SqlPart.{name_of}
 use Rattle.lq_model.specs.Truth.{Both, Either, Turned, operand_names, test_names}
 use Rattle.lq_model.specs.declared.test.Operand.{Operand}
 use Rattle.lq_model.specs.declared.test.Operand.TheVariants as side
 use Rattle.lq_model.specs.declared.test.Test.{Compare, IsNull, NotNull, Test}
 use Rattle.lq_parse.proofs.Again.{IsLiteral, IsOperand, IsTest}
+use Rattle.lq_parse.proofs.Objects.{name_fact}
 use Rattle.lq_parse.proofs.Numbers.{fixed_number, whole_number}
 use Rattle.lq_parse.proofs.Spoken.{Below, HasLiterals, TestHasLiterals}
 
 pub all_split : {A : Type 0} (p : A → Bool) (xs ys : List A) → list_all p (xs ++ ys) ≡ true → (list_all p xs ≡ true) × (list_all p ys ≡ true)
 all_split p xs ys all = and_parts (list_all p xs) (list_all p ys) (sym (list_all-append p xs ys) ∙ all)
-
-pub name_fact : (n : List ℕ) → is_name n ≡ true → name_of n ≡ Some n
-unfolding name_of
-name_fact n is = rw is refl
 
 pub literal_fact : Below → (l : Literal) → is_literal l ≡ true → IsLiteral l
 literal_fact below constant.Null is = tt

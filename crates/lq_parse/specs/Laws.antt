@@ -29,7 +29,7 @@ TestsReadBack = (d : Dialect) (t : Test) → is_where (Some t) ≡ true → test
 
 -- so is a query
 abbrev pub QueriesReadBack : Type 0
-QueriesReadBack = (d : Dialect) (q : Query) → is_query q ≡ true → query_in d (query_text d q) ≡ Some q
+QueriesReadBack = (d : Dialect) (q : Query) → is_query d q ≡ true → query_in d (query_text d q) ≡ Some q
 
 -- a test that is read can be written
 abbrev pub TestsCanBeWritten : Type 0
@@ -37,7 +37,7 @@ TestsCanBeWritten = (d : Dialect) (text : List ℕ) (t : Test) → test_in d tex
 
 -- so can a query
 abbrev pub QueriesCanBeWritten : Type 0
-QueriesCanBeWritten = (d : Dialect) (text : List ℕ) (q : Query) → query_in d text ≡ Some q → is_query q ≡ true
+QueriesCanBeWritten = (d : Dialect) (text : List ℕ) (q : Query) → query_in d text ≡ Some q → is_query d q ≡ true
 
 -- the lexemes without blanks and comments
 abbrev pub without_trivia : List (LexemeSort × List ℕ) → List (LexemeSort × List ℕ)
@@ -48,9 +48,11 @@ abbrev pub BlanksChangeNothing : Type 0
 BlanksChangeNothing = (d : Dialect) (a b : List ℕ) (found other : List (LexemeSort × List ℕ)) → lexemes d a ≡ Some found → lexemes d b ≡ Some other
     → without_trivia found ≡ without_trivia other → (test_in d a ≡ test_in d b) × (query_in d a ≡ query_in d b)
 
--- nothing counts but the words: where they are the same, in whichever dialects, so are the test and the query
+-- nothing counts but the words: where they are the same, so are the query and, in whichever dialects, the test
 abbrev pub WordsAreTheMeaning : Type 0
-WordsAreTheMeaning = (d e : Dialect) (a b : List ℕ) → words d a ≡ words e b → (test_in d a ≡ test_in e b) × (query_in d a ≡ query_in e b)
+WordsAreTheMeaning =
+    ((d e : Dialect) (a b : List ℕ) → words d a ≡ words e b → test_in d a ≡ test_in e b)
+    × ((d : Dialect) (a b : List ℕ) → words d a ≡ words d b → query_in d a ≡ query_in d b)
 
 -- each text in a quote of strings, which is doubled inside, in mysql as a backslash is, is that one string, whatever else than the quote comes after it
 abbrev pub StringsAreOneWord : Type 0
@@ -101,7 +103,7 @@ KeywordsInAnyCase = (d : Dialect) (k : WordKind) (a b : List ℕ) (rest : List W
 -- so COUNT is the count in any case, where `(` follows it after SELECT
 abbrev pub CountInAnyCase : Type 0
 CountInAnyCase = (d : Dialect) (a : List ℕ) (rest : List Word) → str_eq_ignore_ascii_case a (codes "COUNT") ≡ true
-    → query (bare word.Select ∷ (words_of d sort.Word a ++ (bare word.Open ∷ rest))) ≡ query (bare word.Select ∷ (words_of d sort.Word (codes "COUNT") ++ (bare word.Open ∷ rest)))
+    → query d (bare word.Select ∷ (words_of d sort.Word a ++ (bare word.Open ∷ rest))) ≡ query d (bare word.Select ∷ (words_of d sort.Word (codes "COUNT") ++ (bare word.Open ∷ rest)))
 
 -- `!=` and `<>` are one mark
 abbrev pub UnequalIsOneMark : Type 0
@@ -125,7 +127,7 @@ but_count said = if same_kind said.kind word.Count then said else in_its_quotes 
 
 -- likewise in a query, but for COUNT
 abbrev pub QuotesChangeNoQuery : Type 0
-QuotesChangeNoQuery = (d e : Dialect) (a b : List ℕ) → option_map (map but_count) (words d a) ≡ option_map (map but_count) (words e b) → query_in d a ≡ query_in e b
+QuotesChangeNoQuery = (d : Dialect) (a b : List ℕ) → option_map (map but_count) (words d a) ≡ option_map (map but_count) (words d b) → query_in d a ≡ query_in d b
 
 -- a lexeme in its plain spelling: reserved words in small letters, in postgresql all unquoted words, and `<>` for `!=`
 abbrev pub plain_bytes : Dialect → LexemeSort → List ℕ → List ℕ

@@ -30,10 +30,10 @@ fn whole_test(alloc: Global, words: &mut Words<'_>) -> Result<Boxed<Test>, Parse
     ended(words, test)
 }
 
-fn whole_query(alloc: Global, words: &mut Words<'_>) -> Result<Query, ParseFault>
-    ensures { Reads (parser.to_end query words.old) result words.new }
+fn whole_query(alloc: Global, dialect: Dialect, words: &mut Words<'_>) -> Result<Query, ParseFault>
+    ensures { Reads (parser.to_end (query dialect) words.old) result words.new }
 {
-    let query = query(alloc, words)?;
+    let query = query(alloc, dialect, words)?;
     ended(words, query)
 }
 
@@ -53,5 +53,5 @@ pub fn parse_query(alloc: Global, dialect: Dialect, text: &str) -> Result<Query,
     ensures { Gives (query_in dialect text.now) result }
 {
     let words = words(alloc, dialect, text.as_bytes())?;
-    whole_query(alloc, &mut Words::new(words.as_slice()))
+    whole_query(alloc, dialect, &mut Words::new(words.as_slice()))
 }

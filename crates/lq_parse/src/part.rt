@@ -4,7 +4,7 @@ ghost use Rattle.lq_model.specs.SqlPart as spec;
 use crate::cursor::Words;
 use crate::number::number;
 use crate::spelling::may_be_name;
-use lq_base::{Literal, Name, NameFault, Text};
+use lq_base::{Dialect, Literal, Name, NameFault, Text};
 use lq_model::{ParseFault, WordKind};
 use std::alloc::Global;
 
@@ -30,6 +30,35 @@ pub fn name(alloc: Global, words: &mut Words<'_>) -> Result<Name, ParseFault>
         return Err(ParseFault::NotSql);
     }
     name_of(alloc, words.take())
+}
+
+fn qualified(alloc: Global, schema: &Name, text: &Name) -> Result<Name, ParseFault>
+    ensures { Gives (spec.qualified schema.now text.now) result }
+{
+    match Name::within(alloc, schema.as_key(), text.as_key()) {
+        Ok(name) => Ok(name),
+        Err(NameFault::BadName) => Err(ParseFault::NotSql),
+        Err(NameFault::OutOfMemory) => Err(ParseFault::OutOfMemory),
+    }
+}
+
+/// The name of a table, a view or a sequence, and of an index that is dropped: a name, before which
+/// in PostgreSQL a schema and a dot may stand. `NotSql` where none comes next.
+#[tactic(auto, unfolding(lq_model::specs::SqlPart::object))]
+pub fn object(alloc: Global, dialect: Dialect, words: &mut Words<'_>) -> Result<Name, ParseFault>
+    ensures { Reads (spec.object dialect words.old) result words.new }
+{
+    let first = name(alloc, words)?;
+    match dialect {
+        Dialect::Mysql => Ok(first),
+        Dialect::Postgresql => {
+            if !words.eat(WordKind::Dot) {
+                return Ok(first);
+            }
+            let text = name(alloc, words)?;
+            qualified(alloc, &first, &text)
+        }
+    }
 }
 
 fn number_literal(text: &str) -> Result<Literal, ParseFault>

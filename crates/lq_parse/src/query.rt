@@ -4,8 +4,9 @@ ghost use Rattle.std.specs.Prelude.{◌≡◌};
 
 use crate::cursor::Words;
 use crate::list::separated;
-use crate::part::name;
+use crate::part::{name, object};
 use crate::test::where_test;
+use lq_base::Dialect;
 use lq_model::{ParseFault, Query, Wanted, WordKind};
 use std::alloc::Global;
 
@@ -51,13 +52,13 @@ fn selected(alloc: Global, words: &mut Words<'_>) -> Result<Wanted, ParseFault>
 /// SELECT of `*`, of `COUNT(*)` or of columns, FROM one table, also with WHERE. `NotSql` where none
 /// comes next.
 #[tactic(auto, unfolding(lq_model::specs::SqlQuery::query))]
-pub fn query(alloc: Global, words: &mut Words<'_>) -> Result<Query, ParseFault>
-    ensures { Reads (spec.query words.old) result words.new }
+pub fn query(alloc: Global, dialect: Dialect, words: &mut Words<'_>) -> Result<Query, ParseFault>
+    ensures { Reads (spec.query dialect words.old) result words.new }
 {
     words.expect(WordKind::Select)?;
     let wanted = selected(alloc, words)?;
     words.expect(WordKind::From)?;
-    let table = name(alloc, words)?;
+    let table = object(alloc, dialect, words)?;
     let test = where_test(alloc, words)?;
     Ok(Query {
         wanted,

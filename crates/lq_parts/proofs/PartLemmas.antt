@@ -4,10 +4,9 @@ use Rattle.std.proofs.lemmas.List.{length-reverse, reverse-append}
 use Rattle.std.specs.List.{flat_map}
 use Rattle.lq_base.specs.Name.{is_named}
 use Rattle.lq_base.specs.declared.name.Name.{Name}
-use Rattle.lq_model.specs.Catalogue.{Catalogue, Table, sequence_of, table_of, view_of}
-use Rattle.lq_model.specs.NameSpaces.{object_names, shared_names}
+use Rattle.lq_model.specs.Catalogue.{Catalogue, sequence_of, table_of, view_of}
+use Rattle.lq_model.specs.NameSpaces.{names_inside, object_names, shared_names}
 use Rattle.lq_model.specs.Names.{is_in}
-use Rattle.lq_model.specs.TableNames.{inner_names}
 use Rattle.lq_model.proofs.Lists.{any-append}
 use Rattle.lq_model.proofs.Maps.{found}
 use Rattle.lq_parts.specs.Kept.{Kept, one_back, past_catalogues}
@@ -40,5 +39,5 @@ object_is n c =
     ∙ ap (λ b. is_some (table_of c n) || (is_some (view_of c n) || b)) (found n c.sequences)
     ∙ regrouped (is_some (table_of c n)) (is_some (view_of c n)) (is_some (sequence_of c n))
 
-pub shared_is : (c : Catalogue) (n : Name) → (is_in n (object_names c) || is_in n (flat_map (λ (e : Name × Table). inner_names e.1) c.tables)) ≡ is_in n (shared_names c)
-shared_is c n = sym (any-append (is_named n) (object_names c) (flat_map (λ (e : Name × Table). inner_names e.1) c.tables))
+pub shared_is : (c : Catalogue) (n : Name) → (is_in n (object_names c) || is_in n (flat_map names_inside c.tables)) ≡ is_in n (shared_names c)
+shared_is c n = sym (any-append (is_named n) (object_names c) (flat_map names_inside c.tables))

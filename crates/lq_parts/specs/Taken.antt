@@ -5,8 +5,9 @@ use Rattle.std.specs.Prelude.{Bool, List, None, Option, Some, [], false, map, tr
 use Rattle.lq_base.specs.Name.{is_named, name_cmp}
 use Rattle.lq_base.specs.declared.name.Name.{Name}
 use Rattle.lq_model.specs.Catalogue.{Table}
+use Rattle.lq_model.specs.NameSpaces.{names_inside}
 use Rattle.lq_model.specs.Names.{is_in}
-use Rattle.lq_model.specs.TableNames.{foreign_names, inner_names, key_list}
+use Rattle.lq_model.specs.TableNames.{foreign_names, key_list}
 use Rattle.lq_parts.specs.declared.taken.TakenNames.{TakenNames}
 use Rattle.lq_rows.specs.declared.shape.Shape.{Shape}
 
@@ -14,8 +15,11 @@ abbrev pub TableMap : Type 0
 TableMap = List (Name × Table)
 
 -- the names that stand in each table, one table after another
-abbrev pub names_in : (Table → List Name) → TableMap → List Name
-names_in names ts = flat_map (λ e. names e.1) ts
+abbrev pub names_in : (Name × Table → List Name) → TableMap → List Name
+names_in names ts = flat_map names ts
+
+abbrev pub foreign_inside : Name × Table → List Name
+foreign_inside e = foreign_names e.1
 
 -- the set has just these names
 pub record HasJust (ns : List Name) (set : BTreeSet Name) : Type 0 where
@@ -32,8 +36,8 @@ IsTrueOf ns (Some set) = HasJust ns set
 
 -- what is known of the names inside these tables is true
 pub record AreKnown (tables : TableMap) (names : TakenNames) : Type 0 where
-  pub inner : IsTrueOf (names_in inner_names tables) names.inner
-  pub foreign : IsTrueOf (names_in foreign_names tables) names.foreign
+  pub inner : IsTrueOf (names_in names_inside tables) names.inner
+  pub foreign : IsTrueOf (names_in foreign_inside tables) names.foreign
 
 -- the second list begins with the names of the first
 abbrev pub begins : List Name → List Name → Bool

@@ -6,9 +6,8 @@ ghost use Rattle.lq_base.specs.Name.{is_named};
 ghost use Rattle.lq_chain.specs.History.{back, changed, history, marked, step_shorter, undone_to};
 ghost use Rattle.lq_chain.specs.Marks.{kept_rows, replaced};
 ghost use Rattle.lq_model.specs.Catalogue.{Table, no_objects, sequence_of, table_of, the_table, view_of, with_new, with_sequence, with_table, with_view, without_sequence, without_table, without_view};
-ghost use Rattle.lq_model.specs.NameSpaces.{all_foreign_names, object_names, shared_names};
+ghost use Rattle.lq_model.specs.NameSpaces.{all_foreign_names, names_inside, object_names, shared_names};
 ghost use Rattle.lq_model.specs.Names.{is_in};
-ghost use Rattle.lq_model.specs.TableNames.{inner_names};
 ghost use Rattle.lq_model.specs.Twin.{is_twin};
 ghost use Rattle.lq_parts.specs.Kept.{with_renamed};
 ghost use Rattle.lq_parts.specs.Steps.{tables_of};
@@ -178,14 +177,14 @@ impl Parts {
     /// Whether the key, a unique constraint or an index of one of the tables has the name.
     fn has_inner_name(&mut self, name: &Name) -> Result<bool, NoMemory>
         ensures found { IfOk result (λ found.
-            found ≡ is_in name.now (flat_map (λ e. inner_names e.1) self.old.now.tables)) }
+            found ≡ is_in name.now (flat_map names_inside self.old.now.tables)) }
         ensures same { self.new ≡ self.old }
     {
         self.names.has_inner(self.tables.entries(), name)
     }
 
-    /// Whether the name stands in PostgreSQL's one space: in O(log n) once the names inside the tables
-    /// are known, which they get by the first call.
+    /// Whether the name stands in one of PostgreSQL's shared spaces: in O(log n) once the names
+    /// inside the tables are known, which they get by the first call.
     pub fn has_shared_name(&mut self, name: &Name) -> Result<bool, NoMemory>
         ensures found { IfOk result (λ found. found ≡ is_in name.now (shared_names self.old.now)) }
         ensures same { self.new ≡ self.old }
@@ -206,13 +205,13 @@ impl Parts {
 
     fn knows_inner_name(&self, name: &Name) -> Option<bool>
         ensures { IfSome result (λ found.
-            found ≡ is_in name.now (flat_map (λ e. inner_names e.1) self.now.now.tables)) }
+            found ≡ is_in name.now (flat_map names_inside self.now.now.tables)) }
     {
         self.names.knows_inner(name)
     }
 
-    /// Whether the name stands in PostgreSQL's one space, where that is known without a look at all
-    /// tables.
+    /// Whether the name stands in one of PostgreSQL's shared spaces, where that is known without a
+    /// look at all tables.
     pub fn knows_shared_name(&self, name: &Name) -> Option<bool>
         ensures { IfSome result (λ found. found ≡ is_in name.now (shared_names self.now.now)) }
     {
@@ -241,7 +240,7 @@ impl Parts {
         ensures err { OnErr result (self.new ≡ self.old) }
     {
         self.done.reserve(1)?;
-        self.names.add(held.shape());
+        self.names.add(&name, held.shape());
         match self.tables.put(name, held) {
             Ok(()) => {
                 self.done.push_reserved(Part::Tables);
@@ -466,7 +465,7 @@ fn learn_shape(names: &mut TakenNames, tables: &Tables, name: &Name, shape: &Sha
         → AreKnown (set_value (is_named name.now) tables.now.now it) names.new }
 {
     match tables.get(name) {
-        Some(held) => names.reshape(held.shape(), shape),
+        Some(held) => names.reshape(name, held.shape(), shape),
         None => unreachable!(),
     }
 }

@@ -1,16 +1,17 @@
 ghost use Rattle.std.specs.Map.{lookup, set_value};
 ghost use Rattle.std.specs.BTreeMap.{insert_entry};
 ghost use Rattle.std.specs.Prelude.{◌≡◌, ◌∷◌, ◌++◌, List, None, Some, [], IfOk, IfSome, OnOk, map};
-ghost use Rattle.lq_base.specs.Name.{is_named, name_cmp};
+ghost use Rattle.lq_base.specs.Name.{beside, is_named, name_cmp};
 ghost use Rattle.lq_base.specs.declared.name.Name.{Name};
 ghost use Rattle.lq_model.specs.Catalogue.{Table};
+ghost use Rattle.lq_model.specs.NameSpaces.{names_inside};
 ghost use Rattle.lq_model.specs.Names.{is_in};
-ghost use Rattle.lq_model.specs.TableNames.{foreign_names, inner_names, key_list};
+ghost use Rattle.lq_model.specs.TableNames.{foreign_names, key_list};
 ghost use Rattle.lq_parts.specs.Steps.{tables_of};
-ghost use Rattle.lq_parts.specs.Taken.{AreKnown, Gains, HasJust, IsTrueOf, TableMap, begins, foreign_stay, inner_stay, names_in};
+ghost use Rattle.lq_parts.specs.Taken.{AreKnown, Gains, HasJust, IsTrueOf, TableMap, begins, foreign_inside, foreign_stay, inner_stay, names_in};
 ghost use Rattle.lq_rows.specs.Stored.{shape_of};
 
-use lq_base::{Duplicate, Name, NoMemory};
+use lq_base::{Duplicate, Name, NoMemory, placed};
 use lq_model::{ForeignKey, Index, Key, Unique};
 use lq_rows::{Held, Shape};
 use std::alloc::Global;
@@ -20,7 +21,7 @@ use std::collections::BTreeSet;
 #[derive(Drop)]
 pub struct TakenNames {
     pub(crate) alloc: Global,
-    /// The names of keys, unique constraints and indexes.
+    /// The names of keys, unique constraints and indexes, where they count.
     pub(crate) inner: Option<BTreeSet<Name>>,
     /// The names of foreign keys.
     pub(crate) foreign: Option<BTreeSet<Name>>,
@@ -48,11 +49,12 @@ impl TakenNames {
         self.foreign = None;
     }
 
-    /// Whether the key, a unique constraint or an index of one of the tables has the name.
+    /// Whether the key, a unique constraint or an index of one of the tables has the name, where it
+    /// counts.
     pub fn has_inner(&mut self, tables: &[(Name, Held)], name: &Name) -> Result<bool, NoMemory>
         requires { AreKnown (tables_of tables.now) self.old }
         ensures found { IfOk result
-            (λ found. found ≡ is_in name.now (names_in inner_names (tables_of tables.now))) }
+            (λ found. found ≡ is_in name.now (names_in names_inside (tables_of tables.now))) }
         ensures known { AreKnown (tables_of tables.now) self.new }
     {
         asked_inner(self.alloc, &mut self.inner, tables, name)
@@ -62,7 +64,7 @@ impl TakenNames {
     pub fn has_foreign(&mut self, tables: &[(Name, Held)], name: &Name) -> Result<bool, NoMemory>
         requires { AreKnown (tables_of tables.now) self.old }
         ensures found { IfOk result
-            (λ found. found ≡ is_in name.now (names_in foreign_names (tables_of tables.now))) }
+            (λ found. found ≡ is_in name.now (names_in foreign_inside (tables_of tables.now))) }
         ensures known { AreKnown (tables_of tables.now) self.new }
     {
         asked_foreign(self.alloc, &mut self.foreign, tables, name)
@@ -73,7 +75,7 @@ impl TakenNames {
     pub fn knows_inner(&self, name: &Name) -> Option<bool>
         ensures { (tables : TableMap)
             → AreKnown tables self.now
-            → IfSome result (λ found. found ≡ is_in name.now (names_in inner_names tables)) }
+            → IfSome result (λ found. found ≡ is_in name.now (names_in names_inside tables)) }
     {
         known_in(&self.inner, name)
     }
@@ -82,64 +84,64 @@ impl TakenNames {
     pub fn knows_foreign(&self, name: &Name) -> Option<bool>
         ensures { (tables : TableMap)
             → AreKnown tables self.now
-            → IfSome result (λ found. found ≡ is_in name.now (names_in foreign_names tables)) }
+            → IfSome result (λ found. found ≡ is_in name.now (names_in foreign_inside tables)) }
     {
         known_in(&self.foreign, name)
     }
 
     /// Adds the names inside a new table to what is known, which it drops where memory is wanting.
-    pub fn add(&mut self, shape: &Shape)
-        ensures { (tables : TableMap) (n : Name) (it : Table)
+    pub fn add(&mut self, table: &Name, shape: &Shape)
+        ensures { (tables : TableMap) (it : Table)
             → shape.now ≡ shape_of it
-            → lookup (is_named n) tables ≡ None
+            → lookup (is_named table.now) tables ≡ None
             → AreKnown tables self.old
-            → AreKnown (insert_entry name_cmp tables n it) self.new }
+            → AreKnown (insert_entry name_cmp tables table.now it) self.new }
     {
-        match self.learn(shape) {
+        match self.learn(table, shape) {
             Ok(()) => {}
             Err(NoMemory) => self.forget(),
         }
     }
 
-    fn learn(&mut self, shape: &Shape) -> Result<(), NoMemory>
+    fn learn(&mut self, table: &Name, shape: &Shape) -> Result<(), NoMemory>
         ensures { OnOk result
-            ((tables : TableMap) (n : Name) (it : Table)
+            ((tables : TableMap) (it : Table)
             → shape.now ≡ shape_of it
-            → lookup (is_named n) tables ≡ None
+            → lookup (is_named table.now) tables ≡ None
             → AreKnown tables self.old
-            → AreKnown (insert_entry name_cmp tables n it) self.new) }
+            → AreKnown (insert_entry name_cmp tables table.now it) self.new) }
     {
-        learn_inner(self.alloc, &mut self.inner, shape)?;
+        learn_inner(self.alloc, &mut self.inner, table, shape)?;
         learn_foreign(self.alloc, &mut self.foreign, shape)?;
         Ok(())
     }
 
     /// What is known, after a table got another shape: all that was known, where the names of the old
     /// shape stay.
-    pub fn reshape(&mut self, old: &Shape, new: &Shape)
-        ensures { (tables : TableMap) (n : Name) (was it : Table)
+    pub fn reshape(&mut self, table: &Name, old: &Shape, new: &Shape)
+        ensures { (tables : TableMap) (was it : Table)
             → old.now ≡ shape_of was
             → new.now ≡ shape_of it
-            → lookup (is_named n) tables ≡ Some was
+            → lookup (is_named table.now) tables ≡ Some was
             → AreKnown tables self.old
-            → AreKnown (set_value (is_named n) tables it) self.new }
+            → AreKnown (set_value (is_named table.now) tables it) self.new }
     {
-        match self.relearn(old, new) {
+        match self.relearn(table, old, new) {
             Ok(()) => {}
             Err(NoMemory) => self.forget(),
         }
     }
 
-    fn relearn(&mut self, old: &Shape, new: &Shape) -> Result<(), NoMemory>
+    fn relearn(&mut self, table: &Name, old: &Shape, new: &Shape) -> Result<(), NoMemory>
         ensures { OnOk result
-            ((tables : TableMap) (n : Name) (was it : Table)
+            ((tables : TableMap) (was it : Table)
             → old.now ≡ shape_of was
             → new.now ≡ shape_of it
-            → lookup (is_named n) tables ≡ Some was
+            → lookup (is_named table.now) tables ≡ Some was
             → AreKnown tables self.old
-            → AreKnown (set_value (is_named n) tables it) self.new) }
+            → AreKnown (set_value (is_named table.now) tables it) self.new) }
     {
-        relearn_inner(self.alloc, &mut self.inner, old, new)?;
+        relearn_inner(self.alloc, &mut self.inner, table, old, new)?;
         relearn_foreign(self.alloc, &mut self.foreign, old, new)?;
         Ok(())
     }
@@ -163,10 +165,10 @@ fn asked_inner(
     tables: &[(Name, Held)],
     name: &Name,
 ) -> Result<bool, NoMemory>
-    requires { IsTrueOf (names_in inner_names (tables_of tables.now)) known.old }
+    requires { IsTrueOf (names_in names_inside (tables_of tables.now)) known.old }
     ensures found { IfOk result
-        (λ found. found ≡ is_in name.now (names_in inner_names (tables_of tables.now))) }
-    ensures known { IsTrueOf (names_in inner_names (tables_of tables.now)) known.new }
+        (λ found. found ≡ is_in name.now (names_in names_inside (tables_of tables.now))) }
+    ensures known { IsTrueOf (names_in names_inside (tables_of tables.now)) known.new }
 {
     if let Some(set) = known.as_ref() {
         return Ok(has_name(set, name));
@@ -184,10 +186,10 @@ fn asked_foreign(
     tables: &[(Name, Held)],
     name: &Name,
 ) -> Result<bool, NoMemory>
-    requires { IsTrueOf (names_in foreign_names (tables_of tables.now)) known.old }
+    requires { IsTrueOf (names_in foreign_inside (tables_of tables.now)) known.old }
     ensures found { IfOk result
-        (λ found. found ≡ is_in name.now (names_in foreign_names (tables_of tables.now))) }
-    ensures known { IsTrueOf (names_in foreign_names (tables_of tables.now)) known.new }
+        (λ found. found ≡ is_in name.now (names_in foreign_inside (tables_of tables.now))) }
+    ensures known { IsTrueOf (names_in foreign_inside (tables_of tables.now)) known.new }
 {
     if let Some(set) = known.as_ref() {
         return Ok(has_name(set, name));
@@ -208,18 +210,19 @@ fn has_name(set: &BTreeSet<Name>, name: &Name) -> bool
 fn learn_inner(
     alloc: Global,
     known: &mut Option<BTreeSet<Name>>,
+    table: &Name,
     shape: &Shape,
 ) -> Result<(), NoMemory>
     ensures { OnOk result
         ((it : Table) (ns : List Name)
         → shape.now ≡ shape_of it
         → IsTrueOf ns known.old
-        → IsTrueOf (inner_names it ++ ns) known.new) }
+        → IsTrueOf (names_inside (table.now, it) ++ ns) known.new) }
 {
     match known {
         None => Ok(()),
         Some(set) => {
-            add_inner(alloc, set, shape)?;
+            add_inner(alloc, set, table, shape)?;
             Ok(())
         }
     }
@@ -250,19 +253,20 @@ fn learn_foreign(
 fn relearn_inner(
     alloc: Global,
     known: &mut Option<BTreeSet<Name>>,
+    table: &Name,
     old: &Shape,
     new: &Shape,
 ) -> Result<(), NoMemory>
     ensures { OnOk result
-        ((tables : TableMap) (n : Name) (was it : Table)
+        ((tables : TableMap) (was it : Table)
         → old.now ≡ shape_of was
         → new.now ≡ shape_of it
-        → lookup (is_named n) tables ≡ Some was
-        → IsTrueOf (names_in inner_names tables) known.old
-        → IsTrueOf (names_in inner_names (set_value (is_named n) tables it)) known.new) }
+        → lookup (is_named table.now) tables ≡ Some was
+        → IsTrueOf (names_in names_inside tables) known.old
+        → IsTrueOf (names_in names_inside (set_value (is_named table.now) tables it)) known.new) }
 {
     if inner_stay(old, new) {
-        learn_inner(alloc, known, new)?;
+        learn_inner(alloc, known, table, new)?;
         return Ok(());
     }
     *known = None;
@@ -281,8 +285,8 @@ fn relearn_foreign(
         → old.now ≡ shape_of was
         → new.now ≡ shape_of it
         → lookup (is_named n) tables ≡ Some was
-        → IsTrueOf (names_in foreign_names tables) known.old
-        → IsTrueOf (names_in foreign_names (set_value (is_named n) tables it)) known.new) }
+        → IsTrueOf (names_in foreign_inside tables) known.old
+        → IsTrueOf (names_in foreign_inside (set_value (is_named n) tables it)) known.new) }
 {
     if foreign_stay(old, new) {
         learn_foreign(alloc, known, new)?;
@@ -367,18 +371,18 @@ fn keys_stay(old: &[ForeignKey], new: &[ForeignKey]) -> bool
 
 #[tactic(auto, using(crate::proofs::TakenLemmas::sees_none, crate::proofs::TakenLemmas::sees_more, crate::proofs::TakenLemmas::sees_all))]
 fn see_inner(alloc: Global, tables: &[(Name, Held)]) -> Result<BTreeSet<Name>, NoMemory>
-    ensures { IfOk result (λ set. HasJust (names_in inner_names (tables_of tables.now)) set) }
+    ensures { IfOk result (λ set. HasJust (names_in names_inside (tables_of tables.now)) set) }
 {
     let mut set = BTreeSet::new(alloc);
     for entry in tables {
-        add_inner(alloc, &mut set, entry.1.shape())?;
+        add_inner(alloc, &mut set, &entry.0, entry.1.shape())?;
     }
     Ok(set)
 }
 
 #[tactic(auto, using(crate::proofs::TakenLemmas::sees_none, crate::proofs::TakenLemmas::sees_more, crate::proofs::TakenLemmas::sees_all))]
 fn see_foreign(alloc: Global, tables: &[(Name, Held)]) -> Result<BTreeSet<Name>, NoMemory>
-    ensures { IfOk result (λ set. HasJust (names_in foreign_names (tables_of tables.now)) set) }
+    ensures { IfOk result (λ set. HasJust (names_in foreign_inside (tables_of tables.now)) set) }
 {
     let mut set = BTreeSet::new(alloc);
     for entry in tables {
@@ -387,14 +391,20 @@ fn see_foreign(alloc: Global, tables: &[(Name, Held)]) -> Result<BTreeSet<Name>,
     Ok(set)
 }
 
-#[tactic(auto, using(crate::proofs::TakenLemmas::inner_gained))]
-fn add_inner(alloc: Global, set: &mut BTreeSet<Name>, shape: &Shape) -> Result<(), NoMemory>
+fn add_inner(
+    alloc: Global,
+    set: &mut BTreeSet<Name>,
+    table: &Name,
+    shape: &Shape,
+) -> Result<(), NoMemory>
     ensures { OnOk result
-        ((it : Table) → shape.now ≡ shape_of it → Gains (inner_names it) set.old set.new) }
+        ((it : Table)
+        → shape.now ≡ shape_of it
+        → Gains (names_inside (table.now, it)) set.old set.new) }
 {
-    add_key(alloc, set, &shape.key)?;
-    add_uniques(alloc, set, shape.uniques.as_slice())?;
-    add_indexes(alloc, set, shape.indexes.as_slice())?;
+    add_key(alloc, set, table, &shape.key)?;
+    add_uniques(alloc, set, table, shape.uniques.as_slice())?;
+    add_indexes(alloc, set, table, shape.indexes.as_slice())?;
     Ok(())
 }
 
@@ -408,34 +418,50 @@ fn add_foreign(alloc: Global, set: &mut BTreeSet<Name>, shape: &Shape) -> Result
 }
 
 #[tactic(auto, using(crate::proofs::TakenLemmas::gains_none))]
-fn add_key(alloc: Global, set: &mut BTreeSet<Name>, key: &Option<Key>) -> Result<(), NoMemory>
-    ensures { OnOk result (Gains (map (λ k. k.name) (key_list key.now)) set.old set.new) }
+fn add_key(
+    alloc: Global,
+    set: &mut BTreeSet<Name>,
+    table: &Name,
+    key: &Option<Key>,
+) -> Result<(), NoMemory>
+    ensures { OnOk result
+        (Gains (map (λ k. beside table.now k.name) (key_list key.now)) set.old set.new) }
 {
     match key {
         None => Ok(()),
         Some(key) => {
-            add_name(alloc, set, &key.name)?;
+            add_placed(alloc, set, table, &key.name)?;
             Ok(())
         }
     }
 }
 
 #[tactic(auto, using(crate::proofs::TakenLemmas::gathers_none, crate::proofs::TakenLemmas::gathers_more, crate::proofs::TakenLemmas::gathers_all))]
-fn add_uniques(alloc: Global, set: &mut BTreeSet<Name>, uniques: &[Unique]) -> Result<(), NoMemory>
-    ensures { OnOk result (Gains (map (λ u. u.name) uniques.now) set.old set.new) }
+fn add_uniques(
+    alloc: Global,
+    set: &mut BTreeSet<Name>,
+    table: &Name,
+    uniques: &[Unique],
+) -> Result<(), NoMemory>
+    ensures { OnOk result (Gains (map (λ u. beside table.now u.name) uniques.now) set.old set.new) }
 {
     for unique in uniques {
-        add_name(alloc, set, &unique.name)?;
+        add_placed(alloc, set, table, &unique.name)?;
     }
     Ok(())
 }
 
 #[tactic(auto, using(crate::proofs::TakenLemmas::gathers_none, crate::proofs::TakenLemmas::gathers_more, crate::proofs::TakenLemmas::gathers_all))]
-fn add_indexes(alloc: Global, set: &mut BTreeSet<Name>, indexes: &[Index]) -> Result<(), NoMemory>
-    ensures { OnOk result (Gains (map (λ i. i.name) indexes.now) set.old set.new) }
+fn add_indexes(
+    alloc: Global,
+    set: &mut BTreeSet<Name>,
+    table: &Name,
+    indexes: &[Index],
+) -> Result<(), NoMemory>
+    ensures { OnOk result (Gains (map (λ i. beside table.now i.name) indexes.now) set.old set.new) }
 {
     for index in indexes {
-        add_name(alloc, set, &index.name)?;
+        add_placed(alloc, set, table, &index.name)?;
     }
     Ok(())
 }
@@ -459,5 +485,18 @@ fn add_name(alloc: Global, set: &mut BTreeSet<Name>, name: &Name) -> Result<(), 
     ensures { OnOk result (Gains (name.now ∷ []) set.old set.new) }
 {
     set.insert(name.duplicate(alloc)?)?;
+    Ok(())
+}
+
+#[tactic(auto, using(crate::proofs::TakenLemmas::gained))]
+fn add_placed(
+    alloc: Global,
+    set: &mut BTreeSet<Name>,
+    table: &Name,
+    name: &Name,
+) -> Result<(), NoMemory>
+    ensures { OnOk result (Gains (beside table.now name.now ∷ []) set.old set.new) }
+{
+    set.insert(placed(alloc, table, name)?)?;
     Ok(())
 }

@@ -1,7 +1,7 @@
 -- addPrimaryKey: a table gets a primary key.
 use Rattle.std.specs.Option.{option_map, unwrap_or}
 use Rattle.std.specs.Prelude.{Bool, List, Option, Result, Some, [], codes, ◌&&◌, ◌∷◌}
-use Rattle.lq_base.specs.Name.{is_name}
+use Rattle.lq_base.specs.Name.{is_name, is_object, text_of, within}
 use Rattle.lq_base.specs.Options.{if_there}
 use Rattle.lq_base.specs.declared.dialect.Dialect.{Dialect}
 use Rattle.lq_base.specs.declared.dialect.Dialect.TheVariants.{Mysql, Postgresql}
@@ -13,33 +13,33 @@ use Rattle.lq_model.specs.Catalogue.{Catalogue, the_table, with_table}
 use Rattle.lq_model.specs.DefaultName.{key_name}
 use Rattle.lq_model.specs.Effect.{effect_of}
 use Rattle.lq_model.specs.TakesBack.{is_firm as are_firm}
-use Rattle.lq_model.specs.Written.{Row, change_of, texts}
+use Rattle.lq_model.specs.Written.{Row, change_of, schema_row, texts}
 use Rattle.lq_model.specs.declared.constraint.Key.{Key}
 use Rattle.lq_model.specs.declared.statement.Statement.{Statement}
 use Rattle.lq_model.specs.declared.statement.Statement.TheVariants as statement
 use Rattle.lq_tree.specs.Found.{Taken}
 use Rattle.lq_tree.specs.Given.{a_name}
 use Rattle.lq_tree.specs.Items.{are_some}
-use Rattle.lq_tree.specs.Keys.{Keys, a_change, fields, optional, required, ◌⊛◌}
+use Rattle.lq_tree.specs.Keys.{Keys, a_change_in, fields, optional, required, ◌⊛◌}
 use Rattle.lq_tree.specs.Names.{some_names}
 use Rattle.lq_primary_keys.specs.Drops.{drops_key}
 use Rattle.lq_primary_keys.specs.declared.add_primary_key.AddPrimaryKey.{AddPrimaryKey}
 
 -- its keys
 
-abbrev pub keys : Keys AddPrimaryKey
+abbrev pub keys : Keys (Name → AddPrimaryKey)
 keys =
-    fields (λ table columns name. record { table_name = table; column_names = columns; constraint_name = name })
+    fields (λ table columns name schema. record { table_name = within schema table; column_names = columns; constraint_name = name })
     ⊛ required (codes "tableName") a_name
     ⊛ required (codes "columnNames") some_names
     ⊛ optional (codes "constraintName") a_name
 
-unfoldable pub add_primary_key : Taken AddPrimaryKey
-add_primary_key = a_change keys
+unfoldable pub add_primary_key : Dialect → Taken AddPrimaryKey
+add_primary_key d = a_change_in d keys
 
 -- its names are names, and it has a column
 abbrev pub is_for : Dialect → AddPrimaryKey → Bool
-is_for d x = is_name x.table_name && (are_some is_name x.column_names && if_there is_name x.constraint_name)
+is_for d x = is_object d x.table_name && (are_some is_name x.column_names && if_there is_name x.constraint_name)
 
 -- what it does
 
@@ -72,9 +72,10 @@ inverse d x = Some (drops_key d x.table_name (name_of d x) ∷ [])
 
 abbrev pub rows : AddPrimaryKey → List Row
 rows x =
-    (codes "tableName", Some (text x.table_name))
+    (codes "tableName", Some (text (text_of x.table_name)))
     ∷ (codes "columnNames", Some (list (texts x.column_names)))
     ∷ (codes "constraintName", option_map (λ name. text name) x.constraint_name)
+    ∷ (codes "schemaName", schema_row x.table_name)
     ∷ []
 
 abbrev pub canonical_of : AddPrimaryKey → CanonicalChange

@@ -1,14 +1,14 @@
 -- That addPrimaryKey keeps its promises.
 use Rattle.std.proofs.Common.{ap, subst, sym, ◌∙◌}
 use Rattle.std.specs.Prelude.{[], codes, refl, true, ◌≡◌}
-use Rattle.lq_base.specs.Name.{is_name}
+use Rattle.lq_base.specs.Name.{is_name, is_object}
 use Rattle.lq_base.specs.Options.{if_there}
 use Rattle.lq_base.specs.declared.dialect.Dialect.{Dialect}
 use Rattle.lq_base.specs.declared.dialect.Dialect.TheVariants.{Mysql, Postgresql}
 use Rattle.lq_model.proofs.DefaultNames.{default_named}
 use Rattle.lq_model.proofs.Effects.{does_so, one_becomes, restores_so, some_same}
 use Rattle.lq_model.proofs.Lists.{and_left, and_right, and_true, named_itself}
-use Rattle.lq_model.proofs.Told.{keys_told, names_told, text_told, texts_told}
+use Rattle.lq_model.proofs.Told.{keys_told, names_told, object_told, texts_told}
 use Rattle.lq_model.specs.Changes.{AreReturns, AreStatements, AreTold, HaveEffect, TakeBack}
 use Rattle.lq_model.specs.DefaultName.{key_name}
 use Rattle.lq_model.specs.Effect.{Becomes, GoesBack}
@@ -25,10 +25,11 @@ use Rattle.lq_primary_keys.specs.declared.add_primary_key.AddPrimaryKey.{AddPrim
 use Rattle.std.specs.List.{list_all}
 use Rattle.lq_model.specs.Statement.{is_statement}
 use Rattle.lq_primary_keys.specs.Drops.{drops_key}
+use Rattle.lq_base.proofs.BesideLemmas.{is_whole}
 
-name_named : (d : Dialect) (x : AddPrimaryKey) → is_name x.table_name ≡ true → if_there is_name x.constraint_name ≡ true → is_name (name_of d x) ≡ true
-name_named Postgresql x h k = named x.constraint_name (key_name Postgresql x.table_name) k (default_named Postgresql x.table_name [] h refl).0
-name_named Mysql x h k = (default_named Mysql x.table_name [] h refl).0
+name_named : (d : Dialect) (x : AddPrimaryKey) → is_object d x.table_name ≡ true → if_there is_name x.constraint_name ≡ true → is_name (name_of d x) ≡ true
+name_named Postgresql x h k = named x.constraint_name (key_name Postgresql x.table_name) k (default_named Postgresql x.table_name [] (is_whole Postgresql x.table_name h) refl).0
+name_named Mysql x h k = (default_named Mysql x.table_name [] (is_whole Mysql x.table_name h) refl).0
 
 name_right : (d : Dialect) (x : AddPrimaryKey) → is_key_name d (name_of d x) ≡ true
 unfolding key_name
@@ -37,14 +38,14 @@ name_right Mysql x = named_itself primary
 
 pub spelled : AreStatements is_for gives
 spelled d x h =
-    let t = and_left (is_name x.table_name) _ h in
-    let more = and_right (is_name x.table_name) _ h in
+    let t = and_left (is_object d x.table_name) _ h in
+    let more = and_right (is_object d x.table_name) _ h in
     rw (t, name_named d x t (and_right (are_some is_name x.column_names) _ more), name_right d x, listed x.column_names (and_left (are_some is_name x.column_names) _ more)) refl
 
 pub returned : AreReturns is_for inverse
 returned d x undoing right taken =
-    let t = and_left (is_name x.table_name) _ right in
-    let more = and_right (is_name x.table_name) _ right in
+    let t = and_left (is_object d x.table_name) _ right in
+    let more = and_right (is_object d x.table_name) _ right in
     let one = key_spelled d x.table_name (name_of d x) t (name_named d x t (and_right (are_some is_name x.column_names) _ more)) in
     subst (λ ss. list_all (is_statement d) ss ≡ true) (some_same taken) (and_true (is_statement d (drops_key d x.table_name (name_of d x))) true one refl)
 
@@ -66,4 +67,4 @@ same x y table columns name = rw (table, columns, name) refl
 pub told : AreTold is_for canonical_of
 told d x y right also e =
     let is : rows x ≡ rows y = keys_told (codes "addPrimaryKey") (codes "addPrimaryKey") (rows x) (rows y) refl refl e in
-    same x y (text_told (ap (nth_value 0) is)) (names_told x.column_names y.column_names (ap (nth_value 1) is)) (texts_told x.constraint_name y.constraint_name (ap (nth_value 2) is))
+    same x y (object_told d x.table_name y.table_name (and_left (is_object d x.table_name) _ right) (and_left (is_object d y.table_name) _ also) (ap (nth_value 0) is) (ap (nth_value 3) is)) (names_told x.column_names y.column_names (ap (nth_value 1) is)) (texts_told x.constraint_name y.constraint_name (ap (nth_value 2) is))

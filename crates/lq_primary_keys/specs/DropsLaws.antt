@@ -1,10 +1,11 @@
 -- That primary keys can be dropped, and that dropping one takes its adding back.
-use Rattle.std.specs.Prelude.{Ok, [], refl, true, ◌∷◌, ◌≡◌}
-use Rattle.lq_base.specs.Name.{is_name}
+use Rattle.std.specs.Prelude.{Ok, [], true, ◌∷◌, ◌≡◌}
+use Rattle.lq_base.specs.Name.{is_name, is_object}
 use Rattle.lq_base.specs.declared.dialect.Dialect.{Dialect}
 use Rattle.lq_base.specs.declared.dialect.Dialect.TheVariants.{Mysql, Postgresql}
 use Rattle.lq_base.specs.declared.name.Name.{Name}
 use Rattle.lq_model.proofs.Effects.{one_back_where, one_becomes}
+use Rattle.lq_model.proofs.Lists.{and_true}
 use Rattle.lq_model.proofs.UndoConstraints.{drop_after_key}
 use Rattle.lq_model.proofs.UndoMysql.{drop_primary_key_after}
 use Rattle.lq_model.specs.Catalogue.{Catalogue, the_table, with_table}
@@ -17,8 +18,8 @@ use Rattle.lq_model.specs.declared.constraint.Key.{Key}
 use Rattle.lq_model.specs.declared.statement.Statement.TheVariants.{AddPrimaryKey, DropConstraint, DropPrimaryKey}
 use Rattle.lq_primary_keys.specs.Drops.{drops_key, key_dropped}
 
-pub key_spelled : (d : Dialect) (t n : Name) → is_name t ≡ true → is_name n ≡ true → is_statement d (drops_key d t n) ≡ true
-key_spelled Postgresql t n h k = rw (h, k) refl
+pub key_spelled : (d : Dialect) (t n : Name) → is_object d t ≡ true → is_name n ≡ true → is_statement d (drops_key d t n) ≡ true
+key_spelled Postgresql t n h k = and_true (is_object Postgresql t) (is_name n) h k
 key_spelled Mysql t n h k = h
 
 pub key_becomes : (d : Dialect) (t n : Name) (c e : Catalogue) → run User d (drops_key d t n ∷ []) c ≡ Ok e → with_table c t (key_dropped d n (the_table c t)) ≡ e

@@ -9,9 +9,9 @@ use crate::drops::key_drop;
 use lq_base::{Dialect, Duplicate, Items, KindFault, Name, NoMemory, both};
 use lq_model::{
     Canon, Change, Column, Field, Key, Look, SqlText, Statement, Undo, key_name, name_field,
-    write_change,
+    schema_field, write_change,
 };
-use lq_tree::{Node, known, optional, public, required};
+use lq_tree::{Node, catalogue, in_schema, known, optional, required, schema};
 use std::alloc::Global;
 
 /// A table gets a primary key (Liquibase's documentation, "addPrimaryKey").
@@ -75,14 +75,16 @@ impl AddPrimaryKey {
         dialect: Dialect,
         _sql: &P,
     ) -> Result<AddPrimaryKey, KindFault>
-        ensures read { Reads (add_primary_key node.now) result }
+        ensures read { Reads (add_primary_key dialect node.now) result }
         ensures right { IfOk result (λ x. is_for dialect x ≡ true) }
     {
         known(alloc, node, &KEYS)?;
-        let table_name = required(alloc, node, "tableName")?;
+        let table: Name = required(alloc, node, "tableName")?;
         let column_names = required(alloc, node, "columnNames")?;
         let constraint_name = optional(alloc, node, "constraintName")?;
-        public(alloc, node)?;
+        let schema = schema(alloc, node, dialect, "schemaName")?;
+        catalogue(alloc, node)?;
+        let table_name = in_schema(alloc, dialect, &schema, &table)?;
         Ok(AddPrimaryKey {
             table_name,
             column_names,
@@ -170,12 +172,13 @@ impl Change for AddPrimaryKey {
             to,
             "addPrimaryKey",
             &[
-                ("tableName", Some(Field::Text(self.table_name.as_key()))),
+                ("tableName", Some(Field::Text(self.table_name.text()))),
                 (
                     "columnNames",
                     Some(Field::Names(self.column_names.as_slice())),
                 ),
                 ("constraintName", name_field(&self.constraint_name)),
+                ("schemaName", schema_field(&self.table_name)),
             ],
         )
     }

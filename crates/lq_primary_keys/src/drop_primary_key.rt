@@ -6,9 +6,10 @@ ghost use Rattle.lq_primary_keys.specs.Drops.{drops_key};
 use crate::drops::key_drop;
 use lq_base::{Dialect, Duplicate, Items, KindFault, Name, NoMemory};
 use lq_model::{
-    Canon, Change, Field, Look, SqlText, Statement, Undo, key_name, name_field, write_change,
+    Canon, Change, Field, Look, SqlText, Statement, Undo, key_name, name_field, schema_field,
+    write_change,
 };
-use lq_tree::{Node, known, optional, public, required};
+use lq_tree::{Node, catalogue, in_schema, known, optional, required, schema};
 use std::alloc::Global;
 
 /// The primary key of a table is dropped (Liquibase's documentation, "dropPrimaryKey").
@@ -36,13 +37,15 @@ impl DropPrimaryKey {
         dialect: Dialect,
         _sql: &P,
     ) -> Result<DropPrimaryKey, KindFault>
-        ensures read { Reads (drop_primary_key node.now) result }
+        ensures read { Reads (drop_primary_key dialect node.now) result }
         ensures right { IfOk result (λ x. is_for dialect x ≡ true) }
     {
         known(alloc, node, &KEYS)?;
-        let table_name = required(alloc, node, "tableName")?;
+        let table: Name = required(alloc, node, "tableName")?;
         let constraint_name = optional(alloc, node, "constraintName")?;
-        public(alloc, node)?;
+        let schema = schema(alloc, node, dialect, "schemaName")?;
+        catalogue(alloc, node)?;
+        let table_name = in_schema(alloc, dialect, &schema, &table)?;
         Ok(DropPrimaryKey {
             table_name,
             constraint_name,
@@ -112,8 +115,9 @@ impl Change for DropPrimaryKey {
             to,
             "dropPrimaryKey",
             &[
-                ("tableName", Some(Field::Text(self.table_name.as_key()))),
+                ("tableName", Some(Field::Text(self.table_name.text()))),
                 ("constraintName", name_field(&self.constraint_name)),
+                ("schemaName", schema_field(&self.table_name)),
             ],
         )
     }

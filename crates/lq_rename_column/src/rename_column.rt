@@ -3,8 +3,10 @@ ghost use Rattle.lq_tree.specs.Found.{Reads};
 ghost use Rattle.lq_rename_column.specs.RenameColumn.{is_for, rename_column, renames};
 
 use lq_base::{Dialect, Duplicate, Items, Kind, KindFault, Name, NoMemory, both};
-use lq_model::{Canon, Change, Field, Look, SqlText, Statement, Undo, kind_field, write_change};
-use lq_tree::{Node, known, optional, public, required};
+use lq_model::{
+    Canon, Change, Field, Look, SqlText, Statement, Undo, kind_field, schema_field, write_change,
+};
+use lq_tree::{Node, catalogue, in_schema, known, optional, required, schema};
 use std::alloc::Global;
 
 /// A column gets another name (Liquibase's documentation, "renameColumn").
@@ -50,15 +52,17 @@ impl RenameColumn {
         dialect: Dialect,
         _sql: &P,
     ) -> Result<RenameColumn, KindFault>
-        ensures read { Reads (rename_column node.now) result }
+        ensures read { Reads (rename_column dialect node.now) result }
         ensures right { IfOk result (λ x. is_for dialect x ≡ true) }
     {
         known(alloc, node, &KEYS)?;
-        let table_name = required(alloc, node, "tableName")?;
+        let table: Name = required(alloc, node, "tableName")?;
         let old_column_name = required(alloc, node, "oldColumnName")?;
         let new_column_name = required(alloc, node, "newColumnName")?;
         let column_data_type = optional(alloc, node, "columnDataType")?;
-        public(alloc, node)?;
+        let schema = schema(alloc, node, dialect, "schemaName")?;
+        catalogue(alloc, node)?;
+        let table_name = in_schema(alloc, dialect, &schema, &table)?;
         Ok(RenameColumn {
             table_name,
             old_column_name,
@@ -123,7 +127,7 @@ impl Change for RenameColumn {
             to,
             "renameColumn",
             &[
-                ("tableName", Some(Field::Text(self.table_name.as_key()))),
+                ("tableName", Some(Field::Text(self.table_name.text()))),
                 (
                     "oldColumnName",
                     Some(Field::Text(self.old_column_name.as_key())),
@@ -133,6 +137,7 @@ impl Change for RenameColumn {
                     Some(Field::Text(self.new_column_name.as_key())),
                 ),
                 ("columnDataType", kind_field(self.column_data_type)),
+                ("schemaName", schema_field(&self.table_name)),
             ],
         )
     }

@@ -1,6 +1,7 @@
 -- What takes a statement back: one statement for each that a change with an inverse gives, none for UPDATE.
 use Rattle.std.specs.Option.{option_to_list}
 use Rattle.std.specs.Prelude.{Bool, List, None, Ok, Option, Some, [], not, true, ◌++◌, ◌∷◌, ◌≡◌}
+use Rattle.lq_base.specs.Name.{beside}
 use Rattle.lq_base.specs.declared.dialect.Dialect.{Dialect}
 use Rattle.lq_base.specs.declared.dialect.Dialect.TheVariants.{Mysql, Postgresql}
 use Rattle.lq_model.specs.Catalogue.{Catalogue}
@@ -23,7 +24,7 @@ back d (SetNotNull t n) = Some (DropNotNull t n)
 back d (DropNotNull t n) = Some (SetNotNull t n)
 back d (Modify t n k nullable) = Some (Modify t n k (not nullable))
 back d (SetDefault t n l) = Some (DropDefault t n)
-back Postgresql (CreateIndex t i) = Some (DropIndex i.name None)
+back Postgresql (CreateIndex t i) = Some (DropIndex (beside t i.name) None)
 back Mysql (CreateIndex t i) = Some (DropIndex i.name (Some t))
 back Postgresql (AddPrimaryKey t k) = Some (DropConstraint t k.name)
 back Mysql (AddPrimaryKey t k) = Some (DropPrimaryKey t)

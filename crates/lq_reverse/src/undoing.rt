@@ -2,7 +2,7 @@ ghost use Rattle.std.specs.Prelude.{◌≡◌, IfOk, Some};
 ghost use Rattle.lq_model.specs.declared.statement.Statement.TheVariants.{AddForeignKey, AddPrimaryKey, AddUnique, CreateIndex, DropConstraint, Modify};
 ghost use Rattle.lq_reverse.specs.Back.{back};
 
-use lq_base::{Dialect, Duplicate, Kind, Name, NoMemory, both};
+use lq_base::{Dialect, Duplicate, Kind, Name, NoMemory, both, placed};
 use lq_model::{ForeignKey, Index, Key, Statement, Unique};
 use std::alloc::Global;
 
@@ -118,7 +118,7 @@ fn index_dropped(
 {
     match dialect {
         Dialect::Postgresql => Ok(Some(Statement::DropIndex {
-            name: index.name.duplicate(alloc)?,
+            name: placed(alloc, table, &index.name)?,
             table: None,
         })),
         Dialect::Mysql => {

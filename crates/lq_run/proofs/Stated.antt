@@ -40,43 +40,53 @@ stated_lock Mysql = refl
 
 pub stated_lock_row : (d : Dialect) → is_statement d lock_row_made ≡ true
 unfolding lock_table lock_column lock_order lock_value
-stated_lock_row d = refl
+stated_lock_row Postgresql = refl
+stated_lock_row Mysql = refl
 
 pub stated_taken : (d : Dialect) (at : ℤ) (by : List ℕ) → is_statement d (lock_taken at by) ≡ true
 unfolding lock_table lock_column lock_value
-stated_taken d at by = refl
+stated_taken Postgresql at by = refl
+stated_taken Mysql at by = refl
 
 pub taken_made : {F : Type 0} (d : Dialect) (result : Result Statement F) (at : ℤ) (by : List ℕ) → IfOk result (λ s. s ≡ lock_taken at by) → IfOk result (λ s. is_statement d s ≡ true)
 taken_made d result at by is = if_made d result (lock_taken at by) is (stated_taken d at by)
 
 pub stated_freed : (d : Dialect) → is_statement d lock_freed ≡ true
 unfolding lock_table lock_column lock_value
-stated_freed d = refl
+stated_freed Postgresql = refl
+stated_freed Mysql = refl
 
 pub stated_marked : (d : Dialect) (by : List ℕ) → is_statement d (lock_marked by) ≡ true
 unfolding lock_table lock_column
-stated_marked d by = refl
+stated_marked Postgresql by = refl
+stated_marked Mysql by = refl
 
 pub stated_inserted : (d : Dialect) (row : Tracked) → row.order < 2 ^ 32 → is_statement d (row_inserted row) ≡ true
 unfolding log_table log_column log_order log_value
-stated_inserted d row h = and_true _ _ (place row.order h) (and_true _ _ (maybe_text row.md5sum) (and_true _ _ (maybe_text row.tag) refl))
+stated_inserted Postgresql row h = and_true _ _ (place row.order h) (and_true _ _ (maybe_text row.md5sum) (and_true _ _ (maybe_text row.tag) refl))
+stated_inserted Mysql row h = and_true _ _ (place row.order h) (and_true _ _ (maybe_text row.md5sum) (and_true _ _ (maybe_text row.tag) refl))
 
 pub stated_again : (d : Dialect) (row : Tracked) → row.order < 2 ^ 32 → is_statement d (row_again row) ≡ true
 unfolding log_table log_column again_order log_value Rattle.lq_model.specs.declared.test.Test.TheBlock.hidden-the_row-Test-0 denote.Hole.Carrier.hidden
-stated_again d row h = and_true _ _ (and_true _ _ (place row.order h) (and_true _ _ (maybe_text row.md5sum) refl)) refl
+stated_again Postgresql row h = and_true _ _ (and_true _ _ (place row.order h) (and_true _ _ (maybe_text row.md5sum) refl)) refl
+stated_again Mysql row h = and_true _ _ (and_true _ _ (place row.order h) (and_true _ _ (maybe_text row.md5sum) refl)) refl
 
 pub stated_deleted : (d : Dialect) (of : Identity) → is_statement d (row_deleted of) ≡ true
 unfolding log_table log_column Rattle.lq_model.specs.declared.test.Test.TheBlock.hidden-the_row-Test-0 denote.Hole.Carrier.hidden
-stated_deleted d of = refl
+stated_deleted Postgresql of = refl
+stated_deleted Mysql of = refl
 
 pub stated_filled : (d : Dialect) (of : Identity) (sum : List ℕ) → is_statement d (sum_filled of sum) ≡ true
 unfolding log_table log_column Rattle.lq_model.specs.declared.test.Test.TheBlock.hidden-the_row-Test-0 denote.Hole.Carrier.hidden
-stated_filled d of sum = refl
+stated_filled Postgresql of sum = refl
+stated_filled Mysql of sum = refl
 
 pub stated_tagged : (d : Dialect) (of : Identity) (tag : List ℕ) → is_statement d (tag_set of tag) ≡ true
 unfolding log_table log_column Rattle.lq_model.specs.declared.test.Test.TheBlock.hidden-the_row-Test-0 denote.Hole.Carrier.hidden
-stated_tagged d of tag = refl
+stated_tagged Postgresql of tag = refl
+stated_tagged Mysql of tag = refl
 
 pub stated_cleared : (d : Dialect) → is_statement d sums_cleared ≡ true
 unfolding log_table log_column
-stated_cleared d = refl
+stated_cleared Postgresql = refl
+stated_cleared Mysql = refl

@@ -2,7 +2,7 @@
 use Rattle.std.proofs.Common.{ap, subst, sym, ◌∙◌}
 use Rattle.std.specs.List.{list_all}
 use Rattle.std.specs.Prelude.{Bool, Err, Ok, Option, Result, Some, [], codes, false, pos, refl, true, ℕ, ◌||◌, ◌∷◌, ◌≡◌}
-use Rattle.lq_base.specs.Name.{is_named}
+use Rattle.lq_base.specs.Name.{is_named, is_object}
 use Rattle.lq_base.specs.declared.dialect.Dialect.{Dialect}
 use Rattle.lq_base.specs.declared.dialect.Dialect.TheVariants.{Mysql, Postgresql}
 use Rattle.lq_base.specs.declared.reason.Reason.{Reason}
@@ -20,8 +20,10 @@ use Rattle.lq_model.specs.TakesBack.{DropSequenceTakesBack}
 use Rattle.lq_model.specs.Written.{nth_value}
 use Rattle.lq_model.specs.declared.caller.By.TheVariants.{User}
 use Rattle.lq_model.specs.declared.statement.Statement.{Statement}
-use Rattle.lq_model.specs.declared.statement.Statement.TheVariants.{CreateSequence}
+use Rattle.lq_model.specs.declared.statement.Statement.TheVariants.{CreateSequence, DropSequence}
+use Rattle.lq_base.proofs.BesideLemmas.{object_of_name}
 use Rattle.lq_model.proofs.Decide.{refuses_exists, settles}
+use Rattle.lq_model.proofs.Lists.{and_true}
 use Rattle.lq_model.proofs.Sequences.{drop_sequence_after}
 use Rattle.lq_model.proofs.Told.{keys_told, text_told}
 use Rattle.lq_samples.specs.NewSequence.{canonical_of, effect, gives, inverse, is_for, is_fresh, rows}
@@ -33,11 +35,11 @@ some_same : {X : Type 0} {x y : X} → (let o : Option X = Some x in o) ≡ Some
 some_same h = Prim.cc
 
 pub spelled : AreStatements is_for gives
-spelled Postgresql name h = rw h refl
+spelled Postgresql name h = and_true (is_statement Postgresql (CreateSequence name (pos 1) (pos 1))) true (and_true (is_object Postgresql name) _ (object_of_name Postgresql name h) refl) refl
 spelled Mysql name h = absurd Prim.cc
 
 pub returned : AreReturns is_for inverse
-returned Postgresql name undoing h taken = subst (λ ss. list_all (is_statement Postgresql) ss ≡ true) (some_same taken) (rw h refl)
+returned Postgresql name undoing h taken = subst (λ ss. list_all (is_statement Postgresql) ss ≡ true) (some_same taken) (and_true (is_statement Postgresql (DropSequence name)) true (object_of_name Postgresql name h) refl)
 returned Mysql name undoing h taken = absurd Prim.cc
 
 or_nothing : (b : Bool) → (b || false) ≡ b

@@ -1,5 +1,6 @@
 -- What ALTER reads is the same where names have left out their quotes.
 use Rattle.std.proofs.Common.{◌≡◌, true, false, if◌then◌else◌, List, None, refl}
+use Rattle.lq_base.specs.Name.{beside, text_of}
 use Rattle.lq_base.specs.declared.dialect.Dialect.{Dialect}
 use Rattle.lq_base.specs.declared.dialect.Dialect.TheVariants.{Postgresql, Mysql}
 use Rattle.lq_base.specs.declared.name.Name.{Name}
@@ -7,18 +8,18 @@ use Rattle.lq_model.specs.SqlAlter.{add, add_column, add_constraint, alter, alte
 use Rattle.lq_model.specs.SqlColumn.{added_column}
 use Rattle.lq_model.specs.SqlConstraint.{begins_constraint, table_constraint}
 use Rattle.lq_model.specs.SqlParser.{eat, expect, skip}
-use Rattle.lq_model.specs.SqlPart.{column_kind, literal, name}
+use Rattle.lq_model.specs.SqlPart.{column_kind, literal, name, object}
 use Rattle.lq_model.specs.declared.statement.Statement.TheVariants.{AddColumn, DropColumn, DropConstraint, DropDefault, DropForeignKey, DropNotNull, DropPrimaryKey, DropUnique, Modify, RenameColumn, RenameSequence, RenameTable, RenameView, SetDefault, SetNotNull}
 use Rattle.lq_model.specs.declared.word.Word.{Word}
 use Rattle.lq_model.specs.declared.word.WordKind.{WordKind}
 use Rattle.lq_model.specs.declared.word.WordKind.TheVariants as word
 use Rattle.lq_spelling.proofs.QuoteParts.{Blind, blind_along, blind_by, blind_eat, blind_expect, blind_if, blind_pure, blind_refuse, blind_skip, blind_so, blind_test, blind_then, stays_pure}
 use Rattle.lq_spelling.proofs.QuoteTables.{blind_added, blind_constraint, no_constraint}
-use Rattle.lq_spelling.proofs.QuoteTests.{blind_kind, blind_literal, blind_name}
+use Rattle.lq_spelling.proofs.QuoteTests.{blind_kind, blind_literal, blind_name, blind_object}
 
-blind_new : Blind false new_name
+blind_new : (old : Name) → Blind false (new_name old)
 unfolding new_name
-blind_new = blind_then false (expect word.To) _ (blind_expect word.To refl) (λ a. blind_name)
+blind_new old = blind_then false (expect word.To) _ (blind_expect word.To refl) (λ a. blind_then false name _ blind_name (λ to. blind_pure false (beside old (text_of to))))
 
 blind_add : (d : Dialect) (table : Name) → Blind true (add d table)
 unfolding add add_constraint add_column
@@ -81,13 +82,13 @@ blind_alter_column d table =
 
 pub blind_rename_to : (table : Name) → Blind false (rename_table_to table)
 unfolding rename_table_to
-blind_rename_to table = blind_then false new_name _ blind_new (λ to. blind_pure false (RenameTable table to))
+blind_rename_to table = blind_then false (new_name table) _ (blind_new table) (λ to. blind_pure false (RenameTable table to))
 
 blind_rename : (table : Name) → Blind false (rename_part table)
 unfolding rename_part rename_column
 blind_rename table =
     blind_then false (eat word.Column) _ (blind_eat word.Column refl) (λ column. blind_if false column _ _
-    (blind_then false name _ blind_name (λ column. blind_then false new_name _ blind_new (λ to. blind_pure false (RenameColumn table column to))))
+    (blind_then false name _ blind_name (λ column. blind_then false (expect word.To) _ (blind_expect word.To refl) (λ a. blind_then false name _ blind_name (λ to. blind_pure false (RenameColumn table column to)))))
     (blind_rename_to table))
 
 blind_modify : (table : Name) → Blind false (modify table)
@@ -98,7 +99,7 @@ blind_modify table =
 
 blind_alter_table : (d : Dialect) → Blind true (alter_table d)
 unfolding alter_table
-blind_alter_table d = blind_then true name _ blind_name (λ table. blind_by true (alter_table_by d table) (by d table) (none d table))
+blind_alter_table d = blind_then true (object d) _ (blind_object d) (λ table. blind_by true (alter_table_by d table) (by d table) (none d table))
   where
     by : (d : Dialect) (table : Name) (k : WordKind) → Blind true (alter_table_by d table k)
     by d table word.Add = blind_then true skip _ blind_skip (λ a. blind_add d table)
@@ -112,13 +113,13 @@ blind_alter_table d = blind_then true name _ blind_name (λ table. blind_by true
     none Postgresql table i = refl
     none Mysql table i = refl
 
-blind_alter_view : Blind false alter_view
+blind_alter_view : (d : Dialect) → Blind false (alter_view d)
 unfolding alter_view
-blind_alter_view = blind_then false name _ blind_name (λ view. blind_then false (expect word.Rename) _ (blind_expect word.Rename refl) (λ a. blind_then false new_name _ blind_new (λ to. blind_pure false (RenameView view to))))
+blind_alter_view d = blind_then false (object d) _ (blind_object d) (λ view. blind_then false (expect word.Rename) _ (blind_expect word.Rename refl) (λ a. blind_then false (new_name view) _ (blind_new view) (λ to. blind_pure false (RenameView view to))))
 
-blind_alter_sequence : Blind false alter_sequence
+blind_alter_sequence : (d : Dialect) → Blind false (alter_sequence d)
 unfolding alter_sequence
-blind_alter_sequence = blind_then false name _ blind_name (λ s. blind_then false (expect word.Rename) _ (blind_expect word.Rename refl) (λ a. blind_then false new_name _ blind_new (λ to. blind_pure false (RenameSequence s to))))
+blind_alter_sequence d = blind_then false (object d) _ (blind_object d) (λ s. blind_then false (expect word.Rename) _ (blind_expect word.Rename refl) (λ a. blind_then false (new_name s) _ (blind_new s) (λ to. blind_pure false (RenameSequence s to))))
 
 pub blind_alter : (d : Dialect) → Blind true (alter d)
 unfolding alter
@@ -126,8 +127,8 @@ blind_alter d = blind_by true (alter_by d) (by d) (none d)
   where
     by : (d : Dialect) (k : WordKind) → Blind true (alter_by d k)
     by d word.Table = blind_then true skip _ blind_skip (λ a. blind_alter_table d)
-    by Postgresql word.View = blind_then true skip _ blind_skip (λ a. blind_so true alter_view blind_alter_view)
-    by Postgresql word.Sequence = blind_then true skip _ blind_skip (λ a. blind_so true alter_sequence blind_alter_sequence)
+    by Postgresql word.View = blind_then true skip _ blind_skip (λ a. blind_so true (alter_view Postgresql) (blind_alter_view Postgresql))
+    by Postgresql word.Sequence = blind_then true skip _ blind_skip (λ a. blind_so true (alter_sequence Postgresql) (blind_alter_sequence Postgresql))
     by d _ = blind_refuse true
 
     none : (d : Dialect) (i : List Word) → alter_by d word.Quoted i ≡ None

@@ -27,4 +27,4 @@ alike p blind d a b quoted plain x bare of_a of_b is =
 pub may_be_left_out : QuotesMayBeLeftOut
 unfolding statement_in query_in
 may_be_left_out d a b quoted plain bare of_a of_b =
-    ((λ s is. alike (statement d) (blind_end d) d a b quoted plain s bare of_a of_b is), (λ q is. alike query blind_query_end d a b quoted plain q bare of_a of_b is))
+    ((λ s is. alike (statement d) (blind_end d) d a b quoted plain s bare of_a of_b is), (λ q is. alike (query d) (blind_query_end d) d a b quoted plain q bare of_a of_b is))

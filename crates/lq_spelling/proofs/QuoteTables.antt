@@ -7,7 +7,7 @@ use Rattle.lq_model.specs.DefaultName.{foreign_name, key_name, unique_name}
 use Rattle.lq_model.specs.SqlColumn.{added_column, clause_by, column_clause, column_foreign, column_key, column_of, column_unique, column_with, differ, foreign_to, has_constraint, identity, stated_column, target}
 use Rattle.lq_model.specs.SqlConstraint.{begins_constraint, constraint_by, foreign, key, key_name_or, name_or, on_delete, on_delete_by, stated_name, table_constraint, unique}
 use Rattle.lq_model.specs.SqlParser.{Parser, ◌>>=◌, eat, enclosed, expect, given, kind, many, pure, refuse, skip}
-use Rattle.lq_model.specs.SqlPart.{column_kind, literal, name, name_of}
+use Rattle.lq_model.specs.SqlPart.{column_kind, literal, name, name_of, object}
 use Rattle.lq_model.specs.SqlTable.{column_item, create_table, table_item, table_of}
 use Rattle.lq_model.specs.SqlWord.{may_be_name}
 use Rattle.lq_model.specs.declared.table_item.ColumnClause.TheVariants as clause
@@ -20,7 +20,7 @@ use Rattle.lq_model.specs.declared.word.WordKind.{WordKind}
 use Rattle.lq_model.specs.declared.word.WordKind.TheVariants as word
 use Rattle.lq_spelling.proofs.QuoteLists.{blind_enclosed, blind_many}
 use Rattle.lq_spelling.proofs.QuoteParts.{Blind, Halted, Stays, blind_along, blind_by, blind_eat, blind_expect, blind_given, blind_if, blind_peek, blind_pure, blind_refuse, blind_skip, blind_so, blind_test, blind_then, halted_alike, halts, stays_given, stays_if, stays_pure, stays_refuse, stays_then}
-use Rattle.lq_spelling.proofs.QuoteTests.{blind_kind, blind_literal, blind_name}
+use Rattle.lq_spelling.proofs.QuoteTests.{blind_kind, blind_literal, blind_name, blind_object}
 
 -- what may follow where the reading may be stuck
 
@@ -57,10 +57,10 @@ blind_identity =
     blind_then false (expect word.Generated) _ (blind_expect word.Generated refl) (λ a. blind_then false (expect word.By) _ (blind_expect word.By refl) (λ b.
     blind_then false (expect word.Default) _ (blind_expect word.Default refl) (λ c. blind_then false (expect word.As) _ (blind_expect word.As refl) (λ e. blind_expect word.Identity refl))))
 
-blind_target : Blind false target
+blind_target : (d : Dialect) → Blind false (target d)
 unfolding target
-blind_target =
-    blind_then false name _ blind_name (λ table. blind_then false (expect word.Open) _ (blind_expect word.Open refl) (λ a. blind_then false name _ blind_name (λ column.
+blind_target d =
+    blind_then false (object d) _ (blind_object d) (λ table. blind_then false (expect word.Open) _ (blind_expect word.Open refl) (λ a. blind_then false name _ blind_name (λ column.
     blind_then false (expect word.Close) _ (blind_expect word.Close refl) (λ b. blind_pure false (record { table = table; column = column })))))
 
 -- a name is no clause, and nothing follows the clauses that begins with one
@@ -74,7 +74,7 @@ blind_clause d = blind_peek true (clause_by d) (by d) (λ i j n same is may. hal
     by d word.Default = blind_then true skip _ blind_skip (λ a. blind_then true literal _ blind_literal (λ it. blind_pure true (Some (clause.Default it))))
     by d word.Primary = blind_then true skip _ blind_skip (λ a. blind_then true (expect word.Key) _ (blind_expect word.Key refl) (λ b. blind_pure true (Some clause.PrimaryKey)))
     by d word.Unique = blind_then true skip _ blind_skip (λ a. blind_pure true (Some clause.Unique))
-    by d word.References = blind_then true skip _ blind_skip (λ a. blind_then true target _ blind_target (λ it. blind_pure true (Some (clause.References it))))
+    by d word.References = blind_then true skip _ blind_skip (λ a. blind_then true (target d) _ (blind_target d) (λ it. blind_pure true (Some (clause.References it))))
     by Postgresql word.Generated = blind_then true identity _ blind_identity (λ a. blind_pure true (Some clause.Numbered))
     by Mysql word.AutoIncrement = blind_then true skip _ blind_skip (λ a. blind_pure true (Some clause.Numbered))
     by d _ = blind_pure true None
@@ -158,11 +158,11 @@ blind_on_delete =
     by word.No = blind_then false skip _ blind_skip (λ a. blind_then false (expect word.Action) _ (blind_expect word.Action refl) (λ b. blind_pure false false))
     by _ = blind_refuse false
 
-blind_foreign : (table : Name) (stated : Option Name) → Blind false (foreign table stated)
+blind_foreign : (d : Dialect) (table : Name) (stated : Option Name) → Blind false (foreign d table stated)
 unfolding foreign
-blind_foreign table stated =
+blind_foreign d table stated =
     blind_then false (expect word.Foreign) _ (blind_expect word.Foreign refl) (λ a. blind_then false (expect word.Key) _ (blind_expect word.Key refl) (λ b. blind_then false (enclosed name) _ blind_names (λ columns.
-    blind_then false (expect word.References) _ (blind_expect word.References refl) (λ c. blind_then false name _ blind_name (λ to. blind_then false (enclosed name) _ blind_names (λ targets. blind_then false on_delete _ blind_on_delete (λ cascade.
+    blind_then false (expect word.References) _ (blind_expect word.References refl) (λ c. blind_then false (object d) _ (blind_object d) (λ to. blind_then false (enclosed name) _ blind_names (λ targets. blind_then false on_delete _ blind_on_delete (λ cascade.
     blind_then false (name_or (foreign_name table columns) stated) _ (blind_name_or (foreign_name table columns) stated) (λ n.
     blind_pure false (record { name = n; columns = columns; table = to; targets = targets; cascade = cascade })))))))))
 
@@ -177,7 +177,7 @@ blind_constraint d table = blind_then false stated_name _ blind_stated_name (λ 
     by : (stated : Option Name) (k : WordKind) → Blind false (constraint_by d table stated k)
     by stated word.Primary = blind_then false (key d table stated) _ (blind_key d table stated) (λ found. blind_pure false (constraint.Key found))
     by stated word.Unique = blind_then false (unique table stated) _ (blind_unique table stated) (λ found. blind_pure false (constraint.Unique found))
-    by stated word.Foreign = blind_then false (foreign table stated) _ (blind_foreign table stated) (λ found. blind_pure false (constraint.Foreign found))
+    by stated word.Foreign = blind_then false (foreign d table stated) _ (blind_foreign d table stated) (λ found. blind_pure false (constraint.Foreign found))
     by stated _ = blind_refuse false
 
 pub no_constraint : (n : WordKind) → may_be_name n ≡ true → begins_constraint n ≡ false
@@ -203,4 +203,4 @@ blind_item d table =
 pub blind_create_table : (d : Dialect) → Blind false (create_table d)
 unfolding create_table
 blind_create_table d =
-    blind_then false name _ blind_name (λ table. blind_then false (enclosed (table_item d table)) _ (blind_enclosed (table_item d table) (blind_item d table)) (λ items. blind_given false (table_of table items)))
+    blind_then false (object d) _ (blind_object d) (λ table. blind_then false (enclosed (table_item d table)) _ (blind_enclosed (table_item d table) (blind_item d table)) (λ items. blind_given false (table_of table items)))

@@ -3,12 +3,14 @@ use Rattle.std.proofs.Common.{◌≡◌, ℕ, zero, suc, Bool, true, false, if�
 use Rattle.std.specs.List.{fold}
 use denote.Enum.Bare.{same_true}
 use Rattle.lq_model.specs.contracts.word.WordKind.{the_type}
+use Rattle.lq_base.specs.declared.dialect.Dialect.TheVariants.{Mysql, Postgresql}
+use Rattle.lq_base.specs.declared.dialect.Dialect.{Dialect}
 use Rattle.lq_base.specs.declared.literal.Literal.TheVariants as constant
 use Rattle.lq_base.specs.declared.name.Name.{Name}
 use Rattle.lq_base.specs.Kind.{decimal_kind, plain_kind, plain_number, sized_kind}
 use Rattle.lq_model.specs.Spelled.{levels}
 use Rattle.lq_model.specs.SqlParser.{Outcome, Parser, ◌>>=◌, and_then, eat, expect, given, kind, led_by, many, next, pure, refuse, same_kind, sees, separated, skip, taken, text}
-use Rattle.lq_model.specs.SqlPart.{column_kind, decimal_with, kind_number, kind_with, literal, literal_by, name, name_of, number, sized_with}
+use Rattle.lq_model.specs.SqlPart.{column_kind, decimal_with, kind_number, kind_with, literal, literal_by, name, name_of, number, object, qualified, sized_with}
 use Rattle.lq_model.specs.SqlQuery.{columns, count, peek_count, query, sees_count, selected}
 use Rattle.lq_model.specs.SqlTest.{any_test, begins_literal, comparison, most, nullness, operand, operator, operator_by, primary, product, sum, term, where_test}
 use Rattle.lq_model.specs.SqlWord.{may_be_name}
@@ -36,6 +38,13 @@ unfolding name
 blind_name =
     blind_peek false _ (λ k. blind_if false (may_be_name k) _ _ blind_named (blind_refuse false)) (λ i j n same is may.
     subst (λ (b : Bool). Alike false ((taken >>= (λ it. given (name_of it))) i) ((if b then taken >>= (λ it. given (name_of it)) else refuse) j)) (sym may) (blind_named.at i j same))
+
+pub blind_object : (d : Dialect) → Blind false (object d)
+unfolding object
+blind_object Mysql = blind_name
+blind_object Postgresql =
+    blind_then false name _ blind_name (λ first. blind_then false (eat word.Dot) _ (blind_eat word.Dot refl) (λ more.
+    blind_if false more _ _ (blind_then false name _ blind_name (λ text. blind_given false (qualified first text))) (blind_pure false first)))
 
 -- literals
 
@@ -234,10 +243,10 @@ blind_selected = blind_then true (eat word.Star) _ (blind_eat word.Star refl) by
     by true = record { at = λ i j same. inl (refl, same) }
     by false = record { at = λ i j same. alike_selected i j same (kind_bare i j same) }
 
-pub blind_query : Blind false query
+pub blind_query : (d : Dialect) → Blind false (query d)
 unfolding query
-blind_query =
+blind_query d =
     blind_then false (expect word.Select) _ (blind_expect word.Select refl) (λ a. blind_until selected _ blind_selected
-    (λ found. blind_then false (expect word.From) _ (blind_expect word.From refl) (λ b. blind_then false name _ blind_name (λ table.
+    (λ found. blind_then false (expect word.From) _ (blind_expect word.From refl) (λ b. blind_then false (object d) _ (blind_object d) (λ table.
     blind_then false where_test _ blind_where (λ t. blind_pure false (record { wanted = found; table = table; test = t })))))
     (λ found. refuses_first (expect word.From) _ (refuses_expect word.From refl)))

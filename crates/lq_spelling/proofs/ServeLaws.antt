@@ -57,4 +57,4 @@ unquoted_words_serve d a front back w s can unquoted = serving_word (statement d
 
 pub query_words_serve : QueryWordsServe
 unfolding query_in
-query_words_serve d a front back w q can unquoted = serving_word query serves_query d a front back w.text q w.kind can unquoted
+query_words_serve d a front back w q can unquoted = serving_word (query d) (serves_query d) d a front back w.text q w.kind can unquoted

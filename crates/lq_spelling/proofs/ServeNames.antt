@@ -5,11 +5,13 @@ use Rattle.std.specs.Prelude.{◌==◌, ◌&&◌, ◌||◌, codes}
 use Rattle.std.specs.Str.{bytes_eq, str_eq_ignore_ascii_case, str_to_ascii_lowercase}
 use Rattle.std.proofs.lemmas.Slice.Eq.{bytes_eq-Decides}
 use Rattle.lq_base.specs.Kind.{decimal_kind, is_kind, kind_words, plain_kind, plain_number, sized_kind}
+use Rattle.lq_base.specs.declared.dialect.Dialect.TheVariants.{Mysql, Postgresql}
+use Rattle.lq_base.specs.declared.dialect.Dialect.{Dialect}
 use Rattle.lq_base.specs.declared.kind.Kind.{Kind}
 use Rattle.lq_base.specs.declared.kind.Kind.TheVariants.{Decimal, Moment, Varchar}
 use Rattle.lq_base.specs.declared.literal.Literal.TheVariants as constant
 use Rattle.lq_model.specs.SqlParser.{Outcome, Parser, ◌>>=◌, and_then, eat, expect, given, refuse, same_kind, skip, taken}
-use Rattle.lq_model.specs.SqlPart.{column_kind, decimal_with, kind_number, kind_with, literal, literal_by, name, name_of, number, sized_with}
+use Rattle.lq_model.specs.SqlPart.{column_kind, decimal_with, kind_number, kind_with, literal, literal_by, name, name_of, number, object, qualified, sized_with}
 use Rattle.lq_model.specs.SqlWord.{may_be_name}
 use Rattle.lq_model.specs.declared.word.Word.{Word}
 use Rattle.lq_model.specs.declared.word.WordKind.{WordKind}
@@ -23,6 +25,13 @@ unfolding name
 serves_name =
     serves_peek _ (λ l. inl (λ i. ap (λ can. (if can then taken >>= (λ it. given (name_of it)) else refuse) i) (sym (name_at l true))))
     (λ k. serves_if (may_be_name k) _ _ (serves_then taken _ serves_taken (λ it. serves_given (name_of it))) serves_refuse)
+
+pub serves_object : (d : Dialect) → Serves (object d)
+unfolding object
+serves_object Mysql = serves_name
+serves_object Postgresql =
+    serves_then name _ serves_name (λ first. serves_then (eat word.Dot) _ (serves_eat word.Dot refl) (λ more.
+    serves_if more _ _ (serves_then name _ serves_name (λ text. serves_given (qualified first text))) (serves_pure first)))
 
 pub serves_literal : Serves literal
 unfolding literal

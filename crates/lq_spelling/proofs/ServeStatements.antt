@@ -1,6 +1,7 @@
 -- Statements over an unquoted word that is not reserved.
 use Rattle.std.proofs.Common.{◌≡◌, Bool, true, false, if◌then◌else◌, [], Some, None, inl, inr, ap, ◌∙◌, sym, refl, pos}
 use Rattle.std.specs.Ordering.{int_eq}
+use Rattle.lq_base.specs.Name.{beside, text_of}
 use Rattle.lq_base.specs.declared.dialect.Dialect.{Dialect}
 use Rattle.lq_base.specs.declared.dialect.Dialect.TheVariants.{Mysql, Postgresql}
 use Rattle.lq_base.specs.declared.literal.Literal.{Literal}
@@ -12,7 +13,7 @@ use Rattle.lq_model.specs.SqlConstraint.{begins_constraint, table_constraint}
 use Rattle.lq_model.specs.SqlCreate.{create, create_by, create_index, create_sequence, create_view, step, whole, whole_of}
 use Rattle.lq_model.specs.SqlDrop.{drop_index, drop_object, drop_object_by, rename_table}
 use Rattle.lq_model.specs.SqlParser.{◌>>=◌, eat, enclosed, expect, pure, same_kind, sees, separated, skip}
-use Rattle.lq_model.specs.SqlPart.{column_kind, literal, name}
+use Rattle.lq_model.specs.SqlPart.{column_kind, literal, name, object}
 use Rattle.lq_model.specs.SqlQuery.{query}
 use Rattle.lq_model.specs.SqlRows.{assignment, delete, insert, stated_columns, update}
 use Rattle.lq_model.specs.SqlStatement.{statement, statement_by}
@@ -22,7 +23,7 @@ use Rattle.lq_model.specs.declared.word.WordKind.{WordKind}
 use Rattle.lq_model.specs.declared.word.WordKind.TheVariants as word
 use Rattle.lq_spelling.proofs.ServeKinds as loose
 use Rattle.lq_spelling.proofs.ServeKinds.{Loose, apart, kind_of}
-use Rattle.lq_spelling.proofs.ServeNames.{serves_kind, serves_literal, serves_name}
+use Rattle.lq_spelling.proofs.ServeNames.{serves_kind, serves_literal, serves_name, serves_object}
 use Rattle.lq_spelling.proofs.ServeParts.{Serves, Tells, serves_eat, serves_enclosed, serves_expect, serves_if, serves_peek, serves_pure, serves_refuse, serves_separated, serves_skip, serves_then}
 use Rattle.lq_spelling.proofs.ServeTables.{serves_added, serves_constraint, serves_table, starts_same}
 use Rattle.lq_spelling.proofs.ServeTests.{serves_query, serves_where}
@@ -31,11 +32,15 @@ use Rattle.lq_spelling.proofs.ServeTests.{serves_query, serves_where}
 serves_named : {A : Type 0} (make : Name → A) → Serves (name >>= (λ n. pure (make n)))
 serves_named make = serves_then name _ serves_name (λ n. serves_pure (make n))
 
+-- the name of an object, and then what it makes
+serves_stated : {A : Type 0} (d : Dialect) (make : Name → A) → Serves (object d >>= (λ n. pure (make n)))
+serves_stated d make = serves_then (object d) _ (serves_object d) (λ n. serves_pure (make n))
+
 -- ALTER
 
-serves_new : Serves new_name
+serves_new : (old : Name) → Serves (new_name old)
 unfolding new_name
-serves_new = serves_then (expect word.To) _ (serves_expect word.To) (λ a. serves_name)
+serves_new old = serves_then (expect word.To) _ (serves_expect word.To) (λ a. serves_named (λ to. beside old (text_of to)))
 
 serves_add : (d : Dialect) (table : Name) → Serves (add d table)
 unfolding add add_constraint add_column
@@ -109,13 +114,13 @@ serves_alter_column d table =
 
 serves_rename_to : (table : Name) → Serves (rename_table_to table)
 unfolding rename_table_to
-serves_rename_to table = serves_then new_name _ serves_new (λ to. serves_pure (RenameTable table to))
+serves_rename_to table = serves_then (new_name table) _ (serves_new table) (λ to. serves_pure (RenameTable table to))
 
 serves_rename_part : (table : Name) → Serves (rename_part table)
 unfolding rename_part rename_column
 serves_rename_part table =
     serves_then (eat word.Column) _ (serves_eat word.Column refl) (λ column. serves_if column _ _
-    (serves_then name _ serves_name (λ column. serves_then new_name _ serves_new (λ to. serves_pure (RenameColumn table column to)))) (serves_rename_to table))
+    (serves_then name _ serves_name (λ column. serves_then (expect word.To) _ (serves_expect word.To) (λ a. serves_named (RenameColumn table column)))) (serves_rename_to table))
 
 serves_modify : (table : Name) → Serves (modify table)
 unfolding modify
@@ -126,7 +131,7 @@ serves_modify table =
 serves_alter_table : (d : Dialect) → Serves (alter_table d)
 unfolding alter_table
 serves_alter_table d =
-    serves_then name _ serves_name (λ table. serves_peek (alter_table_by d table) (tells d table) (by d table))
+    serves_then (object d) _ (serves_object d) (λ table. serves_peek (alter_table_by d table) (tells d table) (by d table))
   where
     tells : (d : Dialect) (table : Name) → Tells (alter_table_by d table)
     tells d table loose.Rename = inr (λ said other back. refl)
@@ -155,24 +160,24 @@ serves_alter d =
     by : (d : Dialect) (k : WordKind) → Serves (alter_by d k)
     by d word.Table = serves_then skip _ serves_skip (λ a. serves_alter_table d)
     by Postgresql word.View =
-        serves_then skip _ serves_skip (λ a. serves_then name _ serves_name (λ view. serves_then (expect word.Rename) _ (serves_expect word.Rename) (λ b. serves_then new_name _ serves_new (λ to. serves_pure (RenameView view to)))))
+        serves_then skip _ serves_skip (λ a. serves_then (object Postgresql) _ (serves_object Postgresql) (λ view. serves_then (expect word.Rename) _ (serves_expect word.Rename) (λ b. serves_then (new_name view) _ (serves_new view) (λ to. serves_pure (RenameView view to)))))
     by Postgresql word.Sequence =
-        serves_then skip _ serves_skip (λ a. serves_then name _ serves_name (λ sequence. serves_then (expect word.Rename) _ (serves_expect word.Rename) (λ b. serves_then new_name _ serves_new (λ to. serves_pure (RenameSequence sequence to)))))
+        serves_then skip _ serves_skip (λ a. serves_then (object Postgresql) _ (serves_object Postgresql) (λ sequence. serves_then (expect word.Rename) _ (serves_expect word.Rename) (λ b. serves_then (new_name sequence) _ (serves_new sequence) (λ to. serves_pure (RenameSequence sequence to)))))
     by d _ = serves_refuse
 
 -- CREATE
 
-serves_index : (once : Bool) → Serves (create_index once)
+serves_index : (d : Dialect) (once : Bool) → Serves (create_index d once)
 unfolding create_index
-serves_index once =
+serves_index d once =
     serves_then (expect word.Index) _ (serves_expect word.Index) (λ a. serves_then name _ serves_name (λ index. serves_then (expect word.On) _ (serves_expect word.On) (λ b.
-    serves_then name _ serves_name (λ table. serves_then (enclosed name) _ (serves_enclosed name serves_name) (λ columns. serves_pure (CreateIndex table (record { name = index; columns = columns; unique = once })))))))
+    serves_then (object d) _ (serves_object d) (λ table. serves_then (enclosed name) _ (serves_enclosed name serves_name) (λ columns. serves_pure (CreateIndex table (record { name = index; columns = columns; unique = once })))))))
 
-serves_view : (replace : Bool) → Serves (create_view replace)
+serves_view : (d : Dialect) (replace : Bool) → Serves (create_view d replace)
 unfolding create_view
-serves_view replace =
-    serves_then (expect word.View) _ (serves_expect word.View) (λ a. serves_then name _ serves_name (λ view. serves_then (expect word.As) _ (serves_expect word.As) (λ b.
-    serves_then query _ serves_query (λ it. serves_pure (CreateView view it replace)))))
+serves_view d replace =
+    serves_then (expect word.View) _ (serves_expect word.View) (λ a. serves_then (object d) _ (serves_object d) (λ view. serves_then (expect word.As) _ (serves_expect word.As) (λ b.
+    serves_then (query d) _ (serves_query d) (λ it. serves_pure (CreateView view it replace)))))
 
 serves_whole_of : (it : Literal) → Serves (whole_of it)
 serves_whole_of (constant.Int n) = serves_pure n
@@ -186,10 +191,10 @@ serves_step : Serves step
 unfolding step
 serves_step = serves_then whole _ serves_whole (λ n. serves_if (int_eq n (pos 0)) _ _ serves_refuse (serves_pure n))
 
-serves_sequence : Serves create_sequence
+serves_sequence : (d : Dialect) → Serves (create_sequence d)
 unfolding create_sequence
-serves_sequence =
-    serves_then name _ serves_name (λ sequence. serves_then (expect word.Start) _ (serves_expect word.Start) (λ a. serves_then (expect word.With) _ (serves_expect word.With) (λ b.
+serves_sequence d =
+    serves_then (object d) _ (serves_object d) (λ sequence. serves_then (expect word.Start) _ (serves_expect word.Start) (λ a. serves_then (expect word.With) _ (serves_expect word.With) (λ b.
     serves_then whole _ serves_whole (λ start. serves_then (expect word.Increment) _ (serves_expect word.Increment) (λ c. serves_then (expect word.By) _ (serves_expect word.By) (λ e.
     serves_then step _ serves_step (λ size. serves_pure (CreateSequence sequence start size))))))))
 
@@ -206,18 +211,18 @@ serves_create d =
 
     by : (d : Dialect) (k : WordKind) → Serves (create_by d k)
     by d word.Table = serves_then skip _ serves_skip (λ a. serves_table d)
-    by d word.Index = serves_index false
-    by d word.Unique = serves_then skip _ serves_skip (λ a. serves_index true)
-    by d word.View = serves_view false
-    by d word.Or = serves_then skip _ serves_skip (λ a. serves_then (expect word.Replace) _ (serves_expect word.Replace) (λ b. serves_view true))
-    by Postgresql word.Sequence = serves_then skip _ serves_skip (λ a. serves_sequence)
+    by d word.Index = serves_index d false
+    by d word.Unique = serves_then skip _ serves_skip (λ a. serves_index d true)
+    by d word.View = serves_view d false
+    by d word.Or = serves_then skip _ serves_skip (λ a. serves_then (expect word.Replace) _ (serves_expect word.Replace) (λ b. serves_view d true))
+    by Postgresql word.Sequence = serves_then skip _ serves_skip (λ a. serves_sequence Postgresql)
     by d _ = serves_refuse
 
 -- DROP, and RENAME TABLE
 
 serves_drop_index : (d : Dialect) → Serves (drop_index d)
 unfolding drop_index
-serves_drop_index Postgresql = serves_named (λ index. DropIndex index None)
+serves_drop_index Postgresql = serves_stated Postgresql (λ index. DropIndex index None)
 serves_drop_index Mysql =
     serves_then name _ serves_name (λ index. serves_then (expect word.On) _ (serves_expect word.On) (λ a. serves_named (λ table. DropIndex index (Some table))))
 
@@ -233,10 +238,10 @@ serves_drop d =
     tells d _ = inl (λ i. refl)
 
     by : (d : Dialect) (k : WordKind) → Serves (drop_object_by d k)
-    by d word.Table = serves_then skip _ serves_skip (λ a. serves_named DropTable)
+    by d word.Table = serves_then skip _ serves_skip (λ a. serves_stated d DropTable)
     by d word.Index = serves_then skip _ serves_skip (λ a. serves_drop_index d)
-    by d word.View = serves_then skip _ serves_skip (λ a. serves_named DropView)
-    by Postgresql word.Sequence = serves_then skip _ serves_skip (λ a. serves_named DropSequence)
+    by d word.View = serves_then skip _ serves_skip (λ a. serves_stated d DropView)
+    by Postgresql word.Sequence = serves_then skip _ serves_skip (λ a. serves_stated Postgresql DropSequence)
     by d _ = serves_refuse
 
 serves_rename_table : Serves rename_table
@@ -254,10 +259,10 @@ serves_columns =
     serves_peek _ (λ l. inl (λ i. ap (λ opened. (if opened then enclosed name else pure []) i) (opens_same l)))
     (λ k. serves_if (same_kind k word.Open) _ _ (serves_enclosed name serves_name) (serves_pure []))
 
-serves_insert : Serves insert
+serves_insert : (d : Dialect) → Serves (insert d)
 unfolding insert
-serves_insert =
-    serves_then (expect word.Into) _ (serves_expect word.Into) (λ a. serves_then name _ serves_name (λ table. serves_then stated_columns _ serves_columns (λ columns.
+serves_insert d =
+    serves_then (expect word.Into) _ (serves_expect word.Into) (λ a. serves_then (object d) _ (serves_object d) (λ table. serves_then stated_columns _ serves_columns (λ columns.
     serves_then (expect word.Values) _ (serves_expect word.Values) (λ b. serves_then (enclosed literal) _ (serves_enclosed literal serves_literal) (λ values. serves_pure (Insert table columns values))))))
 
 serves_assignment : Serves assignment
@@ -265,16 +270,16 @@ unfolding assignment
 serves_assignment =
     serves_then name _ serves_name (λ column. serves_then (expect word.Equal) _ (serves_expect word.Equal) (λ a. serves_then literal _ serves_literal (λ value. serves_pure (column, value))))
 
-serves_update : Serves update
+serves_update : (d : Dialect) → Serves (update d)
 unfolding update
-serves_update =
-    serves_then name _ serves_name (λ table. serves_then (expect word.Set) _ (serves_expect word.Set) (λ a. serves_then (separated assignment) _ (serves_separated assignment serves_assignment) (λ sets.
+serves_update d =
+    serves_then (object d) _ (serves_object d) (λ table. serves_then (expect word.Set) _ (serves_expect word.Set) (λ a. serves_then (separated assignment) _ (serves_separated assignment serves_assignment) (λ sets.
     serves_then where_test _ serves_where (λ t. serves_pure (Update table sets t)))))
 
-serves_delete : Serves delete
+serves_delete : (d : Dialect) → Serves (delete d)
 unfolding delete
-serves_delete =
-    serves_then (expect word.From) _ (serves_expect word.From) (λ a. serves_then name _ serves_name (λ table. serves_then where_test _ serves_where (λ t. serves_pure (Delete table t))))
+serves_delete d =
+    serves_then (expect word.From) _ (serves_expect word.From) (λ a. serves_then (object d) _ (serves_object d) (λ table. serves_then where_test _ serves_where (λ t. serves_pure (Delete table t))))
 
 -- the whole
 
@@ -293,7 +298,7 @@ serves_statement d =
     by d word.Drop = serves_then skip _ serves_skip (λ a. serves_drop d)
     by d word.Alter = serves_then skip _ serves_skip (λ a. serves_alter d)
     by Mysql word.Rename = serves_then skip _ serves_skip (λ a. serves_rename_table)
-    by d word.Insert = serves_then skip _ serves_skip (λ a. serves_insert)
-    by d word.Update = serves_then skip _ serves_skip (λ a. serves_update)
-    by d word.Delete = serves_then skip _ serves_skip (λ a. serves_delete)
+    by d word.Insert = serves_then skip _ serves_skip (λ a. serves_insert d)
+    by d word.Update = serves_then skip _ serves_skip (λ a. serves_update d)
+    by d word.Delete = serves_then skip _ serves_skip (λ a. serves_delete d)
     by d _ = serves_refuse

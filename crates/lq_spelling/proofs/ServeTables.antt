@@ -7,7 +7,7 @@ use Rattle.lq_model.specs.DefaultName.{foreign_name, key_name, unique_name}
 use Rattle.lq_model.specs.SqlColumn.{added_column, clause_by, column_clause, column_foreign, column_key, column_of, column_unique, column_with, differ, foreign_to, has_constraint, identity, stated_column, target}
 use Rattle.lq_model.specs.SqlConstraint.{begins_constraint, constraint_by, foreign, key, key_name_or, name_or, on_delete, on_delete_by, stated_name, table_constraint, unique}
 use Rattle.lq_model.specs.SqlParser.{◌>>=◌, eat, enclosed, expect, given, many, pure, sees, skip}
-use Rattle.lq_model.specs.SqlPart.{column_kind, literal, name, name_of}
+use Rattle.lq_model.specs.SqlPart.{column_kind, literal, name, name_of, object}
 use Rattle.lq_model.specs.SqlTable.{column_item, create_table, table_item, table_of}
 use Rattle.lq_model.specs.declared.table_item.ColumnClause.TheVariants as clause
 use Rattle.lq_model.specs.declared.table_item.StatedColumn.{StatedColumn}
@@ -18,7 +18,7 @@ use Rattle.lq_model.specs.declared.word.WordKind.{WordKind}
 use Rattle.lq_model.specs.declared.word.WordKind.TheVariants as word
 use Rattle.lq_spelling.proofs.ServeKinds as loose
 use Rattle.lq_spelling.proofs.ServeKinds.{Loose, kind_of}
-use Rattle.lq_spelling.proofs.ServeNames.{serves_kind, serves_literal, serves_name}
+use Rattle.lq_spelling.proofs.ServeNames.{serves_kind, serves_literal, serves_name, serves_object}
 use Rattle.lq_spelling.proofs.ServeParts.{Serves, Tells, serves_eat, serves_enclosed, serves_expect, serves_given, serves_if, serves_many, serves_peek, serves_pure, serves_refuse, serves_skip, serves_then}
 
 -- columns
@@ -29,10 +29,10 @@ serves_identity =
     serves_then (expect word.Generated) _ (serves_expect word.Generated) (λ a. serves_then (expect word.By) _ (serves_expect word.By) (λ b.
     serves_then (expect word.Default) _ (serves_expect word.Default) (λ c. serves_then (expect word.As) _ (serves_expect word.As) (λ e. serves_expect word.Identity))))
 
-serves_target : Serves target
+serves_target : (d : Dialect) → Serves (target d)
 unfolding target
-serves_target =
-    serves_then name _ serves_name (λ table. serves_then (expect word.Open) _ (serves_expect word.Open) (λ a. serves_then name _ serves_name (λ column.
+serves_target d =
+    serves_then (object d) _ (serves_object d) (λ table. serves_then (expect word.Open) _ (serves_expect word.Open) (λ a. serves_then name _ serves_name (λ column.
     serves_then (expect word.Close) _ (serves_expect word.Close) (λ b. serves_pure (record { table = table; column = column })))))
 
 serves_clause : (d : Dialect) → Serves (column_clause d)
@@ -51,7 +51,7 @@ serves_clause d =
     by d word.Default = serves_then skip _ serves_skip (λ a. serves_then literal _ serves_literal (λ it. serves_pure (Some (clause.Default it))))
     by d word.Primary = serves_then skip _ serves_skip (λ a. serves_then (expect word.Key) _ (serves_expect word.Key) (λ b. serves_pure (Some clause.PrimaryKey)))
     by d word.Unique = serves_then skip _ serves_skip (λ a. serves_pure (Some clause.Unique))
-    by d word.References = serves_then skip _ serves_skip (λ a. serves_then target _ serves_target (λ it. serves_pure (Some (clause.References it))))
+    by d word.References = serves_then skip _ serves_skip (λ a. serves_then (target d) _ (serves_target d) (λ it. serves_pure (Some (clause.References it))))
     by Postgresql word.Generated = serves_then identity _ serves_identity (λ a. serves_pure (Some clause.Numbered))
     by Mysql word.AutoIncrement = serves_then skip _ serves_skip (λ a. serves_pure (Some clause.Numbered))
     by d _ = serves_pure None
@@ -125,12 +125,12 @@ serves_on_delete =
     by word.No = serves_then skip _ serves_skip (λ a. serves_then (expect word.Action) _ (serves_expect word.Action) (λ b. serves_pure false))
     by _ = serves_refuse
 
-serves_foreign : (table : Name) (stated : Option Name) → Serves (foreign table stated)
+serves_foreign : (d : Dialect) (table : Name) (stated : Option Name) → Serves (foreign d table stated)
 unfolding foreign
-serves_foreign table stated =
+serves_foreign d table stated =
     serves_then (expect word.Foreign) _ (serves_expect word.Foreign) (λ a. serves_then (expect word.Key) _ (serves_expect word.Key) (λ b.
     serves_then (enclosed name) _ (serves_enclosed name serves_name) (λ columns. serves_then (expect word.References) _ (serves_expect word.References) (λ c.
-    serves_then name _ serves_name (λ target. serves_then (enclosed name) _ (serves_enclosed name serves_name) (λ targets. serves_then on_delete _ serves_on_delete (λ cascade.
+    serves_then (object d) _ (serves_object d) (λ target. serves_then (enclosed name) _ (serves_enclosed name serves_name) (λ targets. serves_then on_delete _ serves_on_delete (λ cascade.
     serves_then (name_or (foreign_name table columns) stated) _ (serves_name_or (foreign_name table columns) stated)
     (λ named. serves_pure (record { name = named; columns = columns; table = target; targets = targets; cascade = cascade })))))))))
 
@@ -151,7 +151,7 @@ serves_constraint d table =
     by : (stated : Option Name) (k : WordKind) → Serves (constraint_by d table stated k)
     by stated word.Primary = serves_then (key d table stated) _ (serves_key d table stated) (λ found. serves_pure (constraint.Key found))
     by stated word.Unique = serves_then (unique table stated) _ (serves_unique table stated) (λ found. serves_pure (constraint.Unique found))
-    by stated word.Foreign = serves_then (foreign table stated) _ (serves_foreign table stated) (λ found. serves_pure (constraint.Foreign found))
+    by stated word.Foreign = serves_then (foreign d table stated) _ (serves_foreign d table stated) (λ found. serves_pure (constraint.Foreign found))
     by stated _ = serves_refuse
 
 -- tables
@@ -172,4 +172,4 @@ serves_item d table =
 pub serves_table : (d : Dialect) → Serves (create_table d)
 unfolding create_table
 serves_table d =
-    serves_then name _ serves_name (λ table. serves_then (enclosed (table_item d table)) _ (serves_enclosed (table_item d table) (serves_item d table)) (λ items. serves_given (table_of table items)))
+    serves_then (object d) _ (serves_object d) (λ table. serves_then (enclosed (table_item d table)) _ (serves_enclosed (table_item d table) (serves_item d table)) (λ items. serves_given (table_of table items)))

@@ -3,7 +3,7 @@ use Rattle.std.proofs.Common.{◌≡◌, ℕ, zero, suc, Bool, true, false, nat_
 use Rattle.std.specs.List.{fold}
 use Rattle.lq_model.specs.Spelled.{levels}
 use Rattle.lq_model.specs.SqlParser.{Parser, ◌>>=◌, and_then, eat, expect, led_by, many, pure, same_kind, sees, separated, skip}
-use Rattle.lq_model.specs.SqlPart.{literal, name}
+use Rattle.lq_model.specs.SqlPart.{literal, name, object}
 use Rattle.lq_model.specs.SqlQuery.{columns, count, peek_count, query, sees_count, selected}
 use Rattle.lq_model.specs.SqlTest.{any_test, begins_literal, comparison, most, nullness, operand, operator, operator_by, primary, product, sum, term, where_test}
 use Rattle.lq_model.specs.SqlWord.{with_text}
@@ -19,8 +19,9 @@ use Rattle.lq_model.specs.declared.word.WordKind.{WordKind}
 use Rattle.lq_model.specs.declared.word.WordKind.TheVariants as word
 use Rattle.lq_spelling.proofs.ServeKinds as loose
 use Rattle.lq_spelling.proofs.ServeKinds.{Loose, apart, kind_at, kind_of}
-use Rattle.lq_spelling.proofs.ServeNames.{serves_literal, serves_name}
+use Rattle.lq_spelling.proofs.ServeNames.{serves_literal, serves_name, serves_object}
 use Rattle.lq_spelling.proofs.ServeParts.{Goes, Serves, Tells, alike, said_there, serves_eat, serves_expect, serves_if, serves_led, serves_many, serves_peek, serves_pure, serves_refuse, serves_separated, serves_skip, serves_then, then_at}
+use Rattle.lq_base.specs.declared.dialect.Dialect.{Dialect}
 
 begins_same : (l : Loose) → begins_literal word.Quoted ≡ begins_literal (kind_of l)
 begins_same loose.Plain = refl
@@ -184,9 +185,9 @@ serves_selected =
     by true = serves_pure wanted.All
     by false = serves_chosen
 
-pub serves_query : Serves query
+pub serves_query : (d : Dialect) → Serves (query d)
 unfolding query
-serves_query =
+serves_query d =
     serves_then (expect word.Select) _ (serves_expect word.Select) (λ a. serves_then selected _ serves_selected (λ found.
-    serves_then (expect word.From) _ (serves_expect word.From) (λ b. serves_then name _ serves_name (λ table.
+    serves_then (expect word.From) _ (serves_expect word.From) (λ b. serves_then (object d) _ (serves_object d) (λ table.
     serves_then where_test _ serves_where (λ t. serves_pure (record { wanted = found; table = table; test = t }))))))

@@ -1,11 +1,11 @@
 ghost use Rattle.std.specs.Prelude.{◌≡◌, ◌++◌, OnOk, Option, Some};
 ghost use Rattle.lq_model.specs.Phrase.{words};
 ghost use Rattle.lq_model.specs.Quoting.{name_text};
-ghost use Rattle.lq_model.specs.StatementText.{create_index, create_view, text_of};
+ghost use Rattle.lq_model.specs.StatementText.{create_index, create_view, text_of, to_text};
 ghost use Rattle.lq_model.specs.declared.phrase.Phrase.TheVariants as phrase;
 ghost use Rattle.lq_model.specs.declared.statement.Statement.TheVariants as made;
 
-use crate::name::{spell_name, spell_names};
+use crate::name::{spell_name, spell_names, spell_new_name};
 use crate::spell::{Spell, Style, say, spell_listed};
 use lq_base::{Dialect, Name, NoMemory, Text, append_whole};
 use lq_model::{Index, Phrase, Query};
@@ -113,7 +113,8 @@ pub fn rename(
         (words altered
         ++ name_text style.dialect name.now
         ++ words phrase.RenameTo
-        ++ name_text style.dialect new.now)) }
+        ++ to_text style.dialect new.now)) }
 {
-    spell_names(style, to, altered, name, Phrase::RenameTo, new)
+    spell_name(style, to, altered, name)?;
+    spell_new_name(style, to, Phrase::RenameTo, new)
 }

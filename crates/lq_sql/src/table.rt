@@ -2,8 +2,8 @@ ghost use Rattle.std.specs.Prelude.{◌≡◌, ◌++◌, OnOk};
 ghost use Rattle.lq_model.specs.StatementText.{key_in_table, table_text, text_of};
 ghost use Rattle.lq_model.specs.declared.statement.Statement.TheVariants as made;
 
-use crate::alteration::alter;
-use crate::name::{spell_name, spell_names};
+use crate::alteration::alter_by;
+use crate::name::{spell_name, spell_new_name, spell_text};
 use crate::spell::{Spell, Style, say, spell_after_commas, spell_listed};
 use lq_base::{Dialect, Items, Name, NoMemory, Text};
 use lq_model::{ColumnDef, ForeignKey, Key, Phrase, Unique};
@@ -66,7 +66,13 @@ pub fn rename_table(style: Style, to: &mut Text, table: &Name, name: &Name) -> R
         (to.new ≡ to.old ++ text_of style.dialect (made.RenameTable table.now name.now)) }
 {
     match style.dialect {
-        Dialect::Postgresql => alter(style, to, table, Phrase::RenameTo, name),
-        Dialect::Mysql => spell_names(style, to, Phrase::RenameTable, table, Phrase::To, name),
+        Dialect::Postgresql => {
+            alter_by(style, to, table, Phrase::RenameTo)?;
+            spell_text(style, to, name)
+        }
+        Dialect::Mysql => {
+            spell_name(style, to, Phrase::RenameTable, table)?;
+            spell_new_name(style, to, Phrase::To, name)
+        }
     }
 }

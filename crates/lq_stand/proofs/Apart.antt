@@ -2,14 +2,15 @@
 use Rattle.std.proofs.Common.{ap, sym, ◌∙◌}
 use Rattle.std.specs.List.{list_any}
 use Rattle.std.specs.Prelude.{Bool, List, false, map, not, refl, true, ◌&&◌, ◌++◌, ◌||◌, ◌≡◌}
-use Rattle.lq_base.specs.Name.{is_named}
+use Rattle.lq_base.specs.Name.{is_elsewhere, is_named}
 use Rattle.lq_base.specs.declared.dialect.Dialect.{Dialect}
 use Rattle.lq_base.specs.declared.dialect.Dialect.TheVariants.{Mysql, Postgresql}
 use Rattle.lq_base.specs.declared.name.Name.{Name}
 use Rattle.lq_model.proofs.Absent.{any-flat_map}
 use Rattle.lq_model.proofs.Lists.{and_no_right, any-append, any-map, any_less, or_false, or_left, or_right, same_name, true_false}
+use Rattle.lq_model.proofs.PublicNames.{none_placed}
 use Rattle.lq_model.specs.Catalogue.{Catalogue, Table, View}
-use Rattle.lq_model.specs.NameSpaces.{is_taken, object_names, shared_names}
+use Rattle.lq_model.specs.NameSpaces.{is_taken, names_inside, object_names, shared_names}
 use Rattle.lq_model.specs.Names.{is_in}
 use Rattle.lq_model.specs.Needs.{targets_table}
 use Rattle.lq_model.specs.Reserved.{is_tracking}
@@ -69,12 +70,12 @@ module _ (u : Catalogue) (none : names_tracking u ≡ false) where
     no_object : is_in n (object_names u) ≡ false
     no_object = any_less (is_named n) is_tracking (object_names u) (λ m other. unlike is_tracking n m tracking other) objects
 
-    not_shared : is_in n (shared_names u) ≡ false
-    not_shared = any-append (is_named n) (object_names u) _ ∙ or_false _ _ no_object
-        (any-flat_map (is_named n) (λ (e : Name × Table). inner_names e.1) u.tables
-        ∙ any_less _ (λ (e : Name × Table). list_any is_tracking (inner_names e.1)) u.tables (λ e h. any_less (is_named n) is_tracking (inner_names e.1) (λ m other. unlike is_tracking n m tracking other) h) inner)
+    not_shared : is_elsewhere n ≡ false → is_in n (shared_names u) ≡ false
+    not_shared free = any-append (is_named n) (object_names u) _ ∙ or_false _ _ no_object
+        (any-flat_map (is_named n) names_inside u.tables
+        ∙ any_less _ (λ (e : Name × Table). list_any is_tracking (inner_names e.1)) u.tables (λ e h. none_placed n e.0 (inner_names e.1) free (any_less (is_named n) is_tracking (inner_names e.1) (λ m other. unlike is_tracking n m tracking other) h)) inner)
 
   pub names_free : (d : Dialect) → takes_key d u ≡ false → list_any (λ n. is_taken d n u) (own_names d) ≡ false
   unfolding log_table lock_table lock_key_name
-  names_free Postgresql key = or_false _ _ (not_shared log_table refl) (or_false _ _ (not_shared lock_table refl) (or_false _ _ key refl))
+  names_free Postgresql key = or_false _ _ (not_shared log_table refl refl) (or_false _ _ (not_shared lock_table refl refl) (or_false _ _ key refl))
   names_free Mysql key = or_false _ _ (no_object log_table refl) (or_false _ _ (no_object lock_table refl) refl)

@@ -7,7 +7,7 @@ use Rattle.std.specs.Option.{unwrap_or}
 use Rattle.std.specs.Ordering.{is_eq, match_ordering}
 use Rattle.std.specs.Prelude.{Bool, List, None, Option, Some, [], cond, false, is_some, map, not, refl, suc, true, zero, ℕ, ◌++◌, ◌||◌, ◌∷◌, ◌≡◌}
 use Rattle.std.specs.declared.cmp.Ordering.TheVariants.{Equal, Greater, Less}
-use Rattle.lq_base.specs.Name.{is_named, name_cmp}
+use Rattle.lq_base.specs.Name.{beside, is_named, name_cmp}
 use Rattle.lq_base.specs.Value.{into_kind}
 use Rattle.lq_base.specs.declared.dialect.Dialect.{Dialect}
 use Rattle.lq_base.specs.declared.name.Name.{Name}
@@ -20,7 +20,7 @@ use Rattle.lq_model.specs.ChangeColumn.{made_nullable, modified, with_changed, w
 use Rattle.lq_model.specs.Columns.{with_column, without_column}
 use Rattle.lq_model.specs.CreateTable.{new_table}
 use Rattle.lq_model.specs.Delete.{cascaded, row_count, without_lost, without_lost_in, without_taken}
-use Rattle.lq_model.specs.DropConstraint.{without_constraint, without_foreign, without_index, without_its_key, without_key, without_unique}
+use Rattle.lq_model.specs.DropConstraint.{without_constraint, without_foreign, without_index, without_index_in, without_its_key, without_key, without_unique}
 use Rattle.lq_model.specs.Insert.{stated, with_row}
 use Rattle.lq_model.specs.Kinds.{kind_in}
 use Rattle.lq_model.specs.Literals.{column_of, value_in}
@@ -175,6 +175,17 @@ foreign_dropped n it h =
       indexes = is.indexes;
       foreign = any_filtered (λ (f : ForeignKey). is_tracking f.name) (λ (f : ForeignKey). not (is_named n f.name)) it.foreign is.foreign;
       targets = any_filtered (λ (f : ForeignKey). is_tracking f.table) (λ (f : ForeignKey). not (is_named n f.name)) it.foreign is.targets;
+    })
+
+index_dropped_in : (n t : Name) → Keeps (without_index_in n t)
+index_dropped_in n t it h =
+    let is = clear_of it h in
+    none_of (without_index_in n t it) (record {
+      key = is.key;
+      uniques = is.uniques;
+      indexes = any_filtered (λ (i : Index). is_tracking i.name) (λ (i : Index). not (is_named n (beside t i.name))) it.indexes is.indexes;
+      foreign = is.foreign;
+      targets = is.targets;
     })
 
 index_dropped : (n : Name) → Keeps (without_index n)
@@ -377,7 +388,7 @@ result_unnamed d (DropPrimaryKey t) c is h = changed_clear c is t without_its_ke
 result_unnamed d (DropUnique t n) c is h = changed_clear c is t (without_unique n) (first t (n ∷ []) h) (unique_dropped n)
 result_unnamed d (DropForeignKey t n) c is h = changed_clear c is t (without_foreign n) (first t (n ∷ []) h) (foreign_dropped n)
 result_unnamed d (CreateIndex t i) c is h = changed_clear c is t (with_index i) (first t (i.name ∷ []) h) (index_added i (second t i.name [] h))
-result_unnamed d (DropIndex n None) c is h = all_changed c is (λ m. without_index n) (λ m. index_dropped n)
+result_unnamed d (DropIndex n None) c is h = all_changed c is (without_index_in n) (index_dropped_in n)
 result_unnamed d (DropIndex n (Some t)) c is h = changed_clear c is t (without_index n) (first t (n ∷ []) h) (index_dropped n)
 result_unnamed d (CreateView v q replace) c is h = view_clear c is v (new_view q (the_table c q.table)) (first v (q.table ∷ []) h) (second v q.table [] h)
 result_unnamed d (DropView v) c is h = view_gone c is v

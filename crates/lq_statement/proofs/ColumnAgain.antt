@@ -24,7 +24,7 @@ use Rattle.lq_parse.proofs.Again.{IsLiteral, literal_again, literal_words}
 use Rattle.lq_parse.proofs.Bytes.{Stops}
 use Rattle.lq_parse.proofs.Chains.{many_end, many_next}
 use Rattle.lq_parse.proofs.Fronts.{Says}
-use Rattle.lq_parse.proofs.QueryAgain.{IsReadName, name_word}
+use Rattle.lq_parse.proofs.Objects.{IsReadName, name_read, name_word}
 use Rattle.lq_parse.proofs.Spoken.{Below}
 use Rattle.lq_statement.proofs.KindTexts.{kind_again, kind_said, kind_words}
 use Rattle.lq_statement.proofs.ListsAgain.{literal_said}
@@ -222,9 +222,9 @@ column_again n k false false (Some l) rest = refl
 
 pub stated_again : (d : Dialect) (c : ColumnDef) (rest : List Word) → IsReadName c.name → is_kind c.kind ≡ true → IsDefault c.default → EndsItem rest
     → stated_column d (column_words d c rest) ≡ Some (record { name = c.name; kind = c.kind; nullable = null_of c.nullable; default = c.default; numbered = c.numbered; key = false; unique = false; target = None }, rest)
-unfolding stated_column name
+unfolding stated_column
 stated_again d c rest one is default end =
-    rw (one, kind_again d c.kind (number_words d c.numbered (null_words c.nullable (default_words c.default rest))) is (no_open d c.numbered c.nullable c.default rest end), clauses_again d c.numbered c.nullable c.default rest default end)
+    rw (name_read c.name (kind_words d c.kind (number_words d c.numbered (null_words c.nullable (default_words c.default rest)))) one, kind_again d c.kind (number_words d c.numbered (null_words c.nullable (default_words c.default rest))) is (no_open d c.numbered c.nullable c.default rest end), clauses_again d c.numbered c.nullable c.default rest default end)
     (column_again c.name c.kind c.numbered c.nullable c.default rest)
 
 null_same : (nullable : Bool) → unwrap_or (null_of nullable) true ≡ nullable

@@ -22,7 +22,8 @@ use Rattle.lq_model.specs.declared.word.WordKind.TheVariants as word
 use Rattle.lq_parse.proofs.Bytes.{Stops}
 use Rattle.lq_parse.proofs.Fronts.{Says}
 use Rattle.lq_parse.proofs.Lists.{EachItem}
-use Rattle.lq_parse.proofs.QueryAgain.{IsReadName, name_word, names_say, names_words}
+use Rattle.lq_parse.proofs.Objects.{IsReadName, IsReadObject, name_read, name_word, object_again}
+use Rattle.lq_parse.proofs.QueryAgain.{names_say, names_words}
 use Rattle.lq_parse.proofs.Spoken.{Below}
 use Rattle.lq_statement.proofs.ColumnAgain.{EndsItem}
 use Rattle.lq_statement.proofs.ListsAgain.{names_again}
@@ -37,7 +38,7 @@ names_is below d (n ∷ ns) rest stop = names_say below d n ns rest stop
 abbrev names_all : Below → (d : Dialect) (ns : List (List ℕ)) → Closed d (names_text d ns)
 names_all below d ns = record { these = names_words ns; is = names_is below d ns }
 
-abbrev key_word : Dialect → Word
+abbrev pub key_word : Dialect → Word
 key_word d = with_text word.Key (folded d (codes "KEY"))
 
 abbrev pub key_words : Dialect → Key → List Word → List Word
@@ -102,22 +103,19 @@ IsReadKey Postgresql k = IsReadName k.name × SomeNames k.columns
 IsReadKey Mysql k = (k.name ≡ primary) × SomeNames k.columns
 
 pub key_again : (d : Dialect) (t : List ℕ) (k : Key) (rest : List Word) → IsReadKey d k → table_constraint d t (key_words d k rest) ≡ Some (constraint.Key k, rest)
-unfolding table_constraint stated_name key key_name name name_of expect sees after same_kind
-key_again Postgresql t k rest h = rw (named_so k.name h.0, enclosed_names k.columns rest h.1) refl
-  where
-    named_so : (n : List ℕ) → IsReadName n → name_of n ≡ Some n
-    named_so n is = is
+unfolding table_constraint stated_name key key_name name_of expect sees after same_kind
+key_again Postgresql t k rest h = rw (name_read k.name (bare word.Primary ∷ key_word Postgresql ∷ bare word.Open ∷ names_words k.columns (bare word.Close ∷ rest)) h.0, enclosed_names k.columns rest h.1) refl
 key_again Mysql t k rest h = rw (enclosed_names k.columns rest h.1) (ap (λ n. Some (constraint.Key (record { name = n; columns = k.columns }), rest)) (sym h.0))
 
 abbrev pub IsReadUnique : Unique → Type 0
 IsReadUnique u = IsReadName u.name × SomeNames u.columns
 
 pub unique_again : (d : Dialect) (t : List ℕ) (u : Unique) (rest : List Word) → IsReadUnique u → table_constraint d t (unique_words u rest) ≡ Some (constraint.Unique u, rest)
-unfolding table_constraint stated_name unique name expect sees after same_kind
-unique_again d t u rest h = rw (h.0, enclosed_names u.columns rest h.1) refl
+unfolding table_constraint stated_name unique expect sees after same_kind
+unique_again d t u rest h = rw (name_read u.name (bare word.Unique ∷ bare word.Open ∷ names_words u.columns (bare word.Close ∷ rest)) h.0, enclosed_names u.columns rest h.1) refl
 
-abbrev pub IsReadForeign : ForeignKey → Type 0
-IsReadForeign f = IsReadName f.name × (SomeNames f.columns × (IsReadName f.table × SomeNames f.targets))
+abbrev pub IsReadForeign : Dialect → ForeignKey → Type 0
+IsReadForeign d f = IsReadName f.name × (SomeNames f.columns × (IsReadObject d f.table × SomeNames f.targets))
 
 delete_again : (d : Dialect) (cascade : Bool) (rest : List Word) → EndsItem rest → on_delete (cascade_words d cascade rest) ≡ Some (cascade, rest)
 unfolding on_delete expect sees after same_kind
@@ -126,13 +124,13 @@ delete_again d false rest (inl e) = rw e refl
 delete_again d false rest (inr (inl e)) = rw e refl
 delete_again d false rest (inr (inr e)) = rw e refl
 
-pub foreign_again : (d : Dialect) (t : List ℕ) (f : ForeignKey) (rest : List Word) → IsReadForeign f → EndsItem rest → table_constraint d t (foreign_words d f rest) ≡ Some (constraint.Foreign f, rest)
-unfolding table_constraint stated_name foreign name expect sees after same_kind
+pub foreign_again : (d : Dialect) (t : List ℕ) (f : ForeignKey) (rest : List Word) → IsReadForeign d f → EndsItem rest → table_constraint d t (foreign_words d f rest) ≡ Some (constraint.Foreign f, rest)
+unfolding table_constraint stated_name foreign expect sees after same_kind
 foreign_again d t f rest h end =
     rw (
-      h.0,
+      name_read f.name (bare word.Foreign ∷ key_word d ∷ bare word.Open ∷ names_words f.columns (bare word.Close ∷ bare word.References ∷ name_word f.table (bare word.Open ∷ names_words f.targets (bare word.Close ∷ cascade_words d f.cascade rest)))) h.0,
       enclosed_names f.columns (bare word.References ∷ name_word f.table (bare word.Open ∷ names_words f.targets (bare word.Close ∷ cascade_words d f.cascade rest))) h.1.0,
-      h.1.1.0,
+      object_again d f.table (bare word.Open ∷ names_words f.targets (bare word.Close ∷ cascade_words d f.cascade rest)) h.1.1.0 refl,
       enclosed_names f.targets (cascade_words d f.cascade rest) h.1.1.1,
       delete_again d f.cascade rest end,
     ) refl

@@ -14,7 +14,8 @@ use Rattle.lq_model.specs.declared.word.Word.{Word}
 use Rattle.lq_model.specs.declared.word.WordKind.TheVariants as word
 use Rattle.lq_parse.proofs.Again.{IsLiteral, literal_again, literal_words}
 use Rattle.lq_parse.proofs.Lists.{EachItem, IsAgain, listed_says, separated_again, tail_words}
-use Rattle.lq_parse.proofs.QueryAgain.{IsReadName, name_again, name_word, names_say, names_words}
+use Rattle.lq_parse.proofs.Objects.{IsReadName, name_word}
+use Rattle.lq_parse.proofs.QueryAgain.{name_again, names_say, names_words}
 use Rattle.lq_parse.proofs.Spoken.{Below, literal_says}
 use Rattle.lq_parse.proofs.Written.{literal_fact}
 use Rattle.lq_statement.proofs.Said.{Closed}

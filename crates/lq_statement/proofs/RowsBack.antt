@@ -8,7 +8,6 @@ use Rattle.lq_base.specs.declared.literal.Literal.{Literal}
 use Rattle.lq_model.specs.Phrase as text
 use Rattle.lq_model.specs.Spelled.{is_literal}
 use Rattle.lq_model.specs.SqlParser.{after, ended, expect, same_kind, sees}
-use Rattle.lq_model.specs.SqlPart.{name}
 use Rattle.lq_model.specs.SqlRows.{assignment, delete, insert, stated_columns, update}
 use Rattle.lq_model.specs.SqlStatement.{statement}
 use Rattle.lq_model.specs.SqlText.{statement_in}
@@ -24,9 +23,10 @@ use Rattle.lq_parse.proofs.Again.{IsLiteral, literal_again, literal_words}
 use Rattle.lq_parse.proofs.Bytes.{Stops}
 use Rattle.lq_parse.proofs.Fronts.{Says}
 use Rattle.lq_parse.proofs.Lists.{EachItem, IsAgain, listed_says, separated_again, tail_words}
-use Rattle.lq_parse.proofs.QueryAgain.{IsReadName, name_word, where_again, where_says_all, where_stops, where_words}
+use Rattle.lq_parse.proofs.Objects.{IsReadName, IsReadObject, name_fact, name_long, name_read, name_word, object_again}
+use Rattle.lq_parse.proofs.QueryAgain.{names_words, no_dot, where_again, where_says_all, where_stops, where_words}
 use Rattle.lq_parse.proofs.Spoken.{Below, then}
-use Rattle.lq_parse.proofs.Written.{literal_fact, name_fact}
+use Rattle.lq_parse.proofs.Written.{literal_fact}
 use Rattle.lq_statement.proofs.ListsAgain.{literal_long, literal_said, names_again, names_said, values_again, values_said}
 use Rattle.lq_statement.proofs.Phrases as say
 use Rattle.lq_statement.proofs.Said.{Closed, Tail, cl, ct, oc, opened, ready, same_words}
@@ -43,21 +43,21 @@ columns_said below d n ns =
 abbrev nothing : (d : Dialect) → Tail d []
 nothing d = record { these = λ ws. ws; is = λ rest stop. same_words (words d rest); stops = λ rest stop. stop }
 
-insert_all_back : Below → (d : Dialect) (t : List ℕ) (l : Literal) (ls : List Literal) → IsReadName t → is_literal l ≡ true → list_all is_literal ls ≡ true → IsLiteral l → EachItem IsLiteral ls
+insert_all_back : Below → (d : Dialect) (t : List ℕ) (l : Literal) (ls : List Literal) → IsReadObject d t → is_literal l ≡ true → list_all is_literal ls ≡ true → IsLiteral l → EachItem IsLiteral ls
     → statement_in d (text_of d (Insert t [] (l ∷ ls))) ≡ Some (Insert t [] (l ∷ ls))
-unfolding text.words kind_of_word statement insert stated_columns name sees same_kind after expect ended
+unfolding text.words kind_of_word statement insert stated_columns sees same_kind after expect ended
 insert_all_back below d t l ls h one all k each =
     read_back d (Insert t [] (l ∷ ls)) _ (ready (cl (oc (cl (ct (oc (say.insert_into below d) (named below d t)) (nothing d)) (say.values below d)) (values_said below d l ls one all)) (say.close below d)))
-    (rw (h, values_again l ls [] k each) refl)
+    (rw (object_again d t (bare word.Values ∷ bare word.Open ∷ literal_words l (tail_words literal_words ls (bare word.Close ∷ []))) h refl, values_again l ls [] k each) refl)
 
-insert_some_back : Below → (d : Dialect) (t n : List ℕ) (ns : List (List ℕ)) (l : Literal) (ls : List Literal) → IsReadName t → IsReadName n → EachItem IsReadName ns → is_literal l ≡ true → list_all is_literal ls ≡ true → IsLiteral l → EachItem IsLiteral ls
+insert_some_back : Below → (d : Dialect) (t n : List ℕ) (ns : List (List ℕ)) (l : Literal) (ls : List Literal) → IsReadObject d t → IsReadName n → EachItem IsReadName ns → is_literal l ≡ true → list_all is_literal ls ≡ true → IsLiteral l → EachItem IsLiteral ls
     → statement_in d (text_of d (Insert t (n ∷ ns) (l ∷ ls))) ≡ Some (Insert t (n ∷ ns) (l ∷ ls))
-unfolding text.words kind_of_word statement insert stated_columns name sees same_kind after expect ended
+unfolding text.words kind_of_word statement insert stated_columns sees same_kind after expect ended
 insert_some_back below d t n ns l ls h g more one all k each =
     read_back d (Insert t (n ∷ ns) (l ∷ ls)) _ (ready (cl (oc (cl (ct (oc (say.insert_into below d) (named below d t)) (columns_said below d n ns)) (say.values below d)) (values_said below d l ls one all)) (say.close below d)))
-    (rw (h, names_again n ns (bare word.Values ∷ bare word.Open ∷ literal_words l (tail_words literal_words ls (bare word.Close ∷ []))) g more, values_again l ls [] k each) refl)
+    (rw (object_again d t (bare word.Open ∷ names_words (n ∷ ns) (bare word.Close ∷ bare word.Values ∷ bare word.Open ∷ literal_words l (tail_words literal_words ls (bare word.Close ∷ [])))) h refl, names_again n ns (bare word.Values ∷ bare word.Open ∷ literal_words l (tail_words literal_words ls (bare word.Close ∷ []))) g more, values_again l ls [] k each) refl)
 
-pub insert_back : Below → (d : Dialect) (t : List ℕ) (ns : List (List ℕ)) (ls : List Literal) → IsReadName t → EachItem IsReadName ns → list_all is_literal ls ≡ true → EachItem IsLiteral ls → ls ≢ []
+pub insert_back : Below → (d : Dialect) (t : List ℕ) (ns : List (List ℕ)) (ls : List Literal) → IsReadObject d t → EachItem IsReadName ns → list_all is_literal ls ≡ true → EachItem IsLiteral ls → ls ≢ []
     → statement_in d (text_of d (Insert t ns ls)) ≡ Some (Insert t ns ls)
 insert_back below d t ns [] h more all each some = absurd (some refl)
 insert_back below d t [] (l ∷ ls) h more all each some = let both = and_parts (is_literal l) (list_all is_literal ls) all in insert_all_back below d t l ls h both.0 both.1 each.0 each.1
@@ -70,11 +70,11 @@ with_where below d bytes part test can = then d bytes (where_text d test) [] par
 
 -- DELETE
 
-pub delete_back : Below → (d : Dialect) (t : List ℕ) (test : Option Test) → IsReadName t → is_where test ≡ true → statement_in d (text_of d (Delete t test)) ≡ Some (Delete t test)
-unfolding text.words kind_of_word statement delete name sees same_kind after expect ended
+pub delete_back : Below → (d : Dialect) (t : List ℕ) (test : Option Test) → IsReadObject d t → is_where test ≡ true → statement_in d (text_of d (Delete t test)) ≡ Some (Delete t test)
+unfolding text.words kind_of_word statement delete sees same_kind after expect ended
 delete_back below d t test h can =
     read_says d (Delete t test) _ (λ ws. bare word.Delete ∷ bare word.From ∷ name_word t (where_words test ws)) (with_where below d _ (oc (say.delete_from below d) (named below d t)) test can)
-    (rw (h, where_again test can below) refl)
+    (rw (object_again d t (where_words test []) h (no_dot test), where_again test can below) refl)
 
 -- UPDATE
 
@@ -88,11 +88,11 @@ abbrev CanStand : List ℕ × Literal → Type 0
 CanStand s = is_literal s.1 ≡ true
 
 set_again : (s : List ℕ × Literal) (rest : List Word) → IsSet s → assignment (set_words s rest) ≡ Some (s, rest)
-unfolding assignment name expect sees same_kind
-set_again (n, l) rest h = rw (h.0, literal_again l rest h.1) refl
+unfolding assignment expect sees same_kind
+set_again (n, l) rest h = rw (name_read n (bare word.Equal ∷ literal_words l rest) h.0, literal_again l rest h.1) refl
 
 set_long : (s : List ℕ × Literal) (rest : List Word) → suc (length rest) ≤ length (set_words s rest)
-set_long (n, l) rest = omega (arith, literal_long l rest)
+set_long (n, l) rest = omega (arith, literal_long l rest, name_long n (bare word.Equal ∷ literal_words l rest))
 
 set_is_again : IsAgain IsSet assignment set_words
 set_is_again = record { read = set_again; long = set_long }
@@ -120,10 +120,10 @@ where_begins (Some t) = refl
 abbrev sets_said : Below → (d : Dialect) (s : List ℕ × Literal) (sets : List (List ℕ × Literal)) → CanStand s → EachItem CanStand sets → Closed d (listed (map (set_text d) (s ∷ sets)))
 sets_said below d s sets one each = record { these = λ ws. set_words s (tail_words set_words sets ws); is = λ rest stop. listed_says below d CanStand (set_text d) set_words (set_says below d) s sets rest one each stop }
 
-pub update_back : Below → (d : Dialect) (t : List ℕ) (s : List ℕ × Literal) (sets : List (List ℕ × Literal)) (test : Option Test) → IsReadName t → IsSet s → EachItem IsSet sets → CanStand s → list_all (λ s. is_literal s.1) sets ≡ true
+pub update_back : Below → (d : Dialect) (t : List ℕ) (s : List ℕ × Literal) (sets : List (List ℕ × Literal)) (test : Option Test) → IsReadObject d t → IsSet s → EachItem IsSet sets → CanStand s → list_all (λ s. is_literal s.1) sets ≡ true
     → is_where test ≡ true → statement_in d (text_of d (Update t (s ∷ sets) test)) ≡ Some (Update t (s ∷ sets) test)
-unfolding text.words kind_of_word statement update name sees same_kind after expect ended
+unfolding text.words kind_of_word statement update sees same_kind after expect ended
 update_back below d t s sets test h one each stands all can =
     read_says d (Update t (s ∷ sets) test) _ (λ ws. bare word.Update ∷ name_word t (bare word.Set ∷ set_words s (tail_words set_words sets (where_words test ws))))
     (with_where below d _ (oc (cl (oc (say.update below d) (named below d t)) (say.set below d)) (sets_said below d s sets stands (each_stands sets all))) test can)
-    (rw (h, separated_again IsSet assignment set_words set_is_again s sets (where_words test []) one each (where_begins test), where_again test can below) refl)
+    (rw (object_again d t (bare word.Set ∷ set_words s (tail_words set_words sets (where_words test []))) h refl, separated_again IsSet assignment set_words set_is_again s sets (where_words test []) one each (where_begins test), where_again test can below) refl)

@@ -3,6 +3,7 @@ use Rattle.std.proofs.Common.{◌≡◌, ◌≤◌, ℕ, suc, nat_le, Bool, true
 use Rattle.std.specs.List.{flat_map}
 use Rattle.std.proofs.lemmas.Bool.{le-leb, leb-true}
 use Rattle.lq_base.specs.Kind.{is_kind}
+use Rattle.lq_base.specs.Name.{parts_of}
 use Rattle.lq_base.specs.declared.dialect.Dialect.{Dialect}
 use Rattle.lq_base.specs.declared.dialect.Dialect.TheVariants.{Postgresql, Mysql}
 use Rattle.lq_base.specs.declared.kind.Kind.{Kind}
@@ -11,9 +12,9 @@ use Rattle.lq_base.specs.declared.literal.Literal.{Literal}
 use Rattle.lq_model.specs.Phrase as text
 use Rattle.lq_model.specs.SqlAlter.{add, add_column, add_constraint, alter, alter_table}
 use Rattle.lq_model.specs.SqlColumn.{column_foreign, column_key, column_unique}
+use Rattle.lq_model.specs.SqlConstraint.{begins_constraint}
 use Rattle.lq_model.specs.SqlCreate.{create}
-use Rattle.lq_model.specs.SqlParser.{after, enclosed, ended, expect, same_kind, sees}
-use Rattle.lq_model.specs.SqlPart.{name}
+use Rattle.lq_model.specs.SqlParser.{after, enclosed, ended, expect, kind, same_kind, sees}
 use Rattle.lq_model.specs.SqlStatement.{statement}
 use Rattle.lq_model.specs.SqlTable.{are_ordered, column_item, columns_in, create_table, foreign_in, keys_in, only, rank, table_item, table_of, uniques_in}
 use Rattle.lq_model.specs.SqlText.{statement_in}
@@ -34,11 +35,12 @@ use Rattle.lq_model.specs.declared.word.WordKind.TheVariants as word
 use Rattle.lq_parse.proofs.Bytes.{Stops}
 use Rattle.lq_parse.proofs.Fronts.{Says}
 use Rattle.lq_parse.proofs.Lists.{EachItem, IsAgainBefore, listed_says, separated_before, tail_says, tail_stops, tail_words}
-use Rattle.lq_parse.proofs.QueryAgain.{IsReadName, name_word, names_words}
+use Rattle.lq_parse.proofs.Objects.{IsReadName, IsReadObject, name_long, name_word, object_again, words_in}
+use Rattle.lq_parse.proofs.QueryAgain.{names_words}
 use Rattle.lq_parse.proofs.Spoken.{Below}
 use Rattle.lq_statement.proofs.Order.{are_ordered_from, ordered_is}
 use Rattle.lq_statement.proofs.ColumnAgain.{CanDefault, EndsItem, IsDefault, added_again, column_same, column_says, column_words, default_words, null_words, number_words, stated_again}
-use Rattle.lq_statement.proofs.ConstraintAgain.{cascade_words, IsReadForeign, IsReadKey, IsReadUnique, foreign_again, foreign_says, foreign_words, key_again, key_says, key_words, unique_again, unique_says, unique_words}
+use Rattle.lq_statement.proofs.ConstraintAgain.{cascade_words, IsReadForeign, IsReadKey, IsReadUnique, foreign_again, foreign_says, foreign_words, key_again, key_says, key_word, key_words, unique_again, unique_says, unique_words}
 use Rattle.lq_statement.proofs.KindTexts.{kind_words}
 use Rattle.lq_statement.proofs.ListsAgain.{literal_long}
 use Rattle.lq_statement.proofs.Named.{of_table}
@@ -54,24 +56,24 @@ at_end = inr (inr refl)
 abbrev pub IsReadColumn : ColumnDef → Type 0
 IsReadColumn c = IsReadName c.name × ((is_kind c.kind ≡ true) × (CanDefault c.default × IsDefault c.default))
 
-pub add_column_back : Below → (d : Dialect) (t : List ℕ) (c : ColumnDef) → IsReadName t → IsReadColumn c → statement_in d (text_of d (AddColumn t c)) ≡ Some (AddColumn t c)
-unfolding text.words kind_of_word statement alter alter_table add add_column name sees same_kind after expect ended
+pub add_column_back : Below → (d : Dialect) (t : List ℕ) (c : ColumnDef) → IsReadObject d t → IsReadColumn c → statement_in d (text_of d (AddColumn t c)) ≡ Some (AddColumn t c)
+unfolding text.words kind_of_word statement alter alter_table add add_column sees same_kind after expect ended
 add_column_back below d t c h is =
     read_back d (AddColumn t c) _ (oc (cl (of_table below d t) (say.add_column below d)) (record { these = column_words d c; is = λ rest stop. column_says below d c rest is.1.0 is.1.1.0 stop }))
-    (rw (h, added_again d c [] is.0 is.1.0 is.1.1.1 at_end) refl)
+    (rw (object_again d t (bare word.Add ∷ bare word.Column ∷ column_words d c []) h refl, added_again d c [] is.0 is.1.0 is.1.1.1 at_end) refl)
 
-pub add_key_back : Below → (d : Dialect) (t : List ℕ) (k : Key) → IsReadName t → IsReadKey d k → statement_in d (text_of d (AddPrimaryKey t k)) ≡ Some (AddPrimaryKey t k)
-unfolding text.words kind_of_word statement alter alter_table add add_constraint name sees same_kind after expect ended
-add_key_back below Postgresql t k h is = read_back Postgresql (AddPrimaryKey t k) _ (ready (oo (cl (of_table below Postgresql t) (say.add below Postgresql)) (record { these = key_words Postgresql k; is = key_says below Postgresql k }))) (rw (h, key_again Postgresql t k [] is) refl)
-add_key_back below Mysql t k h is = read_back Mysql (AddPrimaryKey t k) _ (ready (oo (cl (of_table below Mysql t) (say.add below Mysql)) (record { these = key_words Mysql k; is = key_says below Mysql k }))) (rw (h, key_again Mysql t k [] is) refl)
+pub add_key_back : Below → (d : Dialect) (t : List ℕ) (k : Key) → IsReadObject d t → IsReadKey d k → statement_in d (text_of d (AddPrimaryKey t k)) ≡ Some (AddPrimaryKey t k)
+unfolding text.words kind_of_word statement alter alter_table add add_constraint sees same_kind after expect ended
+add_key_back below Postgresql t k h is = read_back Postgresql (AddPrimaryKey t k) _ (ready (oo (cl (of_table below Postgresql t) (say.add below Postgresql)) (record { these = key_words Postgresql k; is = key_says below Postgresql k }))) (rw (object_again Postgresql t (bare word.Add ∷ key_words Postgresql k []) h refl, key_again Postgresql t k [] is) refl)
+add_key_back below Mysql t k h is = read_back Mysql (AddPrimaryKey t k) _ (ready (oo (cl (of_table below Mysql t) (say.add below Mysql)) (record { these = key_words Mysql k; is = key_says below Mysql k }))) (rw (object_again Mysql t (bare word.Add ∷ key_words Mysql k []) h refl, key_again Mysql t k [] is) refl)
 
-pub add_unique_back : Below → (d : Dialect) (t : List ℕ) (u : Unique) → IsReadName t → IsReadUnique u → statement_in d (text_of d (AddUnique t u)) ≡ Some (AddUnique t u)
-unfolding text.words kind_of_word statement alter alter_table add add_constraint name sees same_kind after expect ended
-add_unique_back below d t u h is = read_back d (AddUnique t u) _ (ready (oo (cl (of_table below d t) (say.add below d)) (record { these = unique_words u; is = unique_says below d u }))) (rw (h, unique_again d t u [] is) refl)
+pub add_unique_back : Below → (d : Dialect) (t : List ℕ) (u : Unique) → IsReadObject d t → IsReadUnique u → statement_in d (text_of d (AddUnique t u)) ≡ Some (AddUnique t u)
+unfolding text.words kind_of_word statement alter alter_table add add_constraint sees same_kind after expect ended
+add_unique_back below d t u h is = read_back d (AddUnique t u) _ (ready (oo (cl (of_table below d t) (say.add below d)) (record { these = unique_words u; is = unique_says below d u }))) (rw (object_again d t (bare word.Add ∷ unique_words u []) h refl, unique_again d t u [] is) refl)
 
-pub add_foreign_back : Below → (d : Dialect) (t : List ℕ) (f : ForeignKey) → IsReadName t → IsReadForeign f → statement_in d (text_of d (AddForeignKey t f)) ≡ Some (AddForeignKey t f)
-unfolding text.words kind_of_word statement alter alter_table add add_constraint name sees same_kind after expect ended
-add_foreign_back below d t f h is = read_back d (AddForeignKey t f) _ (oc (cl (of_table below d t) (say.add below d)) (record { these = foreign_words d f; is = λ rest stop. foreign_says below d f rest stop })) (rw (h, foreign_again d t f [] is at_end) refl)
+pub add_foreign_back : Below → (d : Dialect) (t : List ℕ) (f : ForeignKey) → IsReadObject d t → IsReadForeign d f → statement_in d (text_of d (AddForeignKey t f)) ≡ Some (AddForeignKey t f)
+unfolding text.words kind_of_word statement alter alter_table add add_constraint sees same_kind after expect ended
+add_foreign_back below d t f h is = read_back d (AddForeignKey t f) _ (oc (cl (of_table below d t) (say.add below d)) (record { these = foreign_words d f; is = λ rest stop. foreign_says below d f rest stop })) (rw (object_again d t (bare word.Add ∷ foreign_words d f []) h refl, foreign_again d t f [] is at_end) refl)
 
 -- the items of CREATE TABLE
 
@@ -97,11 +99,16 @@ abbrev pub IsItem : Dialect → TableItem → Type 0
 IsItem d (item.Column c key unique foreign) = IsReadColumn c × ((key ≡ None) × ((unique ≡ None) × (foreign ≡ None)))
 IsItem d (item.Constraint (constraint.Key k)) = IsReadKey d k
 IsItem d (item.Constraint (constraint.Unique u)) = IsReadUnique u
-IsItem d (item.Constraint (constraint.Foreign f)) = IsReadForeign f
+IsItem d (item.Constraint (constraint.Foreign f)) = IsReadForeign d f
+
+-- a name begins no constraint
+no_constraint : (n : List ℕ) (o : Option (List ℕ × List ℕ)) (rest : List Word) → begins_constraint (kind (words_in n o rest)) ≡ false
+no_constraint n None rest = refl
+no_constraint n (Some parts) rest = refl
 
 item_again : (d : Dialect) (t : List ℕ) (i : TableItem) (rest : List Word) → IsItem d i → EndsItem rest → table_item d t (item_words d i rest) ≡ Some (i, rest)
 unfolding table_item column_item column_key column_unique column_foreign
-item_again d t (item.Column c None None None) rest h end = rw (stated_again d c rest h.0.0 h.0.1.0 h.0.1.1.1 end) (ap (λ z. Some (column_alone z, rest)) (column_same c))
+item_again d t (item.Column c None None None) rest h end = rw (no_constraint c.name (parts_of c.name) (kind_words d c.kind (number_words d c.numbered (null_words c.nullable (default_words c.default rest)))), stated_again d c rest h.0.0 h.0.1.0 h.0.1.1.1 end) (ap (λ z. Some (column_alone z, rest)) (column_same c))
 item_again Postgresql t (item.Constraint (constraint.Key k)) rest h end = rw (key_again Postgresql t k rest h) refl
 item_again Mysql t (item.Constraint (constraint.Key k)) rest h end = rw (key_again Mysql t k rest h) refl
 item_again d t (item.Constraint (constraint.Unique u)) rest h end = rw (unique_again d t u rest h) refl
@@ -113,11 +120,11 @@ item_again d t (item.Column c None None (Some f)) rest h end = let no : Some f �
 -- each item has a word at least
 names_long : (ns : List (List ℕ)) (rest : List Word) → length rest ≤ length (names_words ns rest)
 names_long [] rest = omega arith
-names_long (n ∷ ns) rest = let more = names_tail ns rest in omega (arith, more)
+names_long (n ∷ ns) rest = let more = names_tail ns rest in omega (arith, more, name_long n (tail_words name_word ns rest))
   where
     names_tail : (ns : List (List ℕ)) (rest : List Word) → length rest ≤ length (tail_words name_word ns rest)
     names_tail [] rest = omega arith
-    names_tail (n ∷ ns) rest = let more = names_tail ns rest in omega (arith, more)
+    names_tail (n ∷ ns) rest = let more = names_tail ns rest in omega (arith, more, name_long n (tail_words name_word ns rest))
 
 default_long : (default : Option Literal) (rest : List Word) → length rest ≤ length (default_words default rest)
 default_long None rest = omega arith
@@ -153,15 +160,24 @@ item_long d (item.Column c key unique foreign) rest =
     let b = null_long c.nullable (default_words c.default rest) in
     let e = number_long d c.numbered (null_words c.nullable (default_words c.default rest)) in
     let f = kind_long d c.kind (number_words d c.numbered (null_words c.nullable (default_words c.default rest))) in
-    omega (arith, a, b, e, f)
-item_long Postgresql (item.Constraint (constraint.Key k)) rest = let a = names_long k.columns (bare word.Close ∷ rest) in omega (arith, a)
+    let g = name_long c.name (kind_words d c.kind (number_words d c.numbered (null_words c.nullable (default_words c.default rest)))) in
+    omega (arith, a, b, e, f, g)
+item_long Postgresql (item.Constraint (constraint.Key k)) rest =
+    let a = names_long k.columns (bare word.Close ∷ rest) in
+    let b = name_long k.name (bare word.Primary ∷ key_word Postgresql ∷ bare word.Open ∷ names_words k.columns (bare word.Close ∷ rest)) in
+    omega (arith, a, b)
 item_long Mysql (item.Constraint (constraint.Key k)) rest = let a = names_long k.columns (bare word.Close ∷ rest) in omega (arith, a)
-item_long d (item.Constraint (constraint.Unique u)) rest = let a = names_long u.columns (bare word.Close ∷ rest) in omega (arith, a)
+item_long d (item.Constraint (constraint.Unique u)) rest =
+    let a = names_long u.columns (bare word.Close ∷ rest) in
+    let b = name_long u.name (bare word.Unique ∷ bare word.Open ∷ names_words u.columns (bare word.Close ∷ rest)) in
+    omega (arith, a, b)
 item_long d (item.Constraint (constraint.Foreign f)) rest =
     let a = cascade_long d f.cascade rest in
     let b = names_long f.targets (bare word.Close ∷ cascade_words d f.cascade rest) in
     let e = names_long f.columns (bare word.Close ∷ bare word.References ∷ name_word f.table (bare word.Open ∷ names_words f.targets (bare word.Close ∷ cascade_words d f.cascade rest))) in
-    omega (arith, a, b, e)
+    let g = name_long f.table (bare word.Open ∷ names_words f.targets (bare word.Close ∷ cascade_words d f.cascade rest)) in
+    let h = name_long f.name (bare word.Foreign ∷ key_word d ∷ bare word.Open ∷ names_words f.columns (bare word.Close ∷ bare word.References ∷ name_word f.table (bare word.Open ∷ names_words f.targets (bare word.Close ∷ cascade_words d f.cascade rest)))) in
+    omega (arith, a, b, e, g, h)
 
 -- lists of items, each before what ends one
 
@@ -312,10 +328,10 @@ table_says below d c cs key us fs rest one each stop =
     (ct {a = listed (map (column_text d) (c ∷ cs)) ++ key_in_table d key ++ after_commas (map (unique_text d) us)} {b = after_commas (map (foreign_text d) fs)}
     (ct {a = listed (map (column_text d) (c ∷ cs)) ++ key_in_table d key} {b = after_commas (map (unique_text d) us)} (ct {a = listed (map (column_text d) (c ∷ cs))} {b = key_in_table d key} columns keys) uniques) foreign).is rest stop
 
-pub create_table_back : Below → (d : Dialect) (t : List ℕ) (c : ColumnDef) (cs : List ColumnDef) (key : Option Key) (us : List Unique) (fs : List ForeignKey) → IsReadName t → IsReadColumn c → EachItem (IsItem d) (map column_alone cs ++ (map key_item (key_list key) ++ (map unique_item us ++ map foreign_item fs))) → EachItem IsReadColumn cs
+pub create_table_back : Below → (d : Dialect) (t : List ℕ) (c : ColumnDef) (cs : List ColumnDef) (key : Option Key) (us : List Unique) (fs : List ForeignKey) → IsReadObject d t → IsReadColumn c → EachItem (IsItem d) (map column_alone cs ++ (map key_item (key_list key) ++ (map unique_item us ++ map foreign_item fs))) → EachItem IsReadColumn cs
     → statement_in d (text_of d (CreateTable t (c ∷ cs) key us fs)) ≡ Some (CreateTable t (c ∷ cs) key us fs)
-unfolding text.words kind_of_word statement create create_table name sees same_kind after expect ended
+unfolding text.words kind_of_word statement create create_table sees same_kind after expect ended
 create_table_back below d t c cs key us fs h one each columns =
     read_back d (CreateTable t (c ∷ cs) key us fs) _
     (ready (cl (oc (cl (oc (say.create_table below d) (named below d t)) (say.open_next below d)) (record { these = table_words d c cs key us fs; is = λ rest stop. table_says below d c cs key us fs rest one columns stop })) (say.close below d)))
-    (rw (h, sym (words_same d c cs key us fs (bare word.Close ∷ [])), items_again d t (column_alone c) (map column_alone cs ++ (map key_item (key_list key) ++ (map unique_item us ++ map foreign_item fs))) [] (one, (refl, (refl, refl))) each, table_again t c cs key us fs) refl)
+    (rw (object_again d t (bare word.Open ∷ table_words d c cs key us fs (bare word.Close ∷ [])) h refl, sym (words_same d c cs key us fs (bare word.Close ∷ [])), items_again d t (column_alone c) (map column_alone cs ++ (map key_item (key_list key) ++ (map unique_item us ++ map foreign_item fs))) [] (one, (refl, (refl, refl))) each, table_again t c cs key us fs) refl)

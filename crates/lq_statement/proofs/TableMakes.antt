@@ -4,13 +4,13 @@ use Rattle.std.specs.List.{flat_map, list_all}
 use Rattle.std.specs.Option.{option_to_list}
 use Rattle.std.proofs.lemmas.Bool.{and_from, and_parts}
 use Rattle.lq_base.specs.Laws.{NumberOfSpells}
-use Rattle.lq_base.specs.Name.{is_name}
+use Rattle.lq_base.specs.Name.{is_object}
 use Rattle.lq_base.specs.declared.dialect.Dialect.{Dialect}
 use Rattle.lq_model.specs.Names.{is_empty}
 use Rattle.lq_model.specs.SqlColumn.{column_foreign, column_key, column_of, column_unique, stated_column}
 use Rattle.lq_model.specs.SqlConstraint.{begins_constraint, table_constraint}
 use Rattle.lq_model.specs.SqlParser.{enclosed, peek}
-use Rattle.lq_model.specs.SqlPart.{name}
+use Rattle.lq_model.specs.SqlPart.{object}
 use Rattle.lq_model.specs.SqlTable.{are_ordered, column_item, columns_in, create_table, foreign_in, keys_in, only, table_item, table_of, table_with, uniques_in}
 use Rattle.lq_model.specs.Statement.{is_column_def, is_foreign, is_key, is_unique}
 use Rattle.lq_model.specs.TableNames.{key_list}
@@ -18,21 +18,21 @@ use Rattle.lq_model.specs.declared.constraint.Key.{Key}
 use Rattle.lq_model.specs.declared.table_item.TableConstraint.TheVariants as constraint
 use Rattle.lq_model.specs.declared.table_item.TableItem.{TableItem}
 use Rattle.lq_model.specs.declared.table_item.TableItem.TheVariants as item
-use Rattle.lq_parse.proofs.Makes.{AllSo, IsNameText, Makes, SomeSo, all_join, makes_after, makes_given, makes_if, makes_pure, makes_then, name_makes, one}
+use Rattle.lq_parse.proofs.Makes.{AllSo, IsObjectText, Makes, SomeSo, all_join, makes_after, makes_given, makes_if, makes_pure, makes_then, object_makes, one}
 use Rattle.lq_statement.proofs.ColumnMakes.{IsDef, IsStated, MayBeForeign, MayBeKey, MayBeUnique, column_foreign_makes, column_is, column_key_makes, column_unique_makes, stated_makes}
 use Rattle.lq_statement.proofs.ConstraintMakes.{IsConstraint, constraint_makes}
 use Rattle.lq_statement.proofs.Parts.{Is, each_so, enclosed_makes}
 
 abbrev IsItem : Dialect → TableItem → Type 0
-IsItem d (item.Column column key unique foreign) = IsDef column × (MayBeKey d key × (MayBeUnique unique × MayBeForeign foreign))
+IsItem d (item.Column column key unique foreign) = IsDef column × (MayBeKey d key × (MayBeUnique unique × MayBeForeign d foreign))
 IsItem d (item.Constraint it) = IsConstraint d it
 
 column_item_makes : NumberOfSpells → (d : Dialect) (table : List ℕ) → Makes (IsItem d) (column_item d table)
 unfolding column_item
 column_item_makes spells d table =
-    makes_then IsStated (IsItem d) (stated_column d) _ (stated_makes spells d) (λ c is. makes_then (MayBeKey d) (IsItem d) (column_key d table c) _ (column_key_makes d table c is) (λ key h.
-    makes_then MayBeUnique (IsItem d) (column_unique table c) _ (column_unique_makes table c is) (λ unique g. makes_then MayBeForeign (IsItem d) (column_foreign table c.name c.target) _ (column_foreign_makes table c.name c.target is.name is.target) (λ foreign k.
-    makes_pure (IsItem d) (item.Column (column_of c) key unique foreign) (column_is c is, (h, (g, k)))))))
+    makes_then (IsStated d) (IsItem d) (stated_column d) _ (stated_makes spells d) (λ c is. makes_then (MayBeKey d) (IsItem d) (column_key d table c) _ (column_key_makes d table c is) (λ key h.
+    makes_then MayBeUnique (IsItem d) (column_unique table c) _ (column_unique_makes d table c is) (λ unique g. makes_then (MayBeForeign d) (IsItem d) (column_foreign table c.name c.target) _ (column_foreign_makes d table c.name c.target is.name is.target) (λ foreign k.
+    makes_pure (IsItem d) (item.Column (column_of c) key unique foreign) (column_is d c is, (h, (g, k)))))))
 
 item_makes : NumberOfSpells → (d : Dialect) (table : List ℕ) → Makes (IsItem d) (table_item d table)
 unfolding table_item
@@ -65,11 +65,11 @@ uniques_are d (item.Constraint (constraint.Key it)) h = refl
 uniques_are d (item.Constraint (constraint.Unique it)) h = one is_unique it h
 uniques_are d (item.Constraint (constraint.Foreign it)) h = refl
 
-foreign_are : (d : Dialect) (i : TableItem) → IsItem d i → list_all is_foreign (foreign_in i) ≡ true
-foreign_are d (item.Column column key unique foreign) h = may is_foreign foreign h.1.1.1
+foreign_are : (d : Dialect) (i : TableItem) → IsItem d i → list_all (is_foreign d) (foreign_in i) ≡ true
+foreign_are d (item.Column column key unique foreign) h = may (is_foreign d) foreign h.1.1.1
 foreign_are d (item.Constraint (constraint.Key it)) h = refl
 foreign_are d (item.Constraint (constraint.Unique it)) h = refl
-foreign_are d (item.Constraint (constraint.Foreign it)) h = one is_foreign it h
+foreign_are d (item.Constraint (constraint.Foreign it)) h = one (is_foreign d) it h
 
 -- at most one key
 only_is : (p : Key → Bool) (keys : List Key) → list_all p keys ≡ true → IfSome (only keys) (λ key. list_all p (key_list key) ≡ true)
@@ -89,23 +89,23 @@ tested : {A : Type 0} (P : A → Type 0) (b : Bool) (o : Option A) → (b ≡ tr
 tested P true o h = h refl
 tested P false o h = tt
 
-table_is : (d : Dialect) (table : List ℕ) (items : List TableItem) → IsNameText table → AllSo (IsItem d) items → IfSome (table_of table items) (Is d)
+table_is : (d : Dialect) (table : List ℕ) (items : List TableItem) → IsObjectText d table → AllSo (IsItem d) items → IfSome (table_of table items) (Is d)
 unfolding table_of
 table_is d table items h so =
     let defs = all_of is_column_def columns_in (IsItem d) (defs_are d) items so in
     let keys = only_is (is_key d) (flat_map keys_in items) (all_of (is_key d) keys_in (IsItem d) (keys_are d) items so) in
     let uniques = all_of is_unique uniques_in (IsItem d) (uniques_are d) items so in
-    let foreign = all_of is_foreign foreign_in (IsItem d) (foreign_are d) items so in
+    let foreign = all_of (is_foreign d) foreign_in (IsItem d) (foreign_are d) items so in
     tested (Is d) (are_ordered items && not (is_empty (flat_map columns_in items))) _ (λ can.
     let some = (and_parts (are_ordered items) (not (is_empty (flat_map columns_in items))) can).1 in
     mapped (Is d) (table_with table items) (only (flat_map keys_in items))
     (more_of (λ key. list_all (is_key d) (key_list key) ≡ true) (λ key. Is d (table_with table items key)) (λ key k.
-    and_from (is_name table) _ h (and_from (not (is_empty (flat_map columns_in items))) _ some (and_from (list_all is_column_def (flat_map columns_in items)) _ defs (and_from (list_all (is_key d) (key_list key)) _ k
-    (and_from (list_all is_unique (flat_map uniques_in items)) (list_all is_foreign (flat_map foreign_in items)) uniques foreign)))))
+    and_from (is_object d table) _ h (and_from (not (is_empty (flat_map columns_in items))) _ some (and_from (list_all is_column_def (flat_map columns_in items)) _ defs (and_from (list_all (is_key d) (key_list key)) _ k
+    (and_from (list_all is_unique (flat_map uniques_in items)) (list_all (is_foreign d) (flat_map foreign_in items)) uniques foreign)))))
     (only (flat_map keys_in items)) keys))
 
 pub table_makes : NumberOfSpells → (d : Dialect) → Makes (Is d) (create_table d)
 unfolding create_table
 table_makes spells d =
-    makes_then IsNameText (Is d) name _ name_makes (λ table h. makes_then (SomeSo (IsItem d)) (Is d) (enclosed (table_item d table)) _ (enclosed_makes (IsItem d) (table_item d table) (item_makes spells d table)) (λ items so.
+    makes_then (IsObjectText d) (Is d) (object d) _ (object_makes d) (λ table h. makes_then (SomeSo (IsItem d)) (Is d) (enclosed (table_item d table)) _ (enclosed_makes (IsItem d) (table_item d table) (item_makes spells d table)) (λ items so.
     makes_given (Is d) (table_of table items) (table_is d table items h (each_so (IsItem d) items so))))

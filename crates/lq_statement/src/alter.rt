@@ -9,16 +9,17 @@ use crate::kind::column_kind;
 use lq_base::{Dialect, Name};
 use lq_model::{ParseFault, Statement, TableConstraint, WordKind};
 use lq_parse::cursor::Words;
-use lq_parse::part::name;
+use lq_parse::part::{name, object};
 use std::alloc::Global;
 
-// `TO q`
+// `TO q`: a name of an object in the schema that it is in.
 #[tactic(auto, unfolding(lq_model::specs::SqlAlter::new_name))]
-fn new_name(alloc: Global, words: &mut Words<'_>) -> Result<Name, ParseFault>
-    ensures { Reads (spec.new_name words.old) result words.new }
+fn new_name(alloc: Global, words: &mut Words<'_>, old: &Name) -> Result<Name, ParseFault>
+    ensures { Reads (spec.new_name old.now words.old) result words.new }
 {
     words.expect(WordKind::To)?;
-    name(alloc, words)
+    let to = name(alloc, words)?;
+    Ok(to.beside(alloc, old)?)
 }
 
 fn constraint_added(table: Name, constraint: TableConstraint) -> Statement
@@ -117,7 +118,8 @@ fn rename_column(alloc: Global, words: &mut Words<'_>, table: Name) -> Result<St
     ensures { Reads (spec.rename_column table words.old) result words.new }
 {
     let column = name(alloc, words)?;
-    let to = new_name(alloc, words)?;
+    words.expect(WordKind::To)?;
+    let to = name(alloc, words)?;
     Ok(Statement::RenameColumn { table, column, to })
 }
 
@@ -130,7 +132,7 @@ pub fn rename_table_to(
 ) -> Result<Statement, ParseFault>
     ensures { Reads (spec.rename_table_to table words.old) result words.new }
 {
-    let to = new_name(alloc, words)?;
+    let to = new_name(alloc, words, &table)?;
     Ok(Statement::RenameTable { table, to })
 }
 
@@ -172,7 +174,7 @@ fn alter_table(
 ) -> Result<Statement, ParseFault>
     ensures { Reads (spec.alter_table dialect words.old) result words.new }
 {
-    let table = name(alloc, words)?;
+    let table = object(alloc, dialect, words)?;
     let part = words.peek();
     words.skip();
     match (dialect, part) {
@@ -186,22 +188,30 @@ fn alter_table(
 }
 
 #[tactic(auto, unfolding(lq_model::specs::SqlAlter::alter_view))]
-fn alter_view(alloc: Global, words: &mut Words<'_>) -> Result<Statement, ParseFault>
-    ensures { Reads (spec.alter_view words.old) result words.new }
+fn alter_view(
+    alloc: Global,
+    dialect: Dialect,
+    words: &mut Words<'_>,
+) -> Result<Statement, ParseFault>
+    ensures { Reads (spec.alter_view dialect words.old) result words.new }
 {
-    let view = name(alloc, words)?;
+    let view = object(alloc, dialect, words)?;
     words.expect(WordKind::Rename)?;
-    let to = new_name(alloc, words)?;
+    let to = new_name(alloc, words, &view)?;
     Ok(Statement::RenameView { view, to })
 }
 
 #[tactic(auto, unfolding(lq_model::specs::SqlAlter::alter_sequence))]
-fn alter_sequence(alloc: Global, words: &mut Words<'_>) -> Result<Statement, ParseFault>
-    ensures { Reads (spec.alter_sequence words.old) result words.new }
+fn alter_sequence(
+    alloc: Global,
+    dialect: Dialect,
+    words: &mut Words<'_>,
+) -> Result<Statement, ParseFault>
+    ensures { Reads (spec.alter_sequence dialect words.old) result words.new }
 {
-    let name = name(alloc, words)?;
+    let name = object(alloc, dialect, words)?;
     words.expect(WordKind::Rename)?;
-    let to = new_name(alloc, words)?;
+    let to = new_name(alloc, words, &name)?;
     Ok(Statement::RenameSequence { name, to })
 }
 
@@ -218,8 +228,8 @@ pub fn alter(
     words.skip();
     match (dialect, part) {
         (_, WordKind::Table) => alter_table(alloc, dialect, words),
-        (Dialect::Postgresql, WordKind::View) => alter_view(alloc, words),
-        (Dialect::Postgresql, WordKind::Sequence) => alter_sequence(alloc, words),
+        (Dialect::Postgresql, WordKind::View) => alter_view(alloc, dialect, words),
+        (Dialect::Postgresql, WordKind::Sequence) => alter_sequence(alloc, dialect, words),
         _ => Err(ParseFault::NotSql),
     }
 }

@@ -9,7 +9,7 @@ use lq_base::{Dialect, Name};
 use lq_model::{ForeignKey, Key, ParseFault, TableConstraint, Unique, WordKind};
 use lq_parse::cursor::Words;
 use lq_parse::list::enclosed;
-use lq_parse::part::name;
+use lq_parse::part::{name, object};
 use std::alloc::Global;
 
 // The stated name of a key, which mysql passes over, or the one by default.
@@ -87,17 +87,18 @@ fn on_delete(words: &mut Words<'_>) -> Result<bool, ParseFault>
 #[tactic(auto, unfolding(lq_model::specs::SqlConstraint::foreign))]
 fn foreign(
     alloc: Global,
+    dialect: Dialect,
     words: &mut Words<'_>,
     table: &Name,
     stated: Option<Name>,
 ) -> Result<ForeignKey, ParseFault>
-    ensures { Reads (spec.foreign table.now stated words.old) result words.new }
+    ensures { Reads (spec.foreign dialect table.now stated words.old) result words.new }
 {
     words.expect(WordKind::Foreign)?;
     words.expect(WordKind::Key)?;
     let columns = enclosed(alloc, words, &name)?;
     words.expect(WordKind::References)?;
-    let target = name(alloc, words)?;
+    let target = object(alloc, dialect, words)?;
     let targets = enclosed(alloc, words, &name)?;
     let cascade = on_delete(words)?;
     let name = match stated {
@@ -149,7 +150,9 @@ pub fn table_constraint(
     match words.peek() {
         WordKind::Primary => Ok(TableConstraint::Key(key(alloc, dialect, words, table, stated)?)),
         WordKind::Unique => Ok(TableConstraint::Unique(unique(alloc, words, table, stated)?)),
-        WordKind::Foreign => Ok(TableConstraint::Foreign(foreign(alloc, words, table, stated)?)),
+        WordKind::Foreign => {
+            Ok(TableConstraint::Foreign(foreign(alloc, dialect, words, table, stated)?))
+        }
         _ => Err(ParseFault::NotSql),
     }
 }

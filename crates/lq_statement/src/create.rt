@@ -6,19 +6,24 @@ use lq_base::{Dialect, Literal};
 use lq_model::{Index, ParseFault, Statement, WordKind};
 use lq_parse::cursor::Words;
 use lq_parse::list::enclosed;
-use lq_parse::part::{literal, name};
+use lq_parse::part::{literal, name, object};
 use lq_parse::query::query;
 use std::alloc::Global;
 
 // `INDEX q ON q (c)`
 #[tactic(auto, unfolding(lq_model::specs::SqlCreate::create_index))]
-fn create_index(alloc: Global, words: &mut Words<'_>, unique: bool) -> Result<Statement, ParseFault>
-    ensures { Reads (spec.create_index unique words.old) result words.new }
+fn create_index(
+    alloc: Global,
+    dialect: Dialect,
+    words: &mut Words<'_>,
+    unique: bool,
+) -> Result<Statement, ParseFault>
+    ensures { Reads (spec.create_index dialect unique words.old) result words.new }
 {
     words.expect(WordKind::Index)?;
     let index = name(alloc, words)?;
     words.expect(WordKind::On)?;
-    let table = name(alloc, words)?;
+    let table = object(alloc, dialect, words)?;
     let columns = enclosed(alloc, words, &name)?;
     Ok(Statement::CreateIndex {
         table,
@@ -32,13 +37,18 @@ fn create_index(alloc: Global, words: &mut Words<'_>, unique: bool) -> Result<St
 
 // `VIEW q AS query`
 #[tactic(auto, unfolding(lq_model::specs::SqlCreate::create_view))]
-fn create_view(alloc: Global, words: &mut Words<'_>, replace: bool) -> Result<Statement, ParseFault>
-    ensures { Reads (spec.create_view replace words.old) result words.new }
+fn create_view(
+    alloc: Global,
+    dialect: Dialect,
+    words: &mut Words<'_>,
+    replace: bool,
+) -> Result<Statement, ParseFault>
+    ensures { Reads (spec.create_view dialect replace words.old) result words.new }
 {
     words.expect(WordKind::View)?;
-    let view = name(alloc, words)?;
+    let view = object(alloc, dialect, words)?;
     words.expect(WordKind::As)?;
-    let query = query(alloc, words)?;
+    let query = query(alloc, dialect, words)?;
     Ok(Statement::CreateView {
         view,
         query,
@@ -69,10 +79,14 @@ fn step(alloc: Global, words: &mut Words<'_>) -> Result<i128, ParseFault>
 
 // `q START WITH n INCREMENT BY n`
 #[tactic(auto, unfolding(lq_model::specs::SqlCreate::create_sequence))]
-fn create_sequence(alloc: Global, words: &mut Words<'_>) -> Result<Statement, ParseFault>
-    ensures { Reads (spec.create_sequence words.old) result words.new }
+fn create_sequence(
+    alloc: Global,
+    dialect: Dialect,
+    words: &mut Words<'_>,
+) -> Result<Statement, ParseFault>
+    ensures { Reads (spec.create_sequence dialect words.old) result words.new }
 {
-    let name = name(alloc, words)?;
+    let name = object(alloc, dialect, words)?;
     words.expect(WordKind::Start)?;
     words.expect(WordKind::With)?;
     let start = whole(alloc, words)?;
@@ -96,20 +110,20 @@ pub fn create(
             words.skip();
             create_table(alloc, dialect, words)
         }
-        (_, WordKind::Index) => create_index(alloc, words, false),
+        (_, WordKind::Index) => create_index(alloc, dialect, words, false),
         (_, WordKind::Unique) => {
             words.skip();
-            create_index(alloc, words, true)
+            create_index(alloc, dialect, words, true)
         }
-        (_, WordKind::View) => create_view(alloc, words, false),
+        (_, WordKind::View) => create_view(alloc, dialect, words, false),
         (_, WordKind::Or) => {
             words.skip();
             words.expect(WordKind::Replace)?;
-            create_view(alloc, words, true)
+            create_view(alloc, dialect, words, true)
         }
         (Dialect::Postgresql, WordKind::Sequence) => {
             words.skip();
-            create_sequence(alloc, words)
+            create_sequence(alloc, dialect, words)
         }
         _ => Err(ParseFault::NotSql),
     }

@@ -5,7 +5,7 @@ use crate::alter::rename_table_to;
 use lq_base::Dialect;
 use lq_model::{ParseFault, Statement, WordKind};
 use lq_parse::cursor::Words;
-use lq_parse::part::name;
+use lq_parse::part::{name, object};
 use std::alloc::Global;
 
 #[tactic(auto, unfolding(lq_model::specs::SqlDrop::drop_index))]
@@ -16,13 +16,16 @@ fn drop_index(
 ) -> Result<Statement, ParseFault>
     ensures { Reads (spec.drop_index dialect words.old) result words.new }
 {
-    let index = name(alloc, words)?;
     match dialect {
-        Dialect::Postgresql => Ok(Statement::DropIndex {
-            name: index,
-            table: None,
-        }),
+        Dialect::Postgresql => {
+            let index = object(alloc, dialect, words)?;
+            Ok(Statement::DropIndex {
+                name: index,
+                table: None,
+            })
+        }
         Dialect::Mysql => {
+            let index = name(alloc, words)?;
             words.expect(WordKind::On)?;
             let table = name(alloc, words)?;
             Ok(Statement::DropIndex {
@@ -46,16 +49,16 @@ pub fn drop_object(
     words.skip();
     match (dialect, sort) {
         (_, WordKind::Table) => {
-            let table = name(alloc, words)?;
+            let table = object(alloc, dialect, words)?;
             Ok(Statement::DropTable { table })
         }
         (_, WordKind::Index) => drop_index(alloc, dialect, words),
         (_, WordKind::View) => {
-            let view = name(alloc, words)?;
+            let view = object(alloc, dialect, words)?;
             Ok(Statement::DropView { view })
         }
         (Dialect::Postgresql, WordKind::Sequence) => {
-            let name = name(alloc, words)?;
+            let name = object(alloc, dialect, words)?;
             Ok(Statement::DropSequence { name })
         }
         _ => Err(ParseFault::NotSql),

@@ -1,11 +1,11 @@
 ghost use Rattle.lq_model.specs.Reads.{Reads};
 ghost use Rattle.lq_model.specs.SqlRows as spec;
 
-use lq_base::{Items, Literal, Name};
+use lq_base::{Dialect, Items, Literal, Name};
 use lq_model::{ParseFault, Statement, WordKind};
 use lq_parse::cursor::Words;
 use lq_parse::list::{enclosed, separated};
-use lq_parse::part::{literal, name};
+use lq_parse::part::{literal, name, object};
 use lq_parse::test::where_test;
 use std::alloc::Global;
 
@@ -23,11 +23,15 @@ fn stated_columns(alloc: Global, words: &mut Words<'_>) -> Result<Items<Name>, P
 
 /// `INTO q [(c)] VALUES (lit, ..)`
 #[tactic(auto, unfolding(lq_model::specs::SqlRows::insert))]
-pub fn insert(alloc: Global, words: &mut Words<'_>) -> Result<Statement, ParseFault>
-    ensures { Reads (spec.insert words.old) result words.new }
+pub fn insert(
+    alloc: Global,
+    dialect: Dialect,
+    words: &mut Words<'_>,
+) -> Result<Statement, ParseFault>
+    ensures { Reads (spec.insert dialect words.old) result words.new }
 {
     words.expect(WordKind::Into)?;
-    let table = name(alloc, words)?;
+    let table = object(alloc, dialect, words)?;
     let columns = stated_columns(alloc, words)?;
     words.expect(WordKind::Values)?;
     let values = enclosed(alloc, words, &literal)?;
@@ -51,10 +55,14 @@ fn assignment(alloc: Global, words: &mut Words<'_>) -> Result<(Name, Literal), P
 
 /// `q SET q = lit, .. [WHERE test]`
 #[tactic(auto, unfolding(lq_model::specs::SqlRows::update))]
-pub fn update(alloc: Global, words: &mut Words<'_>) -> Result<Statement, ParseFault>
-    ensures { Reads (spec.update words.old) result words.new }
+pub fn update(
+    alloc: Global,
+    dialect: Dialect,
+    words: &mut Words<'_>,
+) -> Result<Statement, ParseFault>
+    ensures { Reads (spec.update dialect words.old) result words.new }
 {
-    let table = name(alloc, words)?;
+    let table = object(alloc, dialect, words)?;
     words.expect(WordKind::Set)?;
     let sets = separated(alloc, words, &assignment)?;
     let test = where_test(alloc, words)?;
@@ -63,11 +71,15 @@ pub fn update(alloc: Global, words: &mut Words<'_>) -> Result<Statement, ParseFa
 
 /// `FROM q [WHERE test]`
 #[tactic(auto, unfolding(lq_model::specs::SqlRows::delete))]
-pub fn delete(alloc: Global, words: &mut Words<'_>) -> Result<Statement, ParseFault>
-    ensures { Reads (spec.delete words.old) result words.new }
+pub fn delete(
+    alloc: Global,
+    dialect: Dialect,
+    words: &mut Words<'_>,
+) -> Result<Statement, ParseFault>
+    ensures { Reads (spec.delete dialect words.old) result words.new }
 {
     words.expect(WordKind::From)?;
-    let table = name(alloc, words)?;
+    let table = object(alloc, dialect, words)?;
     let test = where_test(alloc, words)?;
     Ok(Statement::Delete { table, test })
 }

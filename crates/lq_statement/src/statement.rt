@@ -29,9 +29,9 @@ fn statement(
         (_, WordKind::Drop) => drop_object(alloc, dialect, words),
         (_, WordKind::Alter) => alter(alloc, dialect, words),
         (Dialect::Mysql, WordKind::Rename) => rename_table(alloc, words),
-        (_, WordKind::Insert) => insert(alloc, words),
-        (_, WordKind::Update) => update(alloc, words),
-        (_, WordKind::Delete) => delete(alloc, words),
+        (_, WordKind::Insert) => insert(alloc, dialect, words),
+        (_, WordKind::Update) => update(alloc, dialect, words),
+        (_, WordKind::Delete) => delete(alloc, dialect, words),
         _ => Err(ParseFault::NotSql),
     }
 }

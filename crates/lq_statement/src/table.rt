@@ -9,7 +9,7 @@ use lq_base::{Dialect, Name};
 use lq_model::{ParseFault, Statement, TableItem};
 use lq_parse::cursor::Words;
 use lq_parse::list::enclosed;
-use lq_parse::part::name;
+use lq_parse::part::object;
 use std::alloc::Global;
 
 // A column with the constraints that its clauses state.
@@ -59,7 +59,7 @@ pub fn create_table(
 ) -> Result<Statement, ParseFault>
     ensures { Reads (spec.create_table dialect words.old) result words.new }
 {
-    let table = name(alloc, words)?;
+    let table = object(alloc, dialect, words)?;
     let item = |alloc: Global, words: &mut Words<'_>| table_item(alloc, dialect, words, &table);
     let items = enclosed(alloc, words, &item)?;
     table_of(alloc, table, items.as_slice())

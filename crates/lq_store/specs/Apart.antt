@@ -20,7 +20,7 @@ names_tracking c =
     list_any is_tracking (object_names c)
     || (list_any (λ e. list_any is_tracking (names_within e.1)) c.tables || list_any (λ e. is_tracking e.1.query.table) c.views)
 
--- whether something in PostgreSQL's one space of names has the name of the lock table's key
+-- whether something in PostgreSQL's shared space of `public` has the name of the lock table's key
 abbrev pub takes_key : Dialect → Catalogue → Bool
 takes_key Postgresql c = is_in lock_key (shared_names c)
 takes_key Mysql c = false

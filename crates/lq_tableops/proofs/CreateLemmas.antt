@@ -11,7 +11,7 @@ use Rattle.lq_model.specs.Kinds.{kinds_differ}
 use Rattle.lq_model.specs.Literals.{column_of, is_wrong, literal_of}
 use Rattle.lq_model.specs.NameSpaces.{are_clashing, is_taken}
 use Rattle.lq_model.specs.Reserved.{is_reserved, takes_lock_key}
-use Rattle.lq_model.specs.TableNames.{constraint_names, inner_names}
+use Rattle.lq_model.specs.TableNames.{constraint_names, inner_names, placed}
 use Rattle.lq_model.specs.declared.caller.By.{By}
 use Rattle.lq_model.specs.declared.column.Column.{Column}
 use Rattle.lq_model.specs.declared.column.ColumnDef.{ColumnDef}
@@ -49,7 +49,7 @@ module _ (by : By) (d : Dialect) (t : Name) (defs : List ColumnDef) (key : Optio
   pub create_tests_are : (it : Defined) (aims : Aim) (tests : Tests) (clash lock twice : Bool) → IsDefined key defs it → AreAims t (it_of it.columns) c fs aims
       → tests.reserved ≡ is_reserved by (t ∷ constraint_names (it_of it.columns) ++ map (λ f. f.table) fs)
       → tests.missing ≡ (lacks_own (it_of it.columns) || aims.missing)
-      → clash ≡ (is_taken d t c || are_clashing d t (it_of it.columns) c) → lock ≡ takes_lock_key by d (t ∷ inner_names (it_of it.columns)) → twice ≡ lists_twice (it_of it.columns)
+      → clash ≡ (is_taken d t c || are_clashing d t (it_of it.columns) c) → lock ≡ takes_lock_key by d (t ∷ placed t (inner_names (it_of it.columns))) → twice ≡ lists_twice (it_of it.columns)
       → tests.exists ≡ (clash || (lock || twice))
       → tests.depends ≡ (list_any (depends_in key) defs || aims.loose)
       → tests.wrong ≡ (it.is_wrong || (aims.differ || (list_any numbers_wrongly defs || repeats_number defs)))
@@ -60,8 +60,8 @@ module _ (by : By) (d : Dialect) (t : Name) (defs : List ColumnDef) (key : Optio
       ap verdict_of (agree
       (reserved ∙ ap (λ x. is_reserved by (t ∷ constraint_names x ++ map (λ f. f.table) fs)) own)
       (missing ∙ ap (λ b. lacks_own (it_of it.columns) || b) are.missing ∙ ap (λ x. lacks_own x || list_any (target_missing (with_new c t x)) fs) own)
-      (exists ∙ rw (clash_is, lock_is, twice_is) (grouped (is_taken d t c) (are_clashing d t (it_of it.columns) c) (takes_lock_key by d (t ∷ inner_names (it_of it.columns))) (lists_twice (it_of it.columns)))
-      ∙ ap (λ x. is_taken d t c || (are_clashing d t x c || (takes_lock_key by d (t ∷ inner_names x) || lists_twice x))) own)
+      (exists ∙ rw (clash_is, lock_is, twice_is) (grouped (is_taken d t c) (are_clashing d t (it_of it.columns) c) (takes_lock_key by d (t ∷ placed t (inner_names (it_of it.columns)))) (lists_twice (it_of it.columns)))
+      ∙ ap (λ x. is_taken d t c || (are_clashing d t x c || (takes_lock_key by d (t ∷ placed t (inner_names x)) || lists_twice x))) own)
       (depends ∙ ap (λ b. list_any (depends_in key) defs || b) are.loose ∙ ap (λ x. list_any (depends_in key) defs || list_any (misses_new t x c) fs) own)
       (wrong ∙ ap (λ b. b || (aims.differ || (list_any numbers_wrongly defs || repeats_number defs))) is.wrong
       ∙ ap (λ b. list_any (λ e. is_wrong (into_kind (literal_of e) e.kind)) defs || (b || (list_any numbers_wrongly defs || repeats_number defs))) are.differ

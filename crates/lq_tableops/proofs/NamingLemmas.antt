@@ -9,7 +9,7 @@ use Rattle.lq_base.specs.declared.name.Name.{Name}
 use Rattle.lq_model.specs.Catalogue.{Catalogue}
 use Rattle.lq_model.specs.NameSpaces.{all_foreign_names, are_clashing, is_taken, object_names, shared_names}
 use Rattle.lq_model.specs.Names.{is_in, repeats}
-use Rattle.lq_model.specs.TableNames.{constraint_names, inner_names, key_list}
+use Rattle.lq_model.specs.TableNames.{constraint_names, inner_names, key_list, placed}
 use Rattle.lq_model.specs.declared.column.Column.{Column}
 use Rattle.lq_model.specs.declared.constraint.ForeignKey.{ForeignKey}
 use Rattle.lq_model.specs.declared.constraint.Key.{Key}
@@ -44,12 +44,12 @@ turned false false false true = refl
 turned false false false false = refl
 
 -- under PostgreSQL: with the table's own name among the names that are looked up
-pub clash_shared : (t : Name) (c : Catalogue) (cs : List Column) (key : Option Key) (us : List Unique) (fs : List ForeignKey) (constraints inner all : List Name) → constraints ≡ constraint_names (made cs key us fs) → inner ≡ inner_names (made cs key us fs) → all ≡ t ∷ inner_names (made cs key us fs)
+pub clash_shared : (t : Name) (c : Catalogue) (cs : List Column) (key : Option Key) (us : List Unique) (fs : List ForeignKey) (constraints inner all : List Name) → constraints ≡ constraint_names (made cs key us fs) → inner ≡ placed t (inner_names (made cs key us fs)) → all ≡ t ∷ placed t (inner_names (made cs key us fs))
     → (list_any (λ n. is_in n (shared_names c)) all || (repeats constraints || is_in t inner)) ≡ (is_taken Postgresql t c || are_clashing Postgresql t (made cs key us fs) c)
 clash_shared t c cs key us fs constraints inner all a b e =
     let it = made cs key us fs in
-    rw (a, b, e) (turned (is_in t (shared_names c)) (repeats (constraint_names it)) (list_any (λ n. is_in n (shared_names c)) (inner_names it)) (is_in t (inner_names it))
-    ∙ ap (λ x. is_in t (shared_names c) || (repeats (constraint_names it) || x)) (sym (either_any (is_named t) (λ n. is_in n (shared_names c)) (inner_names it))))
+    rw (a, b, e) (turned (is_in t (shared_names c)) (repeats (constraint_names it)) (list_any (λ n. is_in n (shared_names c)) (placed t (inner_names it))) (is_in t (placed t (inner_names it)))
+    ∙ ap (λ x. is_in t (shared_names c) || (repeats (constraint_names it) || x)) (sym (either_any (is_named t) (λ n. is_in n (shared_names c)) (placed t (inner_names it)))))
 
 -- under MySQL a new table has no indexes but its unique constraints
 pub clash_apart : (t : Name) (c : Catalogue) (cs : List Column) (key : Option Key) (us : List Unique) (fs : List ForeignKey) (uniques foreign : List Name) → uniques ≡ map (λ u. u.name) us → foreign ≡ map (λ f. f.name) fs

@@ -1,16 +1,16 @@
 ghost use Rattle.std.specs.List.{list_any};
 ghost use Rattle.std.specs.Prelude.{◌≡◌, ◌++◌, ◌∷◌, ◌||◌, IfOk, List, OnOk, map};
-ghost use Rattle.lq_base.specs.Name.{is_named};
+ghost use Rattle.lq_base.specs.Name.{beside, is_named};
 ghost use Rattle.lq_model.specs.NameSpaces.{all_foreign_names, are_clashing, is_taken, shared_names};
 ghost use Rattle.lq_model.specs.Names.{is_in, repeats};
 ghost use Rattle.lq_model.specs.Reserved.{is_reserved, takes_lock_key};
-ghost use Rattle.lq_model.specs.TableNames.{constraint_names, inner_names};
+ghost use Rattle.lq_model.specs.TableNames.{constraint_names, inner_names, placed};
 ghost use Rattle.lq_model.specs.declared.column.Column.{Column};
 ghost use Rattle.lq_base.specs.declared.dialect.Dialect.TheVariants as dialects;
 ghost use Rattle.lq_shapes.specs.Created.{made};
 
 use crate::clashes::{one_foreign, one_reserved, one_shared, takes_lock_key};
-use lq_base::{Dialect, Items, Name, NoMemory};
+use lq_base::{Dialect, Items, Name, NoMemory, is_placed};
 use lq_model::{By, ForeignKey, Unique};
 use lq_parts::Parts;
 use lq_shapes::{NewTable, push_foreign, push_key, push_targets, push_uniques, repeats};
@@ -77,13 +77,12 @@ pub fn names_lock_key(
         found
         ≡ takes_lock_key by dialect
         (new.now.name.now
-        ∷ inner_names
-        (made cs new.now.key.now new.now.uniques.now new.now.foreign.now))) }
+        ∷ placed new.now.name.now
+        (inner_names (made cs new.now.key.now new.now.uniques.now new.now.foreign.now)))) }
 {
     let mut names = Items::new(alloc);
-    names.push(new.name)?;
     push_inner(&mut names, new)?;
-    Ok(takes_lock_key(by, dialect, names.as_slice()))
+    Ok(takes_lock_key(by, dialect, new.name, names.as_slice()))
 }
 
 fn constraints_repeat(alloc: Global, new: &NewTable<'_>) -> Result<bool, NoMemory>
@@ -100,17 +99,11 @@ fn constraints_repeat(alloc: Global, new: &NewTable<'_>) -> Result<bool, NoMemor
     Ok(found)
 }
 
-#[tactic(auto, using(lq_model::proofs::Lists::any_mapped))]
-fn has(names: &[&Name], name: &Name) -> bool
-    ensures { result ≡ is_in name.now (map (λ n. n.now) names.now) }
+/// Whether one of the names inside the table counts by the table's own name.
+fn each_is_own(table: &Name, names: &[&Name]) -> bool
+    ensures { result ≡ list_any (λ n. is_named table.now (beside table.now n.now)) names.now }
 {
-    each_is(names, name)
-}
-
-fn each_is(names: &[&Name], name: &Name) -> bool
-    ensures { result ≡ list_any (λ n. is_named name.now n.now) names.now }
-{
-    names.iter().any(|other| *name == **other)
+    names.iter().any(|name| is_placed(table, table, *name))
 }
 
 /// Whether the key or a unique constraint has the table's name.
@@ -119,28 +112,29 @@ fn inner_is_own(alloc: Global, new: &NewTable<'_>) -> Result<bool, NoMemory>
         → IfOk result (λ found.
         found
         ≡ is_in new.now.name.now
-        (inner_names (made cs new.now.key.now new.now.uniques.now new.now.foreign.now))) }
+        (placed new.now.name.now
+        (inner_names (made cs new.now.key.now new.now.uniques.now new.now.foreign.now)))) }
 {
     let mut names = Items::new(alloc);
     push_inner(&mut names, new)?;
-    Ok(has(names.as_slice(), new.name))
+    Ok(each_is_own(new.name, names.as_slice()))
 }
 
-/// Whether the table's name, its key's or a unique constraint's stands in PostgreSQL's one space.
+/// Whether the table's name, its key's or a unique constraint's stands in PostgreSQL's shared
+/// spaces.
 fn shared_taken(parts: &mut Parts, alloc: Global, new: &NewTable<'_>) -> Result<bool, NoMemory>
     ensures found { (cs : List Column)
         → IfOk result (λ found.
         found
         ≡ list_any (λ n. is_in n (shared_names parts.old.now))
         (new.now.name.now
-        ∷ inner_names
-        (made cs new.now.key.now new.now.uniques.now new.now.foreign.now))) }
+        ∷ placed new.now.name.now
+        (inner_names (made cs new.now.key.now new.now.uniques.now new.now.foreign.now)))) }
     ensures same { parts.new ≡ parts.old }
 {
     let mut names = Items::new(alloc);
-    names.push(new.name)?;
     push_inner(&mut names, new)?;
-    let found = one_shared(parts, names.as_slice())?;
+    let found = one_shared(parts, alloc, new.name, names.as_slice())?;
     Ok(found)
 }
 

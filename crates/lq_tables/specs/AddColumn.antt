@@ -3,7 +3,7 @@ use Rattle.std.specs.List.{flat_map}
 use Rattle.std.specs.Option.{option_and_then, option_map, option_to_list, unwrap_or}
 use Rattle.std.specs.Prelude.{Bool, Err, List, None, Ok, Option, Result, Some, [], codes, false, if◌then◌else◌, is_none, is_some, map, not, true, ◌&&◌, ◌++◌, ◌∷◌}
 use Rattle.lq_base.specs.Kind.{is_kind}
-use Rattle.lq_base.specs.Name.{is_name}
+use Rattle.lq_base.specs.Name.{is_name, is_object, text_of, within}
 use Rattle.lq_base.specs.Options.{if_there}
 use Rattle.lq_base.specs.Value.{into_kind}
 use Rattle.lq_base.specs.declared.dialect.Dialect.{Dialect}
@@ -17,7 +17,7 @@ use Rattle.lq_model.specs.Canon.{CanonicalChange, kind_value, list, map_of, text
 use Rattle.lq_model.specs.Catalogue.{Catalogue, Table, the_table, with_table}
 use Rattle.lq_model.specs.Effect.{effect_of}
 use Rattle.lq_model.specs.Literals.{value_in}
-use Rattle.lq_model.specs.Written.{Row, change_of, maps, pairs_of}
+use Rattle.lq_model.specs.Written.{Row, change_of, maps, pairs_of, schema_row}
 use Rattle.lq_model.specs.declared.column.Column.{Column}
 use Rattle.lq_model.specs.declared.column.ColumnDef.{ColumnDef}
 use Rattle.lq_model.specs.declared.constraint.ForeignKey.{ForeignKey}
@@ -27,7 +27,7 @@ use Rattle.lq_model.specs.declared.statement.Statement.TheVariants as statement
 use Rattle.lq_tree.specs.Found.{Found, Taken, and_then}
 use Rattle.lq_tree.specs.Given.{a_kind, a_name, a_truth}
 use Rattle.lq_tree.specs.Items.{a_column, are_some, required_items}
-use Rattle.lq_tree.specs.Keys.{Keys, a_change, fields, map_with, optional, required, ◌⊛◌}
+use Rattle.lq_tree.specs.Keys.{Keys, a_change_in, fields, map_with, optional, required, ◌⊛◌}
 use Rattle.lq_tree.specs.Values.{is_given, literal_of}
 use Rattle.lq_tree.specs.declared.values.GivenValue.{GivenValue}
 use Rattle.lq_tables.specs.Constraints.{a_reference, foreign_stated, is_reference, unique_stated}
@@ -68,14 +68,14 @@ column_keys =
 unfoldable pub added_column : Taken AddedColumn
 added_column = map_with (codes "remarks" ∷ []) column_keys
 
-abbrev pub keys : Keys AddColumn
+abbrev pub keys : Keys (Name → AddColumn)
 keys =
-    fields (λ table columns. record { table_name = table; columns = columns })
+    fields (λ table columns schema. record { table_name = within schema table; columns = columns })
     ⊛ required (codes "tableName") a_name
     ⊛ required_items (codes "columns") (a_column added_column)
 
-unfoldable pub add_column : Taken AddColumn
-add_column = a_change keys
+unfoldable pub add_column : Dialect → Taken AddColumn
+add_column d = a_change_in d keys
 
 -- names are names, kinds are kinds, values can be written
 
@@ -86,7 +86,7 @@ abbrev pub is_added : AddedColumn → Bool
 is_added x = is_name x.name && (is_kind x.kind && (if_there is_given x.default_value && (if_there is_constraints x.constraints && if_there is_given x.value)))
 
 abbrev pub is_for : Dialect → AddColumn → Bool
-is_for d x = is_name x.table_name && are_some is_added x.columns
+is_for d x = is_object d x.table_name && are_some is_added x.columns
 
 -- what is stated of a column
 
@@ -102,8 +102,8 @@ abbrev pub unique_of : Name → AddedColumn → Option Unique
 unique_of t x = option_and_then (λ cs. unique_stated t x.name cs.unique cs.unique_constraint_name) x.constraints
 
 -- its foreign key, where there is one
-abbrev pub foreign_of : AddedColumn → Option ForeignKey
-foreign_of x = option_and_then (λ cs. foreign_stated x.name cs.references cs.foreign_key_name) x.constraints
+abbrev pub foreign_of : Name → AddedColumn → Option ForeignKey
+foreign_of t x = option_and_then (λ cs. foreign_stated t x.name cs.references cs.foreign_key_name) x.constraints
 
 -- what it gives: a column that is NOT NULL and has a value is nullable until the rows have it
 
@@ -134,7 +134,7 @@ refers t None = []
 refers t (Some f) = statement.AddForeignKey t f ∷ []
 
 abbrev pub column_gives : Dialect → Name → AddedColumn → List Statement
-column_gives d t x = (statement.AddColumn t (def_of x) ∷ []) ++ (sets d t x x.value (is_firm x) ++ (joins t (unique_of t x) ++ refers t (foreign_of x)))
+column_gives d t x = (statement.AddColumn t (def_of x) ∷ []) ++ (sets d t x x.value (is_firm x) ++ (joins t (unique_of t x) ++ refers t (foreign_of t x)))
 
 abbrev pub gives : Dialect → AddColumn → List Statement
 gives d x = flat_map (column_gives d x.table_name) x.columns
@@ -163,7 +163,7 @@ with_added d t x it = record it {
   columns = it.columns ++ column_made d x ∷ [];
   rows = map (λ row. row ++ value_made x x.value ∷ []) it.rows;
   uniques = it.uniques ++ option_to_list (unique_of t x);
-  foreign = it.foreign ++ option_to_list (foreign_of x);
+  foreign = it.foreign ++ option_to_list (foreign_of t x);
 }
 
 abbrev pub column_becomes : Dialect → Name → AddedColumn → Catalogue → Catalogue
@@ -195,7 +195,7 @@ parts Postgresql t (Some f) = statement.DropConstraint t f.name ∷ []
 parts Mysql t (Some f) = statement.DropForeignKey t f.name ∷ []
 
 abbrev pub column_inverse : Dialect → Name → AddedColumn → List Statement
-column_inverse d t x = parts d t (foreign_of x) ++ (leaves d t (unique_of t x) ++ statement.DropColumn t x.name ∷ [])
+column_inverse d t x = parts d t (foreign_of t x) ++ (leaves d t (unique_of t x) ++ statement.DropColumn t x.name ∷ [])
 
 abbrev pub inverse_all : Dialect → Name → List AddedColumn → List Statement
 inverse_all d t xs = last_first (column_inverse d t) xs
@@ -222,7 +222,7 @@ column_rows x =
     ++ ((codes "constraints", option_map (λ cs. map_of (pairs_of (constraints_rows cs))) x.constraints) ∷ set_rows x.value))
 
 abbrev pub rows : AddColumn → List Row
-rows x = (codes "tableName", Some (text x.table_name)) ∷ (codes "columns", Some (list (maps column_rows x.columns))) ∷ []
+rows x = (codes "tableName", Some (text (text_of x.table_name))) ∷ (codes "columns", Some (list (maps column_rows x.columns))) ∷ (codes "schemaName", schema_row x.table_name) ∷ []
 
 abbrev pub canonical_of : AddColumn → CanonicalChange
 canonical_of x = change_of (codes "addColumn") (rows x)

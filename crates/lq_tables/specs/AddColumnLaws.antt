@@ -2,9 +2,9 @@
 use Rattle.std.proofs.Common.{ap, subst, sym, ◌∙◌}
 use Rattle.std.specs.List.{flat_map, list_all}
 use Rattle.std.specs.Option.{option_map, option_to_list, unwrap_or}
-use Rattle.std.specs.Prelude.{Bool, List, None, Ok, Option, Some, ℕ, [], codes, cond, false, if◌then◌else◌, map, not, option_and_then, refl, true, ◌++◌, ◌∷◌, ◌≡◌}
+use Rattle.std.specs.Prelude.{Bool, List, None, Ok, Option, Some, [], codes, cond, false, if◌then◌else◌, map, not, option_and_then, refl, true, ℕ, ◌&&◌, ◌++◌, ◌∷◌, ◌≡◌}
 use Rattle.lq_base.specs.Kind.{is_kind}
-use Rattle.lq_base.specs.Name.{is_name, is_named}
+use Rattle.lq_base.specs.Name.{is_name, is_name_key, is_named, is_object}
 use Rattle.lq_base.specs.Options.{if_there}
 use Rattle.lq_base.specs.Value.{into_kind, is_value_of}
 use Rattle.lq_base.specs.declared.dialect.Dialect.{Dialect}
@@ -19,7 +19,7 @@ use Rattle.lq_model.proofs.Columns.{set_again}
 use Rattle.lq_model.proofs.Decide.{accepted, here}
 use Rattle.lq_model.proofs.Effects.{Both, Ran, does_so, goes_on, ok_same, one_becomes, one_run, one_step, ran_both, ran_first, restores_so, run_both, run_keeps, some_same}
 use Rattle.lq_model.proofs.Lists.{all-append, and_left, and_right, and_true, append-nil, named_itself, or_left, or_right}
-use Rattle.lq_model.proofs.Told.{if_told, keys_told, kind_told, map_if_told, map_told, maps_told, text_told, texts_told, truths_told}
+use Rattle.lq_model.proofs.Told.{if_told, keys_told, kind_told, map_if_told, map_told, maps_told, object_told, text_told, texts_told, truths_told}
 use Rattle.lq_model.proofs.UndoConstraints.{drop_after_foreign_key, drop_after_unique}
 use Rattle.lq_model.proofs.UndoMysql.{drop_foreign_key_after, drop_unique_after}
 use Rattle.lq_model.specs.AddConstraint.{with_foreign, with_unique}
@@ -58,6 +58,7 @@ use Rattle.lq_tables.specs.declared.add_column.AddColumn.{AddColumn}
 use Rattle.lq_tables.specs.declared.add_column.AddedColumn.{AddedColumn}
 use Rattle.lq_tables.specs.declared.add_column.AddedConstraints.{AddedConstraints}
 use Rattle.lq_tables.specs.declared.constraints.Reference.{Reference}
+use Rattle.lq_base.proofs.BesideLemmas.{is_whole}
 
 -- a column at the end, and the columns and rows before it
 
@@ -188,9 +189,9 @@ joined d t x c m e there is ran = by (unique_of t x) refl ran where
 abbrev with_parts : Dialect → Name → AddedColumn → List ForeignKey → Catalogue → Table
 with_parts d t x fs c = record (before d t x ((the_table c t).uniques ++ option_to_list (unique_of t x)) c) { foreign = fs }
 
-referred : (d : Dialect) (t : Name) (x : AddedColumn) (c m e : Catalogue) → table_of c t ≡ Some (the_table c t) → with_joined d t x c ≡ m → run User d (refers t (foreign_of x)) m ≡ Ok e → column_becomes d t x c ≡ e
-referred d t x c m e there is ran = by (foreign_of x) refl ran where
-  by : (f : Option ForeignKey) → foreign_of x ≡ f → run User d (refers t f) m ≡ Ok e → column_becomes d t x c ≡ e
+referred : (d : Dialect) (t : Name) (x : AddedColumn) (c m e : Catalogue) → table_of c t ≡ Some (the_table c t) → with_joined d t x c ≡ m → run User d (refers t (foreign_of t x)) m ≡ Ok e → column_becomes d t x c ≡ e
+referred d t x c m e there is ran = by (foreign_of t x) refl ran where
+  by : (f : Option ForeignKey) → foreign_of t x ≡ f → run User d (refers t f) m ≡ Ok e → column_becomes d t x c ≡ e
   by None none h =
       ap (λ fs. with_table c t (with_parts d t x fs c)) (ap (λ o. (the_table c t).foreign ++ option_to_list o) none ∙ append-nil (the_table c t).foreign)
       ∙ is ∙ ok_same h
@@ -200,7 +201,7 @@ referred d t x c m e there is ran = by (foreign_of x) refl ran where
 
 -- what comes after the column itself
 abbrev rest_of : Name → AddedColumn → List Statement
-rest_of t x = joins t (unique_of t x) ++ refers t (foreign_of x)
+rest_of t x = joins t (unique_of t x) ++ refers t (foreign_of t x)
 
 column_becomes_so : (d : Dialect) (t : Name) (x : AddedColumn) (c e : Catalogue) → IsSound d c → run User d (column_gives d t x) c ≡ Ok e → column_becomes d t x c ≡ e
 column_becomes_so d t x c e sound ran =
@@ -210,25 +211,25 @@ column_becomes_so d t x c e sound ran =
     let ok = accepted (plan User d add c) r.mid r.count r.first in
     let there : table_of c t ≡ Some (the_table c t) = here c t ok.missing in
     let b : Both d more (rest_of t x) r.mid e = ran_both d more (rest_of t x) r.mid e r.others in
-    let f : Both d (joins t (unique_of t x)) (refers t (foreign_of x)) b.between e = ran_both d (joins t (unique_of t x)) (refers t (foreign_of x)) b.between e b.back in
+    let f : Both d (joins t (unique_of t x)) (refers t (foreign_of t x)) b.between e = ran_both d (joins t (unique_of t x)) (refers t (foreign_of t x)) b.between e b.back in
     referred d t x c f.between e there (joined d t x c b.between f.between there (one_made d t x c r.mid b.between sound there ok.exists ok.result b.front) f.front) f.back
 
 -- its statements are statements
 
-firms_spelled : (d : Dialect) (t : Name) (x : AddedColumn) → is_name t ≡ true → is_name x.name ≡ true → is_kind x.kind ≡ true → list_all (is_statement d) (firms d t x) ≡ true
-firms_spelled Postgresql t x a b k = rw (a, b) refl
-firms_spelled Mysql t x a b k = rw (a, b, k) refl
+firms_spelled : (d : Dialect) (t : Name) (x : AddedColumn) → is_object d t ≡ true → is_name x.name ≡ true → is_kind x.kind ≡ true → list_all (is_statement d) (firms d t x) ≡ true
+firms_spelled Postgresql t x a b k = and_true _ true (and_true (is_object Postgresql t) (is_name x.name) a b) refl
+firms_spelled Mysql t x a b k = and_true _ true (and_true (is_object Mysql t) (is_name x.name && is_kind x.kind) a (and_true (is_name x.name) (is_kind x.kind) b k)) refl
 
-sets_spelled : (d : Dialect) (t : Name) (x : AddedColumn) (v : Option GivenValue) (b : Bool) → is_name t ≡ true → is_name x.name ≡ true → is_kind x.kind ≡ true → if_there is_given v ≡ true → list_all (is_statement d) (sets d t x v b) ≡ true
+sets_spelled : (d : Dialect) (t : Name) (x : AddedColumn) (v : Option GivenValue) (b : Bool) → is_object d t ≡ true → is_name x.name ≡ true → is_kind x.kind ≡ true → if_there is_given v ≡ true → list_all (is_statement d) (sets d t x v b) ≡ true
 sets_spelled d t x None b h n k g = refl
 sets_spelled d t x (Some v) false h n k g = rw (h, n, given_is_literal v g) refl
 sets_spelled d t x (Some v) true h n k g = rw (h, n, given_is_literal v g) (firms_spelled d t x h n k)
 
-joins_spelled : (d : Dialect) (t : Name) (u : Option Unique) → is_name t ≡ true → if_there is_unique u ≡ true → list_all (is_statement d) (joins t u) ≡ true
+joins_spelled : (d : Dialect) (t : Name) (u : Option Unique) → is_object d t ≡ true → if_there is_unique u ≡ true → list_all (is_statement d) (joins t u) ≡ true
 joins_spelled d t None h k = refl
 joins_spelled d t (Some u) h k = rw (h, k) refl
 
-refers_spelled : (d : Dialect) (t : Name) (f : Option ForeignKey) → is_name t ≡ true → if_there is_foreign f ≡ true → list_all (is_statement d) (refers t f) ≡ true
+refers_spelled : (d : Dialect) (t : Name) (f : Option ForeignKey) → is_object d t ≡ true → if_there (is_foreign d) f ≡ true → list_all (is_statement d) (refers t f) ≡ true
 refers_spelled d t None h k = refl
 refers_spelled d t (Some f) h k = rw (h, k) refl
 
@@ -269,17 +270,17 @@ right_of x h =
       value = and_right (if_there is_constraints x.constraints) _ c;
     }
 
-unique_right : (t : Name) (x : AddedColumn) → is_name t ≡ true → IsRight x → if_there is_unique (unique_of t x) ≡ true
+unique_right : (t : Name) (x : AddedColumn) → is_name_key t ≡ true → IsRight x → if_there is_unique (unique_of t x) ≡ true
 unique_right t x h r = by x.constraints r.constraints where
   by : (o : Option AddedConstraints) → if_there is_constraints o ≡ true → if_there is_unique (option_and_then (λ cs. unique_stated t x.name cs.unique cs.unique_constraint_name) o) ≡ true
   by None k = refl
   by (Some cs) k = unique_spelled t x.name cs.unique cs.unique_constraint_name h r.name (are_right cs k).unique
 
-foreign_right : (x : AddedColumn) → IsRight x → if_there is_foreign (foreign_of x) ≡ true
-foreign_right x r = by x.constraints r.constraints where
-  by : (o : Option AddedConstraints) → if_there is_constraints o ≡ true → if_there is_foreign (option_and_then (λ cs. foreign_stated x.name cs.references cs.foreign_key_name) o) ≡ true
+foreign_right : (d : Dialect) (t : Name) (x : AddedColumn) → is_object d t ≡ true → IsRight x → if_there (is_foreign d) (foreign_of t x) ≡ true
+foreign_right d t x h r = by x.constraints r.constraints where
+  by : (o : Option AddedConstraints) → if_there is_constraints o ≡ true → if_there (is_foreign d) (option_and_then (λ cs. foreign_stated t x.name cs.references cs.foreign_key_name) o) ≡ true
   by None k = refl
-  by (Some cs) k = foreign_spelled x.name cs.references cs.foreign_key_name r.name (are_right cs k).references (are_right cs k).foreign
+  by (Some cs) k = foreign_spelled d t x.name cs.references cs.foreign_key_name h r.name (are_right cs k).references (are_right cs k).foreign
 
 def_spelled : (x : AddedColumn) → is_name x.name ≡ true → is_kind x.kind ≡ true → if_there is_given x.default_value ≡ true → is_column_def (def_of x) ≡ true
 def_spelled x n k g = rw (n, k) (by x.default_value g) where
@@ -287,16 +288,16 @@ def_spelled x n k g = rw (n, k) (by x.default_value g) where
   by None h = refl
   by (Some v) h = given_is_literal v h
 
-after_spelled : (d : Dialect) (t : Name) (x : AddedColumn) → is_name t ≡ true → IsRight x → list_all (is_statement d) (statement.AddColumn t (def_of x) ∷ sets d t x x.value (is_firm x)) ≡ true
-after_spelled d t x h r = and_true (is_statement d (statement.AddColumn t (def_of x))) _ (and_true (is_name t) _ h (def_spelled x r.name r.kind r.default)) (sets_spelled d t x x.value (is_firm x) h r.name r.kind r.value)
+after_spelled : (d : Dialect) (t : Name) (x : AddedColumn) → is_object d t ≡ true → IsRight x → list_all (is_statement d) (statement.AddColumn t (def_of x) ∷ sets d t x x.value (is_firm x)) ≡ true
+after_spelled d t x h r = and_true (is_statement d (statement.AddColumn t (def_of x))) _ (and_true (is_object d t) _ h (def_spelled x r.name r.kind r.default)) (sets_spelled d t x x.value (is_firm x) h r.name r.kind r.value)
 
-column_spelled : (d : Dialect) (t : Name) (x : AddedColumn) → is_name t ≡ true → is_added x ≡ true → list_all (is_statement d) (column_gives d t x) ≡ true
+column_spelled : (d : Dialect) (t : Name) (x : AddedColumn) → is_object d t ≡ true → is_added x ≡ true → list_all (is_statement d) (column_gives d t x) ≡ true
 column_spelled d t x h g =
     let r = right_of x g in
     all-append (is_statement d) (statement.AddColumn t (def_of x) ∷ sets d t x x.value (is_firm x)) (rest_of t x) (after_spelled d t x h r)
-    (all-append (is_statement d) (joins t (unique_of t x)) (refers t (foreign_of x)) (joins_spelled d t (unique_of t x) h (unique_right t x h r)) (refers_spelled d t (foreign_of x) h (foreign_right x r)))
+    (all-append (is_statement d) (joins t (unique_of t x)) (refers t (foreign_of t x)) (joins_spelled d t (unique_of t x) h (unique_right t x (is_whole d t h) r)) (refers_spelled d t (foreign_of t x) h (foreign_right d t x h r)))
 
-all_spelled : (d : Dialect) (t : Name) (xs : List AddedColumn) → is_name t ≡ true → list_all is_added xs ≡ true → list_all (is_statement d) (flat_map (column_gives d t) xs) ≡ true
+all_spelled : (d : Dialect) (t : Name) (xs : List AddedColumn) → is_object d t ≡ true → list_all is_added xs ≡ true → list_all (is_statement d) (flat_map (column_gives d t) xs) ≡ true
 all_spelled d t [] h g = refl
 all_spelled d t (x ∷ xs) h g = all-append (is_statement d) (column_gives d t x) (flat_map (column_gives d t) xs) (column_spelled d t x h (and_left (is_added x) _ g)) (all_spelled d t xs h (and_right (is_added x) _ g))
 
@@ -304,37 +305,37 @@ all_added : (xs : List AddedColumn) → are_some is_added xs ≡ true → list_a
 all_added xs h = and_right (not (is_empty xs)) _ h
 
 pub spelled : AreStatements is_for gives
-spelled d x h = all_spelled d x.table_name x.columns (and_left (is_name x.table_name) _ h) (all_added x.columns (and_right (is_name x.table_name) _ h))
+spelled d x h = all_spelled d x.table_name x.columns (and_left (is_object d x.table_name) _ h) (all_added x.columns (and_right (is_object d x.table_name) _ h))
 
 -- and so are those that take it back
 
-leaves_spelled : (d : Dialect) (t : Name) (u : Option Unique) → is_name t ≡ true → if_there is_unique u ≡ true → list_all (is_statement d) (leaves d t u) ≡ true
+leaves_spelled : (d : Dialect) (t : Name) (u : Option Unique) → is_object d t ≡ true → if_there is_unique u ≡ true → list_all (is_statement d) (leaves d t u) ≡ true
 leaves_spelled d t None h k = refl
-leaves_spelled Postgresql t (Some u) h k = rw (h, and_left (is_name u.name) _ k) refl
-leaves_spelled Mysql t (Some u) h k = rw (h, and_left (is_name u.name) _ k) refl
+leaves_spelled Postgresql t (Some u) h k = and_true _ true (and_true (is_object Postgresql t) (is_name u.name) h (and_left (is_name u.name) _ k)) refl
+leaves_spelled Mysql t (Some u) h k = and_true _ true (and_true (is_object Mysql t) (is_name u.name) h (and_left (is_name u.name) _ k)) refl
 
-parts_spelled : (d : Dialect) (t : Name) (f : Option ForeignKey) → is_name t ≡ true → if_there is_foreign f ≡ true → list_all (is_statement d) (parts d t f) ≡ true
+parts_spelled : (d : Dialect) (t : Name) (f : Option ForeignKey) → is_object d t ≡ true → if_there (is_foreign d) f ≡ true → list_all (is_statement d) (parts d t f) ≡ true
 parts_spelled d t None h k = refl
-parts_spelled Postgresql t (Some f) h k = rw (h, and_left (is_name f.name) _ k) refl
-parts_spelled Mysql t (Some f) h k = rw (h, and_left (is_name f.name) _ k) refl
+parts_spelled Postgresql t (Some f) h k = and_true _ true (and_true (is_object Postgresql t) (is_name f.name) h (and_left (is_name f.name) _ k)) refl
+parts_spelled Mysql t (Some f) h k = and_true _ true (and_true (is_object Mysql t) (is_name f.name) h (and_left (is_name f.name) _ k)) refl
 
-column_returned : (d : Dialect) (t : Name) (x : AddedColumn) → is_name t ≡ true → is_added x ≡ true → list_all (is_statement d) (column_inverse d t x) ≡ true
+column_returned : (d : Dialect) (t : Name) (x : AddedColumn) → is_object d t ≡ true → is_added x ≡ true → list_all (is_statement d) (column_inverse d t x) ≡ true
 column_returned d t x h g =
     let r = right_of x g in
     let last : list_all (is_statement d) (statement.DropColumn t x.name ∷ []) ≡ true = rw (h, r.name) refl in
-    all-append (is_statement d) (parts d t (foreign_of x)) (leaves d t (unique_of t x) ++ statement.DropColumn t x.name ∷ []) (parts_spelled d t (foreign_of x) h (foreign_right x r))
-    (all-append (is_statement d) (leaves d t (unique_of t x)) (statement.DropColumn t x.name ∷ []) (leaves_spelled d t (unique_of t x) h (unique_right t x h r)) last)
+    all-append (is_statement d) (parts d t (foreign_of t x)) (leaves d t (unique_of t x) ++ statement.DropColumn t x.name ∷ []) (parts_spelled d t (foreign_of t x) h (foreign_right d t x h r))
+    (all-append (is_statement d) (leaves d t (unique_of t x)) (statement.DropColumn t x.name ∷ []) (leaves_spelled d t (unique_of t x) h (unique_right t x (is_whole d t h) r)) last)
 
-all_returned : (d : Dialect) (t : Name) (xs : List AddedColumn) → is_name t ≡ true → list_all is_added xs ≡ true → list_all (is_statement d) (inverse_all d t xs) ≡ true
+all_returned : (d : Dialect) (t : Name) (xs : List AddedColumn) → is_object d t ≡ true → list_all is_added xs ≡ true → list_all (is_statement d) (inverse_all d t xs) ≡ true
 all_returned d t [] h g = refl
 all_returned d t (x ∷ xs) h g = all-append (is_statement d) (inverse_all d t xs) (column_inverse d t x) (all_returned d t xs h (and_right (is_added x) _ g)) (column_returned d t x h (and_left (is_added x) _ g))
 
 pub returned : AreReturns is_for inverse
-returned d x undoing right taken = subst (λ ss. list_all (is_statement d) ss ≡ true) (some_same taken) (all_returned d x.table_name x.columns (and_left (is_name x.table_name) _ right) (all_added x.columns (and_right (is_name x.table_name) _ right)))
+returned d x undoing right taken = subst (λ ss. list_all (is_statement d) ss ≡ true) (some_same taken) (all_returned d x.table_name x.columns (and_left (is_object d x.table_name) _ right) (all_added x.columns (and_right (is_object d x.table_name) _ right)))
 
 -- all columns, one after the other
 
-all_become : (d : Dialect) (t : Name) (xs : List AddedColumn) (c e : Catalogue) → is_name t ≡ true → list_all is_added xs ≡ true → IsSound d c → run User d (flat_map (column_gives d t) xs) c ≡ Ok e → becomes_all d t xs c ≡ e
+all_become : (d : Dialect) (t : Name) (xs : List AddedColumn) (c e : Catalogue) → is_object d t ≡ true → list_all is_added xs ≡ true → IsSound d c → run User d (flat_map (column_gives d t) xs) c ≡ Ok e → becomes_all d t xs c ≡ e
 all_become d t [] c e h g sound ran = ok_same ran
 all_become d t (x ∷ xs) c e h g sound ran =
     let b : Both d (column_gives d t x) (flat_map (column_gives d t) xs) c e = ran_both d (column_gives d t x) (flat_map (column_gives d t) xs) c e ran in
@@ -343,7 +344,7 @@ all_become d t (x ∷ xs) c e h g sound ran =
     ∙ all_become d t xs b.between e h (and_right (is_added x) _ g) (run_keeps d (column_gives d t x) c b.between fine sound b.front) b.back
 
 becomes_so : Becomes gives becomes is_for
-becomes_so d x c e right sound ran = all_become d x.table_name x.columns c e (and_left (is_name x.table_name) _ right) (all_added x.columns (and_right (is_name x.table_name) _ right)) sound ran
+becomes_so d x c e right sound ran = all_become d x.table_name x.columns c e (and_left (is_object d x.table_name) _ right) (all_added x.columns (and_right (is_object d x.table_name) _ right)) sound ran
 
 pub does : HaveEffect is_for gives effect
 does = does_so is_for gives becomes becomes_so
@@ -390,7 +391,7 @@ unreferred Mysql t (Some f) ss c m e sound gone ran =
     let made = one_step Mysql (statement.AddForeignKey t f) m e ran in
     ap (goes_on Mysql ss) (drop_foreign_key_after t f User m e made.0 sound made.1) ∙ gone
 
-column_back : (d : Dialect) (t : Name) (x : AddedColumn) (c e : Catalogue) → is_name t ≡ true → is_added x ≡ true → IsSound d c → run User d (column_gives d t x) c ≡ Ok e → run User d (column_inverse d t x) e ≡ Ok c
+column_back : (d : Dialect) (t : Name) (x : AddedColumn) (c e : Catalogue) → is_object d t ≡ true → is_added x ≡ true → IsSound d c → run User d (column_gives d t x) c ≡ Ok e → run User d (column_inverse d t x) e ≡ Ok c
 column_back d t x c e h g sound ran =
     let add = statement.AddColumn t (def_of x) in
     let more = sets d t x x.value (is_firm x) in
@@ -398,15 +399,15 @@ column_back d t x c e h g sound ran =
     let r : Ran d add (more ++ rest_of t x) c e = ran_first d add (more ++ rest_of t x) c e ran in
     let ok = accepted (plan User d add c) r.mid r.count r.first in
     let b : Both d more (rest_of t x) r.mid e = ran_both d more (rest_of t x) r.mid e r.others in
-    let f : Both d (joins t (unique_of t x)) (refers t (foreign_of x)) b.between e = ran_both d (joins t (unique_of t x)) (refers t (foreign_of x)) b.between e b.back in
+    let f : Both d (joins t (unique_of t x)) (refers t (foreign_of t x)) b.between e = ran_both d (joins t (unique_of t x)) (refers t (foreign_of t x)) b.between e b.back in
     let wide : IsWidened t x.name c b.between = wide_sets d t x x.value (is_firm x) c r.mid b.between sound (widened_by_add User d t (def_of x) c r.mid r.count r.first) b.front in
     let front : run User d (add ∷ more) c ≡ Ok b.between = ap (goes_on d more) r.first ∙ b.front in
     let fine : IsSound d b.between = run_keeps d (add ∷ more) c b.between (after_spelled d t x h right) sound front in
-    let still : IsSound d f.between = run_keeps d (joins t (unique_of t x)) b.between f.between (joins_spelled d t (unique_of t x) h (unique_right t x h right)) fine f.front in
-    unreferred d t (foreign_of x) (leaves d t (unique_of t x) ++ statement.DropColumn t x.name ∷ []) c f.between e still
+    let still : IsSound d f.between = run_keeps d (joins t (unique_of t x)) b.between f.between (joins_spelled d t (unique_of t x) h (unique_right t x (is_whole d t h) right)) fine f.front in
+    unreferred d t (foreign_of t x) (leaves d t (unique_of t x) ++ statement.DropColumn t x.name ∷ []) c f.between e still
     (left d t x.name (unique_of t x) c b.between f.between fine (drop_widened User d t x.name c b.between sound wide ok.reserved) f.front) f.back
 
-all_back : (d : Dialect) (t : Name) (xs : List AddedColumn) (c e : Catalogue) → is_name t ≡ true → list_all is_added xs ≡ true → IsSound d c → run User d (flat_map (column_gives d t) xs) c ≡ Ok e → run User d (inverse_all d t xs) e ≡ Ok c
+all_back : (d : Dialect) (t : Name) (xs : List AddedColumn) (c e : Catalogue) → is_object d t ≡ true → list_all is_added xs ≡ true → IsSound d c → run User d (flat_map (column_gives d t) xs) c ≡ Ok e → run User d (inverse_all d t xs) e ≡ Ok c
 all_back d t [] c e h g sound ran = ap (λ x. Ok x) (sym (ok_same ran))
 all_back d t (x ∷ xs) c e h g sound ran =
     let b : Both d (column_gives d t x) (flat_map (column_gives d t) xs) c e = ran_both d (column_gives d t x) (flat_map (column_gives d t) xs) c e ran in
@@ -417,7 +418,7 @@ all_back d t (x ∷ xs) c e h g sound ran =
 goes_back : GoesBack is_for gives is_fresh inverse
 goes_back d x c e undoing right sound new ran taken =
     ap (λ ss. run User d ss e) (sym (some_same taken))
-    ∙ all_back d x.table_name x.columns c e (and_left (is_name x.table_name) _ right) (all_added x.columns (and_right (is_name x.table_name) _ right)) sound ran
+    ∙ all_back d x.table_name x.columns c e (and_left (is_object d x.table_name) _ right) (all_added x.columns (and_right (is_object d x.table_name) _ right)) sound ran
 
 pub restores : TakeBack is_for effect is_fresh inverse
 restores = restores_so is_for gives becomes is_fresh inverse becomes_so goes_back
@@ -453,5 +454,5 @@ same_change x y a b = rw (a, b) refl
 pub told : AreTold is_for canonical_of
 told d x y right also e =
     let is : rows x ≡ rows y = keys_told (codes "addColumn") (codes "addColumn") (rows x) (rows y) refl refl e in
-    same_change x y (text_told (ap (nth_value 0) is))
-    (maps_told column_rows is_added column_told x.columns y.columns (all_added x.columns (and_right (is_name x.table_name) _ right)) (all_added y.columns (and_right (is_name y.table_name) _ also)) (ap (nth_value 1) is))
+    same_change x y (object_told d x.table_name y.table_name (and_left (is_object d x.table_name) _ right) (and_left (is_object d y.table_name) _ also) (ap (nth_value 0) is) (ap (nth_value 2) is))
+    (maps_told column_rows is_added column_told x.columns y.columns (all_added x.columns (and_right (is_object d x.table_name) _ right)) (all_added y.columns (and_right (is_object d y.table_name) _ also)) (ap (nth_value 1) is))

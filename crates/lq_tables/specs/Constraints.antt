@@ -2,7 +2,7 @@
 use Rattle.std.specs.Option.{option_and_then, option_map, unwrap_or}
 use Rattle.std.specs.Prelude.{Bool, List, None, Option, Some, [], drop, false, if◌then◌else◌, length, nat_le, take, ℕ, ◌&&◌, ◌+◌, ◌==◌, ◌∷◌}
 use Rattle.std.specs.Str.{is_utf8}
-use Rattle.lq_base.specs.Name.{is_name, is_named}
+use Rattle.lq_base.specs.Name.{beside, is_name, is_named, text_of}
 use Rattle.lq_base.specs.declared.name.Name.{Name}
 use Rattle.lq_model.specs.DefaultName.{unique_name}
 use Rattle.lq_model.specs.declared.constraint.ForeignKey.{ForeignKey}
@@ -56,8 +56,8 @@ abbrev pub unique_stated : Name → Name → Option Bool → Option Name → Opt
 unique_stated t n unique name =
     if unwrap_or unique false then Some (record { name = unwrap_or name (unique_name t (n ∷ [])); columns = n ∷ [] }) else None
 
--- the foreign key of a column, where there is one
-abbrev pub foreign_stated : Name → Option Reference → Option Name → Option ForeignKey
-foreign_stated n None name = None
-foreign_stated n (Some r) None = None
-foreign_stated n (Some r) (Some name) = Some (record { name = name; columns = n ∷ []; table = r.target.table; targets = r.target.column ∷ []; cascade = false })
+-- the foreign key of a column of a table, where there is one; it targets a table of the same schema
+abbrev pub foreign_stated : Name → Name → Option Reference → Option Name → Option ForeignKey
+foreign_stated t n None name = None
+foreign_stated t n (Some r) None = None
+foreign_stated t n (Some r) (Some name) = Some (record { name = name; columns = n ∷ []; table = beside t (text_of r.target.table); targets = r.target.column ∷ []; cascade = false })

@@ -2,9 +2,10 @@
 use Rattle.std.proofs.Common.{ap, sym, ◌∙◌}
 use Rattle.std.specs.Option.{unwrap_or}
 use Rattle.std.specs.Prelude.{Bool, List, None, Option, Some, [], false, if◌then◌else◌, refl, true, ℕ, ◌∷◌, ◌≡◌}
-use Rattle.lq_base.specs.Name.{is_name, is_named}
+use Rattle.lq_base.specs.Name.{is_name, is_name_key, is_named, is_object}
 use Rattle.lq_base.specs.Options.{if_there}
 use Rattle.lq_base.specs.declared.dialect.Dialect.TheVariants.{Postgresql}
+use Rattle.lq_base.specs.declared.dialect.Dialect.{Dialect}
 use Rattle.lq_base.specs.declared.name.Name.{Name}
 use Rattle.lq_model.proofs.DefaultNames.{default_named}
 use Rattle.lq_model.proofs.Lists.{and_left, and_right, and_true, named_itself, same_name}
@@ -15,23 +16,25 @@ use Rattle.lq_model.specs.Statement.{is_foreign, is_unique}
 use Rattle.lq_model.specs.declared.table_item.Target.{Target}
 use Rattle.lq_tables.specs.Constraints.{foreign_stated, is_reference, is_same_target, is_target, target_of, unique_stated}
 use Rattle.lq_tables.specs.declared.constraints.Reference.{Reference}
+use Rattle.lq_base.proofs.BesideLemmas.{renamed}
 
-pub default_unique : (t n : Name) → is_name t ≡ true → is_name n ≡ true → is_name (unique_name t (n ∷ [])) ≡ true
+pub default_unique : (t n : Name) → is_name_key t ≡ true → is_name n ≡ true → is_name (unique_name t (n ∷ [])) ≡ true
 default_unique t n h k = (default_named Postgresql t (n ∷ []) h (and_true (is_name n) true k refl)).1
 
-pub unique_spelled : (t n : Name) (unique : Option Bool) (name : Option Name) → is_name t ≡ true → is_name n ≡ true → if_there is_name name ≡ true → if_there is_unique (unique_stated t n unique name) ≡ true
+pub unique_spelled : (t n : Name) (unique : Option Bool) (name : Option Name) → is_name_key t ≡ true → is_name n ≡ true → if_there is_name name ≡ true → if_there is_unique (unique_stated t n unique name) ≡ true
 unique_spelled t n unique name h k g = by (unwrap_or unique false) name g where
   by : (b : Bool) (name : Option Name) → if_there is_name name ≡ true → if_there is_unique (if b then Some (record { name = unwrap_or name (unique_name t (n ∷ [])); columns = n ∷ [] }) else None) ≡ true
   by false name g = refl
   by true None g = rw (default_unique t n h k, k) refl
   by true (Some m) g = rw (g, k) refl
 
-pub foreign_spelled : (n : Name) (references : Option Reference) (name : Option Name) → is_name n ≡ true → if_there is_reference references ≡ true → if_there is_name name ≡ true → if_there is_foreign (foreign_stated n references name) ≡ true
-foreign_spelled n None name k r g = refl
-foreign_spelled n (Some r) None k h g = refl
-foreign_spelled n (Some r) (Some m) k h g =
+pub foreign_spelled : (d : Dialect) (t n : Name) (references : Option Reference) (name : Option Name) → is_object d t ≡ true → is_name n ≡ true → if_there is_reference references ≡ true → if_there is_name name ≡ true → if_there (is_foreign d) (foreign_stated t n references name) ≡ true
+foreign_spelled d t n None name o k r g = refl
+foreign_spelled d t n (Some r) None o k h g = refl
+foreign_spelled d t n (Some r) (Some m) o k h g =
     let fine = and_right (is_same_target r.target (target_of r.text)) _ h in
-    rw (g, k, and_left (is_name r.target.table) _ fine, and_right (is_name r.target.table) _ fine) refl
+    let to = renamed d t r.target.table o (and_left (is_name r.target.table) _ fine) in
+    rw (g, k, to.object, and_right (is_name r.target.table) _ fine) refl
 
 same_target : (x y : Target) → x.table ≡ y.table → x.column ≡ y.column → x ≡ y
 same_target x y a b = rw (a, b) refl

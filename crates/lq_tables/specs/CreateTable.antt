@@ -3,7 +3,7 @@ use Rattle.std.specs.List.{flat_map}
 use Rattle.std.specs.Option.{option_and_then, option_map, option_to_list, unwrap_or}
 use Rattle.std.specs.Prelude.{Bool, Err, List, None, Ok, Option, Result, Some, [], codes, false, if◌then◌else◌, is_none, is_some, map, not, true, ◌&&◌, ◌++◌, ◌∷◌}
 use Rattle.lq_base.specs.Kind.{is_kind}
-use Rattle.lq_base.specs.Name.{is_name}
+use Rattle.lq_base.specs.Name.{is_name, is_object, text_of, within}
 use Rattle.lq_base.specs.Options.{if_there}
 use Rattle.lq_base.specs.declared.dialect.Dialect.{Dialect}
 use Rattle.lq_base.specs.declared.dialect.Dialect.TheVariants.{Mysql, Postgresql}
@@ -16,7 +16,7 @@ use Rattle.lq_model.specs.CreateTable.{key_column}
 use Rattle.lq_model.specs.DefaultName.{key_name}
 use Rattle.lq_model.specs.Effect.{effect_of}
 use Rattle.lq_model.specs.Literals.{column_of}
-use Rattle.lq_model.specs.Written.{Row, change_of, maps, pairs_of}
+use Rattle.lq_model.specs.Written.{Row, change_of, maps, pairs_of, schema_row}
 use Rattle.lq_model.specs.declared.column.ColumnDef.{ColumnDef}
 use Rattle.lq_model.specs.declared.constraint.ForeignKey.{ForeignKey}
 use Rattle.lq_model.specs.declared.constraint.Key.{Key}
@@ -26,7 +26,7 @@ use Rattle.lq_model.specs.declared.statement.Statement.TheVariants as statement
 use Rattle.lq_tree.specs.Found.{Found, Taken, and_then}
 use Rattle.lq_tree.specs.Given.{a_kind, a_name, a_truth}
 use Rattle.lq_tree.specs.Items.{a_column, are_some, required_items}
-use Rattle.lq_tree.specs.Keys.{Keys, a_change, fields, map_with, optional, required, ◌⊛◌}
+use Rattle.lq_tree.specs.Keys.{Keys, a_change_in, fields, map_with, optional, required, ◌⊛◌}
 use Rattle.lq_tree.specs.Values.{is_given, literal_of}
 use Rattle.lq_tables.specs.Constraints.{a_reference, foreign_stated, is_reference, unique_stated}
 use Rattle.lq_tables.specs.ValueKeys.{default_keys, default_rows}
@@ -66,14 +66,14 @@ column_keys =
 unfoldable pub created_column : Taken CreatedColumn
 created_column = map_with (codes "remarks" ∷ []) column_keys
 
-abbrev pub keys : Keys CreateTable
+abbrev pub keys : Keys (Name → CreateTable)
 keys =
-    fields (λ table columns. record { table_name = table; columns = columns })
+    fields (λ table columns schema. record { table_name = within schema table; columns = columns })
     ⊛ required (codes "tableName") a_name
     ⊛ required_items (codes "columns") (a_column created_column)
 
-unfoldable pub create_table : Taken CreateTable
-create_table = a_change keys
+unfoldable pub create_table : Dialect → Taken CreateTable
+create_table d = a_change_in d keys
 
 -- names are names, kinds are kinds, values can be written
 
@@ -84,7 +84,7 @@ abbrev pub is_created : CreatedColumn → Bool
 is_created x = is_name x.name && (is_kind x.kind && (if_there is_given x.default_value && if_there is_constraints x.constraints))
 
 abbrev pub is_for : Dialect → CreateTable → Bool
-is_for d x = is_name x.table_name && are_some is_created x.columns
+is_for d x = is_object d x.table_name && are_some is_created x.columns
 
 -- what is stated of a column
 
@@ -108,8 +108,8 @@ def_of x = record {
 abbrev pub unique_of : Name → CreatedColumn → List Unique
 unique_of t x = option_to_list (option_and_then (λ (cs : CreatedConstraints). unique_stated t x.name cs.unique cs.unique_constraint_name) x.constraints)
 
-abbrev pub foreign_of : CreatedColumn → List ForeignKey
-foreign_of x = option_to_list (option_and_then (λ (cs : CreatedConstraints). foreign_stated x.name cs.references cs.foreign_key_name) x.constraints)
+abbrev pub foreign_of : Name → CreatedColumn → List ForeignKey
+foreign_of t x = option_to_list (option_and_then (λ (cs : CreatedConstraints). foreign_stated t x.name cs.references cs.foreign_key_name) x.constraints)
 
 -- what is stated of the table
 
@@ -145,7 +145,7 @@ key_of d t xs = key_with (key_named d t xs) (key_columns xs)
 -- what it does
 
 abbrev pub creates : Dialect → CreateTable → Statement
-creates d x = statement.CreateTable x.table_name (map def_of x.columns) (key_of d x.table_name x.columns) (flat_map (unique_of x.table_name) x.columns) (flat_map foreign_of x.columns)
+creates d x = statement.CreateTable x.table_name (map def_of x.columns) (key_of d x.table_name x.columns) (flat_map (unique_of x.table_name) x.columns) (flat_map (foreign_of x.table_name) x.columns)
 
 abbrev pub gives : Dialect → CreateTable → List Statement
 gives d x = creates d x ∷ []
@@ -156,7 +156,7 @@ table_made d x = record {
   columns = map (key_column (key_of d x.table_name x.columns)) (map column_of (map def_of x.columns));
   key = key_of d x.table_name x.columns;
   uniques = flat_map (unique_of x.table_name) x.columns;
-  foreign = flat_map foreign_of x.columns;
+  foreign = flat_map (foreign_of x.table_name) x.columns;
   indexes = [];
   next = 1;
   rows = [];
@@ -195,7 +195,7 @@ column_rows x =
     ++ ((codes "constraints", option_map (λ cs. map_of (pairs_of (constraints_rows cs))) x.constraints) ∷ []))
 
 abbrev pub rows : CreateTable → List Row
-rows x = (codes "tableName", Some (text x.table_name)) ∷ (codes "columns", Some (list (maps column_rows x.columns))) ∷ []
+rows x = (codes "tableName", Some (text (text_of x.table_name))) ∷ (codes "columns", Some (list (maps column_rows x.columns))) ∷ (codes "schemaName", schema_row x.table_name) ∷ []
 
 abbrev pub canonical_of : CreateTable → CanonicalChange
 canonical_of x = change_of (codes "createTable") (rows x)

@@ -4,7 +4,7 @@ use Rattle.std.specs.List.{flat_map, list_all}
 use Rattle.std.specs.Option.{option_and_then, option_map, option_to_list, unwrap_or}
 use Rattle.std.specs.Prelude.{Bool, List, None, Option, Some, [], codes, false, if◌then◌else◌, map, not, refl, true, ◌∷◌, ◌≡◌}
 use Rattle.lq_base.specs.Kind.{is_kind}
-use Rattle.lq_base.specs.Name.{is_name}
+use Rattle.lq_base.specs.Name.{is_name, is_name_key, is_object}
 use Rattle.lq_base.specs.Options.{if_there}
 use Rattle.lq_base.specs.declared.dialect.Dialect.{Dialect}
 use Rattle.lq_base.specs.declared.dialect.Dialect.TheVariants.{Mysql, Postgresql}
@@ -14,7 +14,7 @@ use Rattle.lq_model.proofs.CreateDrop.{drop_after_create}
 use Rattle.lq_model.proofs.DefaultNames.{default_named}
 use Rattle.lq_model.proofs.Effects.{does_so, one_back, one_becomes, restores_so, some_same}
 use Rattle.lq_model.proofs.Lists.{all-append, and_left, and_right, and_true, named_itself}
-use Rattle.lq_model.proofs.Told.{if_told, keys_told, kind_told, map_if_told, map_told, maps_told, text_told, texts_told, truths_told}
+use Rattle.lq_model.proofs.Told.{if_told, keys_told, kind_told, map_if_told, map_told, maps_told, object_told, text_told, texts_told, truths_told}
 use Rattle.lq_model.specs.Canon.{map_of, text}
 use Rattle.lq_model.specs.Changes.{AreReturns, AreStatements, AreTold, HaveEffect, TakeBack}
 use Rattle.lq_model.specs.DefaultName.{key_name}
@@ -39,6 +39,7 @@ use Rattle.lq_tables.specs.declared.constraints.Reference.{Reference}
 use Rattle.lq_tables.specs.declared.create_table.CreateTable.{CreateTable}
 use Rattle.lq_tables.specs.declared.create_table.CreatedColumn.{CreatedColumn}
 use Rattle.lq_tables.specs.declared.create_table.CreatedConstraints.{CreatedConstraints}
+use Rattle.lq_base.proofs.BesideLemmas.{is_whole}
 
 -- what is right of constraints
 record AreRight (cs : CreatedConstraints) : Type 0 where
@@ -88,17 +89,17 @@ listed : {A : Type 0} (p : A → Bool) (o : Option A) → if_there p o ≡ true 
 listed p None h = refl
 listed p (Some a) h = and_true (p a) true h refl
 
-unique_right : (t : Name) (x : CreatedColumn) → is_name t ≡ true → is_created x ≡ true → list_all is_unique (unique_of t x) ≡ true
+unique_right : (t : Name) (x : CreatedColumn) → is_name_key t ≡ true → is_created x ≡ true → list_all is_unique (unique_of t x) ≡ true
 unique_right t x h g = let r = right_of x g in listed is_unique (option_and_then (λ (cs : CreatedConstraints). unique_stated t x.name cs.unique cs.unique_constraint_name) x.constraints) (by x.constraints r.name r.constraints) where
   by : (o : Option CreatedConstraints) → is_name x.name ≡ true → if_there is_constraints o ≡ true → if_there is_unique (option_and_then (λ (cs : CreatedConstraints). unique_stated t x.name cs.unique cs.unique_constraint_name) o) ≡ true
   by None n k = refl
   by (Some cs) n k = unique_spelled t x.name cs.unique cs.unique_constraint_name h n (are_right cs k).unique
 
-foreign_right : (x : CreatedColumn) → is_created x ≡ true → list_all is_foreign (foreign_of x) ≡ true
-foreign_right x g = let r = right_of x g in listed is_foreign (option_and_then (λ (cs : CreatedConstraints). foreign_stated x.name cs.references cs.foreign_key_name) x.constraints) (by x.constraints r.name r.constraints) where
-  by : (o : Option CreatedConstraints) → is_name x.name ≡ true → if_there is_constraints o ≡ true → if_there is_foreign (option_and_then (λ (cs : CreatedConstraints). foreign_stated x.name cs.references cs.foreign_key_name) o) ≡ true
+foreign_right : (d : Dialect) (t : Name) (x : CreatedColumn) → is_object d t ≡ true → is_created x ≡ true → list_all (is_foreign d) (foreign_of t x) ≡ true
+foreign_right d t x h g = let r = right_of x g in listed (is_foreign d) (option_and_then (λ (cs : CreatedConstraints). foreign_stated t x.name cs.references cs.foreign_key_name) x.constraints) (by x.constraints r.name r.constraints) where
+  by : (o : Option CreatedConstraints) → is_name x.name ≡ true → if_there is_constraints o ≡ true → if_there (is_foreign d) (option_and_then (λ (cs : CreatedConstraints). foreign_stated t x.name cs.references cs.foreign_key_name) o) ≡ true
   by None n k = refl
-  by (Some cs) n k = foreign_spelled x.name cs.references cs.foreign_key_name n (are_right cs k).references (are_right cs k).foreign
+  by (Some cs) n k = foreign_spelled d t x.name cs.references cs.foreign_key_name h n (are_right cs k).references (are_right cs k).foreign
 
 key_column_right : (x : CreatedColumn) → is_created x ≡ true → list_all is_name (key_column_of x) ≡ true
 key_column_right x g = by (is_in_key x) where
@@ -128,10 +129,10 @@ first_right (x ∷ xs) h = by (stated_name x) (stated_right x (and_left (is_crea
   by None a b = b
   by (Some n) a b = a
 
-default_key : (d : Dialect) (t : Name) → is_name t ≡ true → is_name (key_name d t) ≡ true
+default_key : (d : Dialect) (t : Name) → is_name_key t ≡ true → is_name (key_name d t) ≡ true
 default_key d t h = (default_named d t [] h refl).0
 
-named_right : (d : Dialect) (t : Name) (xs : List CreatedColumn) → is_name t ≡ true → list_all is_created xs ≡ true → is_name (key_named d t xs) ≡ true
+named_right : (d : Dialect) (t : Name) (xs : List CreatedColumn) → is_name_key t ≡ true → list_all is_created xs ≡ true → is_name (key_named d t xs) ≡ true
 named_right Mysql t xs h g = default_key Mysql t h
 named_right Postgresql t xs h g = by (first_name xs) (first_right xs g) where
   by : (o : Option Name) → if_there is_name o ≡ true → is_name (unwrap_or o (key_name Postgresql t)) ≡ true
@@ -146,7 +147,7 @@ key_name_right : (d : Dialect) (t : Name) (xs : List CreatedColumn) → is_key_n
 key_name_right Postgresql t xs = refl
 key_name_right Mysql t xs = primary_named t
 
-key_right : (d : Dialect) (t : Name) (xs : List CreatedColumn) → is_name t ≡ true → list_all is_created xs ≡ true → list_all (is_key d) (key_list (key_of d t xs)) ≡ true
+key_right : (d : Dialect) (t : Name) (xs : List CreatedColumn) → is_name_key t ≡ true → list_all is_created xs ≡ true → list_all (is_key d) (key_list (key_of d t xs)) ≡ true
 key_right d t xs h g = by (key_columns xs) (all_in is_created is_name key_column_of key_column_right xs g) where
   by : (ns : List Name) → list_all is_name ns ≡ true → list_all (is_key d) (key_list (key_with (key_named d t xs) ns)) ≡ true
   by [] k = refl
@@ -161,20 +162,21 @@ not_empty (x ∷ xs) h = refl
 
 pub spelled : AreStatements is_for gives
 spelled d x h =
-    let t = and_left (is_name x.table_name) _ h in
-    let some = and_right (is_name x.table_name) _ h in
+    let t = and_left (is_object d x.table_name) _ h in
+    let whole = is_whole d x.table_name t in
+    let some = and_right (is_object d x.table_name) _ h in
     let all = all_created x.columns some in
     rw (
       t,
       not_empty x.columns some,
       all_of is_created is_column_def def_of def_spelled x.columns all,
-      key_right d x.table_name x.columns t all,
-      all_in is_created is_unique (unique_of x.table_name) (λ y g. unique_right x.table_name y t g) x.columns all,
-      all_in is_created is_foreign foreign_of foreign_right x.columns all,
+      key_right d x.table_name x.columns whole all,
+      all_in is_created is_unique (unique_of x.table_name) (λ y g. unique_right x.table_name y whole g) x.columns all,
+      all_in is_created (is_foreign d) (foreign_of x.table_name) (λ y g. foreign_right d x.table_name y t g) x.columns all,
     ) refl
 
 pub returned : AreReturns is_for inverse
-returned d x undoing right taken = subst (λ ss. list_all (is_statement d) ss ≡ true) (some_same taken) (rw (and_left (is_name x.table_name) _ right) refl)
+returned d x undoing right taken = subst (λ ss. list_all (is_statement d) ss ≡ true) (some_same taken) (rw (and_left (is_object d x.table_name) _ right) refl)
 
 becomes_so : Becomes gives becomes is_for
 becomes_so d x c e right sound ran = one_becomes d (creates d x) c e ran
@@ -185,7 +187,7 @@ does = does_so is_for gives becomes becomes_so
 goes_back : GoesBack is_for gives is_fresh inverse
 goes_back d x c e undoing right sound new ran taken =
     ap (λ ss. run User d ss e) (sym (some_same taken))
-    ∙ one_back d (creates d x) (statement.DropTable x.table_name) (drop_after_create d x.table_name (map def_of x.columns) (key_of d x.table_name x.columns) (flat_map (unique_of x.table_name) x.columns) (flat_map foreign_of x.columns)) c e sound ran
+    ∙ one_back d (creates d x) (statement.DropTable x.table_name) (drop_after_create d x.table_name (map def_of x.columns) (key_of d x.table_name x.columns) (flat_map (unique_of x.table_name) x.columns) (flat_map (foreign_of x.table_name) x.columns)) c e sound ran
 
 pub restores : TakeBack is_for effect is_fresh inverse
 restores = restores_so is_for gives becomes is_fresh inverse becomes_so goes_back
@@ -220,5 +222,5 @@ same_change x y a b = rw (a, b) refl
 pub told : AreTold is_for canonical_of
 told d x y right also e =
     let is : rows x ≡ rows y = keys_told (codes "createTable") (codes "createTable") (rows x) (rows y) refl refl e in
-    same_change x y (text_told (ap (nth_value 0) is))
-    (maps_told column_rows is_created column_told x.columns y.columns (all_created x.columns (and_right (is_name x.table_name) _ right)) (all_created y.columns (and_right (is_name y.table_name) _ also)) (ap (nth_value 1) is))
+    same_change x y (object_told d x.table_name y.table_name (and_left (is_object d x.table_name) _ right) (and_left (is_object d y.table_name) _ also) (ap (nth_value 0) is) (ap (nth_value 2) is))
+    (maps_told column_rows is_created column_told x.columns y.columns (all_created x.columns (and_right (is_object d x.table_name) _ right)) (all_created y.columns (and_right (is_object d y.table_name) _ also)) (ap (nth_value 1) is))

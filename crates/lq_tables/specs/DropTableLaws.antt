@@ -2,7 +2,7 @@
 use Rattle.std.proofs.Common.{ap}
 use Rattle.std.specs.Prelude.{codes, refl, ◌≡◌}
 use Rattle.lq_model.proofs.Effects.{does_so, one_becomes, restores_so}
-use Rattle.lq_model.proofs.Told.{keys_told, text_told}
+use Rattle.lq_model.proofs.Told.{keys_told, object_told}
 use Rattle.lq_model.specs.Changes.{AreReturns, AreStatements, AreTold, HaveEffect, TakeBack}
 use Rattle.lq_model.specs.Effect.{Becomes, GoesBack}
 use Rattle.lq_model.specs.Written.{nth_value}
@@ -34,4 +34,4 @@ same x y table = rw table refl
 pub told : AreTold is_for canonical_of
 told d x y right also e =
     let is : rows x ≡ rows y = keys_told (codes "dropTable") (codes "dropTable") (rows x) (rows y) refl refl e in
-    same x y (text_told (ap (nth_value 0) is))
+    same x y (object_told d x.table_name y.table_name right also (ap (nth_value 0) is) (ap (nth_value 1) is))

@@ -12,10 +12,11 @@ use lq_base::{Dialect, Duplicate, Items, Kind, KindFault, Literal, Name, NoMemor
 use lq_last_first::{TakesBack, push_undoing};
 use lq_model::{
     Canon, Change, ColumnDef, Field, Fields, ForeignKey, Look, MapAt, MapsAt, SqlText, Statement,
-    Undo, Unique, Written, append_all, name_field, truth_field, write_change_of,
+    Undo, Unique, Written, append_all, name_field, schema_field, truth_field, write_change_of,
 };
 use lq_tree::{
-    Given, GivenValue, Node, known, missing, optional, public, required, required_columns,
+    Given, GivenValue, Node, catalogue, in_schema, known, missing, optional, required,
+    required_columns, schema,
 };
 use std::alloc::Global;
 
@@ -190,13 +191,15 @@ impl AddColumn {
         dialect: Dialect,
         _sql: &P,
     ) -> Result<AddColumn, KindFault>
-        ensures read { Reads (add_column node.now) result }
+        ensures read { Reads (add_column dialect node.now) result }
         ensures right { IfOk result (λ x. is_for dialect x ≡ true) }
     {
         known(alloc, node, &KEYS)?;
-        let table_name = required(alloc, node, "tableName")?;
+        let table: Name = required(alloc, node, "tableName")?;
         let columns = required_columns(alloc, node, "columns")?;
-        public(alloc, node)?;
+        let schema = schema(alloc, node, dialect, "schemaName")?;
+        catalogue(alloc, node)?;
+        let table_name = in_schema(alloc, dialect, &schema, &table)?;
         Ok(AddColumn {
             table_name,
             columns,
@@ -232,12 +235,13 @@ impl AddedColumn {
     }
 
     // Its foreign key, where there is one.
-    fn foreign(&self, alloc: Global) -> Result<Option<ForeignKey>, NoMemory>
-        ensures { IfOk result (λ made. made ≡ foreign_of self.now) }
+    fn foreign(&self, alloc: Global, table: &Name) -> Result<Option<ForeignKey>, NoMemory>
+        ensures { IfOk result (λ made. made ≡ foreign_of table.now self.now) }
     {
         match &self.constraints {
             Some(stated) => foreign_stated(
                 alloc,
+                table,
                 &self.name,
                 &stated.references,
                 &stated.foreign_key_name,
@@ -354,9 +358,10 @@ impl AddedColumn {
         table: &Name,
         to: &mut Items<Statement>,
     ) -> Result<(), NoMemory>
-        ensures { OnOk result (to.new ≡ to.old ++ refers table.now (foreign_of self.now)) }
+        ensures { OnOk result
+            (to.new ≡ to.old ++ refers table.now (foreign_of table.now self.now)) }
     {
-        let (table, foreign) = both(table.duplicate(alloc), self.foreign(alloc))?;
+        let (table, foreign) = both(table.duplicate(alloc), self.foreign(alloc, table))?;
         let Some(foreign) = foreign else {
             return Ok(());
         };
@@ -408,9 +413,10 @@ impl AddedColumn {
         table: &Name,
         to: &mut Items<Statement>,
     ) -> Result<(), NoMemory>
-        ensures { OnOk result (to.new ≡ to.old ++ parts dialect table.now (foreign_of self.now)) }
+        ensures { OnOk result
+            (to.new ≡ to.old ++ parts dialect table.now (foreign_of table.now self.now)) }
     {
-        let Some(foreign) = self.foreign(alloc)? else {
+        let Some(foreign) = self.foreign(alloc, table)? else {
             return Ok(());
         };
         let name = foreign.into_name();
@@ -576,12 +582,13 @@ impl Change for AddColumn {
     }
 
     fn canon(&self, to: &mut Canon) -> Result<(), NoMemory> {
-        let fields = [("tableName", Some(Field::Text(self.table_name.as_key())))];
+        let fields = [("tableName", Some(Field::Text(self.table_name.text())))];
         let columns = MapsAt {
             key: "columns",
             maps: self.columns.as_slice(),
         };
-        write_change_of(to, "addColumn", &(Fields(&fields), columns))
+        let place = [("schemaName", schema_field(&self.table_name))];
+        write_change_of(to, "addColumn", &(Fields(&fields), columns, Fields(&place)))
     }
 
     ghost spelled = { spelled };

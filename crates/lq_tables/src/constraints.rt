@@ -155,20 +155,23 @@ pub(crate) fn unique_stated(
     Ok(Some(Unique { name, columns }))
 }
 
-/// The foreign key of a column, where there is one.
+/// The foreign key of a column of a table, where there is one. It targets a table of the same
+/// schema.
 pub(crate) fn foreign_stated(
     alloc: Global,
+    table: &Name,
     column: &Name,
     references: &Option<Reference>,
     name: &Option<Name>,
 ) -> Result<Option<ForeignKey>, NoMemory>
-    ensures { IfOk result (λ made. made ≡ foreign_stated column.now references.now name.now) }
+    ensures { IfOk result
+        (λ made. made ≡ foreign_stated table.now column.now references.now name.now) }
 {
     let (Some(reference), Some(name)) = (references, name) else {
         return Ok(None);
     };
     let target = &reference.target;
-    let names = both(name.duplicate(alloc), target.table.duplicate(alloc));
+    let names = both(name.duplicate(alloc), target.table.beside(alloc, table));
     let lists = both(one_name(alloc, column), one_name(alloc, &target.column));
     let ((name, table), (columns, targets)) = both(names, lists)?;
     Ok(Some(ForeignKey {

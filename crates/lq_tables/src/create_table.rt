@@ -10,10 +10,12 @@ use crate::value_keys::{default_at, default_value};
 use lq_base::{Dialect, Duplicate, Items, Kind, KindFault, Literal, Name, NoMemory, both};
 use lq_model::{
     Canon, Change, ColumnDef, Field, Fields, ForeignKey, Key, Look, MapAt, MapsAt, SqlText,
-    Statement, Undo, Unique, Written, key_name, name_field, truth_field, write_change_of,
+    Statement, Undo, Unique, Written, key_name, name_field, schema_field, truth_field,
+    write_change_of,
 };
 use lq_tree::{
-    Given, GivenValue, Node, known, missing, optional, public, required, required_columns,
+    Given, GivenValue, Node, catalogue, in_schema, known, missing, optional, required,
+    required_columns, schema,
 };
 use std::alloc::Global;
 
@@ -190,13 +192,15 @@ impl CreateTable {
         dialect: Dialect,
         _sql: &P,
     ) -> Result<CreateTable, KindFault>
-        ensures read { Reads (create_table node.now) result }
+        ensures read { Reads (create_table dialect node.now) result }
         ensures right { IfOk result (λ x. is_for dialect x ≡ true) }
     {
         known(alloc, node, &KEYS)?;
-        let table_name = required(alloc, node, "tableName")?;
+        let table: Name = required(alloc, node, "tableName")?;
         let columns = required_columns(alloc, node, "columns")?;
-        public(alloc, node)?;
+        let schema = schema(alloc, node, dialect, "schemaName")?;
+        catalogue(alloc, node)?;
+        let table_name = in_schema(alloc, dialect, &schema, &table)?;
         Ok(CreateTable {
             table_name,
             columns,
@@ -271,14 +275,20 @@ impl CreatedColumn {
         Ok(())
     }
 
-    fn push_foreign(&self, alloc: Global, to: &mut Items<ForeignKey>) -> Result<(), NoMemory>
-        ensures { OnOk result (to.new ≡ to.old ++ foreign_of self.now) }
+    fn push_foreign(
+        &self,
+        alloc: Global,
+        table: &Name,
+        to: &mut Items<ForeignKey>,
+    ) -> Result<(), NoMemory>
+        ensures { OnOk result (to.new ≡ to.old ++ foreign_of table.now self.now) }
     {
         let Some(stated) = &self.constraints else {
             return Ok(());
         };
         let made = foreign_stated(
             alloc,
+            table,
             &self.name,
             &stated.references,
             &stated.foreign_key_name,
@@ -338,13 +348,17 @@ fn uniques(
     Ok(made)
 }
 
-fn foreign_keys(alloc: Global, columns: &[CreatedColumn]) -> Result<Items<ForeignKey>, NoMemory>
-    ensures { IfOk result (λ made. made ≡ flat_map foreign_of columns.now) }
+fn foreign_keys(
+    alloc: Global,
+    table: &Name,
+    columns: &[CreatedColumn],
+) -> Result<Items<ForeignKey>, NoMemory>
+    ensures { IfOk result (λ made. made ≡ flat_map (foreign_of table.now) columns.now) }
 {
     let mut made = Items::new(alloc);
     let mut rest = columns;
     while let Some((column, after)) = rest.split_first() {
-        column.push_foreign(alloc, &mut made)?;
+        column.push_foreign(alloc, table, &mut made)?;
         rest = after;
     }
     Ok(made)
@@ -416,7 +430,10 @@ impl CreateTable {
         let table = &self.table_name;
         let columns = self.columns.as_slice();
         let head = both(table.duplicate(alloc), defs(alloc, columns));
-        let lists = both(uniques(alloc, table, columns), foreign_keys(alloc, columns));
+        let lists = both(
+            uniques(alloc, table, columns),
+            foreign_keys(alloc, table, columns),
+        );
         let tail = both(stated_key(alloc, dialect, table, columns), lists);
         let ((table, columns), (key, (uniques, foreign))) = both(head, tail)?;
         Ok(Statement::CreateTable {
@@ -519,12 +536,17 @@ impl Change for CreateTable {
     }
 
     fn canon(&self, to: &mut Canon) -> Result<(), NoMemory> {
-        let fields = [("tableName", Some(Field::Text(self.table_name.as_key())))];
+        let fields = [("tableName", Some(Field::Text(self.table_name.text())))];
         let columns = MapsAt {
             key: "columns",
             maps: self.columns.as_slice(),
         };
-        write_change_of(to, "createTable", &(Fields(&fields), columns))
+        let place = [("schemaName", schema_field(&self.table_name))];
+        write_change_of(
+            to,
+            "createTable",
+            &(Fields(&fields), columns, Fields(&place)),
+        )
     }
 
     ghost spelled = { spelled };

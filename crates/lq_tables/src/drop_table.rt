@@ -3,8 +3,8 @@ ghost use Rattle.lq_tree.specs.Found.{Reads};
 ghost use Rattle.lq_tables.specs.DropTable.{is_for, drop_table};
 
 use lq_base::{Dialect, Duplicate, Items, KindFault, Name, NoMemory};
-use lq_model::{Canon, Change, Field, Look, SqlText, Statement, Undo, write_change};
-use lq_tree::{Node, known, public, required};
+use lq_model::{Canon, Change, Field, Look, SqlText, Statement, Undo, schema_field, write_change};
+use lq_tree::{Node, catalogue, in_schema, known, required, schema};
 use std::alloc::Global;
 
 /// A table is dropped (Liquibase's documentation, "dropTable").
@@ -24,12 +24,14 @@ impl DropTable {
         dialect: Dialect,
         _sql: &P,
     ) -> Result<DropTable, KindFault>
-        ensures read { Reads (drop_table node.now) result }
+        ensures read { Reads (drop_table dialect node.now) result }
         ensures right { IfOk result (λ x. is_for dialect x ≡ true) }
     {
         known(alloc, node, &KEYS)?;
-        let table_name = required(alloc, node, "tableName")?;
-        public(alloc, node)?;
+        let table: Name = required(alloc, node, "tableName")?;
+        let schema = schema(alloc, node, dialect, "schemaName")?;
+        catalogue(alloc, node)?;
+        let table_name = in_schema(alloc, dialect, &schema, &table)?;
         Ok(DropTable { table_name })
     }
 }
@@ -79,7 +81,10 @@ impl Change for DropTable {
         write_change(
             to,
             "dropTable",
-            &[("tableName", Some(Field::Text(self.table_name.as_key())))],
+            &[
+                ("tableName", Some(Field::Text(self.table_name.text()))),
+                ("schemaName", schema_field(&self.table_name)),
+            ],
         )
     }
 

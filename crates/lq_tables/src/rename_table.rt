@@ -3,8 +3,8 @@ ghost use Rattle.lq_tree.specs.Found.{Reads};
 ghost use Rattle.lq_tables.specs.RenameTable.{is_for, rename_table};
 
 use lq_base::{Dialect, Duplicate, Items, KindFault, Name, NoMemory};
-use lq_model::{Canon, Change, Field, Look, SqlText, Statement, Undo, write_change};
-use lq_tree::{Node, known, public, required};
+use lq_model::{Canon, Change, Field, Look, SqlText, Statement, Undo, schema_field, write_change};
+use lq_tree::{Node, catalogue, in_schema, known, required, schema};
 use std::alloc::Global;
 
 /// A table gets another name (Liquibase's documentation, "renameTable").
@@ -31,13 +31,15 @@ impl RenameTable {
         dialect: Dialect,
         _sql: &P,
     ) -> Result<RenameTable, KindFault>
-        ensures read { Reads (rename_table node.now) result }
+        ensures read { Reads (rename_table dialect node.now) result }
         ensures right { IfOk result (λ x. is_for dialect x ≡ true) }
     {
         known(alloc, node, &KEYS)?;
-        let old_table_name = required(alloc, node, "oldTableName")?;
+        let old: Name = required(alloc, node, "oldTableName")?;
         let new_table_name = required(alloc, node, "newTableName")?;
-        public(alloc, node)?;
+        let schema = schema(alloc, node, dialect, "schemaName")?;
+        catalogue(alloc, node)?;
+        let old_table_name = in_schema(alloc, dialect, &schema, &old)?;
         Ok(RenameTable {
             old_table_name,
             new_table_name,
@@ -74,7 +76,7 @@ impl Change for RenameTable {
     ) -> Result<(), NoMemory> {
         to.push(Statement::RenameTable {
             table: self.old_table_name.duplicate(alloc)?,
-            to: self.new_table_name.duplicate(alloc)?,
+            to: self.new_table_name.beside(alloc, &self.old_table_name)?,
         })?;
         Ok(())
     }
@@ -82,7 +84,7 @@ impl Change for RenameTable {
     fn undo(&self, alloc: Global, _dialect: Dialect) -> Result<Undo, NoMemory> {
         let mut statements = Items::new(alloc);
         statements.push(Statement::RenameTable {
-            table: self.new_table_name.duplicate(alloc)?,
+            table: self.new_table_name.beside(alloc, &self.old_table_name)?,
             to: self.old_table_name.duplicate(alloc)?,
         })?;
         Ok(Undo::Generated(statements))
@@ -99,12 +101,13 @@ impl Change for RenameTable {
             &[
                 (
                     "oldTableName",
-                    Some(Field::Text(self.old_table_name.as_key())),
+                    Some(Field::Text(self.old_table_name.text())),
                 ),
                 (
                     "newTableName",
                     Some(Field::Text(self.new_table_name.as_key())),
                 ),
+                ("schemaName", schema_field(&self.old_table_name)),
             ],
         )
     }

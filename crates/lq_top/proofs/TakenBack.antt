@@ -36,5 +36,5 @@ has_taken_back law asks told s after shown now runs = λ database opens was.
       ends = λ none no_block.
           let not_refused = subst (λ (r : Option RepairFault). EndsBy (option_map status_of r) s) (it.passes none no_block) ran.ends in
           is_taken_by s not_refused (λ finished.
-              (subst (λ (r : Option Refusal). SaysPart part.0.0.identity part.0.1 r s shown now) part.2 (subst (λ (p : Option Standing). SaysUndone o database p s shown now) there ran.says finished)).0);
+          (subst (λ (r : Option Refusal). SaysPart part.0.0.identity part.0.1 r s shown now) part.2 (subst (λ (p : Option Standing). SaysUndone o database p s shown now) there ran.says finished)).0);
     }

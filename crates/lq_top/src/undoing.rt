@@ -71,7 +71,14 @@ fn undo_in<D: Disk, P: SqlText + Drop + Copy, E: Executor + Drop>(
     let mut db = db;
     match last_in(alloc, &db) {
         Ok(last) => {
-            let done = undo(alloc, &asked.options, &asked.changelog, &last, &mut db, &sql);
+            let done = undo(
+                alloc,
+                &asked.options,
+                &asked.changelog,
+                &last,
+                &mut db,
+                &sql,
+            );
             Worked {
                 disk: db.into_disk(),
                 done,

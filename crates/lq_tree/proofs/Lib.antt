@@ -6,3 +6,4 @@ pub mod Numbers
 pub mod BothEnds
 pub mod ItemsRead
 pub mod NamesRead
+pub mod Schemas

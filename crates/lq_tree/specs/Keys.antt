@@ -1,7 +1,11 @@
 -- The keys of a map as a table: the name of each, whether it has to be there, and what it takes.
 use Rattle.std.specs.Prelude.{Bool, Err, List, None, Ok, Option, Some, [], codes, false, if◌then◌else◌, ℕ, ◌++◌, ◌∷◌}
 use Rattle.std.specs.Str.{bytes_eq}
+use Rattle.lq_base.specs.Name.{is_name, public}
+use Rattle.lq_base.specs.declared.dialect.Dialect.{Dialect}
+use Rattle.lq_base.specs.declared.dialect.Dialect.TheVariants.{Mysql, Postgresql}
 use Rattle.lq_base.specs.declared.fault.KindFault.TheVariants.{Bad, Missing, Unknown}
+use Rattle.lq_base.specs.declared.name.Name.{Name}
 use Rattle.lq_tree.specs.Found.{Found, Taken, and_then, map_found, within}
 use Rattle.lq_tree.specs.Look.{map_of, text_of, unknown_key, value_at}
 use Rattle.lq_tree.specs.declared.node.Node.{Node}
@@ -72,3 +76,34 @@ place = record {
 -- a change: the keys of its type and then its place; remarks are ignored
 abbrev pub a_change : {A : Type 0} → Keys A → Taken A
 a_change keys = map_with (codes "remarks" ∷ []) (fields (λ change place. change) ⊛ keys ⊛ place)
+
+-- which texts may be schemas: under PostgreSQL each name, under MySQL `public` alone
+abbrev pub is_schema : Dialect → List ℕ → Bool
+is_schema Postgresql t = is_name t
+is_schema Mysql t = bytes_eq t public
+
+abbrev pub schema_named : Dialect → List ℕ → List ℕ → Found Name
+schema_named Postgresql key t = if is_name t then Ok t else Err (Bad key)
+schema_named Mysql key t = if bytes_eq t public then Ok public else Err (Bad key)
+
+-- a schema, which is a text, or `public` where none is stated
+abbrev pub schema_at : Dialect → List ℕ → Taken Name
+schema_at d key n = elim (value_at key n) [
+  | None ↦ Ok public
+  | Some value ↦ elim (text_of value) [ None ↦ Err (Bad key) | Some t ↦ schema_named d key t ]
+]
+
+abbrev pub schema_key : Dialect → List ℕ → Keys Name
+schema_key d key = record { names = key ∷ []; says = schema_at d key }
+
+-- a catalogue can only be `public`
+abbrev pub catalogue : Keys (Unit {0})
+catalogue = record { names = codes "catalogName" ∷ []; says = public_at (codes "catalogName") }
+
+-- keys of an object in a schema, with that of its schema and that of its catalogue
+abbrev pub keys_in : {A : Type 0} → Dialect → List ℕ → Keys (Name → A) → Keys A
+keys_in d key keys = fields (λ change schema catalogue. change schema) ⊛ keys ⊛ schema_key d key ⊛ catalogue
+
+-- a change of an object in a schema: the keys of its type, and then its schema and its catalogue; remarks are ignored
+abbrev pub a_change_in : {A : Type 0} → Dialect → Keys (Name → A) → Taken A
+a_change_in d keys = map_with (codes "remarks" ∷ []) (keys_in d (codes "schemaName") keys)

@@ -1,13 +1,15 @@
-ghost use Rattle.std.specs.Prelude.{◌≡◌, ◌||◌, Bool, IfOk, is_some, map, true};
+ghost use Rattle.std.specs.Prelude.{◌≡◌, ◌||◌, Bool, IfOk, Ok, is_some, map, true};
 ghost use Rattle.lq_base.specs.Options.{if_there};
 ghost use Rattle.lq_tree.specs.Found.{Reads, Tells, within};
-ghost use Rattle.lq_tree.specs.Keys.{at_optional, at_required, at_required_unless, is_public, known, place, public_at};
+ghost use Rattle.lq_base.specs.Name.{is_name, is_object};
+ghost use Rattle.lq_base.specs.Name as names;
+ghost use Rattle.lq_tree.specs.Keys.{at_optional, at_required, at_required_unless, catalogue, is_public, is_schema, known, place, public_at, schema_at, schema_named};
 ghost use Rattle.lq_tree.specs.Look.{value_at};
 
 use crate::found::{bad, bad_key, missing, placed, unknown};
 use crate::given::Given;
 use crate::node::Node;
-use lq_base::KindFault;
+use lq_base::{Dialect, KindFault, Name, NameFault, NoMemory};
 use std::alloc::Global;
 
 /// Tests that a map has no keys but these: `Bad` with the empty path where the node is no map,
@@ -114,4 +116,73 @@ pub fn public(alloc: Global, node: &Node) -> Result<(), KindFault>
 {
     public_at(alloc, node, "schemaName")?;
     public_at(alloc, node, "catalogName")
+}
+
+fn public_schema(alloc: Global) -> Result<Name, KindFault>
+    ensures { Reads (Ok names.public) result }
+{
+    match Name::new(alloc, "public") {
+        Ok(name) => Ok(name),
+        Err(_) => Err(KindFault::OutOfMemory),
+    }
+}
+
+fn schema_named(alloc: Global, dialect: Dialect, key: &str, text: &str) -> Result<Name, KindFault>
+    ensures read { Reads (schema_named dialect key.now text.now) result }
+    ensures fits { IfOk result (λ schema. is_schema dialect schema ≡ true) }
+{
+    match dialect {
+        Dialect::Postgresql => match Name::new(alloc, text) {
+            Ok(name) => Ok(name),
+            Err(NameFault::BadName) => Err(bad_key(alloc, key)),
+            Err(NameFault::OutOfMemory) => Err(KindFault::OutOfMemory),
+        },
+        Dialect::Mysql => {
+            if text == "public" {
+                public_schema(alloc)
+            } else {
+                Err(bad_key(alloc, key))
+            }
+        }
+    }
+}
+
+/// The schema that stands at a key, or `public` where none does. Under MySQL there is no other.
+pub fn schema(alloc: Global, node: &Node, dialect: Dialect, key: &str) -> Result<Name, KindFault>
+    ensures read { Reads (schema_at dialect key.now node.now) result }
+    ensures fits { IfOk result (λ schema. is_schema dialect schema ≡ true) }
+{
+    match node.value_at(key) {
+        None => public_schema(alloc),
+        Some(value) => match value.as_text() {
+            Some(text) => schema_named(alloc, dialect, key, text),
+            None => Err(bad_key(alloc, key)),
+        },
+    }
+}
+
+/// Tests the catalogue of an object, where it is stated: there is one, `public`.
+pub fn catalogue(alloc: Global, node: &Node) -> Result<(), KindFault>
+    ensures { Reads (catalogue.says node.now) result }
+{
+    public_at(alloc, node, "catalogName")
+}
+
+/// The name of an object in a schema that was read.
+#[tactic(auto, using(crate::proofs::Schemas::object_within))]
+pub fn in_schema(
+    alloc: Global,
+    dialect: Dialect,
+    schema: &Name,
+    name: &Name,
+) -> Result<Name, NoMemory>
+    requires schema { is_schema dialect schema.now ≡ true }
+    requires name { is_name name.now ≡ true }
+    ensures value { IfOk result (λ it. it ≡ names.within schema.now name.now) }
+    ensures fits { IfOk result (λ it. is_object dialect it ≡ true) }
+{
+    match Name::within(alloc, schema.as_key(), name.as_key()) {
+        Ok(it) => Ok(it),
+        Err(_) => Err(NoMemory),
+    }
 }

@@ -20,7 +20,7 @@ pub use columns::required_columns;
 pub use found::{bad, bad_key, missing, not_for, placed, placed_list, unknown};
 pub use given::Given;
 pub use items::{each_item, optional_items, required_items};
-pub use keys::{known, optional, public, required, required_unless};
+pub use keys::{catalogue, in_schema, known, optional, public, required, required_unless, schema};
 pub use node::{Node, TreeFault};
 pub use reader::{Reader, optional_by, required_by};
 pub use reading::read_json;

@@ -1,33 +1,34 @@
 -- dropUniqueConstraint: a unique constraint of a table is gone.
 use Rattle.std.specs.Prelude.{Bool, List, None, Option, Result, Some, [], codes, true, ◌&&◌, ◌∷◌}
-use Rattle.lq_base.specs.Name.{is_name}
+use Rattle.lq_base.specs.Name.{is_name, is_object, text_of, within}
 use Rattle.lq_base.specs.declared.dialect.Dialect.{Dialect}
+use Rattle.lq_base.specs.declared.name.Name.{Name}
 use Rattle.lq_base.specs.declared.reason.Reason.{Reason}
 use Rattle.lq_model.specs.Canon.{CanonicalChange, text}
 use Rattle.lq_model.specs.Catalogue.{Catalogue, the_table, with_table}
 use Rattle.lq_model.specs.Effect.{effect_of}
-use Rattle.lq_model.specs.Written.{Row, change_of}
+use Rattle.lq_model.specs.Written.{Row, change_of, schema_row}
 use Rattle.lq_model.specs.declared.statement.Statement.{Statement}
 use Rattle.lq_tree.specs.Found.{Taken}
 use Rattle.lq_tree.specs.Given.{a_name}
-use Rattle.lq_tree.specs.Keys.{Keys, a_change, fields, required, ◌⊛◌}
+use Rattle.lq_tree.specs.Keys.{Keys, a_change_in, fields, required, ◌⊛◌}
 use Rattle.lq_uniques.specs.Drops.{drops_unique, unique_dropped}
 use Rattle.lq_uniques.specs.declared.drop_unique.DropUniqueConstraint.{DropUniqueConstraint}
 
 -- its keys
 
-abbrev pub keys : Keys DropUniqueConstraint
+abbrev pub keys : Keys (Name → DropUniqueConstraint)
 keys =
-    fields (λ table name. record { table_name = table; constraint_name = name })
+    fields (λ table name schema. record { table_name = within schema table; constraint_name = name })
     ⊛ required (codes "tableName") a_name
     ⊛ required (codes "constraintName") a_name
 
-unfoldable pub drop_unique : Taken DropUniqueConstraint
-drop_unique = a_change keys
+unfoldable pub drop_unique : Dialect → Taken DropUniqueConstraint
+drop_unique d = a_change_in d keys
 
 -- its names are names
 abbrev pub is_for : Dialect → DropUniqueConstraint → Bool
-is_for d x = is_name x.table_name && is_name x.constraint_name
+is_for d x = is_object d x.table_name && is_name x.constraint_name
 
 -- what it does
 
@@ -52,8 +53,9 @@ inverse d x = None
 
 abbrev pub rows : DropUniqueConstraint → List Row
 rows x =
-    (codes "tableName", Some (text x.table_name))
+    (codes "tableName", Some (text (text_of x.table_name)))
     ∷ (codes "constraintName", Some (text x.constraint_name))
+    ∷ (codes "schemaName", schema_row x.table_name)
     ∷ []
 
 abbrev pub canonical_of : DropUniqueConstraint → CanonicalChange

@@ -6,10 +6,10 @@ ghost use Rattle.lq_uniques.specs.Drops.{drops_unique};
 use crate::drops::unique_drop;
 use lq_base::{Dialect, Duplicate, Items, KindFault, Name, NoMemory, both};
 use lq_model::{
-    Canon, Change, Field, Look, SqlText, Statement, Undo, Unique, name_field, unique_name,
-    write_change,
+    Canon, Change, Field, Look, SqlText, Statement, Undo, Unique, name_field, schema_field,
+    unique_name, write_change,
 };
-use lq_tree::{Node, known, optional, public, required};
+use lq_tree::{Node, catalogue, in_schema, known, optional, required, schema};
 use std::alloc::Global;
 
 /// A table gets a unique constraint (Liquibase's documentation, "addUniqueConstraint").
@@ -51,14 +51,16 @@ impl AddUniqueConstraint {
         dialect: Dialect,
         _sql: &P,
     ) -> Result<AddUniqueConstraint, KindFault>
-        ensures read { Reads (add_unique node.now) result }
+        ensures read { Reads (add_unique dialect node.now) result }
         ensures right { IfOk result (λ x. is_for dialect x ≡ true) }
     {
         known(alloc, node, &KEYS)?;
-        let table_name = required(alloc, node, "tableName")?;
+        let table: Name = required(alloc, node, "tableName")?;
         let column_names = required(alloc, node, "columnNames")?;
         let constraint_name = optional(alloc, node, "constraintName")?;
-        public(alloc, node)?;
+        let schema = schema(alloc, node, dialect, "schemaName")?;
+        catalogue(alloc, node)?;
+        let table_name = in_schema(alloc, dialect, &schema, &table)?;
         Ok(AddUniqueConstraint {
             table_name,
             column_names,
@@ -140,12 +142,13 @@ impl Change for AddUniqueConstraint {
             to,
             "addUniqueConstraint",
             &[
-                ("tableName", Some(Field::Text(self.table_name.as_key()))),
+                ("tableName", Some(Field::Text(self.table_name.text()))),
                 (
                     "columnNames",
                     Some(Field::Names(self.column_names.as_slice())),
                 ),
                 ("constraintName", name_field(&self.constraint_name)),
+                ("schemaName", schema_field(&self.table_name)),
             ],
         )
     }

@@ -4,8 +4,8 @@ ghost use Rattle.lq_uniques.specs.DropUnique.{is_for, drop_unique};
 
 use crate::drops::unique_drop;
 use lq_base::{Dialect, Items, KindFault, Name, NoMemory};
-use lq_model::{Canon, Change, Field, Look, SqlText, Statement, Undo, write_change};
-use lq_tree::{Node, known, public, required};
+use lq_model::{Canon, Change, Field, Look, SqlText, Statement, Undo, schema_field, write_change};
+use lq_tree::{Node, catalogue, in_schema, known, required, schema};
 use std::alloc::Global;
 
 /// A unique constraint of a table is dropped (Liquibase's documentation, "dropUniqueConstraint").
@@ -32,13 +32,15 @@ impl DropUniqueConstraint {
         dialect: Dialect,
         _sql: &P,
     ) -> Result<DropUniqueConstraint, KindFault>
-        ensures read { Reads (drop_unique node.now) result }
+        ensures read { Reads (drop_unique dialect node.now) result }
         ensures right { IfOk result (λ x. is_for dialect x ≡ true) }
     {
         known(alloc, node, &KEYS)?;
-        let table_name = required(alloc, node, "tableName")?;
+        let table: Name = required(alloc, node, "tableName")?;
         let constraint_name = required(alloc, node, "constraintName")?;
-        public(alloc, node)?;
+        let schema = schema(alloc, node, dialect, "schemaName")?;
+        catalogue(alloc, node)?;
+        let table_name = in_schema(alloc, dialect, &schema, &table)?;
         Ok(DropUniqueConstraint {
             table_name,
             constraint_name,
@@ -90,11 +92,12 @@ impl Change for DropUniqueConstraint {
             to,
             "dropUniqueConstraint",
             &[
-                ("tableName", Some(Field::Text(self.table_name.as_key()))),
+                ("tableName", Some(Field::Text(self.table_name.text()))),
                 (
                     "constraintName",
                     Some(Field::Text(self.constraint_name.as_key())),
                 ),
+                ("schemaName", schema_field(&self.table_name)),
             ],
         )
     }

@@ -2,7 +2,7 @@
 use Rattle.std.proofs.Common.{ap, sym, ◌∙◌}
 use Rattle.std.specs.List.{list_all}
 use Rattle.std.specs.Prelude.{codes, refl, true, ◌≡◌}
-use Rattle.lq_base.specs.Name.{is_name}
+use Rattle.lq_base.specs.Name.{is_name, is_object}
 use Rattle.lq_model.proofs.Effects.{does_so, one_back, one_becomes, restores_so, some_same}
 use Rattle.lq_model.proofs.Lists.{and_left, and_right, and_true}
 use Rattle.lq_model.proofs.Sequences.{drop_sequence_after}
@@ -16,14 +16,15 @@ use Rattle.lq_model.specs.declared.caller.By.TheVariants.{User}
 use Rattle.lq_model.specs.declared.statement.Statement.TheVariants as statement
 use Rattle.lq_views.specs.CreateSequence.{becomes, canonical_of, effect, gives, inverse, is_for, is_fresh, rows}
 use Rattle.lq_views.specs.declared.create_sequence.CreateSequence.{CreateSequence}
+use Rattle.lq_base.proofs.BesideLemmas.{object_of_name}
 
 pub spelled : AreStatements is_for gives
-spelled d x h = and_true (is_statement d (statement.CreateSequence x.sequence_name x.start_value x.increment_by)) true h refl
+spelled d x h = and_true (is_statement d (statement.CreateSequence x.sequence_name x.start_value x.increment_by)) true (and_true (is_pg d) _ (and_left (is_pg d) _ h) (and_true (is_object d x.sequence_name) _ (object_of_name d x.sequence_name (and_left (is_name x.sequence_name) _ (and_right (is_pg d) _ h))) (and_right (is_name x.sequence_name) _ (and_right (is_pg d) _ h)))) refl
 
 pub returned : AreReturns is_for inverse
 returned d x undoing h taken =
     ap (list_all (is_statement d)) (sym (some_same taken))
-    ∙ and_true (is_statement d (statement.DropSequence x.sequence_name)) true (and_true (is_pg d) (is_name x.sequence_name) (and_left (is_pg d) _ h) (and_left (is_name x.sequence_name) _ (and_right (is_pg d) _ h))) refl
+    ∙ and_true (is_statement d (statement.DropSequence x.sequence_name)) true (and_true (is_pg d) (is_object d x.sequence_name) (and_left (is_pg d) _ h) (object_of_name d x.sequence_name (and_left (is_name x.sequence_name) _ (and_right (is_pg d) _ h)))) refl
 
 becomes_so : Becomes gives becomes is_for
 becomes_so d x c e right sound ran = one_becomes d (statement.CreateSequence x.sequence_name x.start_value x.increment_by) c e ran

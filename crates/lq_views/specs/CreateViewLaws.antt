@@ -2,7 +2,7 @@
 use Rattle.std.proofs.Common.{ap, sym, ◌∙◌}
 use Rattle.std.specs.List.{list_all}
 use Rattle.std.specs.Prelude.{codes, refl, true, ◌≡◌}
-use Rattle.lq_base.specs.Name.{is_name}
+use Rattle.lq_base.specs.Name.{is_name, is_object}
 use Rattle.lq_base.specs.declared.dialect.Dialect.{Dialect}
 use Rattle.lq_model.proofs.Effects.{does_so, one_back_where, one_becomes, restores_so, some_same}
 use Rattle.lq_model.proofs.Lists.{and_left, and_right, and_true}
@@ -20,6 +20,7 @@ use Rattle.lq_views.specs.CreateView.{becomes, canonical_of, effect, gives, inve
 use Rattle.lq_views.specs.QueryText.{spells_query}
 use Rattle.lq_views.specs.QueryTextLaws.{query_spelled, text_tells}
 use Rattle.lq_views.specs.declared.create_view.CreateView.{CreateView}
+use Rattle.lq_base.proofs.BesideLemmas.{object_of_name}
 
 abbrev creates : CreateView → Statement
 creates x = statement.CreateView x.view_name (query x) (replaces x)
@@ -30,12 +31,12 @@ spells d x h = and_right (is_name x.view_name) _ h
 pub spelled : AreStatements is_for gives
 spelled d x h =
     and_true (is_statement d (creates x)) true
-    (and_true (is_name x.view_name) (is_query (query x)) (and_left (is_name x.view_name) _ h) (query_spelled d x.select_query (spells d x h))) refl
+    (and_true (is_object d x.view_name) (is_query d (query x)) (object_of_name d x.view_name (and_left (is_name x.view_name) _ h)) (query_spelled d x.select_query (spells d x h))) refl
 
 pub returned : AreReturns is_for inverse
 returned d x undoing h taken =
     ap (list_all (is_statement d)) (sym (some_same taken))
-    ∙ and_true (is_name x.view_name) true (and_left (is_name x.view_name) _ h) refl
+    ∙ and_true (is_object d x.view_name) true (object_of_name d x.view_name (and_left (is_name x.view_name) _ h)) refl
 
 becomes_so : Becomes gives becomes is_for
 becomes_so d x c e right sound ran = one_becomes d (creates x) c e ran

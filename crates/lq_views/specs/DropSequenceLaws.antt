@@ -2,16 +2,19 @@
 use Rattle.std.proofs.Common.{ap}
 use Rattle.std.specs.Prelude.{codes, refl, ◌≡◌}
 use Rattle.lq_model.proofs.Effects.{does_so, one_becomes, restores_so}
+use Rattle.lq_model.proofs.Lists.{and_left, and_right}
 use Rattle.lq_model.proofs.Told.{keys_told, text_told}
 use Rattle.lq_model.specs.Changes.{AreReturns, AreStatements, AreTold, HaveEffect, TakeBack}
 use Rattle.lq_model.specs.Effect.{Becomes, GoesBack}
+use Rattle.lq_model.specs.Statement.{is_pg}
 use Rattle.lq_model.specs.Written.{nth_value}
 use Rattle.lq_model.specs.declared.statement.Statement.TheVariants as statement
 use Rattle.lq_views.specs.DropSequence.{becomes, canonical_of, effect, gives, inverse, is_for, is_fresh, rows}
 use Rattle.lq_views.specs.declared.drop_sequence.DropSequence.{DropSequence}
+use Rattle.lq_base.proofs.BesideLemmas.{object_of_name}
 
 pub spelled : AreStatements is_for gives
-spelled d x h = rw h refl
+spelled d x h = rw (and_left (is_pg d) _ h, object_of_name d x.sequence_name (and_right (is_pg d) _ h)) refl
 
 pub returned : AreReturns is_for inverse
 returned d x undoing right taken = absurd Prim.cc

@@ -9,9 +9,10 @@ use Rattle.lq_model.specs.Written.{nth_value}
 use Rattle.lq_model.specs.declared.statement.Statement.TheVariants as statement
 use Rattle.lq_views.specs.DropView.{becomes, canonical_of, effect, gives, inverse, is_for, is_fresh, rows}
 use Rattle.lq_views.specs.declared.drop_view.DropView.{DropView}
+use Rattle.lq_base.proofs.BesideLemmas.{object_of_name}
 
 pub spelled : AreStatements is_for gives
-spelled d x h = rw h refl
+spelled d x h = rw (object_of_name d x.view_name h) refl
 
 pub returned : AreReturns is_for inverse
 returned d x undoing right taken = absurd Prim.cc

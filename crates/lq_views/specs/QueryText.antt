@@ -27,10 +27,10 @@ same_dialect Postgresql e = is_pg e
 same_dialect Mysql e = not (is_pg e)
 
 -- there is a query, and it can be written
-abbrev pub is_some_query : Option Query → Bool
-is_some_query None = false
-is_some_query (Some q) = is_query q
+abbrev pub is_some_query : Dialect → Option Query → Bool
+is_some_query d None = false
+is_some_query d (Some q) = is_query d q
 
 -- the text is one of the dialect, and spells a query
 abbrev pub spells_query : Dialect → DialectText → Bool
-spells_query d t = same_dialect d t.dialect && is_some_query (query_in d t.text)
+spells_query d t = same_dialect d t.dialect && is_some_query d (query_in d t.text)

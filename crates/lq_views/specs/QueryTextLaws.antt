@@ -23,12 +23,12 @@ its_dialect : (d : Dialect) (t : DialectText) → spells_query d t ≡ true → 
 its_dialect d t h = told_same d t.dialect (and_left (same_dialect d t.dialect) _ h)
 
 -- what it spells can be written
-written : (o : Option Query) → is_some_query o ≡ true → is_query (unwrap_or o (record { wanted = wanted.All; table = []; test = None })) ≡ true
-written None h = absurd Prim.cc
-written (Some q) h = h
+written : (d : Dialect) (o : Option Query) → is_some_query d o ≡ true → is_query d (unwrap_or o (record { wanted = wanted.All; table = []; test = None })) ≡ true
+written d None h = absurd Prim.cc
+written d (Some q) h = h
 
-pub query_spelled : (d : Dialect) (t : DialectText) → spells_query d t ≡ true → is_query (query_of t) ≡ true
-query_spelled d t h = written (query_in t.dialect t.text) (ap (λ d. is_some_query (query_in d t.text)) (sym (its_dialect d t h)) ∙ and_right (same_dialect d t.dialect) _ h)
+pub query_spelled : (d : Dialect) (t : DialectText) → spells_query d t ≡ true → is_query d (query_of t) ≡ true
+query_spelled d t h = written d (query_in t.dialect t.text) (ap (λ e. is_some_query d (query_in e t.text)) (sym (its_dialect d t h)) ∙ and_right (same_dialect d t.dialect) _ h)
 
 same : (x y : DialectText) → x.dialect ≡ y.dialect → x.text ≡ y.text → x ≡ y
 same x y dialect text = rw (dialect, text) refl

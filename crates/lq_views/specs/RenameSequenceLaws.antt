@@ -18,10 +18,15 @@ use Rattle.lq_model.specs.declared.caller.By.TheVariants.{User}
 use Rattle.lq_model.specs.declared.statement.Statement.TheVariants as statement
 use Rattle.lq_views.specs.RenameSequence.{becomes, canonical_of, effect, gives, inverse, is_for, is_fresh, rows}
 use Rattle.lq_views.specs.declared.rename_sequence.RenameSequence.{RenameSequence}
+use Rattle.lq_base.proofs.BesideLemmas.{names_beside, object_of_name}
 
 -- the renaming from one name to another, and back
 renames_spelled : (d : Dialect) (from to : Name) → (is_pg d && (is_name from && is_name to)) ≡ true → list_all (is_statement d) (statement.RenameSequence from to ∷ []) ≡ true
-renames_spelled d from to h = rw h refl
+renames_spelled d from to h =
+    let names = and_right (is_pg d) _ h in
+    let one = and_left (is_name from) _ names in
+    let two = and_right (is_name from) _ names in
+    rw (and_left (is_pg d) _ h, object_of_name d from one, object_of_name d to two, names_beside from to one two) refl
 
 turned : (d : Dialect) (from to : Name) → (is_pg d && (is_name from && is_name to)) ≡ true → (is_pg d && (is_name to && is_name from)) ≡ true
 turned d from to h =

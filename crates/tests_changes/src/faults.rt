@@ -42,7 +42,7 @@ fn what_is_no_change_has_a_fault(rt: HostRuntime) -> Result<(), Fail> {
             "dropTable.stripComments: unknown",
         ),
         (
-            r#"{"dropTable":{"tableName":"t","schemaName":"main"}}"#,
+            r#"{"dropTable":{"tableName":"t","schemaName":""}}"#,
             "dropTable.schemaName: bad",
         ),
         (
@@ -50,7 +50,7 @@ fn what_is_no_change_has_a_fault(rt: HostRuntime) -> Result<(), Fail> {
             "dropTable.catalogName: bad",
         ),
         (
-            r#"{"dropTable":{"schemaName":"main"}}"#,
+            r#"{"dropTable":{"schemaName":""}}"#,
             "dropTable.tableName: missing",
         ),
         (
@@ -150,7 +150,7 @@ fn columns_have_faults(rt: HostRuntime) -> Result<(), Fail> {
             "addDefaultValue.defaultValue: missing",
         ),
         (
-            r#"{"addDefaultValue":{"tableName":"t","columnName":"a","schemaName":"main"}}"#,
+            r#"{"addDefaultValue":{"tableName":"t","columnName":"a","schemaName":["main"]}}"#,
             "addDefaultValue.schemaName: bad",
         ),
         (
@@ -233,6 +233,12 @@ fn faults_of_one_dialect(rt: HostRuntime) -> Result<(), Fail> {
             mysql: "createSequence: not for mysql",
         },
         Case {
+            json: r#"{"createSequence":{"sequenceName":"s","schemaName":"app"}}"#,
+            canonical: "",
+            postgresql: "createSequence.schemaName: bad",
+            mysql: "createSequence: not for mysql",
+        },
+        Case {
             json: r#"{"dropSequence":[]}"#,
             canonical: "",
             postgresql: "dropSequence: bad",
@@ -245,13 +251,13 @@ fn faults_of_one_dialect(rt: HostRuntime) -> Result<(), Fail> {
             mysql: "renameSequence: not for mysql",
         },
         Case {
-            json: r#"{"addNotNullConstraint":{"tableName":"t","columnName":"a","schemaName":"main"}}"#,
+            json: r#"{"addNotNullConstraint":{"tableName":"t","columnName":"a","schemaName":1}}"#,
             canonical: "",
             postgresql: "addNotNullConstraint.schemaName: bad",
             mysql: "addNotNullConstraint.columnDataType: missing",
         },
         Case {
-            json: r#"{"dropNotNullConstraint":{"tableName":"t","columnName":"a","schemaName":"main"}}"#,
+            json: r#"{"dropNotNullConstraint":{"tableName":"t","columnName":"a","schemaName":null}}"#,
             canonical: "",
             postgresql: "dropNotNullConstraint.schemaName: bad",
             mysql: "dropNotNullConstraint.columnDataType: missing",

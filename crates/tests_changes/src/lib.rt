@@ -16,6 +16,8 @@ mod objects;
 #[cfg(test)]
 mod rows;
 #[cfg(test)]
+mod schemas;
+#[cfg(test)]
 mod shown;
 #[cfg(test)]
 mod tables;

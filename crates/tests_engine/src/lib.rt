@@ -9,6 +9,8 @@ mod mysql;
 #[cfg(test)]
 mod rows;
 #[cfg(test)]
+mod schemas;
+#[cfg(test)]
 mod shown;
 #[cfg(test)]
 mod tried;

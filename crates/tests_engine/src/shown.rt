@@ -63,6 +63,15 @@ fn show_names(out: &mut String, names: &[Name]) -> Result<(), AllocError> {
     out.push_str(")")
 }
 
+// The name, behind its schema and a dot where that is not `public`.
+fn show_name(out: &mut String, name: &Name) -> Result<(), AllocError> {
+    if name.is_elsewhere() {
+        out.push_str(name.schema())?;
+        out.push_str(".")?;
+    }
+    out.push_str(name.text())
+}
+
 fn show_constraint(
     out: &mut String,
     word: &str,
@@ -70,7 +79,7 @@ fn show_constraint(
     columns: &[Name],
 ) -> Result<(), AllocError> {
     out.push_str(word)?;
-    out.push_str(name.as_key())?;
+    show_name(out, name)?;
     show_names(out, columns)
 }
 
@@ -153,7 +162,7 @@ fn show_all<L: Look>(
 }
 
 fn show_table<L: Look>(out: &mut String, look: &L, table: &Name) -> Result<(), AllocError> {
-    out.push_str(table.as_key())?;
+    show_name(out, table)?;
     show_columns(out, look.columns(table).unwrap_or(&[]))?;
     show_key(out, look.key(table))?;
     show_uniques(out, look.uniques(table).unwrap_or(&[]))?;
@@ -174,26 +183,37 @@ fn show_object<L: Look>(
         return out.push_str("; ");
     }
     if look.is_view(&name) {
-        out.push_str(name.as_key())?;
+        show_name(out, &name)?;
         out.push_str(" = ")?;
         show_all(alloc, out, look, name)?;
         return out.push_str("; ");
     }
     if look.is_sequence(&name) {
-        out.push_str(name.as_key())?;
+        show_name(out, &name)?;
         return out.push_str("; ");
     }
     Ok(())
 }
 
-/// The tables, views and sequences named `t`, `u`, `v`, `w` and `s`, as
-/// `t(n int!, s text = x) key k(n) [1 a][2 null]; v = [1]; s; `. A `!` stands for NOT NULL and for a
-/// unique index, `#` for a numbered column, and `*` for a cascade.
+fn show_schema<L: Look>(
+    alloc: Global,
+    out: &mut String,
+    look: &L,
+    schema: &str,
+) -> Result<(), Fail> {
+    for word in ["t", "u", "v", "w", "s"] {
+        let name = Name::within(alloc, schema, word)?;
+        show_object(alloc, out, look, name)?;
+    }
+    Ok(())
+}
+
+/// The tables, views and sequences named `t`, `u`, `v`, `w` and `s`, in `public` and then in `app`, as
+/// `t(n int!, s text = x) key k(n) [1 a][2 null]; app.v = [1]; s; `. A `!` stands for NOT NULL and for
+/// a unique index, `#` for a numbered column, and `*` for a cascade.
 pub fn show<L: Look>(alloc: Global, look: &L) -> Result<String, Fail> {
     let mut out = String::new(alloc);
-    for word in ["t", "u", "v", "w", "s"] {
-        let name = Name::new(alloc, word)?;
-        show_object(alloc, &mut out, look, name)?;
-    }
+    show_schema(alloc, &mut out, look, "public")?;
+    show_schema(alloc, &mut out, look, "app")?;
     Ok(out)
 }

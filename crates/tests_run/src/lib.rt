@@ -36,6 +36,8 @@ mod rehearsals;
 #[cfg(test)]
 mod running;
 #[cfg(test)]
+mod schemas;
+#[cfg(test)]
 mod shop;
 #[cfg(test)]
 mod soak;

@@ -27,6 +27,10 @@ impl<'a, R: Abort> Maker<'a, R> {
         Name::new(self.alloc, text).expect(self.rt, "a name")
     }
 
+    fn within(&self, schema: &str, text: &str) -> Name {
+        Name::within(self.alloc, schema, text).expect(self.rt, "a name")
+    }
+
     fn pair(&self, first: &str, second: &str) -> (Name, Name) {
         (self.name(first), self.name(second))
     }

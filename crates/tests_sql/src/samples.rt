@@ -1,3 +1,6 @@
+ghost use Rattle.std.specs.Prelude.{◌≡◌, IfOk, true};
+ghost use Rattle.lq_base.specs.Name.{is_name};
+
 use lq_base::{Dialect, Items, Name, NoMemory, Reason};
 use lq_model::{AskFault, By, Canon, Change, Look, Query, Statement, Undo, Wanted};
 use lq_samples::{NewSequence, NoObjects};
@@ -5,7 +8,9 @@ use std::alloc::Global;
 use std::process::Abort;
 use std::test::Fail;
 
-fn new_sequence(alloc: Global) -> Result<NewSequence, NoMemory> {
+fn new_sequence(alloc: Global) -> Result<NewSequence, NoMemory>
+    ensures { IfOk result (λ sequence. is_name sequence.name ≡ true) }
+{
     match Name::new(alloc, "s") {
         Ok(name) => Ok(NewSequence { name }),
         Err(_) => Err(NoMemory),

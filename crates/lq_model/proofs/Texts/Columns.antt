@@ -9,7 +9,7 @@ use Rattle.lq_base.specs.SqlLexeme.{lexemes, length_at}
 use Rattle.lq_model.proofs.ExampleWorld.{def, id, number, numbered_def, up}
 use Rattle.lq_model.proofs.Texts.Spell.{Mean, Spell, SpellNothing}
 use Rattle.lq_model.specs.Phrase.{words as phrase_words}
-use Rattle.lq_model.specs.Quoting.{name_text}
+use Rattle.lq_model.specs.Quoting.{name_text, quoted_text}
 use Rattle.lq_model.specs.TestText.{literal_text}
 use Rattle.lq_model.specs.StatementText.{column_text}
 use Rattle.lq_model.specs.SqlText.{statement_in}
@@ -18,7 +18,7 @@ use Rattle.lq_model.specs.SqlStatement.{statement}
 use Rattle.lq_model.specs.SqlAlter.{alter, alter_table, add, add_column, drop_part, rename_part, rename_column, rename_table_to, alter_column, set_part, unset_part, modify, new_name}
 use Rattle.lq_model.specs.SqlColumn.{added_column, stated_column, column_clause, identity, target}
 use Rattle.lq_model.specs.SqlParser.{same_kind, sees, after, expect, ended, many, many_of, led_by}
-use Rattle.lq_model.specs.SqlPart.{name, name_of, column_kind, kind_with, sized_with, kind_number, literal as literal_rule, number as number_rule}
+use Rattle.lq_model.specs.SqlPart.{name, name_of, column_kind, kind_with, sized_with, kind_number, literal as literal_rule, number as number_rule, object}
 use Rattle.lq_model.specs.declared.statement.Statement.TheVariants.{AddColumn, DropColumn, DropDefault, DropNotNull, Modify, RenameColumn, SetDefault, SetNotNull}
 
 pub columns_spelled :
@@ -43,7 +43,7 @@ pub columns_spelled :
     ∷ (SetDefault (codes "t") up literal.Null, codes "ALTER TABLE `t` ALTER COLUMN `up` SET DEFAULT NULL")
     ∷ (DropDefault (codes "t") up, codes "ALTER TABLE `t` ALTER COLUMN `up` DROP DEFAULT")
     ∷ [])
-unfolding digits phrase_words name_text literal_text column_text statement_in words kind_of_word unquoted statement alter alter_table add add_column drop_part rename_part rename_column rename_table_to alter_column set_part unset_part modify new_name added_column stated_column column_clause identity column_kind kind_with sized_with kind_number plain_kind sized_kind literal_rule number_rule many many_of led_by same_kind sees after expect ended name name_of lexemes length_at
+unfolding digits phrase_words name_text quoted_text literal_text column_text statement_in words kind_of_word unquoted statement alter alter_table add add_column drop_part rename_part rename_column rename_table_to alter_column set_part unset_part modify new_name added_column stated_column column_clause identity column_kind kind_with sized_with kind_number plain_kind sized_kind literal_rule number_rule many many_of led_by same_kind sees after expect ended name name_of lexemes length_at object
 columns_spelled = ((refl, refl, refl), (refl, refl, refl))
 
 -- NULL may stand; a dialect has not the other's statements; a constraint is no clause of an added column; what has to stand does
@@ -54,5 +54,5 @@ pub columns_refused :
     ∷ codes "alter table t rename up to id" ∷ codes "alter table t alter up set not null" ∷ codes "alter table t alter column up set null" ∷ codes "alter table t alter column up set default" ∷ codes "alter table t alter column up set default id" ∷ [])
     × SpellNothing Mysql (
     codes "alter table t alter column up set not null" ∷ codes "alter table t alter column up drop not null" ∷ codes "alter table t modify up int" ∷ codes "alter table t modify column up int null" ∷ codes "alter table t modify up int not null default 1" ∷ [])
-unfolding statement_in words kind_of_word unquoted statement alter alter_table add add_column drop_part rename_part rename_column rename_table_to alter_column set_part unset_part modify new_name added_column stated_column column_clause target column_kind plain_kind literal_rule number_rule many many_of led_by same_kind sees after expect ended name name_of lexemes length_at
+unfolding statement_in words kind_of_word unquoted statement alter alter_table add add_column drop_part rename_part rename_column rename_table_to alter_column set_part unset_part modify new_name added_column stated_column column_clause target column_kind plain_kind literal_rule number_rule many many_of led_by same_kind sees after expect ended name name_of lexemes length_at object
 columns_refused = (refl, refl, refl)

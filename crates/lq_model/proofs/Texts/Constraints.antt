@@ -9,7 +9,7 @@ use Rattle.lq_model.proofs.PlainText.{plain_cut, plain_front}
 use Rattle.lq_model.proofs.Texts.Spell.{Mean, Spell, SpellNothing}
 use Rattle.lq_model.specs.DefaultName.{key_name, unique_name, foreign_name}
 use Rattle.lq_model.specs.Phrase.{words as phrase_words}
-use Rattle.lq_model.specs.Quoting.{name_text}
+use Rattle.lq_model.specs.Quoting.{name_text, quoted_text}
 use Rattle.lq_model.specs.StatementText.{key_text, unique_text, foreign_text}
 use Rattle.lq_model.specs.SqlText.{statement_in}
 use Rattle.lq_model.specs.SqlWord.{words, kind_of_word, unquoted}
@@ -20,7 +20,7 @@ use Rattle.lq_model.specs.SqlConstraint.{table_constraint, stated_name, key, uni
 use Rattle.lq_model.specs.SqlCreate.{create}
 use Rattle.lq_model.specs.SqlTable.{create_table, table_item, column_item, table_of}
 use Rattle.lq_model.specs.SqlParser.{same_kind, sees, after, expect, ended, enclosed, separated, many, many_of, led_by}
-use Rattle.lq_model.specs.SqlPart.{name, name_of, column_kind}
+use Rattle.lq_model.specs.SqlPart.{name, name_of, column_kind, object}
 use Rattle.lq_model.specs.declared.statement.Statement.TheVariants.{AddForeignKey, AddPrimaryKey, AddUnique, CreateTable, DropConstraint, DropForeignKey, DropPrimaryKey, DropUnique}
 
 pub constraints_spelled :
@@ -49,7 +49,7 @@ pub constraints_spelled :
     ∷ (DropUnique (codes "t") (codes "u"), codes "ALTER TABLE `t` DROP INDEX `u`")
     ∷ (DropForeignKey (codes "t") (codes "f"), codes "ALTER TABLE `t` DROP FOREIGN KEY `f`")
     ∷ [])
-unfolding phrase_words name_text key_text unique_text foreign_text statement_in words kind_of_word unquoted statement alter alter_table add add_constraint drop_part table_constraint stated_name key unique foreign on_delete key_name enclosed separated many many_of led_by same_kind sees after expect ended name name_of lexemes length_at
+unfolding phrase_words name_text quoted_text key_text unique_text foreign_text statement_in words kind_of_word unquoted statement alter alter_table add add_constraint drop_part table_constraint stated_name key unique foreign on_delete key_name enclosed separated many many_of led_by same_kind sees after expect ended name name_of lexemes length_at object
 constraints_spelled = ((refl, refl, refl), (refl, refl, refl))
 
 -- RESTRICT and NO ACTION are what holds without a clause; in mysql a key's name is passed over
@@ -66,7 +66,7 @@ pub constraints_read :
     codes "alter table t drop primary key" ∷ codes "alter table t drop index u" ∷ codes "alter table t drop foreign key f" ∷ codes "alter table t add constraint u unique ()" ∷ codes "alter table t add constraint unique (id)"
     ∷ codes "alter table t add constraint f foreign key (id) references q (a) on delete set null" ∷ codes "alter table t add constraint f foreign key (id) references q" ∷ codes "alter table t add constraint k primary (id)" ∷ [])
     × SpellNothing Mysql (codes "alter table t drop constraint u" ∷ codes "alter table t drop unique u" ∷ codes "alter table t drop key u" ∷ [])
-unfolding statement_in words kind_of_word unquoted statement alter alter_table add add_constraint drop_part table_constraint stated_name key unique foreign on_delete key_name enclosed separated many many_of led_by same_kind sees after expect ended name name_of lexemes length_at
+unfolding statement_in words kind_of_word unquoted statement alter alter_table add add_constraint drop_part table_constraint stated_name key unique foreign on_delete key_name enclosed separated many many_of led_by same_kind sees after expect ended name name_of lexemes length_at object
 constraints_read = (refl, refl, refl, refl)
 
 -- names by default, with the columns, of 63 bytes at most; a column's clauses in any order
@@ -82,7 +82,7 @@ pub names_by_default :
     ≡ Some (CreateTable (codes "t") (def id kind.Int None ∷ []) (Some (key_on (codes "pk_t") (id ∷ []))) [] (foreign_to (codes "fk_t_id") (id ∷ []) (codes "q") (codes "a" ∷ []) false ∷ [])))
     × (statement_in Mysql (codes "create table t (id int primary key unique references q (a))")
     ≡ Some (CreateTable (codes "t") (def id kind.Int None ∷ []) (Some (key_on (codes "PRIMARY") (id ∷ []))) (unique_on (codes "uq_t_id") (id ∷ []) ∷ []) (foreign_to (codes "fk_t_id") (id ∷ []) (codes "q") (codes "a" ∷ []) false ∷ [])))
-unfolding statement_in words kind_of_word unquoted statement alter alter_table add add_constraint create create_table table_item column_item table_of stated_column column_clause target column_kind plain_kind column_key column_unique column_foreign foreign_stated key_name unique_name foreign_name table_constraint stated_name key unique foreign on_delete enclosed separated many many_of led_by same_kind sees after expect ended name name_of lexemes length_at
+unfolding statement_in words kind_of_word unquoted statement alter alter_table add add_constraint create create_table table_item column_item table_of stated_column column_clause target column_kind plain_kind column_key column_unique column_foreign foreign_stated key_name unique_name foreign_name table_constraint stated_name key unique foreign on_delete enclosed separated many many_of led_by same_kind sees after expect ended name name_of lexemes length_at object
 names_by_default = (
   rw (plain_cut (codes "pk_t") refl refl) refl,
   rw (plain_front (codes "pk_" ++ replicate 63 110) refl) refl,

@@ -9,7 +9,7 @@ use Rattle.lq_base.specs.SqlLexeme.{lexemes, length_at}
 use Rattle.lq_model.proofs.ExampleWorld.{def}
 use Rattle.lq_model.proofs.Texts.Spell.{Mean, Spell, SpellNothing}
 use Rattle.lq_model.specs.Phrase.{words as phrase_words}
-use Rattle.lq_model.specs.Quoting.{name_text}
+use Rattle.lq_model.specs.Quoting.{name_text, quoted_text}
 use Rattle.lq_model.specs.StatementText.{column_text}
 use Rattle.lq_model.specs.SqlText.{statement_in}
 use Rattle.lq_model.specs.SqlWord.{words, kind_of_word, unquoted}
@@ -17,7 +17,7 @@ use Rattle.lq_model.specs.SqlStatement.{statement}
 use Rattle.lq_model.specs.SqlAlter.{alter, alter_table, add, add_column}
 use Rattle.lq_model.specs.SqlColumn.{added_column, stated_column, column_clause}
 use Rattle.lq_model.specs.SqlParser.{same_kind, sees, after, expect, ended, many, many_of, led_by}
-use Rattle.lq_model.specs.SqlPart.{name, name_of, column_kind, kind_with, sized_with, decimal_with, kind_number}
+use Rattle.lq_model.specs.SqlPart.{name, name_of, column_kind, kind_with, sized_with, decimal_with, kind_number, object}
 use Rattle.lq_model.specs.declared.statement.Statement.{Statement}
 use Rattle.lq_model.specs.declared.statement.Statement.TheVariants.{AddColumn}
 
@@ -38,7 +38,7 @@ pub kinds_spelled :
     × Spell Mysql (my_rows (
     (Int, codes "INT") ∷ (BigInt, codes "BIGINT") ∷ (Boolean, codes "BOOLEAN") ∷ (Varchar 1, codes "VARCHAR(1)") ∷ (Varchar 10000, codes "VARCHAR(10000)")
     ∷ (Text, codes "TEXT") ∷ (Moment, codes "DATETIME(3)") ∷ (Decimal 1 0, codes "DECIMAL(1, 0)") ∷ (Decimal 38 38, codes "DECIMAL(38, 38)") ∷ []))
-unfolding digits phrase_words name_text column_text statement_in words kind_of_word unquoted statement alter alter_table add add_column added_column stated_column column_clause column_kind kind_with sized_with decimal_with kind_number plain_kind sized_kind decimal_kind many many_of led_by same_kind sees after expect ended name name_of lexemes length_at
+unfolding digits phrase_words name_text quoted_text column_text statement_in words kind_of_word unquoted statement alter alter_table add add_column added_column stated_column column_clause column_kind kind_with sized_with decimal_with kind_number plain_kind sized_kind decimal_kind many many_of led_by same_kind sees after expect ended name name_of lexemes length_at object
 kinds_spelled = ((refl, refl, refl), (refl, refl, refl))
 
 -- the words of both dialects, in any case
@@ -59,5 +59,5 @@ pub kinds_named :
     × Mean Mysql (map (λ row. (of_kind row.0, codes "alter table t add c " ++ row.1)) by_words)
     × SpellNothing Postgresql (map (λ kind. codes "alter table t add c " ++ kind) none_of_them)
     × SpellNothing Mysql (map (λ kind. codes "alter table t add c " ++ kind) none_of_them)
-unfolding statement_in words kind_of_word unquoted statement alter alter_table add add_column added_column stated_column column_clause column_kind kind_with sized_with decimal_with kind_number plain_kind sized_kind decimal_kind many many_of led_by same_kind sees after expect ended name name_of lexemes length_at
+unfolding statement_in words kind_of_word unquoted statement alter alter_table add add_column added_column stated_column column_clause column_kind kind_with sized_with decimal_with kind_number plain_kind sized_kind decimal_kind many many_of led_by same_kind sees after expect ended name name_of lexemes length_at object
 kinds_named = (refl, refl, refl, refl)

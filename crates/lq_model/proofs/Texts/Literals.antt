@@ -8,14 +8,14 @@ use Rattle.lq_base.specs.Number.{number_of}
 use Rattle.lq_base.specs.SqlLexeme.{lexemes, length_at}
 use Rattle.lq_model.proofs.Texts.Spell.{e_acute, Mean, Spell, SpellNothing}
 use Rattle.lq_model.specs.Phrase.{words as phrase_words}
-use Rattle.lq_model.specs.Quoting.{name_text, string_text}
+use Rattle.lq_model.specs.Quoting.{name_text, quoted_text, string_text}
 use Rattle.lq_model.specs.TestText.{literal_text}
 use Rattle.lq_model.specs.SqlText.{statement_in}
 use Rattle.lq_model.specs.SqlWord.{words, kind_of_word, unquoted}
 use Rattle.lq_model.specs.SqlStatement.{statement}
 use Rattle.lq_model.specs.SqlAlter.{alter, alter_table, alter_column, set_part}
 use Rattle.lq_model.specs.SqlParser.{same_kind, sees, after, expect, ended}
-use Rattle.lq_model.specs.SqlPart.{name, name_of, literal, number}
+use Rattle.lq_model.specs.SqlPart.{name, name_of, literal, number, object}
 use Rattle.lq_model.specs.declared.statement.Statement.{Statement}
 use Rattle.lq_model.specs.declared.statement.Statement.TheVariants.{SetDefault}
 
@@ -44,7 +44,7 @@ pub literals_spelled :
     × Spell Mysql (my_rows alike)
     × Spell Postgresql (pg_rows ((Text (codes "a\\b"), codes "'a\\b'") ∷ []))
     × Spell Mysql (my_rows ((Text (codes "a\\b"), codes "'a\\\\b'") ∷ []))
-unfolding digits phrase_words name_text string_text literal_text statement_in words kind_of_word unquoted statement alter alter_table alter_column set_part literal number number_of same_kind sees after expect ended name name_of lexemes length_at
+unfolding digits phrase_words name_text quoted_text string_text literal_text statement_in words kind_of_word unquoted statement alter alter_table alter_column set_part literal number number_of same_kind sees after expect ended name name_of lexemes length_at object
 literals_spelled = ((refl, refl, refl), (refl, refl, refl), (refl, refl, refl), (refl, refl, refl))
 
 -- other spellings; a decimal number has 38 digits at most, leading zeros among them
@@ -64,7 +64,7 @@ pub literals_read :
     × SpellNothing Postgresql (spelled no_literals)
     × SpellNothing Mysql (spelled no_literals)
     × SpellNothing Postgresql (spelled (codes "\"a\"" ∷ codes "'it\\'s'" ∷ codes "E'a'" ∷ codes "$$a$$" ∷ []))
-unfolding statement_in words kind_of_word unquoted statement alter alter_table alter_column set_part literal number number_of same_kind sees after expect ended name name_of lexemes length_at
+unfolding statement_in words kind_of_word unquoted statement alter alter_table alter_column set_part literal number number_of same_kind sees after expect ended name name_of lexemes length_at object
 literals_read = (refl, refl, refl, refl, refl)
 
 abbrev mysql_texts : List (List ℕ × List ℕ) → List (Statement × List ℕ)
@@ -77,5 +77,5 @@ pub mysql_strings :
     ∷ (0 ∷ [], codes "'\\0'") ∷ (10 ∷ [], codes "'\\n'") ∷ (9 ∷ [], codes "'\\t'") ∷ (13 ∷ [], codes "'\\r'") ∷ (8 ∷ [], codes "'\\b'") ∷ (26 ∷ [], codes "'\\Z'")
     ∷ (codes "\\%", codes "'\\%'") ∷ (codes "\\_", codes "'\\_'") ∷ (codes "\\", codes "'\\\\'") ∷ (codes "N", codes "'\\N'") ∷ (codes "x" ++ e_acute, codes "'\\x\\" ++ e_acute ++ codes "'") ∷ []))
     × SpellNothing Mysql (spelled (codes "'a\\'" ∷ codes "\"a'" ∷ codes "`a`" ∷ []))
-unfolding statement_in words kind_of_word unquoted statement alter alter_table alter_column set_part literal same_kind sees after expect ended name name_of lexemes length_at
+unfolding statement_in words kind_of_word unquoted statement alter alter_table alter_column set_part literal same_kind sees after expect ended name name_of lexemes length_at object
 mysql_strings = (refl, refl)

@@ -1,18 +1,19 @@
 -- Worked examples: which words and quoted texts are names, and how names are written.
-use Rattle.std.specs.Prelude.{◌++◌, ℕ, List, [], ◌∷◌, map, replicate, codes, refl}
+use Rattle.std.specs.Prelude.{List, None, [], codes, map, refl, replicate, ℕ, ◌++◌, ◌∷◌}
 use Rattle.std.specs.Char.{to_ascii_lowercase}
 use Rattle.lq_base.specs.declared.dialect.Dialect.TheVariants.{Mysql, Postgresql}
 use Rattle.lq_base.specs.SqlLexeme.{lexemes, length_at}
 use Rattle.lq_model.proofs.Texts.Spell.{e_acute, Mean, Spell, SpellNothing}
 use Rattle.lq_model.specs.Phrase.{words as phrase_words}
-use Rattle.lq_model.specs.Quoting.{name_text}
+use Rattle.lq_model.specs.Quoting.{name_text, quoted_text}
 use Rattle.lq_model.specs.SqlText.{statement_in}
 use Rattle.lq_model.specs.SqlWord.{words, kind_of_word, unquoted}
 use Rattle.lq_model.specs.SqlStatement.{statement}
-use Rattle.lq_model.specs.SqlDrop.{drop_object}
+use Rattle.lq_model.specs.SqlDrop.{drop_index, drop_object}
 use Rattle.lq_model.specs.SqlParser.{same_kind, sees, after, expect, ended}
-use Rattle.lq_model.specs.SqlPart.{name, name_of}
-use Rattle.lq_model.specs.declared.statement.Statement.TheVariants.{DropTable}
+use Rattle.lq_model.specs.SqlPart.{name, name_of, object}
+use Rattle.lq_model.specs.declared.statement.Statement.TheVariants.{DropIndex, DropTable, RenameTable}
+use Rattle.lq_model.specs.SqlAlter.{alter, alter_table, new_name, rename_part, rename_table_to}
 
 -- a quote in a name stands twice; capitals, blanks and reserved words may stand in quotes; 63 bytes at most
 pub quoted_names :
@@ -36,16 +37,16 @@ pub quoted_names :
     codes "DROP TABLE \"\"" ∷ codes "DROP TABLE \"a" ∷ codes "DROP TABLE 't'" ∷ codes "DROP TABLE `t`" ∷ codes "DROP TABLE \"a\nb\""
     ∷ (codes "DROP TABLE \"" ++ replicate 64 110 ++ codes "\"") ∷ [])
     × SpellNothing Mysql (codes "DROP TABLE ``" ∷ codes "DROP TABLE \"t\"" ∷ codes "DROP TABLE 't'" ∷ [])
-unfolding phrase_words name_text statement_in words kind_of_word unquoted statement drop_object same_kind sees after expect ended name name_of lexemes length_at
+unfolding phrase_words name_text quoted_text statement_in words kind_of_word unquoted statement drop_object same_kind sees after expect ended name name_of lexemes length_at object
 quoted_names = ((refl, refl, refl), (refl, refl, refl), refl, refl)
 
 -- letters, digits and `_` of ASCII, not beginning with a digit, in lower case in postgresql
 pub unquoted_names :
     Mean Postgresql ((DropTable (codes "t_1"), codes "drop table T_1") ∷ (DropTable (codes "_x"), codes "drop table _X") ∷ [])
     × Mean Mysql ((DropTable (codes "T_1"), codes "drop table T_1") ∷ (DropTable (codes "_X"), codes "drop table _X") ∷ [])
-    × SpellNothing Postgresql (codes "drop table 1t" ∷ codes "drop table t$" ∷ (codes "drop table " ++ e_acute) ∷ codes "drop table a b" ∷ codes "drop table a.b" ∷ [])
+    × SpellNothing Postgresql (codes "drop table 1t" ∷ codes "drop table t$" ∷ (codes "drop table " ++ e_acute) ∷ codes "drop table a b" ∷ [])
     × SpellNothing Mysql (codes "drop table 1t" ∷ codes "drop table t$" ∷ (codes "drop table " ++ e_acute) ∷ codes "drop table a b" ∷ codes "drop table a.b" ∷ [])
-unfolding statement_in words kind_of_word unquoted statement drop_object same_kind sees after expect ended name name_of lexemes length_at
+unfolding statement_in words kind_of_word unquoted statement drop_object same_kind sees after expect ended name name_of lexemes length_at object
 unquoted_names = (refl, refl, refl, refl)
 
 abbrev reserved : List (List ℕ)
@@ -78,5 +79,18 @@ pub reserved_words :
     × Mean Postgresql (map (λ word. (DropTable (map to_ascii_lowercase word), codes "DROP TABLE " ++ word)) free)
     × Mean Mysql (map (λ word. (DropTable word, codes "DROP TABLE " ++ word)) free)
     × Mean Mysql (map (λ word. (DropTable word, codes "DROP TABLE " ++ word)) (lower free))
-unfolding statement_in words kind_of_word unquoted statement drop_object same_kind sees after expect ended name name_of lexemes length_at
+unfolding statement_in words kind_of_word unquoted statement drop_object same_kind sees after expect ended name name_of lexemes length_at object
 reserved_words = (refl, refl, refl, refl, refl, refl, refl)
+
+-- the table t, and others, of the schema app
+abbrev app : List ℕ → List ℕ
+app text = codes "app" ++ 31 ∷ text
+
+-- a schema that is not `public` stands before a dot, in postgresql alone; a renaming does not state it
+pub schemas :
+    Spell Postgresql ((DropTable (app (codes "t")), codes "DROP TABLE \"app\".\"t\"") ∷ (RenameTable (app (codes "t")) (app (codes "u")), codes "ALTER TABLE \"app\".\"t\" RENAME TO \"u\"") ∷ (DropIndex (app (codes "ix")) None, codes "DROP INDEX \"app\".\"ix\"") ∷ [])
+    × Mean Postgresql ((DropTable (app (codes "t")), codes "drop table App . T") ∷ (DropTable (codes "t"), codes "drop table public.t") ∷ (DropTable (codes "t"), codes "DROP TABLE \"public\".\"t\"") ∷ [])
+    × SpellNothing Postgresql (codes "drop table a.b.c" ∷ codes "drop table a." ∷ codes "drop table .a" ∷ codes "drop table a.1" ∷ codes "alter table t rename to s.u" ∷ [])
+    × SpellNothing Mysql (codes "drop table `a`.`b`" ∷ codes "drop table public.t" ∷ [])
+unfolding phrase_words name_text quoted_text statement_in words kind_of_word unquoted statement drop_object drop_index alter alter_table rename_part rename_table_to new_name same_kind sees after expect ended name name_of lexemes length_at object
+schemas = ((refl, refl, refl), refl, refl, refl)

@@ -7,7 +7,7 @@ use Rattle.lq_base.specs.SqlLexeme.{lexemes, length_at}
 use Rattle.lq_model.proofs.ExampleWorld.{id, index_on, up, where_id}
 use Rattle.lq_model.proofs.Texts.Spell.{Spell, SpellNothing}
 use Rattle.lq_model.specs.Phrase.{words as phrase_words}
-use Rattle.lq_model.specs.Quoting.{name_text}
+use Rattle.lq_model.specs.Quoting.{name_text, quoted_text}
 use Rattle.lq_model.specs.TestText.{literal_text, query_text, test_text}
 use Rattle.lq_model.specs.SqlText.{statement_in}
 use Rattle.lq_model.specs.SqlWord.{words, kind_of_word, unquoted}
@@ -16,7 +16,7 @@ use Rattle.lq_model.specs.SqlAlter.{alter, alter_sequence, alter_view, new_name}
 use Rattle.lq_model.specs.SqlCreate.{create, create_index, create_sequence, create_view, step, whole}
 use Rattle.lq_model.specs.SqlDrop.{drop_index, drop_object}
 use Rattle.lq_model.specs.SqlParser.{same_kind, sees, after, expect, ended, enclosed, separated, many, many_of, led_by}
-use Rattle.lq_model.specs.SqlPart.{name, name_of, literal as literal_rule, number as number_rule}
+use Rattle.lq_model.specs.SqlPart.{name, name_of, literal as literal_rule, number as number_rule, object}
 use Rattle.lq_model.specs.SqlQuery.{columns, count, query, selected, sees_count}
 use Rattle.lq_model.specs.SqlTest.{any_test, comparison, operand, operator, primary, product, sum, term, where_test}
 use Rattle.lq_model.specs.declared.query.Query.{Query}
@@ -50,7 +50,7 @@ pub objects_spelled :
     ∷ (CreateView (codes "v") (record of_team { wanted = wanted.Count }) true, codes "CREATE OR REPLACE VIEW `v` AS SELECT COUNT(*) FROM `team`")
     ∷ (DropView (codes "v"), codes "DROP VIEW `v`")
     ∷ [])
-unfolding digits phrase_words name_text literal_text query_text test_text statement_in words kind_of_word unquoted statement alter alter_sequence alter_view new_name create create_index create_sequence create_view step whole drop_index drop_object query selected sees_count columns count where_test any_test comparison operand operator primary product sum term enclosed separated literal_rule number_rule number_of many many_of led_by same_kind sees after expect ended name name_of lexemes length_at
+unfolding digits phrase_words name_text quoted_text literal_text query_text test_text statement_in words kind_of_word unquoted statement alter alter_sequence alter_view new_name create create_index create_sequence create_view step whole drop_index drop_object query selected sees_count columns count where_test any_test comparison operand operator primary product sum term enclosed separated literal_rule number_rule number_of many many_of led_by same_kind sees after expect ended name name_of lexemes length_at object
 objects_spelled = ((refl, refl, refl), (refl, refl, refl))
 
 -- a dialect has not the other's statements; a sequence has a start and a step that is not 0
@@ -61,5 +61,5 @@ pub objects_refused :
     ∷ codes "alter view v rename w" ∷ codes "drop sequence" ∷ codes "drop index i on t" ∷ [])
     × SpellNothing Mysql (
     codes "alter view v rename to w" ∷ codes "create sequence s start with 1 increment by 1" ∷ codes "drop sequence s" ∷ codes "alter sequence s rename to r" ∷ codes "drop index i" ∷ [])
-unfolding statement_in words kind_of_word unquoted statement alter alter_sequence alter_view new_name create create_index create_sequence create_view step whole drop_index drop_object query selected sees_count columns count enclosed separated literal_rule number_rule number_of many many_of led_by same_kind sees after expect ended name name_of lexemes length_at
+unfolding statement_in words kind_of_word unquoted statement alter alter_sequence alter_view new_name create create_index create_sequence create_view step whole drop_index drop_object query selected sees_count columns count enclosed separated literal_rule number_rule number_of many many_of led_by same_kind sees after expect ended name name_of lexemes length_at object
 objects_refused = (refl, refl)

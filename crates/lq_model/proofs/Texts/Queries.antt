@@ -6,12 +6,12 @@ use Rattle.lq_base.specs.SqlLexeme.{lexemes, length_at}
 use Rattle.lq_model.proofs.ExampleWorld.{id, up, where_id}
 use Rattle.lq_model.proofs.Texts.Spell.{SpellQueries}
 use Rattle.lq_model.specs.Phrase.{words as phrase_words}
-use Rattle.lq_model.specs.Quoting.{name_text}
+use Rattle.lq_model.specs.Quoting.{name_text, quoted_text}
 use Rattle.lq_model.specs.TestText.{literal_text, query_text, test_text}
 use Rattle.lq_model.specs.SqlText.{query_in}
 use Rattle.lq_model.specs.SqlWord.{words, kind_of_word, unquoted}
 use Rattle.lq_model.specs.SqlParser.{same_kind, sees, after, expect, ended, separated, many, many_of, led_by}
-use Rattle.lq_model.specs.SqlPart.{name, name_of, literal as literal_rule, number as number_rule}
+use Rattle.lq_model.specs.SqlPart.{name, name_of, literal as literal_rule, number as number_rule, object}
 use Rattle.lq_model.specs.SqlQuery.{columns, count, query, selected, sees_count}
 use Rattle.lq_model.specs.SqlTest.{any_test, comparison, operand, operator, primary, product, sum, term, where_test}
 use Rattle.lq_model.specs.declared.query.Query.{Query}
@@ -37,7 +37,7 @@ pub queries_spelled :
     ∷ (of wanted.Count (where_id (pos 1)), codes "SELECT COUNT(*) FROM `t` WHERE `id` = 1")
     ∷ (of (wanted.Columns (id ∷ up ∷ [])) None, codes "SELECT `id`, `up` FROM `t`")
     ∷ [])
-unfolding digits phrase_words name_text literal_text query_text test_text query_in words kind_of_word unquoted query selected sees_count columns count where_test any_test comparison operand operator primary product sum term separated literal_rule number_rule many many_of led_by same_kind sees after expect ended name name_of lexemes length_at
+unfolding digits phrase_words name_text quoted_text literal_text query_text test_text query_in words kind_of_word unquoted query selected sees_count columns count where_test any_test comparison operand operator primary product sum term separated literal_rule number_rule many many_of led_by same_kind sees after expect ended name name_of lexemes length_at object
 queries_spelled = ((refl, refl, refl), (refl, refl, refl))
 
 -- COUNT is the count exactly where `(` follows it
@@ -49,5 +49,5 @@ pub queries_read :
     codes "select" ∷ codes "select * from" ∷ codes "select from t" ∷ codes "select *, id from t" ∷ codes "select id up from t" ∷ codes "select id, from t" ∷ codes "select count(id) from t" ∷ codes "select count() from t" ∷ codes "select \"count\"(*) from t"
     ∷ codes "select count(*), id from t" ∷ codes "select 1 from t" ∷ codes "select * from t u" ∷ codes "select * from t, u" ∷ codes "select * from t where" ∷ codes "select * from t where id = 1 order" ∷ codes "drop table t" ∷ codes "SELEC" ∷ [])
     ≡ replicate 17 None)
-unfolding query_in words kind_of_word unquoted query selected sees_count columns count where_test any_test comparison operand operator primary product sum term separated literal_rule number_rule many many_of led_by same_kind sees after expect ended name name_of lexemes length_at
+unfolding query_in words kind_of_word unquoted query selected sees_count columns count where_test any_test comparison operand operator primary product sum term separated literal_rule number_rule many many_of led_by same_kind sees after expect ended name name_of lexemes length_at object
 queries_read = (refl, refl, refl)

@@ -9,14 +9,14 @@ use Rattle.lq_base.specs.Number.{number_of}
 use Rattle.lq_model.proofs.ExampleWorld.{id, number, text, up, where_id}
 use Rattle.lq_model.proofs.Texts.Spell.{Mean, Spell, SpellNothing}
 use Rattle.lq_model.specs.Phrase.{words as phrase_words}
-use Rattle.lq_model.specs.Quoting.{name_text, string_text}
+use Rattle.lq_model.specs.Quoting.{name_text, quoted_text, string_text}
 use Rattle.lq_model.specs.TestText.{literal_text, test_text}
 use Rattle.lq_model.specs.SqlText.{statement_in}
 use Rattle.lq_model.specs.SqlWord.{words, kind_of_word, unquoted}
 use Rattle.lq_model.specs.SqlStatement.{statement}
 use Rattle.lq_model.specs.SqlRows.{assignment, delete, insert, stated_columns, update}
 use Rattle.lq_model.specs.SqlParser.{same_kind, sees, after, expect, ended, enclosed, separated, many, many_of, led_by}
-use Rattle.lq_model.specs.SqlPart.{name, name_of, literal as literal_rule, number as number_rule}
+use Rattle.lq_model.specs.SqlPart.{name, name_of, literal as literal_rule, number as number_rule, object}
 use Rattle.lq_model.specs.SqlTest.{any_test, comparison, nullness, operand, operator, primary, product, sum, term, where_test}
 use Rattle.lq_model.specs.declared.statement.Statement.{Statement}
 use Rattle.lq_model.specs.declared.statement.Statement.TheVariants.{Delete, Insert, Update}
@@ -69,7 +69,7 @@ pub rows_spelled :
     ∷ (Update (codes "t") ((id, number (pos 1)) ∷ (up, literal.Null) ∷ []) (where_id (pos 1)), codes "UPDATE `t` SET `id` = 1, `up` = NULL WHERE `id` = 1")
     ∷ (Delete (codes "t") (where_id (pos 1)), codes "DELETE FROM `t` WHERE `id` = 1")
     ∷ [])
-unfolding digits phrase_words name_text string_text literal_text test_text statement_in words kind_of_word unquoted statement assignment delete insert stated_columns update where_test any_test comparison nullness operand operator primary product sum term enclosed separated literal_rule number_rule number_of many many_of led_by same_kind sees after expect ended name name_of lexemes length_at
+unfolding digits phrase_words name_text quoted_text string_text literal_text test_text statement_in words kind_of_word unquoted statement assignment delete insert stated_columns update where_test any_test comparison nullness operand operator primary product sum term enclosed separated literal_rule number_rule number_of many many_of led_by same_kind sees after expect ended name name_of lexemes length_at object
 rows_spelled = ((refl, refl, refl), (refl, refl, refl))
 
 -- a changeset's row, and its deletion; the lock's row, and the lock taken, marked and freed
@@ -89,7 +89,7 @@ pub tracking_spelled :
     ∷ (lock_row, codes "INSERT INTO `DATABASECHANGELOGLOCK` (`ID`, `LOCKED`, `LOCKGRANTED`, `LOCKEDBY`) VALUES (1, FALSE, NULL, NULL)")
     ∷ (Update lock freed (Some lock_one), codes "UPDATE `DATABASECHANGELOGLOCK` SET `LOCKED` = FALSE, `LOCKGRANTED` = NULL, `LOCKEDBY` = NULL WHERE `ID` = 1")
     ∷ [])
-unfolding digits phrase_words name_text string_text literal_text test_text Rattle.lq_model.specs.declared.test.Test.TheBlock.hidden-the_row-Test-0 denote.Hole.Carrier.hidden statement_in words kind_of_word unquoted statement assignment delete insert stated_columns update where_test any_test comparison nullness operand operator primary product sum term enclosed separated literal_rule number_rule many many_of led_by same_kind sees after expect ended name name_of lexemes length_at
+unfolding digits phrase_words name_text quoted_text string_text literal_text test_text Rattle.lq_model.specs.declared.test.Test.TheBlock.hidden-the_row-Test-0 denote.Hole.Carrier.hidden statement_in words kind_of_word unquoted statement assignment delete insert stated_columns update where_test any_test comparison nullness operand operator primary product sum term enclosed separated literal_rule number_rule many many_of led_by same_kind sees after expect ended name name_of lexemes length_at object
 tracking_spelled = ((refl, refl, refl), (refl, refl, refl))
 
 -- without columns all of them are meant; a string of mysql with a backslash
@@ -99,5 +99,5 @@ pub rows_read :
     × SpellNothing Postgresql (
     codes "insert into t" ∷ codes "insert t values (1)" ∷ codes "insert into t values 1" ∷ codes "insert into t values ()" ∷ codes "insert into t () values (1)" ∷ codes "insert into t values (id)" ∷ codes "insert into t values (1), (2)"
     ∷ codes "update t" ∷ codes "update t set id" ∷ codes "update t set id = up" ∷ codes "update t set id = 1," ∷ codes "update t set id = 1 where" ∷ codes "delete t" ∷ codes "delete from t where id" ∷ codes "delete * from t" ∷ [])
-unfolding statement_in words kind_of_word unquoted statement assignment delete insert stated_columns update where_test any_test comparison nullness operand operator primary product sum term enclosed separated literal_rule number_rule many many_of led_by same_kind sees after expect ended name name_of lexemes length_at
+unfolding statement_in words kind_of_word unquoted statement assignment delete insert stated_columns update where_test any_test comparison nullness operand operator primary product sum term enclosed separated literal_rule number_rule many many_of led_by same_kind sees after expect ended name name_of lexemes length_at object
 rows_read = (refl, refl, refl)

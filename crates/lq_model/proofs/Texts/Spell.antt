@@ -24,7 +24,7 @@ Spell d rows =
 -- likewise queries
 abbrev pub SpellQueries : Dialect → List (Query × List ℕ) → Type 0
 SpellQueries d rows =
-    (map (λ row. is_query row.0) rows ≡ map (λ row. true) rows)
+    (map (λ row. is_query d row.0) rows ≡ map (λ row. true) rows)
     × (map (λ row. query_text d row.0) rows ≡ map (λ row. row.1) rows)
     × (map (λ row. query_in d row.1) rows ≡ map (λ row. Some row.0) rows)
 

@@ -8,7 +8,7 @@ use Rattle.lq_base.specs.Number.{number_of}
 use Rattle.lq_model.proofs.ExampleWorld.{id, number, text, up}
 use Rattle.lq_model.proofs.Texts.Spell.{SpellTests}
 use Rattle.lq_model.specs.Phrase.{words as phrase_words}
-use Rattle.lq_model.specs.Quoting.{name_text, string_text}
+use Rattle.lq_model.specs.Quoting.{name_text, quoted_text, string_text}
 use Rattle.lq_model.specs.TestText.{literal_text, test_text}
 use Rattle.lq_model.specs.SqlText.{test_in}
 use Rattle.lq_model.specs.SqlWord.{words, kind_of_word, unquoted}
@@ -56,7 +56,7 @@ pub tests_spelled :
     ∷ (NotNull (side.Column up), codes "`up` IS NOT NULL")
     ∷ (Not (Or (And a b) (Not c)), codes "(NOT ((`a` = 1 AND `b` = 2) OR (NOT `c` IS NULL)))")
     ∷ [])
-unfolding digits phrase_words name_text string_text literal_text test_text Rattle.lq_model.specs.declared.test.Test.TheBlock.hidden-the_row-Test-0 denote.Hole.Carrier.hidden test_in words kind_of_word unquoted any_test comparison nullness operand operator primary product sum term literal_rule number_rule number_of many many_of led_by same_kind sees after expect ended name name_of lexemes length_at
+unfolding digits phrase_words name_text quoted_text string_text literal_text test_text Rattle.lq_model.specs.declared.test.Test.TheBlock.hidden-the_row-Test-0 denote.Hole.Carrier.hidden test_in words kind_of_word unquoted any_test comparison nullness operand operator primary product sum term literal_rule number_rule number_of many many_of led_by same_kind sees after expect ended name name_of lexemes length_at
 tests_spelled = ((refl, refl, refl), (refl, refl, refl))
 
 -- NOT binds first, then AND, then OR, both to the left; `!=` is `<>`; a `;` may stand at the end

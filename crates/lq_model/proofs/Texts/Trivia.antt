@@ -8,7 +8,7 @@ use Rattle.lq_model.specs.SqlWord.{words, kind_of_word, unquoted}
 use Rattle.lq_model.specs.SqlStatement.{statement}
 use Rattle.lq_model.specs.SqlDrop.{drop_object}
 use Rattle.lq_model.specs.SqlParser.{same_kind, sees, after, expect, ended}
-use Rattle.lq_model.specs.SqlPart.{name, name_of}
+use Rattle.lq_model.specs.SqlPart.{name, name_of, object}
 use Rattle.lq_model.specs.declared.statement.Statement.{Statement}
 use Rattle.lq_model.specs.declared.statement.Statement.TheVariants.{DropTable}
 
@@ -34,5 +34,5 @@ pub trivia_read :
     × SpellNothing Postgresql (codes "drop table t # a" ∷ codes "drop /* a /* b */ table t" ∷ [])
     × Mean Mysql (drop_t (codes "drop table t # a" ∷ codes "drop#a\n table t" ∷ codes "drop /* a /* b */ table t" ∷ []))
     × SpellNothing Mysql (codes "drop table t--a" ∷ codes "drop /* a /* b */ c */ table t" ∷ codes "drop table /*! a */ t" ∷ codes "drop table /*! t */" ∷ [])
-unfolding statement_in words kind_of_word unquoted statement drop_object same_kind sees after expect ended name name_of lexemes length_at
+unfolding statement_in words kind_of_word unquoted statement drop_object same_kind sees after expect ended name name_of lexemes length_at object
 trivia_read = (refl, refl, refl, refl, refl, refl, refl, refl)

@@ -73,3 +73,18 @@ fn prints_sequences(rt: HostRuntime) {
     let wanted = "ALTER SEQUENCE \"s\" RENAME TO \"r\"";
     make.pg(Statement::RenameSequence { name, to }, wanted)
 }
+
+#[test]
+fn prints_schemas(rt: HostRuntime) {
+    let make = Maker::new(&rt, rt.alloc());
+    let table = make.within("app", "t");
+    make.pg(Statement::DropTable { table }, "DROP TABLE \"app\".\"t\"");
+    let table = make.within("public", "t");
+    make.pg(Statement::DropTable { table }, "DROP TABLE \"t\"");
+    let (name, table) = (make.within("a\"b", "ix"), None);
+    let wanted = "DROP INDEX \"a\"\"b\".\"ix\"";
+    make.pg(Statement::DropIndex { name, table }, wanted);
+    let (table, to) = (make.within("app", "t"), make.within("app", "u"));
+    let wanted = "ALTER TABLE \"app\".\"t\" RENAME TO \"u\"";
+    make.pg(Statement::RenameTable { table, to }, wanted)
+}

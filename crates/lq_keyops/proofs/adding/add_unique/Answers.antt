@@ -1,4 +1,4 @@
-use Rattle.std.proofs.Common.{None, Some, ap, is_some, refl, rules, sym, ◌∙◌, ◌≡◌}
+use Rattle.std.proofs.Common.{None, Some, [], ap, is_some, refl, rules, sym, ◌∙◌, ◌∷◌, ◌≡◌}
 use Rattle.lq_arm.specs.Verdict.{verdict_of}
 use Rattle.lq_arm.proofs.Arms.{agree}
 use Rattle.lq_decide.specs.Faults.{add_unique_faults, are_twins}
@@ -7,9 +7,11 @@ use Rattle.lq_model.specs.AddConstraint as spec
 use Rattle.lq_model.specs.Catalogue.{table_of}
 use Rattle.lq_model.specs.NameSpaces.{unique_taken}
 use Rattle.lq_model.specs.Names.{repeats}
-use Rattle.lq_model.specs.TableNames.{column_missing}
+use Rattle.lq_model.specs.Reserved.{takes_lock_key}
+use Rattle.lq_model.specs.TableNames.{column_missing, placed}
 use Rattle.lq_keyops.proofs.Ended as lemma
 use Rattle.lq_keyops.proofs.adding.add_unique.Goals as goal
+use Rattle.lq_base.specs.Name.{beside}
 
 pub returns-in_default : goal.returns-in_default
 returns-in_default c =
@@ -29,12 +31,14 @@ returns c =
     let here : table_of db t ≡ Some it = search rules in
     let is = sym (lemma.the_is db t it here) in
     let lacks : c.in_ok-missing.missing ≡ column_missing it x.columns = search rules in
-    let taken : c.unique_taken.result ≡ unique_taken c.args.dialect it x.name db = search rules in
+    let shared : c.in_ok-shared.shared ≡ beside t x.name = c.in_ok-shared.ensures in
+    let taken : c.unique_taken.result ≡ unique_taken c.args.dialect t it x.name db = c.unique_taken.ensures t shared in
+    let lock : c.takes_lock_key.result ≡ takes_lock_key c.args.by c.args.dialect (placed t (x.name ∷ [])) = c.takes_lock_key.ensures ∙ ap (λ n. takes_lock_key c.args.by c.args.dialect (n ∷ [])) shared in
     let twice : c.in_ok-twice.twice ≡ repeats x.columns = search rules in
     let twins : c.in_ok-twins.twins ≡ are_twins it x.columns = search rules in
     c.reshape.ensures (spec.add_unique c.args.by c.args.dialect t x db) (add_unique_faults t x db) (record {
       judged = add_unique_judged c.args.by c.args.dialect t db c.requires x;
-      tested = rw (c.no_tests.ensures) (ap verdict_of (agree c.are_reserved-reserved.ensures (lacks ∙ sym (lemma.asked db t it (λ y. column_missing y x.columns) here)) (lemma.three (taken ∙ ap (λ y. unique_taken c.args.dialect y x.name db) is) c.takes_lock_key.ensures twice) refl refl refl refl (twins ∙ ap (λ y. are_twins y x.columns) is) refl refl refl));
+      tested = rw (c.no_tests.ensures) (ap verdict_of (agree c.are_reserved-reserved.ensures (lacks ∙ sym (lemma.asked db t it (λ y. column_missing y x.columns) here)) (lemma.three (taken ∙ ap (λ y. unique_taken c.args.dialect t y x.name db) is) lock twice) refl refl refl refl (twins ∙ ap (λ y. are_twins y x.columns) is) refl refl refl));
       result = lemma.shaped_there db t it (spec.with_unique x) c.in_ok-shape.shape here c.in_ok-shape.ensures;
       count = refl;
     })

@@ -8,4 +8,4 @@ returns c =
     let ts = c.args.tables.now.now in
     let was = c.in-Some.held.now.now in
     let there : lookup (is_named c.args.name.now) ts ≡ Some was = search rules in
-    λ it is known. c.reshape.ensures ts c.args.name.now was it c.shape.ensures is there known
+    λ it is known. c.reshape.ensures ts was it c.shape.ensures is there known

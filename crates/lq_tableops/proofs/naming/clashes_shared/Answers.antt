@@ -1,6 +1,6 @@
 use Rattle.std.proofs.Common.{refl, ◌∷◌}
 use Rattle.lq_shapes.specs.Created.{made}
-use Rattle.lq_model.specs.TableNames.{constraint_names, inner_names}
+use Rattle.lq_model.specs.TableNames.{constraint_names, inner_names, placed}
 use Rattle.lq_tableops.proofs.NamingLemmas as lemma
 use Rattle.lq_tableops.proofs.naming.clashes_shared.Goals as goal
 
@@ -9,4 +9,4 @@ returns-clause-found c = λ cs.
     let new = c.args.new.now in
     let it = made cs new.key.now new.uniques.now new.foreign.now in
     rw (c.in_ok-taken.ensures.found cs, c.in_ok-twice.ensures cs, c.in_ok-own.ensures cs)
-    (lemma.clash_shared new.name.now c.args.parts.now.now cs new.key.now new.uniques.now new.foreign.now (constraint_names it) (inner_names it) (new.name.now ∷ inner_names it) refl refl refl)
+    (lemma.clash_shared new.name.now c.args.parts.now.now cs new.key.now new.uniques.now new.foreign.now (constraint_names it) (placed new.name.now (inner_names it)) (new.name.now ∷ placed new.name.now (inner_names it)) refl refl refl)

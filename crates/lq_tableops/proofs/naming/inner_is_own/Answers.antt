@@ -1,12 +1,14 @@
 use Rattle.std.proofs.Common.{ap, ◌∙◌}
 use Rattle.lq_model.specs.Names.{is_in}
-use Rattle.lq_model.specs.TableNames.{inner_names}
+use Rattle.lq_model.specs.TableNames.{inner_names, placed}
 use Rattle.lq_shapes.specs.Created.{made}
 use Rattle.lq_tableops.proofs.NamingLemmas as lemma
+use Rattle.lq_tableops.proofs.ClashLemmas.{own_inside}
 use Rattle.lq_tableops.proofs.naming.inner_is_own.Goals as goal
 
 pub returns : goal.returns
 returns c = λ cs.
     let new = c.args.new.now in
-    c.has.ensures ∙ ap (λ ns. is_in new.name.now (lemma.named ns)) c.as_slice.ensures
-    ∙ ap (is_in new.name.now) (lemma.filled c.new-names.result c.push_inner.new.to (inner_names (made cs new.key.now new.uniques.now new.foreign.now)) c.new-names.ensures (c.in_ok-push_inner.ensures cs))
+    c.each_is_own.ensures ∙ own_inside new.name.now c.as_slice.result.now
+    ∙ ap (λ ns. is_in new.name.now (placed new.name.now (lemma.named ns))) c.as_slice.ensures
+    ∙ ap (λ ns. is_in new.name.now (placed new.name.now ns)) (lemma.filled c.new-names.result c.push_inner.new.to (inner_names (made cs new.key.now new.uniques.now new.foreign.now)) c.new-names.ensures (c.in_ok-push_inner.ensures cs))

@@ -1,17 +1,17 @@
 use Rattle.std.proofs.Common.{ap, ◌∙◌}
-use Rattle.std.specs.Prelude.{List, Option, Some, codes, refl, ℕ, ◌++◌, ◌∷◌, ◌≡◌}
+use Rattle.std.specs.Prelude.{List, Option, Some, [], codes, refl, ℕ, ◌++◌, ◌∷◌, ◌≡◌}
 use Rattle.lq_model.specs.Canon.{CanonicalValue, canonical_change, text}
 use Rattle.lq_model.specs.Written.{Row, change_of}
 use Rattle.lq_columns.proofs.OnOk.{on_ok}
 use Rattle.lq_columns.specs.DefaultKeys.{default_rows}
 use Rattle.lq_columns.proofs.add_default_value.AddDefaultValueChange.canon.Goals as goal
 
-abbrev keyed : List ℕ → List ℕ → Option CanonicalValue → List Row → List Row
-keyed t n k more = (codes "tableName", Some (text t)) ∷ (codes "columnName", Some (text n)) ∷ (codes "columnDataType", k) ∷ more
+abbrev keyed : List ℕ → List ℕ → Option CanonicalValue → Option CanonicalValue → List Row → List Row
+keyed t n k s more = (codes "tableName", Some (text t)) ∷ (codes "columnName", Some (text n)) ∷ (codes "columnDataType", k) ∷ (more ++ (codes "schemaName", s) ∷ [])
 
-same : (t u n m : List ℕ) (k l : Option CanonicalValue) (more : List Row) → t ≡ u → n ≡ m → k ≡ l → keyed t n k more ≡ keyed u m l more
-same t u n m k l more a b c = rw (a, b, c) refl
+same : (t u n m : List ℕ) (k l r s : Option CanonicalValue) (more : List Row) → t ≡ u → n ≡ m → k ≡ l → r ≡ s → keyed t n k r more ≡ keyed u m l s more
+same t u n m k l r s more a b c d = rw (a, b, c, d) refl
 
 pub returns-clause-written : goal.returns-clause-written
 returns-clause-written c = on_ok c.write_change_of.result c.write_change_of.ensures.written (λ written. written
-    ∙ ap (λ rows. c.args.to.now.written ++ canonical_change (change_of (codes "addDefaultValue") rows)) (same _ _ _ _ _ _ (default_rows c.args.self.now.default_value) c.as_key.ensures.value c.as_key-2.ensures.value c.kind_field.ensures))
+    ∙ ap (λ rows. c.args.to.now.written ++ canonical_change (change_of (codes "addDefaultValue") rows)) (same _ _ _ _ _ _ _ _ (default_rows c.args.self.now.default_value) c.text.ensures.value c.as_key.ensures.value c.kind_field.ensures c.schema_field.ensures))

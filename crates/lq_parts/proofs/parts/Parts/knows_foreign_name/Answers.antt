@@ -3,9 +3,8 @@ use Rattle.std.specs.Prelude.{IfSome, ◌≡◌}
 use Rattle.lq_chain.specs.History.{History}
 use Rattle.lq_model.specs.Catalogue.{Catalogue}
 use Rattle.lq_model.specs.Names.{is_in}
-use Rattle.lq_model.specs.TableNames.{foreign_names}
-use Rattle.lq_parts.specs.Taken.{names_in}
+use Rattle.lq_parts.specs.Taken.{foreign_inside, names_in}
 use Rattle.lq_parts.proofs.parts.Parts.knows_foreign_name.Goals as goal
 
 pub returns : goal.returns
-returns c = subst (λ (h : History Catalogue). IfSome c.knows_foreign.result (λ found. found ≡ is_in c.args.name.now (names_in foreign_names h.now.tables))) c.self.view_is (c.knows_foreign.ensures c.self.inside.tables.now c.self.invariant)
+returns c = subst (λ (h : History Catalogue). IfSome c.knows_foreign.result (λ found. found ≡ is_in c.args.name.now (names_in foreign_inside h.now.tables))) c.self.view_is (c.knows_foreign.ensures c.self.inside.tables.now c.self.invariant)

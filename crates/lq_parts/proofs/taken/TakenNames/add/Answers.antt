@@ -3,4 +3,4 @@ use Rattle.lq_base.specs.Name.{name_cmp}
 use Rattle.lq_parts.proofs.taken.TakenNames.add.Goals as goal
 
 pub returns-in-Err : goal.returns-in-Err
-returns-in-Err c = λ tables n it is none known. c.forget.ensures (insert_entry name_cmp tables n it)
+returns-in-Err c = λ tables it is none known. c.forget.ensures (insert_entry name_cmp tables c.args.table.now it)

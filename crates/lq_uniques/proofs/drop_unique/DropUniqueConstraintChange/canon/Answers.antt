@@ -1,4 +1,4 @@
 use Rattle.lq_uniques.proofs.drop_unique.DropUniqueConstraintChange.canon.Goals as goal
 
 pub returns-clause-written : goal.returns-clause-written
-returns-clause-written c = rw (← c.as_key.ensures.value, ← c.as_key-2.ensures.value) c.write_change.ensures.written
+returns-clause-written c = rw (← c.text.ensures.value, ← c.as_key.ensures.value, ← c.schema_field.ensures) c.write_change.ensures.written
