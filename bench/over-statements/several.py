@@ -57,15 +57,16 @@ class Several:
                 time.sleep(5)
                 continue
             crate, step = found
-            began, said = time.time(), f"{self.kept}/{crate.name}.{step}.said"
+            said = f"{self.kept}/{crate.name}.{step}.said"
             with open(said, "w") as out:
-                ran = subprocess.run([RUN, *STEPS[step]], cwd=f"{copy}/crates/{crate.name}", stdout=out, stderr=subprocess.STDOUT)
-            if ran.returncode:
+                ran = subprocess.Popen([RUN, *STEPS[step]], cwd=f"{copy}/crates/{crate.name}", stdout=out, stderr=subprocess.STDOUT)
+                _, status, used = os.wait4(ran.pid, 0)
+            if status:
                 self.failed.append(f"{crate.name} ({step}, {said})")
             else:
                 os.rename(said, self.mark(crate, step))
-            told = "FAILED" if ran.returncode else "passed"
-            print(f"{crate.name} {step} {told}, {time.time() - began:.0f} s, {len(self.left)} left", flush=True)
+            told = "FAILED" if status else "passed"
+            print(f"{crate.name} {step} {told}, {used.ru_utime + used.ru_stime:.0f} processor seconds, {len(self.left)} left", flush=True)
 
 
 def prove_all(clone, copies, only, skip, steps):

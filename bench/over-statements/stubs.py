@@ -87,8 +87,10 @@ def cited(crates):
     for top in sorted(os.listdir(crates)):
         for part in ("src", "proofs", "specs"):
             for file in files_below(f"{crates}/{top}/{part}"):
-                for name, module in re.findall(r"Rattle\.(\w+)\.proofs\.([\w-]+)", read(file)):
-                    if name != top:
+                text = read(file)
+                # (code names a lemma file by a path)
+                for name, module in [*re.findall(r"Rattle\.(\w+)\.proofs\.([\w-]+)", text), *re.findall(r"\b(\w+)::proofs::(\w+)", text)]:
+                    if name not in (top, "crate"):
                         found.setdefault(name, set()).add(module)
     return found
 

@@ -1,17 +1,18 @@
 -- The last text of a journal tells whether the last deed of what stops left behind it set the mark.
 use Rattle.std.proofs.Common.{ap, inl, inr, refl, subst, sym, ◌∙◌}
 use Rattle.std.proofs.lemmas.List.{append-nil, append_assoc, map-append}
-use Rattle.std.specs.List.{flat_map, last_or}
+use Rattle.std.specs.List.{last_or}
 use Rattle.std.specs.Prelude.{List, None, Ok, Option, Some, [], false, map, true, ℕ, ◌++◌, ◌∷◌, ◌≡◌, ◌⊎◌}
 use Rattle.laws_repair.specs.LastText.{AreReadBack, IsReadBack, LastTextTells, is_mark_text, last_text as last_in, text_by}
 use Rattle.laws_repair.specs.Mended.{by_of}
 use Rattle.lq_base.specs.declared.dialect.Dialect.{Dialect}
 use Rattle.lq_base.specs.declared.tracking.Lock.{Lock}
 use Rattle.lq_beside.specs.Replays.{calls_fit}
-use Rattle.lq_db.specs.Last.{last_text}
+use Rattle.lq_db.specs.Last.{last_after, last_text}
 use Rattle.lq_run.proofs.Replayed.{AreRead, left_read, mark_read}
-use Rattle.lq_run.specs.Stands.{deed_text, entries_of, entry_of}
+use Rattle.lq_run.specs.Stands.{deed_text, entries_of, entry_of, entry_texts}
 use Rattle.lq_statement.specs.Laws.{StatementsReadBack}
+use Rattle.lq_store.specs.Journal.Entry.{Stated, Texts}
 use Rattle.lq_store.specs.Journal.{Entry}
 use Rattle.lq_track.specs.Database.{Database}
 use Rattle.lq_track.specs.Lock.{free}
@@ -43,22 +44,23 @@ last_both : (o : Option Text) (xs ys : List Text) → last_or o (xs ++ ys) ≡ l
 last_both o [] ys = refl
 last_both o (x ∷ xs) ys = last_both (Some x) xs ys
 
-abbrev all_texts : List Entry → List Text
-all_texts entries = flat_map (λ (entry : Entry). entry) entries
-
-texts_both : (es fs : List Entry) → all_texts (es ++ fs) ≡ all_texts es ++ all_texts fs
-texts_both [] fs = refl
-texts_both (e ∷ es) fs = ap (λ (z : List Text). e ++ z) (texts_both es fs) ∙ sym (append_assoc e (all_texts es) (all_texts fs))
-
-last_in_is : (o : Option Text) (es : List Entry) → last_in o es ≡ last_or o (all_texts es)
-last_in_is o [] = refl
-last_in_is o (e ∷ es) = last_in_is (last_or o e) es ∙ sym (last_both o e (all_texts es))
+last_behind : (o : Option Text) (es fs : List Entry) → last_after o (es ++ fs) ≡ last_after (last_after o es) fs
+last_behind o [] fs = refl
+last_behind o (Texts texts ∷ es) fs = last_behind (last_or o texts) es fs
+last_behind o (Stated bytes ∷ es) fs = last_behind None es fs
 
 module _ (d : Dialect) where
-  -- the texts of entries are those of their deeds
-  texts_are : (entries : Journal) → all_texts (entries_of d entries) ≡ map (deed_text d) (joined entries)
-  texts_are [] = refl
-  texts_are (deeds ∷ entries) = ap (λ (z : List Text). entry_of d deeds ++ z) (texts_are entries) ∙ sym (map-append (deed_text d) deeds (joined entries))
+  -- the last text of entries is that of their deeds
+  last_of : (o : Option Text) (entries : Journal) → last_after o (entries_of d entries) ≡ last_or o (map (deed_text d) (joined entries))
+  last_of o [] = refl
+  last_of o (deeds ∷ entries) =
+      last_of (last_or o (entry_texts d deeds)) entries
+      ∙ sym (last_both o (entry_texts d deeds) (map (deed_text d) (joined entries)))
+      ∙ ap (last_or o) (sym (map-append (deed_text d) deeds (joined entries)))
+
+  last_in_is : (o : Option Text) (entries : Journal) → last_after o (entries_of d entries) ≡ last_in o (map (map (text_by d)) entries)
+  last_in_is o [] = refl
+  last_in_is o (deeds ∷ entries) = last_in_is (last_or o (entry_texts d deeds)) entries
 
   -- what took the lock wrote something, so that what stands before it is not asked
   asks_none : (deeds : List Deed) (o : Option Text) (start now : Database) → all_done d deeds start ≡ Ok now → start.lock ≡ free → now.lock.locked ≡ true
@@ -72,12 +74,11 @@ module _ (d : Dialect) where
     told written now unlocked held led all = ap (is_mark_text d (by_of now.lock)) same ∙ tells d (by_of now.lock) start now written led all (mark_read read d (by_of now.lock)) where
       same : last_text (before ++ entries_of d written) ≡ last_in None (map (map (text_by d)) written)
       same =
-          ap (last_or None) (texts_both before (entries_of d written))
-          ∙ last_both None (all_texts before) (all_texts (entries_of d written))
-          ∙ ap (last_or (last_or None (all_texts before))) (texts_are written)
-          ∙ asks_none (joined written) (last_or None (all_texts before)) start now led unlocked held
-          ∙ sym (ap (last_or None) (texts_are written))
-          ∙ sym (last_in_is None (entries_of d written))
+          last_behind None before (entries_of d written)
+          ∙ last_of (last_after None before) written
+          ∙ asks_none (joined written) (last_after None before) start now led unlocked held
+          ∙ sym (last_of None written)
+          ∙ last_in_is None written
 
   -- deeds whose texts are read back
 

@@ -1,5 +1,5 @@
 -- A row's turn is entered.
-use Rattle.std.proofs.Common.{ap, sym, subst, refl, None, Option, Some, if◌then◌else◌, option_map, ◌≡◌, ◌∙◌, ◌++◌, true, false, List, [], ◌∷◌}
+use Rattle.std.proofs.Common.{ap, inr, sym, subst, refl, None, Option, Some, if◌then◌else◌, option_map, ◌≡◌, ◌∙◌, ◌++◌, true, false, List, [], ◌∷◌}
 use Rattle.std.proofs.lemmas.List.{append-nil}
 use Rattle.std.specs.List.{list_all}
 use Rattle.std.specs.Prelude.{reverse}
@@ -7,6 +7,7 @@ use Rattle.lq_base.specs.declared.dialect.Dialect.{Dialect}
 use Rattle.lq_base.specs.declared.identity.Identity.{Identity}
 use Rattle.lq_base.specs.declared.run.Happened.{Happened}
 use Rattle.lq_base.specs.declared.run.Printed.{Printed}
+use Rattle.lq_base.specs.declared.run.Why.{Why}
 use Rattle.lq_hand.proofs.Expected.{HoldsAtEnd, turn_expected}
 use Rattle.lq_hand.specs.Counts.{no_progress}
 use Rattle.lq_hand.specs.Enters.{Enters, IsTurn}
@@ -14,7 +15,7 @@ use Rattle.lq_hand.specs.Hand.{calls_left, hand_place, place_of}
 use Rattle.lq_hand.specs.Way.{GivesUp, refusal_at_end, refused_in, seen_along}
 use Rattle.lq_hand.specs.Writable.{IsWritable}
 use Rattle.lq_hand.specs.declared.hand.Hand.{Hand}
-use Rattle.lq_hand.specs.declared.source.Entered.TheVariants.{NoTurn, Turn as InHand}
+use Rattle.lq_hand.specs.declared.source.Entered.TheVariants.{Lack, NoTurn, Turn as InHand}
 use Rattle.lq_kinds.specs.AnyChangeLaws.{does, restores, spelled}
 use Rattle.lq_kinds.specs.declared.any_change.AnyChange.{AnyChange}
 use Rattle.lq_model.proofs.Lists.{and_left, and_right}
@@ -68,6 +69,12 @@ module _ (d : Dialect) (stamp : Stamp) (seen : Catalogue) where
         ap (λ (turns : List Turn). rest d any_meaning stamp (between (left_of turns)) (c, c)) none,
         subst (λ o. Reports o told None) (sym same) all,
       )
+
+  -- there was no memory for it
+  pub row_lacks : (before after : RowTurns) → after.outcome.warned ≡ before.outcome.warned → Enters d any_meaning stamp (left_of before.turns) (row_way before d stamp) seen Lack (left_of after.turns) (row_way after d stamp)
+  row_lacks before after same database stands told knows =
+      let more = (all_rolled d (reverse before.turns) (contents_of database)).warned in
+      inr (inr (inr (inr (more, ap (λ (ws : List (Option Identity × Why)). ws ++ more) same ∙ knows.settles.warned))))
 
   module _ (before after : List Turn) (turn : Turn) (is : before ≡ after ++ turn ∷ []) (hand : Hand) (its : IsTurn d hand) (calls : calls_left hand ≡ turn_calls d stamp.who turn) (stops : hand.goes_on ≡ false) where
     placed : (c : Contents) → rest d any_meaning stamp (place_of hand (left_of after)) (c, c) ≡ rest d any_meaning stamp (Inside (turn_calls d stamp.who turn) false (left_of after)) (c, c)

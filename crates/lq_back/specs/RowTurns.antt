@@ -10,7 +10,7 @@ use Rattle.lq_turns.specs.declared.deed.OnRows.{OnRows}
 use Rattle.lq_turns.specs.declared.deed.OnRows.TheVariants.{Cleared, Deleted, Filled, Inserted, Renewed, Tagged}
 use Rattle.lq_hand.specs.Way.{Way}
 use Rattle.lq_seen.specs.Printing.{Account, shown, with_texts}
-use Rattle.lq_seen.specs.Telling.{Leads, Reports}
+use Rattle.lq_seen.specs.Telling.{Leads, Reports, WarnsFirst}
 use Rattle.lq_back.specs.declared.row_turns.RowTurns.{RowTurns}
 use Rattle.lq_turns.specs.Contents.{Contents}
 use Rattle.lq_turns.specs.Printed.{printed_back}
@@ -57,4 +57,4 @@ pub record StopsAt (s : RowTurns) (told : Account) (goes_on : Bool) (refusal : R
 
 -- what the turns of a rollback hold
 abbrev pub row_way : RowTurns → Dialect → Stamp → Account → Way
-row_way s d stamp told = record { knows = LeadsBack s d told; awaits = λ sees c. LeadsBack s d told c; yields = λ goes_on refusal c. StopsAt s told goes_on refusal; tells = Reports s.outcome told }
+row_way s d stamp told = record { knows = LeadsBack s d told; awaits = λ sees c. LeadsBack s d told c; yields = λ goes_on refusal c. StopsAt s told goes_on refusal; tells = Reports s.outcome told; lacks = WarnsFirst s.outcome told.settled }

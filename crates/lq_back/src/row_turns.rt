@@ -131,9 +131,9 @@ fn tell<P: SqlText>(
         (outcome.new.printed
         ≡ outcome.old.printed ++ (if prints then printed P.dialect turn.now ∷ [] else [])) }
     ensures not_fresh { OnOk result (outcome.new.not_fresh ≡ outcome.old.not_fresh) }
+    ensures warned { outcome.new.warned ≡ outcome.old.warned }
     ensures others { OnOk result
-        ((outcome.new.warned ≡ outcome.old.warned)
-        × (outcome.new.halted ≡ outcome.old.halted)
+        ((outcome.new.halted ≡ outcome.old.halted)
         × (outcome.new.stopped_at ≡ outcome.old.stopped_at)) }
 {
     if prints {

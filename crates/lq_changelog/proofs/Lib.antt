@@ -1,3 +1,4 @@
 pub mod KeysRead
 pub mod Names
 pub mod Short
+pub mod Right

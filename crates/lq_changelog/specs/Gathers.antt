@@ -67,7 +67,7 @@ at_line line (Err fault) = Err (what_at line fault)
 abbrev pub line_of : List ℕ → Option ℕ
 line_of key = option_and_then (λ n. if nat_lt n 18446744073709551616 then Some n else None) (plain_number key)
 
-abbrev no_line : {A : Type 0} → Result A What
+abbrev pub no_line : {A : Type 0} → Result A What
 no_line = Err (Key (Bad (codes "changeSet")))
 
 -- a map of a changeset's keys; none such is missing in what comes from a file

@@ -1,4 +1,5 @@
 pub mod Changelog
 pub mod Contents
 pub mod Gathers
+pub mod Laws
 pub mod ShortTexts

@@ -4,6 +4,7 @@
 mod gathered;
 mod gathering;
 mod item;
+pub mod laws;
 mod loading;
 mod sql_parts;
 mod texts;

@@ -6,7 +6,7 @@ use Rattle.lq_base.specs.declared.command.Command.TheVariants as command
 use Rattle.lq_base.specs.declared.command.Target.{Target}
 use Rattle.lq_base.specs.declared.command.Target.TheVariants as target
 use Rattle.lq_cli.specs.declared.line.Job.{Job}
-use Rattle.lq_cli.specs.declared.line.Job.TheVariants.{Run, UpdateSql, UpdateCount, UpdateTo, UpdateTestingRollback, RollbackSql, History, Generate, Drill, Soak, ClearSums, UndoUnrecorded}
+use Rattle.lq_cli.specs.declared.line.Job.TheVariants.{Run, UpdateSql, UpdateCount, UpdateTo, UpdateTestingRollback, RollbackSql, History, Generate, Drill, Soak, ClearSums, UndoUnrecorded, Snapshot}
 use Rattle.lq_cli.specs.declared.line.Line.{Line}
 use Rattle.lq_cli.specs.declared.verb.Verb.{Verb}
 use Rattle.lq_cli.specs.declared.verb.Verb.TheVariants as verb
@@ -79,6 +79,7 @@ job_of verb.Tag given = tagging given
 job_of verb.ClearChecksums given = Some ClearSums
 job_of verb.ReleaseLocks given = Some (Run command.Release)
 job_of verb.UndoUnrecorded given = Some UndoUnrecorded
+job_of verb.Snapshot given = Some Snapshot
 job_of verb.History given = Some History
 job_of verb.GenerateChangelog given = generating given
 job_of verb.Drill given = drilling given

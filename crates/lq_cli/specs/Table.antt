@@ -3,7 +3,7 @@ use Rattle.std.specs.Prelude.{ℕ, Bool, true, false, List, [], ◌∷◌, Optio
 use Rattle.std.specs.Map.{lookup}
 use Rattle.std.specs.Str.{bytes_eq}
 use Rattle.lq_cli.specs.declared.verb.Verb.{Verb}
-use Rattle.lq_cli.specs.declared.verb.Verb.TheVariants.{Validate, Status, Update, UpdateSql, UpdateCount, UpdateToTag, UpdateTestingRollback, ChangelogSync, Rollback, RollbackCount, RollbackToDate, RollbackSql, Tag, ReleaseLocks, History, GenerateChangelog, Drill, Soak, ClearChecksums, UndoUnrecorded}
+use Rattle.lq_cli.specs.declared.verb.Verb.TheVariants.{Validate, Status, Update, UpdateSql, UpdateCount, UpdateToTag, UpdateTestingRollback, ChangelogSync, Rollback, RollbackCount, RollbackToDate, RollbackSql, Tag, ReleaseLocks, History, GenerateChangelog, Drill, Soak, ClearChecksums, UndoUnrecorded, Snapshot}
 
 -- the names of the options
 abbrev pub url : List ℕ
@@ -69,6 +69,7 @@ form_of Tag = takes (url ∷ tag ∷ []) [] false
 form_of ClearChecksums = takes (url ∷ []) [] false
 form_of ReleaseLocks = takes (url ∷ []) [] false
 form_of UndoUnrecorded = takes (url ∷ changelog_file ∷ []) [] true
+form_of Snapshot = takes (url ∷ []) [] false
 form_of History = takes (url ∷ []) [] false
 form_of GenerateChangelog = takes (url ∷ author ∷ []) [] false
 form_of Drill = takes (url ∷ runs ∷ []) [] false
@@ -85,7 +86,8 @@ verbs =
     ∷ (codes "rollback-to-date", RollbackToDate) ∷ (codes "rollback-sql", RollbackSql)
     ∷ (codes "clear-checksums", ClearChecksums)
     ∷ (codes "tag", Tag) ∷ (codes "release-locks", ReleaseLocks)
-    ∷ (codes "undo-unrecorded", UndoUnrecorded) ∷ (codes "history", History)
+    ∷ (codes "undo-unrecorded", UndoUnrecorded) ∷ (codes "snapshot", Snapshot)
+    ∷ (codes "history", History)
     ∷ (codes "generate-changelog", GenerateChangelog)
     ∷ (codes "drill", Drill) ∷ (codes "soak", Soak) ∷ []
 

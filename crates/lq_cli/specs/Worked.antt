@@ -75,6 +75,7 @@ RequiredSuffice = list_all (λ words. is_some (line_of words)) (
     ∷ (codes "clear-checksums" ∷ codes "--url=mysql:f" ∷ [])
     ∷ with_changelog (codes "undo-unrecorded") []
     ∷ (codes "release-locks" ∷ codes "--url=mysql:f" ∷ [])
+    ∷ (codes "snapshot" ∷ codes "--url=mysql:f" ∷ [])
     ∷ (codes "history" ∷ codes "--url=mysql:f" ∷ [])
     ∷ (codes "generate-changelog" ∷ codes "--url=mysql:f" ∷ codes "--author=a" ∷ [])
     ∷ (codes "drill" ∷ codes "--url=mysql:f" ∷ codes "--runs=r" ∷ [])
@@ -134,6 +135,8 @@ CommandsAreRefused = AreNone (
     ∷ with_changelog (codes "clear-checksums") []
     ∷ (codes "undo-unrecorded" ∷ codes "--url=mysql:f" ∷ [])
     ∷ with_changelog (codes "undo-unrecorded") (codes "--context-filter=a" ∷ [])
+    ∷ with_changelog (codes "snapshot") []
+    ∷ (codes "snapshot" ∷ codes "--url=mysql:f" ∷ codes "-Dx=1" ∷ [])
     ∷ with_changelog (codes "update-count") []
     ∷ with_changelog (codes "update-to-tag") []
     ∷ with_changelog (codes "update-to-tag") (codes "--count=1" ∷ [])

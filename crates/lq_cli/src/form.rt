@@ -42,6 +42,7 @@ impl Form {
             Verb::Tag => Form::new(&["url", "tag"], &[], false),
             Verb::ClearChecksums => Form::new(&["url"], &[], false),
             Verb::ReleaseLocks | Verb::History => Form::new(&["url"], &[], false),
+            Verb::Snapshot => Form::new(&["url"], &[], false),
             Verb::GenerateChangelog => Form::new(&["url", "author"], &[], false),
             Verb::Drill => Form::new(&["url", "runs"], &[], false),
             Verb::Soak => Form::new(&["url", "number", "sets"], &[], false),

@@ -36,6 +36,7 @@ pub fn job_of(alloc: Global, verb: Verb, given: &Chosen) -> Result<Job, WordsFau
         Verb::ClearChecksums => Ok(Job::ClearSums),
         Verb::ReleaseLocks => Ok(Job::Run(Command::Release)),
         Verb::UndoUnrecorded => Ok(Job::UndoUnrecorded),
+        Verb::Snapshot => Ok(Job::Snapshot),
         Verb::History => Ok(Job::History),
         Verb::GenerateChangelog => generating(alloc, given),
         Verb::Drill => drilling(alloc, given),

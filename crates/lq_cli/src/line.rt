@@ -22,6 +22,8 @@ pub enum Job {
     ClearSums,
     /// To take back the part of a changeset that a stop left without a row.
     UndoUnrecorded,
+    /// To write the database as a state into its journal, where a transaction stands behind the last.
+    Snapshot,
     /// To print the rows of the changesets that ran, in the order in which they did.
     History,
     /// To print a changelog by this author that makes the present objects.
@@ -44,6 +46,7 @@ impl Drop for Job {
             Job::RollbackSql(it) => drop(it),
             Job::ClearSums => (),
             Job::UndoUnrecorded => (),
+            Job::Snapshot => (),
             Job::History => (),
             Job::Generate(it) => drop(it),
             Job::Drill(it) => drop(it),

@@ -62,13 +62,12 @@ pub fn drop_default(
 fn kind_in(columns: &[Column], name: &Name) -> Kind
     ensures { result ≡ kind_in name.now columns.now }
 {
-    let [first, rest @ ..] = columns else {
-        return Kind::Text;
-    };
-    if *name == first.name {
-        return first.kind;
+    for column in columns {
+        if *name == column.name {
+            return column.kind;
+        }
     }
-    kind_in(rest, name)
+    Kind::Text
 }
 
 /// The kind of the table's column, where there is one.
@@ -258,13 +257,12 @@ fn are_wide(parts: &Parts, table: &Name, column: &Name, kind: Kind) -> bool
 fn kind_of(columns: &[Column], name: &Name) -> Option<Kind>
     ensures { result ≡ kind_of name.now columns.now }
 {
-    let [first, rest @ ..] = columns else {
-        return None;
-    };
-    if *name == first.name {
-        return Some(first.kind);
+    for column in columns {
+        if *name == column.name {
+            return Some(column.kind);
+        }
     }
-    kind_of(rest, name)
+    None
 }
 
 fn is_of_kind(parts: &Parts, table: &Name, column: &Name, kind: Kind) -> bool

@@ -35,14 +35,15 @@ pub fn push_columns_without(
 ) -> Result<(), NoMemory>
     ensures { OnOk result (to.new ≡ to.old ++ columns_without name.now columns.now) }
 {
-    let [column, columns @ ..] = columns else {
-        return Ok(());
-    };
-    if *name == column.name {
-        return push_all(alloc, to, columns);
+    let mut left = columns;
+    while let Some((column, after)) = left.split_first() {
+        if *name == column.name {
+            return push_all(alloc, to, after);
+        }
+        to.push(column.duplicate(alloc)?)?;
+        left = after;
     }
-    to.push(column.duplicate(alloc)?)?;
-    push_columns_without(alloc, to, columns, name)
+    Ok(())
 }
 
 fn push_without(
@@ -54,17 +55,18 @@ fn push_without(
 ) -> Result<(), NoMemory>
     ensures { OnOk result (to.new ≡ to.old ++ row_without name.now columns.now row.now) }
 {
-    let [column, columns @ ..] = columns else {
-        return push_all(alloc, to, row);
-    };
-    let [value, row @ ..] = row else {
-        return Ok(());
-    };
-    if *name == column.name {
-        return push_all(alloc, to, row);
+    let mut left = row;
+    for column in columns {
+        let Some((value, after)) = left.split_first() else {
+            return Ok(());
+        };
+        if *name == column.name {
+            return push_all(alloc, to, after);
+        }
+        to.push(value.duplicate(alloc)?)?;
+        left = after;
     }
-    to.push(value.duplicate(alloc)?)?;
-    push_without(alloc, to, columns, row, name)
+    push_all(alloc, to, left)
 }
 
 /// The row without its value in the column.

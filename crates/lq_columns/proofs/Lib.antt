@@ -1,1 +1,2 @@
 mod OnOk
+pub mod Right

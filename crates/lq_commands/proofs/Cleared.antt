@@ -12,8 +12,7 @@ use Rattle.lq_tell.specs.declared.status.Status.{Status}
 use Rattle.lq_track.specs.Database.{Database}
 use Rattle.lq_turns.specs.Script.{clear_calls, clearing}
 use Rattle.lq_commands.proofs.Endings.{leaves_nothing}
-use Rattle.lq_commands.specs.Outputs.{TellsText}
-use Rattle.lq_commands.specs.Tells.{IfFinished}
+use Rattle.lq_commands.specs.Outputs.{EndsText}
 use Rattle.lq_commands.specs.Works.{OnIts}
 
 some_rows : (n : ℕ) → (suc n == 0) ≡ false
@@ -29,7 +28,7 @@ leaves_none d database x has none = subst (λ calls. Leaves d calls database x x
 
 -- what is told of the rows is told of the database that has them
 pub cleared_told : (d : Dialect) (x : State) (rows : List Tracked) (r : Result Done Status) → OnIts d x (λ (database : Database). database.rows ≡ rows)
-    → IfOk r (λ (done : Done). IfFinished done (TellsText (cleared_text (length rows)) done))
-    → IfOk r (λ (done : Done). OnIts d x (λ (database : Database). IfFinished done (TellsText (cleared_text (length database.rows)) done)))
-cleared_told d x rows (Ok done) same tells = λ database has. subst (λ (rs : List Tracked). IfFinished done (TellsText (cleared_text (length rs)) done)) (sym (same database has)) tells
+    → IfOk r (λ (done : Done). EndsText (cleared_text (length rows)) done)
+    → IfOk r (λ (done : Done). OnIts d x (λ (database : Database). EndsText (cleared_text (length database.rows)) done))
+cleared_told d x rows (Ok done) same tells = λ database has. subst (λ (rs : List Tracked). EndsText (cleared_text (length rs)) done) (sym (same database has)) tells
 cleared_told d x rows (Err s) same tells = tt

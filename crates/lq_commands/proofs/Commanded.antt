@@ -36,7 +36,7 @@ use Rattle.lq_commands.specs.Outputs.{TellsText}
 use Rattle.lq_commands.specs.Refusals.{Answers, IsFault, Passes, ends, fault_status, if_some, irreversible, no_way_back, refusal, unreachable_by}
 use Rattle.lq_commands.specs.Scripts.{script, sets_in}
 use Rattle.lq_commands.specs.Tells.{IsQuiet}
-use Rattle.lq_commands.specs.Works.{CrashesIn, IsKept, OnIts, SaysFull, Works, is_finished}
+use Rattle.lq_commands.specs.Works.{CrashesIn, IsKept, OnIts, RestsFull, Works, is_finished}
 use Rattle.lq_commands.specs.declared.given.Given.{Given}
 
 not_true : false ≡ true → ⊥
@@ -154,8 +154,8 @@ invalid_no_disk A (fault ∷ found) s r (inr lack) disk is = memory_disk (sym la
 
 module _ (d : Dialect) (calls : List Call) (database : Database) (x y : State) where
   pub unfinished_works : (why : StoreFault) (r : Result Done Status) → IfOk r (λ (done : Done). is_finished done.status ≡ false) → IfOk r (λ (done : Done). done.status ≡ fault_status why) → LeftBehind d calls database x y
-      → SaysFull d calls database x (fault_status why) → Works d calls database x r y
-  unfinished_works why (Ok done) unfinished same behind full = (λ finished. absurd (not_true (sym unfinished ∙ finished)), λ ended. behind, subst (SaysFull d calls database x) (sym same) full)
+      → RestsFull d calls database x (fault_status why) y → Works d calls database x r y
+  unfinished_works why (Ok done) unfinished same behind full = (λ finished. absurd (not_true (sym unfinished ∙ finished)), λ ended. behind, subst (λ (t : Status). RestsFull d calls database x t y) (sym same) full)
   unfinished_works why (Err s) unfinished same behind full = behind
 
 pub fault_rose : (fault : StoreFault) (before now : ℕ) → CountsDisk {T = Unit {0}} (Err fault) before now → fault ≡ Disk → Rose before now

@@ -11,7 +11,7 @@ use Rattle.lq_run.proofs.Rooms.{no_entries}
 use Rattle.lq_run.proofs.Since.{leave_none}
 use Rattle.lq_run.specs.Commands.{HasDatabase, Leaves, LeavesAs}
 use Rattle.lq_run.specs.Crashes.{LeftBehind, LeftInCommand}
-use Rattle.lq_run.specs.Left.{IsFullIn, LeavesOnce, LeftAs}
+use Rattle.lq_run.specs.Left.{LeavesOnce, LeftAs, RestsIn}
 use Rattle.lq_run.specs.declared.runner.End.{End}
 use Rattle.lq_run.specs.declared.runner.End.TheVariants as end
 use Rattle.lq_store.specs.Crashes.{Crashes}
@@ -23,7 +23,7 @@ use Rattle.lq_tell.specs.declared.status.Status.TheVariants as status
 use Rattle.lq_track.specs.Database.{Database}
 use Rattle.lq_turns.specs.declared.call.Call.{Call}
 use Rattle.lq_commands.specs.Refusals.{fault_status}
-use Rattle.lq_commands.specs.Works.{CrashesIn, FullAs, KeptLock, SaysFull, TellsFull, Works, is_finished, is_whole}
+use Rattle.lq_commands.specs.Works.{CrashesIn, FullAs, KeptLock, RestsFull, SaysFull, TellsFull, Works, is_finished, is_whole}
 
 not_true : false ≡ true → ⊥
 not_true h = Prim.cc
@@ -67,30 +67,34 @@ module _ (d : Dialect) (calls : List Call) (database : Database) (x y : State) w
 
   -- how full a full journal was
 
-  finished_full : (s : Status) → is_finished s ≡ true → SaysFull d calls database x s
+  -- whoever rests so tells how full it was
+  pub says_full : (s : Status) → RestsFull d calls database x s y → SaysFull d calls database x s
+  says_full s rests used next is = (rests used next is).full
+
+  finished_full : (s : Status) → is_finished s ≡ true → RestsFull d calls database x s y
   finished_full s finished used next is = absurd (not_true (sym (ap is_finished is) ∙ finished))
 
-  same_full : (a b : ℕ) → IsFullIn d calls database x a b → SaysFull d calls database x (status.Full a b)
-  same_full a b full used next is = subst (λ (n : ℕ). IsFullIn d calls database x used n) (next_same is) (subst (λ (n : ℕ). IsFullIn d calls database x n b) (used_same is) full)
+  same_full : (a b : ℕ) → RestsIn d calls database x y a b → RestsFull d calls database x (status.Full a b) y
+  same_full a b rests used next is = subst (λ (n : ℕ). RestsIn d calls database x y used n) (next_same is) (subst (λ (n : ℕ). RestsIn d calls database x y n b) (used_same is) rests)
 
-  pub full_as : (e : End) → LeftAs d calls database x e y → FullAs d calls database x e
+  pub full_as : (e : End) → LeftAs d calls database x e y → FullAs d calls database x e y
   full_as end.Done left = tt
   full_as (end.Refused refusal) left = tt
   full_as (end.Locked lock) left = tt
   full_as end.Disk left = tt
-  full_as (end.Full used next) left = left.1
+  full_as (end.Full used next) left = left
   full_as end.OutOfMemory left = tt
 
-  full_by : (e : End) (s : Status) → TellsFull e s → FullAs d calls database x e → SaysFull d calls database x s
+  full_by : (e : End) (s : Status) → TellsFull e s → FullAs d calls database x e y → RestsFull d calls database x s y
   full_by end.Done s tells full = finished_full s tells
   full_by (end.Refused refusal) s tells full = finished_full s tells
   full_by (end.Locked lock) s tells full = absurd tells
   full_by end.Disk s tells full = absurd tells
-  full_by (end.Full used next) s tells full = subst (SaysFull d calls database x) (sym tells) (same_full used next full)
+  full_by (end.Full used next) s tells full = subst (λ (t : Status). RestsFull d calls database x t y) (sym tells) (same_full used next full)
   full_by end.OutOfMemory s tells full = absurd tells
 
   -- of a call that stands alone
-  pub full_once : (why : StoreFault) → LeavesOnce d calls database x (Err why) y → SaysFull d calls database x (fault_status why)
+  pub full_once : (why : StoreFault) → LeavesOnce d calls database x (Err why) y → RestsFull d calls database x (fault_status why) y
   full_once fault.Disk leaves used next is = absurd (disk_full is)
   full_once (fault.Full a b) leaves used next is = same_full a b leaves.1 used next is
   full_once fault.OutOfMemory leaves used next is = absurd (memory_full is)
@@ -99,7 +103,7 @@ module _ (d : Dialect) (calls : List Call) (database : Database) (x y : State) w
   full_once (fault.Refused reason) leaves used next is = absurd leaves
 
   pub works_by : (e : End) (r : Result Done Status) → IfOk r (λ (done : Done). is_finished done.status ≡ true → is_whole e ≡ true) → IfOk r (λ (done : Done). TellsFull e done.status) → LeavesAs d calls database x e y
-      → LeftBehind d calls database x y → FullAs d calls database x e → Works d calls database x r y
+      → LeftBehind d calls database x y → FullAs d calls database x e y → Works d calls database x r y
   works_by e (Ok done) whole tells leaves left full = (λ finished. whole_leaves e (whole finished) leaves, λ stopped. left, full_by e done.status tells full)
   works_by e (Err s) whole tells leaves left full = left
 
@@ -113,7 +117,7 @@ module _ (d : Dialect) (calls : List Call) (database : Database) (x y : State) w
 
   -- what is done has the same status
   pub works_same : (before after : Done) → after.status ≡ before.status → Works d calls database x (Ok before) y → Works d calls database x (Ok after) y
-  works_same before after same works = (λ finished. works.0 (ap is_finished (sym same) ∙ finished), λ stopped. works.1 (ap is_finished (sym same) ∙ stopped), subst (SaysFull d calls database x) (sym same) works.2)
+  works_same before after same works = (λ finished. works.0 (ap is_finished (sym same) ∙ finished), λ stopped. works.1 (ap is_finished (sym same) ∙ stopped), subst (λ (t : Status). RestsFull d calls database x t y) (sym same) works.2)
 
 -- where there were no calls
 pub works_nothing : (d : Dialect) (database : Database) (x : State) (r : Result Done Status) → IfOk r (λ (done : Done). done.status ≡ status.Done) → HasDatabase d x database → Works d [] database x r x

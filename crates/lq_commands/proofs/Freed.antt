@@ -28,7 +28,7 @@ use Rattle.lq_commands.proofs.Endings.{leaves_nothing}
 use Rattle.lq_commands.specs.Outputs.{TellsJob}
 use Rattle.lq_commands.specs.Refusals.{invalid, no_way_back, own_halt, print_rollback, print_update, refusal}
 use Rattle.lq_commands.specs.Scripts.{rolled_to}
-use Rattle.lq_commands.specs.Tells.{IfFinished, TellsRollback}
+use Rattle.lq_commands.specs.Tells.{EndsRollback}
 use Rattle.lq_commands.specs.Works.{IsReady}
 use Rattle.lq_commands.specs.declared.given.Given.{Given}
 
@@ -88,7 +88,7 @@ module _ (given : Given) (database : Database) where
   rest_rolled None = refl
 
   rest_tells : (target : Target) (r : Result Done Status) → TellsJob (RollbackSql target) given (at_rest database (contents_of database)) r → TellsJob (RollbackSql target) given database r
-  rest_tells target (Ok done) tells = subst (λ (account : Account). IfFinished done (TellsRollback true account done)) (rest_rolled (rows_kept target database.rows)) tells
+  rest_tells target (Ok done) tells = subst (λ (account : Account). EndsRollback true account done) (rest_rolled (rows_kept target database.rows)) tells
   rest_tells target (Err s) tells = tt
 
   pub rollback_tells : (target : Target) (r : Result Done Status) → TellsJob (RollbackSql target) given (freed d database) r → TellsJob (RollbackSql target) given database r

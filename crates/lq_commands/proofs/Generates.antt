@@ -1,18 +1,15 @@
 -- A changelog is generated, or is not: the store is as it was.
-use Rattle.std.specs.Option.{option_map}
 use Rattle.std.specs.Prelude.{Err, IfOk, List, Ok, Result, [], ℕ, ◌≡◌}
-use Rattle.lq_base.specs.declared.dialect.Dialect.{Dialect}
 use Rattle.lq_cli.specs.declared.line.Job.TheVariants.{Generate}
 use Rattle.lq_store.specs.Crashes.{Crashes}
 use Rattle.lq_store.specs.State.{State}
 use Rattle.lq_tell.specs.declared.done.Done.{Done}
 use Rattle.lq_tell.specs.declared.status.Status.{Status}
 use Rattle.lq_tell.specs.declared.status.Status.TheVariants as status
-use Rattle.lq_track.specs.Database.{Database}
 use Rattle.lq_commands.proofs.Endings.{untouched_crashes, works_nothing}
 use Rattle.lq_commands.specs.Generates.{generate_text}
-use Rattle.lq_commands.specs.Outputs.{TellsJob, TellsText}
-use Rattle.lq_commands.specs.Tells.{IfFinished}
+use Rattle.lq_commands.specs.Outputs.{TellsJob, EndsText, TellsText}
+use Rattle.lq_commands.proofs.Warned.{none_up_to}
 use Rattle.lq_commands.specs.Works.{CrashesIn, OnIts, Works}
 use Rattle.lq_commands.specs.declared.given.Given.{Given}
 
@@ -21,8 +18,8 @@ is_done : (text : List ℕ) (r : Result Done Status) → IfOk r (TellsText text)
 is_done text (Ok done) tells = tells.status
 is_done text (Err s) tells = tt
 
-told_end : (text : List ℕ) (r : Result Done Status) → IfOk r (TellsText text) → IfOk r (λ (done : Done). IfFinished done (TellsText text done))
-told_end text (Ok done) tells = λ finished. tells
+told_end : (text : List ℕ) (r : Result Done Status) → IfOk r (TellsText text) → IfOk r (λ (done : Done). EndsText text done)
+told_end text (Ok done) tells = ((λ finished. tells), none_up_to [] done tells.warned)
 told_end text (Err s) tells = tt
 
 module _ (author : List ℕ) (given : Given) (x : State) (r : Result Done Status)

@@ -89,7 +89,7 @@ module _ (d : Dialect) (stamp : Stamp) (r : Standing (Unit {0}) (Option Refusal)
 
   pub turn_tells : (x : State) (e : End) (database : Database) → HasDatabase d x database → calls_fit d (hand_script database) (session_on database) ≡ true → TellsAll d no_changes stamp r x e (λ f st told. one_way told)
       → TellsAs (one_way (refusal_on database)) e
-  turn_tells x e database has fits tells = tells database (refusal_on database) has (known_hand database) (fits_there database fits)
+  turn_tells x e database has fits tells = (tells database (refusal_on database) has (known_hand database) (fits_there database fits)).0
 
 -- the same for a dialect and a stamp that are the same
 module _ {Key Told : Type 0} (m : Meaning Key) (r : Standing Key Told) (e d : Dialect) (dialect_is : e ≡ d) (stamped stamp : Stamp) (stamp_is : stamped ≡ stamp) where

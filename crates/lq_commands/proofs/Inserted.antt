@@ -43,11 +43,11 @@ use Rattle.lq_turns.specs.declared.stop.Stop.TheVariants.{Halted, Refused}
 use Rattle.lq_commands.proofs.Endings.{works_nothing}
 use Rattle.lq_commands.proofs.LoadedTexts.{view_has}
 use Rattle.lq_commands.proofs.Planned.{no_sync, sync_is, sync_may}
-use Rattle.lq_commands.proofs.Warned.{quiet_lines}
-use Rattle.lq_commands.specs.Inserts.{EndsWithRows, TellsSync, goes_in, refusal_in, sync_out, synced_in}
+use Rattle.lq_commands.proofs.Warned.{quiet_lines, quiet_up_to}
+use Rattle.lq_commands.specs.Inserts.{EndsWithRows, EndsSync, TellsSync, goes_in, refusal_in, sync_out, synced_in}
 use Rattle.lq_commands.specs.Scripts.{sets_in, sync_script}
 use Rattle.lq_commands.specs.Stopping.{NamesStop, one_way, refused_at}
-use Rattle.lq_commands.specs.Tells.{IfFinished, IsQuiet, status_by, stop_by}
+use Rattle.lq_commands.specs.Tells.{IsQuiet, status_by, stop_by}
 use Rattle.lq_commands.specs.Works.{OnIts, Works, is_finished, is_whole}
 use Rattle.lq_commands.specs.declared.given.Given.{Given}
 
@@ -131,9 +131,9 @@ out_is (Some (Refused of refusal)) rows halted = refl
 
 -- the rows and those before, the changeset that did not go in, and what was marked
 module _ (rows before : List Tracked) (of : Option Identity) (happened : List Happened) (e : End) (of_is : of ≡ refused_at (insert_stop rows before)) (marks : happened ≡ marked_by None rows) (ends : EndsWithRows rows before e) where
-  pub names_stop : NamesStop e of
+  pub names_stop : NamesStop e None of
   names_stop = by e ends where
-    by : (f : End) → EndsWithRows rows before f → NamesStop f of
+    by : (f : End) → EndsWithRows rows before f → NamesStop f None of
     by end.Done told = tt
     by (end.Refused refusal) told = ap (λ (o : Option Identity). is_some o) of_is ∙ named_stop (insert_stop rows before) refusal told
     by (end.Locked lock) told = tt
@@ -173,19 +173,25 @@ module _ (given : Given) (before rows : List Tracked) (are : rows ≡ rows_to_sy
       subst (λ calls. Works d calls database x r x) (sym (no_sync given database (sym (rows_are database same) ∙ none))) (works_nothing d database x r is has)
 
   pub idle_sync_tells : (x : State) (r : Result Done Status) → OnIts d x (λ (database : Database). database.rows ≡ before) → rows ≡ [] → IfOk r (λ (done : Done). done.status ≡ status.Done) → IfOk r (λ (done : Done). done.out ≡ Some (sync_text [])) → IfOk r IsQuiet
-      → IfOk r (λ (done : Done). OnIts d x (λ (database : Database). IfFinished done (TellsSync (synced_in given database) done)))
-  idle_sync_tells x (Ok done) same none is out quiet = λ database has finished.
-      subst (λ (rs : List Tracked). TellsSync (synced_by rs (contents_of database)) done) (sym none ∙ rows_are database (same database has)) (record { status = is; out = out; warned = quiet_lines done quiet })
+      → IfOk r (λ (done : Done). OnIts d x (λ (database : Database). EndsSync (synced_in given database) done))
+  idle_sync_tells x (Ok done) same none is out quiet = λ database has. (
+    (λ finished.
+        subst (λ (rs : List Tracked). TellsSync (synced_by rs (contents_of database)) done) (sym none ∙ rows_are database (same database has)) (record { status = is; out = out; warned = quiet_lines done quiet })),
+    quiet_up_to [] done quiet,
+  )
   idle_sync_tells x (Err s) same none is out quiet = tt
 
   -- what is told of them
   pub sync_tells : (x : State) (r : Result Done Status) (of : Option Identity) (happened : List Happened) (e : End) → OnIts d x (λ (database : Database). database.rows ≡ before)
       → of ≡ refused_at (insert_stop rows before) → happened ≡ marked_by None rows → EndsWithRows rows before e
       → IfOk r (λ (done : Done). is_finished done.status ≡ true → is_whole e ≡ true) → IfOk r (λ (done : Done). is_finished done.status ≡ true → done.status ≡ status_by (stop_by None of e)) → IfOk r (λ (done : Done). done.out ≡ sync_out done.status happened) → IfOk r IsQuiet
-      → IfOk r (λ (done : Done). OnIts d x (λ (database : Database). IfFinished done (TellsSync (synced_in given database) done)))
-  sync_tells x (Ok done) of happened e same of_is marks ends whole is out quiet = λ database has finished.
-      subst (λ (rs : List Tracked). TellsSync (synced_by rs (contents_of database)) done) (rows_are database (same database has))
-      (sync_told rows before of happened e of_is marks ends (contents_of database) done (same database has) (whole finished) (is finished) out quiet)
+      → IfOk r (λ (done : Done). OnIts d x (λ (database : Database). EndsSync (synced_in given database) done))
+  sync_tells x (Ok done) of happened e same of_is marks ends whole is out quiet = λ database has. (
+    (λ finished.
+        subst (λ (rs : List Tracked). TellsSync (synced_by rs (contents_of database)) done) (rows_are database (same database has))
+        (sync_told rows before of happened e of_is marks ends (contents_of database) done (same database has) (whole finished) (is finished) out quiet)),
+    quiet_up_to [] done quiet,
+  )
   sync_tells x (Err s) of happened e same of_is marks ends whole is out quiet = tt
 
   -- the turn that inserts them

@@ -1,12 +1,10 @@
 -- Jobs, from the commands that they are.
 use Rattle.std.proofs.Common.{ap, refl, subst, sym, ◌∙◌}
-use Rattle.std.specs.Prelude.{Err, IfErr, IfOk, List, None, Ok, Result, Some, [], false, length, true, ℕ, ◌≡◌}
+use Rattle.std.specs.Prelude.{Err, IfOk, List, None, Ok, Result, Some, [], false, length, true, ℕ, ◌≡◌}
 use Rattle.lq_base.specs.declared.dialect.Dialect.{Dialect}
 use Rattle.lq_base.specs.declared.tracking.Tracked.{Tracked}
 use Rattle.lq_cli.specs.declared.line.Job.{Job}
 use Rattle.lq_cli.specs.declared.line.Job.TheVariants.{ClearSums, History, UpdateCount, UpdateTo}
-use Rattle.lq_kinds.specs.declared.change_set.Changelog.{Changelog}
-use Rattle.lq_portion.specs.Portion.{counted}
 use Rattle.lq_report.specs.Output.{cleared_text, history_text}
 use Rattle.lq_run.specs.Commands.{HasDatabase}
 use Rattle.lq_store.specs.Crashes.{Crashes}
@@ -19,14 +17,14 @@ use Rattle.lq_turns.specs.Script.{clear_calls}
 use Rattle.lq_base.specs.declared.command.Command.TheVariants as command
 use Rattle.lq_commands.proofs.Commanded.{kept_none, lacking_by}
 use Rattle.lq_commands.proofs.Endings.{untouched_crashes, untouched_works}
-use Rattle.lq_commands.proofs.Telling.{failed_tells, on_its_tells}
+use Rattle.lq_commands.proofs.Telling.{failed_tells, on_its_tells, text_ends}
 use Rattle.lq_commands.proofs.Warned.{quiet_lines}
 use Rattle.lq_commands.specs.Jobs.{DidJob, job_refusal, job_script}
-use Rattle.lq_commands.specs.Outputs.{TellsJob, TellsText}
+use Rattle.lq_commands.specs.Outputs.{TellsJob, EndsText, TellsText}
 use Rattle.lq_commands.specs.Parts.{counted_in}
 use Rattle.lq_commands.specs.Refusals.{Answers, held, refusal}
 use Rattle.lq_commands.specs.Scripts.{update_script, updated_in}
-use Rattle.lq_commands.specs.Tells.{IfFinished, IsQuiet, TellsUpdate}
+use Rattle.lq_commands.specs.Tells.{EndsUpdate, IsQuiet}
 use Rattle.lq_commands.specs.Works.{CrashesIn, IsKept, OnIts, Works}
 use Rattle.lq_commands.specs.declared.given.Given.{Given}
 
@@ -54,7 +52,7 @@ module _ {S : Type 0} (state : S → State) (crashes : S → Crashes) where
       (refused : OnIts given.options.dialect (state before) (λ database. IsKept (refusal command.Update given database) before after))
       (works : OnIts given.options.dialect (state before) (λ database. Works given.options.dialect (update_script given database) database (state before) done (state after)))
       (moments : OnIts given.options.dialect (state before) (λ database. CrashesIn given.options.dialect (update_script given database) database (state before) (crashes before) (crashes after)))
-      (tells : IfOk done (λ (ended : Done). OnIts given.options.dialect (state before) (λ database. IfFinished ended (TellsUpdate false (updated_in false given database) ended)))) where
+      (tells : IfOk done (λ (ended : Done). OnIts given.options.dialect (state before) (λ database. EndsUpdate false (updated_in false given database) ended))) where
     pub updated_did : (tag : List ℕ) → DidJob state crashes (UpdateTo tag) given before done after
     updated_did tag = record {
       answers = answers;
@@ -62,7 +60,7 @@ module _ {S : Type 0} (state : S → State) (crashes : S → Crashes) where
       reads = λ only. absurd (false_true only);
       works = works;
       any_moment = moments;
-      tells = on_its_tells given.options.dialect (state before) done (λ ended database. IfFinished ended (TellsUpdate false (updated_in false given database) ended)) tells;
+      tells = on_its_tells given.options.dialect (state before) done (λ ended database. EndsUpdate false (updated_in false given database) ended) tells;
     }
 
     -- of the first changesets of another
@@ -86,14 +84,14 @@ module _ {S : Type 0} (state : S → State) (crashes : S → Crashes) where
       → OnIts given.options.dialect (state before) (λ database. IsKept (held database) before after)
       → OnIts given.options.dialect (state before) (λ database. Works given.options.dialect (clear_calls database) database (state before) done (state after))
       → OnIts given.options.dialect (state before) (λ database. CrashesIn given.options.dialect (clear_calls database) database (state before) (crashes before) (crashes after))
-      → IfOk done (λ (ended : Done). OnIts given.options.dialect (state before) (λ database. IfFinished ended (TellsText (cleared_text (length database.rows)) ended))) → DidJob state crashes ClearSums given before done after
+      → IfOk done (λ (ended : Done). OnIts given.options.dialect (state before) (λ database. EndsText (cleared_text (length database.rows)) ended)) → DidJob state crashes ClearSums given before done after
   cleared_did given before done after answers refused works moments tells = record {
     answers = answers;
     refused = refused;
     reads = λ only. absurd (false_true only);
     works = works;
     any_moment = moments;
-    tells = on_its_tells given.options.dialect (state before) done (λ ended database. IfFinished ended (TellsText (cleared_text (length database.rows)) ended)) tells;
+    tells = on_its_tells given.options.dialect (state before) done (λ ended database. EndsText (cleared_text (length database.rows)) ended) tells;
   }
 
   -- the list of the rows
@@ -105,12 +103,8 @@ module _ {S : Type 0} (state : S → State) (crashes : S → Crashes) where
     reads = λ only. refl;
     works = works;
     any_moment = λ database has. untouched_crashes given.options.dialect [] database (state before) (crashes before);
-    tells = λ database has. told_end (λ (ended : Done). TellsText (history_text database.rows) ended) done (on_its_tells given.options.dialect (state before) done (λ ended database. TellsText (history_text database.rows) ended) tells database has);
+    tells = λ database has. text_ends (history_text database.rows) done (on_its_tells given.options.dialect (state before) done (λ ended database. TellsText (history_text database.rows) ended) tells database has);
   }
-    where
-      told_end : (holds : Done → Type 0) (done : Result Done Status) → IfOk done holds → IfOk done (λ (ended : Done). IfFinished ended (holds ended))
-      told_end holds (Ok ended) tells = λ finished. tells
-      told_end holds (Err s) tells = tt
 
 -- the rows of the database are listed
 pub rows_told : (d : Dialect) (x : State) (rows : List Tracked) (r : Result Done Status) → OnIts d x (λ (database : Database). database.rows ≡ rows) → IfOk r (λ (done : Done). done.status ≡ status.Done)

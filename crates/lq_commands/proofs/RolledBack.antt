@@ -1,7 +1,7 @@
 -- A rollback, from its checks to what it tells.
 use Rattle.std.proofs.Common.{ap, arith, inl, inr, refl, subst, sym, ◌∙◌}
 use Rattle.std.proofs.lemmas.Bool.Decides.{nat_tests}
-use Rattle.std.proofs.lemmas.List.{reverse-reverse}
+use Rattle.std.proofs.lemmas.List.{append-nil, reverse-reverse}
 use Rattle.std.specs.List.{flat_map, list_all}
 use Rattle.std.specs.Option.{option_or}
 use Rattle.std.specs.Prelude.{Bool, Err, IfErr, IfOk, List, None, Ok, Option, Result, Some, [], false, is_some, length, option_and_then, option_map, reverse, true, ℕ, ◌==◌, ◌∷◌, ◌≡◌, ◌≢◌, ◌≤◌}
@@ -14,7 +14,9 @@ use Rattle.lq_base.specs.declared.run.Printed.{Printed}
 use Rattle.lq_base.specs.declared.tracking.Tracked.{Tracked}
 use Rattle.lq_run.specs.Commands.{HasDatabase, LeavesAs}
 use Rattle.lq_run.specs.Crashes.{LeftBehind}
-use Rattle.lq_run.specs.Steps.{TellsAs}
+use Rattle.lq_hand.specs.Way.{IsUnderWay}
+use Rattle.lq_run.specs.UnderWay.{TellsTo}
+use Rattle.lq_seen.specs.Telling.{WarnsFirst}
 use Rattle.lq_run.specs.declared.runner.End.{End}
 use Rattle.lq_run.specs.declared.runner.End.TheVariants as end
 use Rattle.lq_back.specs.RowTurns.{LeadsBack, goes_back, row_way}
@@ -40,12 +42,12 @@ use Rattle.lq_commands.proofs.Checked.{answers_on, none_of}
 use Rattle.lq_commands.proofs.Endings.{works_by, works_nothing}
 use Rattle.lq_commands.proofs.Planned.{goes_to, rollback_is, rollback_may, taken_back}
 use Rattle.lq_commands.proofs.PlainRefusals.{IsPlain, refusal_plain}
-use Rattle.lq_commands.proofs.Updated.{all_told}
-use Rattle.lq_commands.proofs.Warned.{quiet_lines}
+use Rattle.lq_commands.proofs.Updated.{all_told, warns_so}
+use Rattle.lq_commands.proofs.Warned.{quiet_lines, quiet_up_to}
 use Rattle.lq_commands.specs.Kinds.{is_diskless}
 use Rattle.lq_commands.specs.Refusals.{Answers, Passes, if_not, irreversible, no_way_back, refusal, unreachable_by, unready}
 use Rattle.lq_commands.specs.Scripts.{nothing_told, rollback_script, rolled_back, rolled_to, sets_in, taking_back}
-use Rattle.lq_commands.specs.Tells.{HasTold, IfFinished, IsQuiet, TellsRollback, rollback_output, status_by, stop_by}
+use Rattle.lq_commands.specs.Tells.{HasTold, IsQuiet, EndsRollback, TellsRollback, rollback_output, status_by, stop_by}
 use Rattle.lq_commands.specs.Turns.{MayTurn, turns_script}
 use Rattle.lq_commands.specs.Works.{CrashesIn, FullAs, IsKept, OnIts, TellsFull, Works, is_finished, is_whole}
 use Rattle.lq_commands.specs.declared.given.Given.{Given}
@@ -141,7 +143,7 @@ module _ (d : Dialect) (stamp : Stamp) (source : RowTurns) (some : reverse sourc
 
   pub back_works : (database : Database) (x y : State) (e : End) (r : Result Done Status) → IfOk r (λ (done : Done). is_finished done.status ≡ true → is_whole e ≡ true) → IfOk r (λ (done : Done). TellsFull e done.status)
       → LeavesAs d (turns_script d any_meaning stamp (OfRows (reverse source.turns)) database) database x e y → LeftBehind d (turns_script d any_meaning stamp (OfRows (reverse source.turns)) database) database x y
-      → FullAs d (turns_script d any_meaning stamp (OfRows (reverse source.turns)) database) database x e → Works d (rollback_of d stamp (reverse source.turns) database) database x r y
+      → FullAs d (turns_script d any_meaning stamp (OfRows (reverse source.turns)) database) database x e y → Works d (rollback_of d stamp (reverse source.turns) database) database x r y
   back_works database x y e r whole tells leaves left full =
       subst (λ calls. Works d calls database x r y) (sym (rollback_is d stamp database (reverse source.turns) some))
       (works_by d (turns_script d any_meaning stamp (OfRows (reverse source.turns)) database) database x y e r whole tells leaves left full)
@@ -150,12 +152,20 @@ module _ (d : Dialect) (stamp : Stamp) (source : RowTurns) (some : reverse sourc
       → CrashesIn d (rollback_of d stamp (reverse source.turns) database) database x before now
   back_crashes database x before now crash = subst (λ calls. CrashesIn d calls database x before now) (sym (rollback_is d stamp database (reverse source.turns) some)) crash
 
-pub rows_told : (s : RowTurns) (d : Dialect) (stamp : Stamp) (told : Account) (e : End) → TellsAs (row_way s d stamp told) e → HasTold s.outcome told e
-rows_told s d stamp told end.Done tells = tells
-rows_told s d stamp told (end.Refused refusal) tells = tells
+-- wherever it is on its way, it has warned of a front
+row_warns : (s : RowTurns) (d : Dialect) (stamp : Stamp) (told : Account) → IsUnderWay (row_way s d stamp told) → WarnsFirst s.outcome told.settled
+row_warns s d stamp told (inl knows) = (_, knows.1.settles.warned)
+row_warns s d stamp told (inr (inl awaits)) = (_, awaits.2.settles.warned)
+row_warns s d stamp told (inr (inr (inl yields))) = ([], append-nil s.outcome.warned ∙ yields.3.then_told.tells.warned)
+row_warns s d stamp told (inr (inr (inr (inl tells)))) = ([], append-nil s.outcome.warned ∙ tells.1.tells.warned)
+row_warns s d stamp told (inr (inr (inr (inr warns)))) = warns
+
+pub rows_told : (s : RowTurns) (d : Dialect) (stamp : Stamp) (told : Account) (e : End) → TellsTo (row_way s d stamp told) e → HasTold s.outcome told e
+rows_told s d stamp told end.Done tells = tells.0
+rows_told s d stamp told (end.Refused refusal) tells = tells.0
 rows_told s d stamp told (end.Locked lock) tells = tt
 rows_told s d stamp told end.Disk tells = tt
-rows_told s d stamp told (end.Full used next) tells = tt
+rows_told s d stamp told (end.Full used next) tells = row_warns s d stamp told tells.1
 rows_told s d stamp told end.OutOfMemory tells = tt
 
 -- the output of a rollback that came to its end
@@ -165,16 +175,19 @@ rollback_said prints happened texts = Some (rollback_output prints happened text
 -- what is told at the end
 pub tells_rollback : (prints : Bool) (o : Outcome) (account : Account) (e : End) (done : Done) (happened : List Happened) (texts : List Printed) → happened ≡ o.happened → texts ≡ o.printed
     → (is_finished done.status ≡ true → is_whole e ≡ true) → (is_finished done.status ≡ true → done.status ≡ status_by (stop_by o.halted o.stopped_at e))
-    → (is_finished done.status ≡ true → done.out ≡ Some (rollback_output prints happened texts)) → warning_lines done.own done.warned ≡ flat_map warning_line o.warned → HasTold o account e
-    → IfFinished done (TellsRollback prints account done)
-tells_rollback prints o account e done happened texts are printed_are whole is out warned told = λ finished.
-    let all = all_told o account e (whole finished) told in record {
-      status = is finished ∙ ap status_by all.stop;
-      out = out finished
-          ∙ (ap (λ (hs : List Happened). rollback_said prints hs texts) (are ∙ all.happened)
-          ∙ ap (λ (ps : List Printed). rollback_said prints account.settled.happened ps) (printed_are ∙ all.printed));
-      warned = warned ∙ ap (flat_map warning_line) all.warned;
-    }
+    → (is_finished done.status ≡ true → done.out ≡ Some (rollback_output prints happened texts)) → warning_lines done.own done.warned ≡ flat_map warning_line o.warned → TellsFull e done.status → HasTold o account e
+    → EndsRollback prints account done
+tells_rollback prints o account e done happened texts are printed_are whole is out warned full told = (
+  (λ finished.
+      let all = all_told o account e (whole finished) told in record {
+        status = is finished ∙ ap status_by all.stop;
+        out = out finished
+            ∙ (ap (λ (hs : List Happened). rollback_said prints hs texts) (are ∙ all.happened)
+            ∙ ap (λ (ps : List Printed). rollback_said prints account.settled.happened ps) (printed_are ∙ all.printed));
+        warned = warned ∙ ap (flat_map warning_line) all.warned;
+      }),
+  warns_so o account e done full warned told,
+)
 
 -- rows that are taken back
 
@@ -231,9 +244,9 @@ module _ (given : Given) (database : Database) where
   pub taken_so : (P : List Call → Type 0) (rows : List Tracked) (turns : List Turn) → undo_turns d any_meaning (sets_in given) rows ≡ Some turns → P (rollback_of d given.stamp turns database) → P (taking_back given rows database)
   taken_so P rows turns is holds = subst P (sym (taken_back given rows turns database is)) holds
 
-  taken_tells : (prints : Bool) (done : Done) (rows : List Tracked) (turns : List Turn) → undo_turns d any_meaning (sets_in given) rows ≡ Some turns → IfFinished done (TellsRollback prints (of_turns prints d turns (contents_of database)) done)
-      → IfFinished done (TellsRollback prints (rolled_back prints given rows database) done)
-  taken_tells prints done rows turns is tells = λ finished. subst (λ (a : Account). TellsRollback prints a done) (sym (rolled_is prints rows turns is)) (tells finished)
+  taken_tells : (prints : Bool) (done : Done) (rows : List Tracked) (turns : List Turn) → undo_turns d any_meaning (sets_in given) rows ≡ Some turns → EndsRollback prints (of_turns prints d turns (contents_of database)) done
+      → EndsRollback prints (rolled_back prints given rows database) done
+  taken_tells prints done rows turns is tells = subst (λ (a : Account). EndsRollback prints a done) (sym (rolled_is prints rows turns is)) tells
 
   -- no rows
 
@@ -245,9 +258,11 @@ module _ (given : Given) (database : Database) where
   none_tell false done is out quiet = record { status = is; out = out; warned = quiet_lines done quiet }
 
   pub idle_tells : (prints : Bool) (r : Result Done Status) (rows : List Tracked) → rows ≡ [] → IfOk r (λ (done : Done). done.status ≡ status.Done) → IfOk r (λ (done : Done). done.out ≡ Some (rollback_output prints [] [])) → IfOk r IsQuiet
-      → IfOk r (λ (done : Done). IfFinished done (TellsRollback prints (rolled_back prints given (reverse rows) database) done))
-  idle_tells prints (Ok done) rows none is out quiet = λ finished.
-      subst (λ (rs : List Tracked). TellsRollback prints (rolled_back prints given (reverse rs) database) done) (sym none) (none_tell prints done is out quiet)
+      → IfOk r (λ (done : Done). EndsRollback prints (rolled_back prints given (reverse rows) database) done)
+  idle_tells prints (Ok done) rows none is out quiet = (
+    λ finished. subst (λ (rs : List Tracked). TellsRollback prints (rolled_back prints given (reverse rs) database) done) (sym none) (none_tell prints done is out quiet),
+    quiet_up_to (rolled_back prints given (reverse rows) database).settled.warned done quiet,
+  )
   idle_tells prints (Err s) rows none is out quiet = tt
 
   -- to the target
@@ -265,23 +280,23 @@ module _ (given : Given) (database : Database) where
     pub target_so : (P : List Call → Type 0) → P (taking_back given undone database) → P (rollback_script given target database)
     target_so P holds = subst P (sym (goes_to given target database undone there)) holds
 
-    target_tells : (prints : Bool) (done : Done) → IfFinished done (TellsRollback prints (rolled_back prints given undone database) done)
-        → IfFinished done (TellsRollback prints (rolled_to prints given (rows_kept target database.rows) database) done)
-    target_tells prints done tells = λ finished. subst (λ (a : Account). TellsRollback prints a done) (sym (to_is prints)) (tells finished)
+    target_tells : (prints : Bool) (done : Done) → EndsRollback prints (rolled_back prints given undone database) done
+        → EndsRollback prints (rolled_to prints given (rows_kept target database.rows) database) done
+    target_tells prints done tells = subst (λ (a : Account). EndsRollback prints a done) (sym (to_is prints)) tells
 
 -- the same of what a run answers
 
 module _ (given : Given) (x : State) (prints : Bool) where
   pub taken_tells_ok : (r : Result Done Status) (rows : List Tracked) (turns : List Turn) → undo_turns given.options.dialect any_meaning (sets_in given) rows ≡ Some turns
-      → IfOk r (λ (done : Done). OnIts given.options.dialect x (λ (database : Database). IfFinished done (TellsRollback prints (of_turns prints given.options.dialect turns (contents_of database)) done)))
-      → IfOk r (λ (done : Done). OnIts given.options.dialect x (λ (database : Database). IfFinished done (TellsRollback prints (rolled_back prints given rows database) done)))
+      → IfOk r (λ (done : Done). OnIts given.options.dialect x (λ (database : Database). EndsRollback prints (of_turns prints given.options.dialect turns (contents_of database)) done))
+      → IfOk r (λ (done : Done). OnIts given.options.dialect x (λ (database : Database). EndsRollback prints (rolled_back prints given rows database) done))
   taken_tells_ok (Ok done) rows turns is tells = λ database has. taken_tells given database prints done rows turns is (tells database has)
   taken_tells_ok (Err s) rows turns is tells = tt
 
   pub target_tells_ok : (r : Result Done Status) (target : Target) (rows undone : List Tracked) → OnIts given.options.dialect x (λ (database : Database). database.rows ≡ rows)
       → option_map (λ (stay : ℕ). rows_undone stay rows) (rows_kept target rows) ≡ Some undone
-      → IfOk r (λ (done : Done). OnIts given.options.dialect x (λ (database : Database). IfFinished done (TellsRollback prints (rolled_back prints given undone database) done)))
-      → IfOk r (λ (done : Done). OnIts given.options.dialect x (λ (database : Database). IfFinished done (TellsRollback prints (rolled_to prints given (rows_kept target database.rows) database) done)))
+      → IfOk r (λ (done : Done). OnIts given.options.dialect x (λ (database : Database). EndsRollback prints (rolled_back prints given undone database) done))
+      → IfOk r (λ (done : Done). OnIts given.options.dialect x (λ (database : Database). EndsRollback prints (rolled_to prints given (rows_kept target database.rows) database) done))
   target_tells_ok (Ok done) target rows undone same is tells = λ database has. target_tells given database target rows undone (same database has) is prints done (tells database has)
   target_tells_ok (Err s) target rows undone same is tells = tt
 

@@ -16,7 +16,7 @@ use Rattle.lq_turns.specs.Script.{last_row}
 use Rattle.lq_turns.specs.declared.call.Call.{Call}
 use Rattle.lq_commands.proofs.Endings.{full_once}
 use Rattle.lq_commands.specs.Refusals.{fault_status}
-use Rattle.lq_commands.specs.Works.{OnIts, SaysFull}
+use Rattle.lq_commands.specs.Works.{OnIts, RestsFull}
 
 module _ (d : Dialect) (number : ℕ) (x : State) (database : Database) (has : HasDatabase d x database) where
   pub seen_stands : StandsFor d (seen number x) database
@@ -40,7 +40,7 @@ last_is (first ∷ other ∷ more) row = last_is (other ∷ more) row
 
 -- where a call met a fault
 pub err_full : (d : Dialect) (calls : Database → List Call) (x y : State) (r : Result (Unit {0}) StoreFault) → ((database : Database) → HasDatabase d x database → LeavesOnce d (calls database) database x r y)
-    → IfErr r (λ (why : StoreFault). OnIts d x (λ (database : Database). SaysFull d (calls database) database x (fault_status why)))
+    → IfErr r (λ (why : StoreFault). OnIts d x (λ (database : Database). RestsFull d (calls database) database x (fault_status why) y))
 err_full d calls x y (Ok u) leaves = tt
 err_full d calls x y (Err why) leaves = λ database has. full_once d (calls database) database x y why (leaves database has)
 

@@ -1,18 +1,19 @@
 -- Calls, and others behind them.
 use Rattle.std.proofs.Common.{ap, inl, inr, refl, subst, sym, ◌∙◌}
 use Rattle.std.proofs.lemmas.List.{append_assoc, map-append}
-use Rattle.std.specs.Prelude.{Bool, Err, List, Ok, Result, [], false, if◌then◌else◌, true, ℕ, ◌+◌, ◌++◌, ◌∷◌, ◌≡◌, ◌⊎◌}
+use Rattle.std.specs.Prelude.{Bool, Err, List, Ok, Result, [], false, true, ℕ, ◌+◌, ◌++◌, ◌∷◌, ◌≡◌, ◌⊎◌}
 use Rattle.lq_base.specs.declared.dialect.Dialect.{Dialect}
 use Rattle.lq_base.specs.declared.reason.Reason.{Reason}
 use Rattle.lq_model.specs.Script.{if_any}
 use Rattle.lq_run.proofs.Rooms.{both_rooms, sizes}
 use Rattle.lq_run.specs.Commands.{Leaves}
-use Rattle.lq_run.specs.Left.{IsFullIn}
+use Rattle.lq_run.specs.Left.{IsFullIn, IsNextIn}
 use Rattle.lq_run.specs.Stands.{HadRoom, entries_of, entry_of}
 use Rattle.lq_store.specs.Journal.{end_of, is_full, size_of_all}
 use Rattle.lq_store.specs.State.{State}
 use Rattle.lq_tell.specs.declared.status.Status.{Status}
 use Rattle.lq_track.specs.Database.{Database}
+use Rattle.lq_track.specs.Lock.{free}
 use Rattle.lq_turns.proofs.Journal.{done_both, joined_both, journal_leads, next}
 use Rattle.lq_turns.proofs.Made.{calls_both}
 use Rattle.lq_turns.specs.Deed.{all_done, done}
@@ -27,6 +28,16 @@ use Rattle.lq_commands.specs.Works.{SaysFull, TellsRoom, is_finished}
 
 not_true : false ≡ true → ⊥
 not_true h = Prim.cc
+
+-- where both together are none, each is
+
+first_nil : (calls others : List Call) → calls ++ others ≡ [] → calls ≡ []
+first_nil [] others none = refl
+first_nil (call ∷ calls) others none = Prim.cc
+
+then_nil : (calls others : List Call) → calls ++ others ≡ [] → others ≡ []
+then_nil [] others none = none
+then_nil (call ∷ calls) others none = Prim.cc
 
 -- what a session had written before is no matter to its calls
 
@@ -70,9 +81,9 @@ module _ (d : Dialect) (first : Journal) where
   calls_behind [] s = refl
   calls_behind (call ∷ calls) s = ap (all_called d calls) (call_behind call s) ∙ calls_behind calls (called d call s)
 
--- calls leave nothing open
+-- calls leave nothing open; and where there are any they leave the lock free
 abbrev pub IsOver : Dialect → List Call → Database → Type 0
-IsOver d calls database = all_called d calls (session_on database) ≡ behind (all_called d calls (session_on database)).entries (session_on (left_by d calls database))
+IsOver d calls database = (all_called d calls (session_on database) ≡ behind (all_called d calls (session_on database)).entries (session_on (left_by d calls database))) × (((left_by d calls database).lock ≡ free) ⊎ (calls ≡ []))
 
 -- calls, and others on the database that they leave
 module _ (d : Dialect) (calls others : List Call) (database : Database) where
@@ -88,7 +99,7 @@ module _ (d : Dialect) (calls others : List Call) (database : Database) where
   -- they leave nothing open
   module _ (over : IsOver d calls database) where
     pub both_entries : (all_called d (calls ++ others) (session_on database)).entries ≡ there ++ coming
-    both_entries = ap (λ (s : Session). s.entries) (calls_both d calls others (session_on database) ∙ ap (all_called d others) over ∙ calls_behind d there others (session_on middle))
+    both_entries = ap (λ (s : Session). s.entries) (calls_both d calls others (session_on database) ∙ ap (all_called d others) over.0 ∙ calls_behind d there others (session_on middle))
 
     -- what a stop of the first may leave
     pub left_first : (written : Journal) → IsLeft d calls database [] written → IsLeft d (calls ++ others) database [] written
@@ -117,35 +128,76 @@ module _ (d : Dialect) (calls others : List Call) (database : Database) where
       by (inr freed) = inr (ap (λ (es : Journal). there ++ es) freed.0 ∙ sym (append_assoc there left.front ((Locks Freed ∷ []) ∷ [])), freed.1)
 
     module _ (x : State) where
-      pub full_first : (used size : ℕ) → IsFullIn d calls database x used size → IsFullIn d (calls ++ others) database x used size
-      full_first used size it = record {
-        written = it.written;
-        more = it.more;
-        stops = left_first it.written it.stops;
-        comes = left_first (it.written ++ it.more) it.comes;
-        used_is = it.used_is;
-        next_is = it.next_is;
-        room = it.room;
-        which = it.which;
-        full = it.full;
-      }
+      -- calls that lead on the way to the end of the first lead on the way to the end of all, and so do those of the others
 
-      pub first_told : (s : Status) → is_finished s ≡ false → SaysFull d calls database x s → TellsRoom d (calls ++ others) database x s
-      first_told s unfinished says = (λ finished. absurd (not_true (sym unfinished ∙ finished)), λ used size is. full_first used size (says used size is))
+      next_first : (made : List Call) (call : Call) → IsNextIn d calls database made call → IsNextIn d (calls ++ others) database made call
+      next_first made call (inl goes) = inl (
+        goes.0 ++ others,
+        ap (λ cs. all_called d cs (session_on database)) (sym (append_assoc made (call ∷ goes.0) others)) ∙ calls_both d (made ++ call ∷ goes.0) others (session_on database) ∙ ap (all_called d others) goes.1
+            ∙ sym (calls_both d calls others (session_on database)),
+      )
+      next_first made call (inr left) = inr (left.0, λ none. left.1 (first_nil calls others none))
 
-      module _ (y : State) (leaves : Leaves d calls database x y) where
-        pub full_then : (used size : ℕ) → IsFullIn d others middle y used size → IsFullIn d (calls ++ others) database x used size
-        full_then used size it = record {
-          written = there ++ it.written;
+      both_called : (more : List Call) → all_called d (calls ++ more) (session_on database) ≡ behind there (all_called d more (session_on middle))
+      both_called more = calls_both d calls more (session_on database) ∙ ap (all_called d more) over.0 ∙ calls_behind d there more (session_on middle)
+
+      next_then : (made : List Call) (call : Call) → IsNextIn d others middle made call → IsNextIn d (calls ++ others) database (calls ++ made) call
+      next_then made call (inl goes) = inl (
+        goes.0,
+        ap (λ cs. all_called d cs (session_on database)) (append_assoc calls made (call ∷ goes.0)) ∙ both_called (made ++ call ∷ goes.0) ∙ ap (behind there) goes.1 ∙ sym (both_called others),
+      )
+      next_then made call (inr left) = inr (left.0, λ none. left.1 (then_nil calls others none))
+
+      pub full_first : (used size : ℕ) (it : IsFullIn d calls database x used size) → (full : IsFullIn d (calls ++ others) database x used size) × (full.written ≡ it.written) × (full.more ≡ it.more)
+      full_first used size it = (
+        record {
+          written = it.written;
           more = it.more;
-          stops = left_then it.written it.stops;
-          comes = subst (λ (es : Journal). IsLeft d (calls ++ others) database [] es) (sym (append_assoc there it.written it.more)) (left_then (it.written ++ it.more) it.comes);
-          used_is = it.used_is ∙ ap (λ u. u + size_of_all (entries_of d it.written)) leaves.used ∙ sizes x.used (entries_of d there) (entries_of d it.written) ∙ ap (λ es. x.used + size_of_all es) (sym (map-append (entry_of d) there it.written));
+          stops = left_first it.written it.stops;
+          comes = left_first (it.written ++ it.more) it.comes;
+          made = it.made;
+          call = it.call;
+          wrote = it.wrote;
+          appends = it.appends;
+          next_call = next_first it.made it.call it.next_call;
+          used_is = it.used_is;
           next_is = it.next_is;
           room = it.room;
+          in_room = it.in_room;
           which = it.which;
-          full = ap (λ l. is_full (end_of it.room l) used (entries_of d it.more)) (sym leaves.limit) ∙ it.full;
-        }
+          full = it.full;
+        },
+        refl,
+        refl,
+      )
+
+      pub first_told : (s : Status) → is_finished s ≡ false → SaysFull d calls database x s → TellsRoom d (calls ++ others) database x s
+      first_told s unfinished says = (λ finished. absurd (not_true (sym unfinished ∙ finished)), λ used size is. (full_first used size (says used size is)).0)
+
+      module _ (y : State) (leaves : Leaves d calls database x y) where
+        pub full_then : (used size : ℕ) (it : IsFullIn d others middle y used size) → (full : IsFullIn d (calls ++ others) database x used size) × (full.written ≡ there ++ it.written) × (full.more ≡ it.more)
+        full_then used size it = (
+          record {
+            written = there ++ it.written;
+            more = it.more;
+            stops = left_then it.written it.stops;
+            comes = subst (λ (es : Journal). IsLeft d (calls ++ others) database [] es) (sym (append_assoc there it.written it.more)) (left_then (it.written ++ it.more) it.comes);
+            used_is = it.used_is ∙ ap (λ u. u + size_of_all (entries_of d it.written)) leaves.used ∙ sizes x.used (entries_of d there) (entries_of d it.written) ∙ ap (λ es. x.used + size_of_all es) (sym (map-append (entry_of d) there it.written));
+            made = calls ++ it.made;
+            call = it.call;
+            wrote = ap (λ (s : Session). s.entries) (both_called it.made) ∙ ap (λ (es : Journal). there ++ es) it.wrote;
+            appends = ap (λ (s : Session). (called d it.call s).entries) (both_called it.made) ∙ ap (λ (s : Session). s.entries) (call_behind d there it.call (all_called d it.made (session_on middle)))
+                ∙ ap (λ (es : Journal). there ++ es) it.appends ∙ sym (append_assoc there it.written it.more);
+            next_call = next_then it.made it.call it.next_call;
+            next_is = it.next_is;
+            room = it.room;
+            in_room = it.in_room;
+            which = it.which;
+            full = ap (λ l. is_full (end_of it.room l) used (entries_of d it.more)) (sym leaves.limit) ∙ it.full;
+          },
+          refl,
+          refl,
+        )
 
         pub both_room : HadRoom d y.limit y.used coming → HadRoom d x.limit x.used (all_called d (calls ++ others) (session_on database)).entries
         both_room room =
@@ -153,4 +205,4 @@ module _ (d : Dialect) (calls others : List Call) (database : Database) where
             subst (λ (es : Journal). HadRoom d x.limit x.used es) (sym both_entries) (both_rooms d x.limit x.used there coming leaves.room here)
 
         pub both_told : (s : Status) → (is_finished s ≡ true → HadRoom d y.limit y.used coming) → SaysFull d others middle y s → TellsRoom d (calls ++ others) database x s
-        both_told s room says = (λ finished. both_room (room finished), λ used size is. full_then used size (says used size is))
+        both_told s room says = (λ finished. both_room (room finished), λ used size is. (full_then used size (says used size is)).0)

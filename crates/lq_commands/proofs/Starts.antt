@@ -12,7 +12,8 @@ use Rattle.lq_model.specs.declared.fault.StoreFault.{StoreFault}
 use Rattle.lq_run.proofs.Rooms.{no_entries}
 use Rattle.lq_run.specs.Commands.{HasDatabase, KnowsContents, OnAll, SomeMayRun, TellsAll, both_on, script}
 use Rattle.lq_run.specs.Stands.{IsBegun, Stands}
-use Rattle.lq_run.specs.Steps.{KnownIn, Standing, TellsAs, enters_turns, no_turn, place, standing, turns_of}
+use Rattle.lq_run.specs.Steps.{KnownIn, Standing, enters_turns, no_turn, place, standing, turns_of}
+use Rattle.lq_run.specs.UnderWay.{TellsTo}
 use Rattle.lq_run.specs.declared.runner.End.{End}
 use Rattle.lq_run.specs.declared.runner.Runner.{Runner}
 use Rattle.lq_store.specs.Journal.{Entry}
@@ -78,7 +79,7 @@ module _ {Key Told : Type 0} (d : Dialect) (m : Meaning Key) (stamp : Stamp) (r 
   turns_hold P x database told has may all = subst (λ calls. P d calls database) (script_is database) (all database told has (known_there database told may.known) (fitting database told may))
 
   turns_tell : (x : State) (e : End) (way : Dialect → Stamp → Told → Way) (database : Database) (told : Told) → HasDatabase d x database → MayTurn d m stamp r.turns (r.way d stamp) database told → TellsAll d m stamp r x e way
-      → TellsAs (way d stamp told) e
+      → TellsTo (way d stamp told) e
   turns_tell x e way database told has may tells = tells database told has (known_there database told may.known) (fitting database told may)
 
 -- a runner that is new
@@ -100,7 +101,7 @@ module _ {Key Told T : Type 0} (m : Meaning Key) (left : T → Turns Key) (way :
       subst (λ s. P d (turns_script d m stamp (left s) database) database) source_is
       (turns_hold d m stamp r hand fault refused P x database told has may_there (subst (λ st. AllOn P d m st r x) stamp_is (subst (λ f. AllOn P f m runner.stamp r x) dialect_is all)))
 
-  pub new_tells : (e : End) (after : Dialect → Stamp → Told → Way) → TellsAll runner.dialect m runner.stamp r x e after → TellsAs (after d stamp told) e
+  pub new_tells : (e : End) (after : Dialect → Stamp → Told → Way) → TellsAll runner.dialect m runner.stamp r x e after → TellsTo (after d stamp told) e
   new_tells e after tells =
       turns_tell d m stamp r hand fault refused x e after database told has may_there (subst (λ st. TellsAll d m st r x e after) stamp_is (subst (λ f. TellsAll f m runner.stamp r x e after) dialect_is tells))
 

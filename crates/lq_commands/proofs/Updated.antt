@@ -1,4 +1,5 @@
 -- An update, from its checks to what it tells.
+use Rattle.std.proofs.lemmas.List.{append-nil, append_assoc}
 use Rattle.std.proofs.Common.{ap, arith, inl, inr, refl, subst, sym, ◌∙◌}
 use Rattle.std.specs.List.{All, flat_map}
 use Rattle.std.specs.Option.{option_or}
@@ -21,13 +22,15 @@ use Rattle.lq_plan.specs.Work.{work_from}
 use Rattle.lq_plan.specs.declared.turns.Item.{Item}
 use Rattle.lq_run.specs.Commands.{HasDatabase, LeavesAs}
 use Rattle.lq_run.specs.Crashes.{LeftBehind}
-use Rattle.lq_run.specs.Steps.{TellsAs}
+use Rattle.lq_hand.specs.Way.{IsUnderWay}
+use Rattle.lq_run.specs.UnderWay.{TellsTo}
+use Rattle.lq_turns.specs.declared.stop.Refusal.{Refusal}
 use Rattle.lq_run.specs.declared.runner.End.{End}
 use Rattle.lq_run.specs.declared.runner.End.TheVariants as end
-use Rattle.lq_sets.specs.SetTurns.{Knows, set_way, sets_left}
+use Rattle.lq_sets.specs.SetTurns.{Knows, YieldsAs, set_way, sets_left}
 use Rattle.lq_seen.proofs.Shown.{none_shown}
 use Rattle.lq_seen.specs.Printing.{Account, of_sets, shown}
-use Rattle.lq_seen.specs.Telling.{bounded}
+use Rattle.lq_seen.specs.Telling.{WarnsFirst, bounded}
 use Rattle.lq_seen.specs.View.{any_meaning}
 use Rattle.lq_seen.specs.declared.outcome.Outcome.{Outcome}
 use Rattle.lq_sets.specs.declared.set_turns.SetTurns.{SetTurns}
@@ -55,10 +58,10 @@ use Rattle.lq_turns.specs.declared.stop.Stop.{Stop}
 use Rattle.lq_commands.proofs.Endings.{works_by, works_nothing}
 use Rattle.lq_commands.proofs.LoadedTexts.{view_has}
 use Rattle.lq_commands.proofs.Planned.{no_sets, no_work, passed_script, sets_are, update_may}
-use Rattle.lq_commands.proofs.Warned.{quiet_lines}
+use Rattle.lq_commands.proofs.Warned.{all_up_to, quiet_lines, quiet_up_to}
 use Rattle.lq_commands.specs.Refusals.{Answers, IsFault, Passes, ends, if_halts, if_warns, own_halt, refusal, unready}
 use Rattle.lq_commands.specs.Scripts.{log_in, nothing_told, sets_in, sets_script, settled_in, update_script}
-use Rattle.lq_commands.specs.Tells.{HasTold, IfFinished, TellsUpdate, status_by, stop_by, update_output}
+use Rattle.lq_commands.specs.Tells.{EndsUpdate, HasTold, TellsUpdate, WarnsUpTo, status_by, stop_by, update_output}
 use Rattle.lq_commands.specs.Turns.{MayTurn, turns_script}
 use Rattle.lq_commands.specs.Works.{CrashesIn, FullAs, IsReady, OnIts, TellsFull, Works, is_finished, is_whole}
 use Rattle.lq_commands.specs.declared.given.Given.{Given}
@@ -211,9 +214,12 @@ module _ (given : Given) (rows : List Tracked) (database : Database) (same : dat
       (none_settled given.options.dialect any_meaning given.stamp.reading (sets_in given) (contents_of database) no_turn) (no_texts prints)
 
   pub idle_tells : (prints : Bool) (r : Result Done Status) → IfOk r (λ (done : Done). done.status ≡ status.Done) → IfOk r (λ (done : Done). done.out ≡ Some (update_output prints [] 0 []))
-      → IfOk r (λ (done : Done). done.own ≡ None) → IfOk r (λ (done : Done). done.warned ≡ []) → IfOk r (λ (done : Done). IfFinished done (TellsUpdate prints (settled_in prints given database) done))
-  idle_tells prints (Ok done) ended said own warned = λ finished. subst (λ (a : Account). TellsUpdate prints a done) (sym (idle_account prints))
-      (record { status = ended; out = said ∙ ap (λ (n : ℕ). update_said prints [] n []) (none_within (2 ^ 64 - 1)); warned = quiet_lines done (own, warned) })
+      → IfOk r (λ (done : Done). done.own ≡ None) → IfOk r (λ (done : Done). done.warned ≡ []) → IfOk r (λ (done : Done). EndsUpdate prints (settled_in prints given database) done)
+  idle_tells prints (Ok done) ended said own warned = (
+    (λ finished. subst (λ (a : Account). TellsUpdate prints a done) (sym (idle_account prints))
+        (record { status = ended; out = said ∙ ap (λ (n : ℕ). update_said prints [] n []) (none_within (2 ^ 64 - 1)); warned = quiet_lines done (own, warned) })),
+    quiet_up_to (settled_in prints given database).settled.warned done (own, warned),
+  )
   idle_tells prints (Err s) ended said own warned = tt
 
 -- the turns of an update
@@ -243,20 +249,33 @@ module _ (given : Given) (x : State) (rows : List Tracked) (source : SetTurns) (
 
     pub turns_work : (y : State) (e : End) (r : Result Done Status) → IfOk r (λ (done : Done). is_finished done.status ≡ true → is_whole e ≡ true) → IfOk r (λ (done : Done). TellsFull e done.status)
         → LeavesAs d (turns_script d any_meaning given.stamp (OfSets (sets_left source)) database) database x e y → LeftBehind d (turns_script d any_meaning given.stamp (OfSets (sets_left source)) database) database x y
-        → FullAs d (turns_script d any_meaning given.stamp (OfSets (sets_left source)) database) database x e → Works d (sets_script given database) database x r y
+        → FullAs d (turns_script d any_meaning given.stamp (OfSets (sets_left source)) database) database x e y → Works d (sets_script given database) database x r y
     turns_work y e r whole tells leaves stops full =
         works_by d (sets_script given database) database x y e r whole tells (subst (λ calls. LeavesAs d calls database x e y) script_is leaves) (subst (λ calls. LeftBehind d calls database x y) script_is stops)
-        (subst (λ calls. FullAs d calls database x e) script_is full)
+        (subst (λ calls. FullAs d calls database x e y) script_is full)
 
     pub turns_crash : (before now : Crashes) → CrashesIn d (turns_script d any_meaning given.stamp (OfSets (sets_left source)) database) database x before now → CrashesIn d (sets_script given database) database x before now
     turns_crash before now crash = subst (λ calls. CrashesIn d calls database x before now) script_is crash
 
-pub sets_told : (s : SetTurns) (d : Dialect) (stamp : Stamp) (told : Account) (e : End) → TellsAs (set_way s d stamp told) e → HasTold s.outcome told e
-sets_told s d stamp told end.Done tells = tells
-sets_told s d stamp told (end.Refused refusal) tells = tells
+-- wherever it is on its way, it has warned of a front
+yields_warns : (s : SetTurns) (d : Dialect) (stamp : Stamp) (told : Account) (goes_on : Bool) (of : Identity) (front : List Happened) (texts : List Printed) (refusal : Refusal) (c : Contents)
+    → YieldsAs s d stamp told goes_on of front texts refusal c → WarnsFirst s.outcome told.settled
+yields_warns s d stamp told true of front texts refusal c yields = (_, yields.1.warned)
+yields_warns s d stamp told false of front texts refusal c yields = ([], append-nil s.outcome.warned ∙ yields.0.warned)
+
+set_warns : (s : SetTurns) (d : Dialect) (stamp : Stamp) (told : Account) → IsUnderWay (set_way s d stamp told) → WarnsFirst s.outcome told.settled
+set_warns s d stamp told (inl knows) = (_, knows.1.leads.warned)
+set_warns s d stamp told (inr (inl awaits)) = (_, awaits.2.knows.leads.warned)
+set_warns s d stamp told (inr (inr (inl yields))) = yields_warns s d stamp told yields.0 yields.3.turn.identity yields.3.front yields.3.texts yields.1 yields.2 yields.3.then_told
+set_warns s d stamp told (inr (inr (inr (inl tells)))) = ([], append-nil s.outcome.warned ∙ tells.1.tells.warned)
+set_warns s d stamp told (inr (inr (inr (inr warns)))) = warns
+
+pub sets_told : (s : SetTurns) (d : Dialect) (stamp : Stamp) (told : Account) (e : End) → TellsTo (set_way s d stamp told) e → HasTold s.outcome told e
+sets_told s d stamp told end.Done tells = tells.0
+sets_told s d stamp told (end.Refused refusal) tells = tells.0
 sets_told s d stamp told (end.Locked lock) tells = tt
 sets_told s d stamp told end.Disk tells = tt
-sets_told s d stamp told (end.Full used next) tells = tt
+sets_told s d stamp told (end.Full used next) tells = set_warns s d stamp told tells.1
 sets_told s d stamp told end.OutOfMemory tells = tt
 
 -- what is told at the end
@@ -275,40 +294,52 @@ all_told o account end.Disk whole told = absurd (not_true whole)
 all_told o account (end.Full used next) whole told = absurd (not_true whole)
 all_told o account end.OutOfMemory whole told = absurd (not_true whole)
 
+-- of a run that made all its calls, or met a full journal
+pub warns_so : (o : Outcome) (account : Account) (e : End) (done : Done) → TellsFull e done.status → warning_lines done.own done.warned ≡ flat_map warning_line o.warned → HasTold o account e → WarnsUpTo account.settled.warned done
+warns_so o account end.Done done full lines told = all_up_to account.settled.warned done (lines ∙ ap (flat_map warning_line) told.tells.warned)
+warns_so o account (end.Refused refusal) done full lines told = all_up_to account.settled.warned done (lines ∙ ap (flat_map warning_line) told.tells.warned)
+warns_so o account (end.Full used next) done full lines told = record { front = o.warned; rest = told.0; is = told.1; lines = lines }
+warns_so o account (end.Locked lock) done full lines told = absurd full
+warns_so o account end.Disk done full lines told = absurd full
+warns_so o account end.OutOfMemory done full lines told = absurd full
+
 pub tells_update : (prints : Bool) (o : Outcome) (account : Account) (e : End) (done : Done) (happened : List Happened) (texts : List Printed) → happened ≡ o.happened → texts ≡ o.printed
     → (is_finished done.status ≡ true → is_whole e ≡ true) → (is_finished done.status ≡ true → done.status ≡ status_by (stop_by o.halted o.stopped_at e))
-    → (is_finished done.status ≡ true → done.out ≡ Some (update_output prints happened o.not_fresh texts)) → warning_lines done.own done.warned ≡ flat_map warning_line o.warned → HasTold o account e
-    → IfFinished done (TellsUpdate prints account done)
-tells_update prints o account e done happened texts are printed_are whole is out warned told = λ finished.
-    let all = all_told o account e (whole finished) told in record {
-      status = is finished ∙ ap status_by all.stop;
-      out = out finished
-          ∙ (ap (λ (hs : List Happened). update_said prints hs o.not_fresh texts) (are ∙ all.happened)
-          ∙ (ap (λ (n : ℕ). update_said prints account.settled.happened n texts) all.not_fresh
-          ∙ ap (λ (ps : List Printed). update_said prints account.settled.happened (bounded account.settled.not_fresh) ps) (printed_are ∙ all.printed)));
-      warned = warned ∙ ap (flat_map warning_line) all.warned;
-    }
+    → (is_finished done.status ≡ true → done.out ≡ Some (update_output prints happened o.not_fresh texts)) → warning_lines done.own done.warned ≡ flat_map warning_line o.warned → TellsFull e done.status → HasTold o account e
+    → EndsUpdate prints account done
+tells_update prints o account e done happened texts are printed_are whole is out warned full told = (
+  (λ finished.
+      let all = all_told o account e (whole finished) told in record {
+        status = is finished ∙ ap status_by all.stop;
+        out = out finished
+            ∙ (ap (λ (hs : List Happened). update_said prints hs o.not_fresh texts) (are ∙ all.happened)
+            ∙ (ap (λ (n : ℕ). update_said prints account.settled.happened n texts) all.not_fresh
+            ∙ ap (λ (ps : List Printed). update_said prints account.settled.happened (bounded account.settled.not_fresh) ps) (printed_are ∙ all.printed)));
+        warned = warned ∙ ap (flat_map warning_line) all.warned;
+      }),
+  warns_so o account e done full warned told,
+)
 
--- without an output it did not come to its end
-pub no_output : (s : Status) → has_output s ≡ false → is_finished s ≡ true → ⊥
-no_output status.Done none finished = true_not none
-no_output (status.Halted place why) none finished = true_not none
-no_output (status.Refused identity statement kept reason) none finished = true_not none
-no_output status.Usage none finished = not_true finished
-no_output status.ReadFault none finished = not_true finished
-no_output (status.Changelog fault) none finished = not_true finished
-no_output (status.Invalid faults) none finished = not_true finished
-no_output (status.Locked lock) none finished = not_true finished
-no_output status.NoTarget none finished = not_true finished
-no_output (status.NotReversible identity) none finished = not_true finished
-no_output status.NothingToUndo none finished = not_true finished
-no_output (status.NotWritable at) none finished = not_true finished
-no_output status.DiskFault none finished = not_true finished
-no_output (status.Damaged at) none finished = not_true finished
-no_output (status.Full used next) none finished = not_true finished
-no_output status.WriteFault none finished = not_true finished
-no_output status.OutOfMemory none finished = not_true finished
-no_output (status.Busy session) none finished = not_true finished
+-- a run without an output did not come to its end
+pub no_output : (s : Status) → has_output s ≡ false → ends s ≡ true → is_finished s ≡ true → ⊥
+no_output status.Done none ran finished = true_not none
+no_output (status.Halted of why) none ran finished = not_true (sym none ∙ ran)
+no_output (status.Refused identity statement kept reason) none ran finished = true_not none
+no_output status.Usage none ran finished = not_true finished
+no_output status.ReadFault none ran finished = not_true finished
+no_output (status.Changelog fault) none ran finished = not_true finished
+no_output (status.Invalid faults) none ran finished = not_true finished
+no_output (status.Locked lock) none ran finished = not_true finished
+no_output status.NoTarget none ran finished = not_true finished
+no_output (status.NotReversible identity) none ran finished = not_true finished
+no_output status.NothingToUndo none ran finished = not_true finished
+no_output (status.NotWritable at) none ran finished = not_true finished
+no_output status.DiskFault none ran finished = not_true finished
+no_output (status.Damaged at) none ran finished = not_true finished
+no_output (status.Full used next) none ran finished = not_true finished
+no_output status.WriteFault none ran finished = not_true finished
+no_output status.OutOfMemory none ran finished = not_true finished
+no_output (status.Busy session) none ran finished = not_true finished
 
 -- by the changelog's own precondition
 
@@ -322,6 +353,14 @@ not_halt (choice.Runs w why) own passes = refl
 
 abbrev account_by : Choice → Contents → Account → Account
 account_by by c a = record { settled = by_own by c a.settled; printed = if is_halt by then [] else a.printed }
+
+abbrev own_warned : Option Why → List (Option Identity × Why)
+own_warned (Some why) = (None, why) ∷ []
+own_warned None = []
+
+own_first : (o : Option Why) (ws : List (Option Identity × Why)) → own_line o ++ flat_map warning_line ws ≡ flat_map warning_line (own_warned o ++ ws)
+own_first (Some why) ws = refl
+own_first None ws = refl
 
 module _ (prints : Bool) (c : Contents) (a : Account) (before after : Done) (status_is : after.status ≡ before.status) (out_is : after.out ≡ before.out) (none : before.own ≡ None) (warned_is : after.warned ≡ before.warned) where
   -- the warning of the changelog's own precondition stands before the others
@@ -340,8 +379,28 @@ module _ (prints : Bool) (c : Contents) (a : Account) (before after : Done) (sta
   own_tells choice.Skips goes own tells = record { status = status_is ∙ tells.status; out = out_is ∙ tells.out; warned = warns None own tells }
   own_tells (choice.Marks w) goes own tells = record { status = status_is ∙ tells.status; out = out_is ∙ tells.out; warned = warns None own tells }
 
-  pub updated_tells : (by : Choice) → is_halt by ≡ false → after.own ≡ if_warns by → IfFinished before (TellsUpdate prints a before) → IfFinished after (TellsUpdate prints (account_by by c a) after)
-  updated_tells by goes own tells = λ finished. own_tells by goes own (tells (ap is_finished (sym status_is) ∙ finished))
+  -- and before a front of them
+  before_front : (o : Option Why) (warned : List (Option Identity × Why)) → after.own ≡ o → warned ≡ own_warned o ++ a.settled.warned → WarnsUpTo a.settled.warned before → WarnsUpTo warned after
+  before_front o warned is all up_to = record {
+    front = own_warned o ++ up_to.front;
+    rest = up_to.rest;
+    is = append_assoc (own_warned o) up_to.front up_to.rest ∙ ap (λ (ws : List (Option Identity × Why)). own_warned o ++ ws) up_to.is ∙ sym all;
+    lines = ap (λ (own : Option Why). warning_lines own after.warned) is
+        ∙ (ap (warning_lines o) warned_is
+        ∙ ap (λ (lines : List ℕ). own_line o ++ lines) (sym (ap (λ (own : Option Why). warning_lines own before.warned) none) ∙ up_to.lines) ∙ own_first o up_to.front);
+  }
+
+  own_warns_up_to : (by : Choice) → is_halt by ≡ false → after.own ≡ if_warns by → WarnsUpTo a.settled.warned before → WarnsUpTo (account_by by c a).settled.warned after
+  own_warns_up_to (choice.Halts why) goes own up_to = absurd (true_not goes)
+  own_warns_up_to (choice.Runs w (Some why)) goes own up_to = before_front (Some why) ((None, why) ∷ a.settled.warned) own refl up_to
+  own_warns_up_to (choice.Runs w None) goes own up_to = before_front None a.settled.warned own refl up_to
+  own_warns_up_to choice.Passes goes own up_to = before_front None a.settled.warned own refl up_to
+  own_warns_up_to choice.Fills goes own up_to = before_front None a.settled.warned own refl up_to
+  own_warns_up_to choice.Skips goes own up_to = before_front None a.settled.warned own refl up_to
+  own_warns_up_to (choice.Marks w) goes own up_to = before_front None a.settled.warned own refl up_to
+
+  pub updated_tells : (by : Choice) → is_halt by ≡ false → after.own ≡ if_warns by → EndsUpdate prints a before → EndsUpdate prints (account_by by c a) after
+  updated_tells by goes own tells = ((λ finished. own_tells by goes own (tells.0 (ap is_finished (sym status_is) ∙ finished))), own_warns_up_to by goes own tells.1)
 
 -- what holds of the calls of the changesets holds of those of the update
 pub so_of_update : (given : Given) (database : Database) → is_halt (own_choice (log_in given) (contents_of database)) ≡ false → (P : List Call → Type 0) → P (sets_script given database) → P (update_script given database)

@@ -1,14 +1,17 @@
 -- Which warnings a command has: those of an update, with the changelog's own in front, and no others.
 use Rattle.std.proofs.Common.{ap, refl, ◌∙◌}
+use Rattle.std.proofs.lemmas.List.{append-nil}
+use Rattle.std.specs.List.{flat_map}
 use Rattle.std.specs.Prelude.{Bool, Err, IfOk, List, None, Ok, Option, Result, Some, [], ℕ, ◌∷◌, ◌≡◌}
 use Rattle.lq_base.specs.declared.command.Target.{Target}
 use Rattle.lq_base.specs.declared.dialect.Dialect.{Dialect}
+use Rattle.lq_base.specs.declared.identity.Identity.{Identity}
 use Rattle.lq_base.specs.declared.run.Why.{Why}
 use Rattle.lq_run.specs.Commands.{HasDatabase}
 use Rattle.lq_seen.specs.Printing.{Account, of_turns}
 use Rattle.lq_seen.specs.View.{any_meaning}
 use Rattle.lq_store.specs.State.{State}
-use Rattle.lq_tell.specs.Lines.{warning_lines}
+use Rattle.lq_tell.specs.Lines.{warning_line, warning_lines}
 use Rattle.lq_tell.specs.declared.done.Done.{Done}
 use Rattle.lq_tell.specs.declared.status.Status.{Status}
 use Rattle.lq_track.specs.Database.{Database}
@@ -21,13 +24,24 @@ use Rattle.lq_turns.specs.declared.turn.Turn.{Turn}
 use Rattle.lq_commands.specs.Outputs.{back_in}
 use Rattle.lq_commands.specs.Refusals.{if_warns, own_warning}
 use Rattle.lq_commands.specs.Scripts.{log_in, nothing_told, rolled_to, sets_in}
-use Rattle.lq_commands.specs.Tells.{IsQuiet}
+use Rattle.lq_commands.specs.Tells.{IsQuiet, WarnsUpTo}
 use Rattle.lq_commands.specs.Works.{OnIts}
 use Rattle.lq_commands.specs.declared.given.Given.{Given}
 
 -- without warnings there are no lines of them
 pub quiet_lines : (done : Done) → IsQuiet done → warning_lines done.own done.warned ≡ []
 quiet_lines done quiet = ap (λ (own : Option Why). warning_lines own done.warned) quiet.0 ∙ ap (warning_lines None) quiet.1
+
+-- the lines are those of a front of what there may be: of none, or of all
+
+pub none_up_to : (ws : List (Option Identity × Why)) (done : Done) → warning_lines done.own done.warned ≡ [] → WarnsUpTo ws done
+none_up_to ws done none = record { front = []; rest = ws; is = refl; lines = none }
+
+pub quiet_up_to : (ws : List (Option Identity × Why)) (done : Done) → IsQuiet done → WarnsUpTo ws done
+quiet_up_to ws done quiet = none_up_to ws done (quiet_lines done quiet)
+
+pub all_up_to : (ws : List (Option Identity × Why)) (done : Done) → warning_lines done.own done.warned ≡ flat_map warning_line ws → WarnsUpTo ws done
+all_up_to ws done lines = record { front = ws; rest = []; is = append-nil ws; lines = lines }
 
 -- what the check of the changelog's own precondition answers
 pub own_warns : (given : Given) (d : Dialect) (x : State) (r : Result (Option Why) Status) (by : Choice) → IfOk r (λ (own : Option Why). own ≡ if_warns by)

@@ -19,7 +19,7 @@ use Rattle.lq_turns.specs.declared.stop.Stop.{Stop}
 use Rattle.lq_turns.specs.declared.stop.Stop.TheVariants.{Halted, Refused}
 use Rattle.lq_commands.specs.Scripts.{sets_in}
 use Rattle.lq_commands.specs.Stopping.{one_way}
-use Rattle.lq_commands.specs.Tells.{status_by}
+use Rattle.lq_commands.specs.Tells.{IfFinished, WarnsUpTo, status_by}
 use Rattle.lq_commands.specs.declared.given.Given.{Given}
 
 -- the row has a place in run order, and there is room for it behind so many
@@ -50,3 +50,6 @@ pub record TellsSync (settled : Settled) (done : Done) : Type 0 where
   pub status : done.status ≡ status_by settled.stop
   pub out : done.out ≡ Some (sync_text settled.happened)
   pub warned : warning_lines done.own done.warned ≡ []
+
+abbrev pub EndsSync : Settled → Done → Type 0
+EndsSync settled done = IfFinished done (TellsSync settled done) × WarnsUpTo [] done

@@ -17,11 +17,11 @@ use Rattle.lq_track.specs.Database.{Database}
 use Rattle.lq_turns.specs.Pending.{pending}
 use Rattle.lq_turns.specs.Rollback.{rows_kept}
 use Rattle.lq_commands.specs.Generates.{generate_text}
-use Rattle.lq_commands.specs.Inserts.{TellsSync, synced_in}
+use Rattle.lq_commands.specs.Inserts.{EndsSync, synced_in}
 use Rattle.lq_commands.specs.Parts.{counted_in}
-use Rattle.lq_commands.specs.Rehearsal.{TellsRun, rehearsed}
+use Rattle.lq_commands.specs.Rehearsal.{EndsRun, rehearsed}
 use Rattle.lq_commands.specs.Scripts.{rolled_to, sets_in, updated_in}
-use Rattle.lq_commands.specs.Tells.{IfFinished, TellsRollback, TellsUpdate}
+use Rattle.lq_commands.specs.Tells.{EndsRollback, EndsUpdate, IfFinished, WarnsUpTo}
 use Rattle.lq_commands.specs.declared.given.Given.{Given}
 
 -- what a rollback to a target does, and what is printed of it
@@ -33,6 +33,9 @@ pub record TellsText (text : List ℕ) (done : Done) : Type 0 where
   pub status : done.status ≡ status.Done
   pub out : done.out ≡ Some text
   pub warned : warning_lines done.own done.warned ≡ []
+
+abbrev pub EndsText : List ℕ → Done → Type 0
+EndsText text done = IfFinished done (TellsText text done) × WarnsUpTo [] done
 
 -- of a release-locks: the lock that was held, with its mark where it has one
 abbrev pub released_text : Lock → List ℕ
@@ -46,21 +49,21 @@ at_once_text (command.Tag name) given database = tagged_text name
 at_once_text command.Release given database = released_text database.lock
 at_once_text _ given database = []
 
--- what it tells that came to its end: an update and a rollback of their turns, a changelog-sync of its rows; an update by part tells of that part
+-- what it tells where it came to its end, and of what it warns: an update and a rollback of their turns, a changelog-sync of its rows; an update by part tells of that part
 abbrev pub TellsEnd : Job → Given → Database → Done → Type 0
-TellsEnd (Run command.Update) given database done = TellsUpdate false (updated_in false given database) done
-TellsEnd (Run (command.Rollback target)) given database done = TellsRollback false (back_in false given target database) done
-TellsEnd (Run command.Sync) given database done = TellsSync (synced_in given database) done
-TellsEnd (Run c) given database done = TellsText (at_once_text c given database) done
-TellsEnd (UpdateCount count) given database done = TellsUpdate false (updated_in false (counted_in count given database.rows) database) done
-TellsEnd (UpdateTo tag) given database done = TellsUpdate false (updated_in false given database) done
-TellsEnd UpdateTestingRollback given database done = TellsRun (rehearsed given database) done
-TellsEnd ClearSums given database done = TellsText (cleared_text (length database.rows)) done
-TellsEnd History given database done = TellsText (history_text database.rows) done
-TellsEnd (Generate author) given database done = TellsText (generate_text author given database) done
-TellsEnd UpdateSql given database done = TellsUpdate true (updated_in true given database) done
-TellsEnd (RollbackSql target) given database done = TellsRollback true (back_in true given target database) done
+TellsEnd (Run command.Update) given database done = EndsUpdate false (updated_in false given database) done
+TellsEnd (Run (command.Rollback target)) given database done = EndsRollback false (back_in false given target database) done
+TellsEnd (Run command.Sync) given database done = EndsSync (synced_in given database) done
+TellsEnd (Run c) given database done = EndsText (at_once_text c given database) done
+TellsEnd (UpdateCount count) given database done = EndsUpdate false (updated_in false (counted_in count given database.rows) database) done
+TellsEnd (UpdateTo tag) given database done = EndsUpdate false (updated_in false given database) done
+TellsEnd UpdateTestingRollback given database done = EndsRun (rehearsed given database) done
+TellsEnd ClearSums given database done = EndsText (cleared_text (length database.rows)) done
+TellsEnd History given database done = EndsText (history_text database.rows) done
+TellsEnd (Generate author) given database done = EndsText (generate_text author given database) done
+TellsEnd UpdateSql given database done = EndsUpdate true (updated_in true given database) done
+TellsEnd (RollbackSql target) given database done = EndsRollback true (back_in true given target database) done
 TellsEnd _ given database done = Unit {0}
 
 abbrev pub TellsJob : Job → Given → Database → Result Done Status → Type 0
-TellsJob job given database done = IfOk done (λ ended. IfFinished ended (TellsEnd job given database ended))
+TellsJob job given database done = IfOk done (TellsEnd job given database)

@@ -1,6 +1,6 @@
 -- What a command is refused for before it runs: its checks, in order.
 use Rattle.std.specs.Option.{option_or}
-use Rattle.std.specs.Prelude.{Bool, Err, List, None, Ok, Option, Result, Some, [], false, if◌then◌else◌, true, ℕ, ◌∷◌, ◌≡◌, ◌⊎◌}
+use Rattle.std.specs.Prelude.{Bool, Err, List, None, Ok, Option, Result, Some, [], false, if◌then◌else◌, is_some, true, ℕ, ◌∷◌, ◌≡◌, ◌⊎◌}
 use Rattle.lq_base.specs.declared.command.Command.{Command}
 use Rattle.lq_base.specs.declared.command.Command.TheVariants as command
 use Rattle.lq_base.specs.declared.command.Target.{Target}
@@ -116,10 +116,10 @@ fault_status fault.OutOfMemory = status.OutOfMemory
 abbrev pub IsFault : Status → Type 0
 IsFault s = (s ≡ status.DiskFault) ⊎ (s ≡ status.OutOfMemory)
 
--- a run that came to an end, or to the end of the journal
+-- a run that came to an end, or to the end of the journal; what the changelog's own precondition halts has no run
 abbrev pub ends : Status → Bool
 ends status.Done = true
-ends (status.Halted place why) = true
+ends (status.Halted of why) = is_some of
 ends (status.Refused identity statement kept reason) = true
 ends (status.Full used next) = true
 ends s = false

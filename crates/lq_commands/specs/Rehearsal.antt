@@ -20,7 +20,7 @@ use Rattle.lq_turns.specs.declared.call.Call.{Call}
 use Rattle.lq_turns.specs.declared.stop.Stop.{Stop}
 use Rattle.lq_commands.specs.Refusals.{if_not, own_halt, unready}
 use Rattle.lq_commands.specs.Scripts.{rollback_script, rolled_to, sets_in, sets_script, settled_in, update_script, updated_in}
-use Rattle.lq_commands.specs.Tells.{rollback_told, status_by, update_told}
+use Rattle.lq_commands.specs.Tells.{IfFinished, WarnsUpTo, rollback_told, status_by, update_told}
 use Rattle.lq_commands.specs.declared.given.Given.{Given}
 
 -- What is told of runs: what stopped the last of them, their texts, and their warnings.
@@ -106,3 +106,6 @@ pub record TellsRun (told : Told) (done : Done) : Type 0 where
   pub status : done.status ≡ status_by told.stop
   pub out : done.out ≡ Some told.text
   pub warned : warning_lines done.own done.warned ≡ flat_map warning_line told.warned
+
+abbrev pub EndsRun : Told → Done → Type 0
+EndsRun told done = IfFinished done (TellsRun told done) × WarnsUpTo told.warned done

@@ -1,10 +1,11 @@
 -- How a run stops at a refused statement.
-use Rattle.std.specs.Prelude.{Bool, None, Option, Some, false, is_some, true, ◌≡◌}
+use Rattle.std.specs.Prelude.{Bool, IfSome, None, Option, Some, false, is_some, true, ◌≡◌}
 use Rattle.lq_base.specs.declared.dialect.Dialect.{Dialect}
 use Rattle.lq_base.specs.declared.identity.Identity.{Identity}
-use Rattle.lq_hand.specs.Way.{Way}
+use Rattle.lq_hand.specs.Way.{IsUnderWay, Way}
 use Rattle.lq_run.specs.declared.runner.End.{End}
 use Rattle.lq_run.specs.declared.runner.End.TheVariants as end
+use Rattle.lq_seen.specs.declared.outcome.Halt.{Halt}
 use Rattle.lq_turns.specs.Contents.{Contents}
 use Rattle.lq_turns.specs.declared.stamp.Stamp.{Stamp}
 use Rattle.lq_turns.specs.declared.stop.Refusal.{Refusal}
@@ -34,12 +35,14 @@ stopping_way way source d stamp told = record {
   awaits = (way source d stamp told).awaits;
   yields = (way source d stamp told).yields;
   tells = λ refused. (way source d stamp told).tells refused × IfYielded way d stamp told refused;
+  lacks = IsUnderWay (way source d stamp told);
 }
 
--- where a statement was refused it is known of which changeset
-abbrev pub NamesStop : End → Option Identity → Type 0
-NamesStop (end.Refused refusal) of = is_some of ≡ true
-NamesStop e of = Unit {0}
+-- where a run halted, or a statement was refused, it is known of which changeset
+abbrev pub NamesStop : End → Option Halt → Option Identity → Type 0
+NamesStop end.Done halted of = IfSome halted (λ (halt : Halt). is_some halt.identity ≡ true)
+NamesStop (end.Refused refusal) halted of = is_some of ≡ true
+NamesStop e halted of = Unit {0}
 
 -- the changeset of a refusal
 abbrev pub refused_at : Option Stop → Option Identity
@@ -54,4 +57,4 @@ YieldsOne told true refusal = told ≡ None
 YieldsOne told false refusal = told ≡ Some refusal
 
 abbrev pub one_way : Option Refusal → Way
-one_way told = record { knows = λ c. told ≡ None; awaits = λ sees c. told ≡ None; yields = λ goes_on refusal c. YieldsOne told goes_on refusal; tells = λ refused. told ≡ refused }
+one_way told = record { knows = λ c. told ≡ None; awaits = λ sees c. told ≡ None; yields = λ goes_on refusal c. YieldsOne told goes_on refusal; tells = λ refused. told ≡ refused; lacks = Unit {0} }

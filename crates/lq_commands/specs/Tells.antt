@@ -1,14 +1,15 @@
 -- What a command that came to its end tells of its run.
 use Rattle.std.specs.List.{flat_map}
-use Rattle.std.specs.Prelude.{Bool, List, None, Option, Some, [], false, if◌then◌else◌, option_map, true, ℕ, ◌≡◌}
+use Rattle.std.specs.Prelude.{Bool, List, None, Option, Some, [], false, if◌then◌else◌, option_map, true, ℕ, ◌++◌, ◌≡◌}
 use Rattle.lq_base.specs.declared.identity.Identity.{Identity}
 use Rattle.lq_base.specs.declared.run.Happened.{Happened}
 use Rattle.lq_base.specs.declared.run.Printed.{Printed}
+use Rattle.lq_base.specs.declared.run.Why.{Why}
 use Rattle.lq_report.specs.Output.{rollback_text, sql_text, update_text}
 use Rattle.lq_run.specs.declared.runner.End.{End}
 use Rattle.lq_run.specs.declared.runner.End.TheVariants as end
 use Rattle.lq_seen.specs.Printing.{Account}
-use Rattle.lq_seen.specs.Telling.{Reports, bounded}
+use Rattle.lq_seen.specs.Telling.{Reports, WarnsFirst, bounded}
 use Rattle.lq_seen.specs.declared.outcome.Halt.{Halt}
 use Rattle.lq_seen.specs.declared.outcome.Outcome.{Outcome}
 use Rattle.lq_tell.specs.Lines.{warning_line, warning_lines}
@@ -31,11 +32,14 @@ stop_by halted at end.Done = option_map (λ (h : Halt). Halted h.identity h.why)
 stop_by halted at (end.Refused refusal) = option_map (λ of. Refused of refusal) at
 stop_by halted at e = None
 
--- the source has told and printed so much, by how the run ended
+-- the source has told and printed so much, by how the run ended; at a full journal it has warned of a front
 abbrev pub HasTold : Outcome → Account → End → Type 0
 HasTold o account end.Done = Reports o account None
 HasTold o account (end.Refused refusal) = Reports o account (Some refusal)
-HasTold o account e = Unit {0}
+HasTold o account (end.Full used next) = WarnsFirst o account.settled
+HasTold o account (end.Locked lock) = Unit {0}
+HasTold o account end.Disk = Unit {0}
+HasTold o account end.OutOfMemory = Unit {0}
 
 -- its output: the statements that ran, where they are to be printed, or else what was done with each changeset
 abbrev pub update_output : Bool → List Happened → ℕ → List Printed → List ℕ
@@ -69,3 +73,16 @@ pub record TellsRollback (prints : Bool) (account : Account) (done : Done) : Typ
 -- so does one that came to its end
 abbrev pub IfFinished : Done → Type 0 → Type 0
 IfFinished done tells = is_finished done.status ≡ true → tells
+
+-- however it ended, the lines of its warnings are those of a front of these
+pub record WarnsUpTo (warned : List (Option Identity × Why)) (done : Done) : Type 0 where
+  pub front : List (Option Identity × Why)
+  pub rest : List (Option Identity × Why)
+  pub is : front ++ rest ≡ warned
+  pub lines : warning_lines done.own done.warned ≡ flat_map warning_line front
+
+abbrev pub EndsUpdate : Bool → Account → Done → Type 0
+EndsUpdate prints account done = IfFinished done (TellsUpdate prints account done) × WarnsUpTo account.settled.warned done
+
+abbrev pub EndsRollback : Bool → Account → Done → Type 0
+EndsRollback prints account done = IfFinished done (TellsRollback prints account done) × WarnsUpTo account.settled.warned done

@@ -5,7 +5,7 @@ use Rattle.lq_base.specs.declared.command.Command.TheVariants as command
 use Rattle.lq_base.specs.declared.dialect.Dialect.{Dialect}
 use Rattle.lq_run.specs.Commands.{HasDatabase, Leaves}
 use Rattle.lq_run.specs.Crashes.{CrashesLeave, LeftBehind, LeftInCommand}
-use Rattle.lq_run.specs.Left.{IsFullIn}
+use Rattle.lq_run.specs.Left.{IsFullIn, RestsIn}
 use Rattle.lq_run.specs.Stands.{HadRoom}
 use Rattle.lq_run.specs.declared.runner.End.{End}
 use Rattle.lq_run.specs.declared.runner.End.TheVariants as end
@@ -47,19 +47,28 @@ is_whole end.Disk = false
 is_whole (end.Full used next) = false
 is_whole end.OutOfMemory = false
 
+-- a run that did not make all its calls fails with its own fault, and with no other
+abbrev pub FailsWith : End → Status → Type 0
+FailsWith end.Done s = ⊥
+FailsWith (end.Refused refusal) s = ⊥
+FailsWith (end.Locked lock) s = s ≡ status.Locked lock
+FailsWith end.Disk s = s ≡ status.DiskFault
+FailsWith (end.Full used next) s = ⊥
+FailsWith end.OutOfMemory s = s ≡ status.OutOfMemory
+
 -- it had the lock until its end
 abbrev pub KeptLock : End → Type 0
 KeptLock (end.Locked lock) = ⊥
 KeptLock e = Unit {0}
 
--- a run that met a full journal tells how full it was
-abbrev pub FullAs : Dialect → List Call → Database → State → End → Type 0
-FullAs d calls database x end.Done = Unit {0}
-FullAs d calls database x (end.Refused refusal) = Unit {0}
-FullAs d calls database x (end.Locked lock) = Unit {0}
-FullAs d calls database x end.Disk = Unit {0}
-FullAs d calls database x (end.Full used next) = IsFullIn d calls database x used next
-FullAs d calls database x end.OutOfMemory = Unit {0}
+-- a run that met a full journal tells how full it was, and leaves it and the lock so
+abbrev pub FullAs : Dialect → List Call → Database → State → End → State → Type 0
+FullAs d calls database x end.Done y = Unit {0}
+FullAs d calls database x (end.Refused refusal) y = Unit {0}
+FullAs d calls database x (end.Locked lock) y = Unit {0}
+FullAs d calls database x end.Disk y = Unit {0}
+FullAs d calls database x (end.Full used next) y = RestsIn d calls database x y used next
+FullAs d calls database x end.OutOfMemory y = Unit {0}
 
 -- and its status has the same numbers
 abbrev pub TellsFull : End → Status → Type 0
@@ -74,13 +83,17 @@ TellsFull end.OutOfMemory s = ⊥
 abbrev pub SaysFull : Dialect → List Call → Database → State → Status → Type 0
 SaysFull d calls database x s = (used next : ℕ) → s ≡ status.Full used next → IsFullIn d calls database x used next
 
+-- and leaves the journal and the lock so
+abbrev pub RestsFull : Dialect → List Call → Database → State → Status → State → Type 0
+RestsFull d calls database x s y = (used next : ℕ) → s ≡ status.Full used next → RestsIn d calls database x y used next
+
 -- there was room for each entry of calls that came to their end, and a full journal is told as full as it was
 abbrev pub TellsRoom : Dialect → List Call → Database → State → Status → Type 0
 TellsRoom d calls database x s = (is_finished s ≡ true → HadRoom d x.limit x.used (all_called d calls (session_on database)).entries) × SaysFull d calls database x s
 
--- where a command came to its end its calls' database is there, and their entries are in the journal; however else it ended, what a stop of them may leave; and how full a full journal was
+-- where a command came to its end its calls' database is there, and their entries are in the journal; however else it ended, what a stop of them may leave; and how full a full journal was, and how the lock rests then
 abbrev pub Works : Dialect → List Call → Database → State → Result Done Status → State → Type 0
-Works d calls database x (Ok done) y = (is_finished done.status ≡ true → Leaves d calls database x y) × (is_finished done.status ≡ false → LeftBehind d calls database x y) × SaysFull d calls database x done.status
+Works d calls database x (Ok done) y = (is_finished done.status ≡ true → Leaves d calls database x y) × (is_finished done.status ≡ false → LeftBehind d calls database x y) × RestsFull d calls database x done.status y
 Works d calls database x (Err s) y = LeftBehind d calls database x y
 
 -- at each moment of it a crash of the machine leaves what a stop of these calls may leave

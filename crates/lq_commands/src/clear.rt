@@ -6,10 +6,9 @@ ghost use Rattle.lq_run.specs.Commands.{Leaves};
 ghost use Rattle.lq_run.specs.Crashes.{LeftBehind};
 ghost use Rattle.lq_store.specs.Calls.{CountsDisk};
 ghost use Rattle.lq_tell.specs.declared.status.Status.TheVariants.{DiskFault};
-ghost use Rattle.lq_commands.specs.Outputs.{TellsText};
+ghost use Rattle.lq_commands.specs.Outputs.{EndsText};
 ghost use Rattle.lq_commands.specs.Refusals.{Answers, fault_status, held};
-ghost use Rattle.lq_commands.specs.Tells.{IfFinished};
-ghost use Rattle.lq_commands.specs.Works.{CrashesIn, IsKept, IsReady, OnIts, SaysFull, Works};
+ghost use Rattle.lq_commands.specs.Works.{CrashesIn, IsKept, IsReady, OnIts, RestsFull, Works};
 ghost use Rattle.lq_turns.specs.Script.{clear_calls};
 
 use crate::checks::{check_lock, rows_in};
@@ -36,7 +35,7 @@ pub fn clear_sums<S: Store, P: SqlText>(
     requires sql { P.dialect ≡ dialect }
     ensures valid { S.valid store.new }
     ensures tells { IfOk result (λ done. OnIts dialect (S.state store.old)
-        (λ database. IfFinished done (TellsText (cleared_text (length database.rows)) done))) }
+        (λ database. EndsText (cleared_text (length database.rows)) done)) }
     ensures answers { OnIts dialect (S.state store.old)
         (λ database. Answers (held database) result) }
     ensures refused { OnIts dialect (S.state store.old)
@@ -69,7 +68,7 @@ fn clear_these<S: Store, P: SqlText>(
     requires rows { OnIts dialect (S.state store.old) (λ database. database.rows ≡ rows.now) }
     ensures valid { S.valid store.new }
     ensures tells { IfOk result
-        (λ done. IfFinished done (TellsText (cleared_text (length rows.now)) done)) }
+        (λ done. EndsText (cleared_text (length rows.now)) done) }
     ensures answers { Answers None result }
     ensures works { OnIts dialect (S.state store.old)
         (λ database. Works dialect (clear_calls database) database
@@ -107,8 +106,8 @@ fn clear_all<S: Store, P: SqlText>(
         (λ database. LeftBehind dialect (clear_calls database) database
         (S.state store.old) (S.state store.new)) }
     ensures full { IfErr result (λ fault. OnIts dialect (S.state store.old)
-        (λ database. SaysFull dialect (clear_calls database) database
-        (S.state store.old) (fault_status fault))) }
+        (λ database. RestsFull dialect (clear_calls database) database
+        (S.state store.old) (fault_status fault) (S.state store.new))) }
     ensures any_moment { OnIts dialect (S.state store.old)
         (λ database. CrashesIn dialect (clear_calls database) database
         (S.state store.old) (S.crashes store.old) (S.crashes store.new)) }

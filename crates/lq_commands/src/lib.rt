@@ -18,8 +18,9 @@ mod tag;
 pub mod update;
 mod who;
 
-pub use checks::{checked_rows, rows_in, valid_rows};
+pub use checks::{check_lock, checked_rows, rows_in, valid_rows};
 pub use command::{print_rollback, print_update, run_command, run_single};
 pub use given::{Asked, Given, SESSION, stamped};
+pub use running::fault_answer;
 pub use stamp::{numbered_stamp, stamp_of};
 pub use who::clean;

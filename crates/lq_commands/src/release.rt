@@ -5,10 +5,9 @@ ghost use Rattle.lq_run.specs.Commands.{Leaves};
 ghost use Rattle.lq_run.specs.Crashes.{LeftBehind};
 ghost use Rattle.lq_store.specs.Calls.{CountsDisk};
 ghost use Rattle.lq_tell.specs.declared.status.Status.TheVariants.{DiskFault};
-ghost use Rattle.lq_commands.specs.Outputs.{TellsText, released_text};
+ghost use Rattle.lq_commands.specs.Outputs.{EndsText, released_text};
 ghost use Rattle.lq_commands.specs.Refusals.{Answers, fault_status, refusal};
-ghost use Rattle.lq_commands.specs.Tells.{IfFinished};
-ghost use Rattle.lq_commands.specs.Works.{CrashesIn, IsKept, IsReady, OnIts, SaysFull, Works};
+ghost use Rattle.lq_commands.specs.Works.{CrashesIn, IsKept, IsReady, OnIts, RestsFull, Works};
 ghost use Rattle.lq_turns.specs.Script.{release_calls};
 
 use crate::given::{Given, SESSION};
@@ -34,7 +33,7 @@ pub fn release<S: Store, P: SqlText>(
     ensures valid { S.valid store.new }
     ensures tells { IfOk result (λ done.
         OnIts given.now.options.dialect (S.state store.old)
-        (λ database. IfFinished done (TellsText (released_text database.lock) done))) }
+        (λ database. EndsText (released_text database.lock) done)) }
     ensures answers { OnIts given.now.options.dialect (S.state store.old)
         (λ database. Answers (refusal command.Release given.now database) result) }
     ensures refused { OnIts given.now.options.dialect (S.state store.old)
@@ -75,8 +74,8 @@ pub fn free<S: Store, P: SqlText>(
         (S.state store.new)) }
     ensures full { IfErr result (λ fault.
         OnIts given.now.options.dialect (S.state store.old) (λ database.
-        SaysFull given.now.options.dialect (release_calls database) database (S.state store.old)
-        (fault_status fault))) }
+        RestsFull given.now.options.dialect (release_calls database) database (S.state store.old)
+        (fault_status fault) (S.state store.new))) }
     ensures any_moment { OnIts given.now.options.dialect (S.state store.old) (λ database.
         CrashesIn given.now.options.dialect (release_calls database) database (S.state store.old)
         (S.crashes store.old) (S.crashes store.new)) }

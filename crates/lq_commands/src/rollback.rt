@@ -10,7 +10,7 @@ ghost use Rattle.lq_commands.specs.Refusals.{Answers, IsFault, ends, no_way_back
 ghost use Rattle.lq_commands.specs.Scripts.{rollback_script, rolled_back, rolled_to, taking_back};
 ghost use Rattle.lq_seen.specs.Printing.{Account, of_turns};
 ghost use Rattle.lq_commands.specs.Stopping.{NamesStop};
-ghost use Rattle.lq_commands.specs.Tells.{HasTold, IfFinished, IsQuiet, TellsRollback, rollback_output};
+ghost use Rattle.lq_commands.specs.Tells.{HasTold, IsQuiet, EndsRollback, rollback_output};
 ghost use Rattle.lq_commands.specs.Works.{CrashesIn, IsKept, IsReady, KeptLock, OnIts, TellsFull, Works, is_finished, is_whole};
 ghost use Rattle.lq_base.specs.declared.command.Command.TheVariants as command;
 ghost use Rattle.lq_turns.specs.Rollback.{rollback_of, rows_kept};
@@ -49,9 +49,8 @@ pub fn rollback<S: Store, P: SqlText>(
     ensures valid { S.valid store.new }
     ensures tells { IfOk result (λ done.
         OnIts given.options.dialect (S.state store.old) (λ database.
-        IfFinished done
-        (TellsRollback prints (rolled_to prints given (rows_kept target.now database.rows) database)
-        done))) }
+        EndsRollback prints (rolled_to prints given (rows_kept target.now database.rows) database)
+        done)) }
     ensures answers { OnIts given.options.dialect (S.state store.old)
         (λ database. Answers (refusal (command.Rollback target.now) given database) result) }
     ensures refused { OnIts given.options.dialect (S.state store.old) (λ database.
@@ -90,9 +89,8 @@ fn rollback_rows<S: Store, P: SqlText>(
     ensures valid { S.valid store.new }
     ensures tells { IfOk result (λ done.
         OnIts given.options.dialect (S.state store.old) (λ database.
-        IfFinished done
-        (TellsRollback prints (rolled_to prints given (rows_kept target.now database.rows) database)
-        done))) }
+        EndsRollback prints (rolled_to prints given (rows_kept target.now database.rows) database)
+        done)) }
     ensures answers { Answers (no_way_back given target.now rows.now) result }
     ensures refused { IsKept (no_way_back given target.now rows.now) store.old store.new }
     ensures works { OnIts given.options.dialect (S.state store.old) (λ database.
@@ -129,8 +127,7 @@ fn take_back<S: Store, P: SqlText>(
     ensures valid { S.valid store.new }
     ensures tells { IfOk result (λ done.
         OnIts given.options.dialect (S.state store.old) (λ database.
-        IfFinished done
-        (TellsRollback prints (rolled_back prints given (reverse undone.now) database) done))) }
+        EndsRollback prints (rolled_back prints given (reverse undone.now) database) done)) }
     ensures answers { Answers None result }
     ensures works { OnIts given.options.dialect (S.state store.old) (λ database.
         Works given.options.dialect (taking_back given (reverse undone.now) database) database
@@ -187,10 +184,9 @@ fn run<S: Store, P: SqlText>(
     ensures valid { S.valid store.new }
     ensures tells { IfOk result (λ done.
         OnIts given.options.dialect (S.state store.old) (λ database.
-        IfFinished done
-        (TellsRollback prints
+        EndsRollback prints
         (of_turns prints given.options.dialect (reverse source.turns) (contents_of database))
-        done))) }
+        done)) }
     ensures answers { Answers None result }
     ensures works { OnIts given.options.dialect (S.state store.old) (λ database.
         Works given.options.dialect
@@ -211,10 +207,10 @@ fn run<S: Store, P: SqlText>(
 // What a rollback that had the lock did.
 fn ended(alloc: Global, outcome: Outcome, end: End, prints: bool) -> Result<Done, Status>
     requires lock { KeptLock end }
-    requires stopped { NamesStop end outcome.stopped_at }
+    requires stopped { NamesStop end outcome.halted outcome.stopped_at }
     ensures tells { (account : Account)
         → HasTold outcome account end
-        → IfOk result (λ done. IfFinished done (TellsRollback prints account done)) }
+        → IfOk result (λ done. EndsRollback prints account done) }
     ensures fault { IfErr result IsFault }
     ensures ends { IfOk result (λ done. ends done.status ≡ true) }
     ensures whole { IfOk result (λ done. is_finished done.status ≡ true → is_whole end ≡ true) }
@@ -249,6 +245,7 @@ fn text_of(
     happened: &[Happened],
     printed: &[Printed],
 ) -> Result<Option<Text>, NoMemory>
+    requires ends { ends by.now ≡ true }
     ensures { IfOk result (λ text.
         is_finished by.now ≡ true → text ≡ Some (rollback_output prints happened.now printed.now)) }
 {

@@ -11,13 +11,14 @@ ghost use Rattle.lq_run.specs.Ends.{AllHoldOn};
 ghost use Rattle.lq_run.specs.Faults.{is_disk_end};
 ghost use Rattle.lq_run.specs.declared.runner.End.TheVariants.{Done as Whole, Refused as Stopped};
 ghost use Rattle.lq_run.specs.Steps.{TellsAs};
+ghost use Rattle.lq_run.specs.UnderWay.{TellsTo};
 ghost use Rattle.lq_model.specs.declared.fault.StoreFault.TheVariants.{Disk};
 ghost use Rattle.lq_tell.specs.declared.status.Status.TheVariants.{DiskFault};
 ghost use Rattle.lq_commands.specs.Refusals.{IsFault, ends, fault_status};
 ghost use Rattle.lq_commands.specs.Stopping.{NamesStop, YieldedAt, one_way};
-ghost use Rattle.lq_commands.specs.Tells.{status_by, stop_by};
+ghost use Rattle.lq_commands.specs.Tells.{IsQuiet, status_by, stop_by};
 ghost use Rattle.lq_commands.specs.Turns.{MayTurn, turns_script};
-ghost use Rattle.lq_commands.specs.Works.{CrashesIn, FullAs, IsReady, KeptLock, OnIts, TellsFull, is_finished, is_whole};
+ghost use Rattle.lq_commands.specs.Works.{CrashesIn, FailsWith, FullAs, IsReady, KeptLock, OnIts, TellsFull, is_finished, is_whole};
 ghost use Rattle.lq_turns.specs.Contents.{contents_of};
 ghost use Rattle.lq_turns.specs.Script.{with_lock};
 ghost use Rattle.lq_turns.specs.Stops.{is_mark};
@@ -58,6 +59,8 @@ pub fn fault_answer(alloc: Global, fault: StoreFault) -> Result<Done, Status>
     ensures unfinished { IfOk result (λ done. is_finished done.status ≡ false) }
     ensures same { IfOk result (λ done. done.status ≡ fault_status fault) }
     ensures disk { result ≡ Err DiskFault → fault ≡ Disk }
+    ensures own { IfErr result (λ s. s ≡ fault_status fault) }
+    ensures quiet { IfOk result IsQuiet }
 {
     match fault_status(fault) {
         Status::Full { used, next } => Ok(Done {
@@ -105,14 +108,14 @@ pub fn run_turns<T: Source + Drop, S: Store, P: SqlText>(
         (S.state store.old) (S.state store.new)) }
     ensures full { OnIts dialect (S.state store.old) (λ database.
         FullAs dialect (turns_script dialect T.meaning stamp (T.left source) database) database
-        (S.state store.old) result.end) }
+        (S.state store.old) result.end (S.state store.new)) }
     ensures any_moment { OnIts dialect (S.state store.old) (λ database.
         CrashesIn dialect (turns_script dialect T.meaning stamp (T.left source) database) database
         (S.state store.old) (S.crashes store.old) (S.crashes store.new)) }
     ensures tells { OnIts dialect (S.state store.old) (λ database.
         (told : T.Told)
         → MayTurn dialect T.meaning stamp (T.left source) (T.way source dialect stamp) database told
-        → TellsAs (T.way result.source dialect stamp told) result.end) }
+        → TellsTo (T.way result.source dialect stamp told) result.end) }
     ensures stops { OnIts dialect (S.state store.old) (λ database.
         (told : T.Told)
         → MayTurn dialect T.meaning stamp (T.left source) (T.way source dialect stamp) database told
@@ -163,7 +166,7 @@ pub fn run_hand<S: Store, P: SqlText>(
     ensures full { OnIts dialect (S.state store.old) (λ database.
         FullAs dialect
         (with_lock stamp database (made dialect (calls_left hand) (contents_of database))) database
-        (S.state store.old) result) }
+        (S.state store.old) result (S.state store.new)) }
     ensures any_moment { OnIts dialect (S.state store.old) (λ database.
         CrashesIn dialect
         (with_lock stamp database (made dialect (calls_left hand) (contents_of database))) database
@@ -187,7 +190,7 @@ pub fn run_status(
     stopped_at: Option<Identity>,
 ) -> Result<Status, Status>
     requires lock { KeptLock end }
-    requires stopped { NamesStop end stopped_at }
+    requires stopped { NamesStop end halted stopped_at }
     ensures fault { IfErr result IsFault }
     ensures answers { is_whole end ≡ true → IsOk result }
     ensures ends { IfOk result (λ status. ends status ≡ true) }
@@ -196,6 +199,7 @@ pub fn run_status(
         (λ status. is_finished status ≡ true → status ≡ status_by (stop_by halted stopped_at end)) }
     ensures full { IfOk result (TellsFull end) }
     ensures disk { result ≡ Err DiskFault → is_disk_end end ≡ true }
+    ensures own { IfErr result (FailsWith end) }
 {
     match end {
         End::Done => Ok(done_status(halted)),
@@ -208,6 +212,7 @@ pub fn run_status(
 }
 
 fn done_status(halted: Option<Halt>) -> Status
+    requires { NamesStop Whole halted None }
     ensures ends { ends result ≡ true }
     ensures finished { is_finished result ≡ true }
     ensures tells { result ≡ status_by (stop_by halted None Whole) }

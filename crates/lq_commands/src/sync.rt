@@ -11,11 +11,11 @@ ghost use Rattle.lq_run.specs.Crashes.{LeftBehind};
 ghost use Rattle.lq_run.specs.Faults.{is_disk_end};
 ghost use Rattle.lq_back.specs.SyncTurn.{AreDated};
 ghost use Rattle.lq_tell.specs.declared.status.Status.TheVariants as status;
-ghost use Rattle.lq_commands.specs.Inserts.{EndsWithRows, TellsSync, goes_in, sync_out, synced_in};
+ghost use Rattle.lq_commands.specs.Inserts.{EndsWithRows, EndsSync, goes_in, sync_out, synced_in};
 ghost use Rattle.lq_commands.specs.Refusals.{Answers, IsFault, ends, refusal};
 ghost use Rattle.lq_commands.specs.Scripts.{sets_in, sync_script};
 ghost use Rattle.lq_commands.specs.Stopping.{NamesStop, refused_at};
-ghost use Rattle.lq_commands.specs.Tells.{IfFinished, IsQuiet, status_by, stop_by};
+ghost use Rattle.lq_commands.specs.Tells.{IsQuiet, status_by, stop_by};
 ghost use Rattle.lq_commands.specs.Works.{CrashesIn, FullAs, IsKept, IsReady, KeptLock, OnIts, TellsFull, Works, is_finished, is_whole};
 ghost use Rattle.lq_track.specs.Log.{identity_of};
 ghost use Rattle.lq_turns.specs.Script.{rows_to_sync};
@@ -58,7 +58,7 @@ pub fn sync<S: Store, P: SqlText>(
     ensures valid { S.valid store.new }
     ensures tells { IfOk result (λ done.
         OnIts given.options.dialect (S.state store.old)
-        (λ database. IfFinished done (TellsSync (synced_in given database) done))) }
+        (λ database. EndsSync (synced_in given database) done)) }
     ensures answers { OnIts given.options.dialect (S.state store.old)
         (λ database. Answers (refusal command.Sync given database) result) }
     ensures refused { OnIts given.options.dialect (S.state store.old)
@@ -110,7 +110,7 @@ fn insert<S: Store, P: SqlText>(
     ensures valid { S.valid store.new }
     ensures tells { IfOk result (λ done.
         OnIts given.options.dialect (S.state store.old)
-        (λ database. IfFinished done (TellsSync (synced_in given database) done))) }
+        (λ database. EndsSync (synced_in given database) done)) }
     ensures answers { Answers None result }
     ensures works { OnIts given.options.dialect (S.state store.old) (λ database.
         Works given.options.dialect (sync_script given database) database (S.state store.old) result
@@ -160,7 +160,7 @@ fn insert_some<S: Store, P: SqlText>(
     ensures valid { S.valid store.new }
     ensures tells { IfOk result (λ done.
         OnIts given.options.dialect (S.state store.old)
-        (λ database. IfFinished done (TellsSync (synced_in given database) done))) }
+        (λ database. EndsSync (synced_in given database) done)) }
     ensures answers { Answers None result }
     ensures works { OnIts given.options.dialect (S.state store.old) (λ database.
         Works given.options.dialect (sync_script given database) database (S.state store.old) result
@@ -208,7 +208,8 @@ fn run<S: Store, P: SqlText>(
         (S.state store.new)) }
     ensures full { IfOk result (λ e.
         OnIts given.options.dialect (S.state store.old) (λ database.
-        FullAs given.options.dialect (sync_script given database) database (S.state store.old) e)) }
+        FullAs given.options.dialect (sync_script given database) database (S.state store.old) e
+        (S.state store.new))) }
     ensures any_moment { OnIts given.options.dialect (S.state store.old) (λ database.
         CrashesIn given.options.dialect (sync_script given database) database (S.state store.old)
         (S.crashes store.old) (S.crashes store.new)) }
@@ -230,7 +231,7 @@ fn ended(
     end: End,
 ) -> Result<Done, Status>
     requires lock { KeptLock end }
-    requires stopped { NamesStop end of }
+    requires stopped { NamesStop end None of }
     ensures fault { IfErr result IsFault }
     ensures ends { IfOk result (λ done. ends done.status ≡ true) }
     ensures whole { IfOk result (λ done. is_finished done.status ≡ true → is_whole end ≡ true) }

@@ -4,9 +4,8 @@ ghost use Rattle.lq_base.specs.declared.command.Command.TheVariants as command;
 ghost use Rattle.lq_outside.specs.Count.{Rose};
 ghost use Rattle.lq_report.specs.Output.{tagged_text};
 ghost use Rattle.lq_tell.specs.declared.status.Status.TheVariants.{DiskFault};
-ghost use Rattle.lq_commands.specs.Outputs.{TellsText};
+ghost use Rattle.lq_commands.specs.Outputs.{EndsText};
 ghost use Rattle.lq_commands.specs.Refusals.{Answers, refusal, untagged};
-ghost use Rattle.lq_commands.specs.Tells.{IfFinished};
 ghost use Rattle.lq_commands.specs.Works.{CrashesIn, IsKept, IsReady, OnIts, Works};
 ghost use Rattle.lq_track.specs.Log.{identity_of};
 ghost use Rattle.lq_turns.specs.Script.{last_row, tag_calls};
@@ -35,7 +34,7 @@ pub fn tag<S: Store, P: SqlText>(
     requires sql { P.dialect ≡ given.now.options.dialect }
     requires short { char_count tag.now ≤ 255 }
     ensures valid { S.valid store.new }
-    ensures tells { IfOk result (λ done. IfFinished done (TellsText (tagged_text tag.now) done)) }
+    ensures tells { IfOk result (λ done. EndsText (tagged_text tag.now) done) }
     ensures answers { OnIts given.now.options.dialect (S.state store.old)
         (λ database. Answers (refusal (command.Tag tag.now) given.now database) result) }
     ensures refused { OnIts given.now.options.dialect (S.state store.old) (λ database.
@@ -70,7 +69,7 @@ fn tag_rows<S: Store, P: SqlText>(
     requires short { char_count tag.now ≤ 255 }
     requires rows { OnIts dialect (S.state store.old) (λ database. database.rows ≡ rows.now) }
     ensures valid { S.valid store.new }
-    ensures tells { IfOk result (λ done. IfFinished done (TellsText (tagged_text tag.now) done)) }
+    ensures tells { IfOk result (λ done. EndsText (tagged_text tag.now) done) }
     ensures answers { Answers (untagged rows.now) result }
     ensures refused { IsKept (untagged rows.now) store.old store.new }
     ensures works { OnIts dialect (S.state store.old) (λ database.
@@ -102,7 +101,7 @@ fn tag_last<S: Store, P: SqlText>(
     requires last { OnIts dialect (S.state store.old)
         (λ database. option_map identity_of (last_row database.rows) ≡ Some of) }
     ensures valid { S.valid store.new }
-    ensures tells { IfOk result (λ done. IfFinished done (TellsText (tagged_text tag.now) done)) }
+    ensures tells { IfOk result (λ done. EndsText (tagged_text tag.now) done) }
     ensures answers { Answers None result }
     ensures works { OnIts dialect (S.state store.old) (λ database.
         Works dialect (tag_calls tag.now database) database (S.state store.old) result

@@ -9,7 +9,7 @@ ghost use Rattle.lq_commands.specs.Refusals.{Answers, IsFault, ends, refusal};
 ghost use Rattle.lq_commands.specs.Scripts.{sets_in, sets_script, settled_in, update_script, updated_in};
 ghost use Rattle.lq_seen.specs.Printing.{Account, of_sets};
 ghost use Rattle.lq_commands.specs.Stopping.{NamesStop};
-ghost use Rattle.lq_commands.specs.Tells.{HasTold, IfFinished, TellsUpdate, update_output};
+ghost use Rattle.lq_commands.specs.Tells.{HasTold, EndsUpdate, update_output};
 ghost use Rattle.lq_commands.specs.Works.{CrashesIn, IsKept, IsReady, KeptLock, OnIts, TellsFull, Works, is_finished, is_whole};
 ghost use Rattle.lq_base.specs.declared.command.Command.TheVariants as command;
 ghost use Rattle.lq_base.specs.declared.dialect.Dialect.{Dialect as Spoken};
@@ -57,7 +57,7 @@ pub fn update<S: Store, P: SqlText>(
     ensures valid { S.valid store.new }
     ensures tells { IfOk result (λ done.
         OnIts given.options.dialect (S.state store.old) (λ database.
-        IfFinished done (TellsUpdate prints (updated_in prints given database) done))) }
+        EndsUpdate prints (updated_in prints given database) done)) }
     ensures answers { OnIts given.options.dialect (S.state store.old)
         (λ database. Answers (refusal command.Update given database) result) }
     ensures refused { OnIts given.options.dialect (S.state store.old)
@@ -100,7 +100,7 @@ pub fn update_on<S: Store, P: SqlText>(
     ensures valid { S.valid store.new }
     ensures tells { IfOk result (λ done.
         OnIts given.options.dialect (S.state store.old) (λ database.
-        IfFinished done (TellsUpdate prints (settled_in prints given database) done))) }
+        EndsUpdate prints (settled_in prints given database) done)) }
     ensures own { IfOk result (λ done. done.own ≡ None) }
     ensures answers { Answers None result }
     ensures works { OnIts given.options.dialect (S.state store.old) (λ database.
@@ -153,7 +153,7 @@ fn run<S: Store, P: SqlText>(
     ensures valid { S.valid store.new }
     ensures tells { IfOk result (λ done.
         OnIts given.options.dialect (S.state store.old) (λ database.
-        IfFinished done (TellsUpdate prints (settled_in prints given database) done))) }
+        EndsUpdate prints (settled_in prints given database) done)) }
     ensures own { IfOk result (λ done. done.own ≡ None) }
     ensures answers { Answers None result }
     ensures works { OnIts given.options.dialect (S.state store.old) (λ database.
@@ -202,10 +202,10 @@ fn turns_of(
 // What an update that had the lock did.
 fn ended(alloc: Global, outcome: Outcome, end: End, prints: bool) -> Result<Done, Status>
     requires lock { KeptLock end }
-    requires stopped { NamesStop end outcome.stopped_at }
+    requires stopped { NamesStop end outcome.halted outcome.stopped_at }
     ensures tells { (account : Account)
         → HasTold outcome account end
-        → IfOk result (λ done. IfFinished done (TellsUpdate prints account done)) }
+        → IfOk result (λ done. EndsUpdate prints account done) }
     ensures own { IfOk result (λ done. done.own ≡ None) }
     ensures fault { IfErr result IsFault }
     ensures ends { IfOk result (λ done. ends done.status ≡ true) }
@@ -242,6 +242,7 @@ fn text_of(
     not_fresh: u64,
     printed: &[Printed],
 ) -> Result<Option<Text>, NoMemory>
+    requires ends { ends by.now ≡ true }
     ensures { IfOk result (λ text.
         is_finished by.now ≡ true
         → text ≡ Some (update_output prints happened.now not_fresh printed.now)) }

@@ -11,8 +11,7 @@ use Rattle.lq_db.specs.Lock.{IsLockOf}
 use Rattle.lq_entries.specs.Log.{IsCut, Log, gained}
 use Rattle.lq_session.specs.declared.open.Open.{Open}
 use Rattle.lq_db.specs.declared.running.Running.{Running}
-use Rattle.lq_db.proofs.Commits.{failed, run_more, state}
-use Rattle.lq_db.proofs.RanItself.{journal_with}
+use Rattle.lq_db.proofs.Commits.{failed, journal_with, state}
 use Rattle.lq_model.specs.Catalogue.{Catalogue}
 use Rattle.lq_model.specs.Sound.{IsSound}
 use Rattle.lq_model.specs.declared.caller.ByText.{ByText}

@@ -10,7 +10,8 @@ use Rattle.lq_entries.specs.Log.{entries_of}
 use Rattle.lq_session.specs.Session.{texts_in}
 use Rattle.lq_db.specs.declared.running.Running.{Running}
 use Rattle.lq_db.proofs.Commits.{if_any_is, run_more, run_one}
-use Rattle.lq_db.proofs.Executed.{ran_text, run_last}
+use Rattle.lq_db.proofs.Executed.{run_last}
+use Rattle.lq_loading.proofs.Raises.{ran_text}
 use Rattle.lq_db.proofs.Lasts.{added_last, closed_last, written_last}
 use Rattle.lq_db.proofs.RanItself.{run_two}
 use Rattle.lq_model.proofs.KeepsSound.{statement_keeps}
@@ -24,7 +25,8 @@ use Rattle.lq_model.specs.declared.caller.By.{By}
 use Rattle.lq_model.specs.declared.caller.ByText.{ByText}
 use Rattle.lq_model.specs.declared.statement.Statement.{Statement}
 use Rattle.lq_store.specs.Executor.{Held, Runs, back, holding, kept}
-use Rattle.lq_store.specs.Journal.{Entry, run_entries, run_texts}
+use Rattle.lq_store.specs.Journal.{Entry, of_texts, run_entries, run_texts}
+use Rattle.lq_store.specs.Journal.Entry.{Texts}
 use Rattle.lq_store.specs.Work.{Outcome, Work, committed, goes_on, outcome, outcome_all, work_in}
 use Rattle.lq_store.specs.Work.End.{Ran, Stopped, NoStatement}
 
@@ -71,9 +73,10 @@ module _ (d : Dialect) (by : By) (text : List ℕ) (s : Statement) (h k : Held) 
           dialect_is = stays.dialect_is ∙ running.dialect_is;
           sound_now = sound;
           sound_cut = rw runs_are sound;
-          ran = rw (entries_are, append_assoc old.entries (entries_of old.entry) ((text ∷ []) ∷ []), stays.kept_is, runs_are) (run_more d old.entries (entries_of old.entry ++ (text ∷ []) ∷ []) (kept h) (cut h old) running.ran ∙ run_two d old.entry text (cut h old) h.now k.now running.runs (ran_text d by text s h.now k.now n spelled meant));
+          ran = rw (entries_are, append_assoc (of_texts old.entries) (entries_of old.entry) (Texts (text ∷ []) ∷ []), stays.kept_is, runs_are)
+              (run_more d (of_texts old.entries) (entries_of old.entry ++ Texts (text ∷ []) ∷ []) (Some (kept h)) ∙ (ap (run_entries d (entries_of old.entry ++ Texts (text ∷ []) ∷ [])) running.ran ∙ run_two d old.entry text (cut h old) h.now k.now running.runs (ran_text d by text s h.now k.now n spelled meant)));
           runs = rw (entry_is, runs_are) refl;
-          last_is = written_last (old.entries ++ entries_of old.entry) new.entries new.entry text new.texts entries_are entry_is texts_are;
+          last_is = written_last (of_texts old.entries ++ entries_of old.entry) (of_texts new.entries) new.entry text new.texts entries_are entry_is texts_are;
           some = rw entry_is tt;
         },
       )
@@ -90,7 +93,7 @@ module _ (d : Dialect) (by : By) (text : List ℕ) (s : Statement) (h k : Held) 
           sound_now = sound;
           sound_cut = subst (IsSound d) (sym cut_is) running.sound_cut;
           ran = rw (entries_are, stays.kept_is, cut_is) running.ran;
-          last_is = added_last old.entries new.entries (texts_in old.entry) (texts_in new.entry) text old.texts new.texts running.last_is entries_are texts_are lasts_are;
+          last_is = added_last (of_texts old.entries) (of_texts new.entries) (texts_in old.entry) (texts_in new.entry) text old.texts new.texts running.last_is (ap of_texts entries_are) texts_are lasts_are;
           runs = rw (texts_are, cut_is) (run_last d (texts_in old.entry) text (cut h old) h.now k.now running.runs (ran_text d by text s h.now k.now n spelled meant));
           some = some;
         },
@@ -116,29 +119,29 @@ rewound_step zero h k r some is went = absurd (omega (arith, some))
 rewound_step (suc n) h k r some is went = let less : suc n - 1 ≡ n = omega arith in rw less (rewound_step_in n h k r is went)
 
 -- the texts so far are a complete entry, and nothing more runs
-pub closes : (d : Dialect) (h : Held) (old new : Running) → IsRunning d h old → IsClosed old new → IsDone d (Ran 0) (record { end = Ran 0; work = committed (work h old) }) h h new.entries
+pub closes : (d : Dialect) (h : Held) (old new : Running) → IsRunning d h old → IsClosed old new → IsDone d (Ran 0) (record { end = Ran 0; work = committed (work h old) }) h h (of_texts new.entries)
 closes d h old new running closed = record {
   end_is = refl;
   written_is = rw (closed.entries_are, if_any_is old.entry running.some) refl;
   committed_is = refl;
-  ran = rw closed.entries_are (run_more d old.entries (entries_of old.entry) (kept h) (cut h old) running.ran ∙ run_one d old.entry (cut h old) h.now running.runs);
+  ran = rw closed.entries_are (run_more d (of_texts old.entries) (entries_of old.entry) (Some (kept h)) ∙ (ap (run_entries d (entries_of old.entry)) running.ran ∙ run_one d old.entry (cut h old) h.now running.runs));
   sound = running.sound_now;
   stays = record { dialect_is = refl; kept_is = refl };
 }
 
 -- and of them the last text is known
-pub closes_last : (d : Dialect) (h : Held) (old new : Running) → IsRunning d h old → IsClosed old new → new.texts.in_journal ≡ last_text new.entries
-closes_last d h old new running closed = (closed_last old.entries new.entries old.entry new.entry old.texts new.texts running.last_is closed.entries_are closed.entry_is closed.texts_are).in_journal
+pub closes_last : (d : Dialect) (h : Held) (old new : Running) → IsRunning d h old → IsClosed old new → new.texts.in_journal ≡ last_text (of_texts new.entries)
+closes_last d h old new running closed = (closed_last (of_texts old.entries) (of_texts new.entries) old.entry new.entry old.texts new.texts running.last_is closed.entries_are closed.entry_is closed.texts_are).in_journal
 
 -- a text that is refused
 
 module _ (d : Dialect) (by : By) (text : List ℕ) (s : Statement) (h k : Held) (old new : Running) (reason : Reason) (running : IsRunning d h old) (spelled : statement_in d text ≡ Some s) (meant : step by d s h.now ≡ Err reason) where
-  pub refused_itself : commits_itself d s ≡ true → k ≡ h → IsClosed old new → IsDone d (Stopped reason) (outcome d by text (work h old)) h k new.entries
+  pub refused_itself : commits_itself d s ≡ true → k ≡ h → IsClosed old new → IsDone d (Stopped reason) (outcome d by text (work h old)) h k (of_texts new.entries)
   refused_itself itself same closed =
       let done = closes d h old new running closed in
       rw (same, spelled, itself, meant) (record { end_is = refl; written_is = done.written_is; committed_is = refl; ran = done.ran; sound = done.sound; stays = done.stays })
 
-  pub refused_within : commits_itself d s ≡ false → (j : Held) → j ≡ h → k ≡ rewound old.runs j → IsDone d (Stopped reason) (outcome d by text (work h old)) h k old.entries
+  pub refused_within : commits_itself d s ≡ false → (j : Held) → j ≡ h → k ≡ rewound old.runs j → IsDone d (Stopped reason) (outcome d by text (work h old)) h k (of_texts old.entries)
   refused_within itself j same went =
       let stays = rewound_stays old.runs h in
       rw (went, same, spelled, itself, meant) (record {
@@ -151,12 +154,12 @@ module _ (d : Dialect) (by : By) (text : List ℕ) (s : Statement) (h k : Held) 
       })
 
 pub stopped_itself : (p d : Dialect) (by : By) (text seen : List ℕ) (s : Statement) (h k : Held) (old new : Running) (reason : Reason) (itself : Bool) → p ≡ d → seen ≡ text → IsRunning d h old → statement_in p seen ≡ Some s → itself ≡ commits_itself d s → itself ≡ true
-    → (step by h.dialect s h.now ≡ Err reason) × (k ≡ h) → IsClosed old new → IsDone d (Stopped reason) (outcome d by text (work h old)) h k new.entries
+    → (step by h.dialect s h.now ≡ Err reason) × (k ≡ h) → IsClosed old new → IsDone d (Stopped reason) (outcome d by text (work h old)) h k (of_texts new.entries)
 stopped_itself p d by text seen s h k old new reason itself p_is seen_is running spelled itself_is true_is (meant, same) closed =
     refused_itself d by text s h k old new reason running (rw (p_is, seen_is) at spelled) (subst (λ (e : Dialect). step by e s h.now ≡ Err reason) running.dialect_is meant) (sym itself_is ∙ true_is) same closed
 
 pub stopped_within : (p d : Dialect) (by : By) (text seen : List ℕ) (s : Statement) (h j k : Held) (old : Running) (reason : Reason) (itself : Bool) → p ≡ d → seen ≡ text → IsRunning d h old → statement_in p seen ≡ Some s → itself ≡ commits_itself d s → itself ≡ false
-    → (step by h.dialect s h.now ≡ Err reason) × (j ≡ h) → k ≡ rewound old.runs j → IsDone d (Stopped reason) (outcome d by text (work h old)) h k old.entries
+    → (step by h.dialect s h.now ≡ Err reason) × (j ≡ h) → k ≡ rewound old.runs j → IsDone d (Stopped reason) (outcome d by text (work h old)) h k (of_texts old.entries)
 stopped_within p d by text seen s h j k old reason itself p_is seen_is running spelled itself_is false_is (meant, same) went =
     refused_within d by text s h k old old reason running (rw (p_is, seen_is) at spelled) (subst (λ (e : Dialect). step by e s h.now ≡ Err reason) running.dialect_is meant) (sym itself_is ∙ false_is) j same went
 
@@ -174,10 +177,10 @@ drop_all (x ∷ xs) (suc i) most = drop_all xs i (omega (arith, most))
 pub all_through : (d : Dialect) (texts : List ByText) (i : ℕ) (w : Work) (o : Outcome) → length texts ≤ i → outcome_all d (drop i texts) w ≡ o → outcome_all d [] w ≡ o
 all_through d texts i w o most is = sym (ap (λ (ts : List ByText). outcome_all d ts w) (drop_all texts i most)) ∙ is
 
-pub all_done : (d : Dialect) (o : Outcome) (start h : Held) (old new : Running) → IsRunning d h old → IsClosed old new → outcome_all d [] (work h old) ≡ o → Stays start h → IsDone d (Ran 0) o start h new.entries
+pub all_done : (d : Dialect) (o : Outcome) (start h : Held) (old new : Running) → IsRunning d h old → IsClosed old new → outcome_all d [] (work h old) ≡ o → Stays start h → IsDone d (Ran 0) o start h (of_texts new.entries)
 all_done d o start h old new running closed is stays =
     let done = closes d h old new running closed in
-    subst (λ (o : Outcome). IsDone d (Ran 0) o start h new.entries) is
+    subst (λ (o : Outcome). IsDone d (Ran 0) o start h (of_texts new.entries)) is
     (record { end_is = refl; written_is = done.written_is; committed_is = refl; ran = done.ran; sound = done.sound; stays = stays })
 
 ended_is : (o : Outcome) (reason : Reason) (rest : Work → Outcome) → o.end ≡ Stopped reason → goes_on o.end o.work rest ≡ o

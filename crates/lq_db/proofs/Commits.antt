@@ -10,7 +10,7 @@ use Rattle.lq_model.specs.declared.fault.StoreFault.{StoreFault}
 use Rattle.lq_model.specs.declared.fault.StoreFault.TheVariants.{Busy, Full}
 use Rattle.lq_journal.specs.declared.fault.AppendFault.TheVariants as append
 use Rattle.lq_store.specs.Calls.{Fails, IsBusy, MayCommit}
-use Rattle.lq_store.specs.Journal.{Entry, database, end_of, is_full, run_entries, run_texts}
+use Rattle.lq_store.specs.Journal.{Entry, database, end_of, is_full, of_texts, run_entries, run_entry, run_texts}
 use Rattle.lq_store.specs.State.{State, Transaction, other, other_in, seen_in}
 use Rattle.lq_store.specs.Work.{committed, work_in}
 use Rattle.lq_store.specs.Executor.{Held, forgotten, kept}
@@ -26,7 +26,7 @@ pub open_is : (d : Dialect) (h : Held) (lock : Lock) (b : Option Open) (t : Open
 open_is d h lock b t is begun = subst (IsBegun d h lock) is begun
 
 -- an entry has a text at least
-pub if_any_is : (e : Option (List (List ℕ))) → IfSome e (λ texts. 0 < length texts) → if_any (texts_in e) ≡ entries_of e
+pub if_any_is : (e : Option (List (List ℕ))) → IfSome e (λ texts. 0 < length texts) → of_texts (if_any (texts_in e)) ≡ entries_of e
 if_any_is None some = refl
 if_any_is (Some []) some = absurd (omega (arith, some))
 if_any_is (Some (text ∷ texts)) some = refl
@@ -39,23 +39,18 @@ pub committed_ok : (d : Dialect) (h k : Held) (b now : Option Open) (t : Open) (
     → MayCommit {T = Unit {0}} (state d (kept h) (begun_in h b) x live) (Ok tt) (state d (kept k) (begun_in k now) y live)
 committed_ok d h k b now t x y live b_is now_is some k_is room y_is = rw (b_is, now_is, k_is, y_is, if_any_is t.entry some) (room, refl)
 
-pub run_more : (d : Dialect) (es fs : List Entry) (c e : Catalogue) → run_entries d es c ≡ Some e → run_entries d (es ++ fs) c ≡ run_entries d fs e
-run_more d [] fs c e ran = let same : c ≡ e = cc in ap (run_entries d fs) same
-run_more d (entry ∷ es) fs c e ran = by (λ f. run_more d es fs f e) (run_texts d entry c) ran
-  where
-    by : ((f : Catalogue) → run_entries d es f ≡ Some e → run_entries d (es ++ fs) f ≡ run_entries d fs e)
-        → (r : Option Catalogue) → option_and_then (run_entries d es) r ≡ Some e → option_and_then (run_entries d (es ++ fs)) r ≡ run_entries d fs e
-    by more None ran = cc
-    by more (Some f) ran = more f ran
+pub run_more : (d : Dialect) (es fs : List Entry) (o : Option Catalogue) → run_entries d (es ++ fs) o ≡ run_entries d fs (run_entries d es o)
+run_more d [] fs o = refl
+run_more d (entry ∷ es) fs o = run_more d es fs (run_entry d entry o)
 
-pub run_one : (d : Dialect) (e : Option (List (List ℕ))) (c f : Catalogue) → run_texts d (texts_in e) c ≡ Some f → run_entries d (entries_of e) c ≡ Some f
+pub run_one : (d : Dialect) (e : Option (List (List ℕ))) (c f : Catalogue) → run_texts d (texts_in e) c ≡ Some f → run_entries d (entries_of e) (Some c) ≡ Some f
 run_one d None c f ran = ran
-run_one d (Some texts) c f ran = ap (option_and_then (run_entries d [])) ran
+run_one d (Some texts) c f ran = ran
 
-pub journal_more : (d : Dialect) (es : Option (List Entry)) (e : Option (List (List ℕ))) (c f : Catalogue) → IfSome es (λ there. database d there ≡ Some c) → run_texts d (texts_in e) c ≡ Some f
-    → IfSome (option_map (λ entries. entries ++ entries_of e) es) (λ there. database d there ≡ Some f)
-journal_more d None e c f is ran = tt
-journal_more d (Some there) e c f is ran = run_more d there (entries_of e) no_objects c is ∙ run_one d e c f ran
+pub journal_with : (d : Dialect) (es : Option (List Entry)) (more : List Entry) (c f : Catalogue) → IfSome es (λ there. database d there ≡ Some c) → run_entries d more (Some c) ≡ Some f
+    → IfSome (option_map (λ entries. entries ++ more) es) (λ there. database d there ≡ Some f)
+journal_with d None more c f is ran = tt
+journal_with d (Some there) more c f is ran = run_more d there more (Some no_objects) ∙ (ap (run_entries d more) is ∙ ran)
 
 pub held_ok : (d : Dialect) (h k : Held) (es now_es : Option (List Entry)) (lock now_lock : Lock) (b now : Option Open) (t : Open) → b ≡ Some t → now ≡ None → k ≡ forgotten h
     → now_es ≡ option_map (λ entries. entries ++ entries_of t.entry) es → now_lock ≡ lock_in t.lock lock → IsHeld d h es lock b → IsHeld d k now_es now_lock now
@@ -63,7 +58,7 @@ held_ok d h k es now_es lock now_lock b now t b_is now_is k_is es_is lock_is hel
     let begun_is = open_is d h lock b t b_is held.begun_is in
     rw (now_is, k_is, es_is, lock_is) (record {
       dialect_is = held.dialect_is;
-      is_journal = journal_more d es t.entry (kept h) h.now held.is_journal begun_is.runs;
+      is_journal = journal_with d es (entries_of t.entry) (kept h) h.now held.is_journal (run_one d t.entry (kept h) h.now begun_is.runs);
       sound = held.sound_now;
       sound_now = held.sound_now;
       lock_is = begun_is.lock_is;

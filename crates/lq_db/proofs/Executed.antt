@@ -26,7 +26,7 @@ use Rattle.lq_db.specs.Db.{IsAdded, IsBegun, IsHeld, IsOpen, MayTake, Stays}
 use Rattle.lq_session.specs.Session.{begun_in, lock_in, texts_in}
 use Rattle.lq_entries.specs.Log.{Log}
 use Rattle.lq_session.specs.declared.open.Open.{Open}
-use Rattle.lq_model.proofs.ProgramMay.{by_program}
+use Rattle.lq_loading.proofs.Raises.{ran_text}
 use Rattle.lq_db.proofs.Commits.{open_is, state}
 
 pub no_more : (entries : Option (List Entry)) → option_map (λ entries. entries ++ []) entries ≡ entries
@@ -44,10 +44,6 @@ run_last d (t ∷ texts) text c e f ran last = by (λ g. λ ran. run_last d text
         → (r : Option Catalogue) → option_and_then (run_texts d texts) r ≡ Some e → option_and_then (run_texts d (texts ++ text ∷ [])) r ≡ Some f
     by more None ran = cc
     by more (Some g) ran = more g ran
-
--- the program's run of a text that ran
-pub ran_text : (d : Dialect) (by : By) (text : List ℕ) (s : Statement) (c e : Catalogue) (n : ℕ) → statement_in d text ≡ Some s → step by d s c ≡ Ok (e, n) → run_text d text c ≡ Some e
-ran_text d by text s c e n spelled meant = rw spelled (ap accepted (by_program by d s c (e, n) meant))
 
 -- a fault changed nothing
 stayed : (d : Dialect) (h k : Held) (es : Option (List Entry)) (lock : Lock) (b : Option Open) (old new : Open) → b ≡ Some old → k ≡ h → new ≡ old → IsHeld d h es lock b → IsHeld d k es lock (Some new)

@@ -3,6 +3,6 @@ pub mod Executed
 pub mod Alones
 pub mod AloneLeft
 pub mod RanItself
-pub mod TwinRows
-pub mod Loads
+pub mod Loaded
 pub mod Lasts
+pub mod Snapshots

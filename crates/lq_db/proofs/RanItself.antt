@@ -16,6 +16,7 @@ use Rattle.lq_model.specs.declared.fault.StoreFault.TheVariants.{Refused, Disk, 
 use Rattle.lq_model.specs.declared.statement.Statement.{Statement}
 use Rattle.lq_store.specs.Calls.{MayExecute, executed}
 use Rattle.lq_store.specs.Journal.{Entry, database, run_entries, run_text, run_texts}
+use Rattle.lq_store.specs.Journal.Entry.{Texts}
 use Rattle.lq_store.specs.State.{State, Transaction}
 use Rattle.lq_model.specs.Commits.{commits_itself}
 use Rattle.lq_store.specs.Work.{Work, outcome_by, work_in}
@@ -26,8 +27,8 @@ use Rattle.lq_entries.specs.Log.{Log, UnlessFailed, entries_of, gained}
 use Rattle.lq_db.specs.Itself.{IsKept, MayRunItself, itself_entries}
 use Rattle.lq_db.specs.Lock.{IsLockOf}
 use Rattle.lq_session.specs.declared.open.Open.{Open}
-use Rattle.lq_db.proofs.Commits.{back_held, begun_same, failed, held_same, if_any_is, open_is, run_more, run_one, state}
-use Rattle.lq_db.proofs.Executed.{ran_text}
+use Rattle.lq_db.proofs.Commits.{back_held, begun_same, failed, held_same, if_any_is, journal_with, open_is, run_more, run_one, state}
+use Rattle.lq_loading.proofs.Raises.{ran_text}
 
 -- the entries that it writes
 pub itself_written : (d : Dialect) (by : By) (text : List ℕ) (s : Statement) (h : Held) (b : Option Open) (old : Open) (x : Log) (live : Bool) → b ≡ Some old → IfSome old.entry (λ texts. 0 < length texts)
@@ -39,7 +40,7 @@ itself_written d by text s h b old x live b_is some spelled itself = rw (b_is, s
     w = work_in (begun_in h (Some old)) (kept h)
 
     cases : (r : Result (Catalogue × ℕ) Reason) → (outcome_by d true text r w).work.written ≡ itself_entries text r old
-    cases (Ok ran) = ap (λ (es : List Entry). es ++ (text ∷ []) ∷ []) (if_any_is old.entry some)
+    cases (Ok ran) = ap (λ (es : List Entry). es ++ Texts (text ∷ []) ∷ []) (if_any_is old.entry some)
     cases (Err reason) = if_any_is old.entry some
 
 abbrev Runs : Dialect → By → List ℕ → Statement → Log → Held → Open → Lock → Result ℕ StoreFault → Log → Held → Open → Lock → Type 0
@@ -66,16 +67,13 @@ ran_itself d by text s h k b old new lock now_lock x y live (Err Disk) b_is some
     failed _ _ d (kept h) (kept k) (begun_in h b) (begun_in k (Some new)) x y live (itself_written d by text s h b old x live b_is some spelled itself) cut
 ran_itself d by text s h k b old new lock now_lock x y live (Err _) b_is some spelled itself never = absurd never
 
-pub journal_with : (d : Dialect) (es : Option (List Entry)) (more : List Entry) (c f : Catalogue) → IfSome es (λ there. database d there ≡ Some c) → run_entries d more c ≡ Some f
-    → IfSome (option_map (λ entries. entries ++ more) es) (λ there. database d there ≡ Some f)
-journal_with d None more c f is ran = tt
-journal_with d (Some there) more c f is ran = run_more d there more no_objects c is ∙ ran
-
-pub run_two : (d : Dialect) (e : Option (List (List ℕ))) (text : List ℕ) (c f g : Catalogue) → run_texts d (texts_in e) c ≡ Some f → run_text d text f ≡ Some g → run_entries d (entries_of e ++ (text ∷ []) ∷ []) c ≡ Some g
-run_two d e text c f g ran last = run_more d (entries_of e) ((text ∷ []) ∷ []) c f (run_one d e c f ran) ∙ ap (option_and_then (run_entries d [])) (ap (option_and_then (run_texts d [])) last)
+pub run_two : (d : Dialect) (e : Option (List (List ℕ))) (text : List ℕ) (c f g : Catalogue) → run_texts d (texts_in e) c ≡ Some f → run_text d text f ≡ Some g → run_entries d (entries_of e ++ Texts (text ∷ []) ∷ []) (Some c) ≡ Some g
+run_two d e text c f g ran last =
+    run_more d (entries_of e) (Texts (text ∷ []) ∷ []) (Some c)
+    ∙ (ap (run_entries d (Texts (text ∷ []) ∷ [])) (run_one d e c f ran) ∙ ap (option_and_then (run_texts d [])) last)
 
 kept_held : (d : Dialect) (h k : Held) (es now_es : Option (List Entry)) (more : List Entry) (lock now_lock : Lock) (old new : Open) (c : Catalogue) → now_es ≡ option_map (λ entries. entries ++ more) es
-    → run_entries d more (kept h) ≡ Some c → IsSound d c → IsKept d c (side h old lock) (side k new now_lock) → IsHeld d h es lock (Some old) → IsHeld d k now_es now_lock (Some new)
+    → run_entries d more (Some (kept h)) ≡ Some c → IsSound d c → IsKept d c (side h old lock) (side k new now_lock) → IsHeld d h es lock (Some old) → IsHeld d k now_es now_lock (Some new)
 kept_held d h k es now_es more lock now_lock old new c es_is ran sound done held =
     let there : IfSome now_es (λ there. database d there ≡ Some c) = rw es_is (journal_with d es more (kept h) c held.is_journal ran) in
     let locked = done.lock_is held.begun_is.lock_is in
@@ -103,7 +101,7 @@ itself_held d by text s h k b old new lock now_lock x y result alive b_is spelle
   where
     go : (result : Result ℕ StoreFault) → lives result true ≡ true → Runs d by text s x h old lock result y k new now_lock → IsHeld d h x.entries lock (Some old) → IsHeld d k y.entries now_lock (Some new)
     go (Ok n) alive (c, meant, room, y_is, done) held =
-        let more = entries_of old.entry ++ (text ∷ []) ∷ [] in
+        let more = entries_of old.entry ++ Texts (text ∷ []) ∷ [] in
         kept_held d h k x.entries y.entries more lock now_lock old new c (entries_gained x y more (rw meant at y_is))
         (run_two d old.entry text (kept h) h.now c held.begun_is.runs (ran_text d by text s h.now c n spelled meant)) (statement_keeps d s by h.now c n is held.sound_now meant) done held
     go (Err (Refused reason)) alive (meant, room, y_is, done) held =

@@ -15,7 +15,8 @@ use Rattle.lq_model.specs.Sound.{IsSound}
 use Rattle.lq_model.specs.declared.fault.StoreFault.{StoreFault}
 use Rattle.lq_model.specs.declared.fault.StoreFault.TheVariants.{NotSql, OutOfMemory}
 use Rattle.lq_store.specs.Executor.{Held, back, kept}
-use Rattle.lq_store.specs.Journal.{Entry, run_entries, run_texts, size_of_all}
+use Rattle.lq_store.specs.Journal.{Entry, of_texts, run_entries, run_texts, size_of_all}
+use Rattle.lq_store.specs.Journal.Entry.{Texts}
 use Rattle.lq_store.specs.Work.{End, Outcome, Work}
 use Rattle.lq_store.specs.Work.End.{Ran, Stopped, NoStatement}
 
@@ -29,28 +30,28 @@ abbrev pub cut : Held → Running → Catalogue
 cut h t = (rewound t.runs h).now
 
 abbrev pub work : Held → Running → Work
-work h t = record { written = t.entries; committed = cut h t; now = h.now; texts = texts_in t.entry }
+work h t = record { written = of_texts t.entries; committed = cut h t; now = h.now; texts = texts_in t.entry }
 
 -- The complete entries lead from what is committed to the cut, and the texts since then to what the engine has.
 pub record IsRunning (d : Dialect) (h : Held) (t : Running) : Type 0 where
   pub dialect_is : h.dialect ≡ d
   pub sound_now : IsSound d h.now
   pub sound_cut : IsSound d (cut h t)
-  pub ran : run_entries d t.entries (kept h) ≡ Some (cut h t)
+  pub ran : run_entries d (of_texts t.entries) (Some (kept h)) ≡ Some (cut h t)
   pub runs : run_texts d (texts_in t.entry) (cut h t) ≡ Some h.now
-  pub last_is : AreLast t.entries (texts_in t.entry) t.texts
+  pub last_is : AreLast (of_texts t.entries) (texts_in t.entry) t.texts
   pub some : IfSome t.entry (λ texts. 0 < length texts)
 
 -- the texts so far are a complete entry
 pub record IsClosed (old new : Running) : Type 0 where
-  pub entries_are : new.entries ≡ old.entries ++ entries_of old.entry
+  pub entries_are : of_texts new.entries ≡ of_texts old.entries ++ entries_of old.entry
   pub entry_is : new.entry ≡ None
   pub runs_are : new.runs ≡ 0
   pub texts_are : new.texts ≡ with_all old.texts
 
 -- the text of a statement that ran is taken up: by itself where it commits by itself
 abbrev pub TakesUp : Bool → List ℕ → Running → Running → Type 0
-TakesUp true text old new = (new.entries ≡ (old.entries ++ entries_of old.entry) ++ (text ∷ []) ∷ []) × ((new.entry ≡ None) × ((new.runs ≡ 0) × (new.texts ≡ with_entry text)))
+TakesUp true text old new = (of_texts new.entries ≡ (of_texts old.entries ++ entries_of old.entry) ++ Texts (text ∷ []) ∷ []) × ((new.entry ≡ None) × ((new.runs ≡ 0) × (new.texts ≡ with_entry text)))
 TakesUp false text old new = (new.entries ≡ old.entries) × ((texts_in new.entry ≡ texts_in old.entry ++ text ∷ []) × (IfSome new.entry (λ texts. 0 < length texts) × ((new.runs ≡ old.runs + 1) × (new.texts ≡ with_text text old.texts))))
 
 abbrev pub ended_by : Ended → ℕ → End
@@ -62,21 +63,21 @@ pub record IsDone (d : Dialect) (end : End) (o : Outcome) (h k : Held) (entries 
   pub end_is : o.end ≡ end
   pub written_is : o.work.written ≡ entries
   pub committed_is : o.work.committed ≡ k.now
-  pub ran : run_entries d entries (kept k) ≡ Some k.now
+  pub ran : run_entries d entries (Some (kept k)) ≡ Some k.now
   pub sound : IsSound d k.now
   pub stays : Stays h k
 
 -- one text ran, or ended the run
 abbrev pub RanOne : Dialect → Outcome → Held → Result Ended StoreFault → Held → Running → Type 0
 RanOne d o h (Ok ended.Ran) k new = (n : ℕ) × (o ≡ record { end = Ran n; work = work k new }) × Stays h k × IsRunning d k new
-RanOne d o h (Ok (ended.Stopped reason)) k new = IsDone d (Stopped reason) o h k new.entries × (new.texts.in_journal ≡ last_text new.entries)
+RanOne d o h (Ok (ended.Stopped reason)) k new = IsDone d (Stopped reason) o h k (of_texts new.entries) × (new.texts.in_journal ≡ last_text (of_texts new.entries))
 RanOne d o h (Err NotSql) k new = (o.end ≡ NoStatement) × Stays h k
 RanOne d o h (Err OutOfMemory) k new = Stays h k
 RanOne d o h (Err _) k new = ⊥
 
 -- they all ran, or the first that did not ended the run
 abbrev pub RanAll : Dialect → Outcome → Held → Result Ended StoreFault → Held → Running → Type 0
-RanAll d o h (Ok end) k new = IsDone d (ended_by end 0) o h k new.entries × (new.texts.in_journal ≡ last_text new.entries)
+RanAll d o h (Ok end) k new = IsDone d (ended_by end 0) o h k (of_texts new.entries) × (new.texts.in_journal ≡ last_text (of_texts new.entries))
 RanAll d o h (Err NotSql) k new = (o.end ≡ NoStatement) × Stays h k
 RanAll d o h (Err OutOfMemory) k new = Stays h k
 RanAll d o h (Err _) k new = ⊥
@@ -89,7 +90,7 @@ pub record IsAtRest (d : Dialect) (h : Held) : Type 0 where
 
 -- the entries to write, and the lock that is committed with them
 abbrev pub MayPrepare : Dialect → Outcome → Held → Result Prepared StoreFault → Held → Type 0
-MayPrepare d o h (Ok prepared) k = IsDone d (ended_by prepared.ended 0) o h k prepared.entries × (prepared.size ≡ size_of_all prepared.entries) × IsLockOf d k.now prepared.lock × (prepared.last ≡ last_text prepared.entries)
+MayPrepare d o h (Ok prepared) k = IsDone d (ended_by prepared.ended 0) o h k (of_texts prepared.entries) × (prepared.size ≡ size_of_all (of_texts prepared.entries)) × IsLockOf d k.now prepared.lock × (prepared.last ≡ last_text (of_texts prepared.entries))
 MayPrepare d o h (Err NotSql) k = (o.end ≡ NoStatement) × Stays h k
 MayPrepare d o h (Err OutOfMemory) k = Stays h k
 MayPrepare d o h (Err _) k = ⊥

@@ -1,8 +1,11 @@
 -- What a database in a journal holds.
-use Rattle.std.specs.Prelude.{◌≡◌, Bool, false, true, IfSome, List, None, Option, Some, [], length, ◌<◌, ◌++◌, ◌∷◌, Result, Ok, Err, ℕ}
+use Rattle.std.specs.Prelude.{◌≡◌, Bool, cond, unwrap_or, false, true, zero, IfSome, List, None, Option, Some, [], length, ◌<◌, ◌++◌, ◌∷◌, Result, Ok, Err, ℕ}
+use Rattle.std.specs.Option.{option_map}
 use Rattle.lq_base.specs.declared.dialect.Dialect.{Dialect}
 use Rattle.lq_base.specs.declared.reason.Reason.{Reason}
 use Rattle.lq_base.specs.declared.tracking.Lock.{Lock}
+use Rattle.lq_codec.specs.Database.{bytes_of}
+use Rattle.lq_codec.specs.State.{state_of}
 use Rattle.lq_db.specs.Last.{TellLast}
 use Rattle.lq_db.specs.Lock.{IsLockOf}
 use Rattle.lq_entries.specs.Log.{IsWhole, crashes_in, entries_in}
@@ -17,6 +20,7 @@ use Rattle.lq_model.specs.Sound.{IsSound}
 use Rattle.lq_model.specs.declared.fault.StoreFault.{StoreFault}
 use Rattle.lq_model.specs.declared.fault.StoreFault.TheVariants.{Refused, Disk, OutOfMemory}
 use Rattle.lq_outside.specs.Crash.{Crashes as DiskCrashes}
+use Rattle.lq_store.specs.Calls.{ends_in_texts, stated}
 use Rattle.lq_store.specs.Crashes.{Crashes}
 use Rattle.lq_store.specs.Journal.{Entry, database, run_texts}
 use Rattle.lq_store.specs.State.{State, Transaction}
@@ -103,3 +107,18 @@ pub record IsNew {D P E : Type 0} (d : Dialect) (limit : ℕ) (db : Db D P E) : 
   pub limit_is : limit_of db.journal ≡ limit
   pub live : db.live ≡ true
   pub closed : db.begun ≡ None
+
+-- a snapshot that answers so wrote nothing: none was needed, or memory was wanting
+abbrev pub is_unwritten : Result ℕ StoreFault → Bool
+is_unwritten (Ok zero) = true
+is_unwritten (Err OutOfMemory) = true
+is_unwritten _ = false
+
+-- a state is due, and its bytes are read as what is committed
+pub record HasState (x : State) : Type 0 where
+  pub due : IfSome x.entries (λ there. ends_in_texts there ≡ true)
+  pub reads : state_of x.dialect (bytes_of x.committed) ≡ Some x.committed
+
+-- what a snapshot writes: a state, where a transaction stands behind the last one
+abbrev pub snapshot_entries : State → List Entry
+snapshot_entries x = cond (unwrap_or (option_map ends_in_texts x.entries) false) (stated x.committed) []

@@ -13,10 +13,11 @@ use Rattle.lq_model.specs.declared.caller.Room.TheVariants.{Ordinary}
 use Rattle.lq_model.specs.declared.fault.StoreFault.{StoreFault}
 use Rattle.lq_model.specs.declared.fault.StoreFault.TheVariants.{Refused, Disk, Full, OutOfMemory}
 use Rattle.lq_store.specs.Journal.{Entry, end_of, is_full, size_of_all}
+use Rattle.lq_store.specs.Journal.Entry.{Texts}
 
 -- the entries that it writes: a refused one has committed what was before it
 abbrev pub itself_entries : List ℕ → Result (Catalogue × ℕ) Reason → Open → List Entry
-itself_entries text (Ok ran) old = entries_of old.entry ++ (text ∷ []) ∷ []
+itself_entries text (Ok ran) old = entries_of old.entry ++ Texts (text ∷ []) ∷ []
 itself_entries text (Err reason) old = entries_of old.entry
 
 -- all that the session sees is committed

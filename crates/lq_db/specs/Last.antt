@@ -1,17 +1,24 @@
 -- The last text of a journal.
-use Rattle.std.specs.List.{flat_map, last_or}
+use Rattle.std.specs.List.{last_or}
 use Rattle.std.specs.Option.{option_or}
-use Rattle.std.specs.Prelude.{Err, IfSome, List, None, Ok, Option, Result, Some, ℕ, ◌≡◌}
+use Rattle.std.specs.Prelude.{[], Err, IfSome, List, None, Ok, Option, Result, Some, ℕ, ◌∷◌, ◌≡◌}
 use Rattle.lq_db.specs.declared.last_texts.LastTexts.{LastTexts}
 use Rattle.lq_model.specs.declared.fault.StoreFault.{StoreFault}
 use Rattle.lq_model.specs.declared.fault.StoreFault.TheVariants.{Refused}
 use Rattle.lq_session.specs.Session.{texts_in}
 use Rattle.lq_session.specs.declared.open.Open.{Open}
 use Rattle.lq_store.specs.Journal.{Entry}
+use Rattle.lq_store.specs.Journal.Entry.{Stated, Texts}
 
--- the last of all texts of a journal's entries: where each has a text, the last text of the last entry
+-- the last text after entries, where it was so before them: none stands behind a state until texts do
+abbrev pub last_after : Option (List ℕ) → List Entry → Option (List ℕ)
+last_after last [] = last
+last_after last (Texts texts ∷ entries) = last_after (last_or last texts) entries
+last_after last (Stated bytes ∷ entries) = last_after None entries
+
+-- the last text of the entries behind the last state, of which each has a text: none where nothing stands behind it
 abbrev pub last_text : List Entry → Option (List ℕ)
-last_text entries = last_or None (flat_map (λ entry. entry) entries)
+last_text entries = last_after None entries
 
 -- what the calls leave
 
@@ -36,6 +43,11 @@ abbrev pub after_itself : Result ℕ StoreFault → List ℕ → LastTexts → L
 after_itself (Ok n) text t = with_entry text
 after_itself (Err (Refused reason)) text t = with_all t
 after_itself (Err _) text t = t
+
+-- behind a state that was written no text stands
+abbrev pub after_state : Result ℕ StoreFault → LastTexts → LastTexts
+after_state (Ok n) t = record t { in_journal = None }
+after_state (Err fault) t = t
 
 -- they are those of these entries, and of these texts behind them
 pub record AreLast (entries : List Entry) (texts : List (List ℕ)) (t : LastTexts) : Type 0 where

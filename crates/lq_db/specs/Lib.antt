@@ -5,4 +5,3 @@ pub mod Sound
 pub mod Itself
 pub mod Load
 pub mod Alone
-pub mod Twins

@@ -1,25 +1,28 @@
 ghost use Rattle.std.specs.Option.{option_copied};
-ghost use Rattle.std.specs.Prelude.{◌≡◌, ◌≤◌, IfOk, IfErr, IfSome, MatchResult, Ok, true};
+ghost use Rattle.std.specs.Prelude.{◌≡◌, ◌≤◌, IfOk, IfErr, IfSome, IsTrue, MatchResult, None, Ok, false, true};
 ghost use Rattle.lq_db.specs.Db.{lives};
 ghost use Rattle.lq_db.specs.Last.{last_text};
 ghost use Rattle.lq_db.specs.Load.{IsDbFault};
 ghost use Rattle.lq_entries.specs.Load.{catalogue_of, is_clean};
 ghost use Rattle.lq_outside.specs.Crash.{LeavesOnly};
+ghost use Rattle.lq_store.specs.Calls.{CountsDisk, MaySnapshot};
+ghost use Rattle.lq_store.specs.Crashes.{LeavesFront};
 ghost use Rattle.lq_store.specs.Executor.{kept};
 
 use crate::alone::prepare;
 use crate::itself::run_itself;
 use crate::last_texts::{LastTexts, last_of};
-use crate::loading::{Raised, raise};
 use crate::running::Ended;
+use crate::snapshot::append_state;
 use crate::taking::{commits_itself, take};
 use lq_base::{Dialect, Lock, Text};
 use lq_entries::append_all;
 use lq_journal::{AppendFault, Journal, LoadFault};
+use lq_loading::{Raised, raise};
 use lq_model::{By, ByText, ParseFault, Room, SqlText, StoreFault};
 use lq_outside::{Disk, LoadRefused};
 use lq_session::{Open, abort, commit, look};
-use lq_store::{Executor, Store};
+use lq_store::{Executor, States, Store};
 use std::alloc::Global;
 
 /// A database in a journal, which it loads, and whose work it keeps in an engine.
@@ -32,7 +35,7 @@ pub struct Db<D: Disk, P: SqlText + Drop, E: Executor + Drop> {
     engine: E,
     /// The committed lock.
     lock: Lock,
-    /// The last text of the journal, and of the open transaction.
+    /// The last text of the journal behind its last state, and of the open transaction.
     texts: LastTexts,
     begun: Option<Open>,
     /// No call has met a disk fault.
@@ -40,17 +43,19 @@ pub struct Db<D: Disk, P: SqlText + Drop, E: Executor + Drop> {
 }
 
 impl<D: Disk, P: SqlText + Drop, E: Executor + Drop> Db<D, P, E> {
-    ghost use Rattle.lq_db.specs.Db.{IsDb, IsNew, disk_in, engine_in, state};
+    ghost use Rattle.lq_db.specs.Db.{HasState, IsDb, IsNew, IsValid, crashes, disk_in, engine_in, is_unwritten, snapshot_entries, state};
 
-    /// Opens the database in a journal. A refusal hands the disk back, and changes no byte.
+    /// Opens the database in a journal, from its last state on. A refusal hands the disk back, and
+    /// changes no byte.
     ///
     /// The limit is the greatest size of the journal.
-    pub fn load(
+    pub fn load<W: States<Engine = E>>(
         alloc: Global,
         disk: D,
         dialect: Dialect,
         sql: P,
         limit: u64,
+        states: &W,
     ) -> Result<Db<D, P, E>, LoadRefused<D, LoadFault>>
         requires limit_least { 8192 ≤ limit }
         requires limit_most { limit ≤ 268435456 }
@@ -83,7 +88,7 @@ impl<D: Disk, P: SqlText + Drop, E: Executor + Drop> Db<D, P, E> {
             Err(refused) => Err(refused),
             Ok((journal, entries)) => {
                 let used = journal.used();
-                match raise(alloc, dialect, &sql, entries.as_slice(), used) {
+                match raise(alloc, dialect, &sql, states, entries.as_slice(), used) {
                     Err(fault) => Err(LoadRefused {
                         disk: journal.into_disk(),
                         fault,
@@ -111,7 +116,7 @@ impl<D: Disk, P: SqlText + Drop, E: Executor + Drop> Db<D, P, E> {
         }
     }
 
-    /// The last text of the last entry: nothing where the journal has no entry.
+    /// The last text of the journal: nothing where no entry of texts stands behind the last state.
     pub fn last_text(&self) -> Option<&Text>
         requires valid { IsDb P.dialect (D.told (disk_in self.now)) (D.crashes (disk_in self.now))
             (E.held (engine_in self.now)) self.now }
@@ -120,6 +125,43 @@ impl<D: Disk, P: SqlText + Drop, E: Executor + Drop> Db<D, P, E> {
             (λ there. option_copied result ≡ last_text there) }
     {
         self.texts.in_journal.as_ref()
+    }
+
+    /// Writes the state of the database, where a transaction stands behind the last one, and answers
+    /// the size of its entry; otherwise it writes nothing, and answers 0.
+    pub fn snapshot<W: States<Engine = E>>(&mut self, states: &W) -> Result<u64, StoreFault>
+        requires valid { IsValid P.dialect (D.told (disk_in self.old)) (D.crashes (disk_in self.old))
+            (E.held (engine_in self.old)) self.old }
+        requires live { IsTrue
+            (state (D.told (disk_in self.old)) (E.held (engine_in self.old)) self.old).live }
+        requires closed { (state (D.told (disk_in self.old)) (E.held (engine_in self.old)) self.old).begun
+            ≡ None }
+        ensures does { MaySnapshot
+            (state (D.told (disk_in self.old)) (E.held (engine_in self.old)) self.old) result
+            (state (D.told (disk_in self.new)) (E.held (engine_in self.new)) self.new) }
+        ensures valid { IsValid P.dialect (D.told (disk_in self.new)) (D.crashes (disk_in self.new))
+            (E.held (engine_in self.new)) self.new }
+        ensures crash { LeavesFront
+            (state (D.told (disk_in self.old)) (E.held (engine_in self.old)) self.old).entries
+            (snapshot_entries
+            (state (D.told (disk_in self.old)) (E.held (engine_in self.old)) self.old))
+            (crashes (D.crashes (disk_in self.old)) self.old)
+            (crashes (D.crashes (disk_in self.new)) self.new) }
+        ensures faults { CountsDisk result (D.faults (disk_in self.old))
+            (D.faults (disk_in self.new)) }
+
+        // What it may have written is read as what is committed.
+        ensures kept { is_unwritten result ≡ true → self.new ≡ self.old }
+        ensures reads { is_unwritten result ≡ false
+            → HasState
+            (state (D.told (disk_in self.old)) (E.held (engine_in self.old)) self.old) }
+    {
+        if !self.texts.has_text() {
+            return Ok(0);
+        }
+        let done = append_state(self.alloc, &mut self.journal, &self.engine, states);
+        self.texts.note_state(done);
+        note(&mut self.live, done)
     }
 
     /// The disk as it is: an open transaction leaves nothing on it but what was committed.

@@ -7,6 +7,7 @@ ghost use Rattle.lq_model.specs.Statement.{is_statement};
 ghost use Rattle.lq_model.specs.Step.{step};
 ghost use Rattle.lq_outside.specs.Count.{Rose};
 ghost use Rattle.lq_store.specs.Crashes.{LeavesFront};
+ghost use Rattle.lq_store.specs.Journal.Entry.{Texts};
 ghost use Rattle.lq_session.specs.Session.{side};
 
 use crate::locking::lock_now;
@@ -53,11 +54,11 @@ fn keep_ran<D: Disk, E: Executor>(
 ) -> Result<(), StoreFault>
     requires whole { IsWhole (D.told (disk_of journal.old)) (D.crashes (disk_of journal.old))
         journal.old }
-    ensures does { MayKeep dialect (entries_of begun.old.entry ++ (text.now ∷ []) ∷ []) (log_of (D.told (disk_of journal.old)) journal.old) (side (E.held engine.old) begun.old lock.old) result
+    ensures does { MayKeep dialect (entries_of begun.old.entry ++ Texts (text.now ∷ []) ∷ []) (log_of (D.told (disk_of journal.old)) journal.old) (side (E.held engine.old) begun.old lock.old) result
         (log_of (D.told (disk_of journal.new)) journal.new) (side (E.held engine.new) begun.new lock.new) }
     ensures whole { UnlessFailed result
         (IsWhole (D.told (disk_of journal.new)) (D.crashes (disk_of journal.new)) journal.new) }
-    ensures crash { LeavesFront (log_of (D.told (disk_of journal.old)) journal.old).entries (entries_of begun.old.entry ++ (text.now ∷ []) ∷ [])
+    ensures crash { LeavesFront (log_of (D.told (disk_of journal.old)) journal.old).entries (entries_of begun.old.entry ++ Texts (text.now ∷ []) ∷ [])
         (crashes_in (dialect_of journal.old) (limit_of journal.old) (D.crashes (disk_of journal.old))) (crashes_in (dialect_of journal.new) (limit_of journal.new) (D.crashes (disk_of journal.new))) }
     ensures later { D.faults (disk_of journal.old) ≤ D.faults (disk_of journal.new) }
     ensures rose { result ≡ Err StoreFault.Disk

@@ -1,15 +1,15 @@
-ghost use Rattle.std.specs.Prelude.{◌≡◌, map};
-ghost use Rattle.lq_db.specs.Last.{after_itself, after_taken, last_text, with_all, with_entry, with_last, with_text};
-ghost use Rattle.lq_frames.specs.declared.entry.Entry.{Entry as Placed};
+ghost use Rattle.std.specs.Prelude.{◌≡◌, is_some, map};
+ghost use Rattle.lq_db.specs.Last.{after_itself, after_state, after_taken, last_text, with_all, with_entry, with_last, with_text};
+ghost use Rattle.lq_entries.specs.Log.{unplaced};
 
 use lq_base::{Items, Text};
-use lq_frames::Entry;
+use lq_frames::{Body, Entry};
 use lq_model::StoreFault;
 
-/// The last text of a journal, and that of the texts which are not yet in it.
+/// The last text of a journal behind its last state, and that of the texts which are not yet in it.
 #[derive(Drop)]
 pub struct LastTexts {
-    /// Nothing where the journal has no entry.
+    /// Nothing where no entry stands behind the last state.
     pub in_journal: Option<Text>,
     /// Nothing where no text waits.
     pub waiting: Option<Text>,
@@ -58,6 +58,22 @@ impl LastTexts {
         }
     }
 
+    /// Whether a text stands behind the last state.
+    pub fn has_text(&self) -> bool
+        ensures { result ≡ is_some self.now.in_journal }
+    {
+        self.in_journal.is_some()
+    }
+
+    /// A state was to be written, and it came to this.
+    pub fn note_state(&mut self, done: Result<u64, StoreFault>)
+        ensures { self.new ≡ after_state done self.old }
+    {
+        if done.is_ok() {
+            self.in_journal = None;
+        }
+    }
+
     /// A text that commits by itself was run, and came to this.
     pub fn note_itself(&mut self, done: Result<u64, StoreFault>, text: Text)
         ensures { self.new ≡ after_itself done text self.old }
@@ -70,15 +86,21 @@ impl LastTexts {
     }
 }
 
-/// The last text of entries.
-#[tactic(auto, using(crate::proofs::Lasts::last_there, crate::proofs::Lasts::none_there))]
+/// The last text of entries behind their last state.
+#[tactic(auto, using(crate::proofs::Lasts::last_there, crate::proofs::Lasts::none_there, crate::proofs::Lasts::state_there))]
 pub fn last_of(entries: Items<Entry>) -> Option<Text>
-    ensures { result ≡ last_text (map (λ (entry : Placed). entry.texts) entries) }
+    ensures { result ≡ last_text (map unplaced entries) }
 {
     let mut entries = entries;
-    while let Some(mut entry) = entries.pop() {
-        if let Some(text) = entry.texts.pop() {
-            return Some(text);
+    while let Some(entry) = entries.pop() {
+        match entry.body {
+            Body::State(_) => return None,
+            Body::Texts(texts) => {
+                let mut texts = texts;
+                if let Some(text) = texts.pop() {
+                    return Some(text);
+                }
+            }
         }
     }
     None

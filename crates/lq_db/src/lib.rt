@@ -5,10 +5,9 @@ mod alone;
 mod db;
 mod itself;
 mod last_texts;
-mod loading;
 mod locking;
 mod running;
+mod snapshot;
 mod taking;
-mod twins;
 
 pub use db::Db;

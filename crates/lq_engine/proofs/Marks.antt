@@ -1,7 +1,8 @@
 -- Lemmas on the marks of statements.
-use Rattle.std.proofs.Common.{List, [], ap, arith, refl, reverse, subst, sym, true, ℕ, ◌++◌, ◌∙◌, ◌∷◌, ◌≡◌, ◌≤◌}
+use Rattle.std.proofs.Common.{List, None, Option, Some, [], ap, arith, refl, reverse, subst, sym, true, ℕ, ◌++◌, ◌∙◌, ◌∷◌, ◌≡◌, ◌≤◌}
 use Rattle.std.proofs.lemmas.List.{reverse-append}
 use Rattle.std.specs.List.Sorted.{IsStrictlySortedBy}
+use Rattle.std.specs.Option.{MatchOption}
 use Rattle.lq_base.specs.declared.dialect.Dialect.{Dialect}
 use Rattle.lq_base.specs.declared.name.Name.{Name}
 use Rattle.lq_chain.specs.History.{History, history, marked, undone_to}
@@ -45,6 +46,19 @@ newest mark marks = reverse-append marks (mark ∷ [])
 pub begun : (d : Dialect) → IsSound d no_objects → IsGood d (history no_objects []) []
 unfolding IsGood
 begun d sound = (refl, (sound, tt))
+
+pub begun_at : (d : Dialect) (h : History Catalogue) → IsSound d h.now × (h ≡ history h.now []) → IsGood d h []
+unfolding IsGood
+begun_at d h is = (ap (λ (x : History Catalogue). marked x) is.1, (is.0, tt))
+
+pub taken_over : (d : Dialect) (c : Catalogue) (found : Option (History Catalogue)) (h : History Catalogue)
+    → MatchOption found (¬ IsSound d c) (λ parts. IsSound d c × (parts ≡ history c [])) → found ≡ Some h
+    → IsSound d h.now × (h ≡ history h.now [])
+taken_over d c None h told is = absurd (cc is)
+taken_over d c (Some p) h told is =
+    let same : p ≡ h = cc is in
+    let new : h ≡ history c [] = sym same ∙ told.1 in
+    (subst (λ (x : History Catalogue). IsSound d x.now) (sym new) told.0, new ∙ ap (λ (x : History Catalogue). history x.now []) (sym new))
 
 pub ran : (d : Dialect) (h new : History Catalogue) (marks : List ℕ) → Continues h new → IsGood d h marks → IsSound d new.now → IsGood d new (marked h ∷ marks)
 unfolding IsGood

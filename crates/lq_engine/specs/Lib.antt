@@ -2,3 +2,4 @@ pub mod Marks
 pub mod State
 pub mod Shown
 pub mod Users
+pub mod Names

@@ -1,4 +1,5 @@
-ghost use Rattle.std.specs.Prelude.{◌≡◌, ◌∷◌, [], true};
+ghost use Rattle.std.specs.Prelude.{◌≡◌, ◌∷◌, [], IfOk, OnOk, true};
+ghost use Rattle.lq_chain.specs.History.{history};
 ghost use Rattle.lq_model.specs.Catalogue.{no_objects};
 ghost use Rattle.lq_model.specs.Sound.{IsSound};
 ghost use Rattle.lq_model.specs.Statement.{is_statement};
@@ -7,9 +8,12 @@ ghost use Rattle.lq_engine.specs.State.{Runs, back, oldest, state};
 ghost use Rattle.lq_parts.specs.Entries.{IsOrdered};
 
 use crate::arms::carry_out;
+use crate::fault::PartsFault;
 use lq_base::Dialect;
 use lq_model::{By, Statement};
 use lq_parts::{Parts, RunFault};
+use lq_restored::restored;
+use lq_state::State as PlainState;
 use std::alloc::Global;
 use std::marker::Model;
 
@@ -51,6 +55,36 @@ impl Engine {
             dialect,
             parts: Parts::new(alloc),
             starts: Vec::new(alloc),
+        }
+    }
+
+    // With nothing to undo.
+    fn of_sound(alloc: Global, dialect: Dialect, parts: Parts) -> Engine
+        requires { IsSound dialect parts.now × (parts ≡ history parts.now []) }
+        ensures { result ≡ state dialect parts.now [] }
+    {
+        Engine {
+            alloc,
+            dialect,
+            parts,
+            starts: Vec::new(alloc),
+        }
+    }
+
+    /// An engine of these tables, views and sequences, with nothing to undo. NotSound exactly where they
+    /// are no sound catalogue of the dialect, of which each list stands in the order of its names.
+    pub fn from_parts(
+        alloc: Global,
+        dialect: Dialect,
+        parts: PlainState,
+    ) -> Result<Engine, PartsFault>
+        ensures made { IfOk result (λ engine. engine ≡ state dialect parts []) }
+        ensures sound { OnOk result (IsSound dialect parts) }
+        ensures fault { result ≡ Err PartsFault.NotSound → ¬ IsSound dialect parts }
+    {
+        match restored(alloc, dialect, parts)? {
+            None => Err(PartsFault::NotSound),
+            Some(kept) => Ok(Engine::of_sound(alloc, dialect, kept)),
         }
     }
 

@@ -6,7 +6,11 @@ mod arms;
 mod definition;
 mod engine;
 mod executor;
+mod fault;
 mod look;
+mod names;
 mod source;
 
 pub use engine::Engine;
+pub use fault::PartsFault;
+pub use names::Sort;

@@ -1,8 +1,9 @@
 ghost use Rattle.std.specs.List.{find};
 ghost use Rattle.std.specs.Option.{option_copied};
-ghost use Rattle.std.specs.Prelude.{◌≡◌, length};
+ghost use Rattle.std.specs.Prelude.{◌≡◌, length, option_map};
 ghost use Rattle.lq_base.specs.Name.{is_named};
 ghost use Rattle.lq_engine.specs.State.{State};
+ghost use Rattle.lq_model.specs.Catalogue.{sequence_of, view_of};
 ghost use Rattle.lq_model.specs.Look.{at_table};
 
 use crate::engine::Engine;
@@ -10,6 +11,7 @@ use crate::source::source_at;
 use lq_base::Name;
 use lq_chain::Iter;
 use lq_model::{Answered, AskFault, By, Column, ForeignKey, Index, Key, Look, Query, Unique};
+use lq_parts::View;
 use lq_query::answer;
 use lq_rows::Row;
 use std::alloc::Global;
@@ -121,6 +123,34 @@ impl Engine {
         match self.parts.table(table) {
             None => None,
             Some(held) => Some(held.rows().iter()),
+        }
+    }
+
+    /// What the next row of the table gets in a numbered column.
+    pub fn next_number(&self, table: &Name) -> Option<u64>
+        ensures { result ≡ at_table (λ it. it.next) self.now.now table.now }
+    {
+        match self.parts.table(table) {
+            None => None,
+            Some(held) => Some(held.next()),
+        }
+    }
+
+    /// The view of the name.
+    pub fn view(&self, view: &Name) -> Option<&View>
+        ensures { option_copied result ≡ view_of self.now.now view.now }
+    {
+        self.parts.view(view)
+    }
+
+    /// Where the sequence of the name starts, and its step.
+    pub fn sequence(&self, sequence: &Name) -> Option<(i128, i128)>
+        ensures { result
+            ≡ option_map (λ it. (it.start, it.step)) (sequence_of self.now.now sequence.now) }
+    {
+        match self.parts.sequence(sequence) {
+            None => None,
+            Some(it) => Some((it.start(), it.step())),
         }
     }
 }

@@ -1,4 +1,5 @@
 pub mod Both
 pub mod Each
+pub mod Folded
 pub mod Logs
 pub mod Moments

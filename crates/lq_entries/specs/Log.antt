@@ -1,8 +1,10 @@
--- A journal as a store sees it: its entries as texts, and what a crash may leave of them.
+-- A journal as a store sees it: its entries without their places, and what a crash may leave of them.
 use Rattle.std.specs.List.{sum_by}
 use Rattle.std.specs.Prelude.{[], ◌∷◌, ◌≡◌, Bool, IfSome, List, None, Option, Result, Ok, Err, Some, false, true, is_some, map, ℕ, ◌+◌, ◌++◌}
 use Rattle.std.specs.Option.{option_and_then, option_map}
 use Rattle.lq_base.specs.declared.dialect.Dialect.{Dialect}
+use Rattle.lq_frames.specs.declared.entry.Body.{Body}
+use Rattle.lq_frames.specs.declared.entry.Body.TheVariants as body
 use Rattle.lq_frames.specs.Journal.{journal_of}
 use Rattle.lq_journal.specs.State.{IsLoaded, dialect_of, limit_of, used_of}
 use Rattle.lq_frames.specs.declared.entry.Entry.{Entry as Placed}
@@ -15,6 +17,7 @@ use Rattle.lq_model.specs.declared.fault.StoreFault.TheVariants as fault
 use Rattle.lq_outside.specs.Crash.{Crashes as DiskCrashes, Settled}
 use Rattle.lq_store.specs.Crashes.{Crashes}
 use Rattle.lq_store.specs.Journal.{Entry, IsFrontOf, end_of, is_full, size_of_all}
+use Rattle.lq_store.specs.Journal.Entry.{Stated, Texts}
 
 pub record Log : Type 0 where
   pub dialect : Dialect
@@ -23,13 +26,20 @@ pub record Log : Type 0 where
   -- where they are told
   pub entries : Option (List Entry)
 
--- the texts of the entries, where there is no damage
-abbrev pub texts_of : Result (List Placed) ℕ → Option (List Entry)
-texts_of (Ok entries) = Some (map (λ (entry : Placed). entry.texts) entries)
-texts_of (Err at) = None
+abbrev pub as_entry : Body → Entry
+as_entry (body.Texts texts) = Texts texts
+as_entry (body.State bytes) = Stated bytes
+
+abbrev pub unplaced : Placed → Entry
+unplaced entry = as_entry entry.body
+
+-- the entries, where there is no damage
+abbrev pub if_undamaged : Result (List Placed) ℕ → Option (List Entry)
+if_undamaged (Ok entries) = Some (map unplaced entries)
+if_undamaged (Err at) = None
 
 abbrev pub entries_in : Dialect → ℕ → Option (List ℕ) → Option (List Entry)
-entries_in d limit told = option_and_then texts_of (option_map (journal_of d limit) told)
+entries_in d limit told = option_and_then if_undamaged (option_map (journal_of d limit) told)
 
 abbrev pub log_of : {D : Type 0} → Option (List ℕ) → Journal D → Log
 log_of told journal = record { dialect = dialect_of journal; limit = limit_of journal; used = used_of journal; entries = entries_in (dialect_of journal) (limit_of journal) told }
@@ -39,11 +49,11 @@ abbrev pub crashes_in : Dialect → ℕ → DiskCrashes → Crashes
 crashes_in d limit crashes = record {
   is_honest = crashes.is_honest;
   moment = crashes.moment;
-  left_since = λ t left. (bytes : List ℕ) × crashes.left_since t bytes × (texts_of (journal_of d limit bytes) ≡ left);
+  left_since = λ t left. (bytes : List ℕ) × crashes.left_since t bytes × (if_undamaged (journal_of d limit bytes) ≡ left);
 }
 
 abbrev pub IsUndamaged : Dialect → ℕ → Option (List ℕ) → Type 0
-IsUndamaged d limit told = IfSome told (λ bytes. is_some (texts_of (journal_of d limit bytes)) ≡ true)
+IsUndamaged d limit told = IfSome told (λ bytes. is_some (if_undamaged (journal_of d limit bytes)) ≡ true)
 
 -- a journal that no call has failed on: all is on the disk, and is no damage
 pub record IsWhole {D : Type 0} (told : Option (List ℕ)) (crashes : DiskCrashes) (journal : Journal D) : Type 0 where
@@ -90,4 +100,4 @@ UnlessFailed _ P = P
 -- the entries that a commit writes
 abbrev pub entries_of : Option (List (List ℕ)) → List Entry
 entries_of None = []
-entries_of (Some texts) = texts ∷ []
+entries_of (Some texts) = Texts texts ∷ []

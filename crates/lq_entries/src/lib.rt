@@ -3,4 +3,4 @@
 
 mod writing;
 
-pub use writing::{append_all, append_both, append_open, size_of_all};
+pub use writing::{append_all, append_both, append_one, append_open, size_of_all};

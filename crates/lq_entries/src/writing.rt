@@ -1,28 +1,29 @@
 ghost use Rattle.std.specs.Prelude.{◌≡◌, ◌+◌, ◌≤◌, [], ◌∷◌, ◌++◌, Err, IfSome, false, nat_lt};
-ghost use Rattle.lq_entries.specs.Log.{IsWhole, MayAppend, MayWrite, UnlessDisk, UnlessFailed, crashes_in, entries_of, log_of};
+ghost use Rattle.lq_entries.specs.Log.{IsWhole, MayAppend, MayWrite, UnlessDisk, UnlessFailed, as_entry, crashes_in, entries_of, log_of};
 ghost use Rattle.lq_model.specs.declared.caller.Room.TheVariants.{Ordinary};
 ghost use Rattle.lq_journal.specs.State.{dialect_of, disk_of, limit_of, used_of};
 ghost use Rattle.lq_outside.specs.Count.{Rose};
-ghost use Rattle.lq_store.specs.Journal.{end_of, is_full, size_of_all};
+ghost use Rattle.lq_store.specs.Journal.{end_of, is_full, of_texts, size_of_all};
+ghost use Rattle.lq_store.specs.Journal.Entry.{Texts};
 ghost use Rattle.lq_store.specs.Crashes.{LeavesFront};
 
-use lq_frames::EncodedEntry;
+use lq_frames::{Encoded, EncodedEntry};
 use lq_journal::{AppendFault, Journal};
 use lq_model::{Room, StoreFault};
 use lq_outside::Disk;
 
-/// Adds an entry, behind the header where there was none yet.
-pub fn append_one<D: Disk>(
+/// Adds an entry, of texts or a state, behind the header where there was none yet.
+pub fn append_one<D: Disk, B: Encoded>(
     to: &mut Journal<D>,
-    entry: &EncodedEntry,
+    entry: &B,
     room: Room,
 ) -> Result<(), AppendFault>
     requires whole { IsWhole (D.told (disk_of to.old)) (D.crashes (disk_of to.old)) to.old }
-    ensures does { MayAppend room (entry.now ∷ []) (log_of (D.told (disk_of to.old)) to.old) result
+    ensures does { MayAppend room (as_entry (B.says entry.now) ∷ []) (log_of (D.told (disk_of to.old)) to.old) result
         (log_of (D.told (disk_of to.new)) to.new) }
     ensures whole { UnlessDisk result
         (IsWhole (D.told (disk_of to.new)) (D.crashes (disk_of to.new)) to.new) }
-    ensures crash { LeavesFront (log_of (D.told (disk_of to.old)) to.old).entries (entry.now ∷ [])
+    ensures crash { LeavesFront (log_of (D.told (disk_of to.old)) to.old).entries (as_entry (B.says entry.now) ∷ [])
         (crashes_in (dialect_of to.old) (limit_of to.old) (D.crashes (disk_of to.old))) (crashes_in (dialect_of to.new) (limit_of to.new) (D.crashes (disk_of to.new))) }
     ensures later { D.faults (disk_of to.old) ≤ D.faults (disk_of to.new) }
     ensures rose { result ≡ Err AppendFault.Disk
@@ -62,9 +63,9 @@ pub fn append_open<D: Disk>(
 }
 
 // What the two take of a journal together.
-#[tactic(auto, using(crate::proofs::Logs::size_is))]
+#[tactic(auto, using(crate::proofs::Logs::texts_size))]
 fn size_of_both(first: &Option<EncodedEntry>, second: &EncodedEntry) -> Option<u64>
-    ensures { IfSome result (λ size. size ≡ size_of_all (entries_of first.now ++ second.now ∷ [])) }
+    ensures { IfSome result (λ size. size ≡ size_of_all (entries_of first.now ++ Texts second.now ∷ [])) }
 {
     match first {
         None => Some(second.size()),
@@ -97,11 +98,11 @@ pub fn append_both<D: Disk>(
     second: &EncodedEntry,
 ) -> Result<(), StoreFault>
     requires whole { IsWhole (D.told (disk_of to.old)) (D.crashes (disk_of to.old)) to.old }
-    ensures does { MayWrite Ordinary (entries_of first.now ++ second.now ∷ [])
+    ensures does { MayWrite Ordinary (entries_of first.now ++ Texts second.now ∷ [])
         (log_of (D.told (disk_of to.old)) to.old) result (log_of (D.told (disk_of to.new)) to.new) }
     ensures whole { UnlessFailed result
         (IsWhole (D.told (disk_of to.new)) (D.crashes (disk_of to.new)) to.new) }
-    ensures crash { LeavesFront (log_of (D.told (disk_of to.old)) to.old).entries (entries_of first.now ++ second.now ∷ [])
+    ensures crash { LeavesFront (log_of (D.told (disk_of to.old)) to.old).entries (entries_of first.now ++ Texts second.now ∷ [])
         (crashes_in (dialect_of to.old) (limit_of to.old) (D.crashes (disk_of to.old))) (crashes_in (dialect_of to.new) (limit_of to.new) (D.crashes (disk_of to.new))) }
     ensures later { D.faults (disk_of to.old) ≤ D.faults (disk_of to.new) }
     ensures rose { result ≡ Err StoreFault.Disk
@@ -132,9 +133,9 @@ fn sum(a: u64, b: u64) -> Option<u64>
 }
 
 /// What the entries take of a journal; nothing where that is no number of 64 bits.
-#[tactic(auto, using(crate::proofs::Logs::size_is))]
+#[tactic(auto, using(crate::proofs::Logs::texts_size))]
 pub fn size_of_all(entries: &[EncodedEntry]) -> Option<u64>
-    ensures { IfSome result (λ size. size ≡ size_of_all entries.now) }
+    ensures { IfSome result (λ size. size ≡ size_of_all (of_texts entries.now)) }
 {
     let mut size: u64 = 0;
     for entry in entries {
@@ -148,8 +149,8 @@ pub fn size_of_all(entries: &[EncodedEntry]) -> Option<u64>
 
 // Whether entries that take so many bytes go past the end; where there are none they do not.
 fn lacks_room(room: Room, limit: u64, used: u64, entries: &[EncodedEntry], size: u64) -> bool
-    requires { size ≡ size_of_all entries.now }
-    ensures { result ≡ is_full (end_of room limit) used entries.now }
+    requires { size ≡ size_of_all (of_texts entries.now) }
+    ensures { result ≡ is_full (end_of room limit) used (of_texts entries.now) }
 {
     match entries {
         [] => false,
@@ -164,12 +165,12 @@ fn append_each<D: Disk>(
     room: Room,
 ) -> Result<(), AppendFault>
     requires whole { IsWhole (D.told (disk_of to.old)) (D.crashes (disk_of to.old)) to.old }
-    requires room { is_full (end_of room (limit_of to.old)) (used_of to.old) entries.now ≡ false }
-    ensures does { MayAppend room entries.now (log_of (D.told (disk_of to.old)) to.old) result
+    requires room { is_full (end_of room (limit_of to.old)) (used_of to.old) (of_texts entries.now) ≡ false }
+    ensures does { MayAppend room (of_texts entries.now) (log_of (D.told (disk_of to.old)) to.old) result
         (log_of (D.told (disk_of to.new)) to.new) }
     ensures whole { UnlessDisk result
         (IsWhole (D.told (disk_of to.new)) (D.crashes (disk_of to.new)) to.new) }
-    ensures crash { LeavesFront (log_of (D.told (disk_of to.old)) to.old).entries entries.now
+    ensures crash { LeavesFront (log_of (D.told (disk_of to.old)) to.old).entries (of_texts entries.now)
         (crashes_in (dialect_of to.old) (limit_of to.old) (D.crashes (disk_of to.old))) (crashes_in (dialect_of to.new) (limit_of to.new) (D.crashes (disk_of to.new))) }
     ensures later { D.faults (disk_of to.old) ≤ D.faults (disk_of to.new) }
     ensures rose { result ≡ Err AppendFault.Disk
@@ -193,12 +194,12 @@ pub fn append_all<D: Disk>(
     room: Room,
 ) -> Result<(), AppendFault>
     requires whole { IsWhole (D.told (disk_of to.old)) (D.crashes (disk_of to.old)) to.old }
-    requires size { size ≡ size_of_all entries.now }
-    ensures does { MayAppend room entries.now (log_of (D.told (disk_of to.old)) to.old) result
+    requires size { size ≡ size_of_all (of_texts entries.now) }
+    ensures does { MayAppend room (of_texts entries.now) (log_of (D.told (disk_of to.old)) to.old) result
         (log_of (D.told (disk_of to.new)) to.new) }
     ensures whole { UnlessDisk result
         (IsWhole (D.told (disk_of to.new)) (D.crashes (disk_of to.new)) to.new) }
-    ensures crash { LeavesFront (log_of (D.told (disk_of to.old)) to.old).entries entries.now
+    ensures crash { LeavesFront (log_of (D.told (disk_of to.old)) to.old).entries (of_texts entries.now)
         (crashes_in (dialect_of to.old) (limit_of to.old) (D.crashes (disk_of to.old))) (crashes_in (dialect_of to.new) (limit_of to.new) (D.crashes (disk_of to.new))) }
     ensures later { D.faults (disk_of to.old) ≤ D.faults (disk_of to.new) }
     ensures rose { result ≡ Err AppendFault.Disk

@@ -3,4 +3,5 @@ pub mod Measure
 pub mod Parts
 pub mod ReadLemmas
 pub mod Runs
+pub mod Shallow
 pub mod SpelledLemmas

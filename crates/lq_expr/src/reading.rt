@@ -22,6 +22,20 @@ const LEVELS: usize = 64;
 pub fn parse(alloc: Global, text: &str) -> Result<Expr, ExprFault>
     ensures { (result ≡ Err ExprFault.OutOfMemory) ⊎ (result ≡ spec.parsed text.now) }
 {
+    let mut depth = 0;
+    for byte in text.as_bytes() {
+        if *byte == b'(' {
+            depth += 1;
+            if depth > LEVELS {
+                return Err(ExprFault::NotExpr);
+            }
+            continue;
+        }
+        if *byte == b')' {
+            depth = depth.saturating_sub(1);
+            continue;
+        }
+    }
     let words = words(alloc, text)?;
     joined(alloc, Operator::Comma, words.as_slice(), LEVELS)
 }

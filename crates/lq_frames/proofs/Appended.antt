@@ -5,10 +5,12 @@ use Rattle.std.proofs.lemmas.Bool.Decides.{nat_tests}
 use Rattle.std.proofs.lemmas.List.{append_assoc, take_at, drop_at}
 use Rattle.lq_base.specs.declared.dialect.Dialect.{Dialect}
 use Rattle.lq_base.specs.declared.dialect.Dialect.TheVariants.{Postgresql, Mysql}
+use Rattle.lq_frames.specs.declared.entry.Body.{Body}
+use Rattle.lq_frames.specs.declared.entry.Body.TheVariants.{State}
 use Rattle.lq_frames.specs.declared.entry.Entry.{Entry}
-use Rattle.lq_frames.specs.Body.{number, front_number, body_of, entry_of, texts_of, AreTexts}
+use Rattle.lq_frames.specs.Body.{number, front_number, body_of, entry_of, as_body, IsRight}
 use Rattle.lq_frames.specs.Frames.{entries_from, header, frames_of, frames, IsEntry, AreEntries}
-use Rattle.lq_frames.specs.Journal.{texts_in, placed, read_frames, journal_of, with_last}
+use Rattle.lq_frames.specs.Journal.{body_in, placed, read_frames, journal_of, with_last}
 use Rattle.lq_frames.specs.State.{Holds}
 use Rattle.lq_frames.proofs.Frames.{reads_back, frames-last, all-last}
 use Rattle.lq_frames.proofs.Numbers.{number-length, front_number-number}
@@ -88,41 +90,41 @@ frames_are dialect limit entries used bytes holds =
 pub journal_is : (dialect : Dialect) (limit : ℕ) (entries : List (List ℕ)) (used : ℕ) (bytes : List ℕ) → Holds dialect limit entries used bytes → journal_of dialect limit bytes ≡ Ok (placed 17 entries)
 journal_is dialect limit entries used bytes holds = ap read_frames (frames_are dialect limit entries used bytes holds)
 
-pub placed-last : (at : ℕ) (entries : List (List ℕ)) (entry : List ℕ) → placed at (entries ++ entry ∷ []) ≡ placed at entries ++ record { at = at + length (frames entries); texts = texts_in entry } ∷ []
-placed-last at [] entry = let same : at ≡ at + 0 = omega arith in ap (λ (n : ℕ). record { at = n; texts = texts_in entry } ∷ []) same
+pub placed-last : (at : ℕ) (entries : List (List ℕ)) (entry : List ℕ) → placed at (entries ++ entry ∷ []) ≡ placed at entries ++ record { at = at + length (frames entries); body = body_in entry } ∷ []
+placed-last at [] entry = let same : at ≡ at + 0 = omega arith in ap (λ (n : ℕ). record { at = n; body = body_in entry } ∷ []) same
 placed-last at (first ∷ entries) entry =
     let place : at + (length first + 1) + length (frames entries) ≡ at + length (frames (first ∷ entries)) = omega (arith, length-append first (frames entries)) in
-    ap (λ (es : List Entry). record { at = at; texts = texts_in first } ∷ es) (placed-last (at + (length first + 1)) entries entry)
-    ∙ ap (λ (n : ℕ). record { at = at; texts = texts_in first } ∷ (placed (at + (length first + 1)) entries ++ record { at = n; texts = texts_in entry } ∷ [])) place
+    ap (λ (es : List Entry). record { at = at; body = body_in first } ∷ es) (placed-last (at + (length first + 1)) entries entry)
+    ∙ ap (λ (n : ℕ). record { at = at; body = body_in first } ∷ (placed (at + (length first + 1)) entries ++ record { at = n; body = body_in entry } ∷ [])) place
 
 -- an entry, and the closed gate behind it
-pub record Closed (texts : List (List ℕ)) (bytes : List ℕ) : Type 0 where
+pub record Closed (what : Body) (bytes : List ℕ) : Type 0 where
   pub entry : List ℕ
   pub is : bytes ≡ entry ++ 0 ∷ []
   pub whole : IsEntry entry
-  pub texts_are : texts_in entry ≡ texts
+  pub says : body_in entry ≡ what
 
-pub closed_entry : (texts : List (List ℕ)) (bytes : List ℕ) → bytes ≡ entry_of texts → AreTexts texts → 0 < length texts → length bytes < 2 ^ 32 → Closed texts bytes
-closed_entry texts bytes is are some fits =
-    let n = length (body_of texts) in
-    let entry = number n ++ body_of texts in
-    let sizes : length bytes ≡ 4 + n + 1 = omega (arith, ap length is, length-append entry (0 ∷ []), length-append (number n) (body_of texts), number-length n) in
-    let size : length entry ≡ 4 + n = omega (arith, length-append (number n) (body_of texts), number-length n) in
-    let front : front_number entry ≡ n = front_number-number n (body_of texts) (omega (arith, sizes, fits)) in
-    let read : texts_of (drop 4 entry) ≡ Some texts =
-    ap texts_of (drop_at (number n) (body_of texts) 4 (number-length n)) ∙ body_reads_back texts are some (omega (arith, sizes, fits)) in
+pub closed_entry : (what : Body) (bytes : List ℕ) → bytes ≡ entry_of what → IsRight what → length bytes < 2 ^ 32 → Closed what bytes
+closed_entry what bytes is right fits =
+    let n = length (body_of what) in
+    let entry = number n ++ body_of what in
+    let sizes : length bytes ≡ 4 + n + 1 = omega (arith, ap length is, length-append entry (0 ∷ []), length-append (number n) (body_of what), number-length n) in
+    let size : length entry ≡ 4 + n = omega (arith, length-append (number n) (body_of what), number-length n) in
+    let front : front_number entry ≡ n = front_number-number n (body_of what) (omega (arith, sizes, fits)) in
+    let read : as_body (drop 4 entry) ≡ Some what =
+    ap as_body (drop_at (number n) (body_of what) 4 (number-length n)) ∙ body_reads_back what right (omega (arith, sizes, fits)) in
     record {
       entry = entry;
       is = is;
-      whole = record { size = size ∙ ap (λ (k : ℕ). 4 + k) (sym front); body = ap (λ (o : Option (List (List ℕ))). is_some o) read };
-      texts_are = ap (λ (o : Option (List (List ℕ))). unwrap_or o []) read;
+      whole = record { size = size ∙ ap (λ (k : ℕ). 4 + k) (sym front); body = ap (λ (o : Option Body). is_some o) read };
+      says = ap (λ (o : Option Body). unwrap_or o (State [])) read;
     }
 
 -- behind an open gate the new entry counts
-pub open_holds : (dialect : Dialect) (limit : ℕ) (entries : List (List ℕ)) (used : ℕ) (texts : List (List ℕ)) (bytes rest : List ℕ) → AreEntries entries → used ≡ 17 + length (frames entries)
-    → (closed : Closed texts bytes) → length (header dialect ++ frames entries ++ 1 ∷ (bytes ++ rest)) ≤ limit
+pub open_holds : (dialect : Dialect) (limit : ℕ) (entries : List (List ℕ)) (used : ℕ) (what : Body) (bytes rest : List ℕ) → AreEntries entries → used ≡ 17 + length (frames entries)
+    → (closed : Closed what bytes) → length (header dialect ++ frames entries ++ 1 ∷ (bytes ++ rest)) ≤ limit
     → Holds dialect limit (entries ++ closed.entry ∷ []) (used + length bytes) (header dialect ++ frames entries ++ 1 ∷ (bytes ++ rest))
-open_holds dialect limit entries used texts bytes rest are place closed within =
+open_holds dialect limit entries used what bytes rest are place closed within =
     let front = header dialect ++ frames entries in
     let whole : front ++ 1 ∷ (bytes ++ rest) ≡ header dialect ++ frames (entries ++ closed.entry ∷ []) ++ 0 ∷ rest =
     ap (λ (l : List ℕ). front ++ 1 ∷ (l ++ rest)) closed.is
@@ -159,10 +161,10 @@ room dialect limit entries used gate before bytes holds fits =
       length-drop (length bytes) holds.tail,
     )
 
-pub with_more : (dialect : Dialect) (limit : ℕ) (entries : List (List ℕ)) (used : ℕ) (before : List ℕ) (texts : List (List ℕ)) (bytes : List ℕ) → Holds dialect limit entries used before
-    → (closed : Closed texts bytes) → with_last used texts (journal_of dialect limit before) ≡ Ok (placed 17 (entries ++ closed.entry ∷ []))
-with_more dialect limit entries used before texts bytes holds closed =
-    ap (with_last used texts) (journal_is dialect limit entries used before holds)
-    ∙ ap (λ (n : ℕ). Ok (placed 17 entries ++ record { at = n; texts = texts } ∷ [])) holds.place
-    ∙ ap (λ (ts : List (List ℕ)). Ok (placed 17 entries ++ record { at = 17 + length (frames entries); texts = ts } ∷ [])) (sym closed.texts_are)
+pub with_more : (dialect : Dialect) (limit : ℕ) (entries : List (List ℕ)) (used : ℕ) (before : List ℕ) (what : Body) (bytes : List ℕ) → Holds dialect limit entries used before
+    → (closed : Closed what bytes) → with_last used what (journal_of dialect limit before) ≡ Ok (placed 17 (entries ++ closed.entry ∷ []))
+with_more dialect limit entries used before what bytes holds closed =
+    ap (with_last used what) (journal_is dialect limit entries used before holds)
+    ∙ ap (λ (n : ℕ). Ok (placed 17 entries ++ record { at = n; body = what } ∷ [])) holds.place
+    ∙ ap (λ (b : Body). Ok (placed 17 entries ++ record { at = 17 + length (frames entries); body = b } ∷ [])) (sym closed.says)
     ∙ ap Ok (sym (placed-last 17 entries closed.entry))

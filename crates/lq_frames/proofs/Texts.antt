@@ -3,8 +3,10 @@ use Rattle.std.proofs.Common.{◌≡◌, ◌==◌, ◌+◌, ◌-◌, ◌<◌, �
 use Rattle.std.specs.Option.{option_map}
 use Rattle.std.specs.Str.{is_utf8}
 use Rattle.std.proofs.lemmas.List.{append_assoc, append-nil, map-append, take_at, take_all, drop_at}
-use Rattle.lq_frames.specs.Body.{number, front_number, framed_texts, body_of, entry_of, size_of, with_text, texts_from, if_any, texts_of, is_body, AreTexts}
-use Rattle.lq_frames.specs.Entry.{texts_by, IsEncoded}
+use Rattle.lq_frames.specs.declared.entry.Body.{Body}
+use Rattle.lq_frames.specs.declared.entry.Body.TheVariants.{State, Texts}
+use Rattle.lq_frames.specs.Body.{number, front_number, framed_texts, body_of, entry_of, size_of, with_text, texts_from, if_any, as_body, is_body, AreTexts, IsRight}
+use Rattle.lq_frames.specs.Entry.{texts_by, IsEncoded, state_in}
 use Rattle.lq_frames.proofs.Numbers.{number-length, front_number-number}
 
 pub passes_text : (over bytes : List ℕ) → texts_from (length over) (over ++ bytes) ≡ texts_from 0 bytes
@@ -66,10 +68,11 @@ texts_read_back (text ∷ texts) are fits =
     framed_texts-step text (framed_texts texts) are.0 (omega (arith, size, fits))
     ∙ ap (option_map (λ more. text ∷ more)) (texts_read_back texts are.1 (omega (arith, size, fits)))
 
-pub body_reads_back : (texts : List (List ℕ)) → AreTexts texts → 0 < length texts → length (body_of texts) < 2 ^ 32 → texts_of (body_of texts) ≡ Some texts
-unfolding texts_of
-body_reads_back [] are some fits = absurd (omega (arith, some))
-body_reads_back (text ∷ texts) are some fits = ap if_any (texts_read_back (text ∷ texts) are (omega (arith, fits)))
+pub body_reads_back : (what : Body) → IsRight what → length (body_of what) < 2 ^ 32 → as_body (body_of what) ≡ Some what
+unfolding as_body
+body_reads_back (Texts []) right fits = absurd (omega (arith, right.1))
+body_reads_back (Texts (text ∷ texts)) right fits = ap if_any (texts_read_back (text ∷ texts) right.0 (omega (arith, fits)))
+body_reads_back (State bytes) right fits = refl
 
 -- what is read fills the bytes
 pub some_is : {A : Type 0} (x y : A) → Some x ≡ Some y → x ≡ y
@@ -93,25 +96,27 @@ texts_fill zero (byte ∷ bytes) texts is =
     let size : length text ≡ n = omega (arith, rest, length-take n (drop 3 bytes), length-drop 3 bytes) in
     omega (arith, rest, size, framed_texts-length text parts.0, ap (λ (ts : List (List ℕ)). length (framed_texts ts)) parts.2)
 
-pub entry_of-length : (texts : List (List ℕ)) → size_of texts ≡ 6 + length (framed_texts texts)
-entry_of-length texts = omega (arith, length-append (number (length (body_of texts)) ++ body_of texts) (0 ∷ []), length-append (number (length (body_of texts))) (body_of texts), number-length (length (body_of texts)))
+pub entry_of-length : (what : Body) → size_of what ≡ 5 + length (body_of what)
+entry_of-length what = omega (arith, length-append (number (length (body_of what)) ++ body_of what) (0 ∷ []), length-append (number (length (body_of what))) (body_of what), number-length (length (body_of what)))
 
-any_is : (read : Option (List (List ℕ))) → is_some (if_any read) ≡ true → (texts : List (List ℕ)) × (read ≡ Some texts) × (if_any read ≡ Some texts)
+any_is : (read : Option (List (List ℕ))) → is_some (if_any read) ≡ true → (texts : List (List ℕ)) × (read ≡ Some texts) × (if_any read ≡ Some (Texts texts))
 any_is None is = absurd (cc is)
 any_is (Some []) is = absurd (cc is)
 any_is (Some (text ∷ texts)) is = (text ∷ texts, refl, refl)
 
-tagged : (b : Bool) (read : Option (List (List ℕ))) → is_some (if b then if_any read else None) ≡ true → (texts : List (List ℕ)) × (read ≡ Some texts) × ((if b then if_any read else None) ≡ Some texts)
-tagged true read is = any_is read is
-tagged false read is = absurd (cc is)
-
--- a body of the right form has texts, which fill it
-pub body_fills : (body : List ℕ) → is_body body ≡ true → (texts : List (List ℕ)) × (texts_of body ≡ Some texts) × (length body ≡ 1 + length (framed_texts texts))
-unfolding texts_of
+-- a body of the right form says something, which fills it
+pub body_fills : (bytes : List ℕ) → is_body bytes ≡ true → (what : Body) × (as_body bytes ≡ Some what) × (length bytes ≡ length (body_of what))
+unfolding as_body
 body_fills [] is = absurd (cc is)
-body_fills (tag ∷ bytes) is =
-    let parts = tagged (tag == 84) (texts_from 0 bytes) is in
-    (parts.0, parts.2, omega (arith, texts_fill 0 bytes parts.0 parts.1))
+body_fills (tag ∷ bytes) is = by_tag (tag == 84) (tag == 83) is
+  where
+    by_tag : (is_texts is_state : Bool) → is_some (if is_texts then if_any (texts_from 0 bytes) else (if is_state then Some (State bytes) else None)) ≡ true
+        → (what : Body) × ((if is_texts then if_any (texts_from 0 bytes) else (if is_state then Some (State bytes) else None)) ≡ Some what) × (length (tag ∷ bytes) ≡ length (body_of what))
+    by_tag true is_state is =
+        let parts = any_is (texts_from 0 bytes) is in
+        (Texts parts.0, parts.2, omega (arith, texts_fill 0 bytes parts.0 parts.1))
+    by_tag false true is = (State bytes, refl, refl)
+    by_tag false false is = absurd (cc is)
 
 -- the lengths of the texts give them back
 pub texts_by-framed : (texts : List (List ℕ)) (rest : List ℕ) → texts_by (map (λ text. length text) texts) (framed_texts texts ++ rest) ≡ texts
@@ -127,11 +132,11 @@ texts_by-framed (text ∷ texts) rest =
     ∙ ap (λ (l : List ℕ). text ∷ texts_by (map (λ text. length text) texts) l) (drop_at text more (length text) refl)
     ∙ ap (λ (ts : List (List ℕ)). text ∷ ts) (texts_by-framed texts rest)
 
-behind_tag : (texts : List (List ℕ)) → drop 5 (entry_of texts) ≡ framed_texts texts ++ 0 ∷ []
+behind_tag : (texts : List (List ℕ)) → drop 5 (entry_of (Texts texts)) ≡ framed_texts texts ++ 0 ∷ []
 unfolding number
 behind_tag texts = refl
 
-pub texts_by-entry : (texts : List (List ℕ)) (lens bytes : List ℕ) → lens ≡ map (λ text. length text) texts → bytes ≡ entry_of texts → texts_by lens (drop 5 bytes) ≡ texts
+pub texts_by-entry : (texts : List (List ℕ)) (lens bytes : List ℕ) → lens ≡ map (λ text. length text) texts → bytes ≡ entry_of (Texts texts) → texts_by lens (drop 5 bytes) ≡ texts
 texts_by-entry texts lens bytes lens_are is =
     ap (λ (l : List ℕ). texts_by lens (drop 5 l)) is
     ∙ ap (texts_by lens) (behind_tag texts)
@@ -148,21 +153,21 @@ regroup : (head body n text gate : List ℕ) → (((head ++ body) ++ n) ++ text)
 regroup head body n text gate = simp append_assoc
 
 -- an entry with one more text: the gate is taken off, the text put on, the gate closed again, and the length written anew
-pub entry_of-last : (texts : List (List ℕ)) (text old bytes : List ℕ) → old ≡ entry_of texts
+pub entry_of-last : (texts : List (List ℕ)) (text old bytes : List ℕ) → old ≡ entry_of (Texts texts)
     → bytes ≡ take (length old - 1) old ++ number (length text) ++ text ++ 0 ∷ []
-    → number (length bytes - 5) ++ drop 4 bytes ≡ entry_of (texts ++ text ∷ [])
+    → number (length bytes - 5) ++ drop 4 bytes ≡ entry_of (Texts (texts ++ text ∷ []))
 entry_of-last texts text old bytes is bytes_is =
-    let head = number (length (body_of texts)) in
-    let body = body_of (texts ++ text ∷ []) in
-    let start_is : take (length old - 1) old ≡ head ++ body_of texts =
-    ap (take (length old - 1)) is ∙ take_at (head ++ body_of texts) (0 ∷ []) (length old - 1) (omega (arith, ap length is, length-append (head ++ body_of texts) (0 ∷ []))) in
-    let body_is : body ≡ body_of texts ++ (number (length text) ++ text) = ap (λ (l : List ℕ). 84 ∷ l) (framed_texts-last texts text) in
+    let head = number (length (body_of (Texts texts))) in
+    let body = body_of (Texts (texts ++ text ∷ [])) in
+    let start_is : take (length old - 1) old ≡ head ++ body_of (Texts texts) =
+    ap (take (length old - 1)) is ∙ take_at (head ++ body_of (Texts texts)) (0 ∷ []) (length old - 1) (omega (arith, ap length is, length-append (head ++ body_of (Texts texts)) (0 ∷ []))) in
+    let body_is : body ≡ body_of (Texts texts) ++ (number (length text) ++ text) = ap (λ (l : List ℕ). 84 ∷ l) (framed_texts-last texts text) in
     let whole : bytes ≡ head ++ (body ++ 0 ∷ []) =
     bytes_is ∙ ap (λ (l : List ℕ). l ++ number (length text) ++ text ++ 0 ∷ []) start_is
-    ∙ regroup head (body_of texts) (number (length text)) text (0 ∷ []) ∙ ap (λ (l : List ℕ). head ++ (l ++ 0 ∷ [])) (sym body_is) in
+    ∙ regroup head (body_of (Texts texts)) (number (length text)) text (0 ∷ []) ∙ ap (λ (l : List ℕ). head ++ (l ++ 0 ∷ [])) (sym body_is) in
     let size : length bytes - 5 ≡ length body =
-    omega (arith, ap length whole, length-append head (body ++ 0 ∷ []), length-append body (0 ∷ []), number-length (length (body_of texts))) in
-    let rest : drop 4 bytes ≡ body ++ 0 ∷ [] = ap (drop 4) whole ∙ drop_at head (body ++ 0 ∷ []) 4 (number-length (length (body_of texts))) in
+    omega (arith, ap length whole, length-append head (body ++ 0 ∷ []), length-append body (0 ∷ []), number-length (length (body_of (Texts texts)))) in
+    let rest : drop 4 bytes ≡ body ++ 0 ∷ [] = ap (drop 4) whole ∙ drop_at head (body ++ 0 ∷ []) 4 (number-length (length (body_of (Texts texts)))) in
     ap (λ (n : ℕ). number n ++ drop 4 bytes) size ∙ ap (λ (l : List ℕ). number (length body) ++ l) rest ∙ sym (append_assoc (number (length body)) body (0 ∷ []))
 
 pub are_texts-last : (texts : List (List ℕ)) (text : List ℕ) → AreTexts texts → IsTrue (is_utf8 text) → AreTexts (texts ++ text ∷ [])
@@ -170,7 +175,7 @@ are_texts-last [] text are is = (is, tt)
 are_texts-last (first ∷ texts) text are is = (are.0, are_texts-last texts text are.1 is)
 
 -- what an encoded entry has to keep, from its bytes and lengths
-pub is_encoded : (texts : List (List ℕ)) (lens bytes : List ℕ) → lens ≡ map (λ text. length text) texts → bytes ≡ entry_of texts → AreTexts texts → 0 < length texts
+pub is_encoded : (texts : List (List ℕ)) (lens bytes : List ℕ) → lens ≡ map (λ text. length text) texts → bytes ≡ entry_of (Texts texts) → AreTexts texts → 0 < length texts
     → IsEncoded (texts_by lens (drop 5 bytes)) lens bytes
 is_encoded texts lens bytes lens_are is are some =
     subst (λ ts. IsEncoded ts lens bytes) (sym (texts_by-entry texts lens bytes lens_are is)) record { is = is; lens_are = lens_are; are_texts = are; some = some }
@@ -178,16 +183,16 @@ is_encoded texts lens bytes lens_are is are some =
 group_first : (size tag n text gate : List ℕ) → (((size ++ tag) ++ n) ++ text) ++ gate ≡ (size ++ (tag ++ (n ++ text))) ++ gate
 group_first size tag n text gate = simp append_assoc
 
-pub encoded_first : (text bytes : List ℕ) → bytes ≡ number (5 + length text) ++ 84 ∷ [] ++ number (length text) ++ text ++ 0 ∷ [] → bytes ≡ entry_of (text ∷ [])
+pub encoded_first : (text bytes : List ℕ) → bytes ≡ number (5 + length text) ++ 84 ∷ [] ++ number (length text) ++ text ++ 0 ∷ [] → bytes ≡ entry_of (Texts (text ∷ []))
 encoded_first text bytes is =
     let framed : framed_texts (text ∷ []) ≡ number (length text) ++ text = append-nil (number (length text) ++ text) in
-    let size : length (body_of (text ∷ [])) ≡ 5 + length text = omega (arith, framed_texts-length text []) in
+    let size : length (body_of (Texts (text ∷ []))) ≡ 5 + length text = omega (arith, framed_texts-length text []) in
     is ∙ group_first (number (5 + length text)) (84 ∷ []) (number (length text)) text (0 ∷ [])
     ∙ ap (λ (l : List ℕ). (number (5 + length text) ++ 84 ∷ l) ++ 0 ∷ []) (sym framed)
-    ∙ ap (λ (n : ℕ). (number n ++ body_of (text ∷ [])) ++ 0 ∷ []) (sym size)
+    ∙ ap (λ (n : ℕ). (number n ++ body_of (Texts (text ∷ []))) ++ 0 ∷ []) (sym size)
 
 -- what an encoded entry keeps when a text is added
-pub pushed : (texts : List (List ℕ)) (text lens bytes more_lens more_bytes : List ℕ) → IsEncoded texts lens bytes → more_lens ≡ lens ++ length text ∷ [] → more_bytes ≡ entry_of (texts ++ text ∷ []) → IsTrue (is_utf8 text)
+pub pushed : (texts : List (List ℕ)) (text lens bytes more_lens more_bytes : List ℕ) → IsEncoded texts lens bytes → more_lens ≡ lens ++ length text ∷ [] → more_bytes ≡ entry_of (Texts (texts ++ text ∷ [])) → IsTrue (is_utf8 text)
     → IsEncoded (texts_by more_lens (drop 5 more_bytes)) more_lens more_bytes × (texts_by more_lens (drop 5 more_bytes) ≡ texts ++ text ∷ [])
 pushed texts text lens bytes more_lens more_bytes encoded lens_is bytes_is utf8 =
     let lens_are : more_lens ≡ map (λ text. length text) (texts ++ text ∷ []) =
@@ -201,3 +206,29 @@ pub front_written : (given front items : List ℕ) (len : ℕ) → given ≡ fro
 front_written given front items len is fits len_is =
     ap (λ (l : List ℕ). take len (l ++ drop (length l) items)) is
     ∙ take_all len (front ++ drop (length front) items) (omega (arith, length-append front (drop (length front) items), length-drop (length front) items, fits, len_is))
+
+-- the state in the bytes of its entry
+pub state_in-entry : (state bytes : List ℕ) → bytes ≡ entry_of (State state) → state_in bytes ≡ state
+state_in-entry state bytes is =
+    let front = number (length (body_of (State state))) ++ 83 ∷ [] in
+    let whole : bytes ≡ front ++ (state ++ 0 ∷ []) = is ∙ group_state (number (length (body_of (State state)))) (83 ∷ []) state (0 ∷ []) in
+    let front_size : length front ≡ 5 = omega (arith, length-append (number (length (body_of (State state)))) (83 ∷ []), number-length (length (body_of (State state)))) in
+    let size : length bytes - 6 ≡ length state = omega (arith, ap length whole, length-append front (state ++ 0 ∷ []), length-append state (0 ∷ []), front_size) in
+    ap (λ (l : List ℕ). take (length bytes - 6) (drop 5 l)) whole
+    ∙ ap (take (length bytes - 6)) (drop_at front (state ++ 0 ∷ []) 5 front_size)
+    ∙ take_at state (0 ∷ []) (length bytes - 6) (sym size)
+  where
+    group_state : (size tag state gate : List ℕ) → (size ++ (tag ++ state)) ++ gate ≡ (size ++ tag) ++ (state ++ gate)
+    group_state size tag state gate = simp append_assoc
+
+pub encoded_state : (state bytes : List ℕ) → bytes ≡ number (1 + length state) ++ 83 ∷ [] ++ state ++ 0 ∷ [] → bytes ≡ entry_of (State state)
+encoded_state state bytes is =
+    let size : 1 + length state ≡ length (body_of (State state)) = omega arith in
+    is ∙ group_state (number (1 + length state)) (83 ∷ []) state (0 ∷ []) ∙ ap (λ (n : ℕ). (number n ++ 83 ∷ state) ++ 0 ∷ []) size
+  where
+    group_state : (size tag state gate : List ℕ) → ((size ++ tag) ++ state) ++ gate ≡ (size ++ (tag ++ state)) ++ gate
+    group_state size tag state gate = simp append_assoc
+
+-- what an encoded state has to keep
+pub is_state_encoded : (state bytes : List ℕ) → bytes ≡ entry_of (State state) → bytes ≡ entry_of (State (state_in bytes))
+is_state_encoded state bytes is = is ∙ ap (λ (l : List ℕ). entry_of (State l)) (sym (state_in-entry state bytes is))

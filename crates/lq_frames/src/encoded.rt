@@ -1,12 +1,14 @@
-ghost use Rattle.std.specs.Prelude.{◌≡◌, ◌+◌, ◌^◌, ◌<◌, ◌≤◌, ℕ, List, [], ◌∷◌, ◌++◌, length, take, drop, IfOk, OnOk, OnErr, vec_len, vec_capacity};
-ghost use Rattle.lq_frames.specs.Body.{number, entry_of, size_of, AreTexts};
+ghost use Rattle.std.specs.Prelude.{◌≡◌, ◌+◌, ◌<◌, ◌≤◌, ℕ, List, [], ◌∷◌, ◌++◌, length, take, drop, IfOk, OnOk, OnErr, vec_len, vec_capacity};
+ghost use Rattle.lq_frames.specs.Body.{number, entry_of};
+ghost use Rattle.lq_frames.specs.declared.entry.Body.TheVariants.{Texts};
 
+use crate::written::Encoded;
 use lq_base::{NoMemory, Text};
 use std::alloc::Global;
 use std::marker::Model;
 
-/// An entry that is ready to be written: its bytes, with the closed gate that is written behind it.
-/// Contracts see it as its texts.
+/// An entry of texts that is ready to be written: its bytes, with the closed gate that is written
+/// behind it. Contracts see it as its texts.
 #[derive(Drop)]
 pub struct EncodedEntry {
     bytes: Vec<u8>,
@@ -25,8 +27,9 @@ impl Model for EncodedEntry {
     ghost invariant = { λ e. IsEncoded (texts_by e.lens.items (drop 5 e.bytes.items)) e.lens.items e.bytes.items };
 }
 
+/// A length in four bytes, greatest first.
 #[tactic(auto, unfolding(crate::specs::Body::number))]
-fn number(n: usize) -> [u8; 4]
+pub fn number(n: usize) -> [u8; 4]
     ensures { result ≡ number n }
 {
     let [_, _, _, _, a, b, c, d] = n.to_be_bytes();
@@ -56,8 +59,8 @@ fn put_text(bytes: &mut Vec<u8>, text: &str)
     requires some { 5 < length bytes.old.items }
     requires room { vec_len bytes.old + (4 + length text.now) ≤ vec_capacity bytes.old }
     ensures { (texts : List (List ℕ))
-        → bytes.old.items ≡ entry_of texts
-        → bytes.new.items ≡ entry_of (texts ++ text.now ∷ []) }
+        → bytes.old.items ≡ entry_of (Texts texts)
+        → bytes.new.items ≡ entry_of (Texts (texts ++ text.now ∷ [])) }
 {
     bytes.truncate(bytes.len() - 1);
     put(bytes, &number(text.len()));
@@ -95,24 +98,6 @@ impl EncodedEntry {
         Ok(())
     }
 
-    /// What is written on the disk: the length of the body in four bytes, greatest first; the body,
-    /// which is the byte `T` and each text behind its length; and the closed gate, 0.
-    pub fn bytes(&self) -> &[u8]
-        ensures value { result.now ≡ entry_of self.now }
-        ensures are_texts { AreTexts self.now }
-        ensures some { 0 < length self.now }
-    {
-        &self.bytes
-    }
-
-    /// How many bytes of the journal it takes.
-    pub fn size(&self) -> u64
-        ensures value { result ≡ size_of self.now }
-        ensures bound { result < 2 ^ 63 }
-    {
-        self.bytes.len() as u64
-    }
-
     /// The entry of these texts.
     pub fn from_texts(alloc: Global, texts: &[Text]) -> Result<EncodedEntry, NoMemory>
         requires { 0 < length texts.now }
@@ -125,5 +110,17 @@ impl EncodedEntry {
             rest = after;
         }
         Ok(entry)
+    }
+}
+
+impl Encoded for EncodedEntry {
+    ghost says = { λ texts. Texts texts };
+
+    fn bytes(&self) -> &[u8] {
+        &self.bytes
+    }
+
+    fn size(&self) -> u64 {
+        self.bytes.len() as u64
     }
 }

@@ -7,7 +7,7 @@ ghost use Rattle.lq_outside.specs.Count.{CountsFault};
 ghost use Rattle.lq_outside.specs.Crash.{Settled, LeavesOnly, Half};
 
 use lq_base::Dialect;
-use lq_frames::EncodedEntry;
+use lq_frames::Encoded;
 use lq_outside::{Disk, DiskFailed};
 
 /// Writes, and then syncs.
@@ -36,30 +36,30 @@ pub struct Ending {
 }
 
 /// Writes an entry for which there is room behind the closed gate, and then opens the gate.
-pub fn write_entry<D: Disk>(
+pub fn write_entry<D: Disk, B: Encoded>(
     disk: &mut D,
     ending: Ending,
-    entry: &EncodedEntry,
+    entry: &B,
 ) -> Result<(), DiskFailed>
     requires stands { IfSome (D.told disk.old)
         (Stands true ending.dialect ending.limit ending.used) }
     requires used { 17 ≤ ending.used }
     requires limit { ending.limit ≤ 268435456 }
-    requires fits { ending.used + size_of entry.now ≤ ending.limit }
+    requires fits { ending.used + size_of (B.says entry.now) ≤ ending.limit }
     ensures stands { OnOk result
         (IfSome (D.told disk.new)
-        (Stands true ending.dialect ending.limit (ending.used + size_of entry.now))) }
+        (Stands true ending.dialect ending.limit (ending.used + size_of (B.says entry.now)))) }
     ensures added { OnOk result (option_map (journal_of ending.dialect ending.limit) (D.told disk.new)
-        ≡ option_map (with_last ending.used entry.now) (option_map (journal_of ending.dialect ending.limit) (D.told disk.old))) }
+        ≡ option_map (with_last ending.used (B.says entry.now)) (option_map (journal_of ending.dialect ending.limit) (D.told disk.old))) }
 
     // One that fails leaves the entries before it, with the new one or without.
-    ensures failed { OnErr result (IsSameOrMore ending.used entry.now (option_map (journal_of ending.dialect ending.limit) (D.told disk.old))
+    ensures failed { OnErr result (IsSameOrMore ending.used (B.says entry.now) (option_map (journal_of ending.dialect ending.limit) (D.told disk.old))
         (option_map (journal_of ending.dialect ending.limit) (D.told disk.new))) }
 
     // So does a crash at any moment of it, where all was on the disk before.
     ensures durable { OnOk result (Settled (D.told disk.new) (D.crashes disk.new)) }
     ensures any_moment { Settled (D.told disk.old) (D.crashes disk.old) → IfSome (D.told disk.old) (λ before.
-        LeavesOnly (D.crashes disk.old) (D.crashes disk.new) (StandsForSameOrMore ending.dialect ending.limit ending.used entry.now (journal_of ending.dialect ending.limit before))) }
+        LeavesOnly (D.crashes disk.old) (D.crashes disk.new) (StandsForSameOrMore ending.dialect ending.limit ending.used (B.says entry.now) (journal_of ending.dialect ending.limit before))) }
     ensures faults { CountsFault result (D.faults disk.old) (D.faults disk.new) }
 {
     let written = entry.bytes();

@@ -12,7 +12,7 @@ use Rattle.lq_turns.specs.declared.call.Call.{Call}
 use Rattle.lq_turns.specs.declared.stamp.Stamp.{Stamp}
 use Rattle.lq_hand.specs.Counts.{no_progress}
 use Rattle.lq_hand.specs.Hand.{AreTurns, calls_left, place_of}
-use Rattle.lq_hand.specs.Way.{Expects, Way}
+use Rattle.lq_hand.specs.Way.{Expects, IsUnderWay, Way}
 use Rattle.lq_hand.specs.declared.hand.Hand.{Hand}
 use Rattle.lq_hand.specs.declared.hand.Phase.TheVariants as phase
 use Rattle.lq_hand.specs.declared.source.Entered.{Entered}
@@ -34,9 +34,9 @@ module _ {Key Told : Type 0} (d : Dialect) (m : Meaning Key) (stamp : Stamp) whe
   abbrev pub OnSeen : (Told → Way) → Catalogue → (Contents → Told → Type 0) → Type 0
   OnSeen knew seen holds = (database : Database) → StandsFor d seen database → (told : Told) → (knew told).knows (contents_of database) → holds (contents_of database) told
 
-  -- The next turn is entered, and the calls to come stay the same; or there is no turn, and all is told.
+  -- The next turn is entered, and the calls to come stay the same; or there is no turn, and all is told; or there was no memory for it.
   abbrev pub Enters : Turns Key → (Told → Way) → Catalogue → Entered → Turns Key → (Told → Way) → Type 0
   Enters turns knew seen (entered.Turn hand) after ways = IsTurn d hand × OnSeen knew seen (λ c told.
       (rest_at d m stamp (between turns) c ≡ rest_at d m stamp (place_of hand after) c) × Expects d (ways told) hand.goes_on (calls_left hand) no_progress (c, c))
   Enters turns knew seen entered.NoTurn after ways = OnSeen knew seen (λ c told. (rest_at d m stamp (between turns) c ≡ closing ∷ []) × (ways told).tells None)
-  Enters turns knew seen entered.Lack after ways = Unit {0}
+  Enters turns knew seen entered.Lack after ways = OnSeen knew seen (λ c told. IsUnderWay (ways told))

@@ -1,5 +1,5 @@
 -- What a source of turns holds on its way to what it will have told, and what the calls of a turn come to.
-use Rattle.std.specs.Prelude.{Bool, Err, List, None, Ok, Option, Result, Some, [], false, true, ◌∷◌, ◌≡◌}
+use Rattle.std.specs.Prelude.{Bool, Err, List, None, Ok, Option, Result, Some, [], false, true, ◌∷◌, ◌≡◌, ◌⊎◌}
 use Rattle.lq_base.specs.declared.dialect.Dialect.{Dialect}
 use Rattle.lq_base.specs.declared.reason.Reason.{Reason}
 use Rattle.lq_model.specs.Catalogue.{Catalogue}
@@ -29,6 +29,12 @@ pub record Way : Type 1 where
   pub yields : Bool → Refusal → Contents → Type 0
   -- all is told, but for the refusal that stopped the command
   pub tells : Option Refusal → Type 0
+  -- so much is told where there was no memory for the next turn
+  pub lacks : Type 0
+
+-- the source is somewhere on its way, or at its end
+abbrev pub IsUnderWay : Way → Type 0
+IsUnderWay way = ((c : Contents) × way.knows c) ⊎ (((sees : List Catalogue) × (c : Contents) × way.awaits sees c) ⊎ (((goes_on : Bool) × (refusal : Refusal) × (c : Contents) × way.yields goes_on refusal c) ⊎ (((refused : Option Refusal) × way.tells refused) ⊎ way.lacks)))
 
 module _ (d : Dialect) where
   -- the refusal of the first of these calls that is refused, where the turn has come so far

@@ -8,9 +8,10 @@ use Rattle.lq_outside.specs.Crash.{Crashes, IsSound, LeavesOnly, Half, Settled}
 use Rattle.lq_outside.proofs.Moments.{started, weaker}
 use Rattle.lq_journal.specs.declared.journal.Journal.{Journal}
 use Rattle.lq_journal.specs.declared.reading.Found.{Found}
+use Rattle.lq_frames.specs.declared.entry.Body.{Body}
 use Rattle.lq_frames.specs.Frames.{header, frames}
 use Rattle.lq_frames.specs.Journal.{journal_of, StandsForSame, StandsForSameOrMore}
-use Rattle.lq_journal.specs.Reading.{FoundOn}
+use Rattle.lq_journal.specs.Reading.{FoundOn, IsRead}
 use Rattle.lq_journal.specs.State.{dialect_of, limit_of, used_of, is_prepared, IsLoaded, IsReady}
 use Rattle.lq_frames.specs.State.{Holds, Stands}
 use Rattle.lq_frames.proofs.Appended.{header-length}
@@ -28,13 +29,13 @@ on_told : (told : Option (List ℕ)) (bytes : List ℕ) (P : List ℕ → Type 0
 on_told None bytes P is p = tt
 on_told (Some before) bytes P is p = subst P (sym is) p
 
-pub found_entries : (dialect : Dialect) (limit : ℕ) (told : Option (List ℕ)) (found : Found) → FoundOn dialect limit told found → IfSome told (λ bytes. journal_of dialect limit bytes ≡ Ok found.entries)
-found_entries dialect limit told found on = on_told told on.bytes (λ bytes. journal_of dialect limit bytes ≡ Ok found.entries) on.are on.is.entries_are
+pub found_entries : (dialect : Dialect) (limit : ℕ) (told : Option (List ℕ)) (found : Found) → FoundOn dialect limit told found → IfSome told (λ bytes. IsRead dialect limit bytes found.entries found.used)
+found_entries dialect limit told found on = on_told told on.bytes (λ bytes. IsRead dialect limit bytes found.entries found.used) on.are on.is.read
 
 pub found_loaded : {D : Type 0} (dialect : Dialect) (limit : ℕ) (told : Option (List ℕ)) (found : Found) (disk : D) → FoundOn dialect limit told found → 8192 ≤ limit → limit ≤ 268435456
     → IsLoaded told (record { disk = disk; dialect = dialect; limit = limit; used = found.used; prepared = found.prepared })
 found_loaded dialect limit told found disk on least most =
-    let used_is = on.is.used_is in
+    let used_is = on.is.read.used_is in
     record {
       limit_least = least;
       limit_most = most;
@@ -108,8 +109,8 @@ still_same dialect limit None crashes sound settled = tt
 still_same dialect limit (Some before) crashes sound settled =
     started (Some before) crashes (StandsForSame dialect limit (journal_of dialect limit before)) sound (λ honest c left. ap (journal_of dialect limit) (settled honest c left))
 
-pub still_more : (dialect : Dialect) (limit at : ℕ) (texts : List (List ℕ)) (told : Option (List ℕ)) (crashes : Crashes) → IsSound told crashes → Settled told crashes
-    → IfSome told (λ before. LeavesOnly crashes crashes (StandsForSameOrMore dialect limit at texts (journal_of dialect limit before)))
-still_more dialect limit at texts None crashes sound settled = tt
-still_more dialect limit at texts (Some before) crashes sound settled =
-    started (Some before) crashes (StandsForSameOrMore dialect limit at texts (journal_of dialect limit before)) sound (λ honest c left. inl (ap (journal_of dialect limit) (settled honest c left)))
+pub still_more : (dialect : Dialect) (limit at : ℕ) (what : Body) (told : Option (List ℕ)) (crashes : Crashes) → IsSound told crashes → Settled told crashes
+    → IfSome told (λ before. LeavesOnly crashes crashes (StandsForSameOrMore dialect limit at what (journal_of dialect limit before)))
+still_more dialect limit at what None crashes sound settled = tt
+still_more dialect limit at what (Some before) crashes sound settled =
+    started (Some before) crashes (StandsForSameOrMore dialect limit at what (journal_of dialect limit before)) sound (λ honest c left. inl (ap (journal_of dialect limit) (settled honest c left)))

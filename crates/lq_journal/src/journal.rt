@@ -1,20 +1,20 @@
-ghost use Rattle.std.specs.Prelude.{◌≡◌, ◌+◌, ◌<◌, ◌≤◌, ◌↔◌, [], ◌∷◌, ◌++◌, IfSome, IfOk, IfErr, IsErrAnd, IsTrue, OnOk, OnErr, MatchResult, Ok, Err, length};
+ghost use Rattle.std.specs.Prelude.{◌≡◌, ◌+◌, ◌<◌, ◌≤◌, ◌↔◌, [], ◌∷◌, ◌++◌, drop, false, IfSome, IfOk, IfErr, IsErrAnd, IsTrue, OnOk, OnErr, MatchResult, Ok, Err, length};
 ghost use Rattle.std.specs.Option.{option_map};
 ghost use Rattle.lq_outside.specs.Count.{CountsFault};
 ghost use Rattle.lq_outside.specs.Crash.{Settled, LeavesOnly};
 ghost use Rattle.lq_frames.specs.Body.{size_of};
 ghost use Rattle.lq_frames.specs.Frames.{header};
-ghost use Rattle.lq_frames.specs.Journal.{journal_of, used_by, with_last, IsSameOrMore, StandsForSame, StandsForSameOrMore};
+ghost use Rattle.lq_frames.specs.Journal.{has_state, journal_of, with_last, IsSameOrMore, StandsForSame, StandsForSameOrMore};
 ghost use Rattle.lq_journal.specs.LoadFault.{IsLengthFault, IsLoadFault, IsSizeFault};
 ghost use Rattle.lq_journal.specs.AppendFault.{end_of, IsAppendFault, IsFull};
-ghost use Rattle.lq_journal.specs.Reading.{FoundOn};
+ghost use Rattle.lq_journal.specs.Reading.{FoundOn, IsRead};
 ghost use Rattle.lq_journal.specs.Synced.{HasSynced, HasSyncedBefore};
 ghost use Rattle.lq_journal.specs.declared.fault.AppendFault.TheVariants.{Full};
 
 use crate::fault::{AppendFault, LoadFault};
 use crate::reading::{self, Found};
 use lq_base::{Dialect, Items};
-use lq_frames::{EncodedEntry, Entry};
+use lq_frames::{Encoded, Entry};
 use lq_gate::{Ending, write_entry, write_synced};
 use lq_model::Room;
 use lq_outside::{Disk, DiskFailed, LoadRefused};
@@ -124,8 +124,9 @@ fn exceeds(used: u64, next: u64, end: u64) -> bool
 impl<D: Disk> Journal<D> {
     ghost use Rattle.lq_journal.specs.State.{disk_of, dialect_of, limit_of, used_of, IsLoaded, IsReady, SameOpening};
 
-    /// Opens the journal on a disk and gives its entries, which are those of the definition, or the
-    /// place of damage. It begins with a sync. A refusal hands the disk back, and changes no byte.
+    /// Opens the journal on a disk and gives its entries from the last state on, or all where there is
+    /// none, or the place of damage. It begins with a sync. A refusal hands the disk back, and changes
+    /// no byte.
     ///
     /// The limit is the greatest size of the file.
     pub fn load(
@@ -136,9 +137,12 @@ impl<D: Disk> Journal<D> {
     ) -> Result<(Journal<D>, Items<Entry>), LoadRefused<D, LoadFault>>
         requires limit_least { 8192 ≤ limit }
         requires limit_most { limit ≤ 268435456 }
-        ensures entries { IfOk result (λ loaded.
-            IfSome (D.told disk) (λ bytes. journal_of dialect limit bytes ≡ Ok loaded.1)) }
-        ensures used { IfOk result (λ loaded. used_of loaded.0 ≡ used_by loaded.1) }
+        ensures read { IfOk result (λ loaded.
+            IfSome (D.told disk)
+            (λ bytes. IsRead dialect limit bytes loaded.1 (used_of loaded.0))) }
+
+        // Behind the first of them stand texts alone.
+        ensures texts_behind { IfOk result (λ loaded. has_state (drop 1 loaded.1) ≡ false) }
         ensures dialect { IfOk result (λ loaded. dialect_of loaded.0 ≡ dialect) }
         ensures limit { IfOk result (λ loaded. limit_of loaded.0 ≡ limit) }
         ensures loaded { IfOk result (λ loaded. IsLoaded (D.told (disk_of loaded.0)) loaded.0) }
@@ -222,21 +226,21 @@ impl<D: Disk> Journal<D> {
     }
 
     // Writes an entry for which there is room behind the closed gate, and then opens the gate.
-    fn write_entry(&mut self, entry: &EncodedEntry) -> Result<(), DiskFailed>
+    fn write_entry<B: Encoded>(&mut self, entry: &B) -> Result<(), DiskFailed>
         requires ready { IsReady (D.told (disk_of self.old)) self.old }
-        requires fits { used_of self.old + size_of entry.now ≤ limit_of self.old }
+        requires fits { used_of self.old + size_of (B.says entry.now) ≤ limit_of self.old }
         ensures ready { OnOk result (IsReady (D.told (disk_of self.new)) self.new) }
         ensures opening { SameOpening self.old self.new }
-        ensures used { OnOk result (used_of self.new ≡ used_of self.old + size_of entry.now) }
+        ensures used { OnOk result (used_of self.new ≡ used_of self.old + size_of (B.says entry.now)) }
         ensures used_stays { OnErr result (used_of self.new ≡ used_of self.old) }
         ensures added { OnOk result (option_map (journal_of (dialect_of self.old) (limit_of self.old)) (D.told (disk_of self.new))
-            ≡ option_map (with_last (used_of self.old) entry.now) (option_map (journal_of (dialect_of self.old) (limit_of self.old)) (D.told (disk_of self.old)))) }
-        ensures failed { OnErr result (IsSameOrMore (used_of self.old) entry.now (option_map (journal_of (dialect_of self.old) (limit_of self.old)) (D.told (disk_of self.old)))
+            ≡ option_map (with_last (used_of self.old) (B.says entry.now)) (option_map (journal_of (dialect_of self.old) (limit_of self.old)) (D.told (disk_of self.old)))) }
+        ensures failed { OnErr result (IsSameOrMore (used_of self.old) (B.says entry.now) (option_map (journal_of (dialect_of self.old) (limit_of self.old)) (D.told (disk_of self.old)))
             (option_map (journal_of (dialect_of self.old) (limit_of self.old)) (D.told (disk_of self.new)))) }
         ensures durable { OnOk result
             (Settled (D.told (disk_of self.new)) (D.crashes (disk_of self.new))) }
         ensures any_moment { Settled (D.told (disk_of self.old)) (D.crashes (disk_of self.old)) → IfSome (D.told (disk_of self.old)) (λ before.
-            LeavesOnly (D.crashes (disk_of self.old)) (D.crashes (disk_of self.new)) (StandsForSameOrMore (dialect_of self.old) (limit_of self.old) (used_of self.old) entry.now (journal_of (dialect_of self.old) (limit_of self.old) before))) }
+            LeavesOnly (D.crashes (disk_of self.old)) (D.crashes (disk_of self.new)) (StandsForSameOrMore (dialect_of self.old) (limit_of self.old) (used_of self.old) (B.says entry.now) (journal_of (dialect_of self.old) (limit_of self.old) before))) }
         ensures faults { CountsFault result (D.faults (disk_of self.old))
             (D.faults (disk_of self.new)) }
     {
@@ -250,28 +254,28 @@ impl<D: Disk> Journal<D> {
         Ok(())
     }
 
-    /// Adds an entry. It takes no memory.
-    pub fn append(&mut self, entry: &EncodedEntry, room: Room) -> Result<(), AppendFault>
+    /// Adds an entry, of texts or a state. It takes no memory.
+    pub fn append<B: Encoded>(&mut self, entry: &B, room: Room) -> Result<(), AppendFault>
         requires ready { IsReady (D.told (disk_of self.old)) self.old }
         ensures ready { OnOk result (IsReady (D.told (disk_of self.new)) self.new) }
         ensures opening { SameOpening self.old self.new }
-        ensures used { OnOk result (used_of self.new ≡ used_of self.old + size_of entry.now) }
+        ensures used { OnOk result (used_of self.new ≡ used_of self.old + size_of (B.says entry.now)) }
         ensures used_stays { OnErr result (used_of self.new ≡ used_of self.old) }
         ensures added { OnOk result (option_map (journal_of (dialect_of self.old) (limit_of self.old)) (D.told (disk_of self.new))
-            ≡ option_map (with_last (used_of self.old) entry.now) (option_map (journal_of (dialect_of self.old) (limit_of self.old)) (D.told (disk_of self.old)))) }
+            ≡ option_map (with_last (used_of self.old) (B.says entry.now)) (option_map (journal_of (dialect_of self.old) (limit_of self.old)) (D.told (disk_of self.old)))) }
 
         // It is full exactly where the entry goes past the end that the room sets, and then nothing is changed.
-        ensures full { (end_of room (limit_of self.old) < used_of self.old + size_of entry.now) ↔
-            (result ≡ Err (Full (used_of self.old) (size_of entry.now))) }
+        ensures full { (end_of room (limit_of self.old) < used_of self.old + size_of (B.says entry.now)) ↔
+            (result ≡ Err (Full (used_of self.old) (size_of (B.says entry.now)))) }
         ensures unchanged { IfErr result (λ fault. IsFull fault → self.new ≡ self.old) }
         ensures fault { IfErr result (λ fault.
-            IsAppendFault (used_of self.old) (size_of entry.now) (D.faults (disk_of self.old))
+            IsAppendFault (used_of self.old) (size_of (B.says entry.now)) (D.faults (disk_of self.old))
             (D.faults (disk_of self.new)) fault) }
         ensures later { D.faults (disk_of self.old) ≤ D.faults (disk_of self.new) }
         ensures stays { OnOk result (D.faults (disk_of self.new) ≡ D.faults (disk_of self.old)) }
 
         // One that fails leaves the entries before it, with the new one or without.
-        ensures failed { OnErr result (IsSameOrMore (used_of self.old) entry.now (option_map (journal_of (dialect_of self.old) (limit_of self.old)) (D.told (disk_of self.old)))
+        ensures failed { OnErr result (IsSameOrMore (used_of self.old) (B.says entry.now) (option_map (journal_of (dialect_of self.old) (limit_of self.old)) (D.told (disk_of self.old)))
             (option_map (journal_of (dialect_of self.old) (limit_of self.old)) (D.told (disk_of self.new)))) }
 
         // After it a crash leaves what a read gives. Where that was so before, a crash at any moment of the
@@ -279,7 +283,7 @@ impl<D: Disk> Journal<D> {
         ensures durable { OnOk result
             (Settled (D.told (disk_of self.new)) (D.crashes (disk_of self.new))) }
         ensures any_moment { Settled (D.told (disk_of self.old)) (D.crashes (disk_of self.old)) → IfSome (D.told (disk_of self.old)) (λ before.
-            LeavesOnly (D.crashes (disk_of self.old)) (D.crashes (disk_of self.new)) (StandsForSameOrMore (dialect_of self.old) (limit_of self.old) (used_of self.old) entry.now (journal_of (dialect_of self.old) (limit_of self.old) before))) }
+            LeavesOnly (D.crashes (disk_of self.old)) (D.crashes (disk_of self.new)) (StandsForSameOrMore (dialect_of self.old) (limit_of self.old) (used_of self.old) (B.says entry.now) (journal_of (dialect_of self.old) (limit_of self.old) before))) }
     {
         let next = entry.size();
         if exceeds(self.used, next, end_of(room, self.limit)) {

@@ -1,20 +1,21 @@
-ghost use Rattle.std.specs.Prelude.{◌≡◌, ◌+◌, ◌≤◌, ◌<◌, ◌^◌, ◌∷◌, ◌++◌, length, take, IfOk, IfErr, IsNone, MatchOption, Some, None, Ok, true, false};
+ghost use Rattle.std.specs.Prelude.{◌≡◌, ◌+◌, ◌≤◌, ◌<◌, ◌^◌, ◌∷◌, ◌++◌, length, take, IfOk, IfErr, IsNone, MatchOption, OnOk, Some, None, Ok, true, false};
 ghost use Rattle.std.specs.Option.{ForSome};
 ghost use Rattle.std.specs.Str.{is_utf8};
-ghost use Rattle.lq_frames.specs.Body.{front_number, with_text, texts_from, if_any, texts_of};
+ghost use Rattle.lq_frames.specs.Body.{front_number, with_text, texts_from, if_any, is_state, as_body};
 ghost use Rattle.lq_frames.specs.Frames.{entry_len, header};
-ghost use Rattle.lq_journal.specs.Reading.{IsNext, IsStepFault, IsFound, IsReadFault};
+ghost use Rattle.lq_journal.specs.Reading.{IsNext, IsStepFault, IsFound, IsReadFault, taken_up};
 ghost use Rattle.lq_gate.specs.Gate.{IsEnd};
 
 use crate::fault::LoadFault;
 use lq_base::{Dialect, Items, NoMemory, Text};
-use lq_frames::Entry;
+use lq_frames::{Body, Entry};
 use lq_gate::behind_gate;
 use std::alloc::Global;
 
 /// What stands in a file.
 #[derive(Drop)]
 pub struct Found {
+    /// From the last state on.
     pub entries: Items<Entry>,
     /// The place after the closed gate that ends the journal.
     pub used: u64,
@@ -97,24 +98,34 @@ fn read_texts(alloc: Global, bytes: &[u8]) -> Result<Option<Items<Text>>, NoMemo
     Ok(Some(texts))
 }
 
-fn if_any(texts: Option<Items<Text>>) -> Option<Items<Text>>
+fn if_any(texts: Option<Items<Text>>) -> Option<Body>
     ensures { result ≡ if_any texts }
 {
     match texts {
-        Some(texts) => { if texts.is_empty() { None } else { Some(texts) } }
+        Some(texts) => {
+            if texts.is_empty() {
+                None
+            } else {
+                Some(Body::Texts(texts))
+            }
+        }
         None => None,
     }
 }
 
-// The texts of a body, where its form is right.
-#[tactic(auto, unfolding(lq_frames::specs::Body::texts_of))]
-fn read_body(alloc: Global, body: &[u8]) -> Result<Option<Items<Text>>, NoMemory>
-    ensures { IfOk result (λ texts. texts ≡ texts_of body.now) }
+// What a body says, where its form is right.
+#[tactic(auto, unfolding(lq_frames::specs::Body::as_body))]
+fn read_body(alloc: Global, body: &[u8]) -> Result<Option<Body>, NoMemory>
+    ensures { IfOk result (λ what. what ≡ as_body body.now) }
 {
     match body {
         [b'T', rest @ ..] => match read_texts(alloc, rest) {
             Ok(texts) => Ok(if_any(texts)),
             Err(fault) => Err(fault),
+        },
+        [b'S', state @ ..] => match Items::from_slice(alloc, state) {
+            Ok(state) => Ok(Some(Body::State(state))),
+            Err(_) => Err(NoMemory),
         },
         _ => Ok(None),
     }
@@ -155,9 +166,29 @@ fn next_entry(alloc: Global, at: u64, bytes: &[u8]) -> Result<Option<(Entry, &[u
         return Err(LoadFault::Damaged { at: at + 1 });
     };
     match read_body(alloc, &entry[4..]) {
-        Ok(Some(texts)) => Ok(Some((Entry { at: at + 1, texts }, after))),
+        Ok(Some(body)) => Ok(Some((Entry { at: at + 1, body }, after))),
         Ok(None) => Err(LoadFault::Damaged { at: at + 1 }),
         Err(_) => Err(LoadFault::OutOfMemory),
+    }
+}
+
+fn is_state(body: &Body) -> bool
+    ensures { result ≡ is_state body.now }
+{
+    matches!(body, Body::State(_))
+}
+
+// Takes up an entry: before a state nothing counts.
+fn take_up(alloc: Global, entries: &mut Items<Entry>, entry: Entry) -> Result<(), NoMemory>
+    ensures { OnOk result (entries.new ≡ taken_up entry entries.old) }
+{
+    if is_state(&entry.body) {
+        *entries = Items::new(alloc);
+        entries.push(entry)?;
+        Ok(())
+    } else {
+        entries.push(entry)?;
+        Ok(())
     }
 }
 
@@ -181,7 +212,7 @@ fn read_entries(
     loop {
         match next_entry(alloc, at, rest) {
             Ok(Some((entry, after))) => {
-                entries.push(entry)?;
+                take_up(alloc, &mut entries, entry)?;
                 at += (rest.len() - after.len()) as u64;
                 rest = after;
             }
@@ -197,7 +228,7 @@ fn read_entries(
 }
 
 /// What stands in the bytes of a file.
-#[tactic(auto, using(crate::proofs::Entries::short, crate::proofs::Entries::unheaded))]
+#[tactic(auto, using(crate::proofs::Entries::short_read, crate::proofs::Entries::unheaded))]
 pub fn read(alloc: Global, dialect: Dialect, limit: u64, bytes: &[u8]) -> Result<Found, LoadFault>
     requires { length bytes.now ≤ limit }
     ensures found { IfOk result (λ found. IsFound dialect limit bytes.now found) }

@@ -55,16 +55,17 @@ fn same_kinds(columns: &[Column], names: &[Name], others: &[Column], targets: &[
         ≡ kinds.same_kinds (map (λ n. kinds.kind_of n columns.now) names.now)
         (map (λ n. kinds.kind_of n others.now) targets.now) }
 {
-    let [name, names @ ..] = names else {
-        return targets.is_empty();
-    };
-    let [target, targets @ ..] = targets else {
-        return false;
-    };
-    if !same_kind(kind_of(columns, name), kind_of(others, target)) {
-        return false;
+    let mut left = targets;
+    for name in names {
+        let Some((target, after)) = left.split_first() else {
+            return false;
+        };
+        if !same_kind(kind_of(columns, name), kind_of(others, target)) {
+            return false;
+        }
+        left = after;
     }
-    same_kinds(columns, names, others, targets)
+    left.is_empty()
 }
 
 /// Whether a row whose values in some columns have no null is not among the known ones.

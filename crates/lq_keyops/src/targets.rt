@@ -15,13 +15,17 @@ use lq_rows::{Held, Shape};
 pub fn same_names(a: &[Name], b: &[Name]) -> bool
     ensures { result ≡ spaces.same_names a.now b.now }
 {
-    let [x, a @ ..] = a else {
-        return b.is_empty();
-    };
-    let [y, b @ ..] = b else {
-        return false;
-    };
-    *x == *y && same_names(a, b)
+    let mut left = b;
+    for x in a {
+        let Some((y, after)) = left.split_first() else {
+            return false;
+        };
+        if *x != *y {
+            return false;
+        }
+        left = after;
+    }
+    left.is_empty()
 }
 
 fn is_of_key(targets: &[Name], key: Option<&Key>) -> bool

@@ -1,0 +1,2 @@
+mod EachChange
+pub mod Right

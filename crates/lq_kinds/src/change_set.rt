@@ -37,26 +37,38 @@ pub struct ChangeSet {
 impl Drop for ChangeSet {
     fn drop(self) {
         let ChangeSet {
-            identity: _,
+            identity,
             here: _,
-            changes: _,
-            rollback: _,
-            context: _,
-            labels: _,
-            context_text: _,
-            labels_text: _,
-            comment: _,
+            changes,
+            rollback,
+            context,
+            labels,
+            context_text,
+            labels_text,
+            comment,
             run_always: _,
             run_on_change: _,
             fail_on_error: _,
             in_transaction: _,
-            valid_sums: _,
-            cond: _,
+            valid_sums,
+            cond,
             on_fail: _,
             on_error: _,
-            sum: _,
-            old_sum: _,
+            sum,
+            old_sum,
         } = self;
+        drop(identity);
+        drop(changes);
+        drop(rollback);
+        drop(context);
+        drop(labels);
+        drop(context_text);
+        drop(labels_text);
+        drop(comment);
+        drop(valid_sums);
+        drop(cond);
+        drop(sum);
+        drop(old_sum);
     }
 }
 
@@ -72,10 +84,12 @@ pub struct Changelog {
 impl Drop for Changelog {
     fn drop(self) {
         let Changelog {
-            cond: _,
+            cond,
             on_fail: _,
             on_error: _,
-            sets: _,
+            sets,
         } = self;
+        drop(cond);
+        drop(sets);
     }
 }

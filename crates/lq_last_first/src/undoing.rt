@@ -36,9 +36,11 @@ pub fn push_undoing<B: TakesBack>(
 ) -> Result<(), NoMemory>
     ensures { OnOk result (to.new ≡ to.old ++ last_first (B.steps by.now) things.now) }
 {
-    let Some((thing, after)) = things.split_first() else {
-        return Ok(());
-    };
-    push_undoing(alloc, by, after, to)?;
-    by.push_steps(alloc, thing, to)
+    // A loop, since a file may state more things than a stack has room for calls.
+    let mut rest = things;
+    while let Some((thing, before)) = rest.split_last() {
+        by.push_steps(alloc, thing, to)?;
+        rest = before;
+    }
+    Ok(())
 }

@@ -25,7 +25,7 @@ abbrev pub with_url : List ℕ → List (List ℕ) → List (List ℕ)
 with_url url [] = []
 with_url url (name ∷ words) = name ∷ url ∷ words
 
--- a command that runs on the database: it prints no SQL and no history, updates by all of its changelog, and is no drill and no soak
+-- a command that runs on the database: it prints no SQL and no history, updates by all of its changelog, writes no snapshot, and is no drill and no soak
 abbrev pub is_run : Job → Bool
 is_run (Run command) = true
 is_run _ = false

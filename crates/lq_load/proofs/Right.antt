@@ -9,9 +9,14 @@ use Rattle.lq_base.specs.declared.fault.KindFault.{KindFault}
 use Rattle.lq_base.specs.declared.fault.KindFault.TheVariants.{Bad}
 use Rattle.lq_base.specs.declared.name.Name.{Name}
 use Rattle.lq_model.proofs.Lists.{and_left, and_right, and_true}
+use Rattle.lq_tree.proofs.Says.{IsSo, Takes, anything, change_so, given, name_so, required_so, start, then_so}
 use Rattle.lq_tree.specs.Found.{Reads}
+use Rattle.lq_tree.specs.Given.{a_text, a_truth}
+use Rattle.lq_tree.specs.Keys.{optional, required}
 use Rattle.lq_tree.specs.Items.{are_some}
-use Rattle.lq_load.specs.LoadData.{is_for, rows_found}
+use Rattle.lq_load.specs.LoadData.{is_for, load_data, rows_found}
+use Rattle.lq_load.specs.LoadKeys.{a_separator, keys as load_keys_of, load_keys}
+use Rattle.lq_load.specs.Records.{records_in}
 use Rattle.lq_load.specs.Rows.{Records, is_column, is_row}
 use Rattle.lq_load.specs.declared.load_data.LoadData.{LoadData}
 
@@ -45,3 +50,20 @@ table_right d table (heading ∷ others) x named is = by (are_some is_column hea
 pub read_right : (d : Dialect) (table : Name) (records : Records) (r : Result LoadData KindFault) → is_name table ≡ true → Reads (rows_found table records) r → IfOk r (λ x. is_for d x ≡ true)
 read_right d table records (Ok x) named is = table_right d table records x named is
 read_right d table records (Err fault) named is = tt
+
+-- the same of the reading itself
+
+keys_right : Takes (λ keys. is_name keys.table_name ≡ true) load_keys
+unfolding load_keys
+keys_right = change_so (λ keys. is_name keys.table_name ≡ true) load_keys_of (
+    given {k = optional (codes "separator") a_separator} anything (given {k = optional (codes "relativeToChangelogFile") a_truth} anything (given {k = required (codes "file") a_text} anything (given (required_so name_so) (start (λ table is_table file _ relative _ separator _. is_table))))))
+
+pub load_right : (d : Dialect) (bytes : List ℕ) → Takes (IsSo (is_for d)) (load_data bytes)
+unfolding load_data
+load_right d bytes = record {
+  of = λ n. then_so (λ keys. is_name keys.table_name ≡ true) (IsSo (is_for d)) (load_keys n) (λ keys. rows_found keys.table_name (records_in keys.separator bytes)) (keys_right.of n)
+      (λ keys named. by keys.table_name (records_in keys.separator bytes) named (rows_found keys.table_name (records_in keys.separator bytes)) refl);
+} where
+  by : (table : Name) (records : Records) → is_name table ≡ true → (r : Result LoadData KindFault) → rows_found table records ≡ r → IfOk r (IsSo (is_for d))
+  by table records named (Ok x) is = table_right d table records x named is
+  by table records named (Err fault) is = tt

@@ -13,19 +13,17 @@ pub struct RowsAt<'a> {
     pub rows: &'a [Items<Text>],
 }
 
+// A loop, as below: a record may have as many fields.
 fn write_texts(to: &mut Canon, row: &[Text]) -> Result<(), NoMemory>
     ensures written { OnOk result
         (to.new.written ≡ to.old.written ++ canonical_values (texts row.now)) }
     ensures begun { OnOk result (to.new.begun ≡ to.old.begun) }
     ensures front { OnErr result (GoesOn to.old to.new) }
 {
-    match row {
-        [] => Ok(()),
-        [field, rest @ ..] => {
-            to.text(field.as_str())?;
-            write_texts(to, rest)
-        }
+    for field in row {
+        to.text(field.as_str())?;
     }
+    Ok(())
 }
 
 fn write_row(to: &mut Canon, row: &[Text]) -> Result<(), NoMemory>

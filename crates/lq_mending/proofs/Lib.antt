@@ -5,6 +5,7 @@ pub mod Taken
 pub mod Fitting
 pub mod Behind
 pub mod Freed
+mod Barred
 pub mod Whole
 pub mod Undone
 pub mod Passing

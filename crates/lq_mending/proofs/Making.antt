@@ -1,6 +1,6 @@
 -- A call that is accepted is the first of those to come, and the others come behind it.
 use Rattle.std.proofs.Common.{ap, arith, refl, subst, sym, ◌∙◌}
-use Rattle.std.specs.Prelude.{Bool, Err, List, None, Ok, Option, Result, length, suc, true, ℕ, Some, ◌<◌, ◌++◌, ◌∷◌, ◌≡◌}
+use Rattle.std.specs.Prelude.{Bool, Err, List, None, Ok, Option, Result, [], length, suc, true, ℕ, Some, ◌<◌, ◌++◌, ◌∷◌, ◌≡◌}
 use Rattle.lq_base.specs.declared.dialect.Dialect.{Dialect}
 use Rattle.lq_base.specs.declared.reason.Reason.{Reason}
 use Rattle.lq_turns.proofs.Made.{after_ok}
@@ -14,6 +14,8 @@ use Rattle.lq_turns.specs.declared.deed.Deed.{Deed}
 use Rattle.lq_hand.specs.Hand.{AreTurns, IsNext, IsReady, calls_left, hand_place}
 use Rattle.lq_hand.specs.declared.hand.Hand.{Hand}
 use Rattle.lq_hand.specs.declared.hand.Phase.TheVariants as phase
+use Rattle.lq_run.proofs.Grows.{came_on}
+use Rattle.lq_run.specs.Ends.{CameFrom}
 use Rattle.lq_run.specs.NoChanges.{no_changes}
 use Rattle.lq_run.specs.declared.hand.Moved.TheVariants as moved
 use Rattle.lq_store.specs.State.{State}
@@ -130,11 +132,12 @@ module _ (d : Dialect) where
           ends = λ tail. k.are_made.ends tail ∙ made_on_way (calls_left hand) (calls_left new) took.goes.went.call k.session.is_open k.session took.goes.after took.first turns took.none took.goes.went.is tail;
           leads = k.are_made.leads ∙ took.continues.contents;
           reason = k.are_made.reason ∙ reason_on_way (calls_left hand) (calls_left new) took.goes.went.call k.session.is_open k.session took.goes.after took.first turns took.none took.goes.went.is;
+          came = subst (CameFrom d s) (sym took.goes.went.is) (came_on d s k.session took.goes.went.call k.are_made.came);
         };
       }
 
   pub here : (calls : List Call) (s : Session) → AreMade d calls calls s s
-  here calls s = record { ends = λ tail. refl; leads = refl; reason = refl }
+  here calls s = record { ends = λ tail. refl; leads = refl; reason = refl; came = record { calls = []; is = refl } }
 
   -- where the next one is refused, an abort is all that comes behind it
   refused_deed : (deed : Deed) (s : Session) (reason : Reason) (rest : List Call) → reason_in (contents_after d deed (contents_of s.seen)) ≡ Some reason

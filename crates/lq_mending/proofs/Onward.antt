@@ -13,7 +13,7 @@ use Rattle.lq_turns.specs.Deed.{contents_after}
 use Rattle.lq_turns.specs.Goes.{Both, are_accepted, went}
 use Rattle.lq_turns.specs.Rest.{Inside, NoMore, if_goes_on, rest, turns_calls}
 use Rattle.lq_turns.specs.Script.{closing}
-use Rattle.lq_turns.specs.Session.{Session, called, room_of}
+use Rattle.lq_turns.specs.Session.{Session, all_called, called, room_of}
 use Rattle.lq_turns.specs.Turn.{made, made_on}
 use Rattle.lq_turns.specs.declared.call.Call.{Call}
 use Rattle.lq_turns.specs.declared.call.Call.TheVariants.{Abort, Alone, Begin, Commit, Execute}
@@ -57,6 +57,17 @@ next_before d (Alone deeds room) calls tail s = calls_grow d (made d (calls ++ t
 
 pub before_end : (d : Dialect) (calls left tail : List Call) (call : Call) (s : Session) → calls ≡ call ∷ left → IsBefore (called d call s) (at_end d calls tail s)
 before_end d calls left tail call s is = subst (λ cs. IsBefore (called d call s) (at_end d cs tail s)) (sym is) (next_before d call left tail s)
+
+-- and the next call and others lead there
+next_to_end : (d : Dialect) (call : Call) (calls tail : List Call) (s : Session) → (others : List Call) × (all_called d (call ∷ others) s ≡ at_end d (call ∷ calls) tail s)
+next_to_end d Begin calls tail s = (made d (calls ++ tail) (contents_of s.seen), refl)
+next_to_end d (Execute deed) calls tail s = (made_on (made d (calls ++ tail)) (contents_after d deed (contents_of s.seen)), refl)
+next_to_end d Commit calls tail s = (made d (calls ++ tail) (contents_of s.seen), refl)
+next_to_end d Abort calls tail s = (made d (calls ++ tail) (contents_of s.seen), refl)
+next_to_end d (Alone deeds room) calls tail s = (made d (calls ++ tail) (contents_of s.seen), refl)
+
+pub on_to_end : (d : Dialect) (calls left tail : List Call) (call : Call) (s : Session) → calls ≡ call ∷ left → (others : List Call) × (all_called d (call ∷ others) s ≡ at_end d calls tail s)
+on_to_end d calls left tail call s is = subst (λ cs. (others : List Call) × (all_called d (call ∷ others) s ≡ at_end d cs tail s)) (sym is) (next_to_end d call left tail s)
 
 pub end_before : (d : Dialect) (calls tail : List Call) (s : Session) → IsBefore s (at_end d calls tail s)
 end_before d calls tail s = calls_grow d (made d (calls ++ tail) (contents_of s.seen)) s

@@ -20,6 +20,7 @@ use Rattle.lq_model.specs.declared.fault.StoreFault.TheVariants as fault
 use Rattle.lq_model.specs.declared.statement.Statement.{Statement}
 use Rattle.lq_reverse.specs.Back.{back}
 use Rattle.lq_run.proofs.Ending.{opened_is}
+use Rattle.lq_run.proofs.Grows.{came_on}
 use Rattle.lq_run.proofs.Since.{leave_then}
 use Rattle.lq_run.specs.Crashing.{LeftAlone}
 use Rattle.lq_run.specs.Does.{AbortFor, Breaks, HasNoRoom}
@@ -33,7 +34,7 @@ use Rattle.lq_store.specs.State.{State, is_open}
 use Rattle.lq_turns.specs.Contents.{contents_of}
 use Rattle.lq_turns.specs.Deed.{if_accepted}
 use Rattle.lq_turns.specs.Rest.{NoMore, Place, if_goes_on, rest}
-use Rattle.lq_turns.specs.Session.{Session, called}
+use Rattle.lq_turns.specs.Session.{Session, all_called, called}
 use Rattle.lq_turns.specs.Stepped.{both_of}
 use Rattle.lq_turns.specs.declared.call.Call.{Call}
 use Rattle.lq_turns.specs.declared.call.Call.TheVariants.{Abort, Commit}
@@ -43,7 +44,7 @@ use Rattle.lq_run.specs.declared.runner.End.TheVariants as end
 use Rattle.lq_mending.proofs.Crashed.{alone_crash}
 use Rattle.lq_mending.proofs.Fitting.{one_fits}
 use Rattle.lq_mending.proofs.Making.{refused_ends, refused_why, turns_at}
-use Rattle.lq_mending.proofs.Onward.{before_end, end_before, is_first}
+use Rattle.lq_mending.proofs.Onward.{before_end, end_before, is_first, on_to_end}
 use Rattle.lq_mending.specs.Comes.{AreMade, At, CrashesAll, Ends, EndsAs, LeftOf, Reached, at_end, first_reason, reason_by}
 use Rattle.lq_mending.specs.Mends.{EndsAt, Goes, Rests, WasFull, Waits}
 use Rattle.lq_mending.specs.Refusing.{refused_by, refused_from, refusal_of}
@@ -126,10 +127,10 @@ module _ (d : Dialect) (who : List ℕ) (of : Identity) (n : ℕ) (statement : S
         let it = refused_at reason new ends in
         (it.1.live, opened_is d no_changes nobody number start y it.0 it.1 ∙ it.2)
 
-    pub refused : (reason : Reason) (new : Hand) (left : State) → Ends d number hand x (made.Refused reason) new y → AbortFor d number y left → (refusal : Refusal) (tail : List Call) → EndsAt d number start (at_end d ours tail s) (end.Refused refusal) left
+    pub refused : (reason : Reason) (new : Hand) (left : State) → Ends d number hand x (made.Refused reason) new y → AbortFor d number y left → (refusal : Refusal) (tail : List Call) → EndsAt d number start s (at_end d ours tail s) (end.Refused refusal) left
     refused reason new left ends aborts refusal tail =
         let it = refused_at reason new ends in
-        subst (λ last. EndsAt d number start last (end.Refused refusal) left) (sym (it.3 tail)) (aborts start it.0 rests.dialect it.1, refl)
+        subst (λ last. EndsAt d number start s last (end.Refused refusal) left) (sym (it.3 tail)) (aborts start it.0 rests.dialect it.1, refl)
 
     reason_is : (reason : Reason) (new : Hand) → Ends d number hand x (made.Refused reason) new y → first_reason d ours (contents_of s.seen) ≡ Some reason
     reason_is reason new ends =
@@ -154,7 +155,15 @@ module _ (d : Dialect) (who : List ℕ) (of : Identity) (n : ℕ) (statement : S
         let first = is_first d nobody (calls_left last) last.goes_on (both_of k.session) meets.call meets.more next meets.by in
         subst (IsBefore (called d meets.call k.session)) (sym (k.are_made.ends tail) ∙ ap (λ cs. at_end d cs tail s) calls) (before_end d (calls_left last) first.0 tail meets.call k.session first.1)
 
-    pub disk : (new : Hand) → Ends d number hand x made.Disk new y → (tail : List Call) → EndsAt d number start (at_end d ours tail s) end.Disk y
+    goes_on_by : (last : Hand) (z : State) (k : Reached d nobody number start s (calls_left hand) last z) (why : StoreFault) (w : State) (meets : Meets d no_changes nobody number (place_of last NoMore) start k.session z Ordinary why w)
+        → (tail : List Call) → (others : List Call) × (all_called d (meets.call ∷ others) k.session ≡ at_end d ours tail s)
+    goes_on_by last z k why w meets tail =
+        let next = subst (λ p. rest d no_changes nobody (hand_place p (calls_left last) last.goes_on NoMore) (both_of k.session) ≡ meets.call ∷ meets.more) k.inside meets.next in
+        let first = is_first d nobody (calls_left last) last.goes_on (both_of k.session) meets.call meets.more next meets.by in
+        let goes = on_to_end d (calls_left last) first.0 tail meets.call k.session first.1 in
+        (goes.0, goes.1 ∙ sym (k.are_made.ends tail) ∙ ap (λ cs. at_end d cs tail s) calls)
+
+    pub disk : (new : Hand) → Ends d number hand x made.Disk new y → (tail : List Call) → EndsAt d number start s (at_end d ours tail s) end.Disk y
     disk new ends tail =
         let it = ended made.Disk new ends in
         let k = it.2 in
@@ -168,31 +177,41 @@ module _ (d : Dialect) (who : List ℕ) (of : Identity) (n : ℕ) (statement : S
           before = meets_before it.0 it.1 k fault.Disk y meets tail;
         }
 
-    pub waits : (last : Hand) (z : State) (k : Reached d nobody number start s (calls_left hand) last z) (left : State) → AbortFor d number z left → (tail : List Call) → Waits d number start (at_end d ours tail s) left
+    pub waits : (last : Hand) (z : State) (k : Reached d nobody number start s (calls_left hand) last z) (left : State) → AbortFor d number z left → (tail : List Call) → (waits : Waits d number start s (at_end d ours tail s) left) × (waits.session.entries ≡ k.session.entries)
     waits last z k left aborts tail =
-        let before = subst (IsBefore k.session) (sym (k.are_made.ends tail) ∙ ap (λ cs. at_end d cs tail s) calls) (end_before d (calls_left last) tail k.session) in
-        record {
-          session = called d Abort k.session;
-          before = record { more = before.more; entries = before.entries };
-          stands = aborts start k.session rests.dialect k.at.stands;
-        }
+        let before = subst (IsBefore k.session) (sym (k.are_made.ends tail) ∙ ap (λ cs. at_end d cs tail s) calls) (end_before d (calls_left last) tail k.session) in (
+          record {
+            session = called d Abort k.session;
+            came = came_on d s k.session Abort k.are_made.came;
+            before = record { more = before.more; entries = before.entries };
+            stands = aborts start k.session rests.dialect k.at.stands;
+            shut = refl;
+          },
+          refl,
+        )
 
     full_of : (last : Hand) (z : State) (k : Reached d nobody number start s (calls_left hand) last z) (used next : ℕ) (meets : Meets d no_changes nobody number (place_of last NoMore) start k.session z Ordinary (fault.Full used next) y)
-        → (tail : List Call) → WasFull d number start (at_end d ours tail s) used next
+        → (tail : List Call) → (full : WasFull d number start s (at_end d ours tail s) used next) × (full.session ≡ k.session)
     full_of last z k used next meets tail =
         let it : HasNoRoom d Ordinary meets.call k.session z used next = subst (λ e. HasNoRoom e Ordinary meets.call k.session z used next) k.at.dialect meets.faults.0 in
-        record {
-          session = k.session;
-          call = meets.call;
-          more = it.appends.more;
-          appends = it.appends.entries;
-          before = meets_before last z k (fault.Full used next) y meets tail;
-          used_is = it.full.1.0 ∙ subst (λ e. z.used ≡ start.used + size_of_all (entries_of e k.session.entries)) k.at.dialect k.at.stands.used;
-          next_is = it.full.1.1 ∙ ap size_of_all it.appends.texts;
-          which = inl meets.by;
-          full = ap (λ r. is_full (end_of r start.limit) used (entries_of d it.appends.more)) meets.by ∙ ap (λ l. is_full (end_of Ordinary l) used (entries_of d it.appends.more)) (sym k.at.stands.limit)
-              ∙ full_by (end_of Ordinary z.limit) used z.used it.written (entries_of d it.appends.more) it.full.1.0 it.appends.texts it.full.0;
-        }
+        let goes = goes_on_by last z k (fault.Full used next) y meets tail in (
+          record {
+            session = k.session;
+            came = k.are_made.came;
+            call = meets.call;
+            more = it.appends.more;
+            appends = it.appends.entries;
+            before = meets_before last z k (fault.Full used next) y meets tail;
+            others = goes.0;
+            goes_on = goes.1;
+            used_is = it.full.1.0 ∙ subst (λ e. z.used ≡ start.used + size_of_all (entries_of e k.session.entries)) k.at.dialect k.at.stands.used;
+            next_is = it.full.1.1 ∙ ap size_of_all it.appends.texts;
+            which = inl meets.by;
+            full = ap (λ r. is_full (end_of r start.limit) used (entries_of d it.appends.more)) meets.by ∙ ap (λ l. is_full (end_of Ordinary l) used (entries_of d it.appends.more)) (sym k.at.stands.limit)
+                ∙ full_by (end_of Ordinary z.limit) used z.used it.written (entries_of d it.appends.more) it.full.1.0 it.appends.texts it.full.0;
+          },
+          refl,
+        )
 
     pub full_open : (used next : ℕ) (new : Hand) → Ends d number hand x (made.Full used next) new y → (y.live ≡ true) × (is_open number y.begun ≡ true)
     full_open used next new ends =
@@ -200,25 +219,27 @@ module _ (d : Dialect) (who : List ℕ) (of : Identity) (n : ℕ) (statement : S
         let same : y ≡ it.1 = it.3.0.faults.1 in
         subst (λ z. (z.live ≡ true) × (is_open number z.begun ≡ true)) (sym same) (it.2.at.stands.live, opened_is d no_changes nobody number start it.1 it.2.session it.2.at.stands ∙ it.3.1)
 
-    pub full : (used next : ℕ) (new : Hand) (left : State) → Ends d number hand x (made.Full used next) new y → AbortFor d number y left → (tail : List Call) → EndsAt d number start (at_end d ours tail s) (end.Full used next) left
+    pub full : (used next : ℕ) (new : Hand) (left : State) → Ends d number hand x (made.Full used next) new y → AbortFor d number y left → (tail : List Call) → EndsAt d number start s (at_end d ours tail s) (end.Full used next) left
     full used next new left ends aborts tail =
         let it = ended (made.Full used next) new ends in
         let same : y ≡ it.1 = it.3.0.faults.1 in
-        (waits it.0 it.1 it.2 left (subst (λ z. AbortFor d number z left) same aborts) tail, full_of it.0 it.1 it.2 used next it.3.0 tail)
+        let waiting = waits it.0 it.1 it.2 left (subst (λ z. AbortFor d number z left) same aborts) tail in
+        let was = full_of it.0 it.1 it.2 used next it.3.0 tail in
+        (waiting.0, was.0, waiting.1 ∙ ap (λ (t : Session). t.entries) (sym was.1))
 
     pub lack_open : (new : Hand) → Ends d number hand x made.OutOfMemory new y → (y.live ≡ true) × (is_open number y.begun ≡ true)
     lack_open new ends =
         let it = ended made.OutOfMemory new ends in
         subst (λ z. (z.live ≡ true) × (is_open number z.begun ≡ true)) (sym it.3.0) (it.2.at.stands.live, opened_is d no_changes nobody number start it.1 it.2.session it.2.at.stands ∙ it.3.1)
 
-    pub lack : (new : Hand) (left : State) → Ends d number hand x made.OutOfMemory new y → AbortFor d number y left → (tail : List Call) → EndsAt d number start (at_end d ours tail s) end.OutOfMemory left
+    pub lack : (new : Hand) (left : State) → Ends d number hand x made.OutOfMemory new y → AbortFor d number y left → (tail : List Call) → EndsAt d number start s (at_end d ours tail s) end.OutOfMemory left
     lack new left ends aborts tail =
         let it = ended made.OutOfMemory new ends in
-        waits it.0 it.1 it.2 left (subst (λ z. AbortFor d number z left) it.3.0 aborts) tail
+        (waits it.0 it.1 it.2 left (subst (λ z. AbortFor d number z left) it.3.0 aborts) tail).0
 
   -- nothing was called
-  pub none_made : (start x : State) (s : Session) → Rests d number start x s → (tail : List Call) → EndsAt d number start (at_end d ours tail s) end.OutOfMemory x
-  none_made start x s rests tail = record { session = s; before = end_before d ours tail s; stands = rests.stands }
+  pub none_made : (start x : State) (s : Session) → Rests d number start x s → (tail : List Call) → EndsAt d number start s (at_end d ours tail s) end.OutOfMemory x
+  none_made start x s rests tail = record { session = s; came = record { calls = []; is = refl }; before = end_before d ours tail s; stands = rests.stands; shut = rests.shut }
 
   -- a crash before the abort
   pub taking_crash : (x : State) (a b : Crashes) → CrashesAll d number hand x a b → (start : State) (s : Session) (tail : List Call) (rests : Rests d number start x s)

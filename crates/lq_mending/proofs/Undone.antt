@@ -61,13 +61,13 @@ module _ (of : Identity) (many : ℕ) where
   leaves_by d calls database x y (end.Full used next) leaves = tt
   leaves_by d calls database x y end.OutOfMemory leaves = tt
 
-  pub full_by : (d : Dialect) (calls : List Call) (database : Database) (x : State) (e : End) → TellsFull d calls database x e → FullBy d calls database x (answer_of of many e)
-  full_by d calls database x end.Done full = tt
-  full_by d calls database x (end.Refused refused) full = tt
-  full_by d calls database x (end.Locked lock) full = tt
-  full_by d calls database x end.Disk full = tt
-  full_by d calls database x (end.Full used next) full = full
-  full_by d calls database x end.OutOfMemory full = tt
+  pub full_by : (d : Dialect) (calls : List Call) (database : Database) (x y : State) (e : End) → TellsFull d calls database x e y → FullBy d calls database x (answer_of of many e) y
+  full_by d calls database x y end.Done full = tt
+  full_by d calls database x y (end.Refused refused) full = tt
+  full_by d calls database x y (end.Locked lock) full = tt
+  full_by d calls database x y end.Disk full = tt
+  full_by d calls database x y (end.Full used next) full = full
+  full_by d calls database x y end.OutOfMemory full = tt
 
   pub tells_by : (refused : Option Refusal) (e : End) → TellsEnd refused e → TellsBy of many refused (answer_of of many e)
   tells_by refused end.Done tells = (refl, tells)
@@ -96,7 +96,7 @@ module _ (d : Dialect) (calls : List Call) (database : Database) (x y : State) w
   leaves_none (fault.Full used next) is = tt
   leaves_none fault.OutOfMemory is = tt
 
-  pub full_none : (e : RepairFault) → is_of_calls e ≡ false → FullBy d calls database x (Err e)
+  pub full_none : (e : RepairFault) → is_of_calls e ≡ false → FullBy d calls database x (Err e) y
   full_none fault.NothingToUndo is = tt
   full_none (fault.Invalid found) is = tt
   full_none (fault.NotReversible of) is = tt

@@ -14,9 +14,11 @@ use Rattle.lq_model.specs.Step.{step}
 use Rattle.lq_model.specs.declared.caller.By.TheVariants.{User}
 use Rattle.lq_model.specs.declared.statement.Statement.{Statement}
 use Rattle.lq_reverse.specs.Back.{back}
+use Rattle.lq_run.proofs.Grows.{came_all}
 use Rattle.lq_run.proofs.Left.{stands_there}
 use Rattle.lq_run.proofs.Since.{leave_then}
 use Rattle.lq_run.specs.Commands.{HasDatabase}
+use Rattle.lq_run.specs.Ends.{CameFrom}
 use Rattle.lq_run.specs.Faults.{is_disk_end}
 use Rattle.lq_run.specs.declared.runner.End.{End}
 use Rattle.lq_run.specs.declared.runner.End.TheVariants as end
@@ -27,7 +29,7 @@ use Rattle.lq_turns.specs.Contents.{contents_of}
 use Rattle.lq_turns.specs.Deed.{if_accepted}
 use Rattle.lq_turns.specs.Goes.{Both, committed_if, went, went_by}
 use Rattle.lq_turns.specs.Script.{closing}
-use Rattle.lq_turns.specs.Session.{Session, all_called, is_own, session_on}
+use Rattle.lq_turns.specs.Session.{Session, all_called, called, is_own, session_on}
 use Rattle.lq_turns.specs.Stepped.{both_of}
 use Rattle.lq_turns.specs.Turn.{made}
 use Rattle.lq_turns.specs.declared.call.Call.{Call}
@@ -69,16 +71,44 @@ undo_last d who of k (t ∷ ss) s =
     ap (λ cs. cs ++ back_calls who of k (back d t)) (undo_last d who of (suc k) ss s ∙ ap (λ n. back_calls who of n (back d s) ++ undo_calls d who of (suc k) ss) same)
     ∙ append_assoc (back_calls who of (k + suc (length ss)) (back d s)) (undo_calls d who of (suc k) ss) (back_calls who of k (back d t))
 
+-- what ends so since a session ends so since one that came before it
+since : (d : Dialect) (number : ℕ) (start : State) (first next last : Session) (e : End) (y : State) → CameFrom d first next → EndsAt d number start next last e y → EndsAt d number start first last e y
+since d number start first next last end.Done y came ends = ends
+since d number start first next last (end.Refused refusal) y came ends = ends
+since d number start first next last (end.Locked lock) y came ends = ends
+since d number start first next last end.Disk y came ends =
+    record { session = ends.session; x = ends.x; stands = ends.stands; call = ends.call; breaks = ends.breaks; before = ends.before }
+since d number start first next last (end.Full used more) y came ends = (
+  record { session = ends.0.session; came = came_all d first next ends.0.session came ends.0.came; before = ends.0.before; stands = ends.0.stands; shut = ends.0.shut },
+  record {
+    session = ends.1.session;
+    came = came_all d first next ends.1.session came ends.1.came;
+    call = ends.1.call;
+    more = ends.1.more;
+    appends = ends.1.appends;
+    before = ends.1.before;
+    others = ends.1.others;
+    goes_on = ends.1.goes_on;
+    used_is = ends.1.used_is;
+    next_is = ends.1.next_is;
+    which = ends.1.which;
+    full = ends.1.full;
+  },
+  ends.2,
+)
+since d number start first next last end.OutOfMemory y came ends = record { session = ends.session; came = came_all d first next ends.session came ends.came; before = ends.before; stands = ends.stands; shut = ends.shut }
+
 -- how far a repair has come
 pub record Got (d : Dialect) (who : List ℕ) (of : Identity) (number : ℕ) (all : List Statement) (start : State) (s : Session) (rest : List Statement) (x : State) : Type 0 where
   pub session : Session
   pub rests : Rests d number start x session
+  pub came : CameFrom d s session
   pub ends : (tail : List Call) → at_end d (undo_calls d who of 1 all) tail s ≡ at_end d (undo_calls d who of 1 rest) tail session
   pub refused : back_refused d all s.seen.users ≡ back_refused d rest session.seen.users
 
 module _ (d : Dialect) (who : List ℕ) (of : Identity) (number : ℕ) where
   pub begins : (all : List Statement) (start x : State) (s : Session) → Rests d number start x s → Got d who of number all start s all x
-  begins all start x s rests = record { session = s; rests = rests; ends = λ tail. refl; refused = refl }
+  begins all start x s rests = record { session = s; rests = rests; came = record { calls = []; is = refl }; ends = λ tail. refl; refused = refl }
 
   module _ (rest before : List Statement) (statement : Statement) (n : ℕ) (rest_is : rest ≡ before ++ statement ∷ []) (n_is : n ≡ length rest) where
     abbrev ours : List Call
@@ -128,15 +158,17 @@ module _ (d : Dialect) (who : List ℕ) (of : Identity) (number : ℕ) where
         record {
           session = it.after;
           rests = it.rests;
+          came = came_all d s got.session it.after got.came it.made.came;
           ends = λ tail. got.ends tail ∙ (ends_with tail got.session ∙ it.made.ends (undo_calls d who of 1 before ++ tail));
           refused = got.refused ∙ (refused_is got.session.seen.users ∙ passed got.session it.after it.made);
         }
 
     -- one was not
     pub stops : (all : List Statement) (start x y : State) (s : Session) (e : End) → Got d who of number all start s rest x → Takes d number ours x (Err e) y
-        → EndsAt d number start (at_end d (undo_calls d who of 1 all) (closing ∷ []) s) e y
+        → EndsAt d number start s (at_end d (undo_calls d who of 1 all) (closing ∷ []) s) e y
     stops all start x y s e got takes =
-        subst (λ last. EndsAt d number start last e y) (sym (got.ends (closing ∷ []) ∙ ends_with (closing ∷ []) got.session)) (takes start got.session got.rests (undo_calls d who of 1 before ++ closing ∷ []))
+        subst (λ last. EndsAt d number start s last e y) (sym (got.ends (closing ∷ []) ∙ ends_with (closing ∷ []) got.session))
+        (since d number start s got.session (at_end d ours (undo_calls d who of 1 before ++ closing ∷ []) got.session) e y got.came (takes start got.session got.rests (undo_calls d who of 1 before ++ closing ∷ [])))
 
     pub stops_so : (all : List Statement) (start x : State) (s : Session) (e : End) → Got d who of number all start s rest x → Tells d number n (back d statement) x (Err e) → TellsEnd (back_refused d all s.seen.users) e
     stops_so all start x s end.Done got tells = absurd (tells start got.session got.rests)
@@ -163,9 +195,10 @@ module _ (d : Dialect) (who : List ℕ) (of : Identity) (number : ℕ) where
 
   -- none is left
   pub ends_freed : (all rest : List Statement) (start x y : State) (s : Session) (e : End) → rest ≡ [] → Got d who of number all start s rest x → Frees d number x e y
-      → EndsAt d number start (at_end d (undo_calls d who of 1 all) (closing ∷ []) s) e y
+      → EndsAt d number start s (at_end d (undo_calls d who of 1 all) (closing ∷ []) s) e y
   ends_freed all rest start x y s e none got frees =
-      subst (λ last. EndsAt d number start last e y) (sym (got.ends (closing ∷ []) ∙ ap (λ ss. at_end d (undo_calls d who of 1 ss) (closing ∷ []) got.session) none)) (frees start got.session got.rests).0
+      subst (λ last. EndsAt d number start s last e y) (sym (got.ends (closing ∷ []) ∙ ap (λ ss. at_end d (undo_calls d who of 1 ss) (closing ∷ []) got.session) none))
+      (since d number start s got.session (called d closing got.session) e y got.came (frees start got.session got.rests).0)
 
   pub freed_so : (all rest : List Statement) (start x y : State) (s : Session) (e : End) → rest ≡ [] → Got d who of number all start s rest x → Frees d number x e y → TellsEnd (back_refused d all s.seen.users) e
   freed_so all rest start x y s end.Done none got frees = got.refused ∙ ap (λ ss. back_refused d ss got.session.seen.users) none

@@ -22,6 +22,7 @@ use Rattle.lq_turns.specs.declared.stamp.Stamp.{Stamp}
 use Rattle.lq_hand.specs.Hand.{calls_left, place_of}
 use Rattle.lq_hand.specs.declared.hand.Hand.{Hand}
 use Rattle.lq_hand.specs.declared.hand.Phase.TheVariants as phase
+use Rattle.lq_run.specs.Ends.{CameFrom}
 use Rattle.lq_run.specs.Moves.{IsAt, Meets, TakesAs}
 use Rattle.lq_run.specs.NoChanges.{no_changes}
 use Rattle.lq_run.specs.Stands.{entries_of}
@@ -58,6 +59,7 @@ pub record AreMade (d : Dialect) (calls left : List Call) (s t : Session) : Type
   pub ends : (tail : List Call) → at_end d calls tail s ≡ at_end d left tail t
   pub leads : went d calls (both_of s) ≡ went d left (both_of t)
   pub reason : first_reason d calls (contents_of s.seen) ≡ first_reason d left (contents_of t.seen)
+  pub came : CameFrom d s t
 
 -- how far they have come
 pub record Reached (d : Dialect) (stamp : Stamp) (number : ℕ) (start : State) (s : Session) (calls : List Call)

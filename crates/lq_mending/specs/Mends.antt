@@ -1,6 +1,7 @@
 -- What taking statements back leaves, in words of sessions.
 use Rattle.std.specs.Prelude.{Err, List, None, Ok, Option, Result, Some, [], false, true, ℕ, ◌+◌, ◌++◌, ◌∷◌, ◌≡◌, ◌⊎◌}
 use Rattle.lq_base.specs.declared.dialect.Dialect.{Dialect}
+use Rattle.lq_drill.specs.Faults.{has_bar}
 use Rattle.lq_model.specs.Catalogue.{Catalogue}
 use Rattle.lq_model.specs.declared.caller.Room.TheVariants.{Ordinary}
 use Rattle.lq_model.specs.declared.statement.Statement.{Statement}
@@ -9,7 +10,7 @@ use Rattle.lq_store.specs.Journal.{end_of, is_full, size_of_all}
 use Rattle.lq_store.specs.State.{State}
 use Rattle.lq_track.specs.Database.{Database}
 use Rattle.lq_turns.specs.Script.{closing}
-use Rattle.lq_turns.specs.Session.{Session, called, room_of}
+use Rattle.lq_turns.specs.Session.{Session, all_called, called, room_of}
 use Rattle.lq_turns.specs.Stops.{Journal}
 use Rattle.lq_turns.specs.declared.call.Call.{Call}
 use Rattle.lq_turns.specs.declared.deed.Deed.TheVariants.{Locks}
@@ -17,8 +18,8 @@ use Rattle.lq_turns.specs.declared.deed.OnLock.TheVariants.{Freed}
 use Rattle.lq_turns.specs.declared.stop.Refusal.{Refusal}
 use Rattle.lq_run.specs.Commands.{HasDatabase}
 use Rattle.lq_run.specs.Does.{Breaks}
-use Rattle.lq_run.specs.Ends.{IsBefore}
-use Rattle.lq_run.specs.Left.{IsFullIn}
+use Rattle.lq_run.specs.Ends.{CameFrom, IsBefore}
+use Rattle.lq_run.specs.Left.{RestsIn}
 use Rattle.lq_run.specs.Stands.{Stands, entries_of}
 use Rattle.lq_run.specs.declared.runner.End.{End}
 use Rattle.lq_run.specs.declared.runner.End.TheVariants as end
@@ -44,12 +45,14 @@ pub record MayRepair (d : Dialect) (x : State) : Type 0 where
   pub has : HasDatabase d x database
   pub row : database.has_lock_row ≡ true
 
-module _ (d : Dialect) (number : ℕ) (start : State) (last : Session) where
-  -- the store stands for a session on the way to the last one
+module _ (d : Dialect) (number : ℕ) (start : State) (first last : Session) where
+  -- the store stands for a session on the way to the last one, which has no transaction
   pub record Waits (y : State) : Type 0 where
     pub session : Session
+    pub came : CameFrom d first session
     pub before : IsBefore session last
     pub stands : Stands start number y session
+    pub shut : session.is_open ≡ false
 
   -- the disk failed at a call on the way
   pub record Broke (y : State) : Type 0 where
@@ -63,10 +66,13 @@ module _ (d : Dialect) (number : ℕ) (start : State) (last : Session) where
   -- a call on the way had no room; only the one that frees the lock may use all of the journal
   pub record WasFull (used next : ℕ) : Type 0 where
     pub session : Session
+    pub came : CameFrom d first session
     pub call : Call
     pub more : Journal
     pub appends : (called d call session).entries ≡ session.entries ++ more
     pub before : IsBefore (called d call session) last
+    pub others : List Call
+    pub goes_on : all_called d (call ∷ others) session ≡ last
     pub used_is : used ≡ start.used + size_of_all (entries_of d session.entries)
     pub next_is : next ≡ size_of_all (entries_of d more)
     pub which : (room_of call ≡ Ordinary) ⊎ (more ≡ (Locks Freed ∷ []) ∷ [])
@@ -78,7 +84,7 @@ module _ (d : Dialect) (number : ℕ) (start : State) (last : Session) where
   EndsAt (end.Refused refusal) y = Stands start number y last × (last.is_open ≡ false)
   EndsAt (end.Locked lock) y = ⊥
   EndsAt end.Disk y = Broke y
-  EndsAt (end.Full used next) y = Waits y × WasFull used next
+  EndsAt (end.Full used next) y = (waits : Waits y) × (full : WasFull used next) × (waits.session.entries ≡ full.session.entries)
   EndsAt end.OutOfMemory y = Waits y
 
 -- the calls were made, and the store stands for a session after them
@@ -90,7 +96,7 @@ pub record Goes (d : Dialect) (number : ℕ) (calls : List Call) (start : State)
 -- of the calls that take one statement back: they were made, or it ended at one of them
 abbrev pub TakesAs : Dialect → ℕ → List Call → State → Session → Result (Unit {0}) End → State → Type 0
 TakesAs d number calls start s (Ok u) y = Goes d number calls start s y
-TakesAs d number calls start s (Err e) y = (tail : List Call) → EndsAt d number start (at_end d calls tail s) e y
+TakesAs d number calls start s (Err e) y = (tail : List Call) → EndsAt d number start s (at_end d calls tail s) e y
 
 abbrev pub Takes : Dialect → ℕ → List Call → State → Result (Unit {0}) End → State → Type 0
 Takes d number calls x result y =
@@ -122,7 +128,7 @@ IsFreed e = Unit {0}
 abbrev pub Frees : Dialect → ℕ → State → End → State → Type 0
 Frees d number x e y =
     (start : State) (s : Session) → Rests d number start x s
-    → EndsAt d number start (called d closing s) e y × IsFreed e
+    → EndsAt d number start s (called d closing s) e y × IsFreed e
 
 abbrev pub CrashesFreeing : Dialect → ℕ → State → Crashes → Crashes → Type 0
 CrashesFreeing d number x before now =
@@ -135,11 +141,15 @@ TellsEnd refused end.Done = refused ≡ None
 TellsEnd refused (end.Refused refusal) = refused ≡ Some refusal
 TellsEnd refused e = Unit {0}
 
--- a full journal is told as full as it was
-abbrev pub TellsFull : Dialect → List Call → Database → State → End → Type 0
-TellsFull d calls database x (end.Full used next) = IsFullIn d calls database x used next
-TellsFull d calls database x e = Unit {0}
+-- a full journal is told as full as it was, and leaves it and the lock so
+abbrev pub TellsFull : Dialect → List Call → Database → State → End → State → Type 0
+TellsFull d calls database x (end.Full used next) y = RestsIn d calls database x y used next
+TellsFull d calls database x e y = Unit {0}
 
 -- for each database for which the store stands, whose lock has its row
 abbrev pub OnLocked : Dialect → State → (Database → Type 0) → Type 0
 OnLocked d x holds = (database : Database) → HasDatabase d x database → database.has_lock_row ≡ true → holds database
+
+-- and a mark
+abbrev pub OnMarked : Dialect → State → (Database → Type 0) → Type 0
+OnMarked d x holds = (database : Database) → HasDatabase d x database → database.has_lock_row ≡ true → has_bar database.lock ≡ true → holds database

@@ -16,7 +16,7 @@ use Rattle.lq_model.specs.declared.statement.Statement.{Statement}
 use Rattle.lq_report.specs.Mark.{Marked, mark_text}
 use Rattle.lq_run.specs.Commands.{HasDatabase, Leaves}
 use Rattle.lq_run.specs.Crashes.{CrashesLeave, LeftBehind, LeftInCommand}
-use Rattle.lq_run.specs.Left.{IsFullIn}
+use Rattle.lq_run.specs.Left.{RestsIn}
 use Rattle.lq_run.specs.declared.runner.End.{End}
 use Rattle.lq_run.specs.declared.runner.End.TheVariants as end
 use Rattle.lq_seen.specs.View.{any_meaning, view_log}
@@ -164,11 +164,11 @@ LeavesBy d calls database x (Ok done) y = Leaves d calls database x y
 LeavesBy d calls database x (Err (fault.Refused of refused)) y = Leaves d calls database x y
 LeavesBy d calls database x (Err e) y = Unit {0}
 
--- a full journal is told as full as it was
-abbrev pub FullBy : Dialect → List Call → Database → State → Result Repaired RepairFault → Type 0
-FullBy d calls database x (Ok done) = Unit {0}
-FullBy d calls database x (Err (fault.Full used next)) = IsFullIn d calls database x used next
-FullBy d calls database x (Err e) = Unit {0}
+-- a full journal is told as full as it was, and leaves it and the lock so
+abbrev pub FullBy : Dialect → List Call → Database → State → Result Repaired RepairFault → State → Type 0
+FullBy d calls database x (Ok done) y = Unit {0}
+FullBy d calls database x (Err (fault.Full used next)) y = RestsIn d calls database x y used next
+FullBy d calls database x (Err e) y = Unit {0}
 
 -- on a store, by its state and by what a crash leaves of it
 module _ {S : Type 0} (state : S → State) (crashes : S → Crashes) where
@@ -179,7 +179,7 @@ module _ {S : Type 0} (state : S → State) (crashes : S → Crashes) where
     pub behind : LeftBehind d calls database (state before) (state after)
     -- a crash of the machine at any moment of it
     pub any_moment : CrashesLeave (state before).entries (LeftInCommand d calls database) (crashes before) (crashes after)
-    pub full : FullBy d calls database (state before) answer
+    pub full : FullBy d calls database (state before) answer (state after)
 
 -- it tells the changeset and how many statements it took back, or which of them it did not, and why
 abbrev pub TellsBy : Identity → ℕ → Option Refusal → Result Repaired RepairFault → Type 0

@@ -1,7 +1,7 @@
 ghost use Rattle.std.specs.List.{list_all};
 ghost use Rattle.std.specs.Prelude.{◌≡◌, ◌≤◌, true};
 ghost use Rattle.laws_repair.specs.Repair.{repair_calls};
-ghost use Rattle.lq_mending.specs.Mends.{CrashesFreeing, Frees, MayRepair, OnLocked, SomeRests, TellsEnd, TellsFull};
+ghost use Rattle.lq_mending.specs.Mends.{CrashesFreeing, Frees, MayRepair, OnLocked, OnMarked, SomeRests, TellsEnd, TellsFull};
 ghost use Rattle.lq_mending.specs.Refusing.{back_refused};
 ghost use Rattle.lq_model.specs.Statement.{is_statement};
 ghost use Rattle.lq_outside.specs.Count.{Rose};
@@ -45,10 +45,10 @@ pub fn repair<S: Store, P: SqlText>(
         LeftBehind of.now.dialect
         (repair_calls of.now.dialect of.now.who.now of.now.identity.now statements.now database)
         database (S.state store.old) (S.state store.new)) }
-    ensures full { OnLocked of.now.dialect (S.state store.old) (λ database.
+    ensures full { OnMarked of.now.dialect (S.state store.old) (λ database.
         TellsFull of.now.dialect
         (repair_calls of.now.dialect of.now.who.now of.now.identity.now statements.now database)
-        database (S.state store.old) result) }
+        database (S.state store.old) result (S.state store.new)) }
     ensures any_moment { OnLocked of.now.dialect (S.state store.old) (λ database.
         CrashesLeave (S.state store.old).entries
         (LeftInCommand of.now.dialect

@@ -2,7 +2,7 @@ ghost use Rattle.std.specs.List.{list_all};
 ghost use Rattle.std.specs.Prelude.{◌≡◌, ◌≤◌, Err, IfErr, IfOk, None, false, is_some, length, take, true};
 ghost use Rattle.laws_repair.specs.Repair.{repair_calls};
 ghost use Rattle.lq_kinds.specs.Dialects.{AreFor};
-ghost use Rattle.lq_mending.specs.Mends.{MayRepair, OnLocked};
+ghost use Rattle.lq_mending.specs.Mends.{MayRepair, OnLocked, OnMarked};
 ghost use Rattle.lq_mending.specs.Refusing.{back_refused};
 ghost use Rattle.lq_mending.specs.Undoes.{Answers, HasSome, IsPart, Made, OnIts, Passes, TellsBy, TellsOf, answer_of, is_of_calls, refusal, undo_script, unrecorded};
 ghost use Rattle.lq_mending.specs.declared.outcome.RepairFault.TheVariants.{Disk};
@@ -128,7 +128,7 @@ fn undo_part<S: Store, P: SqlText>(
     requires within { part.count ≤ length part.statements }
     ensures valid { S.valid store.new }
     ensures answers { Answers None result }
-    ensures made { OnLocked dialect (S.state store.old) (λ database.
+    ensures made { OnMarked dialect (S.state store.old) (λ database.
         Made S.state S.crashes dialect
         (repair_calls dialect part.who part.identity (take part.count part.statements) database)
         database store.old result store.new) }

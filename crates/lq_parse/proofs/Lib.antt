@@ -6,6 +6,7 @@ pub mod Chains
 pub mod Escapes
 pub mod Found
 pub mod Fronts
+pub mod Kept
 pub mod Levels
 pub mod Lists
 pub mod Magnitudes

@@ -1,12 +1,14 @@
-ghost use Rattle.std.specs.Prelude.{◌≡◌, [], ◌∷◌, ◌++◌, IfOk, OnOk};
+ghost use Rattle.std.specs.Prelude.{◌≡◌, [], ◌∷◌, ◌++◌, false, IfOk, OnOk};
 ghost use Rattle.std.specs.Str.{IsUtf8};
 ghost use Rattle.lq_base.specs.SqlByte.{escapes};
 ghost use Rattle.lq_model.specs.Reads.{Gives};
 ghost use Rattle.lq_model.specs.SqlWord as spec;
 ghost use Rattle.lq_parse.specs.Words.{AreTexts};
+ghost use Rattle.lq_parse.specs.Kinds.{AreEven, has_text, words_kept};
 
+use crate::cursor::WordList;
 use crate::quoted::unquoted;
-use crate::spelling::{folded, kind_of_word, may_be_name};
+use crate::spelling::{folded, has_text, kind_of_word, may_be_name};
 use lq_base::{Dialect, Items, LexemeSort, NoMemory, Text};
 use lq_model::{ParseFault, Word, WordKind};
 use lq_sqllex::{Lexeme, lexeme_at};
@@ -64,16 +66,36 @@ fn unquoted_word(
     }
 }
 
+// Appends a word, as its kind and its text, if it may have one.
+fn keep(word: Word, kinds: &mut Items<WordKind>, texts: &mut Items<Text>) -> Result<(), NoMemory>
+    requires text { has_text word.kind ≡ false → word.text ≡ [] }
+    requires even { AreEven kinds.old texts.old }
+    ensures even { OnOk result (AreEven kinds.new texts.new) }
+    ensures words { OnOk result
+        (words_kept kinds.new texts.new ≡ words_kept kinds.old texts.old ++ word ∷ []) }
+{
+    let Word { kind, text } = word;
+    kinds.push(kind)?;
+    if has_text(kind) {
+        texts.push(text)?;
+    }
+    Ok(())
+}
+
 // Appends the word that a lexeme is, if it is one.
 fn push_word(
     alloc: Global,
     dialect: Dialect,
     sort: LexemeSort,
     bytes: &[u8],
-    to: &mut Items<Word>,
+    kinds: &mut Items<WordKind>,
+    texts: &mut Items<Text>,
 ) -> Result<(), NoMemory>
-    requires { AreTexts (spec.words_of dialect sort bytes.now) }
-    ensures { OnOk result (to.new ≡ to.old ++ spec.words_of dialect sort bytes.now) }
+    requires utf8 { AreTexts (spec.words_of dialect sort bytes.now) }
+    requires even { AreEven kinds.old texts.old }
+    ensures even { OnOk result (AreEven kinds.new texts.new) }
+    ensures words { OnOk result (words_kept kinds.new texts.new
+        ≡ words_kept kinds.old texts.old ++ spec.words_of dialect sort bytes.now) }
 {
     let word = match sort {
         LexemeSort::Blank | LexemeSort::LineComment | LexemeSort::BlockComment => return Ok(()),
@@ -91,23 +113,30 @@ fn push_word(
         }
         LexemeSort::Mark => bare(alloc, kind_of_word(WordKind::Unknown, bytes))?,
     };
-    to.push(word)?;
-    Ok(())
+    keep(word, kinds, texts)
 }
 
 /// The words of a text, which are its lexemes without blanks and comments. `NotSql` exactly where a string, quoted name or comment is not closed.
-pub fn words(alloc: Global, dialect: Dialect, text: &[u8]) -> Result<Items<Word>, ParseFault>
+pub fn words(alloc: Global, dialect: Dialect, text: &[u8]) -> Result<WordList, ParseFault>
     requires { IsUtf8 text.now }
     ensures { Gives (spec.words dialect text.now) result }
 {
-    let mut found = Items::new(alloc);
+    let mut kinds = Items::new(alloc);
+    let mut texts = Items::new(alloc);
     let mut rest = text;
     while !rest.is_empty() {
         let Some(lexeme) = lexeme_at(dialect, rest) else {
             return Err(ParseFault::NotSql);
         };
-        push_word(alloc, dialect, lexeme.sort, lexeme.bytes, &mut found)?;
+        push_word(
+            alloc,
+            dialect,
+            lexeme.sort,
+            lexeme.bytes,
+            &mut kinds,
+            &mut texts,
+        )?;
         rest = lexeme.rest;
     }
-    Ok(found)
+    Ok(WordList::new(kinds, texts))
 }

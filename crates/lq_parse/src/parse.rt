@@ -43,7 +43,7 @@ pub fn parse_test(alloc: Global, dialect: Dialect, text: &str) -> Result<Test, P
     ensures { Gives (test_in dialect text.now) result }
 {
     let words = words(alloc, dialect, text.as_bytes())?;
-    let test = whole_test(alloc, &mut Words::new(words.as_slice()))?;
+    let test = whole_test(alloc, &mut Words::new(&words))?;
     Ok(test.into_inner())
 }
 
@@ -53,5 +53,5 @@ pub fn parse_query(alloc: Global, dialect: Dialect, text: &str) -> Result<Query,
     ensures { Gives (query_in dialect text.now) result }
 {
     let words = words(alloc, dialect, text.as_bytes())?;
-    whole_query(alloc, dialect, &mut Words::new(words.as_slice()))
+    whole_query(alloc, dialect, &mut Words::new(&words))
 }

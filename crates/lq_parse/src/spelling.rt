@@ -3,6 +3,7 @@ ghost use Rattle.std.specs.Char.{to_ascii_lowercase};
 ghost use Rattle.std.specs.Str.{str_eq_ignore_ascii_case};
 ghost use Rattle.lq_model.specs.SqlWord as spec;
 ghost use Rattle.lq_model.specs.SqlParser as parser;
+ghost use Rattle.lq_parse.specs.Kinds.{has_text, is_literal};
 
 use lq_base::{Dialect, Items};
 use lq_model::{SPELLINGS, WordKind};
@@ -64,6 +65,19 @@ pub fn may_be_name(kind: WordKind) -> bool
         | WordKind::With => true,
         _ => false,
     }
+}
+
+fn is_literal(kind: WordKind) -> bool
+    ensures { result ≡ is_literal kind }
+{
+    matches!(kind, WordKind::Number | WordKind::Text)
+}
+
+/// Whether a word of this kind may have a text.
+pub fn has_text(kind: WordKind) -> bool
+    ensures { result ≡ has_text kind }
+{
+    may_be_name(kind) || is_literal(kind)
 }
 
 /// Whether two words are of one kind.

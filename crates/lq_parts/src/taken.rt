@@ -327,46 +327,49 @@ fn key_stays(old: &Option<Key>, new: &Option<Key>) -> bool
 fn uniques_stay(old: &[Unique], new: &[Unique]) -> bool
     ensures { result ≡ begins (map (λ u. u.name) old.now) (map (λ u. u.name) new.now) }
 {
-    let [first, old @ ..] = old else {
-        return true;
-    };
-    let [other, new @ ..] = new else {
-        return false;
-    };
-    if first.name != other.name {
-        return false;
+    let mut left = new;
+    for one in old {
+        let Some((other, after)) = left.split_first() else {
+            return false;
+        };
+        if one.name != other.name {
+            return false;
+        }
+        left = after;
     }
-    uniques_stay(old, new)
+    true
 }
 
 fn indexes_stay(old: &[Index], new: &[Index]) -> bool
     ensures { result ≡ begins (map (λ i. i.name) old.now) (map (λ i. i.name) new.now) }
 {
-    let [first, old @ ..] = old else {
-        return true;
-    };
-    let [other, new @ ..] = new else {
-        return false;
-    };
-    if first.name != other.name {
-        return false;
+    let mut left = new;
+    for one in old {
+        let Some((other, after)) = left.split_first() else {
+            return false;
+        };
+        if one.name != other.name {
+            return false;
+        }
+        left = after;
     }
-    indexes_stay(old, new)
+    true
 }
 
 fn keys_stay(old: &[ForeignKey], new: &[ForeignKey]) -> bool
     ensures { result ≡ begins (map (λ f. f.name) old.now) (map (λ f. f.name) new.now) }
 {
-    let [first, old @ ..] = old else {
-        return true;
-    };
-    let [other, new @ ..] = new else {
-        return false;
-    };
-    if first.name != other.name {
-        return false;
+    let mut left = new;
+    for one in old {
+        let Some((other, after)) = left.split_first() else {
+            return false;
+        };
+        if one.name != other.name {
+            return false;
+        }
+        left = after;
     }
-    keys_stay(old, new)
+    true
 }
 
 #[tactic(auto, using(crate::proofs::TakenLemmas::sees_none, crate::proofs::TakenLemmas::sees_more, crate::proofs::TakenLemmas::sees_all))]

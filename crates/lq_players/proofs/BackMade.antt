@@ -1,7 +1,8 @@
 -- A rollback that passed its checks makes the calls of its job, and answers as it.
 use Rattle.std.proofs.Common.{ap, inl, inr, refl, subst, sym, ◌∙◌}
 use Rattle.std.specs.List.{list_all}
-use Rattle.std.specs.Prelude.{List, None, Option, Some, [], false, reverse, true, ℕ, ◌∷◌, ◌≡◌, ◌≢◌, ◌≤◌}
+use Rattle.std.specs.Option.{option_map}
+use Rattle.std.specs.Prelude.{List, None, Option, Some, [], reverse, true, ℕ, ◌∷◌, ◌≡◌, ◌≢◌, ◌≤◌}
 use Rattle.lq_back.specs.RowTurns.{goes_back, is_deletion}
 use Rattle.lq_back.specs.declared.row_turns.RowTurns.{RowTurns}
 use Rattle.lq_base.proofs.ValueLemmas.{and_then_some}
@@ -10,7 +11,11 @@ use Rattle.lq_base.specs.declared.dialect.Dialect.{Dialect}
 use Rattle.lq_beside.proofs.OtherFits.{rollback_fits}
 use Rattle.lq_beside.specs.Fitting.{is_deleted, is_return}
 use Rattle.lq_beside.specs.Replays.{calls_fit}
-use Rattle.lq_players.specs.RollingBack.{AreNew, IsPlanned, HasTurns, ComesTo, back_ends, back_job, back_refusal, back_turns, back_way, turns_end, turns_left, turns_way}
+use Rattle.lq_players.specs.RollingBack.{AreNew, ComesTo, HasTurns, IsPlanned, back_ends, back_job, back_refusal, back_reports, back_turns, back_way, turns_end, turns_left, turns_report, turns_way}
+use Rattle.lq_players.proofs.Refused.{refused_so}
+use Rattle.lq_players.proofs.Reported.{reports_so}
+use Rattle.lq_players.proofs.UpdateTurns.{none_shown}
+use Rattle.lq_players.specs.Reports.{of_account, report_of, rolled_by, rolled_to}
 use Rattle.lq_players.specs.RowChecks.{IsRefusal, Refuses}
 use Rattle.lq_players.specs.Tasks.{answer_by, task_for, stop_back, stop_of, stop_to}
 use Rattle.lq_players.specs.declared.rolling_back.RollingBack.{RollingBack}
@@ -19,6 +24,7 @@ use Rattle.lq_kinds.specs.declared.any_change.AnyChange.{AnyChange}
 use Rattle.lq_model.proofs.Lists.{and_left, and_right, and_true}
 use Rattle.lq_model.specs.Catalogue.{Catalogue}
 use Rattle.lq_model.specs.Statement.{is_statement}
+use Rattle.lq_playing.specs.Came.{came, nothing, only}
 use Rattle.lq_playing.specs.Checked.{Checked, MakesNone, MakesTurns, Work}
 use Rattle.lq_playing.specs.declared.checks.Verdict.TheVariants as verdict
 use Rattle.lq_playing.specs.declared.checks.Verdict.{Verdict}
@@ -61,9 +67,10 @@ return_too d (turn ∷ turns) all =
     (return_too d turns (and_right (goes_back d turn) _ all))
 
 -- what a rollback answers whose source has told all
-told_end : (d : Dialect) (stamp : Stamp) (told : Account) (turns : Option RowTurns) (refused : Option Refusal) → (turns_way turns d stamp told).tells refused → turns_end turns refused ≡ answer_by told.settled.stop
+told_end : (d : Dialect) (stamp : Stamp) (told : Account) (turns : Option RowTurns) (refused : Option Refusal) → (turns_way turns d stamp told).tells refused → came (turns_report turns) (turns_end turns refused) ≡ came (of_account told) (answer_by told.settled.stop)
 told_end d stamp told None refused tells = absurd tells
-told_end d stamp told (Some source) refused tells = ap answer_by (sym tells.tells.stop)
+told_end d stamp told (Some source) refused tells =
+    ap (λ r. came r (turns_end (Some source) refused)) (reports_so source.outcome told refused tells) ∙ ap (λ stop. came (of_account told) (answer_by stop)) (sym tells.tells.stop)
 
 -- the calls of its turns, where no turn is in hand
 module _ (d : Dialect) (stamp : Stamp) (database : Database) where
@@ -105,20 +112,27 @@ module _ (s : RollingBack) (d : Dialect) (stamp : Stamp) where
           ap (λ (o : Option ℕ). stop_to d (view_log s.options s.changelog) o database.rows (contents_of database)) stays.1
           ∙ ap (λ (o : Option (List Turn)). stop_back d o (contents_of database)) stays.2
 
-      answer_is : job.answer database ≡ answer_by (all_rolled d turns (contents_of database)).stop
-      answer_is = ap answer_by stop_is
+      account_is : rolled_to s.prints d (view_log s.options s.changelog) (rows_kept s.target database.rows) database.rows (contents_of database) ≡ of_turns s.prints d turns (contents_of database)
+      account_is =
+          ap (λ (o : Option ℕ). rolled_to s.prints d (view_log s.options s.changelog) o database.rows (contents_of database)) stays.1
+          ∙ ap (λ (o : Option (List Turn)). rolled_by s.prints d o (contents_of database)) stays.2
+
+      answer_is : job.answer database ≡ came (of_account (of_turns s.prints d turns (contents_of database))) (answer_by (all_rolled d turns (contents_of database)).stop)
+      answer_is =
+          ap (λ stop. came (report_of s.prints d (task_for (Rollback s.target) s.options s.changelog stamp) database) (answer_by stop)) stop_is
+          ∙ ap (λ (told : Account). came (of_account told) (answer_by (all_rolled d turns (contents_of database)).stop)) account_is
 
     -- there is nothing to take back
-    makes_none : IsPlanned s d database.rows None → MakesNone job Done database
-    makes_none goes = record { passes = goes.passes; script_is = script_is [] goes.turns_are; answer_is = answer_is [] goes.turns_are }
+    makes_none : IsPlanned s d database.rows None → MakesNone job (came nothing Done) database
+    makes_none goes = record { passes = ap (option_map only) goes.passes; script_is = script_is [] goes.turns_are; answer_is = answer_is [] goes.turns_are ∙ ap (λ texts. came (record nothing { printed = texts }) Done) (none_shown s.prints d) }
 
-    makes_turns : (source : RowTurns) → stamp.reading ≤ 253402300799999 → HasTurns d source → IsPlanned s d database.rows (Some source)
+    makes_turns : (source : RowTurns) → stamp.reading ≤ 253402300799999 → HasTurns s.prints d source → IsPlanned s d database.rows (Some source)
         → MakesTurns d any_meaning stamp back_way back_ends job (OfRows (reverse source.turns)) (record s { turns = Some source }) no_turn database
     makes_turns source time has goes =
         let turns = reverse source.turns in
-        let told : Account = of_turns false d turns (contents_of database) in record {
+        let told : Account = of_turns s.prints d turns (contents_of database) in record {
           told = told;
-          passes = goes.passes;
+          passes = ap (option_map only) goes.passes;
           script_is = script_is turns goes.turns_are ∙ rollback_is d stamp database turns has.some;
           answers = λ last refused tells. told_end d stamp told last.turns refused tells ∙ sym (answer_is turns goes.turns_are);
           knows = has.knows (contents_of database);
@@ -128,16 +142,16 @@ module _ (s : RollingBack) (d : Dialect) (stamp : Stamp) where
   -- its verdict on what is seen
 
   pub checked_refused : (seen : Catalogue) (left : Turns AnyChange) (source : RollingBack) (v : Verdict) → IsRefusal v → ((database : Database) → StandsFor d seen database → Refuses (back_refusal s d database.rows) v)
-      → Checked d any_meaning stamp back_way back_ends job left source seen v
-  checked_refused seen left source (verdict.Answer a) own refuses = (own, λ database stands let_in. inl (refuses database stands))
+      → Checked d any_meaning stamp back_way back_ends job back_reports left source seen v
+  checked_refused seen left source (verdict.Answer a) own refuses = (own, λ database stands let_in. inl (refused_so s.prints d (task_for (Rollback s.target) s.options s.changelog stamp) database (back_reports source) a (refuses database stands)))
   checked_refused seen left source verdict.Lack own refuses = tt
   checked_refused seen left source (verdict.OneCall call) own refuses = absurd own
   checked_refused seen left source (verdict.Turns hand) own refuses = absurd own
 
-  pub checked_turns : (seen : Catalogue) (turns : Option RowTurns) (v : Verdict) → stamp.reading ≤ 253402300799999 → ComesTo turns v → AreNew d turns → ((database : Database) → StandsFor d seen database → IsPlanned s d database.rows turns)
-      → Checked d any_meaning stamp back_way back_ends job (turns_left turns) (record s { turns = turns }) seen v
+  pub checked_turns : (seen : Catalogue) (turns : Option RowTurns) (v : Verdict) → stamp.reading ≤ 253402300799999 → ComesTo turns v → AreNew s.prints d turns → ((database : Database) → StandsFor d seen database → IsPlanned s d database.rows turns)
+      → Checked d any_meaning stamp back_way back_ends job back_reports (turns_left turns) (record s { turns = turns }) seen v
   checked_turns seen None v time opens new goes =
-      subst (Checked d any_meaning stamp back_way back_ends job (turns_left None) (record s { turns = None }) seen) (sym opens) (refl, λ database stands let_in. inr (makes_none database (goes database stands)))
+      subst (Checked d any_meaning stamp back_way back_ends job back_reports (turns_left None) (record s { turns = None }) seen) (sym opens) (refl, λ database stands let_in. inr (makes_none database (goes database stands)))
   checked_turns seen (Some source) v time opens new goes =
-      subst (Checked d any_meaning stamp back_way back_ends job (turns_left (Some source)) (record s { turns = Some source }) seen) (sym opens)
+      subst (Checked d any_meaning stamp back_way back_ends job back_reports (turns_left (Some source)) (record s { turns = Some source }) seen) (sym opens)
       (record { inside = refl; turn = refl; holds = tt }, λ database stands let_in. makes_turns database source time new (goes database stands))

@@ -73,9 +73,9 @@ any_options d = record { dialect = d; contexts = []; labels = None }
 
 -- turns that were read
 
-pub new_read : (d : Dialect) (turns : Option RowTurns) → AreNew d turns → are_read turns d
-new_read d None new = tt
-new_read d (Some source) new = new.read
+pub new_read : (prints : Bool) (d : Dialect) (turns : Option RowTurns) → AreNew prints d turns → are_read turns d
+new_read prints d None new = tt
+new_read prints d (Some source) new = new.read
 
 -- rows that can be taken back
 

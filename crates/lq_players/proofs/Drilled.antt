@@ -2,18 +2,22 @@
 use Rattle.std.proofs.Common.{ap, refl, subst, sym, ◌∙◌}
 use Rattle.std.proofs.lemmas.List.Elements.{All-get_or, All-head, All-tail}
 use Rattle.std.proofs.lemmas.Option.{get_or_from_slice_get, slice_get_within}
+use Rattle.std.specs.Option.{option_map}
 use Rattle.std.specs.Prelude.{All, Bool, List, None, Some, [], false, not, slice_get, suc, true, ℕ, ◌++◌, ◌∷◌, ◌≡◌, ◌≢◌}
 use Rattle.lq_base.specs.declared.command.Command.TheVariants.{Release}
 use Rattle.lq_base.specs.declared.dialect.Dialect.{Dialect}
 use Rattle.lq_players.specs.AnyCommand.{IsUnstarted, command_stands}
 use Rattle.lq_players.specs.Drilling.{BeginInTurn, HaveTasks, NoneReleases, works}
+use Rattle.lq_players.specs.Reports.{report_of}
 use Rattle.lq_players.specs.Tasks.{answer_by, refuses, stop_of}
 use Rattle.lq_players.specs.declared.any_command.AnyCommand.{AnyCommand}
 use Rattle.lq_drill.specs.Drill.{Begins, Each, IsNew, IsReady}
 use Rattle.lq_kinds.specs.declared.any_change.AnyChange.{AnyChange}
 use Rattle.lq_model.proofs.Lists.{and_left, and_right, and_true}
 use Rattle.lq_players.specs.Apart.{NamesAreApart}
+use Rattle.lq_playing.specs.Came.{as_busy, as_locked, came, only}
 use Rattle.lq_playing.specs.Checked.{Work}
+use Rattle.lq_playing.specs.declared.came.Came.{Came}
 use Rattle.lq_seen.specs.View.{any_meaning}
 use Rattle.lq_store.specs.State.{State, is_open}
 use Rattle.lq_track.specs.Database.{Database}
@@ -22,8 +26,6 @@ use Rattle.lq_turns.specs.Held.{StandsFor}
 use Rattle.lq_turns.specs.Jobs.{Task}
 use Rattle.lq_turns.specs.Schedule.{Machine, all_moved, moved, start}
 use Rattle.lq_turns.specs.Serial.{is_early, none_early}
-use Rattle.lq_turns.specs.declared.answer.Answer.TheVariants.{Busy, Locked}
-use Rattle.lq_turns.specs.declared.answer.Answer.{Answer}
 
 -- commands that are to start are ready for a drill
 module _ (d : Dialect) (players : List AnyCommand) (all : All (IsUnstarted d) players) where
@@ -54,38 +56,38 @@ begins_with names_apart x tasks database players stands have = record {
 
 module _ (d : Dialect) (tasks : ℕ → Task AnyChange) (database : Database) where
   abbrev Runs : Type 0
-  Runs = Machine Answer Locked Busy
+  Runs = Machine Came as_locked as_busy
 
   abbrev jobs : ℕ → Work
   jobs = works d tasks
 
   abbrev first : Runs
-  first = start Answer Locked Busy database
+  first = start Came as_locked as_busy database
 
   abbrev after : List ℕ → Runs → Runs
-  after ns x = all_moved Answer Locked Busy d jobs ns x
+  after ns x = all_moved Came as_locked as_busy d jobs ns x
 
   abbrev early : ℕ → Runs → Bool
-  early n x = is_early Answer Locked Busy d jobs n x
+  early n x = is_early Came as_locked as_busy d jobs n x
 
   abbrev timely : List ℕ → Runs → Bool
-  timely ns x = none_early Answer Locked Busy d jobs ns x
+  timely ns x = none_early Came as_locked as_busy d jobs ns x
 
   -- one step more
 
-  after_more : (ns : List ℕ) (n : ℕ) (x : Runs) → after (ns ++ n ∷ []) x ≡ moved Answer Locked Busy d jobs n (after ns x)
+  after_more : (ns : List ℕ) (n : ℕ) (x : Runs) → after (ns ++ n ∷ []) x ≡ moved Came as_locked as_busy d jobs n (after ns x)
   after_more [] n x = refl
-  after_more (k ∷ ns) n x = after_more ns n (moved Answer Locked Busy d jobs k x)
+  after_more (k ∷ ns) n x = after_more ns n (moved Came as_locked as_busy d jobs k x)
 
   timely_more : (ns : List ℕ) (n : ℕ) (x : Runs) → timely ns x ≡ true → early n (after ns x) ≡ false → timely (ns ++ n ∷ []) x ≡ true
   timely_more [] n x all late = and_true (not (early n x)) true (ap not late) refl
   timely_more (k ∷ ns) n x all late =
-      and_true (not (early k x)) _ (and_left (not (early k x)) _ all) (timely_more ns n (moved Answer Locked Busy d jobs k x) (and_right (not (early k x)) _ all) late)
+      and_true (not (early k x)) _ (and_left (not (early k x)) _ all) (timely_more ns n (moved Came as_locked as_busy d jobs k x) (and_right (not (early k x)) _ all) late)
 
   never_early : (ns : List ℕ) (n : ℕ) → timely ns first ≡ true → (tasks n).command ≢ Release → early n (after ns first) ≡ false
   never_early ns n all other = by (early n (after ns first)) refl where
     by : (b : Bool) → early n (after ns first) ≡ b → b ≡ false
-    by true is = absurd (other (only_releases_are_early Answer any_meaning Locked Busy d (refuses d) (λ (it : Task AnyChange) (on : Database). answer_by (stop_of d it on)) tasks database ns n all is))
+    by true is = absurd (other (only_releases_are_early Came any_meaning as_locked as_busy d (λ (it : Task AnyChange) (on : Database). option_map only (refuses d it on)) (λ (it : Task AnyChange) (on : Database). came (report_of false d it on) (answer_by (stop_of d it on))) tasks database ns n all is))
     by false is = refl
 
   all_timely : (ns rest : List ℕ) → timely ns first ≡ true → NoneReleases tasks rest → timely rest (after ns first) ≡ true

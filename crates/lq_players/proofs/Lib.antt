@@ -1,5 +1,7 @@
 mod Apart
 mod Results
+mod Refused
+mod Reported
 mod TablesSeen
 mod Ended
 mod RowsRead

@@ -1,17 +1,18 @@
 -- Rows of which each stands behind the one before, and is the first of its identity.
 use Rattle.std.proofs.Common.{ap, arith, eqb-true, refl, rules, subst, sym, tests, ◌∙◌}
-use Rattle.std.proofs.lemmas.Bool.{ltb-true}
+use Rattle.std.proofs.lemmas.Bool.{eq-eqb, ltb-true}
 use Rattle.std.proofs.lemmas.List.Folds.{find-append, list_all-append}
 use Rattle.std.proofs.lemmas.List.{append-nil, append_assoc}
 use Rattle.std.specs.List.{find, list_all, list_any}
 use Rattle.std.specs.Option.{option_or}
 use Rattle.std.specs.Prelude.{Bool, List, None, Option, Some, [], cond, false, length, nat_eq, nat_le, nat_lt, true, ℕ, ◌++◌, ◌<◌, ◌∷◌, ◌≡◌, ◌≤◌, ◌||◌}
 use Rattle.lq_base.specs.declared.tracking.Tracked.{Tracked}
-use Rattle.lq_players.specs.RowOrder.{follows, has_order}
+use Rattle.lq_players.specs.RowOrder.{follows, has_order, is_first, stand_behind}
 use Rattle.lq_model.proofs.Lists.{and_left, and_right, and_true, any-append, or_false, or_left, or_right, true_false}
 use Rattle.lq_model.proofs.Maps.{some_same}
 use Rattle.lq_track.specs.Database.{has_twin_rows, same_identity}
 use Rattle.lq_track.specs.Log.{identity_of}
+use Rattle.lq_turns.proofs.Undone.{one_itself}
 use Rattle.lq_turns.specs.Deed.{is_of}
 use Rattle.lq_turns.specs.Set.{row_at}
 
@@ -111,6 +112,23 @@ one_passed rows rest after row last passed rest_is so =
       before = list_all-append (is_by row.order) passed.front (row ∷ [])
           ∙ and_true _ _ (before_it last row.order passed.front behind passed.before) (and_true _ _ (at_most row.order row.order (omega arith)) refl);
     }
+
+-- where no two are twins, each is the first of its identity
+
+found_first : (front after : List Tracked) (row : Tracked) → has_twin_rows (front ++ row ∷ after) ≡ false → is_first row (front ++ row ∷ after) ≡ true
+found_first [] after row apart = ap (λ (b : Bool). has_order row.order (cond b (Some row) (find (is_of (identity_of row)) after))) (one_itself (identity_of row)) ∙ eq-eqb row.order row.order refl
+found_first (r ∷ front) after row apart =
+    let none : (list_any (is_twin r) front || list_any (is_twin r) (row ∷ after)) ≡ false = sym (any-append (is_twin r) front (row ∷ after)) ∙ or_left (list_any (is_twin r) (front ++ row ∷ after)) _ apart in
+    let other : is_of (identity_of row) r ≡ false = or_left (is_of (identity_of row) r) _ (or_left (is_twin r row) _ (or_right (list_any (is_twin r) front) _ none)) in
+    ap (λ (b : Bool). has_order row.order (cond b (Some r) (find (is_of (identity_of row)) (front ++ row ∷ after)))) other ∙ found_first front after row (or_right (list_any (is_twin r) (front ++ row ∷ after)) _ apart)
+
+pub follows_so : (rows rest after : List Tracked) (row : Tracked) (last : ℕ) → Passed rows rest last → rest ≡ row ∷ after → has_twin_rows rows ≡ false → stand_behind last rest ≡ true → follows last row rows ≡ true
+follows_so rows rest after row last passed rest_is apart behind =
+    let split : rows ≡ passed.front ++ row ∷ after = passed.are ∙ ap (λ (rs : List Tracked). passed.front ++ rs) rest_is in
+    and_true _ _ (and_left (nat_lt last row.order) _ (ap (stand_behind last) (sym rest_is) ∙ behind)) (ap (is_first row) split ∙ found_first passed.front after row (ap has_twin_rows (sym split) ∙ apart))
+
+pub behind_so : (rest after : List Tracked) (row : Tracked) (last : ℕ) → rest ≡ row ∷ after → stand_behind last rest ≡ true → stand_behind row.order after ≡ true
+behind_so rest after row last rest_is behind = and_right (nat_lt last row.order) _ (ap (stand_behind last) (sym rest_is) ∙ behind)
 
 none_left : (rest : List Tracked) → length rest ≡ 0 → rest ≡ []
 none_left [] none = refl

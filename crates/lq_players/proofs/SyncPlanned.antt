@@ -5,12 +5,14 @@ use Rattle.std.specs.Prelude.{Bool, Err, List, None, Ok, Option, Result, Some, [
 use Rattle.lq_back.specs.SyncTurn.{insert_call, sync_calls}
 use Rattle.lq_base.specs.declared.dialect.Dialect.{Dialect}
 use Rattle.lq_base.specs.declared.identity.Identity.{Identity}
+use Rattle.lq_base.specs.declared.run.Happened.{Happened}
 use Rattle.lq_base.specs.declared.reason.Reason.TheVariants.{TooManyRows, TooWide}
 use Rattle.lq_base.specs.declared.reason.Reason.{Reason}
 use Rattle.lq_base.specs.declared.tracking.Tracked.{Tracked}
 use Rattle.lq_beside.proofs.OtherFits.{sync_fits}
 use Rattle.lq_beside.specs.Replays.{calls_fit}
 use Rattle.lq_players.specs.InTables.{HasRows}
+use Rattle.lq_players.specs.Reports.{of_account}
 use Rattle.lq_players.specs.Syncing.{FitColumns, Inserts, Plans, PlansFor, PlansOn, PlansRows, SyncChecked, goes_in, planned, refusal_in, refused_at, stop_at, sync_ends, sync_job, sync_log, sync_way, verdict_of}
 use Rattle.lq_players.specs.Tasks.{answer_by, if_some}
 use Rattle.lq_players.specs.declared.syncing.Plan.TheVariants as plan
@@ -25,7 +27,9 @@ use Rattle.lq_kinds.specs.declared.any_change.AnyChange.{AnyChange}
 use Rattle.lq_model.proofs.Lists.{and_right}
 use Rattle.lq_model.specs.Catalogue.{Catalogue}
 use Rattle.lq_playing.specs.Answers.{is_failure}
+use Rattle.lq_playing.specs.Came.{came, nothing, only}
 use Rattle.lq_playing.specs.Checked.{AnswersAtOnce, IsInHand, MakesTurns, Work}
+use Rattle.lq_playing.specs.declared.came.Came.{Came}
 use Rattle.lq_playing.specs.declared.checks.Verdict.{Verdict}
 use Rattle.lq_run.proofs.Scripts.{script_inside, sync_holds}
 use Rattle.lq_run.specs.Commands.{both_on, script}
@@ -43,7 +47,8 @@ use Rattle.lq_turns.specs.Rest.{NoMore}
 use Rattle.lq_turns.specs.Script.{rows_to_sync, sync_of, with_lock}
 use Rattle.lq_turns.specs.Session.{session_on}
 use Rattle.lq_turns.specs.Set.{Set}
-use Rattle.lq_turns.specs.Synced.{insert_stop, stop_then}
+use Rattle.lq_turns.specs.Settle.{Settled}
+use Rattle.lq_turns.specs.Synced.{insert_stop, marked_by, stop_then, synced_by}
 use Rattle.lq_turns.specs.Turn.{made}
 use Rattle.lq_turns.specs.declared.answer.Answer.TheVariants.{Invalid}
 use Rattle.lq_turns.specs.declared.answer.Answer.{Answer}
@@ -75,8 +80,8 @@ some_same h = Prim.cc
 answer_same : (a b : Answer) → plan.Answer a ≡ plan.Answer b → a ≡ b
 answer_same a b h = Prim.cc
 
-no_answer : (hand : Hand) (of : Option Identity) (a : Answer) → plan.Turn hand of ≡ plan.Answer a → ⊥
-no_answer hand of a h = Prim.cc
+no_answer : (hand : Hand) (of : Option Identity) (marked : List Happened) (a : Answer) → plan.Turn hand of marked ≡ plan.Answer a → ⊥
+no_answer hand of marked a h = Prim.cc
 
 -- the refusal of the turn, and what stops it
 
@@ -122,6 +127,14 @@ stops_so : (stop : Option Stop) (refusal : Refusal) → refusal_in stop ≡ Some
 stops_so None refusal is = absurd (none_some is)
 stops_so (Some (Halted place why)) refusal is = absurd (none_some is)
 stops_so (Some (Refused of other)) refusal is = ap (λ (q : Refusal). (let o : Option Stop = Some (Refused of q) in o)) (some_same is)
+
+-- what is marked by rows that all go in, or not
+all_marked : (stop : Option Stop) (rows : List Tracked) → stop ≡ None → marked_by None rows ≡ marked_by stop rows
+all_marked stop rows none = ap (λ (o : Option Stop). marked_by o rows) (sym none)
+
+none_marked : (stop : Option Stop) (rows : List Tracked) (refusal : Refusal) → refusal_in stop ≡ Some refusal → marked_by stop rows ≡ []
+none_marked None rows refusal is = absurd (none_some is)
+none_marked (Some stop) rows refusal is = refl
 
 -- the first of these rows, behind so many, that does not go in
 abbrev pub first_out : ℕ → List Tracked → Option Tracked
@@ -202,34 +215,34 @@ module _ (d : Dialect) (stamp : Stamp) (it : Syncing) where
     answered [] rows before plans = ap is_failure plans.1
     answered (fault ∷ more) rows before plans = ap is_failure (answer_same a (Invalid (fault ∷ more)) plans)
 
-    answers_now : (database : Database) → PlansAt database.rows (plan.Answer a) → AnswersAtOnce job a database
+    answers_now : (database : Database) → PlansAt database.rows (plan.Answer a) → AnswersAtOnce job (came nothing a) database
     answers_now database plans = by (faults sets database.rows) refl plans where
-      by : (found : List Fault) → faults sets database.rows ≡ found → Plans found (to_sync database.rows) database.rows (plan.Answer a) → AnswersAtOnce job a database
+      by : (found : List Fault) → faults sets database.rows ≡ found → Plans found (to_sync database.rows) database.rows (plan.Answer a) → AnswersAtOnce job (came nothing a) database
       by [] at plans = inr (record {
-        passes = ap if_some at;
+        passes = ap (λ (fs : List Fault). option_map only (if_some fs)) at;
         script_is = ap (λ rs. sync_of d stamp rs database) plans.0;
-        answer_is = ap (λ rs. answer_by (insert_stop rs database.rows)) plans.0 ∙ sym plans.1;
+        answer_is = ap (λ rs. came (of_account (record { settled = synced_by rs (contents_of database); printed = [] })) (answer_by (insert_stop rs database.rows))) plans.0 ∙ ap (came nothing) (sym plans.1);
       })
-      by (fault ∷ more) at plans = inl (ap if_some at ∙ ap (λ (b : Answer). (let o : Option Answer = Some b in o)) (sym (answer_same a (Invalid (fault ∷ more)) plans)))
+      by (fault ∷ more) at plans = inl (ap (λ (fs : List Fault). option_map only (if_some fs)) at ∙ ap (λ (b : Answer). (let o : Option Came = Some (came nothing b) in o)) (sym (answer_same a (Invalid (fault ∷ more)) plans)))
 
   -- the turn
 
-  module _ (hand : Hand) (of : Option Identity) where
-    inserts : (found : List Fault) (rows before : List Tracked) → Plans found rows before (plan.Turn hand of) → (found ≡ []) × Inserts rows before hand of
+  module _ (hand : Hand) (of : Option Identity) (marked : List Happened) where
+    inserts : (found : List Fault) (rows before : List Tracked) → Plans found rows before (plan.Turn hand of marked) → (found ≡ []) × Inserts rows before hand of marked
     inserts [] rows before plans = (refl, plans)
-    inserts (fault ∷ more) rows before plans = absurd (no_answer hand of (Invalid (fault ∷ more)) plans)
+    inserts (fault ∷ more) rows before plans = absurd (no_answer hand of marked (Invalid (fault ∷ more)) plans)
 
-    in_hand : (rows before : List Tracked) → Inserts rows before hand of → IsInHand d stamp hand
+    in_hand : (rows before : List Tracked) → Inserts rows before hand of marked → IsInHand d stamp hand
     in_hand rows before it = record { inside = it.inside; turn = it.turn d; holds = subst (AllHoldOn stamp.who) (sym it.calls) (sync_holds d stamp.who rows) }
 
-    module _ (database : Database) (time : stamp.reading ≤ 253402300799999) (texts : FitColumns it) (plans : PlansAt database.rows (plan.Turn hand of)) where
+    module _ (database : Database) (time : stamp.reading ≤ 253402300799999) (texts : FitColumns it) (plans : PlansAt database.rows (plan.Turn hand of marked)) where
       abbrev rows : List Tracked
       rows = to_sync database.rows
 
       abbrev stop : Option Stop
       stop = insert_stop rows database.rows
 
-      turn : (faults sets database.rows ≡ []) × Inserts rows database.rows hand of
+      turn : (faults sets database.rows ≡ []) × Inserts rows database.rows hand of marked
       turn = inserts (faults sets database.rows) rows database.rows plans
 
       some_calls : (rs : List Tracked) → rs ≢ [] → sync_of d stamp rs database ≡ with_lock stamp database (made d (sync_calls rs) (contents_of database))
@@ -244,21 +257,30 @@ module _ (d : Dialect) (stamp : Stamp) (it : Syncing) where
           ∙ ap (λ q. script d any_meaning stamp (hand_place q (calls_left hand) hand.goes_on NoMore) database) (sym turn.1.inside)
 
       abbrev after : Syncing
-      after = record it { stops_at = of }
+      after = record it { stops_at = of; marked = marked }
 
-      finishes : are_accepted d (sync_calls rows) (contents_of database) ≡ true → stop ≡ None
-      finishes all = no_stop stop (no_halt rows database.rows) (sym (rows_refused d rows (contents_of database)) ∙ none_refused d (sync_calls rows) no_progress (contents_of database) all)
+      abbrev told : Settled
+      told = synced_by rows (contents_of database)
 
-      yields : (refusal : Refusal) → refused_in d (sync_calls rows) no_progress (contents_of database) ≡ Some refusal → stop ≡ stop_at (Some refusal) of
-      yields refusal is = stops_so stop refusal (sym (rows_refused d rows (contents_of database)) ∙ is) ∙ ap (stop_at (Some refusal)) (sym turn.1.of_is)
+      ends_well : are_accepted d (sync_calls rows) (contents_of database) ≡ true → stop ≡ None
+      ends_well all = no_stop stop (no_halt rows database.rows) (sym (rows_refused d rows (contents_of database)) ∙ none_refused d (sync_calls rows) no_progress (contents_of database) all)
+
+      finishes : are_accepted d (sync_calls rows) (contents_of database) ≡ true → (stop ≡ None) × (marked ≡ told.happened)
+      finishes all = let none = ends_well all in (none, turn.1.marked_is ∙ all_marked stop rows none)
+
+      yields : (refusal : Refusal) → refused_in d (sync_calls rows) no_progress (contents_of database) ≡ Some refusal → (stop ≡ stop_at (Some refusal) of) × (told.happened ≡ [])
+      yields refusal is = let it_is = sym (rows_refused d rows (contents_of database)) ∙ is in (stops_so stop refusal it_is ∙ ap (stop_at (Some refusal)) (sym turn.1.of_is), none_marked stop rows refusal it_is)
+
+      ends_so : (last : Syncing) (refused : Option Refusal) → (stop ≡ stop_at refused last.stops_at) × (last.marked ≡ told.happened) → sync_ends last refused ≡ job.answer database
+      ends_so last refused tells = ap (λ list. came (record nothing { happened = list }) (answer_by (stop_at refused last.stops_at))) tells.1 ∙ ap (λ o. came (of_account (record { settled = told; printed = [] })) (answer_by o)) (sym tells.0)
 
       makes : MakesTurns d any_meaning stamp sync_way sync_ends job NoMore after hand database
       makes = record {
-        told = stop;
-        passes = ap if_some turn.0;
+        told = told;
+        passes = ap (λ (fs : List Fault). option_map only (if_some fs)) turn.0;
         script_is = calls_are;
-        answers = λ last refused tells. sym (ap answer_by tells);
-        knows = known_by (sync_way after d stamp stop) d database hand.goes_on (calls_left hand) rows turn.1.stops turn.1.calls (λ all c sees. finishes all) (λ refusal is c. yields refusal is);
+        answers = ends_so;
+        knows = known_by (sync_way after d stamp told) d database hand.goes_on (calls_left hand) rows turn.1.stops turn.1.calls (λ all c sees. finishes all) (λ refusal is c. yields refusal is);
         fits = ap (λ calls. calls_fit d calls (session_on database)) (sym calls_are) ∙ sync_fits AnyChange d stamp (sync_log it) database time texts;
       }
 
@@ -273,9 +295,9 @@ module _ (d : Dialect) (stamp : Stamp) (it : Syncing) where
       answered a (faults sets on.rows) (to_sync on.rows) on.rows on.plans,
       λ database stands let_in. answers_now a database (plans_there (plan.Answer a) on.rows on.has on.plans database stands),
     )
-    by_plan (plan.Turn hand of) on = (
-      in_hand hand of (to_sync on.rows) on.rows (inserts hand of (faults sets on.rows) (to_sync on.rows) on.rows on.plans).1,
-      λ database stands let_in. makes hand of database time texts (plans_there (plan.Turn hand of) on.rows on.has on.plans database stands),
+    by_plan (plan.Turn hand of marked) on = (
+      in_hand hand of marked (to_sync on.rows) on.rows (inserts hand of marked (faults sets on.rows) (to_sync on.rows) on.rows on.plans).1,
+      λ database stands let_in. makes hand of marked database time texts (plans_there (plan.Turn hand of marked) on.rows on.has on.plans database stands),
     )
 
     pub sync_checked : (p : Plan) → PlansOn d stamp.reading sets seen p → (after : Syncing) → after ≡ planned p it → (v : Verdict) → v ≡ verdict_of p → SyncChecked d stamp it after seen v
@@ -284,7 +306,7 @@ module _ (d : Dialect) (stamp : Stamp) (it : Syncing) where
 
     still_fits : (p : Plan) → FitColumns (planned p it)
     still_fits (plan.Answer a) = texts
-    still_fits (plan.Turn hand of) = texts
+    still_fits (plan.Turn hand of marked) = texts
 
     pub stays_read : (p : Plan) (after : Syncing) → after ≡ planned p it → FitColumns after
     stays_read p now is = subst FitColumns (sym is) (still_fits p)

@@ -10,26 +10,26 @@ use Rattle.lq_drill.specs.Drill.{Each}
 use Rattle.lq_drill.specs.Faults.{is_barred}
 use Rattle.lq_drill.specs.Player.{Standing}
 use Rattle.lq_kinds.specs.declared.any_change.AnyChange.{AnyChange}
+use Rattle.lq_playing.specs.Came.{as_busy, as_locked}
 use Rattle.lq_playing.specs.Checked.{Work}
+use Rattle.lq_playing.specs.declared.came.Came.{Came}
 use Rattle.lq_run.specs.Holds.{IsHeld}
 use Rattle.lq_track.specs.Database.{Database}
 use Rattle.lq_turns.specs.Jobs.{Task}
 use Rattle.lq_turns.specs.Schedule.{start}
 use Rattle.lq_turns.specs.Serial.{none_early}
-use Rattle.lq_turns.specs.declared.answer.Answer.TheVariants.{Busy, Locked}
-use Rattle.lq_turns.specs.declared.answer.Answer.{Answer}
 
--- the commands of the tasks, by number
+-- the commands of the tasks, by number; nothing is printed
 abbrev pub works : Dialect → (ℕ → Task AnyChange) → ℕ → Work
-works d tasks n = work_of d (tasks n)
+works d tasks n = work_of false d (tasks n)
 
 -- who runs the command of this number
 abbrev pub name_of : (ℕ → Task AnyChange) → ℕ → List ℕ
 name_of tasks n = (tasks n).stamp.who
 
 -- The command of this number has its task. Who runs it has a name without a bar, and a lock that it took carries that.
-pub record HasTask (d : Dialect) (tasks : ℕ → Task AnyChange) (n : ℕ) (r : Standing Answer Locked Busy) : Type 0 where
-  pub job : r.job ≡ work_of d (tasks n)
+pub record HasTask (d : Dialect) (tasks : ℕ → Task AnyChange) (n : ℕ) (r : Standing Came as_locked as_busy) : Type 0 where
+  pub job : r.job ≡ work_of false d (tasks n)
   pub owns : (lock : Lock) → r.owns lock → IsHeld (tasks n).stamp lock
   pub bare : is_barred (name_of tasks n) ≡ false
 
@@ -44,4 +44,4 @@ NoneReleases tasks steps = All (λ n. (tasks n).command ≢ Release) steps
 
 -- no command makes its first call while another still runs
 abbrev pub BeginInTurn : Dialect → (ℕ → Task AnyChange) → Database → List ℕ → Type 0
-BeginInTurn d tasks database steps = none_early Answer Locked Busy d (works d tasks) steps (start Answer Locked Busy database) ≡ true
+BeginInTurn d tasks database steps = none_early Came as_locked as_busy d (works d tasks) steps (start Came as_locked as_busy database) ≡ true

@@ -1,4 +1,5 @@
 pub mod Apart
+pub mod Reports
 pub mod Tasks
 pub mod Waiting
 pub mod InTables

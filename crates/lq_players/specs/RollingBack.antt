@@ -1,12 +1,13 @@
 -- A rollback as a player: it waits for its checks, and then has its turns.
 use Rattle.std.specs.List.{list_all}
 use Rattle.std.specs.Option.{option_or}
-use Rattle.std.specs.Prelude.{Err, List, None, Ok, Option, Result, Some, [], false, option_and_then, reverse, true, ◌≡◌, ◌≢◌}
+use Rattle.std.specs.Prelude.{Bool, Err, List, None, Ok, Option, Result, Some, [], false, option_and_then, reverse, true, ◌≡◌, ◌≢◌}
 use Rattle.lq_back.specs.RowTurns.{LeadsBack, goes_back, row_way}
 use Rattle.lq_back.specs.declared.row_turns.RowTurns.{RowTurns}
 use Rattle.lq_base.specs.declared.command.Command.TheVariants.{Rollback}
 use Rattle.lq_base.specs.declared.dialect.Dialect.{Dialect}
 use Rattle.lq_base.specs.declared.tracking.Tracked.{Tracked}
+use Rattle.lq_players.specs.Reports.{of_outcome}
 use Rattle.lq_players.specs.RowChecks.{Refuses}
 use Rattle.lq_players.specs.Tasks.{answer_by, invalid, task_for, unreachable_by, work_of}
 use Rattle.lq_players.specs.Waiting.{unaware}
@@ -14,7 +15,10 @@ use Rattle.lq_players.specs.declared.rolling_back.RollingBack.{RollingBack}
 use Rattle.lq_hand.specs.Way.{Way}
 use Rattle.lq_kinds.specs.Dialects.{AreFor}
 use Rattle.lq_kinds.specs.declared.any_change.AnyChange.{AnyChange}
+use Rattle.lq_playing.specs.Came.{came, nothing}
 use Rattle.lq_playing.specs.Checked.{Work}
+use Rattle.lq_playing.specs.declared.came.Came.{Came}
+use Rattle.lq_playing.specs.declared.came.Report.{Report}
 use Rattle.lq_playing.specs.declared.checks.Verdict.TheVariants as verdict
 use Rattle.lq_playing.specs.declared.checks.Verdict.{Verdict}
 use Rattle.lq_run.specs.Steps.{no_turn}
@@ -48,19 +52,23 @@ abbrev pub turns_end : Option RowTurns → Option Refusal → Answer
 turns_end None refused = Done
 turns_end (Some source) refused = answer_by (stop_told source.outcome refused)
 
+abbrev pub turns_report : Option RowTurns → Report
+turns_report None = nothing
+turns_report (Some source) = of_outcome source.outcome
+
 abbrev pub are_read : Option RowTurns → Dialect → Type 0
 are_read None d = Unit {0}
 are_read (Some source) d = list_all (goes_back d) (reverse source.turns) ≡ true
 
 -- some turns of the dialect, of which none is told
-pub record HasTurns (d : Dialect) (source : RowTurns) : Type 0 where
+pub record HasTurns (prints : Bool) (d : Dialect) (source : RowTurns) : Type 0 where
   pub some : reverse source.turns ≢ []
   pub read : list_all (goes_back d) (reverse source.turns) ≡ true
-  pub knows : (c : Contents) → LeadsBack source d (of_turns false d (reverse source.turns) c) c
+  pub knows : (c : Contents) → LeadsBack source d (of_turns prints d (reverse source.turns) c) c
 
-abbrev pub AreNew : Dialect → Option RowTurns → Type 0
-AreNew d None = Unit {0}
-AreNew d (Some source) = HasTurns d source
+abbrev pub AreNew : Bool → Dialect → Option RowTurns → Type 0
+AreNew prints d None = Unit {0}
+AreNew prints d (Some source) = HasTurns prints d source
 
 -- without turns it is done; else none of them is in hand yet
 abbrev pub ComesTo : Option RowTurns → Verdict → Type 0
@@ -68,13 +76,16 @@ ComesTo None v = v ≡ verdict.Answer Done
 ComesTo (Some source) v = v ≡ verdict.Turns no_turn
 
 abbrev pub back_job : RollingBack → Dialect → Stamp → Work
-back_job s d stamp = work_of d (task_for (Rollback s.target) s.options s.changelog stamp)
+back_job s d stamp = work_of s.prints d (task_for (Rollback s.target) s.options s.changelog stamp)
 
 abbrev pub back_way : RollingBack → Dialect → Stamp → Account → Way
 back_way s = turns_way s.turns
 
-abbrev pub back_ends : RollingBack → Option Refusal → Answer
-back_ends s = turns_end s.turns
+abbrev pub back_reports : RollingBack → Report
+back_reports s = turns_report s.turns
+
+abbrev pub back_ends : RollingBack → Option Refusal → Came
+back_ends s refused = came (back_reports s) (turns_end s.turns refused)
 
 -- its options, its changelog and its turns are of the dialect
 pub record IsRead (s : RollingBack) (d : Dialect) : Type 0 where

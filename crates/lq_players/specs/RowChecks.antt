@@ -19,6 +19,11 @@ Refuses refusal verdict.Lack = Unit {0}
 Refuses refusal (verdict.OneCall call) = ⊥
 Refuses refusal (verdict.Turns hand) = ⊥
 
+-- where no memory is asked for, a check answers just so
+abbrev pub judged : Option Answer → Result (Unit {0}) Verdict
+judged None = Ok tt
+judged (Some refused) = Err (verdict.Answer refused)
+
 -- so a check answers
 abbrev pub Passes : {A : Type 0} → Option Answer → Result A Verdict → Type 0
 Passes refusal (Ok a) = refusal ≡ None

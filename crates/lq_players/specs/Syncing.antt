@@ -5,6 +5,7 @@ use Rattle.lq_back.specs.SyncTurn.{sync_calls}
 use Rattle.lq_base.specs.declared.command.Command.TheVariants.{Sync}
 use Rattle.lq_base.specs.declared.dialect.Dialect.{Dialect}
 use Rattle.lq_base.specs.declared.identity.Identity.{Identity}
+use Rattle.lq_base.specs.declared.run.Happened.{Happened}
 use Rattle.lq_base.specs.declared.tracking.Tracked.{Tracked}
 use Rattle.lq_beside.specs.Fitting.{HasTexts}
 use Rattle.lq_players.specs.InTables.{HasRows}
@@ -18,7 +19,10 @@ use Rattle.lq_hand.specs.declared.hand.Hand.{Hand}
 use Rattle.lq_hand.specs.declared.hand.Phase.TheVariants as phase
 use Rattle.lq_kinds.specs.declared.any_change.AnyChange.{AnyChange}
 use Rattle.lq_model.specs.Catalogue.{Catalogue}
+use Rattle.lq_playing.specs.Came.{came, nothing}
 use Rattle.lq_playing.specs.Checked.{Checked, Work}
+use Rattle.lq_playing.specs.declared.came.Came.{Came}
+use Rattle.lq_playing.specs.declared.came.Report.{Report}
 use Rattle.lq_playing.specs.declared.checks.Verdict.TheVariants as verdict
 use Rattle.lq_playing.specs.declared.checks.Verdict.{Verdict}
 use Rattle.lq_seen.specs.View.{any_meaning, view_log}
@@ -27,7 +31,8 @@ use Rattle.lq_turns.specs.Faults.{faults}
 use Rattle.lq_turns.specs.Rest.{NoMore}
 use Rattle.lq_turns.specs.Script.{rows_to_sync}
 use Rattle.lq_turns.specs.Set.{Changelog, Set}
-use Rattle.lq_turns.specs.Synced.{insert_stop}
+use Rattle.lq_turns.specs.Settle.{Settled}
+use Rattle.lq_turns.specs.Synced.{insert_stop, marked_by}
 use Rattle.lq_turns.specs.declared.answer.Answer.TheVariants.{Done, Invalid}
 use Rattle.lq_turns.specs.declared.answer.Answer.{Answer}
 use Rattle.lq_turns.specs.declared.fault.Fault.{Fault}
@@ -40,7 +45,7 @@ abbrev pub sync_log : Syncing → Changelog AnyChange
 sync_log it = view_log it.options it.changelog
 
 abbrev pub sync_job : Syncing → Dialect → Stamp → Work
-sync_job it d stamp = work_of d (task_for Sync it.options it.changelog stamp)
+sync_job it d stamp = work_of false d (task_for Sync it.options it.changelog stamp)
 
 -- the texts of its changesets go into the columns of their rows
 abbrev pub FitColumns : Syncing → Type 0
@@ -68,40 +73,48 @@ stop_at None of = None
 stop_at (Some refusal) None = None
 stop_at (Some refusal) (Some of) = Some (Refused of refusal)
 
--- It is on its way to having told of this stop, or that there was none.
+-- It is on its way to having told what was marked; or of this stop, where nothing was.
 
-abbrev pub YieldsStop : Option Stop → Option Identity → Bool → Refusal → Type 0
-YieldsStop told of true refusal = told ≡ None
-YieldsStop told of false refusal = told ≡ stop_at (Some refusal) of
+abbrev pub Marks : Syncing → Settled → Type 0
+Marks it told = (told.stop ≡ None) × (it.marked ≡ told.happened)
 
-abbrev pub sync_way : Syncing → Dialect → Stamp → Option Stop → Way
+abbrev pub YieldsStop : Syncing → Settled → Bool → Refusal → Type 0
+YieldsStop it told true refusal = ⊥
+YieldsStop it told false refusal = (told.stop ≡ stop_at (Some refusal) it.stops_at) × (told.happened ≡ [])
+
+abbrev pub sync_way : Syncing → Dialect → Stamp → Settled → Way
 sync_way it d stamp told = record {
-  knows = λ c. told ≡ None;
-  awaits = λ sees c. told ≡ None;
-  yields = λ goes_on refusal c. YieldsStop told it.stops_at goes_on refusal;
-  tells = λ refused. told ≡ stop_at refused it.stops_at;
+  knows = λ c. Marks it told;
+  awaits = λ sees c. Marks it told;
+  yields = λ goes_on refusal c. YieldsStop it told goes_on refusal;
+  tells = λ refused. (told.stop ≡ stop_at refused it.stops_at) × (it.marked ≡ told.happened);
+  lacks = Unit {0};
 }
 
-abbrev pub sync_ends : Syncing → Option Refusal → Answer
-sync_ends it refused = answer_by (stop_at refused it.stops_at)
+abbrev pub sync_reports : Syncing → Report
+sync_reports it = record nothing { happened = it.marked }
+
+abbrev pub sync_ends : Syncing → Option Refusal → Came
+sync_ends it refused = came (sync_reports it) (answer_by (stop_at refused it.stops_at))
 
 -- what its checks come to on what is seen, after which it stands so
 abbrev pub SyncChecked : Dialect → Stamp → Syncing → Syncing → Catalogue → Verdict → Type 0
-SyncChecked d stamp before after seen v = Checked d any_meaning stamp sync_way sync_ends (sync_job before d stamp) NoMore after seen v
+SyncChecked d stamp before after seen v = Checked d any_meaning stamp sync_way sync_ends (sync_job before d stamp) sync_reports NoMore after seen v
 
--- the turn that inserts these rows, of which no call is made, and the changeset of the first that does not go in behind those before
-pub record Inserts (rows before : List Tracked) (hand : Hand) (of : Option Identity) : Type 0 where
+-- the turn that inserts these rows, of which no call is made, the changeset of the first that does not go in behind those before, and what they mark
+pub record Inserts (rows before : List Tracked) (hand : Hand) (of : Option Identity) (marked : List Happened) : Type 0 where
   pub some : rows ≢ []
   pub inside : hand.phase ≡ phase.Inside
   pub turn : (d : Dialect) → AreTurns d false (calls_left hand)
   pub calls : calls_left hand ≡ sync_calls rows
   pub stops : hand.goes_on ≡ false
   pub of_is : of ≡ refused_at (insert_stop rows before)
+  pub marked_is : marked ≡ marked_by None rows
 
 -- it inserts these rows, where there are any
 abbrev pub PlansRows : List Tracked → List Tracked → Plan → Type 0
 PlansRows rows before (plan.Answer a) = (rows ≡ []) × (a ≡ Done)
-PlansRows rows before (plan.Turn hand of) = Inserts rows before hand of
+PlansRows rows before (plan.Turn hand of marked) = Inserts rows before hand of marked
 
 -- unless the changelog has faults
 abbrev pub Plans : List Fault → List Tracked → List Tracked → Plan → Type 0
@@ -119,9 +132,9 @@ pub record PlansOn (d : Dialect) (reading : ℕ) (sets : List (Set AnyChange)) (
 
 abbrev pub verdict_of : Plan → Verdict
 verdict_of (plan.Answer a) = verdict.Answer a
-verdict_of (plan.Turn hand of) = verdict.Turns hand
+verdict_of (plan.Turn hand of marked) = verdict.Turns hand
 
 -- how the command stands with its plan
 abbrev pub planned : Plan → Syncing → Syncing
-planned (plan.Answer a) it = it
-planned (plan.Turn hand of) it = record it { stops_at = of }
+planned (plan.Answer a) it = record it { marked = [] }
+planned (plan.Turn hand of marked) it = record it { stops_at = of; marked = marked }

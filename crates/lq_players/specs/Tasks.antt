@@ -1,6 +1,6 @@
 -- The commands as players: what each is refused for, and what it answers at its end.
-use Rattle.std.specs.Option.{option_or}
-use Rattle.std.specs.Prelude.{List, None, Option, Some, [], ℕ, ◌∷◌}
+use Rattle.std.specs.Option.{option_map, option_or}
+use Rattle.std.specs.Prelude.{Bool, List, None, Option, Some, [], ℕ, ◌∷◌}
 use Rattle.lq_base.specs.declared.command.Command.TheVariants as command
 use Rattle.lq_base.specs.declared.command.Command.{Command}
 use Rattle.lq_base.specs.declared.dialect.Dialect.{Dialect}
@@ -9,7 +9,10 @@ use Rattle.lq_base.specs.declared.tracking.Tracked.{Tracked}
 use Rattle.lq_expr.specs.declared.options.Options.{Options}
 use Rattle.lq_kinds.specs.declared.any_change.AnyChange.{AnyChange}
 use Rattle.lq_kinds.specs.declared.change_set.Changelog.{Changelog as Files}
+use Rattle.lq_players.specs.Reports.{report_of}
+use Rattle.lq_playing.specs.Came.{as_busy, as_locked, came, only}
 use Rattle.lq_playing.specs.Checked.{Work}
+use Rattle.lq_playing.specs.declared.came.Came.{Came}
 use Rattle.lq_seen.specs.View.{any_meaning, view_log}
 use Rattle.lq_track.specs.Database.{Database}
 use Rattle.lq_turns.specs.Contents.{Contents, contents_of}
@@ -101,6 +104,6 @@ stop_of d task database = elim task.command [
 abbrev pub task_for : Command → Options → Files → Stamp → Task AnyChange
 task_for command options g stamp = record { command = command; changelog = view_log options g; stamp = stamp }
 
--- a command as a runner takes it
-abbrev pub work_of : Dialect → Task AnyChange → Work
-work_of d task = job_of Answer answer.Locked answer.Busy d any_meaning (refuses d) (λ it database. answer_by (stop_of d it database)) task
+-- what it is refused for is all that it comes to; or it tells what it did
+abbrev pub work_of : Bool → Dialect → Task AnyChange → Work
+work_of prints d task = job_of Came as_locked as_busy d any_meaning (λ it database. option_map only (refuses d it database)) (λ it database. came (report_of prints d it database) (answer_by (stop_of d it database))) task

@@ -1,21 +1,28 @@
 -- What the checks of an update come to.
 use Rattle.std.specs.List.{All}
-use Rattle.std.specs.Prelude.{Err, List, Ok, Result, [], false, true, ◌≡◌, ◌≤◌}
+use Rattle.std.specs.Option.{option_or}
+use Rattle.std.specs.Prelude.{Bool, Err, List, Ok, Option, Result, [], false, true, ℕ, ◌++◌, ◌≡◌, ◌≤◌}
 use Rattle.lq_base.specs.declared.command.Command.TheVariants as command
 use Rattle.lq_base.specs.declared.dialect.Dialect.{Dialect}
+use Rattle.lq_base.specs.declared.identity.Identity.{Identity}
+use Rattle.lq_base.specs.declared.run.Why.{Why}
 use Rattle.lq_base.specs.declared.tracking.Tracked.{Tracked}
 use Rattle.lq_beside.specs.Fitting.{HasTexts}
-use Rattle.lq_players.specs.Tasks.{task_for, work_of}
+use Rattle.lq_players.specs.Reports.{own_warned}
+use Rattle.lq_players.specs.RowChecks.{Refuses}
+use Rattle.lq_players.specs.Tasks.{invalid, own_halt, task_for}
 use Rattle.lq_players.specs.declared.update_checks.Asked.{Asked}
+use Rattle.lq_players.specs.declared.update_checks.Planned.TheVariants as planned
+use Rattle.lq_players.specs.declared.update_checks.Planned.{Planned}
 use Rattle.lq_kinds.specs.Dialects.{AreFor}
 use Rattle.lq_kinds.specs.declared.any_change.AnyChange.{AnyChange}
 use Rattle.lq_model.specs.Catalogue.{Catalogue}
-use Rattle.lq_playing.specs.Checked.{AnswersAtOnce}
-use Rattle.lq_playing.specs.declared.checks.Verdict.TheVariants as verdict
+use Rattle.lq_playing.specs.Came.{nothing}
+use Rattle.lq_playing.specs.declared.came.Report.{Report}
 use Rattle.lq_playing.specs.declared.checks.Verdict.{Verdict}
-use Rattle.lq_seen.specs.Printing.{of_sets}
+use Rattle.lq_seen.specs.Printing.{Account, of_sets}
 use Rattle.lq_seen.specs.View.{view_log}
-use Rattle.lq_sets.specs.SetTurns.{Knows, sets_left}
+use Rattle.lq_sets.specs.SetTurns.{IsReadFor, Knows, sets_left}
 use Rattle.lq_sets.specs.declared.set_turns.SetTurns.{SetTurns}
 use Rattle.lq_track.specs.Database.{Database, has_twin_rows}
 use Rattle.lq_turns.specs.Contents.{Contents, contents_of}
@@ -25,7 +32,8 @@ use Rattle.lq_turns.specs.Jobs.{Task}
 use Rattle.lq_turns.specs.Script.{has_work}
 use Rattle.lq_turns.specs.Set.{Changelog as Log, Set}
 use Rattle.lq_turns.specs.Settle.{greatest, is_halt, own_choice}
-use Rattle.lq_turns.specs.declared.answer.Answer.TheVariants.{Done}
+use Rattle.lq_turns.specs.declared.answer.Answer.{Answer}
+use Rattle.lq_turns.specs.declared.choice.Choice.{Choice}
 use Rattle.lq_turns.specs.declared.stamp.Stamp.{Stamp}
 
 abbrev pub task_of : Asked → Stamp → Task AnyChange
@@ -41,14 +49,6 @@ pub record IsAskedFor (a : Asked) (d : Dialect) : Type 0 where
   pub read : AreFor d a.changelog
   pub texts : All HasTexts (log_of a).sets
 
--- a changeset has a turn, or the update is done
-abbrev pub HasWork : List (Set AnyChange) → List Tracked → Result (Unit {0}) Verdict → Type 0
-HasWork xs rows (Ok u) = has_work xs rows ≡ true
-HasWork xs rows (Err (verdict.Answer a)) = (has_work xs rows ≡ false) × (a ≡ Done)
-HasWork xs rows (Err verdict.Lack) = Unit {0}
-HasWork xs rows (Err (verdict.OneCall call)) = ⊥
-HasWork xs rows (Err (verdict.Turns hand)) = ⊥
-
 -- no two rows have one identity or one place, and the last place has 31 bits
 pub record ArePlaced (rows : List Tracked) : Type 0 where
   pub apart : has_twin_rows rows ≡ false
@@ -60,27 +60,53 @@ pub record HaveTurns (xs : List (Set AnyChange)) (rows : List Tracked) : Type 0 
   pub some : has_work xs rows ≡ true
   pub placed : ArePlaced rows
 
--- on its database it has this answer at once
-abbrev pub AnswersOn : Dialect → Asked → Database → Verdict → Type 0
-AnswersOn d a database (verdict.Answer x) = (stamp : Stamp) → AnswersAtOnce (work_of d (task_of a stamp)) x database
-AnswersOn d a database verdict.Lack = Unit {0}
-AnswersOn d a database (verdict.OneCall call) = ⊥
-AnswersOn d a database (verdict.Turns hand) = ⊥
+-- what it is refused for on its database
+abbrev pub update_refusal : Asked → Database → Option Answer
+update_refusal a database = option_or (invalid (log_of a) database.rows) (own_halt (log_of a) database)
 
--- or the changelog's own precondition lets it go on
-abbrev pub Comes : Dialect → Asked → Database → Result (Unit {0}) Verdict → Type 0
-Comes d a database (Ok u) = is_halt (own_choice (log_of a) (contents_of database)) ≡ false
-Comes d a database (Err v) = AnswersOn d a database v
+-- the changelog's own precondition comes to this, and lets it go on
+abbrev pub IsOwn : Asked → Database → Choice → Type 0
+IsOwn a database own = (own ≡ own_choice (log_of a) (contents_of database)) × (is_halt own ≡ false)
 
--- it has the turns of the changelog on what is seen
-pub record IsPlanned (d : Dialect) (a : Asked) (seen : Catalogue) (source : SetTurns) : Type 0 where
-  pub rows : List Tracked
-  pub turns : HaveTurns (log_of a).sets rows
+-- it warns so
+abbrev pub warning : List (Option Identity × Why) → Report
+warning warned = record nothing { warned = warned }
+
+abbrev pub with_warned : List (Option Identity × Why) → SetTurns → SetTurns
+with_warned warned s = record s { outcome = record (s.outcome) { warned = warned } }
+
+-- what its changesets settle, and what is printed of them, where it warns so first
+abbrev pub account_of : Bool → List (Option Identity × Why) → Dialect → ℕ → List (Set AnyChange) → Contents → Account
+account_of prints warned d reading xs c = record (of_sets prints d reading xs c) { settled = record ((of_sets prints d reading xs c).settled) { warned = warned ++ (of_sets prints d reading xs c).settled.warned } }
+
+-- it has the turns of the changelog on these rows
+pub record HasTurns (a : Asked) (rows : List Tracked) (own : Choice) (source : SetTurns) : Type 0 where
   pub left : sets_left source ≡ (log_of a).sets
-  pub knows : (e : Dialect) (stamp : Stamp) (c : Contents) → c.rows ≡ rows → greatest rows ≤ 2147483647 → Knows source e stamp (of_sets false e stamp.reading (log_of a).sets c) c
-  pub on : (database : Database) → StandsFor d seen database → (database.rows ≡ rows) × (is_halt (own_choice (log_of a) (contents_of database)) ≡ false)
+  pub knows : (e : Dialect) (stamp : Stamp) (c : Contents) → c.rows ≡ rows → greatest rows ≤ 2147483647 → Knows source e stamp (account_of a.prints (own_warned own) e stamp.reading (log_of a).sets c) c
 
--- turns, or an answer at once
-abbrev pub Plans : Dialect → Asked → Catalogue → Result SetTurns Verdict → Type 0
-Plans d a seen (Ok source) = IsPlanned d a seen source
-Plans d a seen (Err v) = (database : Database) → StandsFor d seen database → AnswersOn d a database v
+abbrev pub HasPlanned : Asked → List Tracked → Choice → Planned → Type 0
+HasPlanned a rows own (planned.Turns source) = HasTurns a rows own source
+HasPlanned a rows own (planned.Idle report) = ⊥
+
+-- so it has, where a changeset has a turn; or it warns of the precondition alone
+abbrev pub PlansOn : Asked → List Tracked → Choice → Planned → Type 0
+PlansOn a rows own (planned.Turns source) = HaveTurns (log_of a).sets rows × HasTurns a rows own source
+PlansOn a rows own (planned.Idle report) = (has_work (log_of a).sets rows ≡ false) × (report ≡ warning (own_warned own))
+
+-- its turns are for the dialect
+abbrev pub IsPlanFor : Dialect → Planned → Type 0
+IsPlanFor d (planned.Turns source) = IsReadFor source d
+IsPlanFor d (planned.Idle report) = Unit {0}
+
+-- on what is seen
+pub record IsPlanned (d : Dialect) (a : Asked) (seen : Catalogue) (p : Planned) : Type 0 where
+  pub rows : List Tracked
+  pub own : Choice
+  pub faultless : faults (log_of a).sets rows ≡ []
+  pub plans : PlansOn a rows own p
+  pub on : (database : Database) → StandsFor d seen database → (database.rows ≡ rows) × IsOwn a database own
+
+-- it passes its checks, and does so; or it is refused
+abbrev pub Plans : Dialect → Asked → Catalogue → Result Planned Verdict → Type 0
+Plans d a seen (Ok p) = IsPlanned d a seen p
+Plans d a seen (Err v) = (database : Database) → StandsFor d seen database → Refuses (update_refusal a database) v

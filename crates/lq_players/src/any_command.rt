@@ -1,10 +1,11 @@
 ghost use Rattle.std.specs.List.{All};
 ghost use Rattle.std.specs.Option.{option_copied};
-ghost use Rattle.std.specs.Prelude.{◌≡◌, ◌≤◌, Err, IsTrue, None};
+ghost use Rattle.std.specs.Prelude.{◌≡◌, ◌≤◌, Bool, Err, IsTrue, None, option_map};
 ghost use Rattle.lq_base.specs.declared.command.Command.TheVariants as command;
 ghost use Rattle.lq_base.specs.declared.tracking.Lock.{Lock};
 ghost use Rattle.lq_beside.specs.Fitting.{HasTexts};
 ghost use Rattle.lq_changelog.specs.ShortTexts.{HasShortTexts};
+ghost use Rattle.lq_playing.specs.Came.{answer_of, came};
 ghost use Rattle.lq_playing.specs.Under.{IsPlain};
 ghost use Rattle.lq_drill.specs.Player.{LeavesAll};
 ghost use Rattle.lq_players.specs.AnyCommand.{IsUnstarted, Starts, command_stands};
@@ -27,7 +28,7 @@ use lq_drill::{DrillFault, Player};
 use lq_expr::Options;
 use lq_kinds::Changelog;
 use lq_model::SqlText;
-use lq_playing::Playing;
+use lq_playing::{Came, Playing, Report};
 use lq_store::Store;
 use lq_turns::{Answer, Stamp};
 use std::alloc::Global;
@@ -44,7 +45,8 @@ pub enum AnyCommand {
 
 impl AnyCommand {
     /// A command that has made no step, for statements of this dialect. Its lock carries the stamp. The
-    /// changelog was loaded for the dialect of the options; a tag has at most 255 characters.
+    /// changelog was loaded for the dialect of the options; a tag has at most 255 characters. Where
+    /// `prints`, it keeps the texts of the statements that it runs.
     pub fn new(
         alloc: Global,
         dialect: Dialect,
@@ -52,6 +54,7 @@ impl AnyCommand {
         command: Command,
         changelog: Changelog,
         options: Options,
+        prints: bool,
     ) -> AnyCommand
         requires moment { stamp.reading ≤ 253402300799999 }
         requires plain { IsPlain stamp }
@@ -61,21 +64,33 @@ impl AnyCommand {
         requires tag { HasShortTag command }
         ensures unstarted { IsUnstarted dialect result }
         ensures job { (command_stands result).job
-            ≡ work_of dialect (task_for command options changelog stamp) }
+            ≡ work_of prints dialect (task_for command options changelog stamp) }
         ensures owns { (lock : Lock) → (command_stands result).owns lock → IsHeld stamp lock }
     {
-        start(alloc, dialect, stamp, command, changelog, options)
+        start(alloc, dialect, stamp, command, changelog, options, prints)
     }
 
     /// What it has answered, if it has.
     pub fn answer(&self) -> Option<&Answer>
-        ensures { option_copied result ≡ (command_stands self.now).answer }
+        ensures { option_copied result ≡ option_map answer_of (command_stands self.now).answer }
     {
         match self {
             AnyCommand::AtOnce(player) => player.answer.as_ref(),
             AnyCommand::Update(player) => player.answer.as_ref(),
             AnyCommand::Rollback(player) => player.answer.as_ref(),
             AnyCommand::Sync(player) => player.answer.as_ref(),
+        }
+    }
+
+    /// Its answer, if it has answered, and what it did, as far as it came.
+    pub fn into_parts(self) -> (Option<Answer>, Report)
+        ensures { option_map (came result.1) result.0 ≡ (command_stands self).answer }
+    {
+        match self {
+            AnyCommand::AtOnce(player) => player.into_parts(),
+            AnyCommand::Update(player) => player.into_parts(),
+            AnyCommand::Rollback(player) => player.into_parts(),
+            AnyCommand::Sync(player) => player.into_parts(),
         }
     }
 
@@ -116,6 +131,7 @@ fn start(
     command: Command,
     changelog: Changelog,
     options: Options,
+    prints: bool,
 ) -> AnyCommand
     requires moment { stamp.reading ≤ 253402300799999 }
     requires plain { IsPlain stamp }
@@ -123,15 +139,17 @@ fn start(
     requires read { AreFor options.dialect changelog }
     requires short { All HasShortTexts changelog.sets }
     requires tag { HasShortTag command }
-    ensures { Starts dialect (task_for command options changelog stamp) result }
+    ensures { Starts prints dialect (task_for command options changelog stamp) result }
 {
     match command {
         Command::Validate => at_once(alloc, dialect, stamp, OneStep::Validate, changelog, options),
         Command::Status => at_once(alloc, dialect, stamp, OneStep::Status, changelog, options),
         Command::Tag(tag) => at_once(alloc, dialect, stamp, OneStep::Tag(tag), changelog, options),
         Command::Release => at_once(alloc, dialect, stamp, OneStep::Release, changelog, options),
-        Command::Update => update(alloc, dialect, stamp, changelog, options),
-        Command::Rollback(target) => rollback(alloc, dialect, stamp, target, changelog, options),
+        Command::Update => update(alloc, dialect, stamp, changelog, options, prints),
+        Command::Rollback(target) => rollback(
+            alloc, dialect, stamp, target, changelog, options, prints,
+        ),
         Command::Sync => sync(alloc, dialect, stamp, changelog, options),
     }
 }
@@ -147,12 +165,14 @@ fn at_once(
     requires moment { stamp.reading ≤ 253402300799999 }
     requires plain { IsPlain stamp }
     requires tag { HasShortTag (command_of command) }
-    ensures { Starts dialect (task_for (command_of command) options changelog stamp) result }
+    ensures { (prints : Bool) → Starts prints dialect (task_for (command_of command) options changelog stamp) result }
 {
+    let report = Report::new(alloc);
     let once = AtOnce {
         command,
         changelog,
         options,
+        report,
     };
     AnyCommand::AtOnce(Playing::new(alloc, dialect, stamp, once))
 }
@@ -163,15 +183,16 @@ fn update(
     stamp: Stamp,
     changelog: Changelog,
     options: Options,
+    prints: bool,
 ) -> AnyCommand
     requires moment { stamp.reading ≤ 253402300799999 }
     requires plain { IsPlain stamp }
     requires options { options.dialect ≡ dialect }
     requires read { AreFor options.dialect changelog }
     requires texts { All HasTexts (view_log options changelog).sets }
-    ensures { Starts dialect (task_for command.Update options changelog stamp) result }
+    ensures { Starts prints dialect (task_for command.Update options changelog stamp) result }
 {
-    let updating = Updating::new(alloc, changelog, options);
+    let updating = Updating::new(alloc, changelog, options, prints);
     AnyCommand::Update(Playing::new(alloc, dialect, stamp, updating))
 }
 
@@ -182,14 +203,15 @@ fn rollback(
     target: Target,
     changelog: Changelog,
     options: Options,
+    prints: bool,
 ) -> AnyCommand
     requires moment { stamp.reading ≤ 253402300799999 }
     requires plain { IsPlain stamp }
     requires options { options.dialect ≡ dialect }
     requires read { AreFor options.dialect changelog }
-    ensures { Starts dialect (task_for (command.Rollback target) options changelog stamp) result }
+    ensures { Starts prints dialect (task_for (command.Rollback target) options changelog stamp) result }
 {
-    let rolling = RollingBack::new(alloc, changelog, options, target);
+    let rolling = RollingBack::new(alloc, changelog, options, target, prints);
     AnyCommand::Rollback(Playing::new(alloc, dialect, stamp, rolling))
 }
 
@@ -203,7 +225,7 @@ fn sync(
     requires moment { stamp.reading ≤ 253402300799999 }
     requires plain { IsPlain stamp }
     requires texts { All HasTexts (view_log options changelog).sets }
-    ensures { Starts dialect (task_for command.Sync options changelog stamp) result }
+    ensures { (prints : Bool) → Starts prints dialect (task_for command.Sync options changelog stamp) result }
 {
     let syncing = Syncing::new(alloc, changelog, options);
     AnyCommand::Sync(Playing::new(alloc, dialect, stamp, syncing))
@@ -212,16 +234,15 @@ fn sync(
 impl Player for AnyCommand {
     ghost use Rattle.lq_changelog.specs.ShortTexts.{HasShortTexts};
     ghost use Rattle.lq_players.specs.AnyCommand.{command_locked, command_stands};
-    ghost use Rattle.lq_playing.specs.Answers.{failure_of};
-    ghost use Rattle.lq_turns.specs.declared.answer.Answer.TheVariants.{Busy, Locked};
+    ghost use Rattle.lq_playing.specs.Came.{as_busy, as_failed, as_locked};
 
-    type Answer = Answer;
+    type Answer = Came;
 
-    ghost locked = { Locked };
+    ghost locked = { as_locked };
 
-    ghost busy = { Busy };
+    ghost busy = { as_busy };
 
-    ghost failed = { failure_of };
+    ghost failed = { as_failed };
 
     ghost standing = { command_stands };
 

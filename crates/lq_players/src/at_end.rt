@@ -1,8 +1,10 @@
 ghost use Rattle.std.specs.Prelude.{◌≡◌, IfOk, false};
 ghost use Rattle.lq_players.specs.AtEnd.{end_answer, halt_answer, refusal_answer};
+ghost use Rattle.lq_players.specs.Reports.{of_outcome};
 ghost use Rattle.lq_playing.specs.Answers.{is_failure};
 
-use lq_base::{Duplicate, Identity, NoMemory};
+use lq_base::{Duplicate, Identity, Items, NoMemory};
+use lq_playing::Report;
 use lq_seen::{Halt, Outcome};
 use lq_turns::{Answer, Refusal};
 use std::alloc::Global;
@@ -20,6 +22,27 @@ pub fn answer_at_end(
     match refused {
         Some(refusal) => refusal_answer(alloc, refusal, &outcome.stopped_at),
         None => halt_answer(alloc, &outcome.halted),
+    }
+}
+
+/// What a command did, by what the source of its turns has noted.
+pub fn report_of(alloc: Global, outcome: Outcome) -> Report
+    ensures { result ≡ of_outcome outcome }
+{
+    let Outcome {
+        happened,
+        not_fresh,
+        warned,
+        printed,
+        ..
+    } = outcome;
+    Report {
+        happened,
+        not_fresh,
+        warned,
+        printed,
+        pending: Items::new(alloc),
+        freed: None,
     }
 }
 

@@ -1,19 +1,20 @@
 ghost use Rattle.std.specs.Prelude.{◌≡◌, ◌≤◌, IfOk, true};
 ghost use Rattle.lq_base.specs.Character.{char_count};
-ghost use Rattle.lq_players.specs.AtOnce.{HasShortTag, OnceChecked, answer_to, call_of, command_of, only_looks, releasing, tagging};
+ghost use Rattle.lq_players.specs.AtOnce.{HasShortTag, OnceChecked, answer_to, call_of, command_of, freeing, listed_by, listing, only_looks, releasing, sets_of, tagging};
+ghost use Rattle.lq_players.specs.Reports.{if_held};
 ghost use Rattle.lq_players.specs.declared.at_once.OneStep.TheVariants as step;
 ghost use Rattle.lq_turns.specs.Jobs.{needs_lock};
 ghost use Rattle.lq_turns.specs.Script.{last_row};
 ghost use Rattle.lq_turns.specs.declared.stamp.Stamp.{Stamp as Clocked};
 
 use crate::in_tables::{identity_of, lock_in, rows_in};
-use lq_base::{Dialect, Items, NoMemory, Text, Tracked};
+use lq_base::{Dialect, Identity, Items, Lock, NoMemory, Text, Tracked};
 use lq_expr::Options;
 use lq_hand::{Entered, Source};
 use lq_kinds::Changelog;
 use lq_model::{Look, Room, SqlText};
-use lq_playing::{Checks, OneCall, Verdict};
-use lq_sets::faults_of;
+use lq_playing::{Checks, OneCall, Report, Verdict};
+use lq_sets::{faults_of, pending_of};
 use lq_turns::{Answer, Deed, Fault, OnLock, OnRows, Refusal, Stamp};
 use std::alloc::Global;
 
@@ -33,19 +34,24 @@ pub struct AtOnce {
     pub command: OneStep,
     pub changelog: Changelog,
     pub options: Options,
+    /// What it found, once it is checked.
+    pub report: Report,
+}
+
+/// What its checks come to, and what it found.
+#[derive(Drop)]
+pub struct Found {
+    pub verdict: Verdict,
+    pub report: Report,
 }
 
 impl AtOnce {
     /// What it comes to on what is seen.
-    fn outcome<K: Look>(
-        &self,
-        alloc: Global,
-        dialect: Dialect,
-        look: &K,
-    ) -> Result<Verdict, NoMemory>
+    fn outcome<K: Look>(&self, alloc: Global, dialect: Dialect, look: &K) -> Result<Found, NoMemory>
         requires { HasShortTag (command_of self.now.command) }
-        ensures { IfOk result
-            (λ v. (stamp : Clocked) → OnceChecked dialect stamp self.now (K.catalogue look.now) v) }
+        ensures { IfOk result (λ found.
+            (stamp : Clocked)
+            → OnceChecked dialect stamp self.now (K.catalogue look.now) found) }
     {
         match &self.command {
             OneStep::Validate | OneStep::Status => self.compare(alloc, dialect, look),
@@ -55,19 +61,32 @@ impl AtOnce {
     }
 
     /// Compares the changelog with the rows.
-    fn compare<K: Look>(
-        &self,
-        alloc: Global,
-        dialect: Dialect,
-        look: &K,
-    ) -> Result<Verdict, NoMemory>
+    fn compare<K: Look>(&self, alloc: Global, dialect: Dialect, look: &K) -> Result<Found, NoMemory>
         requires { only_looks self.now.command ≡ true }
-        ensures { IfOk result
-            (λ v. (stamp : Clocked) → OnceChecked dialect stamp self.now (K.catalogue look.now) v) }
+        ensures { IfOk result (λ found.
+            (stamp : Clocked)
+            → OnceChecked dialect stamp self.now (K.catalogue look.now) found) }
     {
         let rows = rows_in(alloc, dialect, look)?;
-        let found = faults_of(alloc, &self.options, &self.changelog, rows.as_slice())?;
-        Ok(Verdict::Answer(answer_to(found)))
+        let faults = faults_of(alloc, &self.options, &self.changelog, rows.as_slice())?;
+        let pending = self.listed(alloc, rows.as_slice())?;
+        Ok(Found {
+            verdict: Verdict::Answer(answer_to(faults)),
+            report: listing(alloc, pending),
+        })
+    }
+
+    /// What a status lists.
+    fn listed(&self, alloc: Global, rows: &[Tracked]) -> Result<Items<Identity>, NoMemory>
+        ensures { IfOk result
+            (λ list. list ≡ listed_by self.now.command (sets_of self.now) rows.now) }
+    {
+        match &self.command {
+            OneStep::Status => pending_of(alloc, &self.options, &self.changelog, rows),
+            OneStep::Validate => Ok(Items::new(alloc)),
+            OneStep::Tag(_) => Ok(Items::new(alloc)),
+            OneStep::Release => Ok(Items::new(alloc)),
+        }
     }
 
     /// Gives the last row the tag.
@@ -77,29 +96,34 @@ impl AtOnce {
         dialect: Dialect,
         look: &K,
         name: &Text,
-    ) -> Result<Verdict, NoMemory>
+    ) -> Result<Found, NoMemory>
         requires command { self.now.command ≡ step.Tag name.now }
         requires short { char_count name.now ≤ 255 }
-        ensures { IfOk result
-            (λ v. (stamp : Clocked) → OnceChecked dialect stamp self.now (K.catalogue look.now) v) }
+        ensures { IfOk result (λ found.
+            (stamp : Clocked)
+            → OnceChecked dialect stamp self.now (K.catalogue look.now) found) }
     {
         let rows = rows_in(alloc, dialect, look)?;
-        tagging(alloc, rows.as_slice(), name)
+        let verdict = tagging(alloc, rows.as_slice(), name)?;
+        Ok(Found {
+            verdict,
+            report: Report::new(alloc),
+        })
     }
 
     /// Frees the lock where it is held.
-    fn release<K: Look>(
-        &self,
-        alloc: Global,
-        dialect: Dialect,
-        look: &K,
-    ) -> Result<Verdict, NoMemory>
+    fn release<K: Look>(&self, alloc: Global, dialect: Dialect, look: &K) -> Result<Found, NoMemory>
         requires { self.now.command ≡ step.Release }
-        ensures { IfOk result
-            (λ v. (stamp : Clocked) → OnceChecked dialect stamp self.now (K.catalogue look.now) v) }
+        ensures { IfOk result (λ found.
+            (stamp : Clocked)
+            → OnceChecked dialect stamp self.now (K.catalogue look.now) found) }
     {
         let lock = lock_in(alloc, dialect, look)?;
-        releasing(alloc, lock.locked)
+        let verdict = releasing(alloc, lock.locked)?;
+        Ok(Found {
+            verdict,
+            report: freeing(alloc, lock),
+        })
     }
 }
 
@@ -111,6 +135,30 @@ fn answer_to(found: Items<Fault>) -> Answer
         return Answer::Done;
     }
     Answer::Invalid(found)
+}
+
+// It found these changesets.
+fn listing(alloc: Global, pending: Items<Identity>) -> Report
+    ensures { result ≡ listing pending }
+{
+    let mut report = Report::new(alloc);
+    report.pending = pending;
+    report
+}
+
+// It found this lock.
+fn freeing(alloc: Global, lock: Lock) -> Report
+    ensures { result ≡ freeing lock }
+{
+    let mut report = Report::new(alloc);
+    report.freed = if_held(lock);
+    report
+}
+
+fn if_held(lock: Lock) -> Option<Lock>
+    ensures { result ≡ if_held lock }
+{
+    if lock.locked { Some(lock) } else { None }
 }
 
 // Tags the last of the rows.
@@ -201,11 +249,13 @@ impl Source for AtOnce {
 }
 
 impl Checks for AtOnce {
-    ghost use Rattle.lq_players.specs.AtOnce.{once_ends, once_job};
+    ghost use Rattle.lq_players.specs.AtOnce.{once_ends, once_job, once_reports};
 
     ghost job = { once_job };
 
     ghost ends = { once_ends };
+
+    ghost reports = { once_reports };
 
     fn needs_lock(&self) -> bool {
         asks_for_lock(&self.command)
@@ -220,12 +270,20 @@ impl Checks for AtOnce {
         _sql: &P,
     ) -> Verdict {
         match self.outcome(alloc, dialect, look) {
-            Ok(verdict) => verdict,
+            Ok(found) => {
+                let Found { verdict, report } = found;
+                self.report = report;
+                verdict
+            }
             Err(_) => Verdict::Lack,
         }
     }
 
     fn answer(&self, _refused: Option<Refusal>) -> Result<Answer, NoMemory> {
         Ok(Answer::Done)
+    }
+
+    fn into_report(self) -> Report {
+        self.report
     }
 }

@@ -6,7 +6,7 @@ ghost use Rattle.lq_drill.specs.Player.{HasMet};
 ghost use Rattle.lq_drill.specs.declared.fault.DrillFault.TheVariants as fault;
 ghost use Rattle.lq_kinds.specs.declared.any_change.AnyChange.{AnyChange};
 ghost use Rattle.lq_outside.specs.Count.{Rose};
-ghost use Rattle.lq_playing.specs.Answers.{failure_of};
+ghost use Rattle.lq_playing.specs.Came.{as_failed};
 ghost use Rattle.lq_store.specs.Crashes.{CrashesLeave};
 ghost use Rattle.lq_track.specs.Database.{Database};
 ghost use Rattle.lq_turns.specs.Held.{StandsFor};
@@ -37,22 +37,22 @@ pub fn drill_commands<S: Store, P: SqlText>(
     ensures live { result ≡ Ok tt → IsTrue (S.state store.new).live }
     ensures closed { (S.state store.new).live ≡ true → (S.state store.new).begun ≡ None }
     ensures count { length players.new.items ≡ length players.old.items }
-    ensures met { Each command_stands (HasMet failure_of) players.new.items }
-    ensures ends { EndsAs command_stands failure_of players.new.items result }
+    ensures met { Each command_stands (HasMet as_failed) players.new.items }
+    ensures ends { EndsAs command_stands as_failed players.new.items result }
     ensures clean { (tasks : ℕ → Task AnyChange) (database : Database) → StandsFor (S.state store.old).dialect (S.state store.old).committed database → HaveTasks (S.state store.old).dialect tasks players.old.items
         → Each command_stands IsFaultless players.new.items → IsDrilled command_stands (works (S.state store.old).dialect tasks) (S.state store.old) database steps.now players.new.items (S.state store.new) }
     ensures until { (tasks : ℕ → Task AnyChange) (database : Database) → StandsFor (S.state store.old).dialect (S.state store.old).committed database → HaveTasks (S.state store.old).dialect tasks players.old.items
-        → IsDrilledUntil command_stands (works (S.state store.old).dialect tasks) (S.state store.old) database failure_of steps.now players.new.items (S.state store.new) }
+        → IsDrilledUntil command_stands (works (S.state store.old).dialect tasks) (S.state store.old) database as_failed steps.now players.new.items (S.state store.new) }
     ensures serial { (tasks : ℕ → Task AnyChange) (database : Database) → StandsFor (S.state store.old).dialect (S.state store.old).committed database → HaveTasks (S.state store.old).dialect tasks players.old.items
         → Each command_stands IsFaultless players.new.items → NoneReleases tasks steps.now → IsSerialDrill command_stands (works (S.state store.old).dialect tasks) (S.state store.old) database steps.now players.new.items (S.state store.new) }
     ensures in_turn { (tasks : ℕ → Task AnyChange) (database : Database) → StandsFor (S.state store.old).dialect (S.state store.old).committed database → HaveTasks (S.state store.old).dialect tasks players.old.items
         → Each command_stands IsFaultless players.new.items → BeginInTurn (S.state store.old).dialect tasks database steps.now → IsSerialDrill command_stands (works (S.state store.old).dialect tasks) (S.state store.old) database steps.now players.new.items (S.state store.new) }
     ensures crash { (tasks : ℕ → Task AnyChange) (database : Database) → StandsFor (S.state store.old).dialect (S.state store.old).committed database → HaveTasks (S.state store.old).dialect tasks players.old.items
-        → CrashesLeave (S.state store.old).entries (LeftInDrill command_stands (works (S.state store.old).dialect tasks) (S.state store.old) database failure_of steps.now players.new.items) (S.crashes store.old) (S.crashes store.new) }
+        → CrashesLeave (S.state store.old).entries (LeftInDrill command_stands (works (S.state store.old).dialect tasks) (S.state store.old) database as_failed steps.now players.new.items) (S.crashes store.old) (S.crashes store.new) }
     ensures left { (tasks : ℕ → Task AnyChange) (database : Database) → StandsFor (S.state store.old).dialect (S.state store.old).committed database → HaveTasks (S.state store.old).dialect tasks players.old.items
-        → LeftAtEnd command_stands (works (S.state store.old).dialect tasks) (S.state store.old) database failure_of steps.now players.new.items (S.state store.new) }
+        → LeftAtEnd command_stands (works (S.state store.old).dialect tasks) (S.state store.old) database as_failed steps.now players.new.items (S.state store.new) }
     ensures cause { (tasks : ℕ → Task AnyChange) (database : Database) → StandsFor (S.state store.old).dialect (S.state store.old).committed database → HaveTasks (S.state store.old).dialect tasks players.old.items
-        → IfErr result (FailsBy command_stands (works (S.state store.old).dialect tasks) (S.state store.old) database failure_of steps.now players.new.items (S.state store.new)) }
+        → IfErr result (FailsBy command_stands (works (S.state store.old).dialect tasks) (S.state store.old) database as_failed steps.now players.new.items (S.state store.new)) }
     ensures later { S.faults store.old ≤ S.faults store.new }
     ensures rose { result ≡ Err fault.Disk → Rose (S.faults store.old) (S.faults store.new) }
 {

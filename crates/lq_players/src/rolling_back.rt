@@ -15,7 +15,7 @@ ghost use Rattle.lq_turns.specs.Rollback.{not_reversible, rows_kept, rows_undone
 ghost use Rattle.lq_turns.specs.declared.answer.Answer.TheVariants.{NoTarget};
 ghost use Rattle.lq_turns.specs.declared.stamp.Stamp.{Stamp as Clocked};
 
-use crate::at_end::answer_at_end;
+use crate::at_end::{answer_at_end, report_of};
 use crate::hands::no_turn;
 use crate::in_tables::rows_in;
 use crate::row_checks::check_faults;
@@ -25,7 +25,7 @@ use lq_expr::Options;
 use lq_hand::{Entered, Source};
 use lq_kinds::Changelog;
 use lq_model::{Look, SqlText};
-use lq_playing::{Checks, Verdict};
+use lq_playing::{Checks, Report, Verdict};
 use lq_turns::{Answer, Refusal, Stamp};
 use std::alloc::Global;
 
@@ -37,25 +37,34 @@ pub struct RollingBack {
     options: Options,
     changelog: Changelog,
     target: Target,
+    /// Whether the statements' texts are wanted.
+    prints: bool,
     /// None until its checks find rows to take back.
     turns: Option<RowTurns>,
 }
 
 impl RollingBack {
     /// A rollback to the target, of which nothing is checked. The changelog was read for the dialect of
-    /// the options.
-    pub fn new(alloc: Global, changelog: Changelog, options: Options, target: Target) -> RollingBack
+    /// the options. Where `prints`, it keeps the statements' texts.
+    pub fn new(
+        alloc: Global,
+        changelog: Changelog,
+        options: Options,
+        target: Target,
+        prints: bool,
+    ) -> RollingBack
         requires read { AreFor options.dialect changelog }
         ensures read { IsRead result options.dialect }
         ensures job { (dialect : Kind) (stamp : Clocked)
             → back_job result dialect stamp
-            ≡ work_of dialect (task_for (Rollback target) options changelog stamp) }
+            ≡ work_of prints dialect (task_for (Rollback target) options changelog stamp) }
     {
         RollingBack {
             alloc,
             options,
             changelog,
             target,
+            prints,
             turns: None,
         }
     }
@@ -71,7 +80,7 @@ impl RollingBack {
         ensures plans { (database : Database)
             → StandsFor dialect (K.catalogue look.now) database
             → Plans self.now dialect database.rows result }
-        ensures new { IfOk result (AreNew dialect) }
+        ensures new { IfOk result (AreNew self.now.prints dialect) }
         ensures refusal { IfErr result IsRefusal }
     {
         match rows_in(alloc, dialect, look) {
@@ -89,7 +98,7 @@ impl RollingBack {
     ) -> Result<Option<RowTurns>, Verdict>
         requires read { IsRead self.now dialect }
         ensures plans { Plans self.now dialect rows.now result }
-        ensures new { IfOk result (AreNew dialect) }
+        ensures new { IfOk result (AreNew self.now.prints dialect) }
         ensures refusal { IfErr result IsRefusal }
     {
         check_faults(alloc, &self.options, &self.changelog, rows)?;
@@ -109,12 +118,19 @@ impl RollingBack {
             (rows_kept self.now.target rows.now) rows.now) result }
         ensures turns { IfOk result
             (λ turns. back_turns self.now dialect rows.now ≡ Some (turns_in turns)) }
-        ensures new { IfOk result (AreNew dialect) }
+        ensures new { IfOk result (AreNew self.now.prints dialect) }
         ensures refusal { IfErr result IsRefusal }
     {
         let undone = rows_behind(rows, &self.target)?;
         let ways = ways_of(alloc, &self.changelog, undone)?;
-        turns_of(alloc, dialect, &self.changelog, ways.as_slice(), undone)
+        turns_of(
+            alloc,
+            dialect,
+            &self.changelog,
+            ways.as_slice(),
+            undone,
+            self.prints,
+        )
     }
 }
 
@@ -160,6 +176,7 @@ fn turns_of(
     changelog: &Changelog,
     ways: &[TakenBack],
     rows: &[Tracked],
+    prints: bool,
 ) -> Result<Option<RowTurns>, Verdict>
     requires read { AreFor dialect changelog.now }
     requires ways { AreWays changelog.now.sets rows.now ways.now }
@@ -167,13 +184,13 @@ fn turns_of(
         (options : Asked)
         → undo_turns dialect any_meaning (views options changelog.now.sets) (reverse rows.now)
         ≡ Some (turns_in turns)) }
-    ensures new { IfOk result (AreNew dialect) }
+    ensures new { IfOk result (AreNew prints dialect) }
     ensures lack { IfErr result (λ v. v ≡ verdict.Lack) }
 {
     if rows.is_empty() {
         return Ok(None);
     }
-    match RowTurns::new(alloc, dialect, changelog, ways, rows, false) {
+    match RowTurns::new(alloc, dialect, changelog, ways, rows, prints) {
         Ok(source) => Ok(Some(source)),
         Err(_) => Err(Verdict::Lack),
     }
@@ -244,11 +261,13 @@ impl Source for RollingBack {
 }
 
 impl Checks for RollingBack {
-    ghost use Rattle.lq_players.specs.RollingBack.{back_ends, back_job};
+    ghost use Rattle.lq_players.specs.RollingBack.{back_ends, back_job, back_reports};
 
     ghost job = { back_job };
 
     ghost ends = { back_ends };
+
+    ghost reports = { back_reports };
 
     fn needs_lock(&self) -> bool {
         true
@@ -276,6 +295,14 @@ impl Checks for RollingBack {
         match &self.turns {
             Some(turns) => answer_at_end(self.alloc, &turns.outcome, refused),
             None => Ok(Answer::Done),
+        }
+    }
+
+    fn into_report(self) -> Report {
+        let RollingBack { alloc, turns, .. } = self;
+        match turns {
+            Some(turns) => report_of(alloc, turns.outcome),
+            None => Report::new(alloc),
         }
     }
 }

@@ -1,5 +1,5 @@
 ghost use Rattle.std.specs.Prelude.{◌≡◌, IfErr, IfOk};
-ghost use Rattle.lq_players.specs.RowChecks.{IsRefusal, Passes};
+ghost use Rattle.lq_players.specs.RowChecks.{IsRefusal, Passes, judged};
 ghost use Rattle.lq_players.specs.Tasks.{if_some, invalid};
 ghost use Rattle.lq_seen.specs.View.{view_log};
 
@@ -28,6 +28,7 @@ pub fn check_faults(
 }
 
 fn none_found(found: Items<Fault>) -> Result<(), Verdict>
+    ensures judges { result ≡ judged (if_some found) }
     ensures passes { Passes (if_some found) result }
     ensures refusal { IfErr result IsRefusal }
 {

@@ -1,6 +1,6 @@
 ghost use Rattle.std.specs.Prelude.{◌≡◌, IfOk, List, false, true};
 ghost use Rattle.lq_base.specs.declared.tracking.Tracked.{Tracked as Row};
-ghost use Rattle.lq_players.specs.RowOrder.{follows, is_first};
+ghost use Rattle.lq_players.specs.RowOrder.{follows, is_first, stand_behind};
 ghost use Rattle.lq_plan.specs.Index.{HasRows};
 ghost use Rattle.lq_track.specs.Database.{has_twin_rows};
 
@@ -8,9 +8,11 @@ use lq_base::{NoMemory, Tracked};
 use lq_plan::{RowIndex, index_of};
 use std::alloc::Global;
 
-/// Whether rows in run order have each a place and an identity of their own.
+/// Whether rows in run order have each a place and an identity of their own. Places begin with 1.
 pub fn are_apart<'a>(alloc: Global, rows: &'a [Tracked]) -> Result<bool, NoMemory>
-    ensures { IfOk result (λ apart. apart ≡ true → has_twin_rows rows.now ≡ false) }
+    ensures apart { IfOk result (λ apart. apart ≡ true → has_twin_rows rows.now ≡ false) }
+    ensures all { IfOk result (λ apart.
+        stand_behind 0 rows.now ≡ true → has_twin_rows rows.now ≡ false → apart ≡ true) }
 {
     let index = index_of(alloc, rows)?;
     let mut last = 0;

@@ -10,13 +10,13 @@ ghost use Rattle.lq_turns.specs.Synced.{insert_stop};
 
 use crate::at_end::refusal_answer;
 use crate::in_tables::{identity_of, rows_in};
-use lq_back::{rows_to_sync, sync_hand};
-use lq_base::{Dialect, Identity, Items, NoMemory, Tracked};
+use lq_back::{marked, rows_to_sync, sync_hand};
+use lq_base::{Dialect, Happened, Identity, Items, NoMemory, Tracked};
 use lq_expr::Options;
 use lq_hand::{Entered, Hand, Source};
 use lq_kinds::Changelog;
 use lq_model::{Look, SqlText};
-use lq_playing::{Checks, Verdict};
+use lq_playing::{Checks, Report, Verdict};
 use lq_sets::faults_of;
 use lq_turns::{Answer, Refusal, Stamp};
 use std::alloc::Global;
@@ -36,6 +36,8 @@ pub struct Syncing {
     pub options: Options,
     /// The changeset of the first row that does not go in, where one does not.
     pub stops_at: Option<Identity>,
+    /// What it marks, unless one does not.
+    pub marked: Items<Happened>,
 }
 
 /// What a changelog-sync does.
@@ -43,8 +45,9 @@ pub struct Syncing {
 pub enum Plan {
     /// It makes no call, and answers so.
     Answer(Answer),
-    /// It inserts rows in this turn. The first that does not go in is of this changeset.
-    Turn(Hand, Option<Identity>),
+    /// It inserts rows in this turn, and so marks these changesets. The first that does not go in is of
+    /// this one.
+    Turn(Hand, Option<Identity>, Items<Happened>),
 }
 
 impl Syncing {
@@ -58,18 +61,23 @@ impl Syncing {
             changelog,
             options,
             stops_at: None,
+            marked: Items::new(alloc),
         }
     }
 
-    // Keeps in mind where the rows of the plan stop.
+    // Keeps in mind where the rows of the plan stop, and what they mark.
     fn follow(&mut self, plan: Plan) -> Verdict
         ensures verdict { result ≡ verdict_of plan }
         ensures planned { self.new ≡ planned plan self.old }
     {
         match plan {
-            Plan::Answer(answer) => Verdict::Answer(answer),
-            Plan::Turn(hand, of) => {
+            Plan::Answer(answer) => {
+                self.marked = Items::new(self.alloc);
+                Verdict::Answer(answer)
+            }
+            Plan::Turn(hand, of, marked) => {
                 self.stops_at = of;
+                self.marked = marked;
                 Verdict::Turns(hand)
             }
         }
@@ -123,8 +131,9 @@ fn insert(alloc: Global, before: &[Tracked], made: Items<Tracked>) -> Result<Pla
         return Ok(Plan::Answer(Answer::Done));
     }
     let of = refused_row(alloc, before, made.as_slice())?;
+    let marked = marked(alloc, made.as_slice())?;
     let hand = sync_hand(alloc, made)?;
-    Ok(Plan::Turn(hand, of))
+    Ok(Plan::Turn(hand, of, marked))
 }
 
 // The changeset of the first of these rows that does not go in behind those before.
@@ -184,12 +193,11 @@ fn answer_at(
 }
 
 impl Source for Syncing {
-    ghost use Rattle.std.specs.Prelude.{Option};
     ghost use Rattle.lq_kinds.specs.declared.any_change.AnyChange.{AnyChange};
     ghost use Rattle.lq_players.specs.Syncing.{FitColumns, sync_way};
     ghost use Rattle.lq_seen.specs.View.{any_meaning};
     ghost use Rattle.lq_turns.specs.Rest.{NoMore};
-    ghost use Rattle.lq_turns.specs.declared.stop.Stop.{Stop};
+    ghost use Rattle.lq_turns.specs.Settle.{Settled};
 
     ghost Key = { AnyChange };
 
@@ -197,7 +205,7 @@ impl Source for Syncing {
 
     ghost left = { λ source. NoMore };
 
-    ghost Told = { Option Stop };
+    ghost Told = { Settled };
 
     ghost way = { sync_way };
 
@@ -218,15 +226,19 @@ impl Source for Syncing {
 
     fn finished(&mut self) {}
 
-    fn refused(&mut self) {}
+    fn refused(&mut self) {
+        self.marked = Items::new(self.alloc);
+    }
 }
 
 impl Checks for Syncing {
-    ghost use Rattle.lq_players.specs.Syncing.{sync_ends, sync_job};
+    ghost use Rattle.lq_players.specs.Syncing.{sync_ends, sync_job, sync_reports};
 
     ghost job = { sync_job };
 
     ghost ends = { sync_ends };
+
+    ghost reports = { sync_reports };
 
     fn needs_lock(&self) -> bool {
         true
@@ -255,5 +267,11 @@ impl Checks for Syncing {
 
     fn answer(&self, refused: Option<Refusal>) -> Result<Answer, NoMemory> {
         answer_at(self.alloc, refused, &self.stops_at)
+    }
+
+    fn into_report(self) -> Report {
+        let mut report = Report::new(self.alloc);
+        report.happened = self.marked;
+        report
     }
 }

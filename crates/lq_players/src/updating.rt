@@ -4,20 +4,20 @@ ghost use Rattle.lq_base.specs.declared.command.Command.TheVariants as command;
 ghost use Rattle.lq_base.specs.declared.dialect.Dialect.{Dialect as Kind};
 ghost use Rattle.lq_beside.specs.Fitting.{HasTexts};
 ghost use Rattle.lq_players.specs.Tasks.{task_for, work_of};
-ghost use Rattle.lq_players.specs.Updating.{IsUpdateFor, TakesTurns, update_job};
+ghost use Rattle.lq_players.specs.Updating.{Follows, IsUpdateFor, TakesTurns, update_job};
 ghost use Rattle.lq_kinds.specs.Dialects.{AreFor};
 ghost use Rattle.lq_seen.specs.View.{view_log};
 ghost use Rattle.lq_turns.specs.declared.stamp.Stamp.{Stamp as Clocked};
 
-use crate::at_end::answer_at_end;
+use crate::at_end::{answer_at_end, report_of};
 use crate::hands::no_turn;
-use crate::update_checks::{Asked, plan};
+use crate::update_checks::{Asked, Planned, plan};
 use lq_base::{Dialect, NoMemory};
 use lq_expr::Options;
 use lq_hand::{Entered, Source};
 use lq_kinds::Changelog;
 use lq_model::{Look, SqlText};
-use lq_playing::{Checks, Verdict};
+use lq_playing::{Checks, Report, Verdict};
 use lq_sets::SetTurns;
 use lq_turns::{Answer, Refusal, Stamp};
 use std::alloc::Global;
@@ -31,36 +31,56 @@ pub struct Updating {
     asked: Option<Asked>,
     /// Its turns, from then on.
     turns: Option<SetTurns>,
+    /// What it did without turns.
+    report: Report,
 }
 
 impl Updating {
     /// An update by a changelog that was read for the dialect of the options. The texts of its
-    /// changesets go into the columns of their rows.
-    pub fn new(alloc: Global, changelog: Changelog, options: Options) -> Updating
+    /// changesets go into the columns of their rows. Where `prints`, it keeps the statements' texts.
+    pub fn new(alloc: Global, changelog: Changelog, options: Options, prints: bool) -> Updating
         requires read { AreFor options.dialect changelog }
         requires texts { All HasTexts (view_log options changelog).sets }
         ensures reads { IsUpdateFor result options.dialect }
         ensures job { (d : Kind) (stamp : Clocked)
             → update_job result d stamp
-            ≡ work_of d (task_for command.Update options changelog stamp) }
+            ≡ work_of prints d (task_for command.Update options changelog stamp) }
     {
         Updating {
             alloc,
-            asked: Some(Asked { changelog, options }),
+            asked: Some(Asked {
+                changelog,
+                options,
+                prints,
+            }),
             turns: None,
+            report: Report::new(alloc),
         }
     }
 
-    /// Takes the turns that its checks came to.
-    fn take_turns(&mut self, planned: Result<SetTurns, Verdict>) -> Verdict
+    /// Does what its checks came to.
+    fn take_turns(&mut self, planned: Result<Planned, Verdict>) -> Verdict
         ensures { TakesTurns planned self.old self.new result }
     {
         match planned {
-            Ok(source) => {
+            Ok(planned) => self.follow(planned),
+            Err(refusal) => refusal,
+        }
+    }
+
+    fn follow(&mut self, planned: Planned) -> Verdict
+        ensures { Follows planned self.old self.new result }
+    {
+        match planned {
+            Planned::Turns(source) => {
                 self.turns = Some(source);
                 Verdict::Turns(no_turn(self.alloc))
             }
-            Err(refusal) => refusal,
+            Planned::Idle(report) => {
+                self.turns = None;
+                self.report = report;
+                Verdict::Answer(Answer::Done)
+            }
         }
     }
 }
@@ -120,11 +140,13 @@ impl Source for Updating {
 }
 
 impl Checks for Updating {
-    ghost use Rattle.lq_players.specs.Updating.{update_ends, update_job};
+    ghost use Rattle.lq_players.specs.Updating.{update_ends, update_job, update_reports};
 
     ghost job = { update_job };
 
     ghost ends = { update_ends };
+
+    ghost reports = { update_reports };
 
     fn needs_lock(&self) -> bool {
         true
@@ -151,6 +173,19 @@ impl Checks for Updating {
         match &self.turns {
             Some(source) => answer_at_end(self.alloc, &source.outcome, refused),
             None => Ok(Answer::Done),
+        }
+    }
+
+    fn into_report(self) -> Report {
+        let Updating {
+            alloc,
+            turns,
+            report,
+            ..
+        } = self;
+        match turns {
+            Some(source) => report_of(alloc, source.outcome),
+            None => report,
         }
     }
 }

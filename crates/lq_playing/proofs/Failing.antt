@@ -21,10 +21,12 @@ use Rattle.lq_playing.proofs.Laters.{there as is_there}
 use Rattle.lq_playing.proofs.Machines.{Held, IsToCall, Runs, next_called}
 use Rattle.lq_playing.proofs.Marks.{bare_none, last_shut, not_both}
 use Rattle.lq_playing.proofs.Shown.{shut_none}
-use Rattle.lq_playing.specs.Answers.{FailsAs, failure_of, fault_of}
+use Rattle.lq_playing.specs.Answers.{FailsAs, fault_of}
+use Rattle.lq_playing.specs.Came.{as_busy, as_failed, as_locked}
 use Rattle.lq_playing.specs.Checked.{Work}
 use Rattle.lq_playing.specs.Hindered.{IsFree}
 use Rattle.lq_playing.specs.Under.{IsPlain, IsUnder, bare}
+use Rattle.lq_playing.specs.declared.came.Came.{Came}
 use Rattle.lq_run.specs.Does.{Faults}
 use Rattle.lq_run.specs.Ends.{AllHoldOn, HoldsOn}
 use Rattle.lq_run.specs.Holds.{IsBare, IsHeld, IsMarked}
@@ -42,8 +44,6 @@ use Rattle.lq_turns.specs.Script.{closing}
 use Rattle.lq_turns.specs.Session.{Session, called, room_of}
 use Rattle.lq_turns.specs.Set.{Meaning}
 use Rattle.lq_turns.specs.Stepped.{both_of}
-use Rattle.lq_turns.specs.declared.answer.Answer.{Answer}
-use Rattle.lq_turns.specs.declared.answer.Answer.TheVariants.{Busy, Locked}
 use Rattle.lq_turns.specs.declared.call.Call.{Call}
 use Rattle.lq_turns.specs.declared.call.Call.TheVariants.{Abort, Alone, Begin, Commit, Execute}
 use Rattle.lq_turns.specs.declared.stamp.Stamp.{Stamp}
@@ -70,14 +70,14 @@ fails_last None e why fails is = subst (λ k. FailsAs k why) is fails
 fails_last (Some refusal) e why fails is = subst (λ k. FailsAs k why) is fails
 
 -- there was no memory in the step
-pub lack_due : (jobs : ℕ → Work) (n : ℕ) (before : Standing Answer Locked Busy) (origin : State) (x : Runs) → IsDue failure_of jobs n before origin x drill.OutOfMemory
+pub lack_due : (jobs : ℕ → Work) (n : ℕ) (before : Standing Came as_locked as_busy) (origin : State) (x : Runs) → IsDue as_failed jobs n before origin x drill.OutOfMemory
 lack_due jobs n before origin x = inr meets where
-  meets : Meets failure_of origin.dialect jobs origin.used origin.limit n x drill.OutOfMemory
+  meets : Meets as_failed origin.dialect jobs origin.used origin.limit n x drill.OutOfMemory
   meets = record { at = x; is = inl refl; cause = tt }
 
 -- no call was made
-pub stops_still : (n : ℕ) (before after : Standing Answer Locked Busy) (w : State) (why : DrillFault) → ((jobs : ℕ → Work) (origin : State) (x : Runs) → origin.dialect ≡ before.dialect → Shows origin w x → Plays jobs n before x → why ≡ drill.OutOfMemory) → Moves failure_of n before after w (Err why) w
-stops_still n before after w why lacks jobs origin x dialect shows plays = subst (λ k. MovesAs failure_of jobs n before after origin w w x (Err k)) (sym (lacks jobs origin x dialect shows plays)) ((moved Answer Locked Busy origin.dialect jobs n x, inl refl, brings_none origin.dialect jobs n x w w refl), lack_due jobs n before origin x, inr refl)
+pub stops_still : (n : ℕ) (before after : Standing Came as_locked as_busy) (w : State) (why : DrillFault) → ((jobs : ℕ → Work) (origin : State) (x : Runs) → origin.dialect ≡ before.dialect → Shows origin w x → Plays jobs n before x → why ≡ drill.OutOfMemory) → Moves as_failed n before after w (Err why) w
+stops_still n before after w why lacks jobs origin x dialect shows plays = subst (λ k. MovesAs as_failed jobs n before after origin w w x (Err k)) (sym (lacks jobs origin x dialect shows plays)) ((moved Came as_locked as_busy origin.dialect jobs n x, inl refl, brings_none origin.dialect jobs n x w w refl), lack_due jobs n before origin x, inr refl)
 
 -- of the calls of a turn none has room to free the lock
 holds_ordinary : (who : List ℕ) (call : Call) → HoldsOn who call → room_of call ≡ Release → ⊥
@@ -107,7 +107,7 @@ frees_it : (who : List ℕ) (front : List Call) (call : Call) (more : List Call)
 frees_it who [] call more is all room = head_is is
 frees_it who (c ∷ front) call more is all room = absurd (holds_ordinary who call (subst (HoldsOn who) (sym (head_is is)) all.0) room)
 
-module _ {Key Told T : Type 0} (m : Meaning Key) (stamp : Stamp) (way : T → Dialect → Stamp → Told → Way) (answer_of : T → Option Refusal → Answer) (n : ℕ) (before after : Standing Answer Locked Busy) (w : State) (r : Command Key Told) (none : before.answer ≡ None) (begun : before.begun ≡ true)
+module _ {Key Told T : Type 0} (m : Meaning Key) (stamp : Stamp) (way : T → Dialect → Stamp → Told → Way) (answer_of : T → Option Refusal → Came) (n : ℕ) (before after : Standing Came as_locked as_busy) (w : State) (r : Command Key Told) (none : before.answer ≡ None) (begun : before.begun ≡ true)
     (under : (h : Held) → before.is_at h → IsUnder before.dialect m stamp r way answer_of h) (owns : (lock : Lock) → IsHeld stamp lock → before.owns lock) (plain : IsPlain stamp) (z : State) (within : Bool) (opened : is_open n w.begun ≡ within) (free : IsFree before.dialect stamp n within w) (q : Command Key Told) where
   module _ (jobs : ℕ → Work) (origin : State) (x : Runs) (dialect : origin.dialect ≡ before.dialect) (shows : Shows origin w x) (plays : Plays jobs n before x) (why : DrillFault) (faulted : after.faulted ≡ true) (owed_before : (f : StoreFault) → r.fault ≡ Some f → before.owes (fault_of f)) (shut : z.live ≡ true → is_open n z.begun ≡ false) where
     abbrev d : Dialect
@@ -123,10 +123,10 @@ module _ {Key Told T : Type 0} (m : Meaning Key) (stamp : Stamp) (way : T → Di
     here = is_there m stamp way answer_of n before after w r none begun under owns plain within opened free jobs origin x dialect shows plays it
 
     abbrev Stops : Type 0
-    Stops = MovesAs failure_of jobs n before after origin w z x (Err why)
+    Stops = MovesAs as_failed jobs n before after origin w z x (Err why)
 
     abbrev Due : DrillFault → Type 0
-    Due k = IsDue failure_of jobs n before origin x k
+    Due k = IsDue as_failed jobs n before origin x k
 
     -- the fault is due of which the end tells
     due_as : (k : DrillFault) → why ≡ k → Due k → Due why
@@ -140,15 +140,15 @@ module _ {Key Told T : Type 0} (m : Meaning Key) (stamp : Stamp) (way : T → Di
 
     -- nothing was called, for want of memory
     still : z ≡ w → why ≡ drill.OutOfMemory → Stops
-    still same is = subst (λ k. MovesAs failure_of jobs n before after origin w z x (Err k)) (sym is) ((moved Answer Locked Busy d jobs n x, inl refl, brings_none d jobs n x w z same), lack_due jobs n before origin x, inr same)
+    still same is = subst (λ k. MovesAs as_failed jobs n before after origin w z x (Err k)) (sym is) ((moved Came as_locked as_busy d jobs n x, inl refl, brings_none d jobs n x w z same), lack_due jobs n before origin x, inr same)
 
     -- a call met a fault, which left the store as it was
     abbrev Rested : DrillFault → Type 0
-    Rested k = Rests failure_of jobs n (after.faulted ≡ true) origin w z x k
+    Rested k = Rests as_failed jobs n (after.faulted ≡ true) origin w z x k
 
     -- at its next call
 
-    own_made : Goes d m stamp n (place r) Over w s z → Due why → (why ≡ drill.OutOfMemory) ⊎ (it.h.answer ≡ failure_of why) → Stops
+    own_made : Goes d m stamp n (place r) Over w s z → Due why → (why ≡ drill.OutOfMemory) ⊎ (it.h.answer ≡ as_failed why) → Stops
     own_made goes due answers = (
       (to, inl refl, brings_all origin w jobs n x x it.h goes.went.call [] refl shows own z goes.after goes.went.is goes.at.stands),
       due,
@@ -158,7 +158,7 @@ module _ {Key Told T : Type 0} (m : Meaning Key) (stamp : Stamp) (way : T → Di
       ],
     ) where
       to : Runs
-      to = moved Answer Locked Busy d jobs n x
+      to = moved Came as_locked as_busy d jobs n x
 
       own : IsToCall n x it.h goes.went.call []
       own = to_call_last m stamp way answer_of n before after w r none begun under owns plain within opened free jobs origin x dialect shows plays it goes.went.call goes.went.next
@@ -177,11 +177,11 @@ module _ {Key Told T : Type 0} (m : Meaning Key) (stamp : Stamp) (way : T → Di
       told = answers_last m stamp way answer_of n after origin w z jobs x x it.h goes.went.call [] shows own goes.after goes.went.is goes.at.stands refl
 
     own_met : (room : Room) (f : StoreFault) → room ≡ Release ⊎ (f ≡ fault.Disk) → MeetsFault d m stamp n (place r) w s w room f z → why ≡ fault_of f → Stops
-    own_met room f may met is = subst (λ k. MovesAs failure_of jobs n before after origin w z x (Err k)) (sym is) ((moved Answer Locked Busy d jobs n x, inl refl, brings_fault origin w jobs n x x it.h met.call own.0 refl shows own.1 z room f met.faults), inr meets, by f may met.faults) where
+    own_met room f may met is = subst (λ k. MovesAs as_failed jobs n before after origin w z x (Err k)) (sym is) ((moved Came as_locked as_busy d jobs n x, inl refl, brings_fault origin w jobs n x x it.h met.call own.0 refl shows own.1 z room f met.faults), inr meets, by f may met.faults) where
       own : (more : List Call) × IsToCall n x it.h met.call more
       own = to_call m stamp way answer_of n before after w r none begun under owns plain within opened free jobs origin x dialect shows plays it met.call met.more met.next
 
-      meets : Meets failure_of d jobs origin.used origin.limit n x (fault_of f)
+      meets : Meets as_failed d jobs origin.used origin.limit n x (fault_of f)
       meets = record { at = x; is = inl refl; cause = cause origin w jobs n x x it.h met.call own.0 refl shows own.1 z room f met.by met.faults }
 
       by : (g : StoreFault) → room ≡ Release ⊎ (g ≡ fault.Disk) → Faults w n w s room met.call g z → Rested (fault_of g)
@@ -195,7 +195,7 @@ module _ {Key Told T : Type 0} (m : Meaning Key) (stamp : Stamp) (way : T → Di
       by fault.NotSql may faults = absurd faults
       by (fault.Refused reason) may faults = absurd faults
 
-    closes : (last : End) → (e : End) → FailsAs e why → (e ≡ last → Due why × ((why ≡ drill.OutOfMemory) ⊎ (it.h.answer ≡ failure_of why))) → Closes d m stamp n (place r) last w s w e z → Stops
+    closes : (last : End) → (e : End) → FailsAs e why → (e ≡ last → Due why × ((why ≡ drill.OutOfMemory) ⊎ (it.h.answer ≡ as_failed why))) → Closes d m stamp n (place r) last w s w e z → Stops
     closes last e fails due (inl went) = let both = due went.1 in own_made went.0 both.0 both.1
     closes last e fails due (inr failed) = own_met Release failed.0 (inl refl) failed.1 (fails_by failed.0 e why fails failed.2)
 
@@ -208,7 +208,7 @@ module _ {Key Told T : Type 0} (m : Meaning Key) (stamp : Stamp) (way : T → Di
 
     ends : (f : Option StoreFault) → r.fault ≡ f → (e : End) → FailsAs e why → Ends d m stamp n (place r) f r.refused w s w e z → Stops
     ends None healthy e fails closed = closes (last_end None r.refused) e fails (λ is. (lacks (fails_last r.refused e why fails is), inl (fails_last r.refused e why fails is))) closed
-    ends (Some f) met e fails (inl bare_lock) = closes (end_of f) e fails (λ is. (owed f met (fails_by f e why fails is), inr (answer_is m stamp way answer_of n before after w r none begun under owns plain within opened free jobs origin x dialect shows plays it f met ∙ ap failure_of (sym (fails_by f e why fails is))))) bare_lock.1
+    ends (Some f) met e fails (inl bare_lock) = closes (end_of f) e fails (λ is. (owed f met (fails_by f e why fails is), inr (answer_is m stamp way answer_of n before after w r none begun under owns plain within opened free jobs origin x dialect shows plays it f met ∙ ap as_failed (sym (fails_by f e why fails is))))) bare_lock.1
     ends (Some f) met e fails (inr marked) = absurd (not_marked f met marked.0 marked.1)
 
     -- or, after want of memory in this step, at the call that frees the lock
@@ -221,7 +221,7 @@ module _ {Key Told T : Type 0} (m : Meaning Key) (stamp : Stamp) (way : T → Di
       k = fallen drill.OutOfMemory (closing ∷ []) it.h
 
       abbrev to : Runs
-      to = moved Answer Locked Busy d jobs n at
+      to = moved Came as_locked as_busy d jobs n at
 
       last : last_calls it.h.session ≡ closing ∷ []
       last = last_shut it.h.session false closed (bare_none stamp it.h.session.committed.lock plain bare_lock)
@@ -235,26 +235,26 @@ module _ {Key Told T : Type 0} (m : Meaning Key) (stamp : Stamp) (way : T → Di
       left : IsToCall n at k closing []
       left = left_to_call m stamp way answer_of n before after w r none begun under owns plain within opened free jobs origin x dialect shows plays it drill.OutOfMemory closing []
 
-      falls_so : Falls failure_of d jobs n x to
-      falls_so = falls m stamp way answer_of n before after w r none begun under owns plain within opened free jobs origin x dialect shows plays it drill.OutOfMemory to (inr (ap (λ v. moved Answer Locked Busy d jobs n v) same_at))
+      falls_so : Falls as_failed d jobs n x to
+      falls_so = falls m stamp way answer_of n before after w r none begun under owns plain within opened free jobs origin x dialect shows plays it drill.OutOfMemory to (inr (ap (λ v. moved Came as_locked as_busy d jobs n v) same_at))
 
       left_made : Goes d m stamp n (between NoMore) Over w s z → why ≡ drill.OutOfMemory → Stops
-      left_made goes is = subst (λ k. MovesAs failure_of jobs n before after origin w z x (Err k)) (sym is) ((to, inr (faulted, falls_so), brings_all origin w jobs n x at k closing [] refl shows_at left z goes.after made goes.at.stands), lack_due jobs n before origin x, inl (to, inr (faulted, falls_so), shown, ap is_some told)) where
+      left_made goes is = subst (λ k. MovesAs as_failed jobs n before after origin w z x (Err k)) (sym is) ((to, inr (faulted, falls_so), brings_all origin w jobs n x at k closing [] refl shows_at left z goes.after made goes.at.stands), lack_due jobs n before origin x, inl (to, inr (faulted, falls_so), shown, ap is_some told)) where
         made : goes.after ≡ called d closing s
         made = goes.went.is ∙ ap (λ c. called d c s) (sym (head_is goes.went.next))
 
         shown : Shows origin z to
         shown = shows_last m stamp way answer_of n after origin w z jobs x at k closing [] shows_at left goes.after made goes.at.stands refl (shut_none w.dialect n goes.after z.begun goes.at.stands.begun goes.at.ready)
 
-        told : told_by n to.answers ≡ Some (failure_of drill.OutOfMemory)
+        told : told_by n to.answers ≡ Some (as_failed drill.OutOfMemory)
         told = answers_last m stamp way answer_of n after origin w z jobs x at k closing [] shows_at left goes.after made goes.at.stands refl
 
       left_met : (f : StoreFault) → MeetsFault d m stamp n (between NoMore) w s w Release f z → why ≡ fault_of f → Stops
-      left_met f met is = subst (λ k. MovesAs failure_of jobs n before after origin w z x (Err k)) (sym is) ((to, inr (faulted, falls_so), brings_fault origin w jobs n x at k closing [] refl shows_at left z Release f faults), inr (meets_at (cause origin w jobs n x at k closing [] refl shows_at left z Release f refl faults)), by f faults) where
+      left_met f met is = subst (λ k. MovesAs as_failed jobs n before after origin w z x (Err k)) (sym is) ((to, inr (faulted, falls_so), brings_fault origin w jobs n x at k closing [] refl shows_at left z Release f faults), inr (meets_at (cause origin w jobs n x at k closing [] refl shows_at left z Release f refl faults)), by f faults) where
         faults : Faults w n w s Release closing f z
         faults = subst (λ c. Faults w n w s Release c f z) (sym (head_is met.next)) met.faults
 
-        meets_at : {why : DrillFault} → HasCause failure_of d jobs origin.used origin.limit n at why → Meets failure_of d jobs origin.used origin.limit n x why
+        meets_at : {why : DrillFault} → HasCause as_failed d jobs origin.used origin.limit n at why → Meets as_failed d jobs origin.used origin.limit n x why
         meets_at why_so = record { at = at; is = inr (drill.OutOfMemory, it.h, it.held, rests_begun m stamp way answer_of n before after w r none begun under owns plain within opened free jobs origin x dialect shows plays it, same_at); cause = why_so }
 
         by : (g : StoreFault) → Faults w n w s Release closing g z → Rested (fault_of g)
@@ -273,12 +273,12 @@ module _ {Key Told T : Type 0} (m : Meaning Key) (stamp : Stamp) (way : T → Di
     lack_ends closed e fails (inr marked) = still marked.1 (fails_by fault.OutOfMemory e why fails marked.2)
 
     ends_step : (e : End) → FailsAs e why → EndsStep d m stamp n r w s w e z → Stops
-    ends_step e fails (inl ended) = ends r.fault refl e fails ended
+    ends_step e fails (inl ended) = ends r.fault refl e fails ended.1
     ends_step e fails (inr (inl short)) = lack_ends short.0 e fails short.1
     ends_step e fails (inr (inr broke)) = own_met Ordinary fault.Disk (inr refl) broke.0 (fails_by fault.Disk e why fails broke.1)
 
   -- it ended by a fault, or there was no memory for its answer
-  pub stops_last : (e : End) (why : DrillFault) → FailsAs e why → after.faulted ≡ true → ((f : StoreFault) → r.fault ≡ Some f → before.owes (fault_of f)) → (z.live ≡ true → is_open n z.begun ≡ false) → Steps before.dialect m stamp n r q w (step.Ended e) z → Moves failure_of n before after w (Err why) z
+  pub stops_last : (e : End) (why : DrillFault) → FailsAs e why → after.faulted ≡ true → ((f : StoreFault) → r.fault ≡ Some f → before.owes (fault_of f)) → (z.live ≡ true → is_open n z.begun ≡ false) → Steps before.dialect m stamp n r q w (step.Ended e) z → Moves as_failed n before after w (Err why) z
   stops_last e why fails faulted owed_before shut steps jobs origin x dialect shows plays =
       ends_step jobs origin x dialect shows plays why faulted owed_before shut e fails
       ((subst (λ k. Steps k m stamp n r q w (step.Ended e) z) (sym dialect) steps) w (s jobs origin x dialect shows plays why faulted owed_before shut) (it jobs origin x dialect shows plays why faulted owed_before shut).on.told

@@ -13,9 +13,11 @@ use Rattle.lq_model.specs.declared.fault.StoreFault.{StoreFault}
 use Rattle.lq_model.specs.declared.fault.StoreFault.TheVariants as fault
 use Rattle.lq_playing.proofs.Machines.{Held, IsToCall, Runs, holder_is, moved_adds, next_appended, own_number}
 use Rattle.lq_playing.proofs.Shown.{nothing_more}
-use Rattle.lq_playing.specs.Answers.{failure_of, fault_of}
+use Rattle.lq_playing.specs.Answers.{fault_of}
+use Rattle.lq_playing.specs.Came.{as_busy, as_failed, as_locked}
 use Rattle.lq_playing.specs.Checked.{Work}
 use Rattle.lq_playing.specs.Under.{bare}
+use Rattle.lq_playing.specs.declared.came.Came.{Came}
 use Rattle.lq_run.proofs.Since.{front_of_map}
 use Rattle.lq_run.specs.Crashing.{LeftInCall}
 use Rattle.lq_run.specs.Does.{Breaks, Faults}
@@ -26,32 +28,30 @@ use Rattle.lq_store.specs.Journal.{Entry, end_of, is_full, size_of_all}
 use Rattle.lq_store.specs.State.{State}
 use Rattle.lq_turns.specs.Schedule.{appended, has_begun, moved}
 use Rattle.lq_turns.specs.Session.{Session, called, room_of}
-use Rattle.lq_turns.specs.declared.answer.Answer.{Answer}
-use Rattle.lq_turns.specs.declared.answer.Answer.TheVariants.{Busy, Locked}
 use Rattle.lq_turns.specs.declared.call.Call.{Call}
 use Rattle.lq_turns.specs.declared.deed.Deed.{Deed}
 
 -- the holder that gave up, and its machine
 
 abbrev pub fallen : DrillFault → List Call → Held → Held
-fallen why calls h = record h { rest = calls; answer = failure_of why }
+fallen why calls h = record h { rest = calls; answer = as_failed why }
 
 abbrev pub given_with : DrillFault → List Call → Held → Runs → Runs
 given_with why calls h x = record x { holder = Some (fallen why calls h) }
 
 abbrev pub given : DrillFault → Held → Runs → Runs
-given why h x = gives_up failure_of why h x
+given why h x = gives_up as_failed why h x
 
 -- where calls are left to it
 pub given_is : (why : DrillFault) (h : Held) (x : Runs) (call : Call) (calls : List Call) → last_calls h.session ≡ call ∷ calls → given_with why (call ∷ calls) h x ≡ given why h x
-given_is why h x call calls next = sym (ap (λ c. left_with failure_of c why h x) next)
+given_is why h x call calls next = sym (ap (λ c. left_with as_failed c why h x) next)
 
 -- it is still the holder
 pub fallen_held : (n : ℕ) (o : Option Held) (h : Held) (why : DrillFault) (calls : List Call) → held_by n o ≡ Some h → held_by n (Some (fallen why calls h)) ≡ Some (fallen why calls h)
 fallen_held n o h why calls held = ap (λ b. if b then Some (fallen why calls h) else None) (ap (λ j. nat_eq j n) (holder_is n o h held).1 ∙ own_number n)
 
 -- and makes the first of the calls that are left to it
-pub given_calls : (n : ℕ) (x : Runs) (h : Held) (why : DrillFault) (call : Call) (calls : List Call) → answer_of n x.answers ≡ None → has_begun Answer Locked Busy n x ≡ true → held_by n x.holder ≡ Some h
+pub given_calls : (n : ℕ) (x : Runs) (h : Held) (why : DrillFault) (call : Call) (calls : List Call) → answer_of n x.answers ≡ None → has_begun Came as_locked as_busy n x ≡ true → held_by n x.holder ≡ Some h
     → IsToCall n (given_with why (call ∷ calls) h x) (fallen why (call ∷ calls) h) call calls
 given_calls n x h why call calls unanswered begun held = record { unanswered = unanswered; begun = begun; held = fallen_held n x.holder h why (call ∷ calls) held; next = refl }
 
@@ -62,7 +62,7 @@ given_shows origin w n x h why calls held shows =
     record { dialect = shows.dialect; limit = shows.limit; live = shows.live; committed = shows.committed; begun = holders; entries = shows.entries; used = shows.used; room = shows.room }
 
 -- a step that brought nothing
-pub brings_none : (d : Dialect) (jobs : ℕ → Work) (n : ℕ) (x : Runs) (w z : State) → z ≡ w → Brings d x (moved Answer Locked Busy d jobs n x) w z
+pub brings_none : (d : Dialect) (jobs : ℕ → Work) (n : ℕ) (x : Runs) (w z : State) → z ≡ w → Brings d x (moved Came as_locked as_busy d jobs n x) w z
 brings_none d jobs n x w z same =
     let added = moved_adds d jobs n x in
     record { front = []; more = added.more; came = added.is; entries = ap (λ (v : State). v.entries) same ∙ nothing_more w.entries }
@@ -73,7 +73,7 @@ module _ (origin w : State) (jobs : ℕ → Work) (n : ℕ) (first x : Runs) (h 
   d = origin.dialect
 
   abbrev to : Runs
-  to = moved Answer Locked Busy d jobs n x
+  to = moved Came as_locked as_busy d jobs n x
 
   came : to.entries ≡ first.entries ++ appended d call h.session
   came = next_appended d jobs n x h call calls it ∙ ap (λ (l : List (List Deed)). l ++ appended d call h.session) same
@@ -113,7 +113,7 @@ module _ (origin w : State) (jobs : ℕ → Work) (n : ℕ) (first x : Runs) (h 
 
   -- which has its cause in the machine
 
-  pub no_room : (room : Room) (used next : ℕ) → room_of call ≡ room → NoRoom w.dialect room call (bare h.session) w used next → (it : HasNoRoom failure_of d jobs origin.used origin.limit n x used next) × (it.call ≡ call)
+  pub no_room : (room : Room) (used next : ℕ) → room_of call ≡ room → NoRoom w.dialect room call (bare h.session) w used next → (it : HasNoRoom as_failed d jobs origin.used origin.limit n x used next) × (it.call ≡ call)
   no_room room used next in_room met =
       let none : NoRoom d room call (bare h.session) w used next = subst (λ k. NoRoom k room call (bare h.session) w used next) shows.dialect met in
       let written_is : none.written ≡ entries_of d (appended d call h.session) = none.appends.texts ∙ ap (λ (l : List (List Deed)). entries_of d l) (sym none.appends.entries) in (
@@ -131,7 +131,7 @@ module _ (origin w : State) (jobs : ℕ → Work) (n : ℕ) (first x : Runs) (h 
         refl,
       )
 
-  pub cause : (z : State) (room : Room) (why : StoreFault) → room_of call ≡ room → Faults w n w (bare h.session) room call why z → HasCause failure_of d jobs origin.used origin.limit n x (fault_of why)
+  pub cause : (z : State) (room : Room) (why : StoreFault) → room_of call ≡ room → Faults w n w (bare h.session) room call why z → HasCause as_failed d jobs origin.used origin.limit n x (fault_of why)
   cause z room fault.Disk in_room faults = tt
   cause z room (fault.Full used next) in_room faults = (no_room room used next in_room faults.0).0
   cause z room fault.OutOfMemory in_room faults = tt

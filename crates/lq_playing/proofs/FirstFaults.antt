@@ -22,9 +22,12 @@ use Rattle.lq_playing.proofs.Falling.{brings_none}
 use Rattle.lq_playing.proofs.Machines.{Runs, first_calls, is_first, makes_its_first}
 use Rattle.lq_playing.proofs.Shown.{stands_first}
 use Rattle.lq_playing.proofs.Told.{none_begun}
-use Rattle.lq_playing.specs.Answers.{failure_of, fault_of}
+use Rattle.lq_playing.specs.Answers.{fault_of}
+use Rattle.lq_playing.specs.Came.{as_busy, as_failed, as_locked}
 use Rattle.lq_playing.specs.Checked.{IsLetIn, MakesOne, MakesTurns, Work}
 use Rattle.lq_playing.specs.Judged.{CallsOnce, MayCall, OnIts}
+use Rattle.lq_playing.specs.declared.came.Came.{Came}
+use Rattle.lq_playing.specs.declared.came.Report.{Report}
 use Rattle.lq_playing.specs.declared.checks.OneCall.{OneCall}
 use Rattle.lq_run.proofs.Since.{front_of_map}
 use Rattle.lq_run.specs.Commands.{both_on}
@@ -44,8 +47,6 @@ use Rattle.lq_turns.specs.Schedule.{after_call, appended, moved}
 use Rattle.lq_turns.specs.Script.{opening}
 use Rattle.lq_turns.specs.Session.{Session, called, room_of, session_on}
 use Rattle.lq_turns.specs.Set.{Meaning}
-use Rattle.lq_turns.specs.declared.answer.Answer.{Answer}
-use Rattle.lq_turns.specs.declared.answer.Answer.TheVariants.{Busy, Locked}
 use Rattle.lq_turns.specs.declared.call.Call.{Call}
 use Rattle.lq_turns.specs.declared.call.Call.TheVariants.{Alone}
 use Rattle.lq_turns.specs.declared.deed.Deed.{Deed}
@@ -63,11 +64,11 @@ all_taken d [] database = (database, refl)
 all_taken d (w ∷ ws) database = all_taken d ws (with_contents (lock_after w database) (contents_of database))
 
 -- how a call's runner stands then is no matter to the entries
-entries_after : (n : ℕ) (s : Session) (calls : List Call) (a : Answer) (y : Runs) → (after_call Answer Locked Busy n s calls a y).entries ≡ y.entries
+entries_after : (n : ℕ) (s : Session) (calls : List Call) (a : Came) (y : Runs) → (after_call Came as_locked as_busy n s calls a y).entries ≡ y.entries
 entries_after n s [] a y = refl
 entries_after n s (call ∷ calls) a y = refl
 
-module _ (n : ℕ) (before after : Standing Answer Locked Busy) (w : State) (none : before.answer ≡ None) (fresh : before.begun ≡ false) (shut : is_open n w.begun ≡ false) where
+module _ (n : ℕ) (before after : Standing Came as_locked as_busy) (w : State) (none : before.answer ≡ None) (fresh : before.begun ≡ false) (shut : is_open n w.begun ≡ false) where
   module _ (jobs : ℕ → Work) (origin : State) (x : Runs) (shows : Shows origin w x) (plays : Plays jobs n before x) where
     abbrev d : Dialect
     d = origin.dialect
@@ -76,7 +77,7 @@ module _ (n : ℕ) (before after : Standing Answer Locked Busy) (w : State) (non
     first = session_on x.committed
 
     abbrev to : Runs
-    to = moved Answer Locked Busy d jobs n x
+    to = moved Came as_locked as_busy d jobs n x
 
     module _ (call : Call) (calls : List Call) (may : MayCall n w before.job x.committed) (passes : (jobs n).refuses x.committed ≡ None) (script_is : (jobs n).script x.committed ≡ call ∷ calls) where
       -- the machine's runner makes the call
@@ -84,7 +85,7 @@ module _ (n : ℕ) (before after : Standing Answer Locked Busy) (w : State) (non
       first_came =
           let y : Runs = record x { entries = x.entries ++ appended d call first } in
           let let_in : IsLetIn (jobs n) x.committed = subst (λ j. IsLetIn j x.committed) (sym (plays.waits none fresh)) may.1 in
-          let same : to ≡ after_call Answer Locked Busy n (called d call first) calls ((jobs n).answer x.committed) y
+          let same : to ≡ after_call Came as_locked as_busy n (called d call first) calls ((jobs n).answer x.committed) y
           = is_first d jobs n x (plays.answer ∙ none) (plays.begun none ∙ fresh) ∙ first_calls d jobs n x w.begun shut shows.begun call calls ((jobs n).answer x.committed) let_in may.0 passes script_is refl in
           ap (λ (z : Runs). z.entries) same ∙ entries_after n (called d call first) calls ((jobs n).answer x.committed) y
 
@@ -101,14 +102,14 @@ module _ (n : ℕ) (before after : Standing Answer Locked Busy) (w : State) (non
             }
 
         -- it does not go in
-        no_room : (used next : ℕ) → NoRoom d (room_of call) call first w used next → Meets failure_of d jobs origin.used origin.limit n x (drill.Full used next)
+        no_room : (used next : ℕ) → NoRoom d (room_of call) call first w used next → Meets as_failed d jobs origin.used origin.limit n x (drill.Full used next)
         no_room used next it =
             let let_in : IsLetIn (jobs n) x.committed = subst (λ j. IsLetIn j x.committed) (sym (plays.waits none fresh)) may.1 in
             let written_is : it.written ≡ entries_of d (appended d call first) = it.appends.texts ∙ ap (entries_of d) (sym it.appends.entries) in
             let full : is_full (end_of (room_of call) origin.limit) used (entries_of d (appended d call first)) ≡ true
             = ap (λ (l : List Entry). is_full (end_of (room_of call) origin.limit) used l) (sym written_is) ∙ ap (λ u. is_full (end_of (room_of call) origin.limit) u it.written) it.full.1.0
             ∙ ap (λ l. is_full (end_of (room_of call) l) w.used it.written) (sym shows.limit) ∙ it.full.0 in
-            let cause : HasNoRoom failure_of d jobs origin.used origin.limit n x used next = record {
+            let cause : HasNoRoom as_failed d jobs origin.used origin.limit n x used next = record {
               call = call;
               session = first;
               is_next = inr (calls, makes_its_first d jobs n x w.begun shut shows.begun call calls let_in may.0 passes script_is (plays.answer ∙ none) (plays.begun none ∙ fresh), script_is, refl);
@@ -122,9 +123,9 @@ module _ (n : ℕ) (before after : Standing Answer Locked Busy) (w : State) (non
       abbrev call : Call
       call = Alone deeds room
 
-      stops_by : (why : StoreFault) → DoesAlone w n w first deeds room (Err why) z → MovesAs failure_of jobs n before after origin w z x (Err (fault_of why))
+      stops_by : (why : StoreFault) → DoesAlone w n w first deeds room (Err why) z → MovesAs as_failed jobs n before after origin w z x (Err (fault_of why))
       stops_by fault.Disk broke =
-          let meets : Meets failure_of d jobs origin.used origin.limit n x drill.Disk = record { at = x; is = inl refl; cause = tt } in
+          let meets : Meets as_failed d jobs origin.used origin.limit n x drill.Disk = record { at = x; is = inl refl; cause = tt } in
           ((to, inl refl, leaves_front call calls may passes script_is z (subst (λ k. Breaks k call first w z) shows.dialect broke)), inr meets, tt)
       stops_by (fault.Full used next) full =
           let meets = no_room call calls may passes script_is z used next (subst (λ k. NoRoom k room call first w used next) shows.dialect full.0) in
@@ -136,23 +137,23 @@ module _ (n : ℕ) (before after : Standing Answer Locked Busy) (w : State) (non
 
   module _ (z : State) (why : DrillFault) where
     -- a command of one call
-    pub stops_once : (call : OneCall) → OnIts before.dialect w (λ database. MayCall n w before.job database × MakesOne before.dialect before.job call database) → CallsOnce before.dialect n call w (Err why) z → Moves failure_of n before after w (Err why) z
-    stops_once call may calls jobs origin x dialect shows plays =
+    pub stops_once : (report : Report) (call : OneCall) → OnIts before.dialect w (λ database. MayCall n w before.job database × MakesOne before.dialect before.job report call database) → CallsOnce before.dialect n call w (Err why) z → Moves as_failed n before after w (Err why) z
+    stops_once report call may calls jobs origin x dialect shows plays =
         let both = may (shows.dialect ∙ dialect) x.committed (subst (λ k. StandsFor k w.committed x.committed) dialect shows.committed) in
-        let one : MakesOne before.dialect (jobs n) call x.committed = subst (λ j. MakesOne before.dialect j call x.committed) (sym (plays.waits none fresh)) both.1 in
-        subst (λ (f : DrillFault). MovesAs failure_of jobs n before after origin w z x (Err f)) calls.1
+        let one : MakesOne before.dialect (jobs n) report call x.committed = subst (λ j. MakesOne before.dialect j report call x.committed) (sym (plays.waits none fresh)) both.1 in
+        subst (λ (f : DrillFault). MovesAs as_failed jobs n before after origin w z x (Err f)) calls.1
         (stops_by jobs origin x shows plays call.deeds call.room [] both.0 one.passes one.script_is (one.accepted.0, subst (λ k. all_done k call.deeds x.committed ≡ Ok one.accepted.0) (sym (shows.dialect ∙ dialect)) one.accepted.1) z calls.0
         (calls.2 w (session_on x.committed) (shows.dialect ∙ dialect) (stands_first origin w x shows n (none_begun n w.begun shut both.0.0)) one.fits))
 
     -- one that takes the lock
-    pub stops_begun : {Key Told T : Type 0} (m : Meaning Key) (stamp : Stamp) (way : T → Dialect → Stamp → Told → Way) (ends : T → Option Refusal → Answer) (turns : Turns Key) (source : T) (hand : Hand)
+    pub stops_begun : {Key Told T : Type 0} (m : Meaning Key) (stamp : Stamp) (way : T → Dialect → Stamp → Told → Way) (ends : T → Option Refusal → Came) (turns : Turns Key) (source : T) (hand : Hand)
         → OnIts before.dialect w (λ database. MayCall n w before.job database × MakesTurns before.dialect m stamp way ends before.job turns source hand database)
-        → ((met : StoreFault) × (fault_of met ≡ why) × TakesLock before.dialect stamp n w (Err met) z) → Moves failure_of n before after w (Err why) z
+        → ((met : StoreFault) × (fault_of met ≡ why) × TakesLock before.dialect stamp n w (Err met) z) → Moves as_failed n before after w (Err why) z
     stops_begun m stamp way ends turns source hand may takes jobs origin x dialect shows plays =
         let both = may (shows.dialect ∙ dialect) x.committed (subst (λ k. StandsFor k w.committed x.committed) dialect shows.committed) in
         let makes : MakesTurns origin.dialect m stamp way ends (jobs n) turns source hand x.committed
         = subst (λ k. MakesTurns k m stamp way ends (jobs n) turns source hand x.committed) (sym dialect)
         (subst (λ j. MakesTurns before.dialect m stamp way ends j turns source hand x.committed) (sym (plays.waits none fresh)) both.1) in
-        subst (λ (f : DrillFault). MovesAs failure_of jobs n before after origin w z x (Err f)) takes.1
+        subst (λ (f : DrillFault). MovesAs as_failed jobs n before after origin w z x (Err f)) takes.1
         (stops_by jobs origin x shows plays (map Locks (opening stamp x.committed)) Ordinary (rest origin.dialect m stamp (place_of hand turns) (both_on x.committed)) both.0 makes.passes makes.script_is (all_taken w.dialect (opening stamp x.committed) x.committed) z takes.0
         (takes.2 w (session_on x.committed) (shows.dialect ∙ dialect) (stands_first origin w x shows n (none_begun n w.begun shut both.0.0))))

@@ -16,10 +16,12 @@ use Rattle.lq_playing.proofs.Erased.{fit_bare}
 use Rattle.lq_playing.proofs.Machines.{Held, Runs, first_calls, first_told, held_after, is_first, own_number}
 use Rattle.lq_playing.proofs.Shown.{arrives_last, arrives_told, holds_now, none_open, shows_now, stands_first}
 use Rattle.lq_playing.proofs.Told.{none_begun}
-use Rattle.lq_playing.specs.Answers.{failure_of}
+use Rattle.lq_playing.specs.Came.{as_busy, as_failed, as_locked, came}
 use Rattle.lq_playing.specs.Checked.{IsLetIn, MakesOne, MakesTurns, Work}
 use Rattle.lq_playing.specs.Judged.{AnswersFirst, MayCall}
 use Rattle.lq_playing.specs.Under.{IsUnder, ToCome, WillAnswer}
+use Rattle.lq_playing.specs.declared.came.Came.{Came}
+use Rattle.lq_playing.specs.declared.came.Report.{Report}
 use Rattle.lq_playing.specs.declared.checks.OneCall.{OneCall}
 use Rattle.lq_run.proofs.Begins.{first_session, new_keeps, opened}
 use Rattle.lq_run.proofs.Ending.{some_last}
@@ -40,8 +42,6 @@ use Rattle.lq_turns.specs.Script.{opening}
 use Rattle.lq_turns.specs.Session.{Session, called, session_on}
 use Rattle.lq_turns.specs.Set.{Meaning}
 use Rattle.lq_turns.specs.Stepped.{both_of}
-use Rattle.lq_turns.specs.declared.answer.Answer.{Answer}
-use Rattle.lq_turns.specs.declared.answer.Answer.TheVariants.{Busy, Locked}
 use Rattle.lq_turns.specs.declared.call.Call.{Call}
 use Rattle.lq_turns.specs.declared.call.Call.TheVariants.{Alone}
 use Rattle.lq_turns.specs.declared.deed.Deed.TheVariants.{Locks}
@@ -51,50 +51,50 @@ use Rattle.lq_turns.specs.declared.stop.Refusal.{Refusal}
 not_true : false ≡ true → ⊥
 not_true h = Prim.cc
 
-module _ (n : ℕ) (before after : Standing Answer Locked Busy) (w : State) (none : before.answer ≡ None) (fresh : before.begun ≡ false) (shut : is_open n w.begun ≡ false) where
+module _ (n : ℕ) (before after : Standing Came as_locked as_busy) (w : State) (none : before.answer ≡ None) (fresh : before.begun ≡ false) (shut : is_open n w.begun ≡ false) where
   abbrev d : Dialect
   d = before.dialect
 
   -- an answer without a call
-  pub moves_told : (a : Answer) → after.answer ≡ Some a → ((why : DrillFault) → after.owes why → before.owes why)
-      → (w.dialect ≡ d → (database : Database) → StandsFor d w.committed database → AnswersFirst (before.job.needs_lock && database.lock.locked) (other n w) before.job a database) → Moves failure_of n before after w (Ok tt) w
+  pub moves_told : (a : Came) → after.answer ≡ Some a → ((why : DrillFault) → after.owes why → before.owes why)
+      → (w.dialect ≡ d → (database : Database) → StandsFor d w.committed database → AnswersFirst (before.job.needs_lock && database.lock.locked) (other n w) before.job a database) → Moves as_failed n before after w (Ok tt) w
   moves_told a its owes answers jobs origin x dialect shows plays =
       let told = subst (λ j. AnswersFirst (j.needs_lock && x.committed.lock.locked) (other n w) j a x.committed) (sym (plays.waits none fresh))
       (answers (shows.dialect ∙ dialect) x.committed (subst (λ k. StandsFor k w.committed x.committed) dialect shows.committed)) in
-      let same : moved Answer Locked Busy origin.dialect jobs n x ≡ answers_with Answer Locked Busy n a x
+      let same : moved Came as_locked as_busy origin.dialect jobs n x ≡ answers_with Came as_locked as_busy n a x
       = is_first origin.dialect jobs n x (plays.answer ∙ none) (plays.begun none ∙ fresh) ∙ first_told origin.dialect jobs n x w.begun shut shows.begun a told in
-      ((moved Answer Locked Busy origin.dialect jobs n x, inl refl, subst (λ y. Arrives jobs n after origin w x y) (sym same) (arrives_told jobs n after origin w a its x shows)), λ why owed. inl (owes why owed))
+      ((moved Came as_locked as_busy origin.dialect jobs n x, inl refl, subst (λ y. Arrives jobs n after origin w x y) (sym same) (arrives_told jobs n after origin w a its x shows)), λ why owed. inl (owes why owed))
 
   module _ (z : State) where
     -- a command of one call
-    pub moves_once : (call : OneCall) → after.answer ≡ Some call.answer → ((why : DrillFault) → after.owes why → before.owes why) → (z.live ≡ true → is_open n z.begun ≡ false)
-        → (w.dialect ≡ d → (database : Database) → StandsFor d w.committed database → MayCall n w before.job database × MakesOne d before.job call database)
+    pub moves_once : (report : Report) (call : OneCall) → after.answer ≡ Some (came report call.answer) → ((why : DrillFault) → after.owes why → before.owes why) → (z.live ≡ true → is_open n z.begun ≡ false)
+        → (w.dialect ≡ d → (database : Database) → StandsFor d w.committed database → MayCall n w before.job database × MakesOne d before.job report call database)
         → ((start : State) (s : Session) → start.dialect ≡ d → Stands start n w s → all_fit d call.deeds s.seen ≡ true → Stands start n z (called d (Alone call.deeds call.room) s))
-        → Moves failure_of n before after w (Ok tt) z
-    moves_once call its owes shuts may does jobs origin x dialect shows plays =
+        → Moves as_failed n before after w (Ok tt) z
+    moves_once report call its owes shuts may does jobs origin x dialect shows plays =
         let e = origin.dialect in
         let first = session_on x.committed in
         let made : Call = Alone call.deeds call.room in
         let both = may (shows.dialect ∙ dialect) x.committed (subst (λ k. StandsFor k w.committed x.committed) dialect shows.committed) in
-        let one : MakesOne e (jobs n) call x.committed = subst (λ k. MakesOne k (jobs n) call x.committed) (sym dialect) (subst (λ j. MakesOne d j call x.committed) (sym (plays.waits none fresh)) both.1) in
+        let one : MakesOne e (jobs n) report call x.committed = subst (λ k. MakesOne k (jobs n) report call x.committed) (sym dialect) (subst (λ j. MakesOne d j report call x.committed) (sym (plays.waits none fresh)) both.1) in
         let let_in : IsLetIn (jobs n) x.committed = subst (λ j. IsLetIn j x.committed) (sym (plays.waits none fresh)) both.0.1 in
         let stands : Stands w n z (called e made first) = subst (λ k. Stands w n z (called k made first)) (sym dialect)
         (does w first (shows.dialect ∙ dialect) (stands_first origin w x shows n (none_begun n w.begun shut both.0.0)) both.1.fits) in
         let y : Runs = record x { committed = (called e made first).committed; holder = None; begun = n ∷ x.begun; entries = x.entries ++ appended e made first } in
-        let same : moved Answer Locked Busy e jobs n x ≡ answers_with Answer Locked Busy n call.answer y
-        = is_first e jobs n x (plays.answer ∙ none) (plays.begun none ∙ fresh) ∙ first_calls e jobs n x w.begun shut shows.begun made [] call.answer let_in both.0.0 one.passes one.script_is one.answer_is in
-        let arrives : Arrives jobs n after origin z x (moved Answer Locked Busy e jobs n x)
+        let same : moved Came as_locked as_busy e jobs n x ≡ answers_with Came as_locked as_busy n (came report call.answer) y
+        = is_first e jobs n x (plays.answer ∙ none) (plays.begun none ∙ fresh) ∙ first_calls e jobs n x w.begun shut shows.begun made [] (came report call.answer) let_in both.0.0 one.passes one.script_is one.answer_is in
+        let arrives : Arrives jobs n after origin z x (moved Came as_locked as_busy e jobs n x)
         = subst (λ v. Arrives jobs n after origin z x v) (sym same)
-        (arrives_last jobs n after origin z call.answer its x y
+        (arrives_last jobs n after origin z (came report call.answer) its x y
         (shows_now origin w x shows n z (called e made first) y stands refl refl (none_open w.dialect n (called e made first) z.begun stands.begun (shuts stands.live))) one.free) in
-        ((moved Answer Locked Busy e jobs n x, inl refl, arrives), λ why owed. inl (owes why owed))
+        ((moved Came as_locked as_busy e jobs n x, inl refl, arrives), λ why owed. inl (owes why owed))
 
 -- a command that takes the lock
 
 at_new : {Key Told : Type 0} (r : Command Key Told) → r.fault ≡ None → r.refused ≡ None → place r ≡ place_of r.hand r.turns
 at_new r healthy going = ap (λ g. place_of r.hand (if_goes_on (enters_turns g r.refused) r.turns)) healthy ∙ ap (λ g. place_of r.hand (if_goes_on (enters_turns None g) r.turns)) going
 
-module _ {Key Told T : Type 0} (m : Meaning Key) (stamp : Stamp) (way : T → Dialect → Stamp → Told → Way) (ends : T → Option Refusal → Answer) (source : T) (n : ℕ) (w z : State) (r : Command Key Told) (origin : State) (x : Runs) (shows : Shows origin w x) where
+module _ {Key Told T : Type 0} (m : Meaning Key) (stamp : Stamp) (way : T → Dialect → Stamp → Told → Way) (ends : T → Option Refusal → Came) (source : T) (n : ℕ) (w z : State) (r : Command Key Told) (origin : State) (x : Runs) (shows : Shows origin w x) where
   abbrev e : Dialect
   e = origin.dialect
 
@@ -155,12 +155,12 @@ module _ {Key Told T : Type 0} (m : Meaning Key) (stamp : Stamp) (way : T → Di
         let stands = running.there.at.stands in
         shows_now origin w x shows n z first next stands refl refl (refl, holds_now origin w x shows n z first first first.entries stands refl)
 
-module _ {Key Told T : Type 0} (m : Meaning Key) (stamp : Stamp) (way : T → Dialect → Stamp → Told → Way) (ends : T → Option Refusal → Answer) (source : T) (n : ℕ) (before after : Standing Answer Locked Busy) (w z : State) (r : Command Key Told)
+module _ {Key Told T : Type 0} (m : Meaning Key) (stamp : Stamp) (way : T → Dialect → Stamp → Told → Way) (ends : T → Option Refusal → Came) (source : T) (n : ℕ) (before after : Standing Came as_locked as_busy) (w z : State) (r : Command Key Told)
     (none : before.answer ≡ None) (fresh : before.begun ≡ false) (shut : is_open n w.begun ≡ false) where
   pub moves_begun : after.answer ≡ None → after.begun ≡ true → ((h : Held) → IsUnder before.dialect m stamp r way ends h → after.is_at h) → ((lock : Lock) → IsHeld stamp lock → after.owns lock) → ((why : DrillFault) → after.owes why → before.owes why)
       → IsNew before.dialect m stamp r → r.progress ≡ no_progress → r.way ≡ way source
       → (w.dialect ≡ before.dialect → (database : Database) → StandsFor before.dialect w.committed database → MayCall n w before.job database × MakesTurns before.dialect m stamp way ends before.job r.turns source r.hand database)
-      → TakesLock before.dialect stamp n w (Ok tt) z → Moves failure_of n before after w (Ok tt) z
+      → TakesLock before.dialect stamp n w (Ok tt) z → Moves as_failed n before after w (Ok tt) z
   moves_begun unanswered began under owns owes new started from may takes jobs origin x dialect shows plays =
       let e = origin.dialect in
       let both = may (shows.dialect ∙ dialect) x.committed (subst (λ k. StandsFor k w.committed x.committed) dialect shows.committed) in
@@ -175,7 +175,7 @@ module _ {Key Told T : Type 0} (m : Meaning Key) (stamp : Stamp) (way : T → Di
       let y : Runs = next m stamp way ends source n w z r origin x shows shut_all new_e started (jobs n) from makes takes_e in
       let made : Call = Alone (map Locks (opening stamp x.committed)) Ordinary in
       let it = running m stamp way ends source n w z r origin x shows shut_all new_e started (jobs n) from makes takes_e in
-      let same : moved Answer Locked Busy e jobs n x ≡ y
+      let same : moved Came as_locked as_busy e jobs n x ≡ y
       = is_first e jobs n x (plays.answer ∙ none) (plays.begun none ∙ fresh)
       ∙ first_calls e jobs n x w.begun shut shows.begun made held.rest held.answer let_in both.0.0 makes.passes (script_is m stamp way ends source n w z r origin x shows shut_all new_e started (jobs n) from makes takes_e) refl
       ∙ held_after n held.session held.rest held.answer (record x { entries = x.entries ++ appended e made (session_on x.committed) }) (some_to_come m stamp way ends source n w z r origin x shows shut_all new_e started (jobs n) from makes takes_e) in
@@ -190,4 +190,4 @@ module _ {Key Told T : Type 0} (m : Meaning Key) (stamp : Stamp) (way : T → Di
         };
         lock = inr (inr (owns held.session.committed.lock it.committed));
       } in
-      ((moved Answer Locked Busy e jobs n x, inl refl, subst (λ v. Arrives jobs n after origin z x v) (sym same) arrives), λ why owed. inl (owes why owed))
+      ((moved Came as_locked as_busy e jobs n x, inl refl, subst (λ v. Arrives jobs n after origin z x v) (sym same) arrives), λ why owed. inl (owes why owed))

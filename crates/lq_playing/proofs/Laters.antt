@@ -19,15 +19,19 @@ use Rattle.lq_model.specs.declared.fault.StoreFault.TheVariants as fault
 use Rattle.lq_playing.proofs.Erased.{call_with, fit_bare, with_entries}
 use Rattle.lq_playing.proofs.Falling.{brings_all, cause, fallen, fallen_held, given, given_calls, given_is, given_shows, given_with}
 use Rattle.lq_playing.proofs.Machines.{Held, IsToCall, Runs, held_after, holder_is, is_later, later_lost, next_called, not_open, not_other, own_number, some_is}
-use Rattle.lq_playing.proofs.Marks.{bare_none, last_open, last_shut, marked_some, next_left}
+use Rattle.lq_playing.proofs.Marks.{bare_none, last_open, last_shut, next_left}
 use Rattle.lq_playing.proofs.Shown.{arrives_last, arrives_told, holds_now, none_open, shows_now, shut_begun, shut_none, stands_for}
-use Rattle.lq_playing.specs.Answers.{failure_of, fault_of, is_failed_end, is_told_end, refusal_in, tells_locked}
+use Rattle.lq_playing.specs.Answers.{fault_of, is_failed_end, is_told_end, refusal_in, tells_locked}
+use Rattle.lq_playing.specs.Came.{as_busy, as_failed, as_locked, came}
 use Rattle.lq_playing.specs.Checked.{Work}
 use Rattle.lq_playing.specs.Hindered.{IsFree, IsHindered}
 use Rattle.lq_playing.specs.Playing.{is_locked}
 use Rattle.lq_playing.specs.Under.{IsOn, IsPlain, IsUnder, ToCome, WillAnswer, bare}
+use Rattle.lq_playing.specs.declared.came.Came.{Came}
+use Rattle.lq_playing.specs.declared.came.Report.{Report}
 use Rattle.lq_run.proofs.Ending.{keeps_split, left_after, only_last}
 use Rattle.lq_run.proofs.Keeping.{call_holds}
+use Rattle.lq_run.proofs.Resting.{marked_some}
 use Rattle.lq_run.specs.Does.{Faults}
 use Rattle.lq_run.specs.Ends.{disk_failed}
 use Rattle.lq_run.specs.Faults.{StopsAs}
@@ -53,7 +57,7 @@ use Rattle.lq_turns.specs.Session.{Session, called}
 use Rattle.lq_turns.specs.Set.{Meaning}
 use Rattle.lq_turns.specs.Stepped.{both_of}
 use Rattle.lq_turns.specs.declared.answer.Answer.{Answer}
-use Rattle.lq_turns.specs.declared.answer.Answer.TheVariants.{Busy, Locked}
+use Rattle.lq_turns.specs.declared.answer.Answer.TheVariants.{Locked}
 use Rattle.lq_turns.specs.declared.call.Call.{Call}
 use Rattle.lq_turns.specs.declared.call.Call.TheVariants.{Abort}
 use Rattle.lq_turns.specs.declared.deed.Deed.{Deed}
@@ -109,7 +113,7 @@ module _ {Key Told : Type 0} (d : Dialect) (m : Meaning Key) (stamp : Stamp) (n 
     pub ends : e ≡ last_end None r.refused
 
   last_made : EndsStep d m stamp n r start s x e y → IsLast
-  last_made (inl ends) = by r.fault refl ends where
+  last_made (inl ends) = by r.fault refl ends.1 where
     by : (f : Option StoreFault) → r.fault ≡ f → Ends d m stamp n (place r) f r.refused start s x e y → IsLast
     by None healthy (inl went) = record { healthy = healthy; goes = went.0; ends = went.1 }
     by None healthy (inr failed) = absurd (not_failed failed.0 e whole failed.2)
@@ -158,7 +162,7 @@ unchanged start x z n s room call fault.NotSql other faults = absurd faults
 unchanged start x z n s room call (fault.Refused reason) other faults = absurd faults
 
 -- after a call of the holder
-module _ {Key Told T : Type 0} (m : Meaning Key) (stamp : Stamp) (way : T → Dialect → Stamp → Told → Way) (ends : T → Option Refusal → Answer) (n : ℕ) (after : Standing Answer Locked Busy) (origin w z : State) (jobs : ℕ → Work) (first x : Runs) (h : Held) (call : Call) (calls : List Call) (shows : Shows origin w x) (it : IsToCall n x h call calls) (now : Session) (made : now ≡ called origin.dialect call (bare h.session)) (stands_now : Stands w n z now) where
+module _ {Key Told T : Type 0} (m : Meaning Key) (stamp : Stamp) (way : T → Dialect → Stamp → Told → Way) (ends : T → Option Refusal → Came) (n : ℕ) (after : Standing Came as_locked as_busy) (origin w z : State) (jobs : ℕ → Work) (first x : Runs) (h : Held) (call : Call) (calls : List Call) (shows : Shows origin w x) (it : IsToCall n x h call calls) (now : Session) (made : now ≡ called origin.dialect call (bare h.session)) (stands_now : Stands w n z now) where
   abbrev t : Session
   t = called origin.dialect call h.session
 
@@ -176,11 +180,11 @@ module _ {Key Told T : Type 0} (m : Meaning Key) (stamp : Stamp) (way : T → Di
 
   -- another is to come
   called_on : (q : Command Key Told) (told : Told) → after.answer ≡ None → after.begun ≡ true → ((k : Held) → IsUnder origin.dialect m stamp q way ends k → after.is_at k) → ((lock : Lock) → IsHeld stamp lock → after.owns lock)
-      → calls ≢ [] → ToCome stamp q.fault now (rest origin.dialect m stamp (place q) (both_of now)) calls → IsOn origin.dialect m stamp q told now → WillAnswer origin.dialect m stamp q way ends told q.fault h.answer → Arrives jobs n after origin z first (moved Answer Locked Busy origin.dialect jobs n x)
+      → calls ≢ [] → ToCome stamp q.fault now (rest origin.dialect m stamp (place q) (both_of now)) calls → IsOn origin.dialect m stamp q told now → WillAnswer origin.dialect m stamp q way ends told q.fault h.answer → Arrives jobs n after origin z first (moved Came as_locked as_busy origin.dialect jobs n x)
   called_on q told unanswered began places keeps some rest_of on answers =
       let on_it : IsOn origin.dialect m stamp q told t = forgets origin.dialect m stamp q told t es (subst (λ v. IsOn origin.dialect m stamp q told v) as_made on) in
       let k : Held = record { runner = n; session = t; rest = calls; answer = h.answer } in
-      let same : moved Answer Locked Busy origin.dialect jobs n x ≡ left (Some k)
+      let same : moved Came as_locked as_busy origin.dialect jobs n x ≡ left (Some k)
       = next_called origin.dialect jobs n x h call calls it ∙ held_after n t calls h.answer (record x { entries = x.entries ++ appended origin.dialect call h.session }) some in
       subst (λ v. Arrives jobs n after origin z first v) (sym same) (record {
         shows = shows_left (Some k) (refl, holds_now origin w x shows n z now t es stands_now as_made);
@@ -200,48 +204,48 @@ module _ {Key Told T : Type 0} (m : Meaning Key) (stamp : Stamp) (way : T → Di
       })
 
   -- or it was the last
-  last_is : calls ≡ [] → moved Answer Locked Busy origin.dialect jobs n x ≡ answers_with Answer Locked Busy n h.answer (left None)
-  last_is no_more = next_called origin.dialect jobs n x h call calls it ∙ ap (λ l. after_call Answer Locked Busy n t l h.answer (record x { entries = x.entries ++ appended origin.dialect call h.session })) no_more
+  last_is : calls ≡ [] → moved Came as_locked as_busy origin.dialect jobs n x ≡ answers_with Came as_locked as_busy n h.answer (left None)
+  last_is no_more = next_called origin.dialect jobs n x h call calls it ∙ ap (λ l. after_call Came as_locked as_busy n t l h.answer (record x { entries = x.entries ++ appended origin.dialect call h.session })) no_more
 
-  pub shows_last : calls ≡ [] → z.begun ≡ None → Shows origin z (moved Answer Locked Busy origin.dialect jobs n x)
+  pub shows_last : calls ≡ [] → z.begun ≡ None → Shows origin z (moved Came as_locked as_busy origin.dialect jobs n x)
   shows_last no_more shut =
       let shown : Shows origin z (left None) = shows_left None shut in
       subst (Shows origin z) (sym (last_is no_more)) (record { dialect = shown.dialect; limit = shown.limit; live = shown.live; committed = shown.committed; begun = shown.begun; entries = shown.entries; used = shown.used; room = shown.room })
 
-  pub answers_last : calls ≡ [] → told_by n (moved Answer Locked Busy origin.dialect jobs n x).answers ≡ Some h.answer
+  pub answers_last : calls ≡ [] → told_by n (moved Came as_locked as_busy origin.dialect jobs n x).answers ≡ Some h.answer
   answers_last no_more = ap (λ (y : Runs). told_by n y.answers) (last_is no_more) ∙ ap (λ b. if b then Some h.answer else told_by n x.answers) (own_number n)
 
-  called_last : (a : Answer) → after.answer ≡ Some a → calls ≡ [] → a ≡ h.answer → call ≡ closing → z.begun ≡ None → Arrives jobs n after origin z first (moved Answer Locked Busy origin.dialect jobs n x)
+  called_last : (a : Came) → after.answer ≡ Some a → calls ≡ [] → a ≡ h.answer → call ≡ closing → z.begun ≡ None → Arrives jobs n after origin z first (moved Came as_locked as_busy origin.dialect jobs n x)
   called_last a its no_more is frees shut =
-      let same : moved Answer Locked Busy origin.dialect jobs n x ≡ answers_with Answer Locked Busy n a (left None)
-      = next_called origin.dialect jobs n x h call calls it ∙ ap (λ l. after_call Answer Locked Busy n t l h.answer (record x { entries = x.entries ++ appended origin.dialect call h.session })) no_more ∙ ap (λ b. answers_with Answer Locked Busy n b (left None)) (sym is) in
+      let same : moved Came as_locked as_busy origin.dialect jobs n x ≡ answers_with Came as_locked as_busy n a (left None)
+      = next_called origin.dialect jobs n x h call calls it ∙ ap (λ l. after_call Came as_locked as_busy n t l h.answer (record x { entries = x.entries ++ appended origin.dialect call h.session })) no_more ∙ ap (λ b. answers_with Came as_locked as_busy n b (left None)) (sym is) in
       subst (λ v. Arrives jobs n after origin z first v) (sym same)
       (arrives_last jobs n after origin z a its first (left None) (shows_left None shut) (subst (λ (k : Call). (called origin.dialect k h.session).committed.lock.locked ≡ false) (sym frees) (freed origin.dialect h.session)))
 
 -- what it is to answer does not hang on its place
-answers_as : {Key Told T : Type 0} (d : Dialect) (m : Meaning Key) (stamp : Stamp) (r q : Command Key Told) (way : T → Dialect → Stamp → Told → Way) (ends : T → Option Refusal → Answer) (told : Told) (f : Option StoreFault) (a : Answer)
+answers_as : {Key Told T : Type 0} (d : Dialect) (m : Meaning Key) (stamp : Stamp) (r q : Command Key Told) (way : T → Dialect → Stamp → Told → Way) (ends : T → Option Refusal → Came) (told : Told) (f : Option StoreFault) (a : Came)
     → WillAnswer d m stamp r way ends told f a → WillAnswer d m stamp q way ends told f a
 answers_as d m stamp r q way ends told None a is = is
 answers_as d m stamp r q way ends told (Some why) a is = is
 
-module _ {Key Told T : Type 0} (m : Meaning Key) (stamp : Stamp) (way : T → Dialect → Stamp → Told → Way) (answer_of : T → Option Refusal → Answer) (n : ℕ) (before after : Standing Answer Locked Busy) (w : State) (r : Command Key Told) (none : before.answer ≡ None) (begun : before.begun ≡ true)
+module _ {Key Told T : Type 0} (m : Meaning Key) (stamp : Stamp) (way : T → Dialect → Stamp → Told → Way) (answer_of : T → Option Refusal → Came) (n : ℕ) (before after : Standing Came as_locked as_busy) (w : State) (r : Command Key Told) (none : before.answer ≡ None) (begun : before.begun ≡ true)
     (under : (h : Held) → before.is_at h → IsUnder before.dialect m stamp r way answer_of h) (owns : (lock : Lock) → IsHeld stamp lock → before.owns lock) (plain : IsPlain stamp) where
   abbrev d : Dialect
   d = before.dialect
 
   -- what keeps it from its next call it answers
-  pub moves_hindered : (a : Answer) → after.answer ≡ Some a → IsHindered d stamp n w a → ((why : DrillFault) → after.owes why → before.owes why) → Moves failure_of n before after w (Ok tt) w
-  moves_hindered a its hindered owes jobs origin x dialect shows plays =
-      ((moved Answer Locked Busy origin.dialect jobs n x, inl refl, by (held_by n x.holder) refl (plays.goes_on none begun)), λ why owed. inl (owes why owed)) where
+  pub moves_hindered : (report : Report) (a : Answer) → after.answer ≡ Some (came report a) → IsHindered d stamp n w a → ((why : DrillFault) → after.owes why → before.owes why) → Moves as_failed n before after w (Ok tt) w
+  moves_hindered report a its hindered owes jobs origin x dialect shows plays =
+      ((moved Came as_locked as_busy origin.dialect jobs n x, inl refl, by (held_by n x.holder) refl (plays.goes_on none begun)), λ why owed. inl (owes why owed)) where
         why : ((IsHeld stamp x.committed.lock → ⊥) × (a ≡ Locked x.committed.lock)) ⊎ (IsHeld stamp x.committed.lock × ((k : ℕ) × (other n w ≡ Some k)))
         why = hindered (shows.dialect ∙ dialect) x.committed (subst (λ k. StandsFor k w.committed x.committed) dialect shows.committed)
 
-        by : (o : Option Held) → held_by n x.holder ≡ o → GoesOn before o x.committed.lock → Arrives jobs n after origin w x (moved Answer Locked Busy origin.dialect jobs n x)
+        by : (o : Option Held) → held_by n x.holder ≡ o → GoesOn before o x.committed.lock → Arrives jobs n after origin w x (moved Came as_locked as_busy origin.dialect jobs n x)
         by None gone lost = elim why [
           | inl it ↦
-              let same : moved Answer Locked Busy origin.dialect jobs n x ≡ answers_with Answer Locked Busy n a x
-              = is_later origin.dialect jobs n x (plays.answer ∙ none) (plays.begun none ∙ begun) ∙ later_lost origin.dialect jobs n x gone ∙ ap (λ b. answers_with Answer Locked Busy n b x) (sym it.1) in
-              subst (λ y. Arrives jobs n after origin w x y) (sym same) (arrives_told jobs n after origin w a its x shows)
+              let same : moved Came as_locked as_busy origin.dialect jobs n x ≡ answers_with Came as_locked as_busy n (came report a) x
+              = is_later origin.dialect jobs n x (plays.answer ∙ none) (plays.begun none ∙ begun) ∙ later_lost origin.dialect jobs n x gone ∙ ap (λ b. answers_with Came as_locked as_busy n (came report b) x) (sym it.1) in
+              subst (λ y. Arrives jobs n after origin w x y) (sym same) (arrives_told jobs n after origin w (came report a) its x shows)
           | inr it ↦ absurd (lost (owns x.committed.lock it.0))
         ]
         by (Some h) held at =
@@ -306,7 +310,7 @@ module _ {Key Told T : Type 0} (m : Meaning Key) (stamp : Stamp) (way : T → Di
       unanswered_yet : told_by n x.answers ≡ None
       unanswered_yet = plays.answer ∙ none
 
-      begun_there : has_begun Answer Locked Busy n x ≡ true
+      begun_there : has_begun Came as_locked as_busy n x ≡ true
       begun_there = plays.begun none ∙ begun
 
       -- the lock is its own
@@ -333,7 +337,7 @@ module _ {Key Told T : Type 0} (m : Meaning Key) (stamp : Stamp) (way : T → Di
       pub fell_before : (why : StoreFault) → r.fault ≡ Some why → ToCome stamp (Some why) it.h.session (rest origin.dialect m stamp (place r) (both_of s)) it.h.rest
       fell_before why met = subst (λ f. ToCome stamp f it.h.session (rest origin.dialect m stamp (place r) (both_of s)) it.h.rest) met it.on.to_come
 
-      pub answer_is : (why : StoreFault) → r.fault ≡ Some why → it.h.answer ≡ failure_of (fault_of why)
+      pub answer_is : (why : StoreFault) → r.fault ≡ Some why → it.h.answer ≡ as_failed (fault_of why)
       answer_is why met = subst (λ f. WillAnswer origin.dialect m stamp r way answer_of it.on.told f it.h.answer) met it.on.answers
 
       -- its last call
@@ -350,7 +354,7 @@ module _ {Key Told T : Type 0} (m : Meaning Key) (stamp : Stamp) (way : T → Di
       left_to_call why call calls = given_calls n x it.h why call calls unanswered_yet begun_there it.held
 
       -- all calls that are left to it are made
-      pub rests_all : (z : State) (why : DrillFault) → MakesLast failure_of jobs n (after.faulted ≡ true) origin z x why → Rests failure_of jobs n (after.faulted ≡ true) origin w z x why
+      pub rests_all : (z : State) (why : DrillFault) → MakesLast as_failed jobs n (after.faulted ≡ true) origin z x why → Rests as_failed jobs n (after.faulted ≡ true) origin w z x why
       rests_all z drill.Disk made = tt
       rests_all z (drill.Full used next) made = inl made
       rests_all z drill.OutOfMemory made = inl (made.0, made.1, made.2, ap is_some made.3)
@@ -358,7 +362,7 @@ module _ {Key Told T : Type 0} (m : Meaning Key) (stamp : Stamp) (way : T → Di
       pub rests_begun : it.h.session.is_open ≡ false → it.h.session.begun ≡ []
       rests_begun = shut_begun origin.dialect it.h.runner it.h.session w.begun holders.1
 
-      pub falls : (why : DrillFault) (y : Runs) → (y ≡ given why it.h x) ⊎ (y ≡ moved Answer Locked Busy origin.dialect jobs n (given why it.h x)) → Falls failure_of origin.dialect jobs n x y
+      pub falls : (why : DrillFault) (y : Runs) → (y ≡ given why it.h x) ⊎ (y ≡ moved Came as_locked as_busy origin.dialect jobs n (given why it.h x)) → Falls as_failed origin.dialect jobs n x y
       falls why y is = record { why = why; holder = it.h; held = it.held; locked = is_locked stamp x.committed.lock lock_held; rests = rests_begun; is = is }
 
       -- its abort after a fault
@@ -381,7 +385,7 @@ module _ {Key Told T : Type 0} (m : Meaning Key) (stamp : Stamp) (way : T → Di
         aborted_left bare_lock = subst (λ g. ToCome stamp g now (rest origin.dialect m stamp (place q) (both_of now)) (closing ∷ [])) (sym met)
             (sym (last_shut now false refl (bare_none stamp it.h.session.committed.lock plain bare_lock)), inr (refl, left, bare_lock))
 
-        aborted_will : (a : Answer) → a ≡ failure_of (fault_of f) → WillAnswer origin.dialect m stamp q way answer_of it.on.told q.fault a
+        aborted_will : (a : Came) → a ≡ as_failed (fault_of f) → WillAnswer origin.dialect m stamp q way answer_of it.on.told q.fault a
         aborted_will a is = subst (λ g. WillAnswer origin.dialect m stamp q way answer_of it.on.told g a) (sym met) is
 
         aborted_shut : z.begun ≡ None
@@ -429,23 +433,23 @@ module _ {Key Told T : Type 0} (m : Meaning Key) (stamp : Stamp) (way : T → Di
         places_it h is = places h (subst (λ k. IsUnder k m stamp q way answer_of h) dialect is)
 
         -- what it owes now it met now
-        owes_met : (f : StoreFault) → q.fault ≡ Some f → IsDue failure_of jobs n before origin x (fault_of f) → (why : DrillFault) → after.owes why → IsDue failure_of jobs n before origin x why
+        owes_met : (f : StoreFault) → q.fault ≡ Some f → IsDue as_failed jobs n before origin x (fault_of f) → (why : DrillFault) → after.owes why → IsDue as_failed jobs n before origin x why
         owes_met f met due why owed =
             let it_owes = owes why owed in
             let same : f ≡ it_owes.0 = some_is (sym met ∙ it_owes.1) in
-            subst (λ k. IsDue failure_of jobs n before origin x k) (ap fault_of same ∙ it_owes.2) due
+            subst (λ k. IsDue as_failed jobs n before origin x k) (ap fault_of same ∙ it_owes.2) due
 
         -- it made its next call
-        advances : is_over q.hand.phase ≡ false → ((f : StoreFault) → r.fault ≡ Some f → before.owes (fault_of f)) → ((f : StoreFault) → q.fault ≡ Some f → is_open n z.begun ≡ false → z.dialect ≡ d → (database : Database) → StandsFor d z.committed database → IsHeld stamp database.lock → IsBare stamp database.lock) → Advances origin.dialect m stamp n r q it.on.told w s z → MovesAs failure_of jobs n before after origin w z x (Ok tt)
+        advances : is_over q.hand.phase ≡ false → ((f : StoreFault) → r.fault ≡ Some f → before.owes (fault_of f)) → ((f : StoreFault) → q.fault ≡ Some f → is_open n z.begun ≡ false → z.dialect ≡ d → (database : Database) → StandsFor d z.committed database → IsHeld stamp database.lock → IsBare stamp database.lock) → Advances origin.dialect m stamp n r q it.on.told w s z → MovesAs as_failed jobs n before after origin w z x (Ok tt)
         advances more owed_before unmarked on = by r.fault refl where
-          by : (f : Option StoreFault) → r.fault ≡ f → MovesAs failure_of jobs n before after origin w z x (Ok tt)
+          by : (f : Option StoreFault) → r.fault ≡ f → MovesAs as_failed jobs n before after origin w z x (Ok tt)
           by (Some f) met =
               let fell : q.fault ≡ Some f = on.fault ∙ met in
               let it_is = aborts_so z q f met more on in
               let bare_lock : IsBare stamp it.h.session.committed.lock = bare_here z q f fell it_is.at it_is.left (unmarked f fell (ap (is_open n) (aborted_shut z q f fell it_is.at it_is.left))) in
               let calls : IsToCall n x it.h Abort (closing ∷ []) = own_next Abort (closing ∷ []) ((fell_before f met).0 ∙ last_open it.h.session false it_is.was_open (bare_none stamp it.h.session.committed.lock plain bare_lock)) in (
                 (
-                  moved Answer Locked Busy origin.dialect jobs n x,
+                  moved Came as_locked as_busy origin.dialect jobs n x,
                   inl refl,
                   called_on m stamp way answer_of n after origin w z jobs x x it.h Abort (closing ∷ []) shows calls (called origin.dialect Abort s) refl it_is.at.stands q it.on.told unanswered began places_it keeps not_nil (aborted_left z q f fell it_is.at it_is.left bare_lock) (aborted_on z q f fell it_is.at it_is.left) (aborted_will z q f fell it_is.at it_is.left it.h.answer (answer_is f met)),
                 ),
@@ -468,12 +472,12 @@ module _ {Key Told T : Type 0} (m : Meaning Key) (stamp : Stamp) (way : T → Di
               } in
               let will : WillAnswer origin.dialect m stamp q way answer_of it.on.told q.fault it.h.answer
               = subst (λ f. WillAnswer origin.dialect m stamp q way answer_of it.on.told f it.h.answer) (sym on.fault) (answers_as origin.dialect m stamp r q way answer_of it.on.told r.fault it.h.answer it.on.answers) in
-              let arrives : Arrives jobs n after origin z x (moved Answer Locked Busy origin.dialect jobs n x)
+              let arrives : Arrives jobs n after origin z x (moved Came as_locked as_busy origin.dialect jobs n x)
               = called_on m stamp way answer_of n after origin w z jobs x x it.h goes.went.call to_come shows (to_call_on healthy goes.went.call to_come goes.went.next) goes.after goes.went.is goes.at.stands q it.on.told unanswered began places_it keeps some (subst (λ f. ToCome stamp f goes.after to_come to_come) (sym (on.fault ∙ healthy)) refl) on_it will in
-              ((moved Answer Locked Busy origin.dialect jobs n x, inl refl, arrives), λ why owed. let it_owes = owes why owed in inl (subst (λ k. before.owes k) it_owes.2 (owed_before it_owes.0 (sym on.fault ∙ it_owes.1))))
+              ((moved Came as_locked as_busy origin.dialect jobs n x, inl refl, arrives), λ why owed. let it_owes = owes why owed in inl (subst (λ k. before.owes k) it_owes.2 (owed_before it_owes.0 (sym on.fault ∙ it_owes.1))))
 
         -- it met a fault there, and takes its transaction back next
-        met_fault : disk_failed q.fault ≡ false → MetFault origin.dialect m stamp n r q w s w z → MovesAs failure_of jobs n before after origin w z x (Ok tt)
+        met_fault : disk_failed q.fault ≡ false → MetFault origin.dialect m stamp n r q w s w z → MovesAs as_failed jobs n before after origin w z x (Ok tt)
         met_fault disk fell = ((y, inr (flag (ap is_some fell.fault), falls (fault_of fell.why) y (inl (given_is (fault_of fell.why) it.h x Abort (frees (has_bar it.h.session.committed.lock)) last))), arrives), owes_met fell.why fell.fault (inr meets)) where
           k : Held
           k = fallen (fault_of fell.why) (Abort ∷ frees (has_bar it.h.session.committed.lock)) it.h
@@ -508,7 +512,7 @@ module _ {Key Told T : Type 0} (m : Meaning Key) (stamp : Stamp) (way : T → Di
           }
 
           under_it : IsUnder origin.dialect m stamp q way answer_of k
-          under_it = record { told = it.on.told; on = on_it; to_come = subst (λ g. ToCome stamp g it.h.session (rest origin.dialect m stamp (place q) (both_of s)) (Abort ∷ frees (has_bar it.h.session.committed.lock))) (sym fell.fault) (sym last, inl (has_open, left)); answers = subst (λ f. WillAnswer origin.dialect m stamp q way answer_of it.on.told f (failure_of (fault_of fell.why))) (sym fell.fault) refl }
+          under_it = record { told = it.on.told; on = on_it; to_come = subst (λ g. ToCome stamp g it.h.session (rest origin.dialect m stamp (place q) (both_of s)) (Abort ∷ frees (has_bar it.h.session.committed.lock))) (sym fell.fault) (sym last, inl (has_open, left)); answers = subst (λ f. WillAnswer origin.dialect m stamp q way answer_of it.on.told f (as_failed (fault_of fell.why))) (sym fell.fault) refl }
 
           arrives : Arrives jobs n after origin z x y
           arrives = record {
@@ -522,14 +526,14 @@ module _ {Key Told T : Type 0} (m : Meaning Key) (stamp : Stamp) (way : T → Di
             lock = inr (inr (keeps x.committed.lock lock_held));
           }
 
-          meets : Meets failure_of origin.dialect jobs origin.used origin.limit n x (fault_of fell.why)
+          meets : Meets as_failed origin.dialect jobs origin.used origin.limit n x (fault_of fell.why)
           meets = record { at = x; is = inl refl; cause = let own = to_call fell.meets.call fell.meets.more fell.meets.next in cause origin w jobs n x x it.h fell.meets.call own.0 refl shows own.1 z Ordinary fell.why fell.meets.by fell.meets.faults }
 
         -- there was no memory, and it took its transaction back
-        took_back : ((f : StoreFault) → q.fault ≡ Some f → is_open n z.begun ≡ false → z.dialect ≡ d → (database : Database) → StandsFor d z.committed database → IsHeld stamp database.lock → IsBare stamp database.lock) → TakesBack origin.dialect m stamp n q w s z → MovesAs failure_of jobs n before after origin w z x (Ok tt)
-        took_back unmarked back = ((y, inr (flag (ap is_some back.fault), falls drill.OutOfMemory y (inr (ap (λ v. moved Answer Locked Busy origin.dialect jobs n v) (given_is drill.OutOfMemory it.h x Abort (closing ∷ []) last)))), arrives), owes_met fault.OutOfMemory back.fault (inr (record { at = x; is = inl refl; cause = tt }))) where
+        took_back : ((f : StoreFault) → q.fault ≡ Some f → is_open n z.begun ≡ false → z.dialect ≡ d → (database : Database) → StandsFor d z.committed database → IsHeld stamp database.lock → IsBare stamp database.lock) → TakesBack origin.dialect m stamp n q w s z → MovesAs as_failed jobs n before after origin w z x (Ok tt)
+        took_back unmarked back = ((y, inr (flag (ap is_some back.fault), falls drill.OutOfMemory y (inr (ap (λ v. moved Came as_locked as_busy origin.dialect jobs n v) (given_is drill.OutOfMemory it.h x Abort (closing ∷ []) last)))), arrives), owes_met fault.OutOfMemory back.fault (inr (record { at = x; is = inl refl; cause = tt }))) where
           y : Runs
-          y = moved Answer Locked Busy origin.dialect jobs n (given_with drill.OutOfMemory (Abort ∷ closing ∷ []) it.h x)
+          y = moved Came as_locked as_busy origin.dialect jobs n (given_with drill.OutOfMemory (Abort ∷ closing ∷ []) it.h x)
 
           left : rest origin.dialect m stamp (place q) (both_of (called origin.dialect Abort s)) ≡ closing ∷ []
           left = ap (λ p. rest origin.dialect m stamp p (both_of (called origin.dialect Abort s))) back.ends_turns
@@ -543,26 +547,26 @@ module _ {Key Told T : Type 0} (m : Meaning Key) (stamp : Stamp) (way : T → Di
           arrives : Arrives jobs n after origin z x y
           arrives =
               called_on m stamp way answer_of n after origin w z jobs x (given_with drill.OutOfMemory (Abort ∷ closing ∷ []) it.h x) (fallen drill.OutOfMemory (Abort ∷ closing ∷ []) it.h) Abort (closing ∷ []) (given_shows origin w n x it.h drill.OutOfMemory (Abort ∷ closing ∷ []) it.held shows) (left_to_call drill.OutOfMemory Abort (closing ∷ []))
-              (called origin.dialect Abort s) refl back.at.stands q it.on.told unanswered began places_it keeps not_nil (aborted_left z q fault.OutOfMemory back.fault back.at left bare_lock) (aborted_on z q fault.OutOfMemory back.fault back.at left) (aborted_will z q fault.OutOfMemory back.fault back.at left (failure_of drill.OutOfMemory) refl)
+              (called origin.dialect Abort s) refl back.at.stands q it.on.told unanswered began places_it keeps not_nil (aborted_left z q fault.OutOfMemory back.fault back.at left bare_lock) (aborted_on z q fault.OutOfMemory back.fault back.at left) (aborted_will z q fault.OutOfMemory back.fault back.at left (as_failed drill.OutOfMemory) refl)
 
       -- its lock has a mark, and the abort was its last call
       module _ (z : State) (q : Command Key Told) (f : StoreFault) (fell : q.fault ≡ Some f) (faulted : after.faulted ≡ true) (marked : z.dialect ≡ d → (database : Database) → StandsFor d z.committed database → IsMarked stamp database.lock) where
         -- of the fault that it met before
-        stays_on : is_over q.hand.phase ≡ false → ((g : StoreFault) → r.fault ≡ Some g → before.owes (fault_of g)) → Advances origin.dialect m stamp n r q it.on.told w s z → MovesAs failure_of jobs n before after origin w z x (Err (fault_of f))
+        stays_on : is_over q.hand.phase ≡ false → ((g : StoreFault) → r.fault ≡ Some g → before.owes (fault_of g)) → Advances origin.dialect m stamp n r q it.on.told w s z → MovesAs as_failed jobs n before after origin w z x (Err (fault_of f))
         stays_on more owed_before on =
             let met : r.fault ≡ Some f = sym on.fault ∙ fell in
             let it_is = aborts_so z q f met more on in
             let has : IsMarked stamp it.h.session.committed.lock = marked_here z q f fell it_is.at it_is.left marked in
             let calls : IsToCall n x it.h Abort [] = own_next Abort [] ((fell_before f met).0 ∙ last_open it.h.session true it_is.was_open (marked_some stamp it.h.session.committed.lock has)) in
-            let y : Runs = moved Answer Locked Busy origin.dialect jobs n x in
+            let y : Runs = moved Came as_locked as_busy origin.dialect jobs n x in
             let shown : Shows origin z y = shows_last m stamp way answer_of n after origin w z jobs x x it.h Abort [] shows calls (called origin.dialect Abort s) refl it_is.at.stands refl (aborted_shut z q f fell it_is.at it_is.left) in
             let stays : has_bar y.committed.lock ≡ true = ap (λ (v : Runs). has_bar v.committed.lock) (next_called origin.dialect jobs n x it.h Abort [] calls) ∙ marked_some stamp it.h.session.committed.lock has in
-            let told : told_by n y.answers ≡ Some (failure_of (fault_of f)) = answers_last m stamp way answer_of n after origin w z jobs x x it.h Abort [] shows calls (called origin.dialect Abort s) refl it_is.at.stands refl ∙ ap (λ a. Some a) (answer_is f met) in
+            let told : told_by n y.answers ≡ Some (as_failed (fault_of f)) = answers_last m stamp way answer_of n after origin w z jobs x x it.h Abort [] shows calls (called origin.dialect Abort s) refl it_is.at.stands refl ∙ ap (λ a. Some a) (answer_is f met) in
             ((y, inl refl, brings_all origin w jobs n x x it.h Abort [] refl shows calls z (called origin.dialect Abort s) refl it_is.at.stands), inl (owed_before f met), rests_all z (fault_of f) (y, inl refl, shown, told, inr stays))
 
         -- or for want of memory in this step
-        stays_back : TakesBack origin.dialect m stamp n q w s z → MovesAs failure_of jobs n before after origin w z x (Err (fault_of f))
-        stays_back back = subst (λ g. MovesAs failure_of jobs n before after origin w z x (Err (fault_of g))) (some_is (sym back.fault ∙ fell)) ((y, steps, brings), inr (record { at = x; is = inl refl; cause = tt }), inl (y, steps, shown, ap is_some told)) where
+        stays_back : TakesBack origin.dialect m stamp n q w s z → MovesAs as_failed jobs n before after origin w z x (Err (fault_of f))
+        stays_back back = subst (λ g. MovesAs as_failed jobs n before after origin w z x (Err (fault_of g))) (some_is (sym back.fault ∙ fell)) ((y, steps, brings), inr (record { at = x; is = inl refl; cause = tt }), inl (y, steps, shown, ap is_some told)) where
           left : rest origin.dialect m stamp (place q) (both_of (called origin.dialect Abort s)) ≡ closing ∷ []
           left = ap (λ p. rest origin.dialect m stamp p (both_of (called origin.dialect Abort s))) back.ends_turns
 
@@ -576,10 +580,10 @@ module _ {Key Told T : Type 0} (m : Meaning Key) (stamp : Stamp) (way : T → Di
           at = given_with drill.OutOfMemory (Abort ∷ []) it.h x
 
           y : Runs
-          y = moved Answer Locked Busy origin.dialect jobs n at
+          y = moved Came as_locked as_busy origin.dialect jobs n at
 
-          steps : (y ≡ moved Answer Locked Busy origin.dialect jobs n x) ⊎ ((after.faulted ≡ true) × Falls failure_of origin.dialect jobs n x y)
-          steps = inr (faulted, falls drill.OutOfMemory y (inr (ap (λ v. moved Answer Locked Busy origin.dialect jobs n v) (given_is drill.OutOfMemory it.h x Abort [] last))))
+          steps : (y ≡ moved Came as_locked as_busy origin.dialect jobs n x) ⊎ ((after.faulted ≡ true) × Falls as_failed origin.dialect jobs n x y)
+          steps = inr (faulted, falls drill.OutOfMemory y (inr (ap (λ v. moved Came as_locked as_busy origin.dialect jobs n v) (given_is drill.OutOfMemory it.h x Abort [] last))))
 
           shows_at : Shows origin w at
           shows_at = given_shows origin w n x it.h drill.OutOfMemory (Abort ∷ []) it.held shows
@@ -590,7 +594,7 @@ module _ {Key Told T : Type 0} (m : Meaning Key) (stamp : Stamp) (way : T → Di
           shown : Shows origin z y
           shown = shows_last m stamp way answer_of n after origin w z jobs x at (fallen drill.OutOfMemory (Abort ∷ []) it.h) Abort [] shows_at (left_to_call drill.OutOfMemory Abort []) (called origin.dialect Abort s) refl back.at.stands refl (aborted_shut z q fault.OutOfMemory back.fault back.at left)
 
-          told : told_by n y.answers ≡ Some (failure_of drill.OutOfMemory)
+          told : told_by n y.answers ≡ Some (as_failed drill.OutOfMemory)
           told = answers_last m stamp way answer_of n after origin w z jobs x at (fallen drill.OutOfMemory (Abort ∷ []) it.h) Abort [] shows_at (left_to_call drill.OutOfMemory Abort []) (called origin.dialect Abort s) refl back.at.stands refl
 
         -- after the fault itself its transaction is still open
@@ -602,44 +606,44 @@ module _ {Key Told T : Type 0} (m : Meaning Key) (stamp : Stamp) (way : T → Di
     pub moves_on : after.answer ≡ None → after.begun ≡ true → ((h : Held) → IsUnder d m stamp q way answer_of h → after.is_at h) → ((lock : Lock) → IsHeld stamp lock → after.owns lock) → (is_some q.fault ≡ true → after.faulted ≡ true)
         → ((why : DrillFault) → after.owes why → (f : StoreFault) × (q.fault ≡ Some f) × (fault_of f ≡ why)) → ((f : StoreFault) → r.fault ≡ Some f → before.owes (fault_of f)) → is_over q.hand.phase ≡ false → disk_failed q.fault ≡ false
         → ((f : StoreFault) → q.fault ≡ Some f → is_open n z.begun ≡ false → z.dialect ≡ d → (database : Database) → StandsFor d z.committed database → IsHeld stamp database.lock → IsBare stamp database.lock)
-        → Steps d m stamp n r q w step.Going z → Moves failure_of n before after w (Ok tt) z
+        → Steps d m stamp n r q w step.Going z → Moves as_failed n before after w (Ok tt) z
     moves_on unanswered began places keeps flag owes owed_before more disk unmarked steps jobs origin x dialect shows plays = by ((subst (λ k. Steps k m stamp n r q w step.Going z) (sym dialect) steps) w (s within opened free jobs origin x dialect shows plays it) it.on.told (there within opened free jobs origin x dialect shows plays it) (λ between. it.on.on.committed)) where
       it : IsHolder within opened free jobs origin x dialect shows plays
       it = is_holder within opened free jobs origin x dialect shows plays
 
-      by : StepsAs origin.dialect m stamp n r q it.on.told w (s within opened free jobs origin x dialect shows plays it) w step.Going z → MovesAs failure_of jobs n before after origin w z x (Ok tt)
+      by : StepsAs origin.dialect m stamp n r q it.on.told w (s within opened free jobs origin x dialect shows plays it) w step.Going z → MovesAs as_failed jobs n before after origin w z x (Ok tt)
       by (inl on) = advances within opened free jobs origin x dialect shows plays it z q unanswered began places keeps flag owes more owed_before unmarked on
       by (inr (inl fell)) = met_fault within opened free jobs origin x dialect shows plays it z q unanswered began places keeps flag owes disk fell
       by (inr (inr back)) = took_back within opened free jobs origin x dialect shows plays it z q unanswered began places keeps flag owes unmarked back
 
     -- it gives up, and no other call is to come
     pub moves_stayed : (f : StoreFault) → q.fault ≡ Some f → after.faulted ≡ true → (z.dialect ≡ d → (database : Database) → StandsFor d z.committed database → IsMarked stamp database.lock) → is_open n z.begun ≡ false → is_over q.hand.phase ≡ false
-        → ((g : StoreFault) → r.fault ≡ Some g → before.owes (fault_of g)) → Steps d m stamp n r q w step.Going z → Moves failure_of n before after w (Err (fault_of f)) z
+        → ((g : StoreFault) → r.fault ≡ Some g → before.owes (fault_of g)) → Steps d m stamp n r q w step.Going z → Moves as_failed n before after w (Err (fault_of f)) z
     moves_stayed f fell faulted marked shut more owed_before steps jobs origin x dialect shows plays = by ((subst (λ k. Steps k m stamp n r q w step.Going z) (sym dialect) steps) w (s within opened free jobs origin x dialect shows plays it) it.on.told (there within opened free jobs origin x dialect shows plays it) (λ between. it.on.on.committed)) where
       it : IsHolder within opened free jobs origin x dialect shows plays
       it = is_holder within opened free jobs origin x dialect shows plays
 
-      by : StepsAs origin.dialect m stamp n r q it.on.told w (s within opened free jobs origin x dialect shows plays it) w step.Going z → MovesAs failure_of jobs n before after origin w z x (Err (fault_of f))
+      by : StepsAs origin.dialect m stamp n r q it.on.told w (s within opened free jobs origin x dialect shows plays it) w step.Going z → MovesAs as_failed jobs n before after origin w z x (Err (fault_of f))
       by (inl on) = stays_on within opened free jobs origin x dialect shows plays it z q f fell faulted marked more owed_before on
       by (inr (inl met)) = absurd (stays_not within opened free jobs origin x dialect shows plays it z q f fell faulted marked shut met)
       by (inr (inr back)) = stays_back within opened free jobs origin x dialect shows plays it z q f fell faulted marked back
 
     -- it made its last call
-    pub moves_last : (a : Answer) (e : End) → after.answer ≡ Some a → is_failed_end e ≡ false → (source : T) → (is_told_end e ≡ true → a ≡ answer_of source (refusal_in e)) → ((k : Dialect) (told : Told) → TellsAs (q.way k stamp told) e → TellsAs (way source k stamp told) e)
+    pub moves_last : (a : Came) (e : End) → after.answer ≡ Some a → is_failed_end e ≡ false → (source : T) → (is_told_end e ≡ true → a ≡ answer_of source (refusal_in e)) → ((k : Dialect) (told : Told) → TellsAs (q.way k stamp told) e → TellsAs (way source k stamp told) e)
         → (is_some q.fault ≡ true → StopsAs r.fault (step.Ended e)) → ((why : DrillFault) → after.owes why → (f : StoreFault) × (q.fault ≡ Some f) × (fault_of f ≡ why))
-        → Steps d m stamp n r q w (step.Ended e) z → Moves failure_of n before after w (Ok tt) z
+        → Steps d m stamp n r q w (step.Ended e) z → Moves as_failed n before after w (Ok tt) z
     moves_last a e its whole source is_its tells stops owes steps jobs origin x dialect shows plays = by ((subst (λ k. Steps k m stamp n r q w (step.Ended e) z) (sym dialect) steps) w (s within opened free jobs origin x dialect shows plays it) it.on.told (there within opened free jobs origin x dialect shows plays it) (λ between. it.on.on.committed)) where
       it : IsHolder within opened free jobs origin x dialect shows plays
       it = is_holder within opened free jobs origin x dialect shows plays
 
-      by : StepsAs origin.dialect m stamp n r q it.on.told w (s within opened free jobs origin x dialect shows plays it) w (step.Ended e) z → MovesAs failure_of jobs n before after origin w z x (Ok tt)
+      by : StepsAs origin.dialect m stamp n r q it.on.told w (s within opened free jobs origin x dialect shows plays it) w (step.Ended e) z → MovesAs as_failed jobs n before after origin w z x (Ok tt)
       by stepped =
           let last = last_made origin.dialect m stamp n r w (s within opened free jobs origin x dialect shows plays it) w z e whole stepped.0 in
           let goes = last.goes in
           let is_told : is_told_end e ≡ true = ap is_told_end last.ends ∙ told_end r.refused in
           let will : WillAnswer origin.dialect m stamp r way answer_of it.on.told None it.h.answer = subst (λ f. WillAnswer origin.dialect m stamp r way answer_of it.on.told f it.h.answer) last.healthy it.on.answers in
           let same : a ≡ it.h.answer = is_its is_told ∙ will source (refusal_in e) (tells_refusal (way source origin.dialect stamp it.on.told) e is_told (tells origin.dialect it.on.told stepped.1)) in
-          let arrives : Arrives jobs n after origin z x (moved Answer Locked Busy origin.dialect jobs n x)
+          let arrives : Arrives jobs n after origin z x (moved Came as_locked as_busy origin.dialect jobs n x)
           = called_last m stamp way answer_of n after origin w z jobs x x it.h goes.went.call [] shows (to_call_last within opened free jobs origin x dialect shows plays it goes.went.call goes.went.next) goes.after goes.went.is goes.at.stands
           a its refl same (only_last it.on.on.keeps.front goes.went.call (sym goes.went.next ∙ it.on.on.keeps.is)) (shut_none w.dialect n goes.after z.begun goes.at.stands.begun goes.at.ready) in
-          ((moved Answer Locked Busy origin.dialect jobs n x, inl refl, arrives), λ why owed. let it_owes = owes why owed in absurd (not_stopped r.fault r.refused e last.ends (stops (ap is_some it_owes.1))))
+          ((moved Came as_locked as_busy origin.dialect jobs n x, inl refl, arrives), λ why owed. let it_owes = owes why owed in absurd (not_stopped r.fault r.refused e last.ends (stops (ap is_some it_owes.1))))

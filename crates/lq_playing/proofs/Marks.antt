@@ -1,11 +1,11 @@
 -- Whether the lock of a command has a mark, and what is left to the command after a fault.
 use Rattle.std.proofs.Common.{ap, inl, inr, subst, sym, ◌∙◌}
-use Rattle.std.specs.List.{list_any}
-use Rattle.std.specs.Prelude.{Bool, List, None, Option, Some, [], false, if◌then◌else◌, refl, true, ℕ, ◌==◌, ◌++◌, ◌||◌, ◌∷◌, ◌≡◌}
+use Rattle.std.specs.Prelude.{Bool, List, None, Option, Some, [], false, if◌then◌else◌, refl, true, ◌∷◌, ◌≡◌}
 use Rattle.lq_base.specs.declared.tracking.Lock.{Lock}
 use Rattle.lq_drill.specs.Faults.{frees, has_bar, last_calls}
 use Rattle.lq_model.specs.declared.fault.StoreFault.{StoreFault}
 use Rattle.lq_playing.specs.Under.{IsPlain, ToCome}
+use Rattle.lq_run.proofs.Resting.{marked_some}
 use Rattle.lq_run.specs.Holds.{IsBare, IsHeld, IsMarked}
 use Rattle.lq_turns.specs.Script.{closing}
 use Rattle.lq_turns.specs.Session.{Session}
@@ -19,19 +19,8 @@ not_true h = Prim.cc
 head_is : {a b : Call} {xs ys : List Call} → a ∷ xs ≡ b ∷ ys → a ≡ b
 head_is h = Prim.cc
 
-or_true : (b : Bool) → (b || true) ≡ true
-or_true true = refl
-or_true false = refl
-
-bar_in : (front back : List ℕ) → list_any (λ b. b == 124) (front ++ 124 ∷ back) ≡ true
-bar_in [] back = refl
-bar_in (b ∷ front) back = ap (λ r. (b == 124) || r) (bar_in front back) ∙ or_true (b == 124)
-
 pub bare_none : (stamp : Stamp) (lock : Lock) → IsPlain stamp → IsBare stamp lock → has_bar lock ≡ false
 bare_none stamp lock plain is = ap has_bar is ∙ plain
-
-pub marked_some : (stamp : Stamp) (lock : Lock) → IsMarked stamp lock → has_bar lock ≡ true
-marked_some stamp lock is = ap has_bar is.1 ∙ bar_in stamp.who is.0
 
 pub not_both : (stamp : Stamp) (lock : Lock) → IsPlain stamp → IsBare stamp lock → IsMarked stamp lock → ⊥
 not_both stamp lock plain bare marked = not_true (sym (bare_none stamp lock plain bare) ∙ marked_some stamp lock marked)

@@ -12,10 +12,12 @@ use Rattle.lq_playing.proofs.FirstFaults.{first_came}
 use Rattle.lq_playing.proofs.Machines.{Runs}
 use Rattle.lq_playing.proofs.Shown.{stands_first}
 use Rattle.lq_playing.proofs.Told.{none_begun}
-use Rattle.lq_playing.specs.Answers.{failure_of}
+use Rattle.lq_playing.specs.Came.{as_busy, as_failed, as_locked}
 use Rattle.lq_playing.specs.Checked.{MakesOne, MakesTurns, Work}
 use Rattle.lq_playing.specs.Judged.{MayCall, OnIts}
 use Rattle.lq_playing.specs.Under.{bare}
+use Rattle.lq_playing.specs.declared.came.Came.{Came}
+use Rattle.lq_playing.specs.declared.came.Report.{Report}
 use Rattle.lq_playing.specs.declared.checks.OneCall.{OneCall}
 use Rattle.lq_run.proofs.Since.{leave_none, leave_wider}
 use Rattle.lq_run.specs.Commands.{both_on}
@@ -29,8 +31,6 @@ use Rattle.lq_turns.specs.Schedule.{appended, moved}
 use Rattle.lq_turns.specs.Script.{opening}
 use Rattle.lq_turns.specs.Session.{Session, session_on}
 use Rattle.lq_turns.specs.Set.{Meaning}
-use Rattle.lq_turns.specs.declared.answer.Answer.{Answer}
-use Rattle.lq_turns.specs.declared.answer.Answer.TheVariants.{Busy, Locked}
 use Rattle.lq_turns.specs.declared.call.Call.{Call}
 use Rattle.lq_turns.specs.declared.call.Call.TheVariants.{Alone}
 use Rattle.lq_turns.specs.declared.deed.Deed.TheVariants.{Locks}
@@ -42,15 +42,15 @@ pub between : (d : Dialect) (call : Call) (s : Session) (x y : Runs) → y.entri
 between d call s x y came there left it = record { front = it.front; more = it.more; came = came ∙ ap (λ entries. x.entries ++ entries) it.appends; is = it.is }
 
 -- a step without a call
-pub safe_told : (n : ℕ) (before after : Standing Answer Locked Busy) (w : State) (c : Crashes) → MovesSafely failure_of n before after w c c
-safe_told n before after w c jobs origin x dialect shows plays = leave_none w.entries (LeftInStep failure_of origin.dialect jobs (after.faulted ≡ true) n x) c
+pub safe_told : (n : ℕ) (before after : Standing Came as_locked as_busy) (w : State) (c : Crashes) → MovesSafely as_failed n before after w c c
+safe_told n before after w c jobs origin x dialect shows plays = leave_none w.entries (LeftInStep as_failed origin.dialect jobs (after.faulted ≡ true) n x) c
 
 -- the first step
 
-module _ (n : ℕ) (before after : Standing Answer Locked Busy) (w : State) (none : before.answer ≡ None) (fresh : before.begun ≡ false) (shut : is_open n w.begun ≡ false) (c e : Crashes) where
+module _ (n : ℕ) (before after : Standing Came as_locked as_busy) (w : State) (none : before.answer ≡ None) (fresh : before.begun ≡ false) (shut : is_open n w.begun ≡ false) (c e : Crashes) where
   module _ (jobs : ℕ → Work) (origin : State) (x : Runs) (shows : Shows origin w x) (plays : Plays jobs n before x) where
     abbrev Left : List Entry → List Entry → Type 0
-    Left = LeftInStep failure_of origin.dialect jobs (after.faulted ≡ true) n x
+    Left = LeftInStep as_failed origin.dialect jobs (after.faulted ≡ true) n x
 
     first_safe : (call : Call) (calls : List Call) → MayCall n w before.job x.committed → (jobs n).refuses x.committed ≡ None → (jobs n).script x.committed ≡ call ∷ calls
         → CrashesLeave w.entries (LeftInCall origin.dialect call (session_on x.committed)) c e → CrashesLeave w.entries Left c e
@@ -59,20 +59,20 @@ module _ (n : ℕ) (before after : Standing Answer Locked Busy) (w : State) (non
         let first = session_on x.committed in
         let came = first_came n before after w none fresh shut jobs origin x shows plays call calls may passes script_is in
         leave_wider w.entries (LeftInCall d call first) Left c e
-        (λ there left it. record { to = moved Answer Locked Busy d jobs n x; steps = inl refl; leaves = between d call first x (moved Answer Locked Busy d jobs n x) came there left it }) leave
+        (λ there left it. record { to = moved Came as_locked as_busy d jobs n x; steps = inl refl; leaves = between d call first x (moved Came as_locked as_busy d jobs n x) came there left it }) leave
 
   -- a command of one call
-  pub safe_once : (call : OneCall) → OnIts before.dialect w (λ database. MayCall n w before.job database × MakesOne before.dialect before.job call database) → CrashesFor before.dialect n (Alone call.deeds call.room) w c e → MovesSafely failure_of n before after w c e
-  safe_once call may crash jobs origin x dialect shows plays =
+  pub safe_once : (report : Report) (call : OneCall) → OnIts before.dialect w (λ database. MayCall n w before.job database × MakesOne before.dialect before.job report call database) → CrashesFor before.dialect n (Alone call.deeds call.room) w c e → MovesSafely as_failed n before after w c e
+  safe_once report call may crash jobs origin x dialect shows plays =
       let both = may (shows.dialect ∙ dialect) x.committed (subst (λ k. StandsFor k w.committed x.committed) dialect shows.committed) in
-      let one : MakesOne origin.dialect (jobs n) call x.committed = subst (λ k. MakesOne k (jobs n) call x.committed) (sym dialect) (subst (λ j. MakesOne before.dialect j call x.committed) (sym (plays.waits none fresh)) both.1) in
+      let one : MakesOne origin.dialect (jobs n) report call x.committed = subst (λ k. MakesOne k (jobs n) report call x.committed) (sym dialect) (subst (λ j. MakesOne before.dialect j report call x.committed) (sym (plays.waits none fresh)) both.1) in
       let crashes : CrashesFor origin.dialect n (Alone call.deeds call.room) w c e = subst (λ k. CrashesFor k n (Alone call.deeds call.room) w c e) (sym dialect) crash in
       first_safe jobs origin x shows plays (Alone call.deeds call.room) [] both.0 one.passes one.script_is
       (crashes w (session_on x.committed) shows.dialect (stands_first origin w x shows n (none_begun n w.begun shut both.0.0)) one.fits)
 
   -- one that takes the lock
-  pub safe_begun : {Key Told T : Type 0} (m : Meaning Key) (stamp : Stamp) (way : T → Dialect → Stamp → Told → Way) (ends : T → Option Refusal → Answer) (turns : Turns Key) (source : T) (hand : Hand)
-      → OnIts before.dialect w (λ database. MayCall n w before.job database × MakesTurns before.dialect m stamp way ends before.job turns source hand database) → CrashesOpening before.dialect stamp n w c e → MovesSafely failure_of n before after w c e
+  pub safe_begun : {Key Told T : Type 0} (m : Meaning Key) (stamp : Stamp) (way : T → Dialect → Stamp → Told → Way) (ends : T → Option Refusal → Came) (turns : Turns Key) (source : T) (hand : Hand)
+      → OnIts before.dialect w (λ database. MayCall n w before.job database × MakesTurns before.dialect m stamp way ends before.job turns source hand database) → CrashesOpening before.dialect stamp n w c e → MovesSafely as_failed n before after w c e
   safe_begun m stamp way ends turns source hand may crash jobs origin x dialect shows plays =
       let both = may (shows.dialect ∙ dialect) x.committed (subst (λ k. StandsFor k w.committed x.committed) dialect shows.committed) in
       let makes : MakesTurns origin.dialect m stamp way ends (jobs n) turns source hand x.committed

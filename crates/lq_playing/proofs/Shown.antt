@@ -6,11 +6,13 @@ use Rattle.std.specs.Option.{option_map}
 use Rattle.std.specs.Prelude.{List, None, Option, Some, [], cond, false, if◌then◌else◌, refl, true, ℕ, ◌+◌, ◌==◌, ◌++◌, ◌≡◌}
 use Rattle.lq_base.specs.declared.dialect.Dialect.{Dialect}
 use Rattle.lq_drill.specs.Player.{answer_of, Arrives, Plays, Standing}
-use Rattle.lq_drill.specs.Shows.{HadRoom, IsHolders, IsOpenAs, Shows, entries_of, entry_of}
+use Rattle.lq_drill.specs.Shows.{HadRoom, IsHolders, IsOpenAs, Shows, entries_of, entry_of, entry_texts}
 use Rattle.lq_playing.proofs.Told.{some_none}
 use Rattle.lq_playing.proofs.Machines.{Runs, own_number}
+use Rattle.lq_playing.specs.Came.{as_busy, as_locked}
 use Rattle.lq_playing.specs.Checked.{Work}
 use Rattle.lq_playing.specs.Under.{bare}
+use Rattle.lq_playing.specs.declared.came.Came.{Came}
 use Rattle.lq_run.proofs.Rooms.{both_rooms, no_entries, sizes}
 use Rattle.lq_run.specs.Stands.{IsBegun, Stands}
 use Rattle.lq_run.specs.Stands.{entries_of as written_of}
@@ -19,8 +21,6 @@ use Rattle.lq_store.specs.State.{State, Transaction, is_open, other_in}
 use Rattle.lq_turns.specs.Held.{StandsFor}
 use Rattle.lq_turns.specs.Schedule.{answers_with}
 use Rattle.lq_turns.specs.Session.{Session, session_on}
-use Rattle.lq_turns.specs.declared.answer.Answer.{Answer}
-use Rattle.lq_turns.specs.declared.answer.Answer.TheVariants.{Busy, Locked}
 use Rattle.lq_turns.specs.declared.deed.Deed.{Deed}
 
 not_true : false ≡ true → ⊥
@@ -124,12 +124,12 @@ module _ (origin w : State) (x : Runs) (shows : Shows origin w x) where
   holds_now n z after t es stands is = by z.begun (open_as origin.dialect n after z.begun (subst (λ e. IsBegun e n after z.begun) shows.dialect stands.begun)) where
     by : (o : Option Transaction) → IsOpenAs origin.dialect n after o → IsOpenAs origin.dialect n t o
     by None opened = subst (λ (s : Session). (s.is_open ≡ false) × (s.seen ≡ s.committed) × (s.begun ≡ [])) is opened
-    by (Some it) opened = subst (λ (s : Session). (s.is_open ≡ true) × (it.session ≡ n) × StandsFor origin.dialect it.now s.seen × (it.texts ≡ entry_of origin.dialect s.begun)) is opened
+    by (Some it) opened = subst (λ (s : Session). (s.is_open ≡ true) × (it.session ≡ n) × StandsFor origin.dialect it.now s.seen × (it.texts ≡ entry_texts origin.dialect s.begun)) is opened
 
 -- an answer
 
-module _ (jobs : ℕ → Work) (n : ℕ) (r : Standing Answer Locked Busy) (origin z : State) (a : Answer) (its : r.answer ≡ Some a) where
-  plays_told : (y : Runs) → Plays jobs n r (answers_with Answer Locked Busy n a y)
+module _ (jobs : ℕ → Work) (n : ℕ) (r : Standing Came as_locked as_busy) (origin z : State) (a : Came) (its : r.answer ≡ Some a) where
+  plays_told : (y : Runs) → Plays jobs n r (answers_with Came as_locked as_busy n a y)
   plays_told y = record {
     answer = ap (λ b. if b then Some a else answer_of n y.answers) (own_number n) ∙ sym its;
     begun = λ none. absurd (some_none a (sym its ∙ none));
@@ -138,7 +138,7 @@ module _ (jobs : ℕ → Work) (n : ℕ) (r : Standing Answer Locked Busy) (orig
   }
 
   -- without a call
-  pub arrives_told : (x : Runs) → Shows origin z x → Arrives jobs n r origin z x (answers_with Answer Locked Busy n a x)
+  pub arrives_told : (x : Runs) → Shows origin z x → Arrives jobs n r origin z x (answers_with Came as_locked as_busy n a x)
   arrives_told x shows = record {
     shows = record { dialect = shows.dialect; limit = shows.limit; live = shows.live; committed = shows.committed; begun = shows.begun; entries = shows.entries; used = shows.used; room = shows.room };
     plays = plays_told x;
@@ -146,7 +146,7 @@ module _ (jobs : ℕ → Work) (n : ℕ) (r : Standing Answer Locked Busy) (orig
   }
 
   -- after a last call, which left the lock free
-  pub arrives_last : (x y : Runs) → Shows origin z y → y.committed.lock.locked ≡ false → Arrives jobs n r origin z x (answers_with Answer Locked Busy n a y)
+  pub arrives_last : (x y : Runs) → Shows origin z y → y.committed.lock.locked ≡ false → Arrives jobs n r origin z x (answers_with Came as_locked as_busy n a y)
   arrives_last x y shows free = record {
     shows = record { dialect = shows.dialect; limit = shows.limit; live = shows.live; committed = shows.committed; begun = shows.begun; entries = shows.entries; used = shows.used; room = shows.room };
     plays = plays_told y;

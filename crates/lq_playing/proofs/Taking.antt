@@ -1,5 +1,6 @@
 -- What each step of a player comes to.
 use Rattle.std.proofs.Common.{ap, inl, inr, subst, sym, ◌∙◌}
+use Rattle.std.specs.Option.{option_map}
 use Rattle.std.specs.Prelude.{Bool, Err, IfErr, IfOk, List, None, Ok, Option, Result, Some, [], false, if◌then◌else◌, is_some, map, refl, true, ℕ, ◌||◌, ◌∷◌, ◌≡◌, ◌≤◌, ◌⊎◌}
 use Rattle.lq_base.specs.declared.dialect.Dialect.{Dialect}
 use Rattle.lq_base.specs.declared.dialect.Dialect.TheVariants.{Postgresql}
@@ -25,13 +26,16 @@ use Rattle.lq_playing.proofs.Laters.{moves_hindered, moves_last, moves_on, moves
 use Rattle.lq_playing.proofs.Safely.{safe_begun, safe_once, safe_told}
 use Rattle.lq_playing.proofs.SafelyLater.{safe_ended, safe_going}
 use Rattle.lq_playing.proofs.SafelyLater.{met_before as had_met}
-use Rattle.lq_playing.specs.Answers.{Answers, FailsAs, failure_of, fault_of, is_disk_answer, is_disk_fault, is_failed_end, is_failure, is_told_end, refusal_in, tells_locked}
+use Rattle.lq_playing.specs.Answers.{Answers, AnswersAs, FailsAs, failure_of, fault_of, is_disk_answer, is_disk_fault, is_failed_end, is_failure, is_told_end, refusal_in, tells_locked}
+use Rattle.lq_playing.specs.Came.{as_busy, as_failed, as_locked, came}
 use Rattle.lq_playing.specs.Checked.{IsInHand, IsLetIn, Work}
 use Rattle.lq_playing.specs.Hindered.{Hinders, IsFree, Stays, asks_open, asks_open_at}
 use Rattle.lq_playing.specs.Judged.{Begins, CallsOnce, Judged}
 use Rattle.lq_playing.specs.Playing.{IsFresh, IsGoing, IsReadyAs, Took, opens_as, stands}
 use Rattle.lq_playing.specs.Resting.{RestsAs}
 use Rattle.lq_playing.specs.Under.{IsPlain, IsUnder}
+use Rattle.lq_playing.specs.declared.came.Came.{Came}
+use Rattle.lq_playing.specs.declared.came.Report.{Report}
 use Rattle.lq_playing.specs.declared.checks.OneCall.{OneCall}
 use Rattle.lq_playing.specs.declared.checks.Verdict.TheVariants as verdict
 use Rattle.lq_playing.specs.declared.playing.Playing.{Playing}
@@ -55,7 +59,6 @@ use Rattle.lq_turns.specs.Rest.{Turns, rest}
 use Rattle.lq_turns.specs.Script.{opening}
 use Rattle.lq_turns.specs.Set.{Meaning}
 use Rattle.lq_turns.specs.declared.answer.Answer.{Answer}
-use Rattle.lq_turns.specs.declared.answer.Answer.TheVariants.{Busy, Locked}
 use Rattle.lq_turns.specs.declared.call.Call.{Call}
 use Rattle.lq_turns.specs.declared.call.Call.TheVariants.{Alone}
 use Rattle.lq_turns.specs.declared.deed.Deed.TheVariants.{Locks}
@@ -88,6 +91,12 @@ no_disk_answer a is = Prim.cc
 
 pub no_disk_lack : {X : Type 0} → (let o : Result Answer DrillFault = Err drill.OutOfMemory in o) ≡ Err drill.Disk → X
 no_disk_lack is = Prim.cc
+
+-- a fault is answered alone
+failed_alone : (report : Report) (why : DrillFault) → came report (failure_of why) ≡ as_failed why
+failed_alone report drill.Disk = refl
+failed_alone report (drill.Full used next) = refl
+failed_alone report drill.OutOfMemory = refl
 
 -- what was met stays met
 still_met : (was before now : Bool) → was ≡ before → (before ≡ true → now ≡ true) → (was || now) ≡ now
@@ -136,7 +145,7 @@ same_player q r begun faulted answer a b c e =
 -- a job that makes a call on this database
 calls_some : (job : Work) (database : Database) (call : Call) (calls : List Call) → IsLetIn job database → job.refuses database ≡ None → job.script database ≡ call ∷ calls → CallsNone job database → ⊥
 calls_some job database call calls let_in passes script_is (inl refused) =
-    some_none refused.0 (sym refused.1 ∙ ap (λ b. if b then Some (Locked database.lock) else job.refuses database) let_in ∙ passes)
+    some_none refused.0 (sym refused.1 ∙ ap (λ b. if b then Some (as_locked database.lock) else job.refuses database) let_in ∙ passes)
 calls_some job database call calls let_in passes script_is (inr empty) = no_calls (sym script_is ∙ empty)
 
 -- one that has no transaction open
@@ -158,19 +167,35 @@ open_as begun hand b is asks = asks ∙ sym (ap (λ k. opens_as k hand) is)
 shut_as : (begun : Bool) (hand : Hand) (b : Bool) → begun ≡ false → b ≡ false → b ≡ opens_as begun hand
 shut_as begun hand b is shut = shut ∙ sym (ap (λ k. opens_as k hand) is)
 
-module _ {Key Told T : Type 0} (m : Meaning Key) (left : T → Turns Key) (way : T → Dialect → Stamp → Told → Way) (reads : T → Dialect → Type 0) (job : T → Dialect → Stamp → Work) (ends : T → Option Refusal → Answer) (p : Playing T) (session : ℕ) (x : State) (c : Crashes) (none : p.answer ≡ None)
+module _ {Key Told T : Type 0} (m : Meaning Key) (left : T → Turns Key) (way : T → Dialect → Stamp → Told → Way) (reads : T → Dialect → Type 0) (job : T → Dialect → Stamp → Work) (ends : T → Option Refusal → Came) (reports : T → Report) (p : Playing T) (session : ℕ) (x : State) (c : Crashes) (unanswered : p.answer ≡ None)
   where
-    abbrev before : Standing Answer Locked Busy
-    before = stands m left way reads job ends p
+    abbrev before : Standing Came as_locked as_busy
+    before = stands m left way reads job ends reports p
 
-    abbrev after : Playing T → Standing Answer Locked Busy
-    after q = stands m left way reads job ends q
+    abbrev after : Playing T → Standing Came as_locked as_busy
+    after q = stands m left way reads job ends reports q
 
     abbrev d : Dialect
     d = p.runner.dialect
 
     abbrev stamp : Stamp
     stamp = p.runner.stamp
+
+    none : before.answer ≡ None
+    none = ap (option_map (came (reports p.runner.source))) unanswered
+
+    none_then : (q : Playing T) → q.answer ≡ p.answer → (after q).answer ≡ None
+    none_then q same = ap (option_map (came (reports q.runner.source))) (same ∙ unanswered)
+
+    -- its answer with what it did
+    came_of : (q : Playing T) (a : Answer) (report : Report) → reports q.runner.source ≡ report → q.answer ≡ Some a → (after q).answer ≡ Some (came report a)
+    came_of q a report same is = ap (option_map (came (reports q.runner.source))) is ∙ ap (λ k. Some (came k a)) same
+
+    came_ok : (q : Playing T) (a : Answer) (report : Report) (result : Result (Unit {0}) DrillFault) → reports q.runner.source ≡ report → Answers (Ok a) p.faulted q.answer q.faulted result → AnswersAs as_failed (Ok (came report a)) p.faulted (after q).answer q.faulted result
+    came_ok q a report result same its = (came_of q a report same its.0, its.1, its.2)
+
+    came_err : (q : Playing T) (why : DrillFault) (was : Bool) (result : Result (Unit {0}) DrillFault) → Answers (Err why) was q.answer q.faulted result → AnswersAs as_failed (Err why) was (after q).answer q.faulted result
+    came_err q why was result its = (ap (option_map (came (reports q.runner.source))) its.0 ∙ ap (λ k. Some k) (failed_alone (reports q.runner.source) why), its.1, its.2)
 
     owns_by : (q : Playing T) → q.runner.stamp ≡ stamp → (lock : Lock) → IsHeld q.runner.stamp lock → IsHeld stamp lock
     owns_by q same lock held = subst (λ (t : Stamp). IsHeld t lock) same held
@@ -193,12 +218,12 @@ module _ {Key Told T : Type 0} (m : Meaning Key) (left : T → Turns Key) (way :
       unmet now same bad = not_true (sym (ap is_some ready.unstopped.0) ∙ sym ready.met ∙ sym same ∙ bad)
 
       -- where its job makes no call it makes none
-      pub idle_once : (call : OneCall) → Judged d m stamp way ends (job p.runner.source d stamp) (left s) s session x (verdict.OneCall call) → x.dialect ≡ d → (database : Database) → StandsFor x.dialect x.committed database → CallsNone (job p.runner.source d stamp) database → ⊥
+      pub idle_once : (call : OneCall) → Judged d m stamp way ends (job p.runner.source d stamp) reports (left s) s session x (verdict.OneCall call) → x.dialect ≡ d → (database : Database) → StandsFor x.dialect x.committed database → CallsNone (job p.runner.source d stamp) database → ⊥
       idle_once call judged same database stands none_made =
           let both = judged.3 same database (subst (λ k. StandsFor k x.committed database) same stands) in
           calls_some (job p.runner.source d stamp) database (Alone call.deeds call.room) [] both.0.1 both.1.passes both.1.script_is none_made
 
-      pub idle_begun : (hand : Hand) → Judged d m stamp way ends (job p.runner.source d stamp) (left s) s session x (verdict.Turns hand) → x.dialect ≡ d → (database : Database) → StandsFor x.dialect x.committed database → CallsNone (job p.runner.source d stamp) database → ⊥
+      pub idle_begun : (hand : Hand) → Judged d m stamp way ends (job p.runner.source d stamp) reports (left s) s session x (verdict.Turns hand) → x.dialect ≡ d → (database : Database) → StandsFor x.dialect x.committed database → CallsNone (job p.runner.source d stamp) database → ⊥
       idle_begun hand judged same database stands none_made =
           let both = judged.1 same database (subst (λ k. StandsFor k x.committed database) same stands) in
           calls_some (job p.runner.source d stamp) database (Alone (map Locks (opening stamp database)) Ordinary) (rest d m stamp (place_of hand (left s)) (both_on database)) both.0.1 both.1.passes both.1.script_is none_made
@@ -211,31 +236,34 @@ module _ {Key Told T : Type 0} (m : Meaning Key) (left : T → Turns Key) (way :
         same_stamp : q.runner.stamp ≡ stamp
         same_stamp = ap (λ (r : Runner T). r.stamp) runner_is
 
+        same_report : reports q.runner.source ≡ reports s
+        same_report = ap (λ (r : Runner T). reports r.source) runner_is
+
         same_fault : q.runner.fault ≡ p.runner.fault
         same_fault = ap (λ (r : Runner T). r.fault) runner_is
 
-        pub took_told : (a : Answer) → Answers (Ok a) p.faulted q.answer q.faulted result → Judged d m stamp way ends (job p.runner.source d stamp) (left s) s session x (verdict.Answer a) → Took session before (after q) x x c c result
+        pub took_told : (a : Answer) → Answers (Ok a) p.faulted q.answer q.faulted result → Judged d m stamp way ends (job p.runner.source d stamp) reports (left s) s session x (verdict.Answer a) → Took session before (after q) x x c c result
         took_told a its judged =
-            answered session before (after q) x x c c result a its judged.0 live same_dialect (λ lives. shut_as q.begun q.runner.hand (is_open session x.begun) (begun_is ∙ fresh) shut) (shut_new q.begun q.runner.hand (begun_is ∙ fresh)) (lets_be session false x x (stays session x live))
-            (owns_by q same_stamp) (answered_ready q a its.0) (λ bad. absurd (unmet q.faulted its.1 bad)) (moves_told session before (after q) x none fresh shut a its.0 (owes_by q same_fault) judged.1) (safe_told session before (after q) x c)
+            answered session before (after q) x x c c result (reports s) a (came_ok q a (reports s) result same_report its) judged.0 live same_dialect (λ lives. shut_as q.begun q.runner.hand (is_open session x.begun) (begun_is ∙ fresh) shut) (shut_new q.begun q.runner.hand (begun_is ∙ fresh)) (lets_be session false x x (stays session x live))
+            (owns_by q same_stamp) (answered_ready q a its.0) (λ bad. absurd (unmet q.faulted its.1 bad)) (moves_told session before (after q) x none fresh shut (came (reports s) a) (came_of q a (reports s) same_report its.0) (owes_by q same_fault) judged.1) (safe_told session before (after q) x c)
 
         pub took_lack : Answers (Err drill.OutOfMemory) p.faulted q.answer q.faulted result → Took session before (after q) x x c c result
         took_lack its =
-            failed_so session before (after q) x x c c result drill.OutOfMemory its same_dialect (λ lives. shut_as q.begun q.runner.hand (is_open session x.begun) (begun_is ∙ fresh) shut) (shut_new q.begun q.runner.hand (begun_is ∙ fresh)) (lets_be session false x x (stays session x live))
+            failed_so session before (after q) x x c c result drill.OutOfMemory (came_err q drill.OutOfMemory p.faulted result its) same_dialect (λ lives. shut_as q.begun q.runner.hand (is_open session x.begun) (begun_is ∙ fresh) shut) (shut_new q.begun q.runner.hand (begun_is ∙ fresh)) (lets_be session false x x (stays session x live))
             (owns_by q same_stamp) (answered_ready q (failure_of drill.OutOfMemory) its.0) (stops_still session before (after q) x drill.OutOfMemory (λ jobs origin v dialect shows plays. refl)) (safe_told session before (after q) x c)
 
-        pub took_once : (y : State) (now : Crashes) (call : OneCall) (done : Result Answer DrillFault) → Answers done p.faulted q.answer q.faulted result → Judged d m stamp way ends (job p.runner.source d stamp) (left s) s session x (verdict.OneCall call)
+        pub took_once : (y : State) (now : Crashes) (call : OneCall) (done : Result Answer DrillFault) → Answers done p.faulted q.answer q.faulted result → Judged d m stamp way ends (job p.runner.source d stamp) reports (left s) s session x (verdict.OneCall call)
             → CallsOnce d session call x done y → Beside session (is_disk_answer done) x y → CrashesFor d session (Alone call.deeds call.room) x c now → (y.live ≡ true → is_open session y.begun ≡ false) → Took session before (after q) x y c now result
         took_once y now call (Ok a) its judged calls beside crash shuts =
-            answered session before (after q) x y c now result a its (ap is_failure calls.0 ∙ judged.0) beside.live same_dialect (λ lives. shut_as q.begun q.runner.hand (is_open session y.begun) (begun_is ∙ fresh) (shuts lives)) (shut_new q.begun q.runner.hand (begun_is ∙ fresh)) (lets_be session false x y beside)
-            (owns_by q same_stamp) (answered_ready q a its.0) (λ bad. absurd (unmet q.faulted its.1 bad)) (moves_once session before (after q) x none fresh shut y call (its.0 ∙ ap (λ b. Some b) calls.0) (owes_by q same_fault) shuts judged.3 calls.1)
-            (safe_once session before (after q) x none fresh shut c now call judged.3 crash)
+            answered session before (after q) x y c now result (reports s) a (came_ok q a (reports s) result same_report its) (ap is_failure calls.0 ∙ judged.0) beside.live same_dialect (λ lives. shut_as q.begun q.runner.hand (is_open session y.begun) (begun_is ∙ fresh) (shuts lives)) (shut_new q.begun q.runner.hand (begun_is ∙ fresh)) (lets_be session false x y beside)
+            (owns_by q same_stamp) (answered_ready q a its.0) (λ bad. absurd (unmet q.faulted its.1 bad)) (moves_once session before (after q) x none fresh shut y (reports s) call (came_of q a (reports s) same_report its.0 ∙ ap (λ b. Some (came (reports s) b)) calls.0) (owes_by q same_fault) shuts judged.3 calls.1)
+            (safe_once session before (after q) x none fresh shut c now (reports s) call judged.3 crash)
         took_once y now call (Err why) its judged calls beside crash shuts =
-            failed_so session before (after q) x y c now result why its same_dialect (λ lives. shut_as q.begun q.runner.hand (is_open session y.begun) (begun_is ∙ fresh) (shuts lives)) (shut_new q.begun q.runner.hand (begun_is ∙ fresh)) (lets_be session (is_disk_fault why) x y beside)
-            (owns_by q same_stamp) (answered_ready q (failure_of why) its.0) (stops_once session before (after q) x none fresh shut y why call judged.3 calls) (safe_once session before (after q) x none fresh shut c now call judged.3 crash)
+            failed_so session before (after q) x y c now result why (came_err q why p.faulted result its) same_dialect (λ lives. shut_as q.begun q.runner.hand (is_open session y.begun) (begun_is ∙ fresh) (shuts lives)) (shut_new q.begun q.runner.hand (begun_is ∙ fresh)) (lets_be session (is_disk_fault why) x y beside)
+            (owns_by q same_stamp) (answered_ready q (failure_of why) its.0) (stops_once session before (after q) x none fresh shut y why (reports s) call judged.3 calls) (safe_once session before (after q) x none fresh shut c now (reports s) call judged.3 crash)
 
       -- it takes the lock
-      module _ (hand : Hand) (started : Progress) (is_started : started ≡ no_progress) (judged : Judged d m stamp way ends (job p.runner.source d stamp) (left s) s session x (verdict.Turns hand)) (reads_it : reads s d) where
+      module _ (hand : Hand) (started : Progress) (is_started : started ≡ no_progress) (judged : Judged d m stamp way ends (job p.runner.source d stamp) reports (left s) s session x (verdict.Turns hand)) (reads_it : reads s d) where
         abbrev begun_runner : Runner T
         begun_runner = record (p.runner) { source = s; hand = hand; progress = started }
 
@@ -262,14 +290,14 @@ module _ {Key Told T : Type 0} (m : Meaning Key) (left : T → Turns Key) (way :
         pub took_begun : (q : Playing T) (y : State) (now : Crashes) (result : Result (Unit {0}) DrillFault) → q.runner ≡ begun_runner → Begins d stamp session x y p.begun p.answer p.faulted q.begun q.answer q.faulted result → Beside session (is_disk_answer result) x y
             → CrashesOpening d stamp session x c now → (y.live ≡ true → is_open session y.begun ≡ false) → Took session before (after q) x y c now result
         took_begun q y now (Ok u) runner_is begins beside crash shuts =
-            goes_on session before (after q) x y c now (Ok u) refl (begins.2 ∙ none) beside.live (ap (λ (r : Runner T). r.dialect) runner_is)
+            goes_on session before (after q) x y c now (Ok u) refl (none_then q begins.2) beside.live (ap (λ (r : Runner T). r.dialect) runner_is)
             (λ lives. open_as q.begun q.runner.hand (is_open session y.begun) begins.1 (shuts lives ∙ shut_hand ∙ ap (λ (r : Runner T). asks_open r.hand) (sym runner_is))) (lets_be session false x y beside)
             (owns_by q (ap (λ (r : Runner T). r.stamp) runner_is)) (λ unanswered. subst (λ b. IsReadyAs reads b q.faulted q.runner) (sym begins.1) (subst (λ b. IsGoing reads b q.runner) (sym begins.3) (subst (IsGoing reads p.faulted) (sym runner_is) going))) (λ was. begins.3 ∙ was)
-            (moves_begun m stamp way ends s session before (after q) x y (standing left way begun_runner) none fresh shut (begins.2 ∙ none) begins.1
+            (moves_begun m stamp way ends s session before (after q) x y (standing left way begun_runner) none fresh shut (none_then q begins.2) begins.1
             (λ h is. subst (λ (r : Runner T). IsUnder r.dialect m r.stamp (standing left way r) way ends h) (sym runner_is) is) (λ lock held. subst (λ (r : Runner T). IsHeld r.stamp lock) (sym runner_is) held) (owes_by q (ap (λ (r : Runner T). r.fault) runner_is)) new is_started refl judged.1 begins.0)
             (safe_begun session before (after q) x none fresh shut c now m stamp way ends (left s) s hand judged.1 crash)
         took_begun q y now (Err why) runner_is begins beside crash shuts =
-            failed_so session before (after q) x y c now (Err why) why (begins.1, begins.2, refl) (ap (λ (r : Runner T). r.dialect) runner_is) (λ lives. shut_as q.begun q.runner.hand (is_open session y.begun) (begins.0 ∙ fresh) (shuts lives)) (shut_new q.begun q.runner.hand (begins.0 ∙ fresh))
+            failed_so session before (after q) x y c now (Err why) why (came_err q why p.faulted (Err why) (begins.1, begins.2, refl)) (ap (λ (r : Runner T). r.dialect) runner_is) (λ lives. shut_as q.begun q.runner.hand (is_open session y.begun) (begins.0 ∙ fresh) (shuts lives)) (shut_new q.begun q.runner.hand (begins.0 ∙ fresh))
             (lets_be session (is_disk_fault why) x y beside) (owns_by q (ap (λ (r : Runner T). r.stamp) runner_is)) (answered_ready q (failure_of why) begins.1)
             (stops_begun session before (after q) x none fresh shut y why m stamp way ends (left s) s hand judged.1 begins.3) (safe_begun session before (after q) x none fresh shut c now m stamp way ends (left s) s hand judged.1 crash)
 
@@ -287,12 +315,12 @@ module _ {Key Told T : Type 0} (m : Meaning Key) (left : T → Turns Key) (way :
           → IfOk told (λ a. found ≡ Ok a) → (is_some p.runner.fault ≡ true → IfOk told (λ a. tells_locked a ≡ true)) → IfErr told (λ why. (found ≡ Err why) ⊎ ((a : Answer) × (found ≡ Ok a) × (tells_locked a ≡ false))) → Took session before (after q) x x c c result
       took_hindered q result found (Ok a) runner_is begun_is its hinders kept locked fails =
           let it : Hinders d stamp session (asks_open p.runner.hand) x (Some (Ok a)) = hindered_so found (Ok a) kept hinders in
-          answered session before (after q) x x c c result a its it.1 live (ap (λ (r : Runner T). r.dialect) runner_is) (λ lives. open_as q.begun q.runner.hand (is_open session x.begun) (begun_is ∙ begun) (opened ∙ ap (λ (r : Runner T). asks_open r.hand) (sym runner_is)))
+          answered session before (after q) x x c c result (reports q.runner.source) a (came_ok q a (reports q.runner.source) result refl its) it.1 live (ap (λ (r : Runner T). r.dialect) runner_is) (λ lives. open_as q.begun q.runner.hand (is_open session x.begun) (begun_is ∙ begun) (opened ∙ ap (λ (r : Runner T). asks_open r.hand) (sym runner_is)))
           (shut_at q.begun q.runner.hand (ap (λ (r : Runner T). asks_open r.hand) runner_is ∙ hinders_shut d stamp session (asks_open p.runner.hand) x found hinders)) (lets_be session false x x (stays session x live)) (owns_by q (ap (λ (r : Runner T). r.stamp) runner_is)) (answered_ready q a its.0) (λ bad. locked (met_before q.faulted true its.1 bad))
-          (moves_hindered m stamp way ends session before (after q) x (standing left way p.runner) none begun (λ h under. under) (λ lock held. held) plain a its.0 it.2 (owes_by q (ap (λ (r : Runner T). r.fault) runner_is)))
+          (moves_hindered m stamp way ends session before (after q) x (standing left way p.runner) none begun (λ h under. under) (λ lock held. held) plain (reports q.runner.source) a (came_of q a (reports q.runner.source) refl its.0) it.2 (owes_by q (ap (λ (r : Runner T). r.fault) runner_is)))
           (safe_told session before (after q) x c)
       took_hindered q result found (Err why) runner_is begun_is its hinders kept locked fails =
-          failed_so session before (after q) x x c c result why its (ap (λ (r : Runner T). r.dialect) runner_is) (λ lives. open_as q.begun q.runner.hand (is_open session x.begun) (begun_is ∙ begun) (opened ∙ ap (λ (r : Runner T). asks_open r.hand) (sym runner_is)))
+          failed_so session before (after q) x x c c result why (came_err q why p.faulted result its) (ap (λ (r : Runner T). r.dialect) runner_is) (λ lives. open_as q.begun q.runner.hand (is_open session x.begun) (begun_is ∙ begun) (opened ∙ ap (λ (r : Runner T). asks_open r.hand) (sym runner_is)))
           (shut_at q.begun q.runner.hand (ap (λ (r : Runner T). asks_open r.hand) runner_is ∙ hinders_shut d stamp session (asks_open p.runner.hand) x found hinders)) (lets_be session false x x (stays session x live)) (owns_by q (ap (λ (r : Runner T). r.stamp) runner_is)) (answered_ready q (failure_of why) its.0) (stops_still session before (after q) x why (λ jobs origin v dialect shows plays. elim fails [
             | inl is ↦ let lacks : Hinders d stamp session (asks_open p.runner.hand) x (Some (Err why)) = hindered_so found (Err why) is hinders in lacks.1
             | inr own ↦
@@ -315,8 +343,9 @@ module _ {Key Told T : Type 0} (m : Meaning Key) (left : T → Turns Key) (way :
             → ((k : Dialect) → Stays k r.stamp r.fault (asks_open r.hand) y None) → Steps d m stamp session (standing left way p.runner) (standing left way r) x step.Going y → Took session before (after (record p { runner = r; faulted = f })) x y c now (Ok tt)
         went_on f faulted_is moment reads_it more disk beside stays steps =
             let q : Playing T = record p { runner = r; faulted = f } in
+            let none_on : (after q).answer ≡ None = none_then q refl in
             let met : is_some r.fault ≡ true → f ≡ true = λ is. faulted_is ∙ met_now p.faulted (is_some r.fault) is in
-            goes_on session before (after q) x y c now (Ok tt) refl none beside.live same.0 (λ lives. open_as p.begun r.hand (is_open session y.begun) begun (asks_now lives)) (lets_be session false x y beside) (owns_by q same.1)
+            goes_on session before (after q) x y c now (Ok tt) refl none_on beside.live same.0 (λ lives. open_as p.begun r.hand (is_open session y.begun) begun (asks_now lives)) (lets_be session false x y beside) (owns_by q same.1)
             (λ unanswered. subst (λ b. IsReadyAs reads b f r) (sym begun) (record {
               reads_it = reads_it;
               moment = subst (λ (t : Stamp). t.reading ≤ 253402300799999) (sym same.1) moment;
@@ -327,7 +356,7 @@ module _ {Key Told T : Type 0} (m : Meaning Key) (left : T → Turns Key) (way :
               met = faulted_is ∙ still_met p.faulted (is_some p.runner.fault) (is_some r.fault) was_met stays_met;
             }))
             (λ was. faulted_is ∙ ap (λ b. b || is_some r.fault) was)
-            (moves_on m stamp way ends session before (after q) x (standing left way p.runner) none begun (λ h is. is) (λ lock held. held) plain y (asks_open p.runner.hand) opened free (standing left way r) none begun
+            (moves_on m stamp way ends session before (after q) x (standing left way p.runner) none begun (λ h is. is) (λ lock held. held) plain y (asks_open p.runner.hand) opened free (standing left way r) none_on begun
             (λ h is. subst (λ k. IsUnder k m r.stamp (standing left way r) way ends h) (sym same.0) (subst (λ t. IsUnder d m t (standing left way r) way ends h) (sym same.1) is)) (λ lock held. subst (λ (t : Stamp). IsHeld t lock) (sym same.1) held)
             met (λ why it. it) owed_before more disk (λ g some shut. elim (subst (λ (t : Stamp). Stays d t r.fault (asks_open r.hand) y None) same.1 (stays d)) [
               | inl healthy ↦ absurd (some_none g (sym some ∙ healthy))
@@ -344,25 +373,26 @@ module _ {Key Told T : Type 0} (m : Meaning Key) (left : T → Turns Key) (way :
         took_going q (Err why) f faulted_is runner_is begun_is rests moment reads_it more disk beside steps =
             let it = rests d in
             let stays : Stays d stamp r.fault (asks_open r.hand) y (Some it.0) = subst (λ (t : Stamp). Stays d t r.fault (asks_open r.hand) y (Some it.0)) same.1 it.1 in
-            failed_so session before (after q) x y c now (Err why) why it.3 (ap (λ (v : Runner T). v.dialect) runner_is ∙ same.0)
+            failed_so session before (after q) x y c now (Err why) why (came_err q why f (Err why) it.3) (ap (λ (v : Runner T). v.dialect) runner_is ∙ same.0)
             (λ lives. open_as q.begun q.runner.hand (is_open session y.begun) (begun_is ∙ begun) (asks_now lives ∙ ap (λ (v : Runner T). asks_open v.hand) (sym runner_is))) (shut_at q.begun q.runner.hand (ap (λ (v : Runner T). asks_open v.hand) runner_is ∙ stays.1)) (lets_be session false x y beside)
             (owns_by q (ap (λ (v : Runner T). v.stamp) runner_is ∙ same.1)) (answered_ready q (failure_of why) it.3.0)
-            (subst (λ w. Moves failure_of session before (after q) x (Err w) y) (sym it.2)
+            (subst (λ w. Moves as_failed session before (after q) x (Err w) y) (sym it.2)
             (moves_stayed m stamp way ends session before (after q) x (standing left way p.runner) none begun (λ h is. is) (λ lock held. held) plain y (asks_open p.runner.hand) opened free (standing left way r) it.0 stays.0 it.3.1 stays.2 (asks_now beside.live ∙ stays.1) more owed_before steps))
             (safe_going m stamp way ends session before (after q) x (standing left way p.runner) none begun (λ h is. is) (λ lock held. held) plain (asks_open p.runner.hand) opened free r.fault c now (λ is. it.3.1) crash)
 
         pub took_ended : (q : Playing T) (result : Result (Unit {0}) DrillFault) (e : End) (found : Result Answer DrillFault) → q.runner ≡ r → q.begun ≡ p.begun → Answers found p.faulted q.answer q.faulted result
-            → IfOk found (λ a. is_failure a ≡ false) → IfOk found (λ a. is_failed_end e ≡ false) → IfOk found (λ a. is_told_end e ≡ true → a ≡ ends r.source (refusal_in e)) → IfOk found (λ a. is_told_end e ≡ false → tells_locked a ≡ true)
+            → IfOk found (λ a. is_failure a ≡ false) → IfOk found (λ a. is_failed_end e ≡ false) → IfOk found (λ a. is_told_end e ≡ true → came (reports r.source) a ≡ ends r.source (refusal_in e)) → IfOk found (λ a. is_told_end e ≡ false → tells_locked a ≡ true)
             → IfErr found (FailsAs e) → (is_some r.fault ≡ true → StopsAs p.runner.fault (step.Ended e)) → is_over r.hand.phase ≡ true → Beside session (is_disk_end e) x y → Steps d m stamp session (standing left way p.runner) (standing left way r) x (step.Ended e) y → Took session before (after q) x y c now result
         took_ended q result e (Ok a) runner_is begun_is its own whole tells locked fails stops over beside steps =
+            let same_reports : reports q.runner.source ≡ reports r.source = ap (λ (v : Runner T). reports v.source) runner_is in
             let alive : y.live ≡ true = (subst (λ b. Beside session b x y) (whole_disk e whole) beside).live in
-            answered session before (after q) x y c now result a its own alive (ap (λ (v : Runner T). v.dialect) runner_is ∙ same.0)
+            answered session before (after q) x y c now result (reports r.source) a (came_ok q a (reports r.source) result same_reports its) own alive (ap (λ (v : Runner T). v.dialect) runner_is ∙ same.0)
             (λ lives. open_as q.begun q.runner.hand (is_open session y.begun) (begun_is ∙ begun) (asks_now lives ∙ ap (λ (v : Runner T). asks_open v.hand) (sym runner_is))) (shut_at q.begun q.runner.hand (ap (λ (v : Runner T). asks_open v.hand) runner_is ∙ over_shut r.hand.phase (calls_left r.hand) over)) (lets_be session (is_disk_end e) x y beside)
             (owns_by q (ap (λ (v : Runner T). v.stamp) runner_is ∙ same.1)) (answered_ready q a its.0) (λ bad. locked (not_told p.runner.fault e (stops (stays_met (met_before q.faulted true its.1 bad)))))
-            (moves_last m stamp way ends session before (after q) x (standing left way p.runner) none begun (λ h is. is) (λ lock held. held) plain y (asks_open p.runner.hand) opened free (standing left way r) a e its.0 whole r.source tells (λ k told it. it) stops (λ why it. (it.0, sym (ap (λ (v : Runner T). v.fault) runner_is) ∙ it.1, it.2)) steps)
+            (moves_last m stamp way ends session before (after q) x (standing left way p.runner) none begun (λ h is. is) (λ lock held. held) plain y (asks_open p.runner.hand) opened free (standing left way r) (came (reports r.source) a) e (came_of q a (reports r.source) same_reports its.0) whole r.source tells (λ k told it. it) stops (λ why it. (it.0, sym (ap (λ (v : Runner T). v.fault) runner_is) ∙ it.1, it.2)) steps)
             (safe_ended m stamp way ends session before (after q) x (standing left way p.runner) none begun (λ h is. is) (λ lock held. held) plain (asks_open p.runner.hand) opened free r.fault c now (λ is. its.1 ∙ was_met ∙ had_met p.runner.fault r.fault e whole stops is) crash)
         took_ended q result e (Err why) runner_is begun_is its own whole tells locked fails stops over beside steps =
-            failed_so session before (after q) x y c now result why its (ap (λ (v : Runner T). v.dialect) runner_is ∙ same.0)
+            failed_so session before (after q) x y c now result why (came_err q why p.faulted result its) (ap (λ (v : Runner T). v.dialect) runner_is ∙ same.0)
             (λ lives. open_as q.begun q.runner.hand (is_open session y.begun) (begun_is ∙ begun) (asks_now lives ∙ ap (λ (v : Runner T). asks_open v.hand) (sym runner_is))) (shut_at q.begun q.runner.hand (ap (λ (v : Runner T). asks_open v.hand) runner_is ∙ over_shut r.hand.phase (calls_left r.hand) over)) (lets_be session (is_disk_end e) x y beside)
             (owns_by q (ap (λ (v : Runner T). v.stamp) runner_is ∙ same.1)) (answered_ready q (failure_of why) its.0)
             (stops_last m stamp way ends session before (after q) x (standing left way p.runner) none begun (λ h is. is) (λ lock held. held) plain y (asks_open p.runner.hand) opened free (standing left way r) e why fails its.1 owed_before (λ lives. asks_now lives ∙ over_shut r.hand.phase (calls_left r.hand) over) steps)

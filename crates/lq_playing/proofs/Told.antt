@@ -1,5 +1,6 @@
 -- What the looks at a store tell.
 use Rattle.std.proofs.Common.{ap, inl, inr, subst, sym, ◌∙◌}
+use Rattle.std.specs.Option.{option_map}
 use Rattle.std.specs.Prelude.{Bool, Err, IfErr, IfOk, IfSome, List, None, Ok, Option, Result, Some, [], cond, false, is_some, refl, true, ℕ, ◌&&◌, ◌∷◌, ◌≡◌, ◌⊎◌}
 use Rattle.lq_base.specs.declared.dialect.Dialect.{Dialect}
 use Rattle.lq_base.specs.declared.tracking.Lock.{Lock}
@@ -14,9 +15,12 @@ use Rattle.lq_model.specs.Catalogue.{Catalogue}
 use Rattle.lq_model.specs.declared.fault.StoreFault.{StoreFault}
 use Rattle.lq_model.specs.declared.fault.StoreFault.TheVariants as fault
 use Rattle.lq_playing.specs.Answers.{fault_of, is_disk_fault, is_failed_end, is_failure, tells_locked}
+use Rattle.lq_playing.specs.Came.{as_locked, came}
 use Rattle.lq_playing.specs.Checked.{Checked, Work}
 use Rattle.lq_playing.specs.Hindered.{Hinders, IsFree, Stays, TellsBusy as IsTold, TellsLost, TellsOpen, asks_open, asks_open_at}
 use Rattle.lq_playing.specs.Judged.{AnswersBeside, AnswersFirst, CallsOnce, Judged, TellsBusy, TellsHeld}
+use Rattle.lq_playing.specs.declared.came.Came.{Came}
+use Rattle.lq_playing.specs.declared.came.Report.{Report}
 use Rattle.lq_playing.specs.declared.checks.OneCall.{OneCall}
 use Rattle.lq_playing.specs.declared.checks.Verdict.{Verdict}
 use Rattle.lq_playing.specs.declared.checks.Verdict.TheVariants as verdict
@@ -101,19 +105,29 @@ pub no_disk : {A X : Type 0} (r : Result A DrillFault) → IfErr r (λ why. why 
 no_disk (Ok a) lacks is = Prim.cc
 no_disk (Err why) lacks is = Prim.cc
 
+-- an answer with what was done is there where the answer is
+
+pub none_came : {A B : Type 0} (f : A → B) (o : Option A) → option_map f o ≡ None → o ≡ None
+none_came f None is = refl
+none_came f (Some a) is = absurd (some_none (f a) is)
+
+pub some_came : {A B : Type 0} (f : A → B) (o : Option A) → is_some o ≡ is_some (option_map f o)
+some_came f None = refl
+some_came f (Some a) = refl
+
 -- a first step
 
-module _ {Key Told T : Type 0} (d : Dialect) (m : Meaning Key) (stamp : Stamp) (way : T → Dialect → Stamp → Told → Way) (ends : T → Option Refusal → Answer) (job : Work) (turns : Turns Key) (source : T) (session : ℕ) (x : State) (kept : Bool)
+module _ {Key Told T : Type 0} (d : Dialect) (m : Meaning Key) (stamp : Stamp) (way : T → Dialect → Stamp → Told → Way) (ends : T → Option Refusal → Came) (job : Work) (reports : T → Report) (turns : Turns Key) (source : T) (session : ℕ) (x : State) (kept : Bool)
     (out : IfSome (lock_of x.dialect x.committed) (λ lock. kept ≡ (job.needs_lock && lock.locked))) where
   -- the lock keeps it out, or lets it in
   kept_at : (database : Database) → x.dialect ≡ d → StandsFor d x.committed database → kept ≡ (job.needs_lock && database.lock.locked)
   kept_at database is stands = told_at (λ lock. kept ≡ (job.needs_lock && lock.locked)) x.dialect d x.committed database out is stands
 
-  pub kept_out : (lock : Lock) (v : Verdict) → kept ≡ true → IfSome (lock_of x.dialect x.committed) (λ it. lock ≡ it) → TellsHeld lock v → Judged d m stamp way ends job turns source session x v
+  pub kept_out : (lock : Lock) (v : Verdict) → kept ≡ true → IfSome (lock_of x.dialect x.committed) (λ it. lock ≡ it) → TellsHeld lock v → Judged d m stamp way ends job reports turns source session x v
   kept_out lock (verdict.Answer a) is there tells = (
     ap is_failure tells,
-    λ same database stands. subst (λ b. AnswersFirst b (other session x) job a database) (sym is ∙ kept_at database same stands)
-        (tells ∙ ap (λ l. Locked l) (told_at (λ it. lock ≡ it) x.dialect d x.committed database there same stands)),
+    λ same database stands. subst (λ b. AnswersFirst b (other session x) job (came (reports source) a) database) (sym is ∙ kept_at database same stands)
+        (ap (came (reports source)) tells ∙ ap as_locked (told_at (λ it. lock ≡ it) x.dialect d x.committed database there same stands)),
   )
   kept_out lock verdict.Lack is there tells = tt
   kept_out lock (verdict.OneCall call) is there tells = absurd tells
@@ -123,11 +137,11 @@ module _ {Key Told T : Type 0} (d : Dialect) (m : Meaning Key) (stamp : Stamp) (
     let_in : (database : Database) → x.dialect ≡ d → StandsFor d x.committed database → (job.needs_lock && database.lock.locked) ≡ false
     let_in database same stands = sym (kept_at database same stands) ∙ is
 
-    first_as : (database : Database) (a : Answer) (o : Option ℕ) → x.dialect ≡ d → StandsFor d x.committed database → other session x ≡ o → AnswersBeside o job a database → AnswersFirst (job.needs_lock && database.lock.locked) (other session x) job a database
+    first_as : (database : Database) (a : Came) (o : Option ℕ) → x.dialect ≡ d → StandsFor d x.committed database → other session x ≡ o → AnswersBeside o job a database → AnswersFirst (job.needs_lock && database.lock.locked) (other session x) job a database
     first_as database a o same stands other_is it = subst (λ b. AnswersFirst b (other session x) job a database) (sym (let_in database same stands)) (subst (λ p. AnswersBeside p job a database) (sym other_is) it)
 
-    pub found_busy : (why : StoreFault) (v : Verdict) → IsBusy session x why → TellsBusy why v → Judged d m stamp way ends job turns source session x v
-    found_busy (fault.Busy n) v busy tells = subst (Judged d m stamp way ends job turns source session x) (sym tells) (refl, λ same database stands. first_as database (Busy n) (Some n) same stands busy refl)
+    pub found_busy : (why : StoreFault) (v : Verdict) → IsBusy session x why → TellsBusy why v → Judged d m stamp way ends job reports turns source session x v
+    found_busy (fault.Busy n) v busy tells = subst (Judged d m stamp way ends job reports turns source session x) (sym tells) (refl, λ same database stands. first_as database (came (reports source) (Busy n)) (Some n) same stands busy refl)
     found_busy fault.Disk v busy tells = absurd busy
     found_busy (fault.Full used next) v busy tells = absurd busy
     found_busy (fault.Refused reason) v busy tells = absurd busy
@@ -141,8 +155,8 @@ module _ {Key Told T : Type 0} (d : Dialect) (m : Meaning Key) (stamp : Stamp) (
       stands_seen : (database : Database) → StandsFor d x.committed database → StandsFor d looked database
       stands_seen database stands = subst (λ c. StandsFor d c database) (sym seen_is) stands
 
-      pub judged : (v : Verdict) → Checked d m stamp way ends job turns source looked v → Judged d m stamp way ends job turns source session x v
-      judged (verdict.Answer a) checked = (checked.0, λ same database stands. first_as database a None same stands alone (checked.1 database (stands_seen database stands) (let_in database same stands)))
+      pub judged : (v : Verdict) → Checked d m stamp way ends job reports turns source looked v → Judged d m stamp way ends job reports turns source session x v
+      judged (verdict.Answer a) checked = (checked.0, λ same database stands. first_as database (came (reports source) a) None same stands alone (checked.1 database (stands_seen database stands) (let_in database same stands)))
       judged (verdict.OneCall call) checked = (checked.0, checked.1, checked.2, λ same database stands. ((alone, let_in database same stands), checked.3 database (stands_seen database stands) (let_in database same stands)))
       judged (verdict.Turns hand) checked = (checked.0, λ same database stands. ((alone, let_in database same stands), checked.1 database (stands_seen database stands) (let_in database same stands)))
       judged verdict.Lack checked = tt

@@ -87,10 +87,13 @@ refusal_in end.Disk = None
 refusal_in (end.Full used next) = None
 refusal_in end.OutOfMemory = None
 
--- the player answers, and a fault of the store is kept in mind
+-- it answers, and a fault of the store is kept in mind
+abbrev pub AnswersAs : {A : Type 0} → (DrillFault → A) → Result A DrillFault → Bool → Option A → Bool → Result (Unit {0}) DrillFault → Type 0
+AnswersAs failed (Ok a) was answers now result = (answers ≡ Some a) × (now ≡ was) × (result ≡ Ok tt)
+AnswersAs failed (Err why) was answers now result = (answers ≡ Some (failed why)) × (now ≡ true) × (result ≡ Err why)
+
 abbrev pub Answers : Result Answer DrillFault → Bool → Option Answer → Bool → Result (Unit {0}) DrillFault → Type 0
-Answers (Ok a) was answers now result = (answers ≡ Some a) × (now ≡ was) × (result ≡ Ok tt)
-Answers (Err why) was answers now result = (answers ≡ Some (failure_of why)) × (now ≡ true) × (result ≡ Err why)
+Answers found was answers now result = AnswersAs failure_of found was answers now result
 
 -- the disk failed
 abbrev pub is_disk_fault : DrillFault → Bool

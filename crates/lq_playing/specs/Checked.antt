@@ -9,6 +9,9 @@ use Rattle.lq_hand.specs.declared.hand.Hand.{Hand}
 use Rattle.lq_hand.specs.declared.hand.Phase.TheVariants as phase
 use Rattle.lq_model.specs.Catalogue.{Catalogue}
 use Rattle.lq_playing.specs.Answers.{is_failure}
+use Rattle.lq_playing.specs.Came.{as_busy, as_locked, came}
+use Rattle.lq_playing.specs.declared.came.Came.{Came}
+use Rattle.lq_playing.specs.declared.came.Report.{Report}
 use Rattle.lq_playing.specs.declared.checks.OneCall.{OneCall}
 use Rattle.lq_playing.specs.declared.checks.Verdict.{Verdict}
 use Rattle.lq_playing.specs.declared.checks.Verdict.TheVariants as verdict
@@ -23,34 +26,32 @@ use Rattle.lq_turns.specs.Rest.{Turns}
 use Rattle.lq_turns.specs.Schedule.{Job}
 use Rattle.lq_turns.specs.Session.{called, session_on}
 use Rattle.lq_turns.specs.Set.{Meaning}
-use Rattle.lq_turns.specs.declared.answer.Answer.{Answer}
-use Rattle.lq_turns.specs.declared.answer.Answer.TheVariants.{Busy, Locked}
 use Rattle.lq_turns.specs.declared.call.Call.TheVariants.{Alone}
 use Rattle.lq_turns.specs.declared.stamp.Stamp.{Stamp}
 use Rattle.lq_turns.specs.declared.stop.Refusal.{Refusal}
 
 -- a job of a player
 abbrev pub Work : Type 0
-Work = Job Answer Locked Busy
+Work = Job Came as_locked as_busy
 
 -- the lock does not keep it out
 abbrev pub IsLetIn : Work → Database → Type 0
 IsLetIn job database = (job.needs_lock && database.lock.locked) ≡ false
 
--- it passes its checks, makes no call, and answers so
-pub record MakesNone (job : Work) (a : Answer) (database : Database) : Type 0 where
+-- it passes its checks, makes no call, and comes to this
+pub record MakesNone (job : Work) (a : Came) (database : Database) : Type 0 where
   pub passes : job.refuses database ≡ None
   pub script_is : job.script database ≡ []
   pub answer_is : job.answer database ≡ a
 
-abbrev pub AnswersAtOnce : Work → Answer → Database → Type 0
+abbrev pub AnswersAtOnce : Work → Came → Database → Type 0
 AnswersAtOnce job a database = (job.refuses database ≡ Some a) ⊎ MakesNone job a database
 
--- it makes one call, whose deeds fit and are accepted, and which leaves the lock free
-pub record MakesOne (d : Dialect) (job : Work) (call : OneCall) (database : Database) : Type 0 where
+-- it makes one call, whose deeds fit and are accepted, and which leaves the lock free; with its answer it tells so much
+pub record MakesOne (d : Dialect) (job : Work) (report : Report) (call : OneCall) (database : Database) : Type 0 where
   pub passes : job.refuses database ≡ None
   pub script_is : job.script database ≡ Alone call.deeds call.room ∷ []
-  pub answer_is : job.answer database ≡ call.answer
+  pub answer_is : job.answer database ≡ came report call.answer
   pub fits : all_fit d call.deeds database ≡ true
   pub accepted : (now : Database) × (all_done d call.deeds database ≡ Ok now)
   pub free : (called d (Alone call.deeds call.room) (session_on database)).committed.lock.locked ≡ false
@@ -61,8 +62,8 @@ pub record IsInHand (d : Dialect) (stamp : Stamp) (hand : Hand) : Type 0 where
   pub turn : AreTurns d false (calls_left hand)
   pub holds : AllHoldOn stamp.who (calls_left hand)
 
-module _ {Key Told T : Type 0} (d : Dialect) (m : Meaning Key) (stamp : Stamp) (way : T → Dialect → Stamp → Told → Way) (ends : T → Option Refusal → Answer) (job : Work) where
-  -- It takes the lock, and makes the turns to come, whose calls fit. Their source knows what it will have told, and where it has, the command's answer is the job's.
+module _ {Key Told T : Type 0} (d : Dialect) (m : Meaning Key) (stamp : Stamp) (way : T → Dialect → Stamp → Told → Way) (ends : T → Option Refusal → Came) (job : Work) where
+  -- It takes the lock, and makes the turns to come, whose calls fit. Their source knows what it will have told, and where it has, the command comes to what the job does.
   pub record MakesTurns (turns : Turns Key) (source : T) (hand : Hand) (database : Database) : Type 0 where
     pub told : Told
     pub passes : job.refuses database ≡ None
@@ -75,8 +76,9 @@ module _ {Key Told T : Type 0} (d : Dialect) (m : Meaning Key) (stamp : Stamp) (
   abbrev pub OnSeen : Catalogue → (Database → Type 0) → Type 0
   OnSeen seen holds = (database : Database) → StandsFor d seen database → IsLetIn job database → holds database
 
-  abbrev pub Checked : Turns Key → T → Catalogue → Verdict → Type 0
-  Checked turns source seen (verdict.Answer a) = (is_failure a ≡ false) × OnSeen seen (AnswersAtOnce job a)
-  Checked turns source seen (verdict.OneCall call) = (is_failure call.answer ≡ false) × AllWritable d call.deeds × MayFill call.room call.deeds × OnSeen seen (MakesOne d job call)
-  Checked turns source seen (verdict.Turns hand) = IsInHand d stamp hand × OnSeen seen (MakesTurns turns source hand)
-  Checked turns source seen verdict.Lack = Unit {0}
+  -- what it did so far goes with its answer
+  abbrev pub Checked : (T → Report) → Turns Key → T → Catalogue → Verdict → Type 0
+  Checked reports turns source seen (verdict.Answer a) = (is_failure a ≡ false) × OnSeen seen (AnswersAtOnce job (came (reports source) a))
+  Checked reports turns source seen (verdict.OneCall call) = (is_failure call.answer ≡ false) × AllWritable d call.deeds × MayFill call.room call.deeds × OnSeen seen (MakesOne d job (reports source) call)
+  Checked reports turns source seen (verdict.Turns hand) = IsInHand d stamp hand × OnSeen seen (MakesTurns turns source hand)
+  Checked reports turns source seen verdict.Lack = Unit {0}

@@ -7,7 +7,10 @@ use Rattle.lq_hand.specs.Way.{Way}
 use Rattle.lq_model.specs.declared.fault.StoreFault.{StoreFault}
 use Rattle.lq_model.specs.declared.fault.StoreFault.TheVariants as fault
 use Rattle.lq_playing.specs.Answers.{failure_of, fault_of, is_failure}
+use Rattle.lq_playing.specs.Came.{as_busy, as_locked, came}
 use Rattle.lq_playing.specs.Checked.{AnswersAtOnce, IsInHand, IsLetIn, MakesOne, MakesTurns, Work}
+use Rattle.lq_playing.specs.declared.came.Came.{Came}
+use Rattle.lq_playing.specs.declared.came.Report.{Report}
 use Rattle.lq_playing.specs.declared.checks.OneCall.{OneCall}
 use Rattle.lq_playing.specs.declared.checks.Verdict.{Verdict}
 use Rattle.lq_playing.specs.declared.checks.Verdict.TheVariants as verdict
@@ -43,12 +46,12 @@ TellsBusy fault.NotSql v = v ≡ verdict.Lack
 TellsBusy fault.OutOfMemory v = v ≡ verdict.Lack
 
 -- an answer without a call: the lock that keeps it out, or the session that has a transaction open, or what its command answers at once
-abbrev pub AnswersBeside : Option ℕ → Work → Answer → Database → Type 0
-AnswersBeside (Some n) job a database = a ≡ Busy n
+abbrev pub AnswersBeside : Option ℕ → Work → Came → Database → Type 0
+AnswersBeside (Some n) job a database = a ≡ as_busy n
 AnswersBeside None job a database = AnswersAtOnce job a database
 
-abbrev pub AnswersFirst : Bool → Option ℕ → Work → Answer → Database → Type 0
-AnswersFirst true open_by job a database = a ≡ Locked database.lock
+abbrev pub AnswersFirst : Bool → Option ℕ → Work → Came → Database → Type 0
+AnswersFirst true open_by job a database = a ≡ as_locked database.lock
 AnswersFirst false open_by job a database = AnswersBeside open_by job a database
 
 -- no other session has a transaction open, and the lock does not keep it out
@@ -59,12 +62,12 @@ MayCall session x job database = (other session x ≡ None) × IsLetIn job datab
 abbrev pub OnIts : Dialect → State → (Database → Type 0) → Type 0
 OnIts d x holds = x.dialect ≡ d → (database : Database) → StandsFor d x.committed database → holds database
 
-module _ {Key Told T : Type 0} (d : Dialect) (m : Meaning Key) (stamp : Stamp) (way : T → Dialect → Stamp → Told → Way) (ends : T → Option Refusal → Answer) (job : Work) where
-  abbrev pub Judged : Turns Key → T → ℕ → State → Verdict → Type 0
-  Judged turns source session x (verdict.Answer a) = (is_failure a ≡ false) × OnIts d x (λ database. AnswersFirst (job.needs_lock && database.lock.locked) (other session x) job a database)
-  Judged turns source session x (verdict.OneCall call) = (is_failure call.answer ≡ false) × AllWritable d call.deeds × MayFill call.room call.deeds × OnIts d x (λ database. MayCall session x job database × MakesOne d job call database)
-  Judged turns source session x (verdict.Turns hand) = IsInHand d stamp hand × OnIts d x (λ database. MayCall session x job database × MakesTurns d m stamp way ends job turns source hand database)
-  Judged turns source session x verdict.Lack = Unit {0}
+module _ {Key Told T : Type 0} (d : Dialect) (m : Meaning Key) (stamp : Stamp) (way : T → Dialect → Stamp → Told → Way) (ends : T → Option Refusal → Came) (job : Work) where
+  abbrev pub Judged : (T → Report) → Turns Key → T → ℕ → State → Verdict → Type 0
+  Judged reports turns source session x (verdict.Answer a) = (is_failure a ≡ false) × OnIts d x (λ database. AnswersFirst (job.needs_lock && database.lock.locked) (other session x) job (came (reports source) a) database)
+  Judged reports turns source session x (verdict.OneCall call) = (is_failure call.answer ≡ false) × AllWritable d call.deeds × MayFill call.room call.deeds × OnIts d x (λ database. MayCall session x job database × MakesOne d job (reports source) call database)
+  Judged reports turns source session x (verdict.Turns hand) = IsInHand d stamp hand × OnIts d x (λ database. MayCall session x job database × MakesTurns d m stamp way ends job turns source hand database)
+  Judged reports turns source session x verdict.Lack = Unit {0}
 
 -- the one call of a command is made, from every session for which the store stands; or it met a fault
 abbrev pub CallsOnce : Dialect → ℕ → OneCall → State → Result Answer DrillFault → State → Type 0

@@ -1,4 +1,5 @@
 pub mod Answers
+pub mod Came
 pub mod Checked
 pub mod Judged
 pub mod Hindered

@@ -1,5 +1,6 @@
 -- A command as a player.
 use Rattle.std.proofs.Common.{ap, inl, inr}
+use Rattle.std.specs.Option.{option_map}
 use Rattle.std.specs.Prelude.{Bool, None, Ok, Option, Result, Some, false, is_some, true, ℕ, ◌≡◌, ◌≤◌}
 use Rattle.lq_base.specs.declared.dialect.Dialect.{Dialect}
 use Rattle.lq_base.specs.declared.tracking.Lock.{Lock}
@@ -10,10 +11,13 @@ use Rattle.lq_hand.specs.Hand.{calls_left}
 use Rattle.lq_hand.specs.Way.{Way}
 use Rattle.lq_hand.specs.declared.hand.Hand.{Hand}
 use Rattle.lq_model.specs.declared.fault.StoreFault.{StoreFault}
-use Rattle.lq_playing.specs.Answers.{failure_of, fault_of}
+use Rattle.lq_playing.specs.Answers.{fault_of}
+use Rattle.lq_playing.specs.Came.{as_busy, as_failed, as_locked, came}
 use Rattle.lq_playing.specs.Checked.{Work}
 use Rattle.lq_playing.specs.Hindered.{asks_open}
 use Rattle.lq_playing.specs.Under.{IsPlain, IsUnder}
+use Rattle.lq_playing.specs.declared.came.Came.{Came}
+use Rattle.lq_playing.specs.declared.came.Report.{Report}
 use Rattle.lq_playing.specs.declared.playing.Playing.{Playing}
 use Rattle.lq_run.specs.Beside.{Asks}
 use Rattle.lq_run.specs.Ends.{disk_failed}
@@ -24,8 +28,6 @@ use Rattle.lq_store.specs.Crashes.{Crashes}
 use Rattle.lq_store.specs.State.{State, is_open}
 use Rattle.lq_turns.specs.Rest.{Turns}
 use Rattle.lq_turns.specs.Set.{Meaning}
-use Rattle.lq_turns.specs.declared.answer.Answer.{Answer}
-use Rattle.lq_turns.specs.declared.answer.Answer.TheVariants.{Busy, Locked}
 use Rattle.lq_turns.specs.declared.stamp.Stamp.{Stamp}
 use Rattle.lq_turns.specs.declared.stop.Refusal.{Refusal}
 
@@ -63,8 +65,8 @@ module _ {T : Type 0} (reads : T → Dialect → Type 0) where
   IsReadyAs true faulted r = IsGoing faulted r
   IsReadyAs false faulted r = IsFresh faulted r
 
-module _ {Key Told T : Type 0} (m : Meaning Key) (left : T → Turns Key) (way : T → Dialect → Stamp → Told → Way) (reads : T → Dialect → Type 0) (job : T → Dialect → Stamp → Work) (ends : T → Option Refusal → Answer) where
-  abbrev pub stands : Playing T → Standing Answer Locked Busy
+module _ {Key Told T : Type 0} (m : Meaning Key) (left : T → Turns Key) (way : T → Dialect → Stamp → Told → Way) (reads : T → Dialect → Type 0) (job : T → Dialect → Stamp → Work) (ends : T → Option Refusal → Came) (reports : T → Report) where
+  abbrev pub stands : Playing T → Standing Came as_locked as_busy
   stands p = record {
     ready = p.answer ≡ None → IsReadyAs reads p.begun p.faulted p.runner;
     dialect = p.runner.dialect;
@@ -75,11 +77,11 @@ module _ {Key Told T : Type 0} (m : Meaning Key) (left : T → Turns Key) (way :
     begun = p.begun;
     is_at = IsUnder p.runner.dialect m p.runner.stamp (standing left way p.runner) way ends;
     owns = IsHeld p.runner.stamp;
-    answer = p.answer;
+    answer = option_map (came (reports p.runner.source)) p.answer;
   }
 
 -- what a step of a player comes to
-pub record Took (session : ℕ) (before after : Standing Answer Locked Busy) (x y : State) (c e : Crashes) (result : Result (Unit {0}) DrillFault) : Type 0 where
+pub record Took (session : ℕ) (before after : Standing Came as_locked as_busy) (x y : State) (c e : Crashes) (result : Result (Unit {0}) DrillFault) : Type 0 where
   pub live : result ≡ Ok tt → y.live ≡ true
   pub dialect : after.dialect ≡ before.dialect
   pub ready : after.ready
@@ -88,7 +90,7 @@ pub record Took (session : ℕ) (before after : Standing Answer Locked Busy) (x 
   pub lets_be : LetsBe session x y
   pub owns : (lock : Lock) → after.owns lock → before.owns lock
   pub faulted : before.faulted ≡ true → after.faulted ≡ true
-  pub met : HasMet failure_of session after
-  pub ends : EndsBy failure_of after result
-  pub moves : Moves failure_of session before after x result y
-  pub crash : MovesSafely failure_of session before after x c e
+  pub met : HasMet as_failed session after
+  pub ends : EndsBy as_failed after result
+  pub moves : Moves as_failed session before after x result y
+  pub crash : MovesSafely as_failed session before after x c e

@@ -6,7 +6,9 @@ use Rattle.lq_drill.specs.Faults.{is_barred, last_calls}
 use Rattle.lq_hand.specs.Hand.{IsReady}
 use Rattle.lq_hand.specs.Way.{Way}
 use Rattle.lq_model.specs.declared.fault.StoreFault.{StoreFault}
-use Rattle.lq_playing.specs.Answers.{failure_of, fault_of}
+use Rattle.lq_playing.specs.Answers.{fault_of}
+use Rattle.lq_playing.specs.Came.{as_busy, as_failed, as_locked}
+use Rattle.lq_playing.specs.declared.came.Came.{Came}
 use Rattle.lq_run.specs.Ends.{KeepsLock}
 use Rattle.lq_run.specs.Holds.{IsBare, IsHeld}
 use Rattle.lq_run.specs.Steps.{Known, Standing, place}
@@ -16,8 +18,6 @@ use Rattle.lq_turns.specs.Script.{closing}
 use Rattle.lq_turns.specs.Session.{Session}
 use Rattle.lq_turns.specs.Set.{Meaning}
 use Rattle.lq_turns.specs.Stepped.{both_of}
-use Rattle.lq_turns.specs.declared.answer.Answer.{Answer}
-use Rattle.lq_turns.specs.declared.answer.Answer.TheVariants.{Busy, Locked}
 use Rattle.lq_turns.specs.declared.call.Call.{Call}
 use Rattle.lq_turns.specs.declared.call.Call.TheVariants.{Abort}
 use Rattle.lq_turns.specs.declared.stamp.Stamp.{Stamp}
@@ -47,13 +47,13 @@ module _ {Key Told : Type 0} (d : Dialect) (m : Meaning Key) (stamp : Stamp) (r 
     pub seen : IsHeld stamp s.seen.lock
     pub keeps : KeepsLock stamp.who (rest d m stamp (place r) (both_of s))
 
-  -- what it will answer: what its source has told by then, or the fault that it met
-  abbrev pub WillAnswer : {T : Type 0} → (T → Dialect → Stamp → Told → Way) → (T → Option Refusal → Answer) → Told → Option StoreFault → Answer → Type 0
+  -- what it will come to: what its source has told by then, or the fault that it met
+  abbrev pub WillAnswer : {T : Type 0} → (T → Dialect → Stamp → Told → Way) → (T → Option Refusal → Came) → Told → Option StoreFault → Came → Type 0
   WillAnswer {T} way ends told None a = (last : T) (refused : Option Refusal) → (way last d stamp told).tells refused → ends last refused ≡ a
-  WillAnswer way ends told (Some why) a = a ≡ failure_of (fault_of why)
+  WillAnswer way ends told (Some why) a = a ≡ as_failed (fault_of why)
 
   -- The holder's calls to come are the command's; so is its answer.
-  pub record IsUnder {T : Type 0} (way : T → Dialect → Stamp → Told → Way) (ends : T → Option Refusal → Answer) (h : Holder Answer Locked Busy) : Type 0 where
+  pub record IsUnder {T : Type 0} (way : T → Dialect → Stamp → Told → Way) (ends : T → Option Refusal → Came) (h : Holder Came as_locked as_busy) : Type 0 where
     pub told : Told
     pub on : IsOn told h.session
     pub to_come : ToCome stamp r.fault h.session (rest d m stamp (place r) (both_of h.session)) h.rest

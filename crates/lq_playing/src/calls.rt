@@ -3,6 +3,7 @@ ghost use Rattle.lq_base.specs.declared.dialect.Dialect.{Dialect as Kind};
 ghost use Rattle.lq_drill.specs.declared.fault.DrillFault.TheVariants as drill;
 ghost use Rattle.lq_outside.specs.Count.{Rose};
 ghost use Rattle.lq_playing.specs.Answers.{FailsAs, fault_of, is_disk_answer, is_failed_end, is_failure, is_told_end, refusal_in, tells_locked};
+ghost use Rattle.lq_playing.specs.Came.{came};
 ghost use Rattle.lq_playing.specs.Judged.{CallsOnce, Judged, TellsBusy, TellsHeld};
 ghost use Rattle.lq_run.specs.Beside.{Beside};
 ghost use Rattle.lq_run.specs.Crashing.{CrashesFor};
@@ -39,7 +40,7 @@ pub fn judge<T: Checks, S: Store, P: SqlText>(
     requires sql { P.dialect ≡ dialect }
     requires moment { stamp.now.reading ≤ 253402300799999 }
     ensures judged { Judged dialect T.meaning stamp.now T.way T.ends
-        (T.job source.old dialect stamp.now) (T.left source.new) source.new session
+        (T.job source.old dialect stamp.now) T.reports (T.left source.new) source.new session
         (S.state store.now) result }
     ensures reads { T.reads source.new dialect }
 {
@@ -149,7 +150,8 @@ pub fn answer_at<T: Checks>(source: &T, end: End) -> Result<Answer, DrillFault>
     ensures own { IfOk result (λ a. is_failure a ≡ false) }
     ensures whole { IfOk result (λ a. is_failed_end end ≡ false) }
     ensures ends { IfOk result
-        (λ a. is_told_end end ≡ true → a ≡ T.ends source.now (refusal_in end)) }
+        (λ a. is_told_end end ≡ true
+        → came (T.reports source.now) a ≡ T.ends source.now (refusal_in end)) }
     ensures locked { IfOk result (λ a. is_told_end end ≡ false → tells_locked a ≡ true) }
     ensures fails { IfErr result (FailsAs end) }
     ensures disk { result ≡ Err drill.Disk → is_disk_end end ≡ true }
@@ -166,7 +168,7 @@ pub fn answer_at<T: Checks>(source: &T, end: End) -> Result<Answer, DrillFault>
 
 fn told<T: Checks>(source: &T, refused: Option<Refusal>) -> Result<Answer, DrillFault>
     ensures own { IfOk result (λ a. is_failure a ≡ false) }
-    ensures ends { IfOk result (λ a. a ≡ T.ends source.now refused) }
+    ensures ends { IfOk result (λ a. came (T.reports source.now) a ≡ T.ends source.now refused) }
     ensures fault { IfErr result (λ why. why ≡ drill.OutOfMemory) }
 {
     match source.answer(refused) {

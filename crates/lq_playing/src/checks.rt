@@ -1,9 +1,11 @@
 ghost use Rattle.std.specs.Prelude.{◌≡◌, ◌≤◌, IfOk, false};
 ghost use Rattle.lq_base.specs.declared.dialect.Dialect.{Dialect};
 ghost use Rattle.lq_playing.specs.Answers.{is_failure};
+ghost use Rattle.lq_playing.specs.Came.{came};
 ghost use Rattle.lq_playing.specs.Checked.{Checked};
 ghost use Rattle.lq_turns.specs.declared.stamp.Stamp.{Stamp};
 
+use crate::came::Report;
 use lq_base::{Dialect, Items, NoMemory};
 use lq_hand::{Hand, Source};
 use lq_model::{Look, Room, SqlText};
@@ -37,15 +39,19 @@ pub trait Checks: Source {
     ghost use Rattle.std.specs.Prelude.{Option};
     ghost use Rattle.lq_base.specs.declared.dialect.Dialect.{Dialect};
     ghost use Rattle.lq_playing.specs.Checked.{Work};
-    ghost use Rattle.lq_turns.specs.declared.answer.Answer.{Answer};
+    ghost use Rattle.lq_playing.specs.declared.came.Came.{Came};
+    ghost use Rattle.lq_playing.specs.declared.came.Report.{Report};
     ghost use Rattle.lq_turns.specs.declared.stamp.Stamp.{Stamp};
     ghost use Rattle.lq_turns.specs.declared.stop.Refusal.{Refusal};
 
     /// What a command that has this stamp does at its first step.
     ghost job: { Self → Dialect → Stamp → Work };
 
-    /// What it answers at its end, where this refusal stopped it, or none.
-    ghost ends: { Self → Option Refusal → Answer };
+    /// What it comes to at its end, where this refusal stopped it, or none.
+    ghost ends: { Self → Option Refusal → Came };
+
+    /// What it did, as far as it came.
+    ghost reports: { Self → Report };
 
     /// Whether a lock that is held keeps it out.
     fn needs_lock(&self) -> bool
@@ -64,12 +70,16 @@ pub trait Checks: Source {
         requires sql { P.dialect ≡ dialect }
         requires moment { stamp.now.reading ≤ 253402300799999 }
         ensures checked { Checked dialect Self.meaning stamp.now Self.way ends
-            (job self.old dialect stamp.now) (Self.left self.new) self.new (K.catalogue look.now)
-            result }
+            (job self.old dialect stamp.now) reports (Self.left self.new) self.new
+            (K.catalogue look.now) result }
         ensures reads { Self.reads self.new dialect };
 
     /// What it answers after its last call.
     fn answer(&self, refused: Option<Refusal>) -> Result<Answer, NoMemory>
         ensures own { IfOk result (λ a. is_failure a ≡ false) }
-        ensures ends { IfOk result (λ a. a ≡ ends self.now refused) };
+        ensures ends { IfOk result (λ a. came (reports self.now) a ≡ ends self.now refused) };
+
+    /// What it did, as far as it came.
+    fn into_report(self) -> Report
+        ensures { result ≡ reports self };
 }

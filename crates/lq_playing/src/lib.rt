@@ -2,11 +2,13 @@
 #![tactic(auto)]
 
 mod calls;
+mod came;
 mod checks;
 mod hindering;
 mod playing;
 
 pub use calls::{answer_at, call_once, fault_of, judge};
+pub use came::{Came, Report};
 pub use checks::{Checks, OneCall, Verdict};
 pub use hindering::{after_fault, hindrance, last_fault};
 pub use playing::Playing;

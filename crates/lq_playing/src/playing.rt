@@ -1,9 +1,10 @@
-ghost use Rattle.std.specs.Prelude.{◌≡◌, ◌≤◌, ◌||◌, Err, IsTrue, None, false, is_some, true, ℕ};
+ghost use Rattle.std.specs.Prelude.{◌≡◌, ◌≤◌, ◌||◌, Err, IsTrue, None, false, is_some, option_map, true, ℕ};
 ghost use Rattle.lq_drill.specs.Drill.{IsNew};
 ghost use Rattle.lq_drill.specs.declared.fault.DrillFault.TheVariants as drill;
 ghost use Rattle.lq_outside.specs.Count.{Rose};
 ghost use Rattle.lq_playing.specs.Answers.{Answers, failure_of, fault_of, is_disk_answer};
 ghost use Rattle.lq_base.specs.declared.dialect.Dialect.{Dialect as Names};
+ghost use Rattle.lq_playing.specs.Came.{came};
 ghost use Rattle.lq_playing.specs.Hindered.{IsFree, asks_open};
 ghost use Rattle.lq_playing.specs.Judged.{Begins};
 ghost use Rattle.lq_playing.specs.Resting.{RestsAs};
@@ -15,6 +16,7 @@ ghost use Rattle.lq_run.specs.Crashing.{CrashesOpening};
 ghost use Rattle.lq_store.specs.State.{is_open};
 
 use crate::calls::{answer_at, call_once, fault_of, judge};
+use crate::came::{Came, Report};
 use crate::checks::{Checks, Verdict};
 use crate::hindering::{after_fault, hindrance, last_fault};
 use lq_base::Dialect;
@@ -44,12 +46,12 @@ impl<T: Checks + Drop> Playing<T> {
         requires moment { stamp.reading ≤ 253402300799999 }
         requires plain { IsPlain stamp }
         ensures new { (n : ℕ)
-            → IsNew n (stands T.meaning T.left T.way T.reads T.job T.ends result) }
-        ensures ready { (stands T.meaning T.left T.way T.reads T.job T.ends result).ready }
-        ensures dialect { (stands T.meaning T.left T.way T.reads T.job T.ends result).dialect
+            → IsNew n (stands T.meaning T.left T.way T.reads T.job T.ends T.reports result) }
+        ensures ready { (stands T.meaning T.left T.way T.reads T.job T.ends T.reports result).ready }
+        ensures dialect { (stands T.meaning T.left T.way T.reads T.job T.ends T.reports result).dialect
             ≡ dialect }
         ensures stamp { result.runner.stamp ≡ stamp }
-        ensures job { (stands T.meaning T.left T.way T.reads T.job T.ends result).job
+        ensures job { (stands T.meaning T.left T.way T.reads T.job T.ends T.reports result).job
             ≡ T.job command dialect stamp }
     {
         Playing {
@@ -58,6 +60,15 @@ impl<T: Checks + Drop> Playing<T> {
             faulted: false,
             answer: None,
         }
+    }
+
+    /// Its answer, if it has answered, and what it did, as far as it came.
+    pub fn into_parts(self) -> (Option<Answer>, Report)
+        ensures { option_map (came result.1) result.0
+            ≡ (stands T.meaning T.left T.way T.reads T.job T.ends T.reports self).answer }
+    {
+        let Playing { runner, answer, .. } = self;
+        (answer, runner.source.into_report())
     }
 
     fn play<S: Store, P: SqlText>(
@@ -69,15 +80,15 @@ impl<T: Checks + Drop> Playing<T> {
         requires valid { S.valid store.old }
         requires live { IsTrue (S.state store.old).live }
         requires sql { P.dialect ≡ self.old.runner.dialect }
-        requires ready { (stands T.meaning T.left T.way T.reads T.job T.ends self.old).ready }
+        requires ready { (stands T.meaning T.left T.way T.reads T.job T.ends T.reports self.old).ready }
         requires opens { is_open session (S.state store.old).begun
             ≡ opens_as self.old.begun self.old.runner.hand }
         requires going { self.old.answer ≡ None }
         ensures valid { S.valid store.new }
-        ensures took { Took session (stands T.meaning T.left T.way T.reads T.job T.ends self.old)
-            (stands T.meaning T.left T.way T.reads T.job T.ends self.new) (S.state store.old)
+        ensures took { Took session (stands T.meaning T.left T.way T.reads T.job T.ends T.reports self.old)
+            (stands T.meaning T.left T.way T.reads T.job T.ends T.reports self.new) (S.state store.old)
             (S.state store.new) (S.crashes store.old) (S.crashes store.new) result }
-        ensures idle { LeavesAll (stands T.meaning T.left T.way T.reads T.job T.ends self.old)
+        ensures idle { LeavesAll (stands T.meaning T.left T.way T.reads T.job T.ends T.reports self.old)
             (S.state store.old) store.old store.new }
         ensures later { S.faults store.old ≤ S.faults store.new }
         ensures rose { result ≡ Err drill.Disk → Rose (S.faults store.old) (S.faults store.new) }
@@ -104,10 +115,10 @@ impl<T: Checks + Drop> Playing<T> {
         requires closed { is_open session (S.state store.old).begun ≡ false }
         requires going { self.old.answer ≡ None }
         ensures valid { S.valid store.new }
-        ensures took { Took session (stands T.meaning T.left T.way T.reads T.job T.ends self.old)
-            (stands T.meaning T.left T.way T.reads T.job T.ends self.new) (S.state store.old)
+        ensures took { Took session (stands T.meaning T.left T.way T.reads T.job T.ends T.reports self.old)
+            (stands T.meaning T.left T.way T.reads T.job T.ends T.reports self.new) (S.state store.old)
             (S.state store.new) (S.crashes store.old) (S.crashes store.new) result }
-        ensures idle { LeavesAll (stands T.meaning T.left T.way T.reads T.job T.ends self.old)
+        ensures idle { LeavesAll (stands T.meaning T.left T.way T.reads T.job T.ends T.reports self.old)
             (S.state store.old) store.old store.new }
         ensures later { S.faults store.old ≤ S.faults store.new }
         ensures rose { result ≡ Err drill.Disk → Rose (S.faults store.old) (S.faults store.new) }
@@ -246,8 +257,8 @@ impl<T: Checks + Drop> Playing<T> {
             ≡ asks_open self.old.runner.hand }
         requires going { self.old.answer ≡ None }
         ensures valid { S.valid store.new }
-        ensures took { Took session (stands T.meaning T.left T.way T.reads T.job T.ends self.old)
-            (stands T.meaning T.left T.way T.reads T.job T.ends self.new) (S.state store.old)
+        ensures took { Took session (stands T.meaning T.left T.way T.reads T.job T.ends T.reports self.old)
+            (stands T.meaning T.left T.way T.reads T.job T.ends T.reports self.new) (S.state store.old)
             (S.state store.new) (S.crashes store.old) (S.crashes store.new) result }
         ensures later { S.faults store.old ≤ S.faults store.new }
         ensures rose { result ≡ Err drill.Disk → Rose (S.faults store.old) (S.faults store.new) }
@@ -286,8 +297,8 @@ impl<T: Checks + Drop> Playing<T> {
         requires free { IsFree self.old.runner.dialect self.old.runner.stamp session
             (asks_open self.old.runner.hand) (S.state store.old) }
         ensures valid { S.valid store.new }
-        ensures took { Took session (stands T.meaning T.left T.way T.reads T.job T.ends self.old)
-            (stands T.meaning T.left T.way T.reads T.job T.ends self.new) (S.state store.old)
+        ensures took { Took session (stands T.meaning T.left T.way T.reads T.job T.ends T.reports self.old)
+            (stands T.meaning T.left T.way T.reads T.job T.ends T.reports self.new) (S.state store.old)
             (S.state store.new) (S.crashes store.old) (S.crashes store.new) result }
         ensures later { S.faults store.old ≤ S.faults store.new }
         ensures rose { result ≡ Err drill.Disk → Rose (S.faults store.old) (S.faults store.new) }
@@ -323,19 +334,18 @@ fn failure_of(fault: DrillFault) -> Answer
 }
 
 impl<T: Checks + Drop> Player for Playing<T> {
-    ghost use Rattle.lq_playing.specs.Answers.{failure_of};
+    ghost use Rattle.lq_playing.specs.Came.{as_busy, as_failed, as_locked};
     ghost use Rattle.lq_playing.specs.Playing.{is_locked, stands};
-    ghost use Rattle.lq_turns.specs.declared.answer.Answer.TheVariants.{Busy, Locked};
 
-    type Answer = Answer;
+    type Answer = Came;
 
-    ghost locked = { Locked };
+    ghost locked = { as_locked };
 
-    ghost busy = { Busy };
+    ghost busy = { as_busy };
 
-    ghost failed = { failure_of };
+    ghost failed = { as_failed };
 
-    ghost standing = { stands T.meaning T.left T.way T.reads T.job T.ends };
+    ghost standing = { stands T.meaning T.left T.way T.reads T.job T.ends T.reports };
 
     ghost held = { λ player. is_locked player.runner.stamp };
 

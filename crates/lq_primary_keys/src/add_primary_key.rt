@@ -48,22 +48,24 @@ const KEYS: [&str; 6] = [
 fn is_among(names: &[Name], name: &Name) -> bool
     ensures { result ≡ is_in name.now names.now }
 {
-    match names {
-        [] => false,
-        [first, rest @ ..] => *name == *first || is_among(rest, name),
+    for one in names {
+        if *name == *one {
+            return true;
+        }
     }
+    false
 }
 
 // Whether none of the columns of these names takes null.
 fn are_firm(columns: &[Column], names: &[Name]) -> bool
     ensures { result ≡ list_all (λ x. not (is_in x.name names.now) || not x.nullable) columns.now }
 {
-    match columns {
-        [] => true,
-        [first, rest @ ..] => {
-            (!is_among(names, &first.name) || !first.nullable) && are_firm(rest, names)
+    for column in columns {
+        if is_among(names, &column.name) && column.nullable {
+            return false;
         }
     }
+    true
 }
 
 impl AddPrimaryKey {

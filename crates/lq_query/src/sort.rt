@@ -69,13 +69,12 @@ fn of_literal(literal: &Literal) -> Sort
 pub fn kind_of(columns: &[Column], name: &Name) -> Option<Kind>
     ensures { result ≡ kind_of name.now columns.now }
 {
-    let [column, columns @ ..] = columns else {
-        return None;
-    };
-    if *name == column.name {
-        return Some(column.kind);
+    for column in columns {
+        if *name == column.name {
+            return Some(column.kind);
+        }
     }
-    kind_of(columns, name)
+    None
 }
 
 /// What an operand may be compared with.

@@ -131,10 +131,12 @@ fn lacks_operand(columns: &[Column], operand: &Operand) -> bool
 pub fn has_column(columns: &[Column], name: &Name) -> bool
     ensures { result ≡ is_in name.now (map (λ c. c.name) columns.now) }
 {
-    match columns {
-        [] => false,
-        [first, rest @ ..] => *name == first.name || has_column(rest, name),
+    for column in columns {
+        if *name == column.name {
+            return true;
+        }
     }
+    false
 }
 
 /// Whether each comparison of a test is of what may be compared.

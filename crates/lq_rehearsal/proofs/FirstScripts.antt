@@ -163,7 +163,7 @@ module _ (d : Dialect) where
       → calls_are_first d others (session_on (left_by d calls database)) ≡ true → calls_are_first d (calls ++ others) (session_on database) ≡ true
   then_first calls others database over a b =
       both_first calls others (session_on database) a
-      (ap (calls_are_first d others) over ∙ first_behind (all_called d calls (session_on database)).entries others (session_on (left_by d calls database)) ∙ b)
+      (ap (calls_are_first d others) over.0 ∙ first_behind (all_called d calls (session_on database)).entries others (session_on (left_by d calls database)) ∙ b)
 
   unless_first : (o : Option Stop) (calls : List Call) (s : Session) → calls_are_first d calls s ≡ true → calls_are_first d (calls_unless o calls) s ≡ true
   unless_first None calls s first = first

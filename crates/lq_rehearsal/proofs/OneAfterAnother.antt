@@ -1,13 +1,15 @@
 -- What calls leave that are made where others have left a database, and what a stop of both may leave.
-use Rattle.std.proofs.Common.{ap, refl, subst, sym, ◌∙◌}
+use Rattle.std.proofs.Common.{ap, inl, inr, refl, subst, sym, ◌∙◌}
 use Rattle.std.proofs.lemmas.List.{append-nil, append_assoc, map-append}
 use Rattle.std.specs.Option.{option_map}
-use Rattle.std.specs.Prelude.{Err, IfSome, List, None, Ok, Option, Result, Some, [], false, true, ℕ, ◌+◌, ◌++◌, ◌≡◌}
+use Rattle.std.specs.Prelude.{Err, IfSome, List, None, Ok, Option, Result, Some, [], false, true, ℕ, ◌+◌, ◌++◌, ◌∷◌, ◌≡◌, ◌⊎◌}
 use Rattle.lq_base.specs.declared.dialect.Dialect.{Dialect}
+use Rattle.lq_base.specs.declared.reason.Reason.{Reason}
 use Rattle.lq_run.proofs.Rooms.{sizes}
 use Rattle.lq_run.proofs.Since.{leave_then, leave_wider}
 use Rattle.lq_run.specs.Commands.{HasDatabase, Leaves}
 use Rattle.lq_run.specs.Crashes.{LeftBehind, LeftInCommand}
+use Rattle.lq_run.specs.Left.{IsAtMostFreed, LeavesLock, RestsIn}
 use Rattle.lq_run.specs.Stands.{entries_of, entry_of}
 use Rattle.lq_store.specs.Crashes.{Crashes, CrashesLeave}
 use Rattle.lq_store.specs.Journal.{Entry, database as run_to, size_of_all}
@@ -16,6 +18,7 @@ use Rattle.lq_store.specs.State.{State}
 use Rattle.lq_tell.specs.declared.done.Done.{Done}
 use Rattle.lq_tell.specs.declared.status.Status.{Status}
 use Rattle.lq_track.specs.Database.{Database}
+use Rattle.lq_track.specs.Lock.{free}
 use Rattle.lq_turns.proofs.Growing.{fronts_are_left}
 use Rattle.lq_turns.proofs.Journal.{done_both, joined_both, journal_leads, next}
 use Rattle.lq_turns.proofs.Made.{calls_both}
@@ -23,11 +26,16 @@ use Rattle.lq_turns.specs.Deed.{all_done}
 use Rattle.lq_turns.specs.Session.{Session, all_called, left_by, session_on}
 use Rattle.lq_turns.specs.Stops.{Journal, joined}
 use Rattle.lq_turns.specs.declared.call.Call.{Call}
+use Rattle.lq_turns.specs.declared.deed.Deed.TheVariants.{Locks}
+use Rattle.lq_turns.specs.declared.deed.OnLock.TheVariants.{Freed}
 use Rattle.lq_commands.proofs.Sequenced.{IsOver, behind, both_entries, both_room, calls_behind, full_first, full_then, left_first, left_then}
 use Rattle.lq_commands.specs.Works.{CrashesIn, Works, is_finished}
 
 not_true : false ≡ true → ⊥
 not_true h = Prim.cc
+
+same_ok : {a b : Database} → (let r : Result Database Reason = Ok a in r) ≡ Ok b → a ≡ b
+same_ok h = Prim.cc
 
 -- what calls leave is one of the things that a stop of them may leave
 module _ (d : Dialect) (calls : List Call) (database : Database) (x y : State) (leaves : Leaves d calls database x y) (store : IsStore y) where
@@ -85,20 +93,36 @@ module _ (d : Dialect) (calls others : List Call) (database : Database) (over : 
   pub crash_first : (x : State) (before now : Crashes) → CrashesIn d calls database x before now → CrashesIn d (calls ++ others) database x before now
   crash_first x before now crash = leave_wider x.entries (LeftInCommand d calls database) (LeftInCommand d (calls ++ others) database) before now in_first crash
 
+  -- how the lock rests then
+  rests_first : (x y : State) (used next : ℕ) → RestsIn d calls database x y used next → RestsIn d (calls ++ others) database x y used next
+  rests_first x y used next it =
+      let stops = it.stops in
+      let full = full_first d calls others database over x used next it.full in
+      record {
+        stops = record { written = stops.written; left = left_first d calls others database over stops.written stops.left; now = stops.now; led = stops.led; database_is = stops.database_is; limit = stops.limit; entries = stops.entries; used = stops.used };
+        full = full.0;
+        behind = subst (λ w. IsAtMostFreed w stops.written) (sym full.1) it.behind;
+        shut = it.shut;
+        lock = subst (λ m. LeavesLock stops.now.lock m stops.written) (sym full.2) it.lock;
+      }
+
   pub unfinished_first : (x y : State) (done : Done) → is_finished done.status ≡ false → Works d calls database x (Ok done) y → Works d (calls ++ others) database x (Ok done) y
   unfinished_first x y done unfinished works =
-      (λ finished. absurd (not_true (sym unfinished ∙ finished)), λ stopped. behind_first x y (works.1 stopped), λ used next is. full_first d calls others database over x used next (works.2 used next is))
+      (λ finished. absurd (not_true (sym unfinished ∙ finished)), λ stopped. behind_first x y (works.1 stopped), λ used next is. rests_first x y used next (works.2 used next is))
 
   -- and one of the others
 
   module _ (x y : State) (has : HasDatabase d x database) (leaves : Leaves d calls database x y) (store : IsStore y) where
+    led_then : (written : Journal) (now : Database) → all_done d (joined written) between ≡ Ok now → all_done d (joined (first_wrote ++ written)) database ≡ Ok now
+    led_then written now led = ap (λ deeds. all_done d deeds database) (joined_both first_wrote written) ∙ done_both d (joined first_wrote) (joined written) database ∙ ap (next d (joined written)) (journal_leads d calls database) ∙ led
+
     in_then : (there left : List Entry) → x.entries ≡ Some there → LeftInCommand d others between (there ++ entries_of d first_wrote) left → LeftInCommand d (calls ++ others) database there left
     in_then there left is it = record {
       written = first_wrote ++ it.written;
       stops = left_then d calls others database over it.written it.stops;
       is = it.is ∙ append_assoc there (entries_of d first_wrote) (entries_of d it.written) ∙ ap (λ (es : List Entry). there ++ es) (sym (map-append (entry_of d) first_wrote it.written));
       now = it.now;
-      led = ap (λ deeds. all_done d deeds database) (joined_both first_wrote it.written) ∙ done_both d (joined first_wrote) (joined it.written) database ∙ ap (next d (joined it.written)) (journal_leads d calls database) ∙ it.led;
+      led = led_then it.written it.now it.led;
       replays = λ c ran stands. it.replays y.committed (leads d calls database x y leaves store there is) leaves.database_is.committed;
     }
 
@@ -120,7 +144,7 @@ module _ (d : Dialect) (calls others : List Call) (database : Database) (over : 
           (leave_wider (Some there) (λ t left. LeftInCommand d others between (there ++ entries_of d first_wrote) left) (λ t left. LeftInCommand d (calls ++ others) database there left) mid now (λ t left it. in_then there left is it) next)
 
     all_are : all_called d (calls ++ others) (session_on database) ≡ behind first_wrote (all_called d others (session_on between))
-    all_are = calls_both d calls others (session_on database) ∙ ap (all_called d others) over ∙ calls_behind d first_wrote others (session_on between)
+    all_are = calls_both d calls others (session_on database) ∙ ap (all_called d others) over.0 ∙ calls_behind d first_wrote others (session_on between)
 
     twice : (o : Option (List Entry)) (a b : List Entry) → option_map (λ (es : List Entry). es ++ b) (option_map (λ (es : List Entry). es ++ a) o) ≡ option_map (λ (es : List Entry). es ++ (a ++ b)) o
     twice None a b = refl
@@ -139,6 +163,45 @@ module _ (d : Dialect) (calls others : List Call) (database : Database) (over : 
       room = both_room d calls others database over x y leaves more.room;
     }
 
+    -- the lock was left free, or nothing is written
+    rests_then : (z : State) (used next : ℕ) → RestsIn d others between y z used next → RestsIn d (calls ++ others) database x z used next
+    rests_then z used next it =
+        let stops = it.stops in
+        let full = full_then d calls others database over x y leaves used next it.full in
+        record {
+          stops = record {
+            written = first_wrote ++ stops.written;
+            left = left_then d calls others database over stops.written stops.left;
+            now = stops.now;
+            led = led_then stops.written stops.now stops.led;
+            database_is = stops.database_is;
+            limit = stops.limit ∙ leaves.limit;
+            entries = stops.entries ∙ ap (option_map (λ (es : List Entry). es ++ entries_of d stops.written)) leaves.entries ∙ twice x.entries (entries_of d first_wrote) (entries_of d stops.written)
+                ∙ ap (λ (more : List Entry). option_map (λ (es : List Entry). es ++ more) x.entries) (sym (map-append (entry_of d) first_wrote stops.written));
+            used = stops.used ∙ ap (λ (u : ℕ). u + size_of_all (entries_of d stops.written)) leaves.used ∙ sizes x.used (entries_of d first_wrote) (entries_of d stops.written)
+                ∙ ap (λ (es : List Entry). x.used + size_of_all es) (sym (map-append (entry_of d) first_wrote stops.written));
+          };
+          full = full.0;
+          behind = subst (λ w. IsAtMostFreed w (first_wrote ++ stops.written)) (sym full.1) (behind_so it.full.written stops.written it.behind);
+          shut = it.shut;
+          lock = subst (λ m. LeavesLock stops.now.lock m (first_wrote ++ stops.written)) (sym full.2) (lock_so it.lock);
+        }
+      where
+        behind_so : (was is : Journal) → IsAtMostFreed was is → IsAtMostFreed (first_wrote ++ was) (first_wrote ++ is)
+        behind_so was is (inl same) = inl (ap (λ (es : Journal). first_wrote ++ es) same)
+        behind_so was is (inr closed) = inr (ap (λ (es : Journal). first_wrote ++ es) closed ∙ sym (append_assoc first_wrote was ((Locks Freed ∷ []) ∷ [])))
+
+        none_written : it.stops.written ≡ [] → (((left_by d calls database).lock ≡ free) ⊎ (calls ≡ [])) → LeavesLock it.stops.now.lock it.full.more (first_wrote ++ it.stops.written)
+        none_written none (inl unlocked) =
+            let stays : between ≡ it.stops.now = same_ok (subst (λ (es : Journal). all_done d (joined es) between ≡ Ok it.stops.now) none it.stops.led) in
+            inl (inl (ap (λ (now : Database). now.lock) (sym stays) ∙ unlocked))
+        none_written none (inr empty) = inr (inr (ap (λ (cs : List Call). (all_called d cs (session_on database)).entries ++ it.stops.written) empty ∙ none))
+
+        lock_so : LeavesLock it.stops.now.lock it.full.more it.stops.written → LeavesLock it.stops.now.lock it.full.more (first_wrote ++ it.stops.written)
+        lock_so (inl let_go) = inl let_go
+        lock_so (inr (inl closes)) = inr (inl closes)
+        lock_so (inr (inr none)) = none_written none over.1
+
     pub works_then : (z : State) (r : Result Done Status) → Works d others between y r z → Works d (calls ++ others) database x r z
-    works_then z (Ok done) works = (λ finished. leaves_both z (works.0 finished), λ stopped. behind_then z (works.1 stopped), λ used next is. full_then d calls others database over x y leaves used next (works.2 used next is))
+    works_then z (Ok done) works = (λ finished. leaves_both z (works.0 finished), λ stopped. behind_then z (works.1 stopped), λ used next is. rests_then z used next (works.2 used next is))
     works_then z (Err s) left = behind_then z left

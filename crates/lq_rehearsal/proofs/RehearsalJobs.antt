@@ -29,10 +29,10 @@ use Rattle.lq_commands.specs.Jobs.{DidJob}
 use Rattle.lq_rehearsal.specs.Joined.{is_done}
 use Rattle.lq_commands.specs.Outputs.{back_in}
 use Rattle.lq_commands.specs.Refusals.{Answers, IsFault, Passes, ends, own_halt, refusal, unready}
-use Rattle.lq_commands.specs.Rehearsal.{Run, TellsRun, after_update, came, rehearsal, rehearsal_refusal, takes_back, then_run, unrehearsed, updates, updates_again}
+use Rattle.lq_commands.specs.Rehearsal.{Run, EndsRun, after_update, came, rehearsal, rehearsal_refusal, takes_back, then_run, unrehearsed, updates, updates_again}
 use Rattle.lq_rehearsal.specs.Runs.{DidRun}
 use Rattle.lq_commands.specs.Scripts.{rollback_script, sets_script, settled_in, update_script, updated_in}
-use Rattle.lq_commands.specs.Tells.{IfFinished, TellsRollback, TellsUpdate}
+use Rattle.lq_commands.specs.Tells.{EndsRollback, EndsUpdate}
 use Rattle.lq_commands.specs.Works.{CrashesIn, IsKept, IsReady, OnIts, Works, is_finished}
 use Rattle.lq_commands.specs.declared.given.Given.{Given}
 
@@ -62,12 +62,12 @@ module _ {S : Type 0} (state : S → State) (crashes : S → Crashes) (given : G
   -- an update without its changelog's own condition
   pub again_run : (r : Result Done Status) → IsReady d (state before) → Answers None r → On (λ database. Works d (sets_script given database) database (state before) r (state after))
       → On (λ database. CrashesIn d (sets_script given database) database (state before) (crashes before) (crashes after))
-      → IfOk r (λ (done : Done). On (λ database. IfFinished done (TellsUpdate false (settled_in false given database) done))) → DidRun state crashes d (updates_again given) before r after
+      → IfOk r (λ (done : Done). On (λ database. EndsUpdate false (settled_in false given database) done)) → DidRun state crashes d (updates_again given) before r after
   again_run (Ok done) ready answers works moments tells = record {
     answers = answers;
     works = works;
     any_moment = moments;
-    tells = λ database has finished. let it = tells database has finished in record { status = it.status; out = it.out; warned = it.warned };
+    tells = λ database has. let it = tells database has in ((λ finished. let told = it.0 finished in record { status = told.status; out = told.out; warned = told.warned }), it.1);
   }
   again_run (Err s) ready answers works moments tells = record { answers = answers; works = works; any_moment = moments; tells = λ database has. tt }
 
@@ -81,14 +81,14 @@ module _ {S : Type 0} (state : S → State) (crashes : S → Crashes) (given : G
     BackCrashes = On (λ database. CrashesIn d (rollback_script given (Count n) database) database (state before) (crashes before) (crashes after))
 
     pub back_run : (done : Done) → IsReady d (state before) → On (λ database. Answers (refusal (command.Rollback (Count n)) given database) (Ok done)) → BackWorks (Ok done) → BackCrashes
-        → On (λ database. IfFinished done (TellsRollback false (back_in false given (Count n) database) done)) → DidRun state crashes d (takes_back given stay) before (Ok done) after
+        → On (λ database. EndsRollback false (back_in false given (Count n) database) done) → DidRun state crashes d (takes_back given stay) before (Ok done) after
     back_run done ready answers works moments tells = record {
       answers = ok_ends (refusal (command.Rollback (Count n)) given ready.database) done (answers ready.database ready.has);
       works = λ database has. subst (λ (m : ℕ). Works d (rollback_script given (Count m) database) database (state before) (Ok done) (state after)) (same database has) (works database has);
       any_moment = λ database has. subst (λ (m : ℕ). CrashesIn d (rollback_script given (Count m) database) database (state before) (crashes before) (crashes after)) (same database has) (moments database has);
-      tells = λ database has finished.
-          let it = subst (λ (m : ℕ). TellsRollback false (back_in false given (Count m) database) done) (same database has) (tells database has finished) in
-          record { status = it.status; out = it.out; warned = it.warned };
+      tells = λ database has.
+          let it = subst (λ (m : ℕ). EndsRollback false (back_in false given (Count m) database) done) (same database has) (tells database has) in
+          ((λ finished. let told = it.0 finished in record { status = told.status; out = told.out; warned = told.warned }), it.1);
     }
 
     pub back_failed : (s t : Status) → IsFault t → BackWorks (Err s) → BackCrashes → DidRun state crashes d (takes_back given stay) before (Err t) after
@@ -131,12 +131,12 @@ module _ {S : Type 0} (state : S → State) (crashes : S → Crashes) (given : G
   -- of an update that answers
   pub update_run : (done : Done) → IsReady d (state before) → On (λ database. Answers (refusal command.Update given database) (Ok done))
       → On (λ database. Works d (update_script given database) database (state before) (Ok done) (state after)) → On (λ database. CrashesIn d (update_script given database) database (state before) (crashes before) (crashes after))
-      → On (λ database. IfFinished done (TellsUpdate false (updated_in false given database) done)) → DidRun state crashes d (updates given) before (Ok done) after
+      → On (λ database. EndsUpdate false (updated_in false given database) done) → DidRun state crashes d (updates given) before (Ok done) after
   update_run done ready answers works moments tells = record {
     answers = ok_ends (refusal command.Update given ready.database) done (answers ready.database ready.has);
     works = works;
     any_moment = moments;
-    tells = λ database has finished. let it = tells database has finished in record { status = it.status; out = it.out; warned = it.warned };
+    tells = λ database has. let it = tells database has in ((λ finished. let told = it.0 finished in record { status = told.status; out = told.out; warned = told.warned }), it.1);
   }
 
 -- the whole job, whose update answered
@@ -150,7 +150,7 @@ module _ {S : Type 0} (state : S → State) (crashes : S → Crashes) (given : G
     reads = λ only. absurd (false_true only);
     works = λ database has. subst (λ (run : Run). Works given.options.dialect (run.calls database) database (state before) r (state after)) (sym (run_is state crashes given before mid stay are passed free database has)) (did.works database has);
     any_moment = λ database has. subst (λ (run : Run). CrashesIn given.options.dialect (run.calls database) database (state before) (crashes before) (crashes after)) (sym (run_is state crashes given before mid stay are passed free database has)) (did.any_moment database has);
-    tells = λ database has. subst (λ (run : Run). IfOk r (λ (ended : Done). IfFinished ended (TellsRun (run.told database) ended))) (sym (run_is state crashes given before mid stay are passed free database has)) (did.tells database has);
+    tells = λ database has. subst (λ (run : Run). IfOk r (λ (ended : Done). EndsRun (run.told database) ended)) (sym (run_is state crashes given before mid stay are passed free database has)) (did.tells database has);
   }
     where
       none : (database : Database) → HasDatabase given.options.dialect (state before) database → rehearsal_refusal given database ≡ None
@@ -216,7 +216,7 @@ module _ {S : Type 0} (state : S → State) (crashes : S → Crashes) (given : G
     (first : Done) (answers : OnIts given.options.dialect (state before) (λ database. Answers (refusal command.Update given database) (Ok first)))
     (works : OnIts given.options.dialect (state before) (λ database. Works given.options.dialect (update_script given database) database (state before) (Ok first) (state mid)))
     (moments : OnIts given.options.dialect (state before) (λ database. CrashesIn given.options.dialect (update_script given database) database (state before) (crashes before) (crashes mid)))
-    (tells : OnIts given.options.dialect (state before) (λ database. IfFinished first (TellsUpdate false (updated_in false given database) first))) where
+    (tells : OnIts given.options.dialect (state before) (λ database. EndsUpdate false (updated_in false given database) first)) where
   abbrev first_over : OnIts given.options.dialect (state before) (λ database. IsOver given.options.dialect ((updates given).calls database) database)
   first_over = λ database has. update_over given database
 

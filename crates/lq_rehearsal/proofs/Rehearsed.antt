@@ -1,7 +1,7 @@
 -- One run after another: what it does, and what it tells.
 use Rattle.std.proofs.Common.{ap, inr, refl, subst, sym, ◌∙◌}
 use Rattle.std.proofs.lemmas.Grind.{flat_map-append}
-use Rattle.std.proofs.lemmas.List.{append-nil}
+use Rattle.std.proofs.lemmas.List.{append-nil, append_assoc}
 use Rattle.std.specs.List.{flat_map}
 use Rattle.std.specs.Prelude.{Bool, Err, IfOk, List, None, Ok, Option, Result, Some, [], false, true, ℕ, ◌++◌, ◌≡◌}
 use Rattle.lq_base.specs.declared.dialect.Dialect.{Dialect}
@@ -27,9 +27,9 @@ use Rattle.lq_rehearsal.proofs.OneAfterAnother.{behind_first, behind_then, crash
 use Rattle.lq_commands.proofs.Sequenced.{IsOver}
 use Rattle.lq_rehearsal.specs.Joined.{both_texts, is_done}
 use Rattle.lq_commands.specs.Refusals.{Answers, ends}
-use Rattle.lq_commands.specs.Rehearsal.{Run, TellsRun, Told, then_run, told_unless}
+use Rattle.lq_commands.specs.Rehearsal.{Run, EndsRun, TellsRun, Told, then_run, told_unless}
 use Rattle.lq_rehearsal.specs.Runs.{DidRun}
-use Rattle.lq_commands.specs.Tells.{IfFinished, status_by}
+use Rattle.lq_commands.specs.Tells.{WarnsUpTo, status_by}
 use Rattle.lq_commands.specs.Works.{CrashesIn, OnIts, Works, is_finished}
 
 not_true : false ≡ true → ⊥
@@ -100,6 +100,28 @@ tells_joined first more whole a b joined tells next = record {
       ∙ sym (flat_map-append warning_line a.warned b.warned);
 }
 
+-- a front of the warnings of two runs: one of the first's, or all of those and one of the other's
+
+with_more : (done : Done) (ws more : List (Option Identity × Why)) → WarnsUpTo ws done → WarnsUpTo (ws ++ more) done
+with_more done ws more up_to = record {
+  front = up_to.front;
+  rest = up_to.rest ++ more;
+  is = sym (append_assoc up_to.front up_to.rest more) ∙ ap (λ (vs : List (Option Identity × Why)). vs ++ more) up_to.is;
+  lines = up_to.lines;
+}
+
+warns_joined : (first more whole : Done) (ws others : List (Option Identity × Why)) → warning_lines whole.own whole.warned ≡ warning_lines first.own first.warned ++ warning_lines more.own more.warned
+    → warning_lines first.own first.warned ≡ flat_map warning_line ws → WarnsUpTo others more → WarnsUpTo (ws ++ others) whole
+warns_joined first more whole ws others joined lines up_to = record {
+  front = ws ++ up_to.front;
+  rest = up_to.rest;
+  is = append_assoc ws up_to.front up_to.rest ∙ ap (λ (vs : List (Option Identity × Why)). ws ++ vs) up_to.is;
+  lines = joined
+      ∙ ap (λ (ls : List ℕ). ls ++ warning_lines more.own more.warned) lines
+      ∙ ap (λ (ls : List ℕ). flat_map warning_line ws ++ ls) up_to.lines
+      ∙ sym (flat_map-append warning_line ws up_to.front);
+}
+
 -- what a run that came to an answer left is one of the things that a stop of it may leave
 left_behind : (d : Dialect) (calls : List Call) (database : Database) (x y : State) (done : Done) → HasDatabase d x database → (y.live ≡ true → IsStore y) → Works d calls database x (Ok done) y → LeftBehind d calls database x y
 left_behind d calls database x y done has store works = by (is_finished done.status) refl where
@@ -114,7 +136,7 @@ module _ {S : Type 0} (state : S → State) (crashes : S → Crashes) (d : Diale
     answers = subst (λ (q : Result Done Status). Answers None q) (sym is) (inr refl);
     works = λ database has. untouched_works d (run.calls database) database (state before) r status.OutOfMemory is has;
     any_moment = λ database has. untouched_crashes d (run.calls database) database (state before) (crashes before);
-    tells = λ database has. subst (λ (q : Result Done Status). IfOk q (λ (ended : Done). IfFinished ended (TellsRun (run.told database) ended))) (sym is) tt;
+    tells = λ database has. subst (λ (q : Result Done Status). IfOk q (λ (ended : Done). EndsRun (run.told database) ended)) (sym is) tt;
   }
 
   module _ (a b : Run) (before : S) (over : OnIts d (state before) (λ database. IsOver d (a.calls database) database)) where
@@ -131,7 +153,7 @@ module _ {S : Type 0} (state : S → State) (crashes : S → Crashes) (d : Diale
 
     module _ (after : S) (r : Result Done Status) (did : DidRun state crashes d a before r after) where
       stopped_works : (database : Database) → HasDatabase d (state before) database → (r' : Result Done Status) → IsStopped r' → Works d (a.calls database) database (state before) r' (state after)
-          → IfOk r' (λ (ended : Done). IfFinished ended (TellsRun (a.told database) ended)) → Works d (both.calls database) database (state before) r' (state after)
+          → IfOk r' (λ (ended : Done). EndsRun (a.told database) ended) → Works d (both.calls database) database (state before) r' (state after)
       stopped_works database has (Err s) stopped works tells = behind_first d (a.calls database) (calls_unless (a.told database).stop (b.calls (middle database))) database (over database has) (state before) (state after) works
       stopped_works database has (Ok done) stopped works tells = by (is_finished done.status) refl where
         went : (o : Option Stop) → (a.told database).stop ≡ o → done.status ≡ status_by o → Works d (both.calls database) database (state before) (Ok done) (state after)
@@ -140,15 +162,21 @@ module _ {S : Type 0} (state : S → State) (crashes : S → Crashes) (d : Diale
             subst (λ (calls : List Call). Works d calls database (state before) (Ok done) (state after)) (sym (ap (calls_after database) is ∙ append-nil (a.calls database))) works
 
         by : (f : Bool) → is_finished done.status ≡ f → Works d (both.calls database) database (state before) (Ok done) (state after)
-        by true is = went (a.told database).stop refl (tells is).status
+        by true is = went (a.told database).stop refl (tells.0 is).status
         by false is = unfinished_first d (a.calls database) (calls_unless (a.told database).stop (b.calls (middle database))) database (over database has) (state before) (state after) done is works
 
-      stopped_tells : (database : Database) (r' : Result Done Status) → IsStopped r' → IfOk r' (λ (ended : Done). IfFinished ended (TellsRun (a.told database) ended)) → IfOk r' (λ (ended : Done). IfFinished ended (TellsRun (both.told database) ended))
+      abbrev told_by : Database → Option Stop → Told
+      told_by database o = told_unless o (a.told database) (b.told (middle database))
+
+      stopped_tells : (database : Database) (r' : Result Done Status) → IsStopped r' → IfOk r' (λ (ended : Done). EndsRun (a.told database) ended) → IfOk r' (λ (ended : Done). EndsRun (both.told database) ended)
       stopped_tells database (Err s) stopped tells = tt
-      stopped_tells database (Ok done) stopped tells = λ finished. by (a.told database).stop refl (tells finished) where
-        by : (o : Option Stop) → (a.told database).stop ≡ o → TellsRun (a.told database) done → TellsRun (both.told database) done
-        by None is told = absurd (stopped (told.status ∙ ap status_by is))
-        by (Some stop) is told = subst (λ (t : Told). TellsRun t done) (sym (ap (λ (o : Option Stop). told_unless o (a.told database) (b.told (middle database))) is)) told
+      stopped_tells database (Ok done) stopped tells = by (a.told database).stop refl tells where
+        by : (o : Option Stop) → (a.told database).stop ≡ o → EndsRun (a.told database) done → EndsRun (both.told database) done
+        by None is told = (
+          λ finished. absurd (stopped ((told.0 finished).status ∙ ap status_by is)),
+          subst (λ (t : Told). WarnsUpTo t.warned done) (sym (ap (told_by database) is)) (with_more done (a.told database).warned (b.told (middle database)).warned told.1),
+        )
+        by (Some stop) is told = subst (λ (t : Told). EndsRun t done) (sym (ap (told_by database) is)) told
 
       pub stopped_did : IsStopped r → DidRun state crashes d both before r after
       stopped_did stopped = record {
@@ -166,7 +194,7 @@ module _ {S : Type 0} (state : S → State) (crashes : S → Crashes) (d : Diale
       finished = ap is_finished done
 
       went_on : (database : Database) → HasDatabase d (state before) database → (a.told database).stop ≡ None
-      went_on database has = none_stopped first.status (a.told database).stop (did.tells database has finished).status done
+      went_on database has = none_stopped first.status (a.told database).stop ((did.tells database has).0 finished).status done
 
       leaves : (database : Database) → HasDatabase d (state before) database → Leaves d (a.calls database) database (state before) (state mid)
       leaves database has = (did.works database has).0 finished
@@ -192,9 +220,13 @@ module _ {S : Type 0} (state : S → State) (crashes : S → Crashes) (d : Diale
         whole_works (Err s) (Err t) is works =
             behind_then d (a.calls database) others database (over database has) (state before) (state mid) has (leaves database has) store (state after) works
 
-        whole_tells : (q w : Result Done Status) → IsJoined first q w → IfOk q (λ (ended : Done). IfFinished ended (TellsRun (b.told (middle database)) ended))
-            → IfOk w (λ (ended : Done). IfFinished ended (TellsRun (told_unless None (a.told database) (b.told (middle database))) ended))
-        whole_tells (Ok ended) (Ok all) is tells = λ over. tells_joined first ended all (a.told database) (b.told (middle database)) is (did.tells database has finished) (tells (ap is_finished (sym is.0) ∙ over))
+        whole_tells : (q w : Result Done Status) → IsJoined first q w → IfOk q (λ (ended : Done). EndsRun (b.told (middle database)) ended)
+            → IfOk w (λ (ended : Done). EndsRun (told_unless None (a.told database) (b.told (middle database))) ended)
+        whole_tells (Ok ended) (Ok all) is tells =
+            let before_it = (did.tells database has).0 finished in (
+              λ over. tells_joined first ended all (a.told database) (b.told (middle database)) is before_it (tells.0 (ap is_finished (sym is.0) ∙ over)),
+              warns_joined first ended all (a.told database).warned (b.told (middle database)).warned is.2 before_it.warned tells.1,
+            )
         whole_tells q (Err s) is tells = tt
         whole_tells (Err s) (Ok all) is tells = absurd is
 
@@ -209,6 +241,6 @@ module _ {S : Type 0} (state : S → State) (crashes : S → Crashes) (d : Diale
             (crash_then d (a.calls database) (b.calls (middle database)) database (over database has) (state before) (state mid) has (leaves database has) store (crashes before) (crashes mid) (crashes after)
             (did.any_moment database has) (more.any_moment (middle database) (leaves database has).database_is));
         tells = λ database has.
-            subst (λ (o : Option Stop). IfOk whole (λ (ended : Done). IfFinished ended (TellsRun (told_unless o (a.told database) (b.told (middle database))) ended))) (sym (went_on database has))
+            subst (λ (o : Option Stop). IfOk whole (λ (ended : Done). EndsRun (told_unless o (a.told database) (b.told (middle database))) ended)) (sym (went_on database has))
             (whole_tells database has r whole joined (more.tells (middle database) (leaves database has).database_is));
       }

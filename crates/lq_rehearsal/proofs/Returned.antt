@@ -75,7 +75,7 @@ same_contents a b users rows = ap (λ u. record (contents_of a) { users = u }) u
 -- calls that leave nothing open, and others
 left_both : (d : Dialect) (calls others : List Call) (database : Database) → IsOver d calls database → left_by d (calls ++ others) database ≡ left_by d others (left_by d calls database)
 left_both d calls others database over =
-    ap (λ (s : Session). s.committed) (calls_both d calls others (session_on database) ∙ ap (all_called d others) over ∙ calls_behind d (all_called d calls (session_on database)).entries others (session_on (left_by d calls database)))
+    ap (λ (s : Session). s.committed) (calls_both d calls others (session_on database) ∙ ap (all_called d others) over.0 ∙ calls_behind d (all_called d calls (session_on database)).entries others (session_on (left_by d calls database)))
 
 abbrev if_locked : Lock → Option Status
 if_locked lock = if lock.locked then Some (Locked lock) else None

@@ -1,10 +1,11 @@
 -- The calls of a command that has the lock leave nothing open.
-use Rattle.std.proofs.Common.{ap, refl, subst, sym, ◌∙◌}
+use Rattle.std.proofs.Common.{ap, inl, inr, refl, subst, sym, ◌∙◌}
 use Rattle.std.proofs.lemmas.List.{append-nil}
 use Rattle.std.specs.Prelude.{Bool, List, None, Option, Some, [], false, if◌then◌else◌, map, not, true, ℕ, ◌&&◌, ◌++◌, ◌∷◌, ◌≡◌}
 use Rattle.lq_base.specs.declared.command.Target.{Target}
 use Rattle.lq_base.specs.declared.dialect.Dialect.{Dialect}
 use Rattle.lq_model.specs.declared.caller.Room.TheVariants.{Ordinary}
+use Rattle.lq_run.proofs.Resting.{closing_frees}
 use Rattle.lq_seen.specs.View.{any_meaning}
 use Rattle.lq_track.specs.Database.{Database}
 use Rattle.lq_turns.proofs.Made.{calls_both}
@@ -39,7 +40,11 @@ module _ (d : Dialect) (stamp : Stamp) (database : Database) (calls : List Call)
   before_last = all_called d calls opened
 
   pub lock_over : IsOver d (with_lock stamp database calls) database
-  lock_over = subst (λ (s : Session). s ≡ behind s.entries (session_on s.committed)) (sym (calls_both d calls (closing ∷ []) opened)) (shut_is (called d closing before_last) refl refl refl)
+  lock_over =
+      let closed = calls_both d calls (closing ∷ []) opened in (
+        subst (λ (s : Session). s ≡ behind s.entries (session_on s.committed)) (sym closed) (shut_is (called d closing before_last) refl refl refl),
+        inl (ap (λ (s : Session). s.committed.lock) closed ∙ closing_frees d before_last),
+      )
 
 module _ (given : Given) (database : Database) where
   abbrev d : Dialect
@@ -53,7 +58,7 @@ module _ (given : Given) (database : Database) where
 
   locked_over : (b : Bool) → IsOver d (if_locked b) database
   locked_over true = lock_over d given.stamp database (sets_calls d any_meaning given.stamp (sets_in given) (contents_of database))
-  locked_over false = refl
+  locked_over false = (refl, inr refl)
 
   pub sets_over : IsOver d (sets_script given database) database
   sets_over = locked_over (has_work (sets_in given) database.rows)
@@ -62,16 +67,16 @@ module _ (given : Given) (database : Database) where
   update_over = locked_over (has_work (sets_in given) database.rows && not (is_halt (own_choice (log_in given) (contents_of database))))
 
   turns_over : (turns : List Turn) → IsOver d (rollback_of d given.stamp turns database) database
-  turns_over [] = refl
+  turns_over [] = (refl, inr refl)
   turns_over (turn ∷ turns) = lock_over d given.stamp database (turns_made d given.stamp.who (turn ∷ turns) (contents_of database))
 
   undone_over : (o : Option (List Turn)) → IsOver d (elim o as (λ _. List Call) [ Some turns ↦ rollback_of d given.stamp turns database | None ↦ [] ]) database
   undone_over (Some turns) = turns_over turns
-  undone_over None = refl
+  undone_over None = (refl, inr refl)
 
   back_over : (o : Option ℕ) → IsOver d (rollback_to given o database) database
   back_over (Some stay) = undone_over (undo_turns d any_meaning (sets_in given) (rows_undone stay database.rows))
-  back_over None = refl
+  back_over None = (refl, inr refl)
 
   pub rollback_over : (target : Target) → IsOver d (rollback_script given target database) database
   rollback_over target = back_over (rows_kept target database.rows)

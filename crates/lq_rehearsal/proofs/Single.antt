@@ -2,7 +2,7 @@
 use Rattle.std.proofs.Common.{refl}
 use Rattle.std.specs.Prelude.{true, ◌≡◌}
 use Rattle.lq_cli.specs.declared.line.Job.{Job}
-use Rattle.lq_cli.specs.declared.line.Job.TheVariants.{ClearSums, Drill, Generate, History, RollbackSql, Run, Soak, UndoUnrecorded, UpdateCount, UpdateSql, UpdateTestingRollback, UpdateTo}
+use Rattle.lq_cli.specs.declared.line.Job.TheVariants.{ClearSums, Drill, Generate, History, RollbackSql, Run, Soak, UndoUnrecorded, Snapshot, UpdateCount, UpdateSql, UpdateTestingRollback, UpdateTo}
 use Rattle.lq_commands.specs.Jobs.{is_on_store, is_single}
 
 pub is_one_run : (job : Job) → is_on_store job ≡ true → (job ≡ UpdateTestingRollback → ⊥) → is_single job ≡ true
@@ -18,3 +18,4 @@ is_one_run (Generate author) on other = on
 is_one_run (Drill path) on other = on
 is_one_run (Soak number sets) on other = on
 is_one_run UndoUnrecorded on other = on
+is_one_run Snapshot on other = on

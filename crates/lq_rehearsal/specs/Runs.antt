@@ -6,8 +6,7 @@ use Rattle.lq_store.specs.State.{State}
 use Rattle.lq_tell.specs.declared.done.Done.{Done}
 use Rattle.lq_tell.specs.declared.status.Status.{Status}
 use Rattle.lq_commands.specs.Refusals.{Answers}
-use Rattle.lq_commands.specs.Rehearsal.{Run, TellsRun}
-use Rattle.lq_commands.specs.Tells.{IfFinished}
+use Rattle.lq_commands.specs.Rehearsal.{Run, EndsRun}
 use Rattle.lq_commands.specs.Works.{CrashesIn, OnIts, Works}
 
 -- on a store, by its state and by what a crash leaves of it
@@ -17,4 +16,4 @@ module _ {S : Type 0} (state : S → State) (crashes : S → Crashes) (d : Diale
     pub answers : Answers None done
     pub works : OnIts d (state before) (λ database. Works d (run.calls database) database (state before) done (state after))
     pub any_moment : OnIts d (state before) (λ database. CrashesIn d (run.calls database) database (state before) (crashes before) (crashes after))
-    pub tells : OnIts d (state before) (λ database. IfOk done (λ ended. IfFinished ended (TellsRun (run.told database) ended)))
+    pub tells : OnIts d (state before) (λ database. IfOk done (λ ended. EndsRun (run.told database) ended))

@@ -1,6 +1,6 @@
 -- What commands write to their output. Each line ends with a line feed.
 use Rattle.std.specs.Fmt.{decimal}
-use Rattle.std.specs.Prelude.{ℕ, ◌+◌, List, [], ◌∷◌, ◌++◌, Bool, length, count_by, Option, Some, None, codes, if◌then◌else◌}
+use Rattle.std.specs.Prelude.{ℕ, ◌+◌, ◌==◌, List, [], ◌∷◌, ◌++◌, Bool, length, count_by, Option, Some, None, codes, if◌then◌else◌}
 use Rattle.std.specs.List.{flat_map}
 use Rattle.std.specs.Option.{option_map_or}
 use Rattle.lq_base.specs.declared.identity.Identity.{Identity}
@@ -74,6 +74,13 @@ validated_text = codes "no validation faults\n"
 -- clear-checksums: how many rows there are
 abbrev pub cleared_text : ℕ → List ℕ
 cleared_text count = codes "checksums cleared: " ++ decimal count ++ codes "\n"
+
+-- snapshot: how long the state's entry is, or that none was needed
+abbrev pub written_text : ℕ → List ℕ
+written_text size = codes "snapshot written: " ++ decimal size ++ codes " bytes\n"
+
+abbrev pub snapshot_text : ℕ → List ℕ
+snapshot_text size = if size == 0 then codes "snapshot not needed\n" else written_text size
 
 -- undo-unrecorded: the changeset, and how many of its statements were taken back
 unfoldable pub undone_text : Identity → ℕ → List ℕ

@@ -14,6 +14,7 @@ mod mark;
 mod parts;
 mod printed;
 mod run_log;
+mod snapshot;
 mod soak;
 mod status;
 mod validation_log;
@@ -33,6 +34,7 @@ pub use run_log::{
     append_busy, append_damaged, append_full, append_halted, append_no_tag, append_not_reversible,
     append_not_writable, append_refused, append_warning,
 };
+pub use snapshot::snapshot_text;
 pub use soak::{Soaked, soak_text};
 pub use status::{status_text, tagged_text, undone_text};
 pub use validation_log::{append_changed, append_twice};

@@ -44,14 +44,17 @@ fn set_all(
     requires { values.now ≡ map (value_set columns.now) sets.now }
     ensures { OnOk result (row.new ≡ spec.set_all sets.now columns.now row.old) }
 {
-    let [set, sets @ ..] = sets else {
-        return Ok(());
-    };
-    let [value, values @ ..] = values else {
-        return Ok(());
-    };
-    set_in(row, columns, &set.0, value.duplicate(alloc)?);
-    set_all(alloc, row, columns, sets, values)
+    let mut left = sets;
+    let mut given = values;
+    while let [set, more @ ..] = left {
+        let [value, others @ ..] = given else {
+            return Ok(());
+        };
+        set_in(row, columns, &set.0, value.duplicate(alloc)?);
+        left = more;
+        given = others;
+    }
+    Ok(())
 }
 
 /// The new row, where the test takes the old one.

@@ -24,16 +24,19 @@ use std::alloc::Global;
 fn same_values(a: &[Value], b: &[Value]) -> bool
     ensures { result ≡ rows.same_values a.now b.now }
 {
-    let [x, a @ ..] = a else {
-        return b.is_empty();
-    };
-    let [y, b @ ..] = b else {
-        return false;
-    };
-    if !same_value(x, y) {
-        return false;
+    let mut left = a;
+    let mut right = b;
+    while let [x, more @ ..] = left {
+        let [y, others @ ..] = right else {
+            return false;
+        };
+        if !same_value(x, y) {
+            return false;
+        }
+        left = more;
+        right = others;
     }
-    same_values(a, b)
+    right.is_empty()
 }
 
 fn same_value(a: &Value, b: &Value) -> bool

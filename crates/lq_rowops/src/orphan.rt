@@ -149,10 +149,12 @@ fn sets_key(sets: &[(Name, Literal)], key: Option<&Key>) -> bool
 fn sets_unique(sets: &[(Name, Literal)], uniques: &[Unique]) -> bool
     ensures { result ≡ list_any (meets (names_set sets.now)) (map (λ u. u.columns) uniques.now) }
 {
-    match uniques {
-        [] => false,
-        [first, rest @ ..] => meets(sets, first.columns.as_slice()) || sets_unique(sets, rest),
+    for unique in uniques {
+        if meets(sets, unique.columns.as_slice()) {
+            return true;
+        }
     }
+    false
 }
 
 /// Whether a column that is set stands in what a foreign key may target.

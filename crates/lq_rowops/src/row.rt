@@ -1,5 +1,5 @@
 ghost use Rattle.std.specs.List.{list_any};
-ghost use Rattle.std.specs.Prelude.{◌≡◌, IfOk, IfSome, cond, Ok, [], not, map, pos};
+ghost use Rattle.std.specs.Prelude.{◌≡◌, ◌+◌, IfOk, IfSome, cond, Ok, [], not, map, pos};
 ghost use Rattle.lq_base.specs.Into.{Goes};
 ghost use Rattle.lq_model.specs.Insert as spec;
 ghost use Rattle.lq_model.specs.Literals.{default_value};
@@ -27,16 +27,19 @@ fn cell(
 ) -> Result<Value, IntoFault>
     ensures { Goes (spec.cell next stated.now values.now column.now) result }
 {
-    let [name, stated @ ..] = stated else {
-        return unstated(alloc, next, column);
-    };
-    let [value, values @ ..] = values else {
-        return default_of(alloc, column);
-    };
-    if column.name == *name {
-        return into_kind(alloc, value, column.kind);
+    let mut names = stated;
+    let mut given = values;
+    while let [name, more @ ..] = names {
+        let [value, others @ ..] = given else {
+            return default_of(alloc, column);
+        };
+        if column.name == *name {
+            return into_kind(alloc, value, column.kind);
+        }
+        names = more;
+        given = others;
     }
-    cell(alloc, next, stated, values, column)
+    unstated(alloc, next, column)
 }
 
 fn unstated(alloc: Global, next: u64, column: &Column) -> Result<Value, IntoFault>
@@ -93,26 +96,33 @@ pub fn row_of(
 pub fn has_bad_null(columns: &[Column], row: &[Value]) -> bool
     ensures { result ≡ rows.has_bad_null columns.now row.now }
 {
-    let [column, columns @ ..] = columns else {
-        return false;
-    };
-    let [value, row @ ..] = row else {
-        return false;
-    };
-    if !column.nullable && is_null(value) {
-        return true;
+    let mut left = columns;
+    let mut cells = row;
+    while let [column, more @ ..] = left {
+        let [value, others @ ..] = cells else {
+            return false;
+        };
+        if !column.nullable && is_null(value) {
+            return true;
+        }
+        left = more;
+        cells = others;
     }
-    has_bad_null(columns, row)
+    false
 }
 
 /// Whether one of the names stands there twice.
 pub fn repeats(names: &[Name]) -> bool
     ensures { result ≡ spaces.repeats names.now }
 {
-    match names {
-        [] => false,
-        [first, rest @ ..] => is_in(first, rest) || repeats(rest),
+    let mut left = names;
+    while let [first, rest @ ..] = left {
+        if is_in(first, rest) {
+            return true;
+        }
+        left = rest;
     }
+    false
 }
 
 pub fn is_in(name: &Name, names: &[Name]) -> bool
@@ -188,6 +198,25 @@ pub fn new_row(
     Ok(row)
 }
 
+/// The next number after a row that has this value in the numbered column; none where numbers run out.
+fn number_behind(
+    dialect: Dialect,
+    stated: &[Name],
+    column: &Column,
+    value: &Value,
+    next: u64,
+) -> Option<u64>
+    ensures { IfSome result (λ after.
+        after
+        ≡ cond (spaces.is_in column.now.name stated.now) (spec.number_after dialect next value.now)
+        (next + 1)) }
+{
+    if is_in(&column.name, stated) {
+        return Some(number_after(dialect, next, value));
+    }
+    next.checked_add(1)
+}
+
 /// The next number after a row; none where numbers run out.
 pub fn next_after(
     dialect: Dialect,
@@ -199,19 +228,19 @@ pub fn next_after(
     ensures { IfSome result
         (λ after. after ≡ spec.next_of dialect stated.now columns.now row.now next) }
 {
-    let [column, columns @ ..] = columns else {
-        return Some(next);
-    };
-    let [value, row @ ..] = row else {
-        return Some(next);
-    };
-    if !column.numbered {
-        return next_after(dialect, stated, columns, row, next);
+    let mut left = columns;
+    let mut cells = row;
+    while let [column, more @ ..] = left {
+        let [value, others @ ..] = cells else {
+            return Some(next);
+        };
+        if column.numbered {
+            return number_behind(dialect, stated, column, value, next);
+        }
+        left = more;
+        cells = others;
     }
-    if is_in(&column.name, stated) {
-        return Some(number_after(dialect, next, value));
-    }
-    next.checked_add(1)
+    Some(next)
 }
 
 fn number_after(dialect: Dialect, next: u64, value: &Value) -> u64

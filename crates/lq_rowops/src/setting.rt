@@ -16,20 +16,26 @@ use std::alloc::Global;
 fn is_set(name: &Name, sets: &[(Name, Literal)]) -> bool
     ensures { result ≡ spaces.is_in name.now (names_set sets.now) }
 {
-    match sets {
-        [] => false,
-        [first, rest @ ..] => *name == first.0 || is_set(name, rest),
+    for set in sets {
+        if *name == set.0 {
+            return true;
+        }
     }
+    false
 }
 
 /// Whether a column is set twice.
 pub fn repeats_set(sets: &[(Name, Literal)]) -> bool
     ensures { result ≡ spaces.repeats (names_set sets.now) }
 {
-    match sets {
-        [] => false,
-        [first, rest @ ..] => is_set(&first.0, rest) || repeats_set(rest),
+    let mut left = sets;
+    while let [first, rest @ ..] = left {
+        if is_set(&first.0, rest) {
+            return true;
+        }
+        left = rest;
     }
+    false
 }
 
 /// Whether a column that is set is missing.
@@ -38,10 +44,12 @@ pub fn lacks_set(columns: &[Column], sets: &[(Name, Literal)]) -> bool
         ≡ list_any (λ n. not (spaces.is_in n (map (λ c. c.name) columns.now)))
         (names_set sets.now) }
 {
-    match sets {
-        [] => false,
-        [first, rest @ ..] => !has_column(columns, &first.0) || lacks_set(columns, rest),
+    for set in sets {
+        if !has_column(columns, &set.0) {
+            return true;
+        }
     }
+    false
 }
 
 /// Whether one of the columns is set.
@@ -55,16 +63,12 @@ pub fn meets(sets: &[(Name, Literal)], names: &[Name]) -> bool
 fn kind_in(columns: &[Column], name: &Name) -> Kind
     ensures { result ≡ kind_in name.now columns.now }
 {
-    match columns {
-        [] => Kind::Text,
-        [first, rest @ ..] => {
-            if *name == first.name {
-                first.kind
-            } else {
-                kind_in(rest, name)
-            }
+    for column in columns {
+        if *name == column.name {
+            return column.kind;
         }
     }
+    Kind::Text
 }
 
 fn set_value(alloc: Global, columns: &[Column], set: &(Name, Literal)) -> Result<Value, IntoFault>

@@ -14,16 +14,17 @@ use std::alloc::Global;
 pub fn by_name<'a>(columns: &[Column], row: &'a [Value], name: &Name) -> Option<&'a Value>
     ensures { unwrap_or (option_copied result) Null ≡ by_name columns.now row.now name.now }
 {
-    let [column, columns @ ..] = columns else {
-        return None;
-    };
-    let [value, row @ ..] = row else {
-        return None;
-    };
-    if *name == column.name {
-        return Some(value);
+    let mut left = row;
+    for column in columns {
+        let Some((value, after)) = left.split_first() else {
+            return None;
+        };
+        if *name == column.name {
+            return Some(value);
+        }
+        left = after;
     }
-    by_name(columns, row, name)
+    None
 }
 
 fn value_at(
@@ -82,8 +83,10 @@ pub fn is_null_at(columns: &[Column], row: &[Value], name: &Name) -> bool
 pub fn has_column(columns: &[Column], name: &Name) -> bool
     ensures { result ≡ spaces.is_in name.now (map (λ c. c.name) columns.now) }
 {
-    match columns {
-        [] => false,
-        [first, rest @ ..] => *name == first.name || has_column(rest, name),
+    for column in columns {
+        if *name == column.name {
+            return true;
+        }
     }
+    false
 }

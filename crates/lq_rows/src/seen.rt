@@ -77,13 +77,14 @@ pub fn has_seen(seen: &[Seen], names: &[Name], values: &Values) -> Option<bool>
         → AllShow columns rows seen.now
         → IfSome result (λ found. found ≡ has_values columns names.now rows values.now) }
 {
-    let [first, rest @ ..] = seen else {
-        return None;
-    };
-    if same_names(first.columns.as_slice(), names) {
-        return Some(first.values.contains(values));
+    let mut left = seen;
+    while let Some((one, after)) = left.split_first() {
+        if same_names(one.columns.as_slice(), names) {
+            return Some(one.values.contains(values));
+        }
+        left = after;
     }
-    has_seen(rest, names, values)
+    None
 }
 
 #[tactic(auto, using(crate::proofs::SeenLemmas::none_with, crate::proofs::SeenLemmas::all_with))]

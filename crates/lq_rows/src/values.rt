@@ -91,19 +91,21 @@ impl Ord for Values {
 fn compare(a: &[Value], b: &[Value]) -> Ordering
     ensures { result ≡ values_cmp a.now b.now }
 {
-    let [x, xs @ ..] = a else {
-        return if b.is_empty() {
-            Ordering::Equal
-        } else {
-            Ordering::Less
+    let mut left = b;
+    for x in a {
+        let Some((y, after)) = left.split_first() else {
+            return Ordering::Greater;
         };
-    };
-    let [y, ys @ ..] = b else {
-        return Ordering::Greater;
-    };
-    match compare_one(x, y) {
-        Ordering::Equal => compare(xs, ys),
-        unequal => unequal,
+        let order = compare_one(x, y);
+        if order != Ordering::Equal {
+            return order;
+        }
+        left = after;
+    }
+    if left.is_empty() {
+        Ordering::Equal
+    } else {
+        Ordering::Less
     }
 }
 

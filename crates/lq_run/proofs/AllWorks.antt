@@ -23,7 +23,7 @@ use Rattle.lq_turns.specs.declared.deed.Deed.{Deed}
 use Rattle.lq_turns.specs.declared.deed.Deed.TheVariants.{Locks}
 use Rattle.lq_turns.specs.declared.deed.OnLock.TheVariants.{Freed}
 use Rattle.lq_run.specs.Does.{AllRead, Appends, DoesAlone, MayFill}
-use Rattle.lq_run.specs.Stands.{IsBegun, Stands, deed_text, entries_of, entry_of, texts_of}
+use Rattle.lq_run.specs.Stands.{IsBegun, Stands, deed_text, entries_of, entry_texts, texts_of}
 use Rattle.lq_run.proofs.Doing.{differ, ends, no_other}
 use Rattle.lq_run.proofs.Grows.{closing_entry}
 use Rattle.lq_run.proofs.Works.{Did, EndsAs, Works, did, settles}
@@ -117,7 +117,7 @@ module _ (start : State) (number : ℕ) (x : State) (s : Session) (is : Stands s
     by None begun h = record {
       committed = is.committed;
       now = subst (StandsFor start.dialect x.committed) (sym begun.1) is.committed;
-      texts = sym (ap (entry_of start.dialect) begun.2);
+      texts = sym (ap (entry_texts start.dialect) begun.2);
       more = [];
       entries = sym (append-nil s.entries);
       written = refl;

@@ -138,7 +138,7 @@ module _ {Key : Type 0} (read : StatementsReadBack) (d : Dialect) (m : Meaning K
     by (inr early) = subst (λ call. EachFront (called d call is.s)) (sym early.0)
         (λ there front rest parts. in_closing read d calls database fit is.s is.came early.3 (ap (λ (lock : Lock). lock.locked) early.1) (ap has_mark early.1 ∙ unmarked) early.2 there (there ++ entries_of d front) front rest parts refl)
 
-  behind_as : (e : End) → EndsAs d m stamp number x (session_on database) end_session None e y → LeftBehind d calls database x y
+  behind_as : (e : End) → EndsAs d m stamp number x (session_on database) end_session false None e y → LeftBehind d calls database x y
   behind_as end.Done ends = whole_behind ends
   behind_as (end.Refused refusal) ends = whole_behind ends
   behind_as (end.Locked lock) ends = absurd ends

@@ -23,7 +23,7 @@ use Rattle.lq_turns.specs.declared.deed.Deed.{Deed}
 use Rattle.lq_turns.specs.declared.deed.Deed.TheVariants.{Locks}
 use Rattle.lq_turns.specs.declared.deed.OnLock.TheVariants.{Freed}
 use Rattle.lq_run.specs.Does.{Appends, DoesCall, DoesDeed, IsRead}
-use Rattle.lq_run.specs.Stands.{HadRoom, IsBegun, Stands, deed_text, entries_of, entry_of}
+use Rattle.lq_run.specs.Stands.{HadRoom, IsBegun, Stands, deed_text, entries_of, entry_of, entry_texts}
 use Rattle.lq_run.proofs.Rooms.{more_room, sizes}
 use Rattle.lq_run.proofs.Works.{Did, EndsAs, Works, did, settles}
 
@@ -162,7 +162,7 @@ module _ (start : State) (number : ℕ) (x : State) (s : Session) (is : Stands s
         limit = is.limit;
         live = is.live;
         committed = is.committed;
-        begun = (refl, refl, subst (StandsFor start.dialect x.committed) (sym begun.1) is.committed, sym (ap (entry_of start.dialect) begun.2));
+        begun = (refl, refl, subst (StandsFor start.dialect x.committed) (sym begun.1) is.committed, sym (ap (entry_texts start.dialect) begun.2));
         entries = is.entries;
         used = is.used;
         room = is.room;

@@ -27,8 +27,8 @@ use Rattle.lq_run.proofs.Full.{full_before}
 use Rattle.lq_run.proofs.Grows.{calls_grow, came_on}
 use Rattle.lq_run.proofs.Keeping.{call_holds}
 use Rattle.lq_run.specs.Does.{Breaks, Faults}
-use Rattle.lq_run.specs.Ends.{AllHoldOn, AreLast, CameFrom, EndsAs, HoldsOn, IsBefore, IsOnWay, IsRunning, IsToCome, KeepsFull, KeepsLock, Reaches, StandsBefore, at_end, disk_failed}
-use Rattle.lq_run.specs.Holds.{IsBare, IsHeld}
+use Rattle.lq_run.specs.Ends.{AllHoldOn, AreLast, BreaksBefore, CameFrom, EndsAs, GoesOnBy, HoldsOn, IsBefore, IsFullSince, IsLastCall, IsOnWay, IsRunning, IsToCome, KeepsFull, KeepsLock, Reaches, RestsAs, RestsBefore, StandsBefore, StaysFull, at_end, disk_failed}
+use Rattle.lq_run.specs.Holds.{IsBare, IsHeld, IsMarked}
 use Rattle.lq_run.specs.Moves.{Goes, IsAt, Meets}
 use Rattle.lq_run.specs.Stands.{IsBegun, Stands}
 use Rattle.lq_run.specs.Steps.{Advances, Closes, Ends, EndsStep, Falls, Standing, Steps, StepsAs, TakesBack, TellsAs, end_of, is_disk, is_over, last_end, place, turns_of}
@@ -155,48 +155,65 @@ module _ {Key : Type 0} (d : Dialect) (m : Meaning Key) (stamp : Stamp) (number 
     stands_still : y ≡ x → StandsBefore d m stamp number start first last y
     stands_still is = (s, came, way, inl (subst (λ z. Stands start number z s) (sym is) stands))
 
-    -- a call on the way, or the one that frees a lock without a mark, met a fault
-    meets : (p : Place Key) (room : Room) (why : StoreFault) (is : Meets d m stamp number p start s x room why y) → ((room_of is.call ≡ Ordinary) ⊎ ((is.call ≡ closing) × (s.begun ≡ []))) → IsToCome d m stamp number start first last is.call s
-        → EndsAs d m stamp number start first last met (end_of why) y
-    meets p room fault.Disk is which next = record { s = s; x = x; stands = stands; came = came; call = is.call; breaks = subst (λ e. Breaks e is.call s x y) same_dialect is.faults; before = next }
-    meets p room (fault.Full used more) is which next = (stands_still is.faults.1, inl (full_before d m stamp number start first last s x stands same_dialect came is.call room used more is.by which next is.faults.0))
-    meets p room fault.OutOfMemory is which next = stands_still is.faults
-    meets p room (fault.Busy n) is which next = absurd is.faults
-    meets p room fault.NotSql is which next = absurd is.faults
-    meets p room (fault.Refused reason) is which next = absurd is.faults
+    rests_there : (used more : ℕ) → s.is_open ≡ false → RestsAs d m stamp number start first last true met used more s y → RestsBefore d m stamp number start first last true met used more y
+    rests_there used more shut rests = record { s = s; came = came; before = way; shut = (shut, begun_none shut); rests = rests }
 
-    -- the lock is freed after a fault
-    frees : (why : StoreFault) → is_disk why ≡ false → KeepsFull d m stamp number start first last met (Some why) → StandsBefore d m stamp number start first last y → EndsAs d m stamp number start first last met (end_of why) y
-    frees fault.Disk other kept is = absurd (not_true (sym other))
-    frees (fault.Full used more) other kept is = (is, kept used more refl)
-    frees fault.OutOfMemory other kept is = is
-    frees (fault.Busy n) other kept is = is
-    frees fault.NotSql other kept is = is
-    frees (fault.Refused reason) other kept is = is
+    -- the disk failed at a call on the way, or at the one that frees a lock without a mark
+    breaks : (p : Place Key) (room : Room) (is : Meets d m stamp number p start s x room fault.Disk y) → IsToCome d m stamp number start first last is.call s → BreaksBefore d m stamp number start first last y
+    breaks p room is next = record { s = s; x = x; stands = stands; came = came; call = is.call; breaks = subst (λ e. Breaks e is.call s x y) same_dialect is.faults; before = next }
 
-    closes_bare : (p : Place Key) (why : StoreFault) (e : End) → is_disk why ≡ false → KeepsFull d m stamp number start first last met (Some why) → IsBare stamp s.committed.lock
+    -- the call that frees the lock met a fault
+    meets : (p : Place Key) (why : StoreFault) (is : Meets d m stamp number p start s x Release why y) → is.call ≡ closing → s.is_open ≡ false → IsToCome d m stamp number start first last is.call s → GoesOnBy d m stamp number start first last is.call s
+        → EndsAs d m stamp number start first last true met (end_of why) y
+    meets p fault.Disk is closes shut next goes_on = breaks p Release is next
+    meets p (fault.Full used more) is closes shut next goes_on =
+        let full = full_before d m stamp number start first last s x stands same_dialect came is.call Release used more is.by (inr (closes, begun_none shut)) next goes_on is.faults.0 in (
+          stands_still is.faults.1,
+          rests_there used more shut (inr (subst (λ z. Stands start number z s) (sym is.faults.1) stands, ((full.0, ap (λ (t : Session). t.entries) (sym full.1)), inl (full.2 ∙ closes)))),
+        )
+    meets p fault.OutOfMemory is closes shut next goes_on = stands_still is.faults
+    meets p (fault.Busy n) is closes shut next goes_on = absurd is.faults
+    meets p fault.NotSql is closes shut next goes_on = absurd is.faults
+    meets p (fault.Refused reason) is closes shut next goes_on = absurd is.faults
+
+    -- after a fault the lock is freed, or has a mark
+    lets_go : (calls : List Call) (why : StoreFault) → is_disk why ≡ false → KeepsFull d m stamp number start first last met s calls (Some why) → s.is_open ≡ false → StandsBefore d m stamp number start first last y
+        → ((IsBare stamp s.committed.lock × Stands start number y (called d closing s)) ⊎ (IsMarked stamp s.committed.lock × Stands start number y s)) → EndsAs d m stamp number start first last true met (end_of why) y
+    lets_go calls fault.Disk other kept shut is lock = absurd (not_true (sym other))
+    lets_go calls (fault.Full used more) other kept shut is lock = (is, rests_there used more shut (inl (since (kept used more refl), lock))) where
+      since : (StaysFull d m stamp number start first last used more s × AreLast calls) ⊎ (met ≡ Some (fault.Full used more)) → IsFullSince d m stamp number start first last met used more s
+      since (inl full) = inl full.0
+      since (inr before) = inr before
+    lets_go calls fault.OutOfMemory other kept shut is lock = is
+    lets_go calls (fault.Busy n) other kept shut is lock = is
+    lets_go calls fault.NotSql other kept shut is lock = is
+    lets_go calls (fault.Refused reason) other kept shut is lock = is
+
+    closes_bare : (p : Place Key) (calls : List Call) (why : StoreFault) (e : End) → is_disk why ≡ false → KeepsFull d m stamp number start first last met s calls (Some why) → IsBare stamp s.committed.lock
         → ((call : Call) (more : List Call) → rest d m stamp p (both_of s) ≡ call ∷ more → room_of call ≡ Release → (call ≡ closing))
         → ((call : Call) → rest d m stamp p (both_of s) ≡ call ∷ [] → call ≡ closing)
         → ((call : Call) (more : List Call) → rest d m stamp p (both_of s) ≡ call ∷ more → call ≡ closing → s.is_open ≡ false)
-        → Closes d m stamp number p (end_of why) start s x e y → EndsAs d m stamp number start first last met e y
-    closes_bare p why e other kept bare at_room only shut (inl went) =
+        → Closes d m stamp number p (end_of why) start s x e y → EndsAs d m stamp number start first last true met e y
+    closes_bare p calls why e other kept bare at_room only shut (inl went) =
         let is = went.0 in
-        let none = begun_none (shut is.went.call [] is.went.next (only is.went.call is.went.next)) in
+        let closed = shut is.went.call [] is.went.next (only is.went.call is.went.next) in
         let ends : is.after ≡ called d closing s = is.went.is ∙ ap (λ c. called d c s) (only is.went.call is.went.next) in
-        subst (λ a. EndsAs d m stamp number start first last met a y) (sym went.1) (frees why other kept (s, came, way, inr (bare, none, subst (Stands start number y) ends is.at.stands)))
-    closes_bare p why e other kept bare at_room only shut (inr failed) =
+        let there : Stands start number y (called d closing s) = subst (Stands start number y) ends is.at.stands in
+        subst (λ a. EndsAs d m stamp number start first last true met a y) (sym went.1) (lets_go calls why other kept closed (s, came, way, inr (bare, begun_none closed, there)) (inl (bare, there)))
+    closes_bare p calls why e other kept bare at_room only shut (inr failed) =
         let it = failed.1 in
         let frees_it = at_room it.call it.more it.next it.by in
-        let none = begun_none (shut it.call it.more it.next frees_it) in
-        subst (λ a. EndsAs d m stamp number start first last met a y) (sym failed.2) (meets p Release failed.0 it (inr (frees_it, none)) (inr (frees_it, bare, none, way)))
+        let closed = shut it.call it.more it.next frees_it in
+        subst (λ a. EndsAs d m stamp number start first last true met a y) (sym failed.2) (meets p failed.0 it frees_it closed (inr (frees_it, bare, begun_none closed, way)) (inr (inr frees_it)))
 
-    ends_bare : (p : Place Key) (why : StoreFault) (refused : Option Refusal) (e : End) → is_disk why ≡ false → KeepsFull d m stamp number start first last met (Some why)
+    ends_bare : (p : Place Key) (calls : List Call) (why : StoreFault) (refused : Option Refusal) (e : End) → is_disk why ≡ false → KeepsFull d m stamp number start first last met s calls (Some why) → s.is_open ≡ false
         → ((call : Call) (more : List Call) → rest d m stamp p (both_of s) ≡ call ∷ more → room_of call ≡ Release → (call ≡ closing))
         → ((call : Call) → rest d m stamp p (both_of s) ≡ call ∷ [] → call ≡ closing)
         → ((call : Call) (more : List Call) → rest d m stamp p (both_of s) ≡ call ∷ more → call ≡ closing → s.is_open ≡ false)
-        → Ends d m stamp number p (Some why) refused start s x e y → EndsAs d m stamp number start first last met e y
-    ends_bare p why refused e other kept at_room only shut (inl bare) = closes_bare p why e other kept bare.0 at_room only shut bare.1
-    ends_bare p why refused e other kept at_room only shut (inr marked) = subst (λ a. EndsAs d m stamp number start first last met a y) (sym marked.2) (frees why other kept (stands_still marked.1))
+        → Ends d m stamp number p (Some why) refused start s x e y → EndsAs d m stamp number start first last true met e y
+    ends_bare p calls why refused e other kept closed at_room only shut (inl bare) = closes_bare p calls why e other kept bare.0 at_room only shut bare.1
+    ends_bare p calls why refused e other kept closed at_room only shut (inr marked) =
+        subst (λ a. EndsAs d m stamp number start first last true met a y) (sym marked.2) (lets_go calls why other kept closed (stands_still marked.1) (inr (marked.0, subst (λ z. Stands start number z s) (sym marked.1) stands)))
 
 module _ {Key Told : Type 0} (d : Dialect) (m : Meaning Key) (stamp : Stamp) (number : ℕ) where
   pub left_after : (r : Standing Key Told) (x : Both) → is_over r.hand.phase ≡ false → rest d m stamp (place r) x ≢ []
@@ -223,65 +240,77 @@ module _ {Key Told : Type 0} (d : Dialect) (m : Meaning Key) (stamp : Stamp) (nu
     goes_on_way (inl same) = inl (along d m stamp number (place before) (place after) start s y goes ∙ same)
     goes_on_way (inr fell) = goes_last fell.0 fell.1 fell.3 fell.2
 
-    goes_on : (x : State) (first : Session) → CameFrom d first s → IsRunning d m stamp number before x start s told → IsOnWay d m stamp number before s last → Reaches d m stamp number after y start first last told
+    goes_on : (x : State) (first : Session) → CameFrom d first s → IsRunning d m stamp number before x start s told → IsOnWay d m stamp number before s last → (there : Reaches d m stamp number after y start first last told) × (there.session ≡ goes.after)
     goes_on x first came is way =
         let split = keeps_split stamp.who goes.went.call (rest d m stamp (place after) (both_of goes.after)) is.keeps.front (sym goes.went.next ∙ is.keeps.is) (left_after after (both_of goes.after) more) is.keeps.holds in
-        let held = call_holds stamp d goes.went.call s split.0 (is.committed, is.seen) in
-        record {
-          session = goes.after;
-          came = subst (CameFrom d first) (sym goes.went.is) (came_on d first s goes.went.call came);
-          is = record {
-            there = record { at = goes.at; known = on.known };
-            committed = subst (λ z. IsHeld stamp z.committed.lock) (sym goes.went.is) held.0;
-            seen = subst (λ z. IsHeld stamp z.seen.lock) (sym goes.went.is) held.1;
-            keeps = split.1;
-            disk = ap disk_failed on.fault ∙ is.disk;
-          };
-          way = goes_on_way way;
-        }
+        let held = call_holds stamp d goes.went.call s split.0 (is.committed, is.seen) in (
+          record {
+            session = goes.after;
+            came = subst (CameFrom d first) (sym goes.went.is) (came_on d first s goes.went.call came);
+            is = record {
+              there = record { at = goes.at; known = on.known };
+              committed = subst (λ z. IsHeld stamp z.committed.lock) (sym goes.went.is) held.0;
+              seen = subst (λ z. IsHeld stamp z.seen.lock) (sym goes.went.is) held.1;
+              keeps = split.1;
+              disk = ap disk_failed on.fault ∙ is.disk;
+            };
+            way = goes_on_way way;
+          },
+          refl,
+        )
 
-  falls : (before after : Standing Key Told) (told : Told) (start : State) (first last s : Session) (x y : State) → Falls d m stamp number before after start s x y → CameFrom d first s → IsRunning d m stamp number before x start s told → IsBefore s last → Reaches d m stamp number after y start first last told
+    -- after a full journal only what was begun is taken back
+    goes_full : (first : Session) (met : Option StoreFault) → KeepsFull d m stamp number start first last met s (rest d m stamp (place before) (both_of s)) before.fault
+        → KeepsFull d m stamp number start first last met goes.after (rest d m stamp (place after) (both_of goes.after)) after.fault
+    goes_full first met kept = λ used next same. by used next (kept used next (sym on.fault ∙ same)) where
+      stays : (used next : ℕ) (full : StaysFull d m stamp number start first last used next s) → AreLast (rest d m stamp (place before) (both_of s))
+          → StaysFull d m stamp number start first last used next goes.after × AreLast (rest d m stamp (place after) (both_of goes.after))
+      stays used next full (inl closes) = absurd (left_after after (both_of goes.after) more (tail_is (sym goes.went.next ∙ closes)))
+      stays used next full (inr aborts) =
+          let calls = sym goes.went.next ∙ aborts in
+          let ends : goes.after ≡ called d Abort s = goes.went.is ∙ ap (λ c. called d c s) (head_is calls) in
+          ((full.0, ap (λ (t : Session). t.entries) ends ∙ full.1), inl (tail_is calls))
+
+      by : (used next : ℕ) → (StaysFull d m stamp number start first last used next s × AreLast (rest d m stamp (place before) (both_of s))) ⊎ (met ≡ Some (fault.Full used next))
+          → (StaysFull d m stamp number start first last used next goes.after × AreLast (rest d m stamp (place after) (both_of goes.after))) ⊎ (met ≡ Some (fault.Full used next))
+      by used next (inl full) = inl (stays used next full.0 full.1)
+      by used next (inr said) = inr said
+
+  falls : (before after : Standing Key Told) (told : Told) (start : State) (first last s : Session) (x y : State) → Falls d m stamp number before after start s x y → CameFrom d first s → IsRunning d m stamp number before x start s told → IsBefore s last → (there : Reaches d m stamp number after y start first last told) × (there.session ≡ s)
   falls before after told start first last s x y fell came is way =
-      let left : rest d m stamp (place after) (both_of s) ≡ Abort ∷ closing ∷ [] = ap (λ p. rest d m stamp p (both_of s)) fell.gives_up in
-      record {
-        session = s;
-        came = came;
-        is = record {
-          there = record { at = fell.at; known = λ healthy. absurd (not_healthy after.fault fell.why fell.fault healthy) };
-          committed = is.committed;
-          seen = is.seen;
-          keeps = record { front = Abort ∷ []; is = left; holds = (tt, tt) };
-          disk = ap disk_failed fell.fault ∙ still_live d m stamp number fell.why fell.meets.call start s x y Ordinary fell.meets.faults fell.at.stands.live;
-        };
-        way = inr (fell.why, fell.fault, inr left, way);
-      }
+      let left : rest d m stamp (place after) (both_of s) ≡ Abort ∷ closing ∷ [] = ap (λ p. rest d m stamp p (both_of s)) fell.gives_up in (
+        record {
+          session = s;
+          came = came;
+          is = record {
+            there = record { at = fell.at; known = λ healthy. absurd (not_healthy after.fault fell.why fell.fault healthy) };
+            committed = is.committed;
+            seen = is.seen;
+            keeps = record { front = Abort ∷ []; is = left; holds = (tt, tt) };
+            disk = ap disk_failed fell.fault ∙ still_live d m stamp number fell.why fell.meets.call start s x y Ordinary fell.meets.faults fell.at.stands.live;
+          };
+          way = inr (fell.why, fell.fault, inr left, way);
+        },
+        refl,
+      )
 
-  takes_back : (before after : Standing Key Told) (told : Told) (start : State) (first last s : Session) (x y : State) → TakesBack d m stamp number after start s y → CameFrom d first s → IsRunning d m stamp number before x start s told → IsBefore s last → Reaches d m stamp number after y start first last told
+  takes_back : (before after : Standing Key Told) (told : Told) (start : State) (first last s : Session) (x y : State) → TakesBack d m stamp number after start s y → CameFrom d first s → IsRunning d m stamp number before x start s told → IsBefore s last → (there : Reaches d m stamp number after y start first last told) × (there.session ≡ called d Abort s)
   takes_back before after told start first last s x y back came is way =
-      let left : rest d m stamp (place after) (both_of (called d Abort s)) ≡ closing ∷ [] = ap (λ p. rest d m stamp p (both_of (called d Abort s))) back.ends_turns in
-      record {
-        session = called d Abort s;
-        came = came_on d first s Abort came;
-        is = record {
-          there = record { at = back.at; known = λ healthy. absurd (not_healthy after.fault fault.OutOfMemory back.fault healthy) };
-          committed = is.committed;
-          seen = is.committed;
-          keeps = record { front = []; is = left; holds = tt };
-          disk = ap disk_failed back.fault;
-        };
-        way = inr (fault.OutOfMemory, back.fault, inl left, record { more = way.more; entries = way.entries });
-      }
-
-  pub reaches : (before after : Standing Key Told) (told : Told) (start : State) (first last : Session) (x y : State) → is_over after.hand.phase ≡ false → Reaches d m stamp number before x start first last told
-      → Steps d m stamp number before after x step.Going y → Reaches d m stamp number after y start first last told
-  reaches before after told start first last x y more is steps = by (steps start is.session told is.is.there (λ there. is.is.committed)) where
-    way : IsBefore is.session last
-    way = before_last before is.session last is.way
-
-    by : StepsAs d m stamp number before after told start is.session x step.Going y → Reaches d m stamp number after y start first last told
-    by (inl on) = goes_on start last told before after is.session y more on x first is.came is.is is.way
-    by (inr (inl fell)) = falls before after told start first last is.session x y fell is.came is.is way
-    by (inr (inr back)) = takes_back before after told start first last is.session x y back is.came is.is way
+      let left : rest d m stamp (place after) (both_of (called d Abort s)) ≡ closing ∷ [] = ap (λ p. rest d m stamp p (both_of (called d Abort s))) back.ends_turns in (
+        record {
+          session = called d Abort s;
+          came = came_on d first s Abort came;
+          is = record {
+            there = record { at = back.at; known = λ healthy. absurd (not_healthy after.fault fault.OutOfMemory back.fault healthy) };
+            committed = is.committed;
+            seen = is.committed;
+            keeps = record { front = []; is = left; holds = tt };
+            disk = ap disk_failed back.fault;
+          };
+          way = inr (fault.OutOfMemory, back.fault, inl left, record { more = way.more; entries = way.entries });
+        },
+        refl,
+      )
 
   module _ (before : Standing Key Told) (told : Told) (start : State) (first last : Session) (x y : State) (is : Reaches d m stamp number before x start first last told) where
     abbrev s : Session
@@ -305,6 +334,15 @@ module _ {Key Told : Type 0} (d : Dialect) (m : Meaning Key) (stamp : Stamp) (nu
         by_last (inl closes) = absurd (rooms_differ (sym room ∙ ap room_of (head_is (sym next ∙ closes))))
         by_last (inr aborts) = subst (λ c. IsBefore (called d c s) last) (sym (head_is (sym next ∙ aborts))) (record { more = way.more; entries = way.entries })
 
+    goes_on_by : (call : Call) (more : List Call) → calls ≡ call ∷ more → GoesOnBy d m stamp number start first last call s
+    goes_on_by call more next = elim is.way [
+      | inl same ↦ inl (more, sym (ap (λ cs. all_called d cs s) next) ∙ same)
+      | inr fell ↦ inr (by_last fell.2)
+    ] where
+      by_last : AreLast calls → IsLastCall call
+      by_last (inl closes) = inr (head_is (sym next ∙ closes))
+      by_last (inr aborts) = inl (head_is (sym next ∙ aborts))
+
     -- without a fault so far
     pub at_last : before.fault ≡ None → at_end d m stamp number (place before) s ≡ last
     at_last none = by is.way where
@@ -325,52 +363,63 @@ module _ {Key Told : Type 0} (d : Dialect) (m : Meaning Key) (stamp : Stamp) (nu
     shut_there call more next frees = shut_at d m stamp number (place before) s.is_open (both_of s) more here.there.at.ready (next ∙ ap (λ c. c ∷ more) frees)
 
     -- with the fault that was met before the first session
-    module _ (met : Option StoreFault) (kept : KeepsFull d m stamp number start first last met before.fault) where
-      ends_last : (refused : Option Refusal) → Stands start number y last → EndsAs d m stamp number start first last met (last_end None refused) y
+    module _ (met : Option StoreFault) (kept : KeepsFull d m stamp number start first last met s calls before.fault) where
+      ends_last : (refused : Option Refusal) → Stands start number y last → EndsAs d m stamp number start first last true met (last_end None refused) y
       ends_last None stands = stands
       ends_last (Some refusal) stands = stands
 
-      ends_none : (refused : Option Refusal) (e : End) → before.fault ≡ None → Closes d m stamp number (place before) (last_end None refused) start s x e y → EndsAs d m stamp number start first last met e y
+      ends_none : (refused : Option Refusal) (e : End) → before.fault ≡ None → Closes d m stamp number (place before) (last_end None refused) start s x e y → EndsAs d m stamp number start first last true met e y
       ends_none refused e none (inl went) =
-          subst (λ a. EndsAs d m stamp number start first last met a y) (sym went.1)
+          subst (λ a. EndsAs d m stamp number start first last true met a y) (sym went.1)
           (ends_last refused (subst (Stands start number y) (along d m stamp number (place before) Over start s y went.0 ∙ at_last none) went.0.at.stands))
       ends_none refused e none (inr failed) =
           let it = failed.1 in
           let frees = frees_it it.call it.more it.next it.by in
-          subst (λ a. EndsAs d m stamp number start first last met a y) (sym failed.2)
-          (meets d m stamp number start first last met s x y here.there.at.stands here.there.at.dialect is.came way (place before) Release failed.0 it
-          (inr (frees, begun_none d m stamp number start first last met s x y here.there.at.stands here.there.at.dialect is.came way (shut_there it.call it.more it.next frees)))
-          (inl (subst (IsBefore (called d it.call s)) (sym (ap (λ cs. all_called d cs s) it.next) ∙ at_last none) (calls_grow d it.more (called d it.call s)))))
+          subst (λ a. EndsAs d m stamp number start first last true met a y) (sym failed.2)
+          (meets d m stamp number start first last met s x y here.there.at.stands here.there.at.dialect is.came way (place before) failed.0 it frees (shut_there it.call it.more it.next frees)
+          (inl (subst (IsBefore (called d it.call s)) (sym (ap (λ cs. all_called d cs s) it.next) ∙ at_last none) (calls_grow d it.more (called d it.call s)))) (goes_on_by it.call it.more it.next))
 
-      ends_by : (f : Option StoreFault) (e : End) → before.fault ≡ f → Ends d m stamp number (place before) f before.refused start s x e y → EndsAs d m stamp number start first last met e y
-      ends_by None e none ends = ends_none before.refused e none ends
-      ends_by (Some why) e some ends =
-          ends_bare d m stamp number start first last met s x y here.there.at.stands here.there.at.dialect is.came way (place before) why before.refused e (sym (ap disk_failed some) ∙ here.disk)
-          (subst (KeepsFull d m stamp number start first last met) some kept) frees_it (λ call next. only_last here.keeps.front call (sym next ∙ here.keeps.is)) shut_there ends
+      ends_by : (f : Option StoreFault) (e : End) → before.fault ≡ f → s.is_open ≡ false → Ends d m stamp number (place before) f before.refused start s x e y → EndsAs d m stamp number start first last true met e y
+      ends_by None e none closed ends = ends_none before.refused e none ends
+      ends_by (Some why) e some closed ends =
+          ends_bare d m stamp number start first last met s x y here.there.at.stands here.there.at.dialect is.came way (place before) calls why before.refused e (sym (ap disk_failed some) ∙ here.disk)
+          (subst (KeepsFull d m stamp number start first last met s calls) some kept) closed frees_it (λ call next. only_last here.keeps.front call (sym next ∙ here.keeps.is)) shut_there ends
 
-      by_end : (e : End) → EndsStep d m stamp number before start s x e y → EndsAs d m stamp number start first last met e y
-      by_end e (inl ends) = ends_by before.fault e refl ends
+      by_end : (e : End) → EndsStep d m stamp number before start s x e y → EndsAs d m stamp number start first last true met e y
+      by_end e (inl ends) = ends_by before.fault e refl ends.0 ends.1
       by_end e (inr (inl short)) =
-          ends_bare d m stamp number start first last met s x y here.there.at.stands here.there.at.dialect is.came way (between NoMore) fault.OutOfMemory before.refused e refl
-          (λ used more same. absurd (no_memory (same_some same))) (λ call more next room. sym (head_is next)) (λ call next. sym (head_is next)) (λ call more next frees. short.0) short.1
+          ends_bare d m stamp number start first last met s x y here.there.at.stands here.there.at.dialect is.came way (between NoMore) [] fault.OutOfMemory before.refused e refl
+          (λ used more same. absurd (no_memory (same_some same))) short.0 (λ call more next room. sym (head_is next)) (λ call next. sym (head_is next)) (λ call more next frees. short.0) short.1
       by_end e (inr (inr failed)) =
           let it = failed.0 in
-          subst (λ a. EndsAs d m stamp number start first last met a y) (sym failed.1)
-          (meets d m stamp number start first last met s x y here.there.at.stands here.there.at.dialect is.came way (place before) Ordinary fault.Disk it (inl it.by) (inl (on_way it.call it.more it.next it.by)))
+          subst (λ a. EndsAs d m stamp number start first last true met a y) (sym failed.1)
+          (breaks d m stamp number start first last met s x y here.there.at.stands here.there.at.dialect is.came way (place before) Ordinary it (inl (on_way it.call it.more it.next it.by)))
 
-      pub ends : (after : Standing Key Told) (e : End) → Steps d m stamp number before after x (step.Ended e) y → EndsAs d m stamp number start first last met e y
+      pub ends : (after : Standing Key Told) (e : End) → Steps d m stamp number before after x (step.Ended e) y → EndsAs d m stamp number start first last true met e y
       ends after e steps = by_end e (steps start s told here.there (λ there. here.committed)).0
 
-      -- a step that meets a full journal keeps how full it was
-      pub keeps_full : (after : Standing Key Told) → Steps d m stamp number before after x step.Going y → KeepsFull d m stamp number start first last met after.fault
-      keeps_full after steps = by (steps start s told here.there (λ there. here.committed)) where
-        by : StepsAs d m stamp number before after told start s x step.Going y → KeepsFull d m stamp number start first last met after.fault
-        by (inl on) = subst (KeepsFull d m stamp number start first last met) (sym on.fault) kept
-        by (inr (inl fell)) = λ used more same.
-            let it : Meets d m stamp number (place before) start s x Ordinary (fault.Full used more) y = subst (λ why. Meets d m stamp number (place before) start s x Ordinary why y) (same_some (sym fell.fault ∙ same)) fell.meets in
-            inl (full_before d m stamp number start first last s x here.there.at.stands here.there.at.dialect is.came it.call Ordinary used more it.by (inl it.by) (inl (on_way it.call it.more it.next it.by)) it.faults.0)
-        by (inr (inr back)) = λ used more same. absurd (no_memory (same_some (sym back.fault ∙ same)))
+      abbrev KeepsAt : Standing Key Told → Session → Type 0
+      KeepsAt after t = KeepsFull d m stamp number start first last met t (rest d m stamp (place after) (both_of t)) after.fault
+
+      -- a step that goes on keeps how full it was
+      pub reaches : (after : Standing Key Told) → is_over after.hand.phase ≡ false → Steps d m stamp number before after x step.Going y
+          → (there : Reaches d m stamp number after y start first last told) × KeepsAt after there.session
+      reaches after more steps = by (steps start s told here.there (λ there. here.committed)) where
+        full_now : (fell : Falls d m stamp number before after start s x y) → KeepsAt after s
+        full_now fell = λ used next same.
+            let it : Meets d m stamp number (place before) start s x Ordinary (fault.Full used next) y = subst (λ why. Meets d m stamp number (place before) start s x Ordinary why y) (same_some (sym fell.fault ∙ same)) fell.meets in
+            let full = full_before d m stamp number start first last s x here.there.at.stands here.there.at.dialect is.came it.call Ordinary used next it.by (inl it.by) (inl (on_way it.call it.more it.next it.by)) (goes_on_by it.call it.more it.next) it.faults.0 in
+            inl ((full.0, ap (λ (t : Session). t.entries) (sym full.1)), inr (ap (λ p. rest d m stamp p (both_of s)) fell.gives_up))
+
+        by : StepsAs d m stamp number before after told start s x step.Going y → (there : Reaches d m stamp number after y start first last told) × KeepsAt after there.session
+        by (inl on) =
+            let it = goes_on start last told before after s y more on x first is.came here is.way in
+            (it.0, subst (KeepsAt after) (sym it.1) (goes_full start last told before after s y more on first met kept))
+        by (inr (inl fell)) = let it = falls before after told start first last s x y fell is.came here way in (it.0, subst (KeepsAt after) (sym it.1) (full_now fell))
+        by (inr (inr back)) =
+            let it = takes_back before after told start first last s x y back is.came here way in
+            (it.0, λ used next same. absurd (no_memory (same_some (sym back.fault ∙ same))))
 
   -- a runner that has made too many calls stands where it is
-  pub stops : (r : Standing Key Told) (told : Told) (start : State) (first last : Session) (x : State) (met : Option StoreFault) → Reaches d m stamp number r x start first last told → EndsAs d m stamp number start first last met end.OutOfMemory x
+  pub stops : (r : Standing Key Told) (told : Told) (start : State) (first last : Session) (x : State) (met : Option StoreFault) → Reaches d m stamp number r x start first last told → EndsAs d m stamp number start first last true met end.OutOfMemory x
   stops r told start first last x met is = (is.session, is.came, before_last r is.session last is.way, inl is.is.there.at.stands)

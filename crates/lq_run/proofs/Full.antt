@@ -19,7 +19,7 @@ use Rattle.lq_turns.specs.declared.deed.Deed.TheVariants.{Locks}
 use Rattle.lq_turns.specs.declared.deed.OnLock.TheVariants.{Freed}
 use Rattle.lq_turns.specs.declared.stamp.Stamp.{Stamp}
 use Rattle.lq_run.specs.Does.{HasNoRoom}
-use Rattle.lq_run.specs.Ends.{CameFrom, IsFullBefore, IsToCome}
+use Rattle.lq_run.specs.Ends.{CameFrom, GoesOnBy, IsFullBefore, IsToCome}
 use Rattle.lq_run.specs.Left.{IsFullIn}
 use Rattle.lq_run.specs.Stands.{Stands, entries_of}
 
@@ -31,25 +31,29 @@ none_written : (n : ℕ) → n ≡ n + 0
 none_written n = Prim.search rules
 
 module _ {Key : Type 0} (d : Dialect) (m : Meaning Key) (stamp : Stamp) (number : ℕ) (start : State) (first last s : Session) (x : State) (stands : Stands start number x s) (same_dialect : start.dialect ≡ d) (came : CameFrom d first s) where
-  -- of a call to come that had no room
-  pub full_before : (call : Call) (room : Room) (used next : ℕ) → room_of call ≡ room → ((room_of call ≡ Ordinary) ⊎ ((call ≡ closing) × (s.begun ≡ []))) → IsToCome d m stamp number start first last call s → HasNoRoom start.dialect room call s x used next
-      → IsFullBefore d m stamp number start first last used next
-  full_before call room used next by which before none =
+  -- of a call to come that had no room there
+  pub full_before : (call : Call) (room : Room) (used next : ℕ) → room_of call ≡ room → ((room_of call ≡ Ordinary) ⊎ ((call ≡ closing) × (s.begun ≡ []))) → IsToCome d m stamp number start first last call s → GoesOnBy d m stamp number start first last call s → HasNoRoom start.dialect room call s x used next
+      → (full : IsFullBefore d m stamp number start first last used next) × (full.s ≡ s) × (full.call ≡ call)
+  full_before call room used next by which before goes_on none =
       let it : HasNoRoom d room call s x used next = subst (λ e. HasNoRoom e room call s x used next) same_dialect none in
-      let limit : x.limit ≡ start.limit = stands.limit in
-      record {
-        s = s;
-        came = came;
-        call = call;
-        before = before;
-        which = which;
-        used_is = it.full.1.0 ∙ subst (λ e. x.used ≡ start.used + size_of_all (entries_of e s.entries)) same_dialect stands.used;
-        more = it.appends.more;
-        appends = it.appends.entries;
-        next_is = it.full.1.1 ∙ ap size_of_all it.appends.texts;
-        full = ap (λ r. is_full (end_of r start.limit) used (entries_of d it.appends.more)) by ∙ ap (λ l. is_full (end_of room l) used (entries_of d it.appends.more)) (sym limit)
-            ∙ full_by room x.limit used x.used it.written (entries_of d it.appends.more) it.full.1.0 it.appends.texts it.full.0;
-      }
+      let limit : x.limit ≡ start.limit = stands.limit in (
+        record {
+          s = s;
+          came = came;
+          call = call;
+          before = before;
+          next_call = goes_on;
+          which = which;
+          used_is = it.full.1.0 ∙ subst (λ e. x.used ≡ start.used + size_of_all (entries_of e s.entries)) same_dialect stands.used;
+          more = it.appends.more;
+          appends = it.appends.entries;
+          next_is = it.full.1.1 ∙ ap size_of_all it.appends.texts;
+          full = ap (λ r. is_full (end_of r start.limit) used (entries_of d it.appends.more)) by ∙ ap (λ l. is_full (end_of room l) used (entries_of d it.appends.more)) (sym limit)
+              ∙ full_by room x.limit used x.used it.written (entries_of d it.appends.more) it.full.1.0 it.appends.texts it.full.0;
+        },
+        refl,
+        refl,
+      )
 
 module _ (d : Dialect) (database : Database) (x : State) (call : Call) (room : Room) (used next : ℕ) (none : HasNoRoom d room call (session_on database) x used next) where
   abbrev after : Session
@@ -69,15 +73,24 @@ module _ (d : Dialect) (database : Database) (x : State) (call : Call) (room : R
   uses_all (inr frees) = inr (sym appends ∙ frees)
 
   -- of one that stands alone
-  pub full_once : ((room ≡ Ordinary) ⊎ (after.entries ≡ (Locks Freed ∷ []) ∷ [])) → IsFullIn d (call ∷ []) database x used next
-  full_once which = record {
-    written = [];
-    more = more;
-    stops = record { front = []; rest = more; entries = appends; now = database; led = refl; is = inl refl };
-    comes = record { front = more; rest = []; entries = appends ∙ sym (append-nil more); now = after.committed; led = led; is = inl refl };
-    used_is = none.full.1.0 ∙ none_written x.used;
-    next_is = none.full.1.1 ∙ ap size_of_all none.appends.texts;
-    room = room;
-    which = uses_all which;
-    full = full_by room x.limit used x.used none.written (entries_of d more) none.full.1.0 none.appends.texts none.full.0;
-  }
+  pub full_once : room ≡ room_of call → ((room ≡ Ordinary) ⊎ (after.entries ≡ (Locks Freed ∷ []) ∷ [])) → (full : IsFullIn d (call ∷ []) database x used next) × (full.written ≡ [])
+  full_once in_room which = (
+    record {
+      written = [];
+      more = more;
+      stops = record { front = []; rest = more; entries = appends; now = database; led = refl; is = inl refl };
+      comes = record { front = more; rest = []; entries = appends ∙ sym (append-nil more); now = after.committed; led = led; is = inl refl };
+      made = [];
+      call = call;
+      wrote = refl;
+      appends = appends;
+      next_call = inl ([], refl);
+      used_is = none.full.1.0 ∙ none_written x.used;
+      next_is = none.full.1.1 ∙ ap size_of_all none.appends.texts;
+      room = room;
+      in_room = in_room;
+      which = uses_all which;
+      full = full_by room x.limit used x.used none.written (entries_of d more) none.full.1.0 none.appends.texts none.full.0;
+    },
+    refl,
+  )

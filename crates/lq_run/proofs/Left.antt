@@ -15,11 +15,13 @@ use Rattle.lq_store.specs.Calls.{Fails}
 use Rattle.lq_store.specs.Journal.{Entry, size_of_all}
 use Rattle.lq_store.specs.State.{State, Transaction}
 use Rattle.lq_track.specs.Database.{Database}
+use Rattle.lq_turns.proofs.Journal.{Leads, calls_lead}
 use Rattle.lq_turns.specs.Contents.{contents_of, with_contents}
 use Rattle.lq_turns.specs.Deed.{all_done, done, lock_after}
 use Rattle.lq_turns.specs.Held.{StandsFor, all_fit}
 use Rattle.lq_turns.specs.Script.{clear_calls, clearing, closing, opening, release_calls, tag_calls, tag_of}
 use Rattle.lq_turns.specs.Session.{Session, accepted, all_called, all_executed, all_executed_as, called, session_on}
+use Rattle.lq_turns.specs.Stops.{IsLeft}
 use Rattle.lq_turns.specs.declared.call.Call.{Call}
 use Rattle.lq_turns.specs.declared.call.Call.TheVariants.{Alone}
 use Rattle.lq_turns.specs.declared.deed.Deed.{Deed}
@@ -34,7 +36,8 @@ use Rattle.lq_run.proofs.Grows.{closing_entry}
 use Rattle.lq_run.proofs.Rooms.{no_entries}
 use Rattle.lq_run.specs.Commands.{HasDatabase, Leaves}
 use Rattle.lq_run.specs.Does.{AloneFor, Breaks, DoesAlone, HasNoRoom}
-use Rattle.lq_run.specs.Left.{LeavesCleared, LeavesOnce, LeavesOpened, LeavesReleased, LeavesTagged}
+use Rattle.lq_run.specs.Ends.{CameFrom}
+use Rattle.lq_run.specs.Left.{IsAtMostFreed, IsFullIn, LeavesCleared, LeavesLock, LeavesOnce, LeavesOpened, LeavesReleased, LeavesTagged, RestsIn, StopsIn}
 use Rattle.lq_run.specs.Opens.{TakesLock}
 use Rattle.lq_run.specs.Stands.{HadRoom, IsBegun, Stands, entries_of}
 
@@ -65,6 +68,10 @@ executes_shut d (deed ∷ deeds) s = elim (done d deed s.seen) as (λ r. (all_ex
   | Err reason ↦ refl
 ]
 
+-- what a session has written leads from where it began to what it has committed
+pub leads : (d : Dialect) (database : Database) (s : Session) → CameFrom d (session_on database) s → Leads d database s
+leads d database s came = subst (Leads d database) (sym came.is) (calls_lead d database came.calls (session_on database) (record { committed = refl; seen = refl }))
+
 module _ (d : Dialect) (number : ℕ) (x : State) (database : Database) (has : HasDatabase d x database) where
   pub stands_there : Stands x number x (session_on database)
   stands_there = record {
@@ -94,13 +101,64 @@ module _ (d : Dialect) (number : ℕ) (x : State) (database : Database) (has : H
         room = subst (λ e. HadRoom e x.limit x.used last.entries) has.dialect stands.room;
       }
 
+  -- nothing was written
+  rests_still : (calls : List Call) (used next : ℕ) (full : IsFullIn d calls database x used next) → full.written ≡ [] → RestsIn d calls database x x used next
+  rests_still calls used next full none = record {
+    stops = record {
+      written = [];
+      left = record { front = []; rest = (all_called d calls (session_on database)).entries; entries = refl; now = database; led = refl; is = inl refl };
+      now = database;
+      led = refl;
+      database_is = record { dialect = has.dialect; live = has.live; shut = refl; committed = has.committed };
+      limit = refl;
+      entries = no_more x.entries;
+      used = search rules;
+    };
+    full = full;
+    behind = inl (sym none);
+    shut = has.shut;
+    lock = inr (inr refl);
+  }
+
+  -- where the store stands for a session that a stop may leave
+  module _ (calls : List Call) (y : State) (s : Session) (came : CameFrom d (session_on database) s) (left : IsLeft d calls database [] s.entries) (stands : Stands x number y s) where
+    pub stands_left : (stops : StopsIn d calls database x y) × (stops.written ≡ s.entries) × (stops.now ≡ s.committed)
+    stands_left = (
+      record {
+        written = s.entries;
+        left = left;
+        now = s.committed;
+        led = (leads d database s came).committed;
+        database_is = record { dialect = stands.dialect ∙ has.dialect; live = stands.live; shut = refl; committed = subst (λ e. StandsFor e y.committed s.committed) has.dialect stands.committed };
+        limit = stands.limit;
+        entries = subst (λ e. y.entries ≡ option_map (λ entries. entries ++ entries_of e s.entries) x.entries) has.dialect stands.entries;
+        used = subst (λ e. y.used ≡ x.used + size_of_all (entries_of e s.entries)) has.dialect stands.used;
+      },
+      refl,
+      refl,
+    )
+
+    -- after a full journal
+    pub rests_at : s.is_open ≡ false → (used next : ℕ) (full : IsFullIn d calls database x used next) → IsAtMostFreed full.written s.entries → LeavesLock s.committed.lock full.more s.entries → RestsIn d calls database x y used next
+    rests_at shut used next full behind lock =
+        let stops = stands_left in
+        record {
+          stops = stops.0;
+          full = full;
+          behind = subst (IsAtMostFreed full.written) (sym stops.1) behind;
+          shut = none_open x.dialect number s y.begun stands.begun shut;
+          lock = subst (LeavesLock stops.0.now.lock full.more) (sym stops.1) (subst (λ (now : Database). LeavesLock now.lock full.more s.entries) (sym stops.2) lock);
+        }
+
   module _ (deeds : List Deed) (room : Room) (y : State) (which : (room ≡ Ordinary) ⊎ ((called d (Alone deeds room) (session_on database)).entries ≡ (Locks Freed ∷ []) ∷ [])) (never : (reason : Reason) → all_done d deeds database ≡ Err reason → ⊥) where
     pub leaves_once : (result : Result (Unit {0}) StoreFault) → DoesAlone x number x (session_on database) deeds room result y → LeavesOnce d (Alone deeds room ∷ []) database x result y
     leaves_once (Ok u) does = leaves_so (Alone deeds room ∷ []) y (executes_shut d deeds (session_on database)) (subst (λ e. Stands x number y (called e (Alone deeds room) (session_on database))) has.dialect does.2)
     leaves_once (Err fault.Disk) does =
         let breaks = subst (λ e. Breaks e (Alone deeds room) (session_on database) x y) has.dialect does in
         subst (λ w. Fails w x y) (breaks.appends.texts ∙ ap (entries_of d) (sym breaks.appends.entries)) breaks.fails
-    leaves_once (Err (fault.Full used next)) does = (does.1, full_once d database x (Alone deeds room) room used next (subst (λ e. HasNoRoom e room (Alone deeds room) (session_on database) x used next) has.dialect does.0) which)
+    leaves_once (Err (fault.Full used next)) does =
+        let full = full_once d database x (Alone deeds room) room used next (subst (λ e. HasNoRoom e room (Alone deeds room) (session_on database) x used next) has.dialect does.0) refl which in
+        (does.1, subst (λ z. RestsIn d (Alone deeds room ∷ []) database x z used next) (sym does.1) (rests_still (Alone deeds room ∷ []) used next full.0 full.1))
     leaves_once (Err fault.OutOfMemory) does = does
     leaves_once (Err (fault.Busy n)) does = does
     leaves_once (Err fault.NotSql) does = does

@@ -10,8 +10,10 @@ mod Takes
 mod Known
 mod Stepping
 pub mod Losing
+mod UnderWay
 mod Names
 pub mod Grows
+pub mod Resting
 pub mod Full
 pub mod Keeping
 pub mod Ending

@@ -51,7 +51,7 @@ told_map (Some lock) it P told p = subst P told p
 
 module _ {Key : Type 0} (d : Dialect) (m : Meaning Key) (stamp : Stamp) (number : ℕ) (x : State) where
   -- the lock at which the command stands
-  at_place : (P : Lock → Type 0) (start : State) (s : Session) (p : Place Key) → IfSome (lock_of x.dialect x.committed) P → IsAt d m stamp number p x start s → P s.committed.lock
+  pub at_place : (P : Lock → Type 0) (start : State) (s : Session) (p : Place Key) → IfSome (lock_of x.dialect x.committed) P → IsAt d m stamp number p x start s → P s.committed.lock
   at_place P start s p told is = told_at P x.dialect d x.committed s.committed told (is.stands.dialect ∙ is.dialect) (subst (λ e. StandsFor e x.committed s.committed) is.dialect is.stands.committed)
 
   pub lost_steps : {Told : Type 0} (before after : Standing Key Told) (y : State) (result : Step) → IsBetween before.hand → IfSome (lock_of x.dialect x.committed) (λ lock. Holds stamp lock holding.Lost) → Steps d m stamp number before after x result y

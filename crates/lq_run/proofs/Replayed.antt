@@ -19,7 +19,7 @@ use Rattle.lq_model.specs.Statement.{is_statement}
 use Rattle.lq_model.specs.Step.{step}
 use Rattle.lq_model.specs.declared.caller.By.TheVariants.{Program}
 use Rattle.lq_statement.specs.Laws.{StatementsReadBack}
-use Rattle.lq_store.specs.Journal.{Entry, accepted as accepted_by, database as run_to, run_entries, run_text, run_texts}
+use Rattle.lq_store.specs.Journal.{Entry, accepted as accepted_by, database as run_to, run_entries, run_entry, run_text, run_texts}
 use Rattle.lq_track.specs.Database.{Database}
 use Rattle.lq_turns.proofs.Growing.{fronts_are_left}
 use Rattle.lq_turns.proofs.Journal.{calls_lead, done_both, joined_both, next, same_ok}
@@ -39,7 +39,7 @@ use Rattle.lq_run.proofs.Grows.{closing_entry}
 use Rattle.lq_run.proofs.Stated.{stated_again, stated_cleared, stated_deleted, stated_filled, stated_freed, stated_inserted, stated_lock, stated_lock_row, stated_log, stated_marked, stated_tagged, stated_taken}
 use Rattle.lq_run.specs.Crashes.{LeftInCommand}
 use Rattle.lq_run.specs.Ends.{CameFrom, IsBefore}
-use Rattle.lq_run.specs.Stands.{deed_text, entries_of, entry_of}
+use Rattle.lq_run.specs.Stands.{deed_text, entries_of, entry_of, entry_texts}
 
 err_ok : {A B : Type 0} {reason : Reason} {x : A} → (let r : Result A Reason = Err reason in r) ≡ Ok x → B
 err_ok e = absurd (clash e) where
@@ -184,13 +184,12 @@ module _ (d : Dialect) where
 
 -- the texts, run as the program's
 
-run_both : (d : Dialect) (es fs : List Entry) (a c : Catalogue) → run_entries d es a ≡ Some c → run_entries d (es ++ fs) a ≡ run_entries d fs c
-run_both d [] fs a c ran = ap (run_entries d fs) (some_same ran)
-run_both d (e ∷ es) fs a c ran = by (λ mid. run_both d es fs mid c) (run_texts d e a) ran where
-  by : ((mid : Catalogue) → run_entries d es mid ≡ Some c → run_entries d (es ++ fs) mid ≡ run_entries d fs c) → (o : Option Catalogue) → option_and_then (run_entries d es) o ≡ Some c
-      → option_and_then (run_entries d (es ++ fs)) o ≡ run_entries d fs c
-  by more None ran = none_some ran
-  by more (Some mid) ran = more mid ran
+run_more : (d : Dialect) (es fs : List Entry) (o : Option Catalogue) → run_entries d (es ++ fs) o ≡ run_entries d fs (run_entries d es o)
+run_more d [] fs o = refl
+run_more d (e ∷ es) fs o = run_more d es fs (run_entry d e o)
+
+run_both : (d : Dialect) (es fs : List Entry) (a : Option Catalogue) (c : Catalogue) → run_entries d es a ≡ Some c → run_entries d (es ++ fs) a ≡ run_entries d fs (Some c)
+run_both d es fs a c ran = run_more d es fs a ∙ ap (run_entries d fs) ran
 
 -- from a catalogue to one that stands for the database
 abbrev RunsTo : Dialect → Option Catalogue → Database → Type 0
@@ -211,19 +210,19 @@ module _ (read : StatementsReadBack) (d : Dialect) where
     by (Ok now) (Err other) ran same agrees = absurd agrees
     by (Err reason) r ran same agrees = err_ok same
 
-  deeds_run : (deeds : List Deed) (a b : Database) (c : Catalogue) → Goes d deeds a b → StandsFor d c a → RunsTo d (run_texts d (entry_of d deeds) c) b
+  deeds_run : (deeds : List Deed) (a b : Database) (c : Catalogue) → Goes d deeds a b → StandsFor d c a → RunsTo d (run_texts d (entry_texts d deeds) c) b
   deeds_run [] a b c go stands = (c, refl, subst (StandsFor d c) go stands)
   deeds_run (deed ∷ deeds) a b c go stands =
       let first = deed_runs deed a go.0 c go.1 go.2 stands in
       let more = deeds_run deeds go.0 b first.0 go.3 first.2 in
-      (more.0, ap (option_and_then (run_texts d (entry_of d deeds))) first.1 ∙ more.1, more.2)
+      (more.0, ap (option_and_then (run_texts d (entry_texts d deeds))) first.1 ∙ more.1, more.2)
 
-  entries_run : (entries : Journal) (a b : Database) (c : Catalogue) → AllGo d entries a b → StandsFor d c a → RunsTo d (run_entries d (entries_of d entries) c) b
+  entries_run : (entries : Journal) (a b : Database) (c : Catalogue) → AllGo d entries a b → StandsFor d c a → RunsTo d (run_entries d (entries_of d entries) (Some c)) b
   entries_run [] a b c go stands = (c, refl, subst (StandsFor d c) go stands)
   entries_run (deeds ∷ entries) a b c go stands =
       let first = deeds_run deeds a go.0 c go.1 stands in
       let more = entries_run entries go.0 b first.0 go.2 first.2 in
-      (more.0, ap (option_and_then (run_entries d (entries_of d entries))) first.1 ∙ more.1, more.2)
+      (more.0, ap (run_entries d (entries_of d entries)) first.1 ∙ more.1, more.2)
 
 abbrev freed : Journal
 freed = (Locks Freed ∷ []) ∷ []
@@ -273,7 +272,7 @@ module _ (read : StatementsReadBack) (d : Dialect) (calls : List Call) (database
   -- what is written leads to a database, run again from each catalogue that stands for the one before
   record Replays (written : Journal) (now : Database) : Type 0 where
     led : all_done d (joined written) database ≡ Ok now
-    runs : (c : Catalogue) → StandsFor d c database → RunsTo d (run_entries d (entries_of d written) c) now
+    runs : (c : Catalogue) → StandsFor d c database → RunsTo d (run_entries d (entries_of d written) (Some c)) now
 
   left_so : (written : Journal) (now : Database) → IsLeft d calls database [] written → Replays written now → (there left : List Entry) → left ≡ there ++ entries_of d written → LeftInCommand d calls database there left
   left_so written now stops it there left left_is = record {
@@ -284,7 +283,7 @@ module _ (read : StatementsReadBack) (d : Dialect) (calls : List Call) (database
     led = it.led;
     replays = λ c ran stands.
         let more = it.runs c stands in
-        (more.0, ap (λ es. run_to d es) left_is ∙ run_both d there (entries_of d written) no_objects c ran ∙ more.1, more.2);
+        (more.0, ap (λ es. run_to d es) left_is ∙ run_both d there (entries_of d written) (Some no_objects) c ran ∙ more.1, more.2);
   }
 
   all_go : AllGo d last.entries database last.committed
@@ -294,6 +293,13 @@ module _ (read : StatementsReadBack) (d : Dialect) (calls : List Call) (database
   front_replays front rest is =
       let parts = all_parted d front rest database last.committed (subst (λ es. AllGo d es database last.committed) is all_go) in
       (parts.mid, record { led = all_go_done d front database parts.mid parts.first; runs = λ c stands. entries_run read d front database parts.mid c parts.first stands })
+
+  -- a front of what the calls write leads to a database, and so does what has it behind other entries
+  pub front_leads : (front rest : Journal) → last.entries ≡ front ++ rest
+      → (now : Database) × (all_done d (joined front) database ≡ Ok now) × ((there : List Entry) (c : Catalogue) → run_to d there ≡ Some c → StandsFor d c database → (e : Catalogue) × (run_to d (there ++ entries_of d front) ≡ Some e) × StandsFor d e now)
+  front_leads front rest is =
+      let it = front_replays front rest is in
+      (it.0, it.1.led, λ there c ran stands. (let more = it.1.runs c stands in (more.0, run_both d there (entries_of d front) (Some no_objects) c ran ∙ more.1, more.2)))
 
   -- a front of what the calls write
   pub in_front : (there left : List Entry) (front rest : Journal) → last.entries ≡ front ++ rest → left ≡ there ++ entries_of d front → LeftInCommand d calls database there left
@@ -316,7 +322,7 @@ module _ (read : StatementsReadBack) (d : Dialect) (calls : List Call) (database
     runs = λ c stands.
         let first = it.runs c stands in
         let more = entries_run read d freed now (freed_on now) first.0 (freed_on now, (freed_on now, freed_fits now first.0 first.2 locked, refl, refl), refl) first.2 in
-        (more.0, ap (λ es. run_entries d es c) (map-append (entry_of d) front freed) ∙ run_both d (entries_of d front) (entries_of d freed) c first.0 first.1 ∙ more.1, more.2);
+        (more.0, ap (λ es. run_entries d es (Some c)) (map-append (entry_of d) front freed) ∙ run_both d (entries_of d front) (entries_of d freed) (Some c) first.0 first.1 ∙ more.1, more.2);
   }
 
   module _ (s : Session) (came : CameFrom d (session_on database) s) (before : IsBefore s last) (locked : s.committed.lock.locked ≡ true) (unmarked : has_mark s.committed.lock ≡ false) (none : s.begun ≡ []) where

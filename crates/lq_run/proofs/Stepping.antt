@@ -44,7 +44,7 @@ use Rattle.lq_run.specs.Holds.{IsBare}
 use Rattle.lq_run.specs.Does.{AbortFor, AloneFor, DoesAlone, Faults}
 use Rattle.lq_run.specs.Moves.{Goes, IsAt, Meets, Refuses, Takes, refusal_of}
 use Rattle.lq_run.specs.Stands.{IsBegun, Stands}
-use Rattle.lq_run.specs.Steps.{Closes, Ends, EndsFor, EndsStep, FailsAs, FailsTo, IsBetween, IsShowing, IsThere, Known, KnownIn, Shows, Standing, Steps, StepsAs, StepsShown, TellsAs, end_of, enters_turns, is_disk, last_end, no_turn, place, progress_at, progress_in, stopped_by, turns_of}
+use Rattle.lq_run.specs.Steps.{Closes, Ends, EndsFor, EndsStep, FailsAs, FailsTo, IsBetween, IsShowing, IsShown, IsThere, Known, KnownIn, Shows, Standing, Steps, StepsAs, StepsShown, TellsAs, end_of, enters_turns, is_disk, last_end, no_turn, place, progress_at, progress_in, stopped_by, turns_of}
 use Rattle.lq_run.specs.declared.hand.Moved.TheVariants as moved
 use Rattle.lq_hand.specs.declared.progress.Coming.{Coming}
 use Rattle.lq_hand.specs.declared.progress.Progress.{Progress}
@@ -360,7 +360,7 @@ module _ {Key Told : Type 0} (d : Dialect) (m : Meaning Key) (stamp : Stamp) (nu
     ends_so (Some why) r e (inr is) = inr is
 
     ended : (e : End) → EndsStep d m stamp number here start s x e y → EndsStep d m stamp number before start s x e y
-    ended e (inl is) = inl (subst (λ f. Ends d m stamp number (place before) f before.refused start s x e y) same_fault (subst (λ r. Ends d m stamp number (place before) here.fault r start s x e y) same_refused (ends_so here.fault here.refused e is)))
+    ended e (inl is) = inl (is.0, subst (λ f. Ends d m stamp number (place before) f before.refused start s x e y) same_fault (subst (λ r. Ends d m stamp number (place before) here.fault r start s x e y) same_refused (ends_so here.fault here.refused e is.1)))
     ended e (inr (inl is)) = inr (inl (is.0, subst (λ r. Ends d m stamp number (between NoMore) (Some fault.OutOfMemory) r start s x e y) same_refused is.1))
     ended e (inr (inr is)) = inr (inr (meets_so Ordinary fault.Disk is.0, is.1))
 
@@ -377,21 +377,31 @@ module _ {Key Told : Type 0} (d : Dialect) (m : Meaning Key) (stamp : Stamp) (nu
     by (step.Ended e) is = (ended e is.0, is.1)
 
   -- the source looks at what the next call sees
-  pub steps_shown : (before after : Standing Key Told) (turns : Turns Key) (way : Dialect → Stamp → Told → Way) (coming : Coming) (x y : State) (result : Step)
-      → before.hand.phase ≡ phase.Inside → before.hand.calls ≢ [] → turns ≡ before.turns → coming ≡ first_coming d (calls_left before.hand)
+
+  abbrev pub seen_by : Standing Key Told → (Dialect → Stamp → Told → Way) → Turns Key → Standing Key Told
+  seen_by before way t = record { hand = before.hand; turns = t; way = way; progress = before.progress; fault = before.fault; refused = before.refused }
+
+  pub shown_there : (before : Standing Key Told) (way : Dialect → Stamp → Told → Way) (coming : Coming) (x start : State) (s : Session) (told : Told)
+      → before.hand.phase ≡ phase.Inside → before.hand.calls ≢ [] → coming ≡ first_coming d (calls_left before.hand)
       → (IsShowing number x → (told : Told) → Shows d coming (seen number x) (before.way d stamp told) (way d stamp told))
-      → StepsShown d m stamp number (record { hand = before.hand; turns = turns; way = way; progress = before.progress; fault = before.fault; refused = before.refused }) after x result y
-      → Steps d m stamp number before after x result y
-  steps_shown before after turns way coming x y result inside left same is_coming shows steps start s told is held =
-      let now : Turns Key → Standing Key Told = λ t. record { hand = before.hand; turns = t; way = way; progress = before.progress; fault = before.fault; refused = before.refused } in
-      let stepped : StepsShown d m stamp number (now before.turns) after x result y = subst (λ t. StepsShown d m stamp number (now t) after x result y) same steps in
+      → IsThere d m stamp number before x start s told → IsShown d m stamp number (seen_by before way before.turns) x start s told
+  shown_there before way coming x start s told inside left is_coming shows is =
       let sees = shows_own d number start x s is.at.stands is.at.dialect in
-      from_same before (now before.turns) after told x y start s result refl refl refl refl (stepped start s told (record {
+      record {
         at = is.at;
         known = λ healthy. known_shown d (before.way d stamp told) (way d stamp told) before.hand.goes_on before.progress s (seen number x) sees.1 before.refused (calls_left before.hand) (turns_of before) (some_left before.hand.calls left)
             (subst (λ c. Shows d c (seen number x) (before.way d stamp told) (way d stamp told)) is_coming (shows sees.0 told))
             (subst (λ ph. Known d (before.way d stamp told) before.refused (hand_place ph (calls_left before.hand) before.hand.goes_on (turns_of before)) before.progress (both_of s)) inside (is.known healthy));
-      }))
+      }
+
+  pub steps_shown : (before after : Standing Key Told) (turns : Turns Key) (way : Dialect → Stamp → Told → Way) (coming : Coming) (x y : State) (result : Step)
+      → before.hand.phase ≡ phase.Inside → before.hand.calls ≢ [] → turns ≡ before.turns → coming ≡ first_coming d (calls_left before.hand)
+      → (IsShowing number x → (told : Told) → Shows d coming (seen number x) (before.way d stamp told) (way d stamp told))
+      → StepsShown d m stamp number (seen_by before way turns) after x result y
+      → Steps d m stamp number before after x result y
+  steps_shown before after turns way coming x y result inside left same is_coming shows steps start s told is held =
+      let stepped : StepsShown d m stamp number (seen_by before way before.turns) after x result y = subst (λ t. StepsShown d m stamp number (seen_by before way t) after x result y) same steps in
+      from_same before (seen_by before way before.turns) after told x y start s result refl refl refl refl (stepped start s told (shown_there before way coming x start s told inside left is_coming shows is))
 
   module _ (before : Standing Key Told) (x : State) (inside : before.hand.phase ≡ phase.Inside) (none : before.hand.calls ≡ []) (shut : is_open number x.begun ≡ false) where
     here : place before ≡ Inside [] before.hand.goes_on (turns_of before)
@@ -407,13 +417,13 @@ module _ {Key Told : Type 0} (d : Dialect) (m : Meaning Key) (stamp : Stamp) (nu
     rest_between : (start : State) (s : Session) → Stands start number x s → rest d m stamp (place before) (both_of s) ≡ rest_at d m stamp (between (turns_of before)) (contents_of s.committed)
     rest_between start s stands = ap (λ p. rest d m stamp p (both_of s)) here ∙ ap (λ b. rest d m stamp (between (turns_of before)) b) (both_is start s stands)
 
-    entering : enters_turns before.fault before.refused ≡ true → turns_of before ≡ before.turns
+    pub entering : enters_turns before.fault before.refused ≡ true → turns_of before ≡ before.turns
     entering enters = ap (λ b. if_goes_on b before.turns) enters
 
-    contents_known : (start : State) (s : Session) (told : Told) → IsThere d m stamp number before x start s told → before.fault ≡ None → Known d (before.way d stamp told) before.refused (Inside [] before.hand.goes_on (turns_of before)) before.progress (both_of s)
+    pub contents_known : (start : State) (s : Session) (told : Told) → IsThere d m stamp number before x start s told → before.fault ≡ None → Known d (before.way d stamp told) before.refused (Inside [] before.hand.goes_on (turns_of before)) before.progress (both_of s)
     contents_known start s told is healthy = subst (λ p. Known d (before.way d stamp told) before.refused p before.progress (both_of s)) here (is.known healthy)
 
-    knows_them : (start : State) (s : Session) (told : Told) → IsThere d m stamp number before x start s told → enters_turns before.fault before.refused ≡ true → (before.way d stamp told).knows (contents_of s.committed)
+    pub knows_them : (start : State) (s : Session) (told : Told) → IsThere d m stamp number before x start s told → enters_turns before.fault before.refused ≡ true → (before.way d stamp told).knows (contents_of s.committed)
     knows_them start s told is enters =
         let none = unstopped before.fault before.refused enters in
         subst (λ r. Known d (before.way d stamp told) r (Inside [] before.hand.goes_on (turns_of before)) before.progress (both_of s)) none.1 (contents_known start s told is none.0)
@@ -447,21 +457,30 @@ module _ {Key Told : Type 0} (d : Dialect) (m : Meaning Key) (stamp : Stamp) (nu
           leave_wider x.entries (LeftInNext d m stamp number entered_place s) (LeftInStep d m stamp number before met s) a b
           (λ there left it. inl (record { call = it.call; others = it.others; next = entered_same start s told is ∙ it.next; by = it.by; is = it.is })) (crash start s (entered_at start s told is))
 
-    pub steps_entered : (enters : enters_turns before.fault before.refused ≡ true) (hand : Hand) (turns : Turns Key) (way : Dialect → Stamp → Told → Way) (p : Progress) (after : Standing Key Told) (y : State) (result : Step)
-        → p ≡ no_progress → (is_entered : Enters d m stamp before.turns (before.way d stamp) (seen number x) (entered.Turn hand) turns (way d stamp))
-        → Steps d m stamp number (record { hand = hand; turns = turns; way = way; progress = p; fault = before.fault; refused = before.refused }) after x result y
-        → Steps d m stamp number before after x result y
-    steps_entered enters hand turns way p after y result begins is_entered steps start s told is held =
-        let now : Standing Key Told = record { hand = hand; turns = turns; way = way; progress = p; fault = before.fault; refused = before.refused } in
+    abbrev pub entered_by : Hand → Turns Key → (Dialect → Stamp → Told → Way) → Progress → Standing Key Told
+    entered_by hand turns way p = record { hand = hand; turns = turns; way = way; progress = p; fault = before.fault; refused = before.refused }
+
+    pub entered_there : (enters : enters_turns before.fault before.refused ≡ true) (hand : Hand) (turns : Turns Key) (way : Dialect → Stamp → Told → Way) (p : Progress) → p ≡ no_progress
+        → (is_entered : Enters d m stamp before.turns (before.way d stamp) (seen number x) (entered.Turn hand) turns (way d stamp))
+        → (start : State) (s : Session) (told : Told) → IsThere d m stamp number before x start s told → IsThere d m stamp number (entered_by hand turns way p) x start s told
+    entered_there enters hand turns way p begins is_entered start s told is =
         let at_seen = is_entered.1 s.committed (seen_stands d m stamp number x shut start s is.at.stands is.at.dialect) told (knows_them start s told is enters) in
         let left = some_left hand.calls is_entered.0.left in
-        from_same before now after told x y start s result (entered_same enters hand turns way is_entered start s told is) refl refl (ap (progress_at hand.phase hand.calls) begins ∙ progress_none hand.phase hand.calls ∙ sym none_begun) (steps start s told (record {
+        record {
           at = entered_at enters hand turns way is_entered start s told is;
-          known = λ healthy. subst (λ ph. Known d (way d stamp told) before.refused (hand_place ph (calls_left hand) hand.goes_on (turns_of now)) p (both_of s)) (sym is_entered.0.inside)
-              (subst (λ r. Known d (way d stamp told) r (Inside (calls_left hand) hand.goes_on (turns_of now)) p (both_of s)) (sym (unstopped before.fault before.refused enters).1)
+          known = λ healthy. subst (λ ph. Known d (way d stamp told) before.refused (hand_place ph (calls_left hand) hand.goes_on (turns_of (entered_by hand turns way p))) p (both_of s)) (sym is_entered.0.inside)
+              (subst (λ r. Known d (way d stamp told) r (Inside (calls_left hand) hand.goes_on (turns_of (entered_by hand turns way p))) p (both_of s)) (sym (unstopped before.fault before.refused enters).1)
               (subst (λ q. KnownIn d (way d stamp told) hand.goes_on (calls_left hand) q (both_of s)) (sym begins)
               (subst (λ b. KnownIn d (way d stamp told) hand.goes_on (calls_left hand) no_progress b) (sym (both_is start s is.at.stands)) (known_left d (way d stamp told) hand.goes_on (calls_left hand) no_progress _ left at_seen.1))));
-        }) (λ there. absurd (is_entered.0.left there.1)))
+        }
+
+    pub steps_entered : (enters : enters_turns before.fault before.refused ≡ true) (hand : Hand) (turns : Turns Key) (way : Dialect → Stamp → Told → Way) (p : Progress) (after : Standing Key Told) (y : State) (result : Step)
+        → p ≡ no_progress → (is_entered : Enters d m stamp before.turns (before.way d stamp) (seen number x) (entered.Turn hand) turns (way d stamp))
+        → Steps d m stamp number (entered_by hand turns way p) after x result y
+        → Steps d m stamp number before after x result y
+    steps_entered enters hand turns way p after y result begins is_entered steps start s told is held =
+        from_same before (entered_by hand turns way p) after told x y start s result (entered_same enters hand turns way is_entered start s told is) refl refl (ap (progress_at hand.phase hand.calls) begins ∙ progress_none hand.phase hand.calls ∙ sym none_begun)
+        (steps start s told (entered_there enters hand turns way p begins is_entered start s told is) (λ there. absurd (is_entered.0.left there.1)))
 
     -- the lock is freed
 
@@ -511,7 +530,7 @@ module _ {Key Told : Type 0} (d : Dialect) (m : Meaning Key) (stamp : Stamp) (nu
         let at_seen = is_entered s.committed (seen_stands d m stamp number x shut start s is.at.stands is.at.dialect) told (knows_them start s told is enters) in
         ends_as before.fault before.refused after told y start s result (place before) is.at
         (rest_between start s is.at.stands ∙ ap (λ t. rest_at d m stamp (between t) (contents_of s.committed)) (entering enters) ∙ at_seen.0)
-        (λ e so. inl so) (λ healthy. subst (λ r. TellsAs (after.way d stamp told) (last_end None r)) (sym none.1) (same told None at_seen.1)) ends
+        (λ e so. inl ((is_shut d m stamp number x shut start s is.at.stands).0, so)) (λ healthy. subst (λ r. TellsAs (after.way d stamp told) (last_end None r)) (sym none.1) (same told None at_seen.1)) ends
 
     -- none is entered any more
     pub steps_stopped : (after : Standing Key Told) (y : State) (result : Step) → enters_turns before.fault before.refused ≡ false
@@ -520,7 +539,7 @@ module _ {Key Told : Type 0} (d : Dialect) (m : Meaning Key) (stamp : Stamp) (nu
     steps_stopped after y result stopped same ends start s told is held =
         ends_as before.fault before.refused after told y start s result (place before) is.at
         (rest_between start s is.at.stands ∙ ap (λ b. rest_at d m stamp (between (if_goes_on b before.turns)) (contents_of s.committed)) stopped)
-        (λ e so. inl so) (λ healthy. tells_stopped before.refused (sym (ap (λ f. enters_turns f before.refused) healthy) ∙ stopped) (contents_known start s told is healthy)) ends where
+        (λ e so. inl ((is_shut d m stamp number x shut start s is.at.stands).0, so)) (λ healthy. tells_stopped before.refused (sym (ap (λ f. enters_turns f before.refused) healthy) ∙ stopped) (contents_known start s told is healthy)) ends where
           tells_stopped : (r : Option Refusal) → enters_turns None r ≡ false → Known d (before.way d stamp told) r (Inside [] before.hand.goes_on (turns_of before)) before.progress (both_of s) → TellsAs (after.way d stamp told) (last_end None r)
           tells_stopped None enters known = absurd (not_true (sym enters))
           tells_stopped (Some refusal) enters known = same told (Some refusal) known

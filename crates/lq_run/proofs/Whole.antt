@@ -27,10 +27,11 @@ use Rattle.lq_run.proofs.Grows.{calls_grow, came_all}
 use Rattle.lq_run.proofs.Left.{all_taken, leaves_so, ok_err, stands_there}
 use Rattle.lq_run.specs.Commands.{HasDatabase, IsNew, Leaves, LeavesAll, LeavesAs, MayRun, RunsWhole, TellsAll, both_on, script}
 use Rattle.lq_run.specs.Does.{Breaks, DoesAlone}
-use Rattle.lq_run.specs.Ends.{CameFrom, EndsAs, IsBefore, IsFullSince, IsRunning, Runs, RunsOn, TellsOn, at_end}
+use Rattle.lq_run.specs.Ends.{CameFrom, EndsAs, IsAtLock, IsBefore, IsFullBefore, IsFullSince, IsRunning, RestsAs, RestsBefore, Runs, RunsOn, StaysFull, TellsOn, at_end}
 use Rattle.lq_run.specs.Opens.{TakesLock}
 use Rattle.lq_run.specs.Stands.{IsBegun, Stands}
-use Rattle.lq_run.specs.Steps.{Standing, TellsAs, end_of, place}
+use Rattle.lq_run.specs.Steps.{Standing, end_of, place}
+use Rattle.lq_run.specs.UnderWay.{AfterFault, TellsTo}
 use Rattle.lq_run.specs.declared.runner.End.{End}
 use Rattle.lq_run.specs.declared.runner.End.TheVariants as end
 
@@ -66,7 +67,7 @@ module _ {Key Told : Type 0} (d : Dialect) (m : Meaning Key) (stamp : Stamp) (nu
   before : IsBefore at_rest last
   before = calls_grow d calls at_rest
 
-  fails : (why : StoreFault) → DoesAlone start number x at_rest (map Locks (opening stamp s.committed)) Ordinary (Err why) y → EndsAs d m stamp number start at_rest last None (end_of why) y
+  fails : (why : StoreFault) → DoesAlone start number x at_rest (map Locks (opening stamp s.committed)) Ordinary (Err why) y → EndsAs d m stamp number start at_rest last false None (end_of why) y
   fails fault.Disk does = record {
     s = at_rest;
     x = x;
@@ -76,20 +77,22 @@ module _ {Key Told : Type 0} (d : Dialect) (m : Meaning Key) (stamp : Stamp) (nu
     breaks = subst (λ e. Breaks e (Alone (map Locks (opening stamp s.committed)) Ordinary) at_rest x y) may.dialect does;
     before = inl (calls_grow d (rest d m stamp (place r) (both_on s.committed)) (first_session d m stamp number s.committed s.entries));
   }
-  fails (fault.Full used next) does = (
-    (at_rest, here, before, inl (subst (λ z. Stands start number z at_rest) (sym does.1) stands)),
-    inl (full_before d m stamp number start at_rest last at_rest x stands may.dialect here (Alone (map Locks (opening stamp s.committed)) Ordinary) Ordinary used next refl (inl refl)
-        (inl (calls_grow d (rest d m stamp (place r) (both_on s.committed)) (first_session d m stamp number s.committed s.entries))) does.0),
-  )
+  fails (fault.Full used next) does =
+      let still : Stands start number y at_rest = subst (λ z. Stands start number z at_rest) (sym does.1) stands in
+      let full = full_before d m stamp number start at_rest last at_rest x stands may.dialect here (Alone (map Locks (opening stamp s.committed)) Ordinary) Ordinary used next refl (inl refl)
+      (inl (calls_grow d (rest d m stamp (place r) (both_on s.committed)) (first_session d m stamp number s.committed s.entries))) (inl (rest d m stamp (place r) (both_on s.committed), refl)) does.0 in (
+        (at_rest, here, before, inl still),
+        record { s = at_rest; came = here; before = before; shut = (refl, refl); rests = inr (still, ((full.0, ap (λ (t : Session). t.entries) (sym full.1)), inr (refl, full.2, refl))) },
+      )
   fails fault.OutOfMemory does = (at_rest, here, before, inl (subst (λ z. Stands start number z at_rest) (sym does) stands))
   fails (fault.Busy n) does = absurd does
   fails fault.NotSql does = absurd does
   fails (fault.Refused reason) does = let it = all_taken start.dialect (opening stamp s.committed) s.committed in absurd (ok_err (sym it.1 ∙ does.0))
 
-  whole : (e : End) → EndsAs d m stamp number start at_rest last None e y → EndsAs d m stamp number start s (all_called d calls s) None e y
-  whole e ends = subst (λ t. EndsAs d m stamp number start t (all_called d calls t) None e y) (sym rests) ends
+  whole : (e : End) → EndsAs d m stamp number start at_rest last false None e y → EndsAs d m stamp number start s (all_called d calls s) false None e y
+  whole e ends = subst (λ t. EndsAs d m stamp number start t (all_called d calls t) false None e y) (sym rests) ends
 
-  pub not_taken : (why : StoreFault) → TakesLock d stamp number x (Err why) y → EndsAs d m stamp number start s (all_called d calls s) None (end_of why) y
+  pub not_taken : (why : StoreFault) → TakesLock d stamp number x (Err why) y → EndsAs d m stamp number start s (all_called d calls s) false None (end_of why) y
   not_taken why takes = whole (end_of why) (fails why (takes start at_rest may.dialect stands))
 
   pub is_taken : IsNew d m stamp r → TakesLock d stamp number x (Ok tt) y → IsRunning d m stamp number r y start (first_session d m stamp number s.committed s.entries) told
@@ -100,43 +103,67 @@ module _ {Key Told : Type 0} (d : Dialect) (m : Meaning Key) (stamp : Stamp) (nu
       (subst (λ t. calls_fit d calls t ≡ true) rests may.fits))
 
   -- how full it was since a session tells it since one that came before
-  full_since : (first next to : Session) (used more : ℕ) → CameFrom d first next → IsFullSince d m stamp number start next to None used more → IsFullSince d m stamp number start first to None used more
-  full_since first next to used more came (inr met) = inr met
-  full_since first next to used more came (inl is) = inl (record {
-    s = is.s;
-    came = came_all d first next is.s came is.came;
-    call = is.call;
-    before = is.before;
-    which = is.which;
-    used_is = is.used_is;
-    more = is.more;
-    appends = is.appends;
-    next_is = is.next_is;
-    full = is.full;
-  })
+  full_since : (first next to : Session) (used more : ℕ) → CameFrom d first next → (is : IsFullBefore d m stamp number start next to used more) → (full : IsFullBefore d m stamp number start first to used more) × (full.s ≡ is.s) × (full.call ≡ is.call)
+  full_since first next to used more came is = (
+    record {
+      s = is.s;
+      came = came_all d first next is.s came is.came;
+      call = is.call;
+      before = is.before;
+      next_call = is.next_call;
+      which = is.which;
+      used_is = is.used_is;
+      more = is.more;
+      appends = is.appends;
+      next_is = is.next_is;
+      full = is.full;
+    },
+    refl,
+    refl,
+  )
+
+  -- and how the lock rests
+  module _ (first next to : Session) (used more : ℕ) (came : CameFrom d first next) where
+    stays_since : (t : Session) (full : StaysFull d m stamp number start next to used more t) → (now : StaysFull d m stamp number start first to used more t) × (now.0.call ≡ full.0.call)
+    stays_since t full =
+        let it = full_since first next to used more came full.0 in
+        ((it.0, full.1 ∙ ap (λ (u : Session). u.entries) (sym it.1)), it.2)
+
+    rests_since : (t : Session) (z : State) → RestsAs d m stamp number start next to true None used more t z → RestsAs d m stamp number start first to false None used more t z
+    rests_since t z (inl gone) = inl (by gone.0, gone.1) where
+      by : IsFullSince d m stamp number start next to None used more t → IsFullSince d m stamp number start first to None used more t
+      by (inl full) = inl (stays_since t full).0
+      by (inr met) = inr met
+    rests_since t z (inr still) = let it = stays_since t still.1.0 in inr (still.0, (it.0, at_lock still.1.1 it.1)) where
+      at_lock : {call now : Call} → IsAtLock d m stamp number start next to true call t → now ≡ call → IsAtLock d m stamp number start first to false now t
+      at_lock (inl closes) same = inl (same ∙ closes)
+      at_lock (inr opens) same = absurd (not_true (sym opens.0))
+
+    ends_since : (z : State) → RestsBefore d m stamp number start next to true None used more z → RestsBefore d m stamp number start first to false None used more z
+    ends_since z is = record { s = is.s; came = came_all d first next is.s came is.came; before = is.before; shut = is.shut; rests = rests_since is.s z is.rests }
 
   -- what ends so since a session ends so since one that came before it
-  since : (first next to : Session) (e : End) (z : State) → CameFrom d first next → EndsAs d m stamp number start next to None e z → EndsAs d m stamp number start first to None e z
+  since : (first next to : Session) (e : End) (z : State) → CameFrom d first next → EndsAs d m stamp number start next to true None e z → EndsAs d m stamp number start first to false None e z
   since first next to end.Done z came ends = ends
   since first next to (end.Refused refusal) z came ends = ends
   since first next to (end.Locked lock) z came ends = ends
   since first next to end.Disk z came ends = record { s = ends.s; x = ends.x; stands = ends.stands; came = came_all d first next ends.s came ends.came; call = ends.call; breaks = ends.breaks; before = ends.before }
-  since first next to (end.Full used more) z came ends = ((ends.0.0, came_all d first next ends.0.0 came ends.0.1, ends.0.2, ends.0.3), full_since first next to used more came ends.1)
+  since first next to (end.Full used more) z came ends = ((ends.0.0, came_all d first next ends.0.0 came ends.0.1, ends.0.2, ends.0.3), ends_since first next to used more came z ends.1)
   since first next to end.OutOfMemory z came ends = (ends.0, came_all d first next ends.0 came ends.1, ends.2, ends.3)
 
   pub opens : IsNew d m stamp r → TakesLock d stamp number x (Ok tt) y → Runs d m stamp number r y
   opens new takes = record { start = start; session = first_session d m stamp number s.committed s.entries; told = told; is = is_taken new takes }
 
-  pub ends_whole : (z : State) (e : End) → IsNew d m stamp r → TakesLock d stamp number x (Ok tt) y → RunsOn d m stamp number r y e z → EndsAs d m stamp number start s (all_called d calls s) None e z
+  pub ends_whole : (z : State) (e : End) → IsNew d m stamp r → TakesLock d stamp number x (Ok tt) y → RunsOn d m stamp number r y e z → EndsAs d m stamp number start s (all_called d calls s) false None e z
   ends_whole z e new takes runs =
-      subst (λ t. EndsAs d m stamp number start t (all_called d calls t) None e z) (sym rests)
+      subst (λ t. EndsAs d m stamp number start t (all_called d calls t) false None e z) (sym rests)
       (since at_rest (first_session d m stamp number s.committed s.entries) last e z (record { calls = Alone (map Locks (opening stamp s.committed)) Ordinary ∷ []; is = refl })
-      (subst (λ l. EndsAs d m stamp number start (first_session d m stamp number s.committed s.entries) l None e z) (ends_script d m stamp number s.committed s.entries (place r))
-      (subst (λ f. EndsAs d m stamp number start (first_session d m stamp number s.committed s.entries) (at_end d m stamp number (place r) (first_session d m stamp number s.committed s.entries)) f e z) new.fault
+      (subst (λ l. EndsAs d m stamp number start (first_session d m stamp number s.committed s.entries) l true None e z) (ends_script d m stamp number s.committed s.entries (place r))
+      (subst (λ f. EndsAs d m stamp number start (first_session d m stamp number s.committed s.entries) (at_end d m stamp number (place r) (first_session d m stamp number s.committed s.entries)) true f e z) new.fault
       (runs start (first_session d m stamp number s.committed s.entries) told (is_taken new takes)))))
 
-  pub tells_whole : (z : State) (e : End) (way : Dialect → Stamp → Told → Way) → IsNew d m stamp r → TakesLock d stamp number x (Ok tt) y → TellsOn d m stamp number r y e way → TellsAs (way d stamp told) e
-  tells_whole z e way new takes tells = tells start (first_session d m stamp number s.committed s.entries) told (is_taken new takes)
+  pub tells_whole : (z : State) (e : End) (way : Dialect → Stamp → Told → Way) → IsNew d m stamp r → TakesLock d stamp number x (Ok tt) y → TellsOn d m stamp number r y e way → TellsTo (way d stamp told) e
+  tells_whole z e way new takes tells = tells start (first_session d m stamp number s.committed s.entries) told (is_taken new takes) (subst (λ f. AfterFault f r.hand (r.way d stamp told)) (sym new.fault) tt)
 
 -- in words of databases
 
@@ -160,7 +187,7 @@ module _ {Key Told : Type 0} (d : Dialect) (m : Meaning Key) (stamp : Stamp) (nu
     left : Stands x number y last_there → Leaves d script_there database x y
     left stands = leaves_so d number x database has script_there y (shut_at_end (both_on database) (first_session d m stamp number database [])) stands
 
-    leaves_as : (e : End) → EndsAs d m stamp number x (session_on database) last_there None e y → LeavesAs d script_there database x e y
+    leaves_as : (e : End) → EndsAs d m stamp number x (session_on database) last_there false None e y → LeavesAs d script_there database x e y
     leaves_as end.Done stands = left stands
     leaves_as (end.Refused refusal) stands = left stands
     leaves_as (end.Locked lock) ends = ends
@@ -171,5 +198,5 @@ module _ {Key Told : Type 0} (d : Dialect) (m : Meaning Key) (stamp : Stamp) (nu
   pub leaves : (e : End) → RunsWhole d m stamp number r x e y → LeavesAll d m stamp r x e y
   leaves e whole database told has known fits = leaves_as database has e (whole x (session_on database) told (record { dialect = has.dialect; stands = stands_there d number x database has; shut = refl; known = known; fits = fits }))
 
-  pub tells : (e : End) (way : Dialect → Stamp → Told → Way) → ((start : State) (s : Session) (told : Told) → MayRun d m stamp number r x start s told → TellsAs (way d stamp told) e) → TellsAll d m stamp r x e way
+  pub tells : (e : End) (way : Dialect → Stamp → Told → Way) → ((start : State) (s : Session) (told : Told) → MayRun d m stamp number r x start s told → TellsTo (way d stamp told) e) → TellsAll d m stamp r x e way
   tells e way whole database told has known fits = whole x (session_on database) told (record { dialect = has.dialect; stands = stands_there d number x database has; shut = refl; known = known; fits = fits })

@@ -1,12 +1,13 @@
 -- The work of a call on a store, as deeds of a session.
 use Rattle.std.proofs.Common.{ap, subst, sym, ◌∙◌}
 use Rattle.std.proofs.lemmas.List.{append_assoc, map-append}
-use Rattle.std.specs.Prelude.{Bool, Err, List, Ok, Result, [], false, map, refl, true, ℕ, ◌++◌, ◌∷◌, ◌≡◌}
+use Rattle.std.specs.Prelude.{Bool, Err, List, Ok, Result, [], false, refl, true, ℕ, ◌++◌, ◌∷◌, ◌≡◌}
 use Rattle.lq_base.specs.declared.dialect.Dialect.{Dialect}
 use Rattle.lq_base.specs.declared.reason.Reason.{Reason}
 use Rattle.lq_model.specs.Catalogue.{Catalogue}
 use Rattle.lq_model.specs.Script.{if_any}
 use Rattle.lq_model.specs.Step.{step}
+use Rattle.lq_store.specs.Journal.{of_texts}
 use Rattle.lq_store.specs.Work.{End, Outcome, Ran, Stopped, Work, committed, outcome, outcome_by, outcome_of, refused, taken}
 use Rattle.lq_track.specs.Database.{Database}
 use Rattle.lq_turns.specs.Contents.{Contents, contents_of, with_contents}
@@ -15,20 +16,20 @@ use Rattle.lq_turns.specs.Held.{Agrees, StandsFor, StatementsTell, fits}
 use Rattle.lq_turns.specs.Session.{Session, executed_as, is_own, settled_if, settled_up}
 use Rattle.lq_turns.specs.declared.deed.Deed.{Deed}
 use Rattle.lq_run.specs.Does.{IsRead}
-use Rattle.lq_run.specs.Stands.{deed_text, entries_of, entry_of}
+use Rattle.lq_run.specs.Stands.{deed_text, entries_of, entry_of, entry_texts}
 
 -- the session had these entries when the call began
 pub record Works (d : Dialect) (first : List (List Deed)) (w : Work) (s : Session) : Type 0 where
   pub committed : StandsFor d w.committed s.committed
   pub now : StandsFor d w.now s.seen
-  pub texts : w.texts ≡ entry_of d s.begun
+  pub texts : w.texts ≡ entry_texts d s.begun
   pub more : List (List Deed)
   pub entries : s.entries ≡ first ++ more
   pub written : w.written ≡ entries_of d more
 
-any_map : {A B : Type 0} (f : A → B) (xs : List A) → if_any (map f xs) ≡ map (map f) (if_any xs)
-any_map f [] = refl
-any_map f (x ∷ xs) = refl
+any_map : (d : Dialect) (xs : List Deed) → of_texts (if_any (entry_texts d xs)) ≡ entries_of d (if_any xs)
+any_map d [] = refl
+any_map d (x ∷ xs) = refl
 
 module _ (d : Dialect) (first : List (List Deed)) where
   -- what was begun is committed
@@ -39,7 +40,7 @@ module _ (d : Dialect) (first : List (List Deed)) where
     texts = refl;
     more = is.more ++ if_any s.begun;
     entries = ap (λ e. e ++ if_any s.begun) is.entries ∙ append_assoc first is.more (if_any s.begun);
-    written = ap (λ e. e ++ if_any w.texts) is.written ∙ ap (λ t. entries_of d is.more ++ if_any t) is.texts ∙ ap (λ e. entries_of d is.more ++ e) (any_map (deed_text d) s.begun)
+    written = ap (λ e. e ++ of_texts (if_any w.texts)) is.written ∙ ap (λ t. entries_of d is.more ++ of_texts (if_any t)) is.texts ∙ ap (λ e. entries_of d is.more ++ e) (any_map d s.begun)
         ∙ sym (map-append (entry_of d) is.more (if_any s.begun));
   }
 

@@ -23,7 +23,8 @@ use Rattle.lq_hand.specs.declared.hand.Phase.TheVariants as phase
 use Rattle.lq_run.specs.Ends.{AllHoldOn, EndsAs}
 use Rattle.lq_run.specs.Stands.{HadRoom, Stands, entries_of}
 use Rattle.lq_hand.specs.Way.{Way}
-use Rattle.lq_run.specs.Steps.{KnownIn, Standing, TellsAs, place}
+use Rattle.lq_run.specs.Steps.{KnownIn, Standing, place}
+use Rattle.lq_run.specs.UnderWay.{TellsTo}
 use Rattle.lq_run.specs.declared.runner.End.{End}
 use Rattle.lq_run.specs.declared.runner.End.TheVariants as end
 
@@ -66,7 +67,7 @@ module _ {Key : Type 0} (d : Dialect) (m : Meaning Key) (stamp : Stamp) where
 
     -- for every session for which it may run
     abbrev pub RunsWhole : Standing Key Told → State → End → State → Type 0
-    RunsWhole r x e y = (start : State) (s : Session) (told : Told) → MayRun r x start s told → EndsAs d m stamp number start s (all_called d (script (place r) s.committed) s) None e y
+    RunsWhole r x e y = (start : State) (s : Session) (told : Told) → MayRun r x start s told → EndsAs d m stamp number start s (all_called d (script (place r) s.committed) s) false None e y
 
 -- The same in words of databases.
 
@@ -102,6 +103,6 @@ OnAll {Key} {Told} d m stamp r x holds = (database : Database) (told : Told) →
 abbrev pub LeavesAll : {Key Told : Type 0} → Dialect → Meaning Key → Stamp → Standing Key Told → State → End → State → Type 0
 LeavesAll d m stamp r x e y = OnAll d m stamp r x (λ database told. LeavesAs d (script d m stamp (place r) database) database x e y)
 
--- and what its source was on its way to tell is told
+-- and what its source was on its way to tell is told; at a full journal so much of it
 abbrev pub TellsAll : {Key Told : Type 0} → Dialect → Meaning Key → Stamp → Standing Key Told → State → End → (Dialect → Stamp → Told → Way) → Type 0
-TellsAll d m stamp r x e way = OnAll d m stamp r x (λ database told. TellsAs (way d stamp told) e)
+TellsAll d m stamp r x e way = OnAll d m stamp r x (λ database told. TellsTo (way d stamp told) e)

@@ -1,5 +1,5 @@
 -- How a command ends that runs alone.
-use Rattle.std.specs.Prelude.{Bool, List, None, Option, Some, [], false, true, ℕ, ◌+◌, ◌++◌, ◌∷◌, ◌≡◌, ◌⊎◌}
+use Rattle.std.specs.Prelude.{Bool, List, None, Option, Some, [], false, map, true, ℕ, ◌+◌, ◌++◌, ◌∷◌, ◌≡◌, ◌⊎◌}
 use Rattle.lq_base.specs.declared.dialect.Dialect.{Dialect}
 use Rattle.lq_model.specs.declared.caller.Room.TheVariants.{Ordinary}
 use Rattle.lq_model.specs.declared.fault.StoreFault.{StoreFault}
@@ -7,7 +7,7 @@ use Rattle.lq_model.specs.declared.fault.StoreFault.TheVariants as fault
 use Rattle.lq_store.specs.Journal.{end_of, is_full, size_of_all}
 use Rattle.lq_store.specs.State.{State}
 use Rattle.lq_turns.specs.Rest.{Place, rest}
-use Rattle.lq_turns.specs.Script.{closing}
+use Rattle.lq_turns.specs.Script.{closing, opening}
 use Rattle.lq_turns.specs.Session.{Session, all_called, called, room_of}
 use Rattle.lq_turns.specs.Set.{Meaning}
 use Rattle.lq_turns.specs.Stepped.{both_of}
@@ -18,10 +18,11 @@ use Rattle.lq_turns.specs.declared.deed.Deed.TheVariants.{Locks, Rows, Users}
 use Rattle.lq_turns.specs.declared.deed.OnLock.TheVariants.{Freed, LockMade, LockRowMade, LogMade, Marked, Taken}
 use Rattle.lq_turns.specs.declared.stamp.Stamp.{Stamp}
 use Rattle.lq_run.specs.Does.{Breaks}
-use Rattle.lq_run.specs.Holds.{IsBare, IsHeld}
+use Rattle.lq_run.specs.Holds.{IsBare, IsHeld, IsMarked}
 use Rattle.lq_run.specs.Stands.{Stands, entries_of}
 use Rattle.lq_hand.specs.Way.{Way}
-use Rattle.lq_run.specs.Steps.{IsThere, Standing, TellsAs, is_disk, place}
+use Rattle.lq_run.specs.Steps.{IsThere, Standing, is_disk, place}
+use Rattle.lq_run.specs.UnderWay.{IsAfterFault, TellsTo}
 use Rattle.lq_run.specs.declared.runner.End.{End}
 use Rattle.lq_run.specs.declared.runner.End.TheVariants as end
 
@@ -68,6 +69,10 @@ pub record CameFrom (d : Dialect) (first s : Session) : Type 0 where
   pub calls : List Call
   pub is : s ≡ all_called d calls first
 
+-- a call that is left after a fault: an abort, or the one that frees the lock
+abbrev pub IsLastCall : Call → Type 0
+IsLastCall call = (call ≡ Abort) ⊎ (call ≡ closing)
+
 -- the last call alone is to come, or it after an abort
 abbrev pub AreLast : List Call → Type 0
 AreLast calls = (calls ≡ closing ∷ []) ⊎ (calls ≡ Abort ∷ closing ∷ [])
@@ -86,6 +91,10 @@ module _ {Key : Type 0} (d : Dialect) (m : Meaning Key) (stamp : Stamp) (number 
     abbrev pub IsToCome : Call → Session → Type 0
     IsToCome call s = IsBefore (called d call s) last ⊎ ((call ≡ closing) × IsBare stamp s.committed.lock × (s.begun ≡ []) × IsBefore s last)
 
+    -- it is the next call on the way to the last session; or one of those that are left after a fault
+    abbrev pub GoesOnBy : Call → Session → Type 0
+    GoesOnBy call s = ((others : List Call) × (all_called d (call ∷ others) s ≡ last)) ⊎ IsLastCall call
+
     -- the disk failed at a call on the way, or at the one that frees the lock after another fault
     pub record BreaksBefore (y : State) : Type 0 where
       pub s : Session
@@ -102,6 +111,7 @@ module _ {Key : Type 0} (d : Dialect) (m : Meaning Key) (stamp : Stamp) (number 
       pub came : CameFrom d first s
       pub call : Call
       pub before : IsToCome call s
+      pub next_call : GoesOnBy call s
       -- only the call that frees the lock may use all of the journal, and nothing is begun then
       pub which : (room_of call ≡ Ordinary) ⊎ ((call ≡ closing) × (s.begun ≡ []))
       pub used_is : used ≡ start.used + size_of_all (entries_of d s.entries)
@@ -110,22 +120,43 @@ module _ {Key : Type 0} (d : Dialect) (m : Meaning Key) (stamp : Stamp) (number 
       pub next_is : next ≡ size_of_all (entries_of d more)
       pub full : is_full (end_of (room_of call) start.limit) used (entries_of d more) ≡ true
 
+    -- and no more since
+    abbrev pub StaysFull : ℕ → ℕ → Session → Type 0
+    StaysFull used next s = (full : IsFullBefore used next) × (s.entries ≡ full.s.entries)
+
     -- or a fault that was met before says so
-    abbrev pub IsFullSince : Option StoreFault → ℕ → ℕ → Type 0
-    IsFullSince met used next = IsFullBefore used next ⊎ (met ≡ Some (fault.Full used next))
+    abbrev pub IsFullSince : Option StoreFault → ℕ → ℕ → Session → Type 0
+    IsFullSince met used next s = StaysFull used next s ⊎ (met ≡ Some (fault.Full used next))
 
-    -- the fault that is kept now tells of a full journal only so
-    abbrev pub KeepsFull : Option StoreFault → Option StoreFault → Type 0
-    KeepsFull met now = (used next : ℕ) → now ≡ Some (fault.Full used next) → IsFullSince met used next
+    -- the fault that is kept now tells of a full journal only so, and then the last calls alone are to come
+    abbrev pub KeepsFull : Option StoreFault → Session → List Call → Option StoreFault → Type 0
+    KeepsFull met s calls now = (used next : ℕ) → now ≡ Some (fault.Full used next) → (StaysFull used next s × AreLast calls) ⊎ (met ≡ Some (fault.Full used next))
 
-    -- without a fault the store stands for the last session
-    abbrev pub EndsAs : Option StoreFault → End → State → Type 0
-    EndsAs met end.Done y = Stands start number y last
-    EndsAs met (end.Refused refusal) y = Stands start number y last
-    EndsAs met (end.Locked lock) y = ⊥
-    EndsAs met end.Disk y = BreaksBefore y
-    EndsAs met (end.Full used next) y = StandsBefore y × IsFullSince met used next
-    EndsAs met end.OutOfMemory y = StandsBefore y
+    -- the call that frees the lock; or the one that takes it, where the first session had not, and before which nothing was written
+    abbrev pub IsAtLock : Bool → Call → Session → Type 0
+    IsAtLock taken call s = (call ≡ closing) ⊎ ((taken ≡ false) × (call ≡ Alone (map Locks (opening stamp first.committed)) Ordinary) × (s.entries ≡ first.entries))
+
+    -- How a full journal leaves the lock: it was freed, where it had no mark; or it has a mark; or there was no room for the call that frees it, or for the one that takes it.
+    abbrev pub RestsAs : Bool → Option StoreFault → ℕ → ℕ → Session → State → Type 0
+    RestsAs taken met used next s y = (IsFullSince met used next s × ((IsBare stamp s.committed.lock × Stands start number y (called d closing s)) ⊎ (IsMarked stamp s.committed.lock × Stands start number y s)))
+        ⊎ (Stands start number y s × ((full : StaysFull used next s) × IsAtLock taken full.0.call s))
+
+    -- it ended on the way, and no transaction is open
+    pub record RestsBefore (taken : Bool) (met : Option StoreFault) (used next : ℕ) (y : State) : Type 0 where
+      pub s : Session
+      pub came : CameFrom d first s
+      pub before : IsBefore s last
+      pub shut : (s.is_open ≡ false) × (s.begun ≡ [])
+      pub rests : RestsAs taken met used next s y
+
+    -- how the calls end from the first session on, which may have taken the lock; without a fault the store stands for the last one
+    abbrev pub EndsAs : Bool → Option StoreFault → End → State → Type 0
+    EndsAs taken met end.Done y = Stands start number y last
+    EndsAs taken met (end.Refused refusal) y = Stands start number y last
+    EndsAs taken met (end.Locked lock) y = ⊥
+    EndsAs taken met end.Disk y = BreaksBefore y
+    EndsAs taken met (end.Full used next) y = StandsBefore y × RestsBefore taken met used next y
+    EndsAs taken met end.OutOfMemory y = StandsBefore y
 
 module _ {Key Told : Type 0} (d : Dialect) (m : Meaning Key) (stamp : Stamp) (number : ℕ) where
   -- The store stands for a session at the command's place, and the command holds the lock until its last call.
@@ -156,8 +187,8 @@ module _ {Key Told : Type 0} (d : Dialect) (m : Meaning Key) (stamp : Stamp) (nu
 
   -- for every session for which it runs, with the fault that it had met before
   abbrev pub RunsOn : Standing Key Told → State → End → State → Type 0
-  RunsOn r x e y = (start : State) (s : Session) (told : Told) → IsRunning r x start s told → EndsAs d m stamp number start s (at_end d m stamp number (place r) s) r.fault e y
+  RunsOn r x e y = (start : State) (s : Session) (told : Told) → IsRunning r x start s told → EndsAs d m stamp number start s (at_end d m stamp number (place r) s) true r.fault e y
 
   -- and what its source has told then
   abbrev pub TellsOn : Standing Key Told → State → End → (Dialect → Stamp → Told → Way) → Type 0
-  TellsOn r x e way = (start : State) (s : Session) (told : Told) → IsRunning r x start s told → TellsAs (way d stamp told) e
+  TellsOn r x e way = (start : State) (s : Session) (told : Told) → IsRunning r x start s told → IsAfterFault d stamp r told → TellsTo (way d stamp told) e

@@ -1,9 +1,11 @@
 -- What is left in words of databases: by a call that is a transaction of its own, and by a command that a fault of the store ended.
 use Rattle.std.specs.Option.{option_map}
-use Rattle.std.specs.Prelude.{Err, List, Ok, Result, Some, [], false, map, true, ℕ, ◌+◌, ◌++◌, ◌∷◌, ◌≡◌, ◌⊎◌}
+use Rattle.std.specs.Prelude.{Err, List, None, Ok, Result, Some, [], false, map, true, ℕ, ◌+◌, ◌++◌, ◌∷◌, ◌≡◌, ◌≢◌, ◌⊎◌}
 use Rattle.lq_base.specs.declared.dialect.Dialect.{Dialect}
 use Rattle.lq_base.specs.declared.identity.Identity.{Identity}
+use Rattle.lq_base.specs.declared.tracking.Lock.{Lock}
 use Rattle.lq_base.specs.declared.tracking.Tracked.{Tracked}
+use Rattle.lq_drill.specs.Faults.{IsLetGo, freed}
 use Rattle.lq_model.specs.Names.{is_empty}
 use Rattle.lq_model.specs.declared.caller.Room.{Room}
 use Rattle.lq_model.specs.declared.caller.Room.TheVariants.{Ordinary}
@@ -16,7 +18,7 @@ use Rattle.lq_track.specs.Database.{Database}
 use Rattle.lq_track.specs.Log.{identity_of}
 use Rattle.lq_turns.specs.Deed.{all_done}
 use Rattle.lq_turns.specs.Script.{clear_calls, last_row, opening, release_calls, tag_calls}
-use Rattle.lq_turns.specs.Session.{all_called, session_on}
+use Rattle.lq_turns.specs.Session.{all_called, called, room_of, session_on}
 use Rattle.lq_turns.specs.Set.{Meaning}
 use Rattle.lq_turns.specs.Stops.{IsLeft, Journal, is_mark, joined}
 use Rattle.lq_turns.specs.declared.call.Call.{Call}
@@ -26,28 +28,67 @@ use Rattle.lq_turns.specs.declared.deed.OnLock.TheVariants.{Freed}
 use Rattle.lq_turns.specs.declared.stamp.Stamp.{Stamp}
 use Rattle.lq_beside.specs.Replays.{calls_fit}
 use Rattle.lq_run.specs.Commands.{HasDatabase, Leaves, OnAll, script}
+use Rattle.lq_run.specs.Ends.{IsLastCall}
 use Rattle.lq_run.specs.Stands.{entries_of}
 use Rattle.lq_run.specs.Steps.{Standing, place}
 use Rattle.lq_run.specs.declared.runner.End.{End}
 use Rattle.lq_run.specs.declared.runner.End.TheVariants as end
 
--- Behind what was written, a front of the entries of these calls, those that come next have no room; only what frees the lock may use all of the journal.
+-- after those that were made the call is the next on the way to where these calls lead; or one of those that are left after a fault of one of them
+abbrev pub IsNextIn : Dialect → List Call → Database → List Call → Call → Type 0
+IsNextIn d calls database made call = ((others : List Call) × (all_called d (made ++ call ∷ others) (session_on database) ≡ all_called d calls (session_on database))) ⊎ (IsLastCall call × (calls ≢ []))
+
+-- Behind what was written, a front of the entries of these calls, those of the next call have no room; only what frees the lock may use all of the journal.
 pub record IsFullIn (d : Dialect) (calls : List Call) (database : Database) (x : State) (used next : ℕ) : Type 0 where
   pub written : Journal
   pub more : Journal
   pub stops : IsLeft d calls database [] written
   pub comes : IsLeft d calls database [] (written ++ more)
+  -- the calls that were made, and the next one
+  pub made : List Call
+  pub call : Call
+  pub wrote : (all_called d made (session_on database)).entries ≡ written
+  pub appends : (called d call (all_called d made (session_on database))).entries ≡ written ++ more
+  pub next_call : IsNextIn d calls database made call
   pub used_is : used ≡ x.used + size_of_all (entries_of d written)
   pub next_is : next ≡ size_of_all (entries_of d more)
   pub room : Room
+  pub in_room : room ≡ room_of call
   pub which : (room ≡ Ordinary) ⊎ (more ≡ (Locks Freed ∷ []) ∷ [])
   pub full : is_full (end_of room x.limit) used (entries_of d more) ≡ true
+
+-- The journal goes on with what a stop of these calls may leave, and its database is where that leads, a transaction that is open taken back.
+pub record StopsIn (d : Dialect) (calls : List Call) (database : Database) (x y : State) : Type 0 where
+  pub written : Journal
+  pub left : IsLeft d calls database [] written
+  pub now : Database
+  pub led : all_done d (joined written) database ≡ Ok now
+  pub database_is : HasDatabase d (aborted y) now
+  pub limit : y.limit ≡ x.limit
+  pub entries : y.entries ≡ option_map (λ entries. entries ++ entries_of d written) x.entries
+  pub used : y.used ≡ x.used + size_of_all (entries_of d written)
+
+-- what was written, and possibly the entry that frees the lock behind it
+abbrev pub IsAtMostFreed : Journal → Journal → Type 0
+IsAtMostFreed written after = (after ≡ written) ⊎ (after ≡ written ++ freed)
+
+-- How the lock is left where the journal's room ended these calls: it is let go; or what had no room is the entry that frees it; or nothing was written.
+abbrev pub LeavesLock : Lock → Journal → Journal → Type 0
+LeavesLock lock next written = IsLetGo lock ⊎ ((next ≡ freed) ⊎ (written ≡ []))
+
+-- Where the journal's room ended these calls: the journal goes on with what was written by then, and possibly the entry that frees the lock. No transaction is open.
+pub record RestsIn (d : Dialect) (calls : List Call) (database : Database) (x y : State) (used next : ℕ) : Type 0 where
+  pub stops : StopsIn d calls database x y
+  pub full : IsFullIn d calls database x used next
+  pub behind : IsAtMostFreed full.written stops.written
+  pub shut : y.begun ≡ None
+  pub lock : LeavesLock stops.now.lock full.more stops.written
 
 -- done, it leaves what the call does; only a fault of the disk leaves something, a front of its entry; nothing is refused
 abbrev pub LeavesOnce : Dialect → List Call → Database → State → Result (Unit {0}) StoreFault → State → Type 0
 LeavesOnce d calls database x (Ok u) y = Leaves d calls database x y
 LeavesOnce d calls database x (Err fault.Disk) y = Fails (entries_of d (all_called d calls (session_on database)).entries) x y
-LeavesOnce d calls database x (Err (fault.Full used next)) y = (y ≡ x) × IsFullIn d calls database x used next
+LeavesOnce d calls database x (Err (fault.Full used next)) y = (y ≡ x) × RestsIn d calls database x y used next
 LeavesOnce d calls database x (Err fault.OutOfMemory) y = y ≡ x
 LeavesOnce d calls database x (Err (fault.Busy n)) y = ⊥
 LeavesOnce d calls database x (Err fault.NotSql) y = ⊥
@@ -72,17 +113,6 @@ abbrev pub LeavesReleased : Dialect → State → Result (Unit {0}) StoreFault �
 LeavesReleased d x result y = (database : Database) → HasDatabase d x database → database.lock.locked ≡ true
     → calls_fit d (release_calls database) (session_on database) ≡ true → LeavesOnce d (release_calls database) database x result y
 
--- The journal goes on with what a stop of these calls may leave, and its database is where that leads, a transaction that is open taken back.
-pub record StopsIn (d : Dialect) (calls : List Call) (database : Database) (x y : State) : Type 0 where
-  pub written : Journal
-  pub left : IsLeft d calls database [] written
-  pub now : Database
-  pub led : all_done d (joined written) database ≡ Ok now
-  pub database_is : HasDatabase d (aborted y) now
-  pub limit : y.limit ≡ x.limit
-  pub entries : y.entries ≡ option_map (λ entries. entries ++ entries_of d written) x.entries
-  pub used : y.used ≡ x.used + size_of_all (entries_of d written)
-
 -- the disk failed, and a front of what a stop of these calls may leave is written
 pub record BreaksIn (d : Dialect) (calls : List Call) (database : Database) (x y : State) : Type 0 where
   pub written : Journal
@@ -95,7 +125,7 @@ LeftAs d calls database x end.Done y = Unit {0}
 LeftAs d calls database x (end.Refused refusal) y = Unit {0}
 LeftAs d calls database x (end.Locked lock) y = Unit {0}
 LeftAs d calls database x end.Disk y = BreaksIn d calls database x y
-LeftAs d calls database x (end.Full used next) y = StopsIn d calls database x y × IsFullIn d calls database x used next
+LeftAs d calls database x (end.Full used next) y = RestsIn d calls database x y used next
 LeftAs d calls database x end.OutOfMemory y = StopsIn d calls database x y
 
 -- on every database whose contents are known, and on which its calls fit, where the command's name has no mark of its own

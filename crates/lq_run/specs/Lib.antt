@@ -4,6 +4,7 @@ pub mod Moves
 pub mod Holds
 pub mod NoChanges
 pub mod Steps
+pub mod UnderWay
 pub mod Ends
 pub mod Commands
 pub mod Faults

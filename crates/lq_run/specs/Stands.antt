@@ -7,6 +7,7 @@ use Rattle.lq_model.specs.declared.caller.Room.{Room}
 use Rattle.lq_model.specs.declared.caller.Room.TheVariants.{Ordinary, Release}
 use Rattle.lq_model.specs.StatementText.{text_of}
 use Rattle.lq_store.specs.Journal.{Entry, end_of, size_of_all}
+use Rattle.lq_store.specs.Journal.Entry.{Texts}
 use Rattle.lq_store.specs.State.{State, Transaction}
 use Rattle.lq_turns.specs.Deed.{made_of}
 use Rattle.lq_turns.specs.Held.{StandsFor}
@@ -19,8 +20,11 @@ use Rattle.lq_turns.specs.declared.deed.OnLock.TheVariants.{Freed}
 abbrev pub deed_text : Dialect → Deed → List ℕ
 deed_text d deed = text_of d (made_of d deed).1
 
+abbrev pub entry_texts : Dialect → List Deed → List (List ℕ)
+entry_texts d deeds = map (deed_text d) deeds
+
 abbrev pub entry_of : Dialect → List Deed → Entry
-entry_of d deeds = map (deed_text d) deeds
+entry_of d deeds = Texts (entry_texts d deeds)
 
 abbrev pub entries_of : Dialect → List (List Deed) → List Entry
 entries_of d entries = map (entry_of d) entries
@@ -44,7 +48,7 @@ HadRoom d limit used entries = (front : List (List Deed)) (deeds : List Deed) (r
 -- the session's transaction, where it has one; no other session has one
 abbrev pub IsBegun : Dialect → ℕ → Session → Option Transaction → Type 0
 IsBegun d number s None = (s.is_open ≡ false) × (s.seen ≡ s.committed) × (s.begun ≡ [])
-IsBegun d number s (Some t) = (s.is_open ≡ true) × (t.session ≡ number) × StandsFor d t.now s.seen × (t.texts ≡ entry_of d s.begun)
+IsBegun d number s (Some t) = (s.is_open ≡ true) × (t.session ≡ number) × StandsFor d t.now s.seen × (t.texts ≡ entry_texts d s.begun)
 
 -- The store came from a start by the calls of a session that has this number.
 pub record Stands (start : State) (number : ℕ) (x : State) (s : Session) : Type 0 where

@@ -211,7 +211,7 @@ module _ {Key Told : Type 0} (d : Dialect) (m : Meaning Key) (stamp : Stamp) (nu
 
   -- at its end the last call was made; or between two turns there was no memory for another; or the disk failed
   abbrev pub EndsStep : Standing Key Told → State → Session → State → End → State → Type 0
-  EndsStep before start s x e y = Ends d m stamp number (place before) before.fault before.refused start s x e y
+  EndsStep before start s x e y = ((s.is_open ≡ false) × Ends d m stamp number (place before) before.fault before.refused start s x e y)
       ⊎ (((s.is_open ≡ false) × Ends d m stamp number (between NoMore) (Some fault.OutOfMemory) before.refused start s x e y) ⊎ (Meets d m stamp number (place before) start s x Ordinary fault.Disk y × (e ≡ end.Disk)))
 
   abbrev pub StepsAs : Standing Key Told → Standing Key Told → Told → State → Session → State → Step → State → Type 0

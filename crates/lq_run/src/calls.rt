@@ -155,13 +155,10 @@ fn print_all<P: SqlText>(
     ensures texts { OnOk result (texts.new ≡ texts.old ++ texts_of dialect deeds.now) }
     ensures read { OnOk result (AllRead dialect deeds.now) }
 {
-    match deeds {
-        [] => Ok(()),
-        [deed, more @ ..] => {
-            texts.push(by_text(alloc, sql, dialect, deed)?)?;
-            print_all(alloc, sql, dialect, more, texts)
-        }
+    for deed in deeds {
+        texts.push(by_text(alloc, sql, dialect, deed)?)?;
     }
+    Ok(())
 }
 
 fn by_text<P: SqlText>(

@@ -15,6 +15,7 @@ ghost use Rattle.lq_run.specs.Does.{AbortFor};
 ghost use Rattle.lq_run.specs.Ends.{disk_failed};
 ghost use Rattle.lq_run.specs.Faults.{StopsAs, is_disk_step};
 ghost use Rattle.lq_run.specs.Holds.{Holds, HoldsAs};
+ghost use Rattle.lq_run.specs.UnderWay.{Stays, StaysShown};
 ghost use Rattle.lq_run.specs.Steps.{ClosesFor, EndsFor, FailsTo, GoesOn, IsShowing, KnownIn, Loses, Shows, Steps, StepsShown, TellsLock, end_of, enters_turns, is_disk, is_over, is_statement, last_end, no_turn, place, standing, stopped_by};
 ghost use Rattle.lq_run.specs.declared.runner.Step.TheVariants as step;
 ghost use Rattle.lq_store.specs.State.{is_open, seen};
@@ -109,6 +110,9 @@ impl<T: Source + Drop> Runner<T> {
         ensures steps { Steps self.old.dialect T.meaning self.old.stamp session
             (standing T.left T.way self.old) (standing T.left T.way self.new) (S.state store.old)
             result (S.state store.new) }
+        ensures under_way { Stays self.old.dialect T.meaning self.old.stamp session
+            (standing T.left T.way self.old) (standing T.left T.way self.new) (S.state store.old)
+            result }
         ensures crash { CrashesStep self.old.dialect T.meaning self.old.stamp session
             (standing T.left T.way self.old) self.new.fault (S.state store.old)
             (S.crashes store.old) (S.crashes store.new) }
@@ -151,6 +155,9 @@ impl<T: Source + Drop> Runner<T> {
         ensures steps { Steps self.old.dialect T.meaning self.old.stamp session
             (standing T.left T.way self.old) (standing T.left T.way self.new) (S.state store.old)
             result (S.state store.new) }
+        ensures under_way { Stays self.old.dialect T.meaning self.old.stamp session
+            (standing T.left T.way self.old) (standing T.left T.way self.new) (S.state store.old)
+            result }
         ensures crash { CrashesStep self.old.dialect T.meaning self.old.stamp session
             (standing T.left T.way self.old) self.new.fault (S.state store.old)
             (S.crashes store.old) (S.crashes store.new) }
@@ -193,6 +200,9 @@ impl<T: Source + Drop> Runner<T> {
         ensures steps { Steps self.old.dialect T.meaning self.old.stamp session
             (standing T.left T.way self.old) (standing T.left T.way self.new) (S.state store.old)
             result (S.state store.new) }
+        ensures under_way { Stays self.old.dialect T.meaning self.old.stamp session
+            (standing T.left T.way self.old) (standing T.left T.way self.new) (S.state store.old)
+            result }
         ensures crash { CrashesNext self.old.dialect T.meaning self.old.stamp session
             (place (standing T.left T.way self.old)) (S.state store.old) (S.crashes store.old)
             (S.crashes store.new) }
@@ -239,6 +249,9 @@ impl<T: Source + Drop> Runner<T> {
         ensures steps { StepsShown self.old.dialect T.meaning self.old.stamp session
             (standing T.left T.way self.old) (standing T.left T.way self.new) (S.state store.old)
             result (S.state store.new) }
+        ensures under_way { StaysShown self.old.dialect T.meaning self.old.stamp session
+            (standing T.left T.way self.old) (standing T.left T.way self.new) (S.state store.old)
+            result }
         ensures crash { CrashesNext self.old.dialect T.meaning self.old.stamp session
             (place (standing T.left T.way self.old)) (S.state store.old) (S.crashes store.old)
             (S.crashes store.new) }
@@ -291,6 +304,7 @@ impl<T: Source + Drop> Runner<T> {
         ensures same { (self.new.dialect ≡ self.old.dialect) × (self.new.stamp ≡ self.old.stamp) }
         ensures reads { T.reads self.new.source self.new.dialect }
         ensures fails { FailsTo fault self.new.hand.phase self.new.fault result }
+        ensures source { self.new.source ≡ self.old.source }
         ensures disk { disk_failed self.new.fault ≡ false }
         ensures told { is_disk_step result ≡ is_disk fault }
         ensures stays { is_some self.old.fault ≡ true → is_some self.new.fault ≡ true }
@@ -319,6 +333,7 @@ impl<T: Source + Drop> Runner<T> {
         ensures result { result ≡ step.Going }
         ensures fault { self.new.fault ≡ Some fault.OutOfMemory }
         ensures hand { self.new.hand ≡ no_turn }
+        ensures source { self.new.source ≡ self.old.source }
         ensures aborts { AbortFor self.old.dialect session (S.state store.old) (S.state store.new) }
         ensures crash { CrashesLeave (S.state store.old).entries LeftAlone (S.crashes store.old)
             (S.crashes store.new) }
@@ -350,6 +365,9 @@ impl<T: Source + Drop> Runner<T> {
         ensures steps { Steps self.old.dialect T.meaning self.old.stamp session
             (standing T.left T.way self.old) (standing T.left T.way self.new) (S.state store.old)
             result (S.state store.new) }
+        ensures under_way { Stays self.old.dialect T.meaning self.old.stamp session
+            (standing T.left T.way self.old) (standing T.left T.way self.new) (S.state store.old)
+            result }
         ensures crash { CrashesStep self.old.dialect T.meaning self.old.stamp session
             (standing T.left T.way self.old) self.new.fault (S.state store.old)
             (S.crashes store.old) (S.crashes store.new) }
@@ -391,6 +409,9 @@ impl<T: Source + Drop> Runner<T> {
         ensures steps { Steps self.old.dialect T.meaning self.old.stamp session
             (standing T.left T.way self.old) (standing T.left T.way self.new) (S.state store.old)
             result (S.state store.new) }
+        ensures under_way { Stays self.old.dialect T.meaning self.old.stamp session
+            (standing T.left T.way self.old) (standing T.left T.way self.new) (S.state store.old)
+            result }
         ensures crash { CrashesStep self.old.dialect T.meaning self.old.stamp session
             (standing T.left T.way self.old) self.new.fault (S.state store.old)
             (S.crashes store.old) (S.crashes store.new) }
@@ -443,6 +464,9 @@ impl<T: Source + Drop> Runner<T> {
         ensures steps { Steps self.old.dialect T.meaning self.old.stamp session
             (standing T.left T.way self.old) (standing T.left T.way self.new) (S.state store.old)
             result (S.state store.new) }
+        ensures under_way { Stays self.old.dialect T.meaning self.old.stamp session
+            (standing T.left T.way self.old) (standing T.left T.way self.new) (S.state store.old)
+            result }
         ensures crash { CrashesStep self.old.dialect T.meaning self.old.stamp session
             (standing T.left T.way self.old) self.new.fault (S.state store.old)
             (S.crashes store.old) (S.crashes store.new) }
@@ -491,6 +515,9 @@ impl<T: Source + Drop> Runner<T> {
         ensures steps { Steps self.old.dialect T.meaning self.old.stamp session
             (standing T.left T.way self.old) (standing T.left T.way self.new) (S.state store.old)
             result (S.state store.new) }
+        ensures under_way { Stays self.old.dialect T.meaning self.old.stamp session
+            (standing T.left T.way self.old) (standing T.left T.way self.new) (S.state store.old)
+            result }
         ensures crash { CrashesStep self.old.dialect T.meaning self.old.stamp session
             (standing T.left T.way self.old) self.new.fault (S.state store.old)
             (S.crashes store.old) (S.crashes store.new) }

@@ -6,3 +6,4 @@ pub mod Read
 pub mod Shown
 pub mod Spelled
 pub mod Told
+pub mod Warned

@@ -31,6 +31,10 @@ pub record Leads (o : Outcome) (more told : Settled) : Type 0 where
   pub unhalted : o.halted ≡ None
   pub unstopped : o.stopped_at ≡ None
 
+-- what it has warned of is a front of all
+abbrev pub WarnsFirst : Outcome → Settled → Type 0
+WarnsFirst o told = (more : List (Option Identity × Why)) × (o.warned ++ more ≡ told.warned)
+
 -- what stopped a command: a precondition, or the refusal of a statement
 abbrev pub stop_told : Outcome → Option Refusal → Option Stop
 stop_told o None = option_map (λ (h : Halt). Halted h.identity h.why) o.halted

@@ -1,4 +1,4 @@
-ghost use Rattle.std.specs.Prelude.{◌≡◌, ◌++◌, ◌∷◌, [], List, OnOk, false, true};
+ghost use Rattle.std.specs.Prelude.{◌≡◌, ◌++◌, ◌∷◌, [], List, OnErr, OnOk, false, true};
 ghost use Rattle.lq_base.specs.declared.run.Happened.{Happened as Event};
 ghost use Rattle.lq_seen.specs.Telling.{IsTakenBack, happened_as, happened_instead, happens, told_by, warned_of};
 ghost use Rattle.lq_turns.specs.Settle.{did_of};
@@ -8,14 +8,16 @@ use lq_base::{Did, Duplicate, Happened, Identity, Items, NoMemory, Why};
 use lq_turns::{Choice, What};
 use std::alloc::Global;
 
-/// Writes down what a changeset does by its choice, where its turn finishes.
+/// Writes down what a changeset does by its choice, where its turn finishes. Where there is no memory,
+/// nothing more is warned of.
 pub fn tell(
     alloc: Global,
     identity: &Identity,
     choice: Choice,
     outcome: &mut Outcome,
 ) -> Result<(), NoMemory>
-    ensures { OnOk result (outcome.new ≡ told_by identity.now choice outcome.old) }
+    ensures told { OnOk result (outcome.new ≡ told_by identity.now choice outcome.old) }
+    ensures unwarned { OnErr result (outcome.new.warned ≡ outcome.old.warned) }
 {
     match choice {
         Choice::Passes => Ok(()),
@@ -29,8 +31,8 @@ pub fn tell(
             Ok(())
         }
         Choice::Runs(what, why) => {
-            tell_warning(alloc, identity, why, &mut outcome.warned)?;
             tell_did(alloc, identity, did_of(what), &mut outcome.happened)?;
+            tell_warning(alloc, identity, why, &mut outcome.warned)?;
             Ok(())
         }
         Choice::Halts(why) => {
@@ -73,7 +75,8 @@ fn tell_warning(
     why: Option<Why>,
     warned: &mut Items<(Option<Identity>, Why)>,
 ) -> Result<(), NoMemory>
-    ensures { OnOk result (warned.new ≡ warned.old ++ warned_of identity.now why) }
+    ensures told { OnOk result (warned.new ≡ warned.old ++ warned_of identity.now why) }
+    ensures unwarned { OnErr result (warned.new ≡ warned.old) }
 {
     match why {
         None => Ok(()),

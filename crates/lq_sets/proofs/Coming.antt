@@ -36,6 +36,7 @@ use Rattle.lq_sets.specs.Counting.{AreAlike, begins_from, changes_before, change
 use Rattle.lq_seen.proofs.Read.{all_at}
 use Rattle.lq_sets.specs.SetTurns.{ArePlanned, CameBy, CameTo, IsInHand, IsKeptBy, IsOf, KeepsTexts, YieldsAs, YieldsTo, goes_past, if_kept, last_after, set_way, sets_left, texts_by, to_print, to_settle, with_count}
 use Rattle.lq_seen.proofs.Told.{IsToldBy}
+use Rattle.lq_seen.proofs.Warned.{warns_first}
 use Rattle.lq_seen.specs.Printing.{Account, shown, with_texts}
 use Rattle.lq_seen.specs.Telling.{Leads, Reports, bounded, happened_as, happens, warned_of}
 use Rattle.lq_seen.specs.View.{any_meaning, view, views}
@@ -509,4 +510,6 @@ module _ (d : Dialect) (stamp : Stamp) (seen : Catalogue) (before : SetTurns) (i
       (past.0, record { planned = past.1; leads = past.2; prints = past.3 })
   came_to Halted came held texts = λ database told stands plan leads shows.
       came_halt d stamp seen before.options before.changelog.sets before.next item (reverse before.items) before.last x read at q chosen before.prints before.outcome now tells texts database came told stands plan leads shows
-  came_to Lack came held texts = tt
+  came_to Lack came held texts = λ database told stands plan leads shows.
+      warns_first set_of d any_meaning stamp.reading (contents_of database) q (all_settled d any_meaning stamp.reading sets_behind) before.outcome now told.settled
+      (leads_here d stamp seen before.options before.changelog.sets before.next item (reverse before.items) before.last x read at q chosen before.prints before.outcome now tells database stands plan told leads shows) tells.warned

@@ -1,5 +1,5 @@
 -- What the turns that were skipped left, up to the one that is entered.
-use Rattle.std.proofs.Common.{ap, sym, subst, refl, ◌≡◌, ◌∙◌, ◌∷◌, ◌++◌, ◌<◌, Bool, List, [], length, nat_lt, reverse, true, drop, None}
+use Rattle.std.proofs.Common.{ap, inr, sym, subst, refl, ◌≡◌, ◌∙◌, ◌∷◌, ◌++◌, ◌<◌, Bool, List, [], length, nat_lt, reverse, true, drop, None}
 use Rattle.std.proofs.lemmas.Bool.{ltb-true}
 use Rattle.std.proofs.lemmas.List.{reverse-append}
 use Rattle.std.specs.List.{list_all}
@@ -20,7 +20,7 @@ use Rattle.lq_seen.specs.Printing.{Account, shown}
 use Rattle.lq_seen.specs.Telling.{Leads, Reports}
 use Rattle.lq_seen.specs.View.{any_meaning}
 use Rattle.lq_sets.specs.declared.set_turns.SetTurns.{SetTurns}
-use Rattle.lq_sets.specs.declared.set_turns.Tried.TheVariants.{Halted, Skipped, Turn as Tried}
+use Rattle.lq_sets.specs.declared.set_turns.Tried.TheVariants.{Halted, Lack, Skipped, Turn as Tried}
 use Rattle.lq_track.specs.Database.{Database}
 use Rattle.lq_turns.specs.Contents.{contents_of}
 use Rattle.lq_turns.specs.Held.{StandsFor}
@@ -71,6 +71,11 @@ module _ (d : Dialect) (stamp : Stamp) (seen : Catalogue) where
           let so_far = reached.goes database stands told knows in
           let next = came database told stands (popped item rest is database so_far.1.planned) so_far.1.leads so_far.1.prints in
           (so_far.0 ∙ next.0, next.1)
+
+      pub lacks : CameTo d stamp seen (record now { items = rest }) after item Lack → Enters d any_meaning stamp (OfSets (sets_left first)) (set_way first d stamp) seen entered.Lack (OfSets (sets_left after)) (set_way after d stamp)
+      lacks came database stands told knows =
+          let so_far = reached.goes database stands told knows in
+          inr (inr (inr (inr (came database told stands (popped item rest is database so_far.1.planned) so_far.1.leads so_far.1.prints))))
 
     -- no item is left
     pub ends : now.items ≡ [] → (database : Database) → StandsFor d seen database → (told : Account) → KnowsIt first database told → (to_come first database ≡ closing ∷ []) × Reports now.outcome told None

@@ -19,7 +19,7 @@ use Rattle.lq_model.specs.Catalogue.{Catalogue}
 use Rattle.lq_plan.specs.Work.{work_from}
 use Rattle.lq_plan.specs.declared.turns.Item.{Item}
 use Rattle.lq_seen.specs.Printing.{Account, shown, with_texts}
-use Rattle.lq_seen.specs.Telling.{Leads, Reports, Tells, bounded, happened_instead, happens}
+use Rattle.lq_seen.specs.Telling.{Leads, Reports, Tells, WarnsFirst, bounded, happened_instead, happens}
 use Rattle.lq_seen.specs.View.{any_meaning, view, views}
 use Rattle.lq_sets.specs.Counting.{AreAlike, begins_from, changes_before, changes_run, counts_to, runs}
 use Rattle.lq_sets.specs.declared.in_hand.InHand.{InHand}
@@ -114,7 +114,7 @@ pub record Awaits (s : SetTurns) (d : Dialect) (stamp : Stamp) (told : Account) 
 
 -- what the turns of an update hold
 abbrev pub set_way : SetTurns → Dialect → Stamp → Account → Way
-set_way s d stamp told = record { knows = Knows s d stamp told; awaits = Awaits s d stamp told; yields = YieldsTo s d stamp told; tells = Reports s.outcome told }
+set_way s d stamp told = record { knows = Knows s d stamp told; awaits = Awaits s d stamp told; yields = YieldsTo s d stamp told; tells = Reports s.outcome told; lacks = WarnsFirst s.outcome told.settled }
 
 -- its changelog was read for the dialect, its items are places of the changelog, and the last row has a place of 31 bits
 pub record IsReadFor (s : SetTurns) (d : Dialect) : Type 0 where
@@ -192,10 +192,10 @@ module _ (d : Dialect) (stamp : Stamp) (seen : Catalogue) (before after : SetTur
   Where holds = (database : Database) (told : Account) → StandsFor d seen database → ArePlanned before.next (sets_left before) (item ∷ reverse before.items) before.last database.rows
       → Leads before.outcome (to_settle before d stamp told (contents_of database)) told.settled → before.outcome.printed ++ to_print before d stamp told (contents_of database) ≡ told.printed → holds (contents_of database) told
 
-  -- The turn of its changeset is entered, or it has none and the next may come; the calls to come stay the same. Or it halts the command.
+  -- The turn of its changeset is entered, or it has none and the next may come; the calls to come stay the same. Or it halts the command; or there is no memory for it.
   abbrev pub CameTo : Tried → Type 0
   CameTo (Entered hand) = IsTurn d hand × Where (λ c told. (rest_at d any_meaning stamp (between (OfSets (sets_left before))) c ≡ rest_at d any_meaning stamp (place_of hand (OfSets (sets_left after))) c)
       × Expects d (set_way after d stamp told) hand.goes_on (calls_left hand) no_progress (c, c))
   CameTo Skipped = Where (λ c told. (rest_at d any_meaning stamp (between (OfSets (sets_left before))) c ≡ rest_at d any_meaning stamp (between (OfSets (sets_left after))) c) × Knows after d stamp told c)
   CameTo Halted = Where (λ c told. (rest_at d any_meaning stamp (between (OfSets (sets_left before))) c ≡ closing ∷ []) × Reports after.outcome told None)
-  CameTo Lack = Unit {0}
+  CameTo Lack = Where (λ c told. WarnsFirst after.outcome told.settled)

@@ -1,5 +1,5 @@
 ghost use Rattle.std.specs.List.{list_all};
-ghost use Rattle.std.specs.Prelude.{◌≡◌, ◌≤◌, ◌<◌, ◌+◌, ◌++◌, [], IfOk, List, None, length, reverse, true};
+ghost use Rattle.std.specs.Prelude.{◌≡◌, ◌≤◌, ◌<◌, ◌+◌, ◌++◌, [], IfOk, List, None, OnErr, length, reverse, true};
 ghost use Rattle.lq_base.specs.declared.run.Printed.{Printed as Shown};
 ghost use Rattle.lq_expr.specs.declared.options.Options.{Options as Given};
 ghost use Rattle.lq_kinds.specs.AnyChange.{is_for};
@@ -210,6 +210,7 @@ fn choose<K: Look>(
         → StandsFor dialect (K.catalogue look.now) database
         → made ≡ choice_of (view options set.now) (contents_of database) (Some what)) }
     ensures told { IfOk result (λ made. outcome.new ≡ told_by set.now.identity made outcome.old) }
+    ensures unwarned { OnErr result (outcome.new.warned ≡ outcome.old.warned) }
 {
     let choice = seen_choice(alloc, what, set, dialect, look)?;
     tell(alloc, &set.identity, choice, outcome)?;

@@ -85,16 +85,17 @@ pub fn kinds_agree(
         ≡ same_kinds (map (λ n. kind_of n own.now) names.now)
         (map (λ n. kind_of n others.now) targets.now) }
 {
-    let [name, names @ ..] = names else {
-        return are_none(targets);
-    };
-    let [target, targets @ ..] = targets else {
-        return false;
-    };
-    if !same_kind(own.kind(name), others.kind(target)) {
-        return false;
+    let mut left = targets;
+    for name in names {
+        let Some((target, after)) = left.split_first() else {
+            return false;
+        };
+        if !same_kind(own.kind(name), others.kind(target)) {
+            return false;
+        }
+        left = after;
     }
-    kinds_agree(own, names, others, targets)
+    are_none(left)
 }
 
 /// The same of columns of one table.
@@ -103,16 +104,17 @@ pub fn own_kinds_agree(own: &Columns<'_>, names: &[Name], targets: &[Name]) -> b
         ≡ same_kinds (map (λ n. kind_of n own.now) names.now)
         (map (λ n. kind_of n own.now) targets.now) }
 {
-    let [name, names @ ..] = names else {
-        return are_none(targets);
-    };
-    let [target, targets @ ..] = targets else {
-        return false;
-    };
-    if !same_kind(own.kind(name), own.kind(target)) {
-        return false;
+    let mut left = targets;
+    for name in names {
+        let Some((target, after)) = left.split_first() else {
+            return false;
+        };
+        if !same_kind(own.kind(name), own.kind(target)) {
+            return false;
+        }
+        left = after;
     }
-    own_kinds_agree(own, names, targets)
+    are_none(left)
 }
 
 #[tactic(auto, using(crate::proofs::KindLemmas::kinds_none, crate::proofs::KindLemmas::kinds_more, crate::proofs::KindLemmas::kinds_all))]

@@ -2,3 +2,5 @@ pub mod Given
 pub mod Listings
 pub mod Sources
 pub mod Steps
+pub mod StillSmall
+pub mod Keeps

@@ -15,7 +15,7 @@ use Rattle.lq_sources.specs.declared.item.Item.{Item}
 use Rattle.lq_sources.specs.declared.item.Item.TheVariants.{Include, IncludeAll, Other, Property as PropertyItem}
 use Rattle.lq_sources.specs.declared.item.Property.{Property}
 
-abbrev listed : Option (List Node) → Found (List Node)
+abbrev pub listed : Option (List Node) → Found (List Node)
 listed None = Err (Bad [])
 listed (Some ns) = Ok ns
 
@@ -32,7 +32,7 @@ abbrev one_entry : List (List ℕ × Node) → Option (List ℕ × Node)
 one_entry (e ∷ []) = Some e
 one_entry _ = None
 
-abbrev entry_in : Option (List (List ℕ × Node)) → Option (List ℕ × Node)
+abbrev pub entry_in : Option (List (List ℕ × Node)) → Option (List ℕ × Node)
 entry_in None = None
 entry_in (Some es) = one_entry es
 

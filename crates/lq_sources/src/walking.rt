@@ -289,7 +289,9 @@ pub fn walk<F: Files, G: Gather>(
 {
     test_name(alloc, root)?;
     let mut reading = Reading::new(alloc, given)?;
-    match read_root(alloc, gather, files, root, &mut reading, gathered) {
+    let result = read_root(alloc, gather, files, root, &mut reading, gathered);
+    drop(reading);
+    match result {
         Ok(()) => Ok(()),
         Err(fault) => Err(fault),
     }

@@ -1,3 +1,4 @@
 pub mod Files
 pub mod Pushed
 pub mod Worked
+pub mod Small

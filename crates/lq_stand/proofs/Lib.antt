@@ -5,5 +5,4 @@ pub mod FirstRows
 pub mod Places
 pub mod StaysApart
 pub mod StaysClean
-pub mod StaysGood
 pub mod Unnamed

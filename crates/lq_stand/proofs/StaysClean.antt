@@ -7,6 +7,7 @@ use Rattle.lq_base.specs.declared.tracking.Tracked.{Tracked}
 use Rattle.lq_model.proofs.Lists.{and_left, and_right, and_true}
 use Rattle.lq_model.specs.Catalogue.{Catalogue}
 use Rattle.lq_model.specs.Script.{if_any}
+use Rattle.lq_model.specs.Sound.{IsSound}
 use Rattle.lq_model.specs.Step.{step}
 use Rattle.lq_model.specs.declared.caller.By.TheVariants.{User}
 use Rattle.lq_model.specs.declared.statement.Statement.{Statement}
@@ -49,6 +50,11 @@ clean_is_found d c database stands clean = ap (is_clean_database d) stands.is �
 pub record IsFine (x : Database) : Type 0 where
   pub unnamed : names_tracking x.users ≡ false
   pub differ : has_twin_rows x.rows ≡ false
+
+-- and whose users' objects are sound
+pub record IsGood (d : Dialect) (x : Database) : Type 0 where
+  pub fine : IsFine x
+  pub sound : IsSound d x.users
 
 users_fine : (d : Dialect) (s : Statement) (x now : Database) → done d (Users s) x ≡ Ok now → IsFine x → IsFine now
 users_fine d s x now is fine = by (step User d s x.users) refl is where

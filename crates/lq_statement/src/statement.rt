@@ -53,5 +53,5 @@ pub fn parse(alloc: Global, dialect: Dialect, text: &str) -> Result<Statement, P
     ensures { Gives (statement_in dialect text.now) result }
 {
     let words = words(alloc, dialect, text.as_bytes())?;
-    whole_statement(alloc, dialect, &mut Words::new(words.as_slice()))
+    whole_statement(alloc, dialect, &mut Words::new(&words))
 }

@@ -1,6 +1,9 @@
 -- What each call of a store may answer, and what it leaves.
-use Rattle.std.specs.Prelude.{◌≡◌, ◌≤◌, List, None, Some, Result, Ok, Err, [], false, true, ℕ, ◌++◌}
+use Rattle.std.specs.List.{last_or}
+use Rattle.std.specs.Prelude.{◌≡◌, ◌≤◌, Bool, IfSome, List, None, Some, Result, Ok, Err, [], ◌∷◌, false, map, suc, true, unwrap_or, zero, ℕ, ◌++◌}
 use Rattle.std.specs.Option.{option_map}
+use Rattle.lq_codec.specs.Database.{bytes_of}
+use Rattle.lq_model.specs.Catalogue.{Catalogue}
 use Rattle.lq_model.specs.declared.caller.By.{By}
 use Rattle.lq_model.specs.declared.caller.ByText.{ByText}
 use Rattle.lq_model.specs.declared.caller.Room.{Room}
@@ -9,7 +12,8 @@ use Rattle.lq_model.specs.declared.fault.StoreFault.{StoreFault}
 use Rattle.lq_model.specs.declared.fault.StoreFault.TheVariants.{Refused, NotSql, Busy, Disk, Full, OutOfMemory}
 use Rattle.lq_outside.specs.Count.{Rose}
 use Rattle.lq_store.specs.Journal.{Entry, IsFrontOf, end_of, is_full, size_of_all}
-use Rattle.lq_store.specs.State.{State, other}
+use Rattle.lq_store.specs.Journal.Entry.{Stated, Texts}
+use Rattle.lq_store.specs.State.{State, other, with_entries}
 use Rattle.lq_store.specs.Work.{End, Outcome, Work, closed, committed, kept_open, outcome, outcome_all, work_of, work_in}
 use Rattle.lq_store.specs.Work.End.{Ran, Stopped, NoStatement}
 
@@ -86,3 +90,24 @@ MayAlone session texts room x result y = (other session x ≡ None) × MayEnd ro
 pub record CountsDisk {T : Type 0} (result : Result T StoreFault) (before now : ℕ) : Type 0 where
   pub later : before ≤ now
   pub rose : result ≡ Err Disk → Rose before now
+
+abbrev pub is_of_texts : Entry → Bool
+is_of_texts (Texts texts) = true
+is_of_texts (Stated bytes) = false
+
+-- a transaction stands behind the last state, or there is no state and a transaction
+abbrev pub ends_in_texts : List Entry → Bool
+ends_in_texts entries = unwrap_or (last_or None (map is_of_texts entries)) false
+
+-- the entry of a state
+abbrev pub stated : Catalogue → List Entry
+stated c = Stated (bytes_of c) ∷ []
+
+-- A snapshot: one entry more, of the committed catalogue, and its size, where a transaction stands behind the last state; else nothing, and 0.
+abbrev pub MaySnapshot : State → Result ℕ StoreFault → State → Type 0
+MaySnapshot x (Ok zero) y = IfSome x.entries (λ there. ends_in_texts there ≡ false) × (y ≡ x)
+MaySnapshot x (Ok (suc n)) y = IfSome x.entries (λ there. ends_in_texts there ≡ true) × ((suc n ≡ size_of_all (stated x.committed)) × (HasRoom Ordinary (stated x.committed) x × (y ≡ with_entries (stated x.committed) x)))
+MaySnapshot x (Err Disk) y = Fails (stated x.committed) x y
+MaySnapshot x (Err (Full used next)) y = IsFull Ordinary (stated x.committed) x used next × (y ≡ x)
+MaySnapshot x (Err OutOfMemory) y = y ≡ x
+MaySnapshot x (Err _) y = ⊥

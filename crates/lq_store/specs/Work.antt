@@ -10,7 +10,8 @@ use Rattle.lq_model.specs.Step.{step}
 use Rattle.lq_model.specs.declared.caller.By.{By}
 use Rattle.lq_model.specs.declared.caller.ByText.{ByText}
 use Rattle.lq_model.specs.declared.statement.Statement.{Statement}
-use Rattle.lq_store.specs.Journal.{Entry}
+use Rattle.lq_store.specs.Journal.{Entry, of_texts}
+use Rattle.lq_store.specs.Journal.Entry.{Texts}
 use Rattle.lq_store.specs.State.{State, Transaction, with_entries}
 
 pub record Work : Type 0 where
@@ -24,11 +25,11 @@ pub record Work : Type 0 where
 
 -- the transaction's texts are an entry; it stays open, and has none left
 abbrev pub committed : Work → Work
-committed w = record { written = w.written ++ if_any w.texts; committed = w.now; now = w.now; texts = [] }
+committed w = record { written = w.written ++ of_texts (if_any w.texts); committed = w.now; now = w.now; texts = [] }
 
 -- after a statement that was accepted
 abbrev pub taken : Bool → List ℕ → Catalogue → Work → Work
-taken true text c w = record { written = w.written ++ if_any w.texts ++ (text ∷ []) ∷ []; committed = c; now = c; texts = [] }
+taken true text c w = record { written = w.written ++ of_texts (if_any w.texts) ++ Texts (text ∷ []) ∷ []; committed = c; now = c; texts = [] }
 taken false text c w = record w { now = c; texts = w.texts ++ text ∷ [] }
 
 -- after one that was refused

@@ -20,3 +20,23 @@ impl From<NoMemory> for RunFault {
         RunFault::OutOfMemory
     }
 }
+
+/// Why bytes were not read as a database.
+#[derive(Clone, Copy, Debug, PartialEq, Eq, Error)]
+pub enum SnapFault {
+    #[error("not a snapshot")]
+    NotSnapshot,
+    #[error("out of memory")]
+    OutOfMemory,
+}
+
+impl From<NoMemory> for SnapFault {
+    ghost use Rattle.std.specs.Prelude.{◌≡◌};
+    ghost use Rattle.lq_store.specs.declared.fault.SnapFault.TheVariants.{OutOfMemory};
+
+    ghost from_gives = { λ _ fault. fault ≡ OutOfMemory };
+
+    fn from(_: NoMemory) -> SnapFault {
+        SnapFault::OutOfMemory
+    }
+}

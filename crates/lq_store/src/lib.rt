@@ -4,8 +4,10 @@
 
 mod executor;
 mod fault;
+mod states;
 mod store;
 
 pub use executor::Executor;
-pub use fault::RunFault;
+pub use fault::{RunFault, SnapFault};
+pub use states::States;
 pub use store::Store;

@@ -29,16 +29,17 @@ pub struct Aim {
 fn same_names(a: &[Name], b: &[Name]) -> bool
     ensures { result ≡ same_names a.now b.now }
 {
-    let [x, a @ ..] = a else {
-        return are_none(b);
-    };
-    let [y, b @ ..] = b else {
-        return false;
-    };
-    if *x != *y {
-        return false;
+    let mut left = b;
+    for x in a {
+        let Some((y, after)) = left.split_first() else {
+            return false;
+        };
+        if *x != *y {
+            return false;
+        }
+        left = after;
     }
-    same_names(a, b)
+    are_none(left)
 }
 
 fn are_none(names: &[Name]) -> bool

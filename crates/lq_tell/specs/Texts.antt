@@ -1,10 +1,10 @@
 -- How a command ends, and when it writes a text to its output.
-use Rattle.std.specs.Prelude.{Bool, Err, List, None, Ok, Option, Result, Some, [], false, true, ℕ, ◌≡◌, ◌⊎◌}
+use Rattle.std.specs.Prelude.{Bool, Err, List, None, Ok, Option, Result, Some, [], false, is_some, true, ℕ, ◌≡◌, ◌⊎◌}
 use Rattle.lq_tell.specs.declared.done.Done.{Done}
 use Rattle.lq_tell.specs.declared.status.Status.{Status}
 use Rattle.lq_tell.specs.declared.status.Status.TheVariants as status
 
--- the work was done, or it halted or was refused in the run
+-- the work was done, or a changeset halted it or was refused in the run; the changelog's own precondition halts before it
 abbrev pub has_output : Status → Bool
 has_output status.Done = true
 has_output status.Usage = false
@@ -12,7 +12,7 @@ has_output status.ReadFault = false
 has_output (status.Changelog fault) = false
 has_output (status.Invalid faults) = false
 has_output (status.Locked lock) = false
-has_output (status.Halted place why) = true
+has_output (status.Halted of why) = is_some of
 has_output (status.Refused identity statement kept reason) = true
 has_output status.NoTarget = false
 has_output (status.NotReversible identity) = false

@@ -66,7 +66,8 @@ impl Status {
         ensures { result ≡ has_output self.now }
     {
         match self {
-            Status::Done | Status::Halted { .. } | Status::Refused { .. } => true,
+            Status::Done | Status::Refused { .. } => true,
+            Status::Halted { identity, .. } => identity.is_some(),
             _ => false,
         }
     }

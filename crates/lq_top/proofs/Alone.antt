@@ -1,9 +1,10 @@
 -- A command by itself is the one runner of a machine.
 use Rattle.std.proofs.Common.{ap, append-nil, inl, inr, refl, subst, sym, ◌∙◌}
 use Rattle.std.specs.Option.{option_map}
-use Rattle.std.specs.Prelude.{IfSome, List, None, Option, Some, [], false, is_some, true, ℕ, ◌+◌, ◌++◌, ◌∷◌, ◌≡◌, ◌≤◌, ◌⊎◌}
+use Rattle.std.specs.Prelude.{Bool, IfSome, List, None, Option, Some, [], false, if◌then◌else◌, is_some, true, ℕ, ◌&&◌, ◌+◌, ◌++◌, ◌∷◌, ◌≡◌, ◌≤◌, ◌⊎◌}
 use Rattle.lq_base.specs.declared.command.Command.{Command}
 use Rattle.lq_base.specs.declared.dialect.Dialect.{Dialect}
+use Rattle.lq_base.specs.declared.tracking.Lock.{Lock}
 use Rattle.lq_cli.specs.declared.line.Job.{Job}
 use Rattle.lq_cli.specs.declared.line.Job.TheVariants.{Run}
 use Rattle.lq_commands.specs.Refusals.{refusal}
@@ -17,16 +18,20 @@ use Rattle.lq_kinds.specs.declared.any_change.AnyChange.{AnyChange}
 use Rattle.lq_model.specs.declared.caller.Room.{Room}
 use Rattle.lq_playing.specs.Checked.{Work}
 use Rattle.lq_players.specs.Drilling.{works}
+use Rattle.lq_players.specs.Reports.{report_of}
+use Rattle.lq_players.specs.Tasks.{refuses}
+use Rattle.lq_playing.specs.Came.{as_busy, as_locked, came, only}
+use Rattle.lq_playing.specs.declared.came.Came.{Came}
 use Rattle.lq_run.specs.Stands.{HadRoom as HadRoomAlone, entries_of, room_of_entry}
 use Rattle.lq_store.specs.Journal.{Entry, end_of, size_of_all}
 use Rattle.lq_tell.specs.declared.status.Status.{Status}
 use Rattle.lq_tell.specs.declared.status.Status.TheVariants as status
 use Rattle.lq_track.specs.Database.{Database}
-use Rattle.lq_turns.specs.Jobs.{Task}
+use Rattle.lq_turns.specs.Jobs.{Task, needs_lock}
 use Rattle.lq_turns.specs.Session.{all_called, session_on}
 use Rattle.lq_turns.specs.Stops.{Journal}
 use Rattle.lq_turns.specs.declared.answer.Answer.{Answer}
-use Rattle.lq_turns.specs.declared.answer.Answer.TheVariants.{Busy, Locked}
+use Rattle.lq_turns.specs.declared.answer.Answer.TheVariants.{Locked}
 use Rattle.lq_turns.specs.declared.call.Call.{Call}
 use Rattle.lq_turns.specs.declared.deed.Deed.{Deed}
 use Rattle.lq_turns.specs.declared.deed.Deed.TheVariants.{Locks}
@@ -71,6 +76,11 @@ outside_not_over s (inl read) = ap is_over read
 outside_not_over s (inr (inl disk)) = ap is_over disk
 outside_not_over s (inr (inr memory)) = ap is_over memory
 
+-- what its checks come to is an answer alone
+first_only : (held : Bool) (lock : Lock) (a : Option Answer) → (if held then Some (as_locked lock) else option_map only a) ≡ option_map only (if held then Some (Locked lock) else a)
+first_only true lock a = refl
+first_only false lock a = refl
+
 -- the journal that a stop left, as a front and what frees the lock
 abbrev Cut : Journal → Journal → Type 0
 Cut front written = (tail : Journal) × ((tail ≡ []) ⊎ (tail ≡ freed)) × (written ≡ front ++ tail)
@@ -92,10 +102,10 @@ module _ (d : Dialect) (task : Task AnyChange) (database : Database) (before : O
   abbrev jobs : ℕ → Work
   jobs = works d (λ n. task)
 
-  abbrev Makes : List Call → Answer → Type 0
-  Makes calls a = Follows Answer Locked Busy d jobs database calls a
+  abbrev Makes : List Call → Came → Type 0
+  Makes calls a = Follows Came as_locked as_busy d jobs database calls a
 
-  answered : (calls : List Call) (a : Answer) → Makes calls a → EndsWith a s → Becomes d calls database before after → HadRoomOn d calls database before → HasAnswered d task database before s after
+  answered : (calls : List Call) (a : Came) → Makes calls a → EndsWith a.answer s → Becomes d calls database before after → HadRoomOn d calls database before → HasAnswered d task database before s after
   answered calls a made ends becomes room = record {
     steps = made.steps;
     said = a;
@@ -109,7 +119,7 @@ module _ (d : Dialect) (task : Task AnyChange) (database : Database) (before : O
     };
   }
 
-  cut_short : (calls : List Call) (a : Answer) → Makes calls a → IsCutShort s → IsLeftOn d calls database before after → WasCutShort d task database before s after
+  cut_short : (calls : List Call) (a : Came) → Makes calls a → IsCutShort s → IsLeftOn d calls database before after → WasCutShort d task database before s after
   cut_short calls a made cause left =
       let it : Cut left.stops.front left.written = cut_of left.stops.front left.written left.stops.is in
       record {
@@ -131,23 +141,27 @@ module _ (c : Command) (given : Given) (database : Database) (before : Option (L
   abbrev its_jobs : ℕ → Work
   its_jobs = works given.options.dialect (λ n. task_of given c)
 
-  abbrev MakesIts : List Call → Answer → Type 0
-  MakesIts calls a = Follows Answer Locked Busy given.options.dialect its_jobs database calls a
+  abbrev MakesIts : List Call → Came → Type 0
+  MakesIts calls a = Follows Came as_locked as_busy given.options.dialect its_jobs database calls a
+
+  -- what it comes to that makes its calls
+  abbrev last_came : Came
+  last_came = came (report_of false given.options.dialect (task_of given c) database) (last_answer given database c)
 
   -- its checks refuse it, and the file is as it was
 
-  refused_goes : (a : Answer) → MakesIts [] a → after ≡ before → (s ≡ status_of a) ⊎ IsOutside s → Goes
-  refused_goes a made same (inl is) = inl (answered given.options.dialect (task_of given c) database before s after [] a made (inl is) (becomes_same given.options.dialect database before after opens same) (no_room given.options.dialect database before))
-  refused_goes a made same (inr out) = inr (cut_short given.options.dialect (task_of given c) database before s after [] a made (inl out) (left_same given.options.dialect [] database before after opens same))
+  refused_goes : (a : Answer) → MakesIts [] (only a) → after ≡ before → (s ≡ status_of a) ⊎ IsOutside s → Goes
+  refused_goes a made same (inl is) = inl (answered given.options.dialect (task_of given c) database before s after [] (only a) made (inl is) (becomes_same given.options.dialect database before after opens same) (no_room given.options.dialect database before))
+  refused_goes a made same (inr out) = inr (cut_short given.options.dialect (task_of given c) database before s after [] (only a) made (inl out) (left_same given.options.dialect [] database before after opens same))
 
   -- or it makes its calls
 
-  module _ (passes : refusal c given database ≡ None) (made : MakesIts (script c given database) (last_answer given database c)) where
+  module _ (passes : refusal c given database ≡ None) (made : MakesIts (script c given database) last_came) where
     cut_goes : IsCutShort s → is_over s ≡ false → Goes
-    cut_goes cause stopped = inr (cut_short given.options.dialect (task_of given c) database before s after (script c given database) (last_answer given database c) made cause (ran.left stopped))
+    cut_goes cause stopped = inr (cut_short given.options.dialect (task_of given c) database before s after (script c given database) last_came made cause (ran.left stopped))
 
     over_goes : EndsWith (last_answer given database c) s → is_over s ≡ true → Goes
-    over_goes ends over = inl (answered given.options.dialect (task_of given c) database before s after (script c given database) (last_answer given database c) made ends (ran.works over) (ran.room passes over))
+    over_goes ends over = inl (answered given.options.dialect (task_of given c) database before s after (script c given database) last_came made ends (ran.works over) (ran.room passes over))
 
     end_goes : ((is_finished s ≡ true) × (is_over s ≡ true)) ⊎ ((s ≡ status.WriteFault) ⊎ ((used : ℕ) × (next : ℕ) × (s ≡ status.Full used next))) → Goes
     end_goes (inl both) = over_goes (inl (status_said given database c s out written (says both.0))) both.1
@@ -161,11 +175,11 @@ module _ (c : Command) (given : Given) (database : Database) (before : Option (L
   by_checks : (o : Option Answer) → checked_of given database c ≡ o → Goes
   by_checks (Some a) is =
       let refusal_is : refusal c given database ≡ Some (status_of a) = refusal_told given database c ∙ ap (option_map status_of) is in
-      refused_goes a (refused Answer Locked Busy given.options.dialect its_jobs database a is) (ran.refused (ap is_some refusal_is)) (subst (λ (o : Option Status). EndsBy o s) refusal_is ran.ends)
+      refused_goes a (refused Came as_locked as_busy given.options.dialect its_jobs database (only a) (first_only (needs_lock c && database.lock.locked) database.lock (refuses given.options.dialect (task_of given c) database) ∙ ap (option_map only) is)) (ran.refused (ap is_some refusal_is)) (subst (λ (o : Option Status). EndsBy o s) refusal_is ran.ends)
   by_checks None is =
       let refusal_is : refusal c given database ≡ None = refusal_told given database c ∙ ap (option_map status_of) is in
       made_goes refusal_is
-      (subst (λ (calls : List Call). MakesIts calls (last_answer given database c)) (calls_same given database c) (follows Answer Locked Busy given.options.dialect its_jobs database is))
+      (subst (λ (calls : List Call). MakesIts calls last_came) (calls_same given database c) (follows Came as_locked as_busy given.options.dialect its_jobs database (first_only (needs_lock c && database.lock.locked) database.lock (refuses given.options.dialect (task_of given c) database) ∙ ap (option_map only) is)))
       (subst (λ (o : Option Status). EndsBy o s) refusal_is ran.ends)
 
   goes : Goes

@@ -3,14 +3,15 @@ use Rattle.std.proofs.Common.{ap, arith, inl, inr, refl, sym, ◌∙◌}
 use Rattle.std.specs.Option.{option_map}
 use Rattle.std.specs.Prelude.{Bool, Err, IsTrue, List, None, Ok, Option, Result, Some, [], map, slice_get, suc, true, zero, ℕ, ◌++◌, ◌∷◌, ◌≡◌, ◌≤◌, ◌⊎◌}
 use Rattle.lq_base.specs.declared.dialect.Dialect.{Dialect}
-use Rattle.lq_entries.specs.Log.{crashes_in, entries_in, texts_of}
+use Rattle.lq_entries.specs.Log.{crashes_in, entries_in, if_undamaged}
 use Rattle.lq_drill.specs.Drill.{HasFaulted as PlayerFaulted, LeftInDrill}
 use Rattle.lq_drill.specs.Faults.{Comes, FreesEarly}
 use Rattle.lq_drill.specs.Shows.{entries_of}
 use Rattle.lq_frames.specs.Journal.{journal_of}
 use Rattle.lq_kinds.specs.declared.any_change.AnyChange.{AnyChange}
 use Rattle.lq_outside.specs.Crash.{Crashes as DiskCrashes, IsSound, LeavesOnly}
-use Rattle.lq_playing.specs.Answers.{failure_of}
+use Rattle.lq_playing.specs.Came.{as_busy, as_failed, as_locked}
+use Rattle.lq_playing.specs.declared.came.Came.{Came}
 use Rattle.lq_players.specs.AnyCommand.{command_stands}
 use Rattle.lq_players.specs.Drilling.{works}
 use Rattle.lq_players.specs.declared.any_command.AnyCommand.{AnyCommand}
@@ -23,8 +24,6 @@ use Rattle.lq_tell.specs.declared.status.Status.TheVariants as status
 use Rattle.lq_track.specs.Database.{Database}
 use Rattle.lq_turns.specs.Jobs.{Task}
 use Rattle.lq_turns.specs.Schedule.{start}
-use Rattle.lq_turns.specs.declared.answer.Answer.{Answer}
-use Rattle.lq_turns.specs.declared.answer.Answer.TheVariants as answer
 use Rattle.lq_top.proofs.DrillCame.{comes_met, early_release}
 use Rattle.lq_top.specs.Bytes.{most_bytes}
 use Rattle.lq_top.specs.Drilled.{CameTo, Commands, CrashesTo, Drills, HasFaulted, IsIdle, IsLeftInDrill, ReleasesEarly, Went}
@@ -56,18 +55,18 @@ fault_shown players n met = (met.place, met.number, placed (λ (p : AnyCommand).
 -- what the journal's crashes leave the file's leave
 module _ (d : Dialect) (tasks : ℕ → Task AnyChange) (steps : List ℕ) (database : Database) (last : List AnyCommand) (x : State) (told : Option (List ℕ)) where
   abbrev pub LeftBy : List Entry → List Entry → Type 0
-  LeftBy there left = LeftInDrill command_stands (works d tasks) (record x { dialect = d }) database failure_of steps last there left
+  LeftBy there left = LeftInDrill command_stands (works d tasks) (record x { dialect = d }) database as_failed steps last there left
 
   abbrev pub LeftOn : Option (List ℕ) → Type 0
   LeftOn file = IsLeftInDrill d tasks steps database (faults_in last) told file
 
   abbrev first : Commands
-  first = start Answer answer.Locked answer.Busy database
+  first = start Came as_locked as_busy database
 
-  pub came_to : (front : List ℕ) (now : Commands) → Comes failure_of d (works d tasks) (PlayerFaulted command_stands last) front first now → CameTo d tasks steps database (faults_in last) told front now
+  pub came_to : (front : List ℕ) (now : Commands) → Comes as_failed d (works d tasks) (PlayerFaulted command_stands last) front first now → CameTo d tasks steps database (faults_in last) told front now
   came_to front now came = comes_met d tasks (PlayerFaulted command_stands last) (HasFaulted (faults_in last)) (fault_shown last) front first now came
 
-  releases_early : (front : List ℕ) (now : Commands) → FreesEarly failure_of d (works d tasks) (PlayerFaulted command_stands last) front first now → ReleasesEarly d tasks steps database (faults_in last) told front now
+  releases_early : (front : List ℕ) (now : Commands) → FreesEarly as_failed d (works d tasks) (PlayerFaulted command_stands last) front first now → ReleasesEarly d tasks steps database (faults_in last) told front now
   releases_early front now early = record {
     frees = record {
       before = early.before;
@@ -105,7 +104,7 @@ module _ (d : Dialect) (tasks : ℕ → Task AnyChange) (steps : List ℕ) (data
     crashes_on before now since = record {
       honest = since.honest;
       later = since.later;
-      each = λ honest t bytes le left. elim (since.each honest t (texts_of (journal_of d most_bytes bytes)) le (bytes, left, refl)) [
+      each = λ honest t bytes le left. elim (since.each honest t (if_undamaged (journal_of d most_bytes bytes)) le (bytes, left, refl)) [
         | inl was ↦ inl (was.0, was.1, sym was.2)
         | inr is ↦ inr (left_there is.0 (Some bytes) is.1 is.2)
       ];
@@ -145,6 +144,7 @@ module _ (told : Option (List ℕ)) (a : DiskCrashes) (sound : IsSound told a) (
       met = went.met;
       crash = λ tasks own database opens. crashes_after d (IsLeftInDrill d tasks drill.steps database went.faulted told) c (went.crash tasks own database opens);
       left = went.left;
+      opens = went.opens;
     }
 
     idle_after : IsIdle d told now b c → IsIdle d told now a c

@@ -28,14 +28,15 @@ use Rattle.lq_journal.specs.declared.fault.LoadFault.TheVariants as load
 use Rattle.lq_kinds.specs.declared.any_change.AnyChange.{AnyChange}
 use Rattle.lq_outside.specs.Count.{Rose}
 use Rattle.lq_outside.specs.Crash.{Crashes as DiskCrashes, IsSound, LeavesOnly}
-use Rattle.lq_playing.specs.Answers.{failure_of}
+use Rattle.lq_playing.specs.Came.{as_busy, as_failed, as_locked}
+use Rattle.lq_playing.specs.declared.came.Came.{Came}
 use Rattle.lq_players.specs.AnyCommand.{command_stands}
 use Rattle.lq_players.specs.Drilling.{BeginInTurn, HaveTasks, works}
 use Rattle.lq_players.specs.declared.any_command.AnyCommand.{AnyCommand}
 use Rattle.lq_report.specs.Output.{drill_text}
 use Rattle.lq_run.specs.Commands.{HasDatabase}
-use Rattle.lq_stand.proofs.StaysClean.{clean_of, fine_of}
-use Rattle.lq_stand.proofs.StaysGood.{IsGood}
+use Rattle.lq_stand.proofs.StaysClean.{IsGood, clean_of}
+use Rattle.lq_statement.specs.Laws.{StatementsReadBack}
 use Rattle.lq_store.specs.Crashes.{CrashesLeave, Since}
 use Rattle.lq_store.specs.Executor.{Held, kept}
 use Rattle.lq_store.specs.Journal.{Entry, database as catalogue_by}
@@ -48,17 +49,16 @@ use Rattle.lq_turns.specs.Held.{StandsFor}
 use Rattle.lq_turns.specs.Jobs.{Task}
 use Rattle.lq_turns.specs.Schedule.{has_begun, start}
 use Rattle.lq_turns.specs.Script.{closing}
-use Rattle.lq_turns.specs.declared.answer.Answer.{Answer}
-use Rattle.lq_turns.specs.declared.answer.Answer.TheVariants as answer
 use Rattle.lq_top.proofs.DamagedFiles.{load_spares, memory_spares, no_damage, spares_after}
 use Rattle.lq_top.proofs.DrillAnswers.{disk_failed, none_failed}
 use Rattle.lq_top.proofs.DrillCame.{falls_met, steps_met}
 use Rattle.lq_top.proofs.DrillCrashes.{LeftBy, came_to, crashes_on, crashes_read, drills_after, fault_shown, left_there, mapped, placed}
+use Rattle.lq_top.proofs.DrillFits.{AreFit, came_good, moved_good, then_good}
 use Rattle.lq_top.proofs.DrillIdle.{IsUnfilled, idle, not_begun}
+use Rattle.lq_top.proofs.DrillOpens.{left_opens}
 use Rattle.lq_top.proofs.DrillPlayed.{of_drill, played_tells}
 use Rattle.lq_top.proofs.DrillPlayers.{have_tasks}
-use Rattle.lq_top.proofs.DrillScripts.{drill_good}
-use Rattle.lq_top.proofs.DrillStays.{AreGood, all_moved_well, came_well, starts_well, then_well}
+use Rattle.lq_top.proofs.DrillScripts.{drill_fits}
 use Rattle.lq_top.proofs.OnFiles.{entries_told, entries_were, fault_tells, journal_stays, on_journal, rose_later}
 use Rattle.lq_top.proofs.OpensAgain.{holds_opens, was_clean}
 use Rattle.lq_top.proofs.Ready.{opened}
@@ -163,11 +163,11 @@ module _ {D P E : Type 0} (d p : Dialect) (told : Option (List ℕ)) (crashes : 
       }
 
     -- up to a fault, and behind it
-    module _ (ran : IsDrilledUntil command_stands (works d tasks) (record x { dialect = d }) database failure_of steps last y) (good : IsGood d ran.now.committed) where
+    module _ (ran : IsDrilledUntil command_stands (works d tasks) (record x { dialect = d }) database as_failed steps last y) (good : IsGood d ran.now.committed) where
       abbrev begin : Commands
-      begin = start Answer answer.Locked answer.Busy database
+      begin = start Came as_locked as_busy database
 
-      came_first : (ran.now ≡ machine_after d tasks database ran.taken) ⊎ FallsFirst failure_of d (works d tasks) (HasFaulted (faults_in last)) ran.taken begin ran.now
+      came_first : (ran.now ≡ machine_after d tasks database ran.taken) ⊎ FallsFirst as_failed d (works d tasks) (HasFaulted (faults_in last)) ran.taken begin ran.now
       came_first = elim ran.came [
         | inl all ↦ inl all
         | inr fell ↦ inr (falls_met d tasks (PlayerFaulted command_stands last) (HasFaulted (faults_in last)) (fault_shown last) ran.taken begin ran.now fell)
@@ -188,7 +188,7 @@ module _ {D P E : Type 0} (d p : Dialect) (told : Option (List ℕ)) (crashes : 
           one.place,
           stops.0,
           stops.2,
-          placed (λ (p : AnyCommand). (command_stands p).answer) last one.place one.player one.there ∙ ap (λ (o : Option Answer). Some o) one.answer,
+          placed (λ (p : AnyCommand). (command_stands p).answer) last one.place one.player one.there ∙ ap (λ (o : Option Came). Some o) one.answer,
           placed (λ (p : AnyCommand). (command_stands p).faulted) last one.place one.player one.there ∙ ap (λ (b : Bool). Some b) one.faulted,
         ))
       ]
@@ -210,7 +210,7 @@ module _ {D P E : Type 0} (d p : Dialect) (told : Option (List ℕ)) (crashes : 
     Left = LeftBy d tasks steps database last x told
 
     -- in the end
-    left_now : y.dialect ≡ d → y.limit ≡ x.limit → LeftAtEnd command_stands (works d tasks) (record x { dialect = d }) database failure_of steps last y → IsLeftInDrill d tasks steps database (faults_in last) told now
+    left_now : y.dialect ≡ d → y.limit ≡ x.limit → LeftAtEnd command_stands (works d tasks) (record x { dialect = d }) database as_failed steps last y → IsLeftInDrill d tasks steps database (faults_in last) told now
     left_now dialect limit ends =
         let there = entries_told d p told crashes h db is new.limit_is bytes told_is now later k left valid database has in
         let were = entries_were d p told crashes h db is new.limit_is bytes told_is now later k left valid database has in
@@ -220,23 +220,23 @@ module _ {D P E : Type 0} (d p : Dialect) (told : Option (List ℕ)) (crashes : 
 
     -- where the journal was full
     module _ (used next : ℕ) where
-      met_full : (n : ℕ) → MetAt command_stands (works d tasks) (record x { dialect = d }) database failure_of steps last n (fault.Full used next) → MetFull d tasks steps database (faults_in last) told n used next
+      met_full : (n : ℕ) → MetAt command_stands (works d tasks) (record x { dialect = d }) database as_failed steps last n (fault.Full used next) → MetFull d tasks steps database (faults_in last) told n used next
       met_full n met = record {
         front = met.front;
         rest = met.rest;
         is = met.is;
         now = met.now;
         came = came_to d tasks steps database last x told met.front met.now met.came;
-        full = on_journal d p told crashes h db is new.limit_is bytes told_is now later k left valid database has (λ limit filled. Meets failure_of d (works d tasks) filled limit n met.now (fault.Full used next)) met.meets;
+        full = on_journal d p told crashes h db is new.limit_is bytes told_is now later k left valid database has (λ limit filled. Meets as_failed d (works d tasks) filled limit n met.now (fault.Full used next)) met.meets;
       }
 
       -- how its command rests
 
       abbrev RestsHere : ℕ → Type 0
-      RestsHere n = RestsIn command_stands (works d tasks) (record x { dialect = d }) database failure_of steps last n y (fault.Full used next)
+      RestsHere n = RestsIn command_stands (works d tasks) (record x { dialect = d }) database as_failed steps last n y (fault.Full used next)
 
       abbrev Good : (n : ℕ) → RestsHere n → Type 0
-      Good n it = (to : Commands) → (to ≡ it.now) ⊎ Steps failure_of d (works d tasks) (PlayerFaulted command_stands last n) n it.now to → IsGood d to.committed
+      Good n it = (to : Commands) → (to ≡ it.now) ⊎ Steps as_failed d (works d tasks) (PlayerFaulted command_stands last n) n it.now to → IsGood d to.committed
 
       rests_full : (n : ℕ) (it : RestsHere n) → Good n it → RestsFull d tasks steps database (faults_in last) told n used next now
       rests_full n it good = record {
@@ -250,17 +250,17 @@ module _ {D P E : Type 0} (d p : Dialect) (told : Option (List ℕ)) (crashes : 
           | inr none ↦ inr (
             rests_on it.now none.0 (good it.now (inl refl)),
             on_journal d p told crashes h db is new.limit_is bytes told_is now later k left valid database has
-                (λ limit filled. (m : Meets failure_of d (works d tasks) filled limit n it.now (fault.Full used next)) × ((has_begun Answer answer.Locked answer.Busy n it.now ≡ false) ⊎ (m.cause.call ≡ closing))) none.1,
+                (λ limit filled. (m : Meets as_failed d (works d tasks) filled limit n it.now (fault.Full used next)) × ((has_begun Came as_locked as_busy n it.now ≡ false) ⊎ (m.cause.call ≡ closing))) none.1,
           )
         ];
       } where
         rests_on : (to : Commands) → Shows (record x { dialect = d }) y (shut to) → IsGood d to.committed → RestsOn d tasks steps database (faults_in last) told to now
         rests_on to shows well = (holds_machine to shows, opens_machine to shows well)
 
-      ends_full : (fails : FailsBy command_stands (works d tasks) (record x { dialect = d }) database failure_of steps last y (fault.Full used next)) → Good (suc fails.place) fails.rests → EndsFull d tasks steps database (faults_in last) told (answers_in last) now used next
+      ends_full : (fails : FailsBy command_stands (works d tasks) (record x { dialect = d }) database as_failed steps last y (fault.Full used next)) → Good (suc fails.place) fails.rests → EndsFull d tasks steps database (faults_in last) told (answers_in last) now used next
       ends_full fails good = record {
         place = fails.place;
-        answer = placed (λ (p : AnyCommand). (command_stands p).answer) last fails.place fails.player fails.there ∙ ap (λ (o : Option Answer). Some o) fails.answer;
+        answer = placed (λ (p : AnyCommand). (command_stands p).answer) last fails.place fails.player fails.there ∙ ap (λ (o : Option Came). Some o) fails.answer;
         met = met_full (suc fails.place) fails.met;
         rests = rests_full (suc fails.place) fails.rests good;
       }
@@ -279,7 +279,7 @@ module _ {D P E : Type 0} (d p : Dialect) (told : Option (List ℕ)) (crashes : 
         (subst (λ o. IfSome o (λ there. Since (Left there) (crashes_of crashes db) (crashes_of later left))) there.1 leaves)))))
 
 -- what the players did, they did on the file
-module _ {D P E : Type 0} (spelled : TurnsBackAreSpelled) (d p : Dialect) (told : Option (List ℕ)) (crashes : DiskCrashes) (h : Held) (db : Db D P E) (is : IsDb p told crashes h db) (new : IsNew d most_bytes db)
+module _ {D P E : Type 0} (spelled : TurnsBackAreSpelled) (texts : StatementsReadBack) (d p : Dialect) (told : Option (List ℕ)) (crashes : DiskCrashes) (h : Held) (db : Db D P E) (is : IsDb p told crashes h db) (new : IsNew d most_bytes db)
     (read : IfSome told (λ bytes. catalogue_of d most_bytes bytes ≡ Ok (kept h)))
     (now : Option (List ℕ)) (later : DiskCrashes) (k : Held) (left : Db D P E) (valid : IsValid p now later k left)
     (who : List ℕ) (drill : Drilling) (readings : List ℕ) (players : List AnyCommand) (commands : List Command) (are : ArePlayers d (clean who) drill.entrants readings players commands)
@@ -307,18 +307,18 @@ module _ {D P E : Type 0} (spelled : TurnsBackAreSpelled) (d p : Dialect) (told 
     ran_clean : Each command_stands HasNoFault plays.last → IsDrilled command_stands (works d tasks) moved database drill.steps plays.last final
     ran_clean none = subst (λ e. IsDrilled command_stands (works e tasks) (record origin { dialect = e }) database drill.steps plays.last final) has.dialect (plays.clean tasks database stands_there have_there none)
 
-    ran_until : IsDrilledUntil command_stands (works d tasks) moved database failure_of drill.steps plays.last final
-    ran_until = subst (λ e. IsDrilledUntil command_stands (works e tasks) (record origin { dialect = e }) database failure_of drill.steps plays.last final) has.dialect (plays.until tasks database stands_there have_there)
+    ran_until : IsDrilledUntil command_stands (works d tasks) moved database as_failed drill.steps plays.last final
+    ran_until = subst (λ e. IsDrilledUntil command_stands (works e tasks) (record origin { dialect = e }) database as_failed drill.steps plays.last final) has.dialect (plays.until tasks database stands_there have_there)
 
-    left_in : CrashesLeave origin.entries (LeftInDrill command_stands (works d tasks) moved database failure_of drill.steps plays.last) (crashes_of crashes db) (crashes_of later left)
-    left_in = subst (λ e. CrashesLeave origin.entries (LeftInDrill command_stands (works e tasks) (record origin { dialect = e }) database failure_of drill.steps plays.last) (crashes_of crashes db) (crashes_of later left)) has.dialect
+    left_in : CrashesLeave origin.entries (LeftInDrill command_stands (works d tasks) moved database as_failed drill.steps plays.last) (crashes_of crashes db) (crashes_of later left)
+    left_in = subst (λ e. CrashesLeave origin.entries (LeftInDrill command_stands (works e tasks) (record origin { dialect = e }) database as_failed drill.steps plays.last) (crashes_of crashes db) (crashes_of later left)) has.dialect
         (plays.crash tasks database stands_there have_there)
 
-    left_in_end : LeftAtEnd command_stands (works d tasks) moved database failure_of drill.steps plays.last final
-    left_in_end = subst (λ e. LeftAtEnd command_stands (works e tasks) (record origin { dialect = e }) database failure_of drill.steps plays.last final) has.dialect (plays.left tasks database stands_there have_there)
+    left_in_end : LeftAtEnd command_stands (works d tasks) moved database as_failed drill.steps plays.last final
+    left_in_end = subst (λ e. LeftAtEnd command_stands (works e tasks) (record origin { dialect = e }) database as_failed drill.steps plays.last final) has.dialect (plays.left tasks database stands_there have_there)
 
-    failed_by : (why : DrillFault) → FailsBy command_stands (works origin.dialect tasks) origin database failure_of drill.steps plays.last final why → FailsBy command_stands (works d tasks) moved database failure_of drill.steps plays.last final why
-    failed_by why fails = subst (λ e. FailsBy command_stands (works e tasks) (record origin { dialect = e }) database failure_of drill.steps plays.last final why) has.dialect fails
+    failed_by : (why : DrillFault) → FailsBy command_stands (works origin.dialect tasks) origin database as_failed drill.steps plays.last final why → FailsBy command_stands (works d tasks) moved database as_failed drill.steps plays.last final why
+    failed_by why fails = subst (λ e. FailsBy command_stands (works e tasks) (record origin { dialect = e }) database as_failed drill.steps plays.last final why) has.dialect fails
 
     -- dialect and limit stay
     stays : (final.dialect ≡ d) × (final.limit ≡ origin.limit)
@@ -333,31 +333,25 @@ module _ {D P E : Type 0} (spelled : TurnsBackAreSpelled) (d p : Dialect) (told 
 
   -- what its commands have committed is sound and clean
 
-  begins_good : (database : Database) → Opens d told database → IsGood d database
-  begins_good database opens = record { fine = fine_of d database (was_clean d told database opens); sound = opens.stands.sound }
+  are_fit : (tasks : ℕ → Task AnyChange) → AreTasks who drill.entrants readings tasks → AreFit Came as_locked as_busy as_failed d (works d tasks) drill.steps
+  are_fit tasks own = drill_fits spelled d who drill readings tasks own are.as_many.0 is_drill
 
-  are_good : (tasks : ℕ → Task AnyChange) → AreTasks who drill.entrants readings tasks → AreGood Answer answer.Locked answer.Busy failure_of d (works d tasks) drill.steps
-  are_good tasks own = drill_good spelled d who drill readings tasks own are.as_many.0 is_drill
+  machine_good : (tasks : ℕ → Task AnyChange) → AreTasks who drill.entrants readings tasks → (database : Database) → Opens d told database → IsGood d (machine_after d tasks database drill.steps).committed
+  machine_good tasks own database opens =
+      moved_good Came as_locked as_busy as_failed d (works d tasks) database opens.catalogue opens.stands (was_clean d told database opens) drill.steps (are_fit tasks own)
 
-  moved_good : (tasks : ℕ → Task AnyChange) → AreTasks who drill.entrants readings tasks → (database : Database) → Opens d told database → IsGood d (machine_after d tasks database drill.steps).committed
-  moved_good tasks own database opens =
-      (all_moved_well Answer answer.Locked answer.Busy failure_of d (works d tasks) drill.steps (start Answer answer.Locked answer.Busy database) (are_good tasks own)
-      (starts_well Answer answer.Locked answer.Busy failure_of d (works d tasks) database (begins_good database opens))).committed
-
-  came_good : (tasks : ℕ → Task AnyChange) → AreTasks who drill.entrants readings tasks → (database : Database) → Opens d told database
-      → (ran : IsDrilledUntil command_stands (works d tasks) (record origin { dialect = d }) database failure_of drill.steps plays.last final) → IsGood d ran.now.committed
-  came_good tasks own database opens ran =
-      (came_well Answer answer.Locked answer.Busy failure_of d (works d tasks) (PlayerFaulted command_stands plays.last) ran.taken ran.others (start Answer answer.Locked answer.Busy database) ran.now
-      (subst (AreGood Answer answer.Locked answer.Busy failure_of d (works d tasks)) ran.is (are_good tasks own)) ran.came
-      (starts_well Answer answer.Locked answer.Busy failure_of d (works d tasks) database (begins_good database opens))).committed
+  until_good : (tasks : ℕ → Task AnyChange) → AreTasks who drill.entrants readings tasks → (database : Database) → Opens d told database
+      → (ran : IsDrilledUntil command_stands (works d tasks) (record origin { dialect = d }) database as_failed drill.steps plays.last final) → IsGood d ran.now.committed
+  until_good tasks own database opens ran =
+      came_good Came as_locked as_busy as_failed d (works d tasks) database opens.catalogue opens.stands (was_clean d told database opens) (PlayerFaulted command_stands plays.last) ran.taken ran.others ran.now
+      (subst (AreFit Came as_locked as_busy as_failed d (works d tasks)) ran.is (are_fit tasks own)) ran.came
 
   rests_good : (tasks : ℕ → Task AnyChange) → AreTasks who drill.entrants readings tasks → (database : Database) → Opens d told database
-      → (n : ℕ) (why : DrillFault) (it : RestsIn command_stands (works d tasks) (record origin { dialect = d }) database failure_of drill.steps plays.last n final why) (to : Commands)
-      → (to ≡ it.now) ⊎ Steps failure_of d (works d tasks) (PlayerFaulted command_stands plays.last n) n it.now to → IsGood d to.committed
+      → (n : ℕ) (why : DrillFault) (it : RestsIn command_stands (works d tasks) (record origin { dialect = d }) database as_failed drill.steps plays.last n final why) (to : Commands)
+      → (to ≡ it.now) ⊎ Steps as_failed d (works d tasks) (PlayerFaulted command_stands plays.last n) n it.now to → IsGood d to.committed
   rests_good tasks own database opens n why it to step =
-      (then_well Answer answer.Locked answer.Busy failure_of d (works d tasks) (PlayerFaulted command_stands plays.last) it.front it.rest n (start Answer answer.Locked answer.Busy database) it.now to
-      (subst (AreGood Answer answer.Locked answer.Busy failure_of d (works d tasks)) it.is (are_good tasks own)) it.came step
-      (starts_well Answer answer.Locked answer.Busy failure_of d (works d tasks) database (begins_good database opens))).committed
+      then_good Came as_locked as_busy as_failed d (works d tasks) database opens.catalogue opens.stands (was_clean d told database opens) (PlayerFaulted command_stands plays.last) it.front it.rest n it.now to
+      (subst (AreFit Came as_locked as_busy as_failed d (works d tasks)) it.is (are_fit tasks own)) it.came step
 
   went_as : All IsFaultless (faults_in plays.last) → (tasks : ℕ → Task AnyChange) → AreTasks who drill.entrants readings tasks → (database : Database) → Opens d told database → GoesAs d tasks drill.steps database (answers_in plays.last) told now
   went_as faultless tasks own database opens =
@@ -366,7 +360,7 @@ module _ {D P E : Type 0} (spelled : TurnsBackAreSpelled) (d p : Dialect) (told 
       let ran = ran_clean tasks own database has none in
       record {
         file = file_holds d p told crashes h db is new opens.bytes opens.told_is now later k left valid database has tasks drill.steps plays.last ran;
-        opens = file_opens d p told crashes h db is new opens.bytes opens.told_is now later k left valid database has tasks drill.steps plays.last ran (moved_good tasks own database opens);
+        opens = file_opens d p told crashes h db is new opens.bytes opens.told_is now later k left valid database has tasks drill.steps plays.last ran (machine_good tasks own database opens);
         gave = answers_are d p told crashes h db is new opens.bytes opens.told_is now later k left valid database has tasks drill.steps plays.last ran;
         serial = λ none_releases.
             is_serial d p told crashes h db is new opens.bytes opens.told_is now later k left valid database has tasks drill.steps plays.last ran
@@ -380,13 +374,13 @@ module _ {D P E : Type 0} (spelled : TurnsBackAreSpelled) (d p : Dialect) (told 
   went_until tasks own database opens =
       let has = has_there database opens in
       let ran = ran_until tasks own database has in
-      goes_until d p told crashes h db is new opens.bytes opens.told_is now later k left valid database has tasks drill.steps plays.last ran (came_good tasks own database opens ran)
+      goes_until d p told crashes h db is new opens.bytes opens.told_is now later k left valid database has tasks drill.steps plays.last ran (until_good tasks own database opens ran)
 
-  met_at : (place : ℕ) (said : Option Answer) → slice_get (faults_in plays.last) place ≡ Some true → slice_get (answers_in plays.last) place ≡ Some said → MayAnswer answer.Locked failure_of said
+  met_at : (place : ℕ) (said : Option Came) → slice_get (faults_in plays.last) place ≡ Some true → slice_get (answers_in plays.last) place ≡ Some said → MayAnswer as_locked as_failed said
   met_at place said faulted answered =
       let it = mapped (λ (p : AnyCommand). (command_stands p).faulted) plays.last place true faulted in
       let that = mapped (λ (p : AnyCommand). (command_stands p).answer) plays.last place said answered in
-      subst (MayAnswer answer.Locked failure_of) (ap (λ (p : AnyCommand). (command_stands p).answer) (one_player it.0 that.0 (sym it.1 ∙ that.1)) ∙ sym that.2) (plays.met place it.0 it.1 (sym it.2)) where
+      subst (MayAnswer as_locked as_failed) (ap (λ (p : AnyCommand). (command_stands p).answer) (one_player it.0 that.0 (sym it.1 ∙ that.1)) ∙ sym that.2) (plays.met place it.0 it.1 (sym it.2)) where
         one_player : (a b : AnyCommand) → Some a ≡ Some b → a ≡ b
         one_player a b same = Prim.cc
 
@@ -403,7 +397,7 @@ module _ {D P E : Type 0} (spelled : TurnsBackAreSpelled) (d p : Dialect) (told 
       left_now d p told crashes h db is new opens.bytes opens.told_is now later k left valid database has tasks drill.steps plays.last same.0 same.1 (left_in_end tasks own database has)
 
   full_at : (used next : ℕ)
-      → ((tasks : ℕ → Task AnyChange) (database : Database) → StandsFor origin.dialect origin.committed database → HaveTasks origin.dialect tasks players → FailsBy command_stands (works origin.dialect tasks) origin database failure_of drill.steps plays.last final (fault.Full used next))
+      → ((tasks : ℕ → Task AnyChange) (database : Database) → StandsFor origin.dialect origin.committed database → HaveTasks origin.dialect tasks players → FailsBy command_stands (works origin.dialect tasks) origin database as_failed drill.steps plays.last final (fault.Full used next))
       → IsFull d who drill readings (faults_in plays.last) told (answers_in plays.last) now used next
   full_at used next fails tasks own database opens =
       let has = has_there database opens in
@@ -422,10 +416,11 @@ module _ {D P E : Type 0} (spelled : TurnsBackAreSpelled) (d p : Dialect) (told 
     met = met_at;
     crash = crash_at;
     left = left_at;
+    opens = λ tasks own database opens. left_opens texts d tasks drill.steps database (faults_in plays.last) told opens (are_fit tasks own);
   }
 
   drills_by : (r : Result Done Status) → Refuses is_of_play r → PlayEnds commands plays.last final r → PlayAnswers plays.last r
-      → ((tasks : ℕ → Task AnyChange) (database : Database) → StandsFor origin.dialect origin.committed database → HaveTasks origin.dialect tasks players → PlayIsFull r (FailsBy command_stands (works origin.dialect tasks) origin database failure_of drill.steps plays.last final))
+      → ((tasks : ℕ → Task AnyChange) (database : Database) → StandsFor origin.dialect origin.committed database → HaveTasks origin.dialect tasks players → PlayIsFull r (FailsBy command_stands (works origin.dialect tasks) origin database as_failed drill.steps plays.last final))
       → Drills d who drill readings told crashes r now later
   drills_by (Ok done) kind ends none full = (ends.1, (went, ends.2 ∙ ap (λ (all : List Command). Some (drill_text (drilled all (answers_in plays.last)))) are.named, none_failed plays.last none))
   drills_by (Err (status.Full used next)) kind ends answered full = (went, full_at used next full)
@@ -524,10 +519,10 @@ module _ {D : Type 0} (told : D → Option (List ℕ)) (faults : D → ℕ) (cra
     settled_after commands last (Ok done) ends = (valid.lives ends.0).whole.settled
     settled_after commands last (Err s) ends = tt
 
-    pub played_drilled : TurnsBackAreSpelled → (readings : List ℕ) (players : List AnyCommand) (commands : List Command) → ArePlayers d (clean who) drill.entrants readings players commands → IsDrill d drill → (coming after : Option (List ℕ)) → ReadInTurn coming after readings
+    pub played_drilled : TurnsBackAreSpelled → StatementsReadBack → (readings : List ℕ) (players : List AnyCommand) (commands : List Command) → ArePlayers d (clean who) drill.entrants readings players commands → IsDrill d drill → (coming after : Option (List ℕ)) → ReadInTurn coming after readings
         → (r : Result Done Status) → Plays players commands drill.steps loaded played (crashes_of (crashes (disk_in db)) db) (crashes_of (crashes (disk_in left)) left) r → faults (disk_in db) ≤ faults (disk_in left) → (r ≡ Err status.DiskFault → Rose (faults (disk_in db)) (faults (disk_in left)))
         → WorkedDrill told faults crashes d who drill coming after (disk_in db) r (disk_in left)
-    played_drilled spelled readings players commands are is_drill coming after in_turn r plays later fault = record {
+    played_drilled spelled texts readings players commands are is_drill coming after in_turn r plays later fault = record {
       used = record {
         damaged = played_tells d (told (disk_in db)) r plays.kind;
         spares = λ beside place damaged. no_damage d (told (disk_in db)) (kept h) read place damaged;
@@ -538,5 +533,5 @@ module _ {D : Type 0} (told : D → Option (List ℕ)) (faults : D → ℕ) (cra
       };
       kind = of_drill r plays.kind;
       settled = settled_after commands plays.last r plays.ends;
-      does = does spelled d p (told (disk_in db)) (crashes (disk_in db)) h db is new read (told (disk_in left)) (crashes (disk_in left)) k left valid who drill readings players commands are is_drill r plays coming after in_turn;
+      does = does spelled texts d p (told (disk_in db)) (crashes (disk_in db)) h db is new read (told (disk_in left)) (crashes (disk_in left)) k left valid who drill readings players commands are is_drill r plays coming after in_turn;
     }

@@ -2,7 +2,7 @@
 use Rattle.std.proofs.Common.{ap, refl, sym, ◌∙◌}
 use Rattle.std.specs.Prelude.{Err, List, Ok, Option, Result, false, true, ℕ, ◌≡◌}
 use Rattle.lq_cli.specs.declared.line.Job.{Job}
-use Rattle.lq_cli.specs.declared.line.Job.TheVariants.{Drill, History, RollbackSql, Run, Soak, UpdateCount, UpdateSql, UpdateTestingRollback, UpdateTo, Generate, ClearSums, UndoUnrecorded}
+use Rattle.lq_cli.specs.declared.line.Job.TheVariants.{Drill, History, RollbackSql, Run, Soak, UpdateCount, UpdateSql, UpdateTestingRollback, UpdateTo, Generate, ClearSums, UndoUnrecorded, Snapshot}
 use Rattle.lq_cli.specs.declared.line.Line.{Line}
 use Rattle.lq_expr.specs.declared.options.Options.{Options}
 use Rattle.lq_kinds.specs.declared.change_set.Changelog.{Changelog}
@@ -34,6 +34,7 @@ by_job (RollbackSql target) other drill = other refl
 by_job (Drill runs) other drill = drill runs refl
 by_job (Soak number sets) other drill = other refl
 by_job UndoUnrecorded other drill = other refl
+by_job Snapshot other drill = other refl
 
 -- what the files give them
 
@@ -53,6 +54,7 @@ other_given (RollbackSql target) source line plain = refl
 other_given (Drill runs) source line plain = absurd (true_false plain)
 other_given (Soak number sets) source line plain = refl
 other_given UndoUnrecorded source line plain = refl
+other_given Snapshot source line plain = refl
 
 -- a drill that cannot be read has the fault of its files
 
@@ -77,4 +79,5 @@ meant_same told faults crashes files meant other same job options stamp before d
   does = λ source whole g tells gives. did.does source whole g tells (same source ∙ gives);
   any_moment = λ source whole g tells gives. did.any_moment source whole g tells (same source ∙ gives);
   undone = λ source whole g tells gives. did.undone source whole g tells (same source ∙ gives);
+  snapped = λ source whole g tells gives. did.snapped source whole g tells (same source ∙ gives);
 }

@@ -92,15 +92,15 @@ no_players d name = record { as_many = (refl, refl); named = refl; starts = λ p
 
 module _ (d : Dialect) (name : List ℕ) (entrants : List Entrant) (readings : List ℕ) (players : List AnyCommand) (commands : List Command) (are : ArePlayers d name entrants readings players commands) where
   -- of three lists of one length, at one place
-  last_start : (e : Entrant) (reading : ℕ) (player : AnyCommand) → Starts d (task_by name (suc (length players)) e reading) player
-      → (place : ℕ) (f : Entrant) (r : ℕ) (p : AnyCommand) → place ≡ length entrants → f ≡ e → r ≡ reading → p ≡ player → Starts d (task_by name (suc place) f r) p
+  last_start : (e : Entrant) (reading : ℕ) (player : AnyCommand) → Starts false d (task_by name (suc (length players)) e reading) player
+      → (place : ℕ) (f : Entrant) (r : ℕ) (p : AnyCommand) → place ≡ length entrants → f ≡ e → r ≡ reading → p ≡ player → Starts false d (task_by name (suc place) f r) p
   last_start e reading player starts place f r p at same_e same_r same_p =
-      subst (λ p. Starts d (task_by name (suc place) f r) p) (sym same_p)
-      (subst (λ r. Starts d (task_by name (suc place) f r) player) (sym same_r)
-      (subst (λ f. Starts d (task_by name (suc place) f reading) player) (sym same_e)
-      (subst (λ n. Starts d (task_by name (suc n) e reading) player) (are.as_many.1 ∙ sym at) starts)))
+      subst (λ p. Starts false d (task_by name (suc place) f r) p) (sym same_p)
+      (subst (λ r. Starts false d (task_by name (suc place) f r) player) (sym same_r)
+      (subst (λ f. Starts false d (task_by name (suc place) f reading) player) (sym same_e)
+      (subst (λ n. Starts false d (task_by name (suc n) e reading) player) (are.as_many.1 ∙ sym at) starts)))
 
-  pub one_joined : (e : Entrant) (reading : ℕ) (player : AnyCommand) → Starts d (task_by name (suc (length players)) e reading) player
+  pub one_joined : (e : Entrant) (reading : ℕ) (player : AnyCommand) → Starts false d (task_by name (suc (length players)) e reading) player
       → ArePlayers d name (entrants ++ e ∷ []) (readings ++ reading ∷ []) (players ++ player ∷ []) (commands ++ e.command ∷ [])
   one_joined e reading player starts = record {
     as_many = (one_longer readings reading ∙ ap suc are.as_many.0 ∙ sym (one_longer entrants e), one_longer players player ∙ ap suc are.as_many.1 ∙ sym (one_longer entrants e));
@@ -130,7 +130,7 @@ module _ (d : Dialect) (name : List ℕ) (entrants : List Entrant) (readings : L
     pub is_entrant : slice_get entrants place ≡ Some entrant
     pub reading : ℕ
     pub is_reading : slice_get readings place ≡ Some reading
-    pub starts : Starts d (task_by name (suc place) entrant reading) player
+    pub starts : Starts false d (task_by name (suc place) entrant reading) player
 
   pub started : (place : ℕ) (player : AnyCommand) → slice_get players place ≡ Some player → Started place player
   started place player is =
@@ -156,7 +156,7 @@ module _ (d : Dialect) (name : List ℕ) (entrants : List Entrant) (readings : L
         let it = started place player is in
         let same = sym (own place it.entrant it.reading it.is_entrant it.is_reading) in
         record {
-          job = it.starts.job ∙ ap (work_of d) same;
+          job = it.starts.job ∙ ap (work_of false d) same;
           owns = subst (λ (t : Task AnyChange). (lock : Lock) → (command_stands player).owns lock → IsHeld t.stamp lock) same it.starts.owns;
           bare = ap (list_any (λ b. b == 124)) (name_is place player is) ∙ numbered_bare name (suc place) (number_small place player is) bare;
         }
@@ -189,7 +189,7 @@ module _ (d : Dialect) (name : List ℕ) (all : List Entrant) (coming now : Opti
 
   -- the next becomes one
   pub one_cast : (e : Entrant) → slice_get entrants 0 ≡ Some e → (reading : ℕ) (after : Option (List ℕ)) → IfSome now (λ answers. slice_get answers 0 ≡ Some reading) → after ≡ option_map after_first now
-      → (player : AnyCommand) → Starts d (task_by name (suc (length players)) e reading) player → Casting d name all coming after (remove entrants 0) (players ++ player ∷ []) (commands ++ e.command ∷ [])
+      → (player : AnyCommand) → Starts false d (task_by name (suc (length players)) e reading) player → Casting d name all coming after (remove entrants 0) (players ++ player ∷ []) (commands ++ e.command ∷ [])
   one_cast e is reading after first rest player starts = record {
     front = so.front ++ e ∷ [];
     is = so.is ∙ ap (λ (more : List Entrant). so.front ++ more) (first_out entrants e is) ∙ sym (append_assoc so.front (e ∷ []) (remove entrants 0));

@@ -20,11 +20,11 @@ use Rattle.lq_tell.specs.declared.status.Status.TheVariants as status
 use Rattle.lq_turns.specs.declared.stamp.Stamp.{Stamp}
 use Rattle.lq_top.proofs.DamagedFiles.{fails_so, files_tell, spares_by}
 use Rattle.lq_top.proofs.InPart.{in_vain_goes_on}
-use Rattle.lq_top.proofs.LeftOnFile.{crashes_on, since_none}
+use Rattle.lq_top.proofs.LeftOnFile.{leaves_on, none_since}
 use Rattle.lq_top.proofs.Loading.{failing, fails_anyway, fails_does, fails_in_vain, false_true, fault_given, files_damage, files_kind, is_loaded, line_kind, no_changelog_fault, no_disk_fault, no_files, not_less, not_loaded as fault_not_loaded, ok_same, some_line}
 use Rattle.lq_top.specs.Asks.{Asks, Files, asked_by, file_status, given_to}
-use Rattle.lq_top.specs.Bytes.{CrashesOn, OnFile, given_at}
-use Rattle.lq_top.specs.Jobs.{DoesJob, IsLoaded, is_on_file, job_script, misses}
+use Rattle.lq_top.specs.Bytes.{CrashLeaves, OnFile, given_at}
+use Rattle.lq_top.specs.Jobs.{DoesJob, IsLoaded, JobLeaves, is_on_file, misses}
 use Rattle.lq_top.specs.Run.{Crashes, given_by}
 use Rattle.lq_top.specs.Worked.{CrashesJob, UndoneOn, WorkedBy, WorkedOn, WorkedWith}
 
@@ -58,12 +58,13 @@ module _ {D : Type 0} (told : D → Option (List ℕ)) (faults : D → ℕ) (cra
     changelog = λ fault is. absurd (no_changelog_fault done fault did.kind is);
     not_loaded = λ source tells fault gives. is_loaded (found source tells) gives;
     missed = λ is. (λ source tells whole gives. subst (λ (h : Changelog). part_for job h ≡ None) (ok_same (sym (found source tells) ∙ gives)) (did.missed is).0, (did.missed is).1);
-    in_vain = λ source whole tells gives none. did.in_vain (subst (λ (h : Changelog). part_for job h ≡ None) (sym (ok_same (sym (found source tells) ∙ gives))) none);
+    in_vain = λ source whole tells gives none. let missed = did.in_vain (subst (λ (h : Changelog). part_for job h ≡ None) (sym (ok_same (sym (found source tells) ∙ gives))) none) in (inl missed.0, missed.1);
     does = λ source whole g tells gives is_part on database opens.
         let part = subst (λ (h : Changelog). part_for job h ≡ Some g) (sym (ok_same (sym (found source tells) ∙ gives))) is_part in
         inr (did.loaded g part, did.does g part on database opens);
     any_moment = λ source whole g tells gives is_part. did.any_moment g (subst (λ (h : Changelog). part_for job h ≡ Some g) (sym (ok_same (sym (found source tells) ∙ gives))) is_part);
     undone = λ source whole g tells gives is_part is. inr (did.undone g (subst (λ (h : Changelog). part_for job h ≡ Some g) (sym (ok_same (sym (found source tells) ∙ gives))) is_part) is);
+    snapped = λ source whole g tells gives is_part is. inr (did.snapped g (subst (λ (h : Changelog). part_for job h ≡ Some g) (sym (ok_same (sym (found source tells) ∙ gives))) is_part) is);
   }
 
   pub unloaded_worked : (f : LoadFault) → Finds files meant (Err f) → WorkedBy told faults crashes files meant job options stamp before (failing (file_status f)) before
@@ -83,8 +84,9 @@ module _ {D : Type 0} (told : D → Option (List ℕ)) (faults : D → ℕ) (cra
     missed = λ is. absurd (false_true (sym (files_aim job f) ∙ is));
     in_vain = λ source whole tells gives none. fails_in_vain files meant f finds source tells whole gives before;
     does = λ source whole g tells gives is_part. fails_does files meant f finds source tells whole gives job (given_at (asked_by options g) stamp) (told before);
-    any_moment = λ source whole g tells gives is_part on database opens. since_none options.dialect (job_script job (given_at (asked_by options g) stamp) database) database (told before) (crashes before);
+    any_moment = λ source whole g tells gives is_part on database opens. none_since options.dialect (JobLeaves job (given_at (asked_by options g) stamp) database (told before)) (crashes before);
     undone = λ source whole g tells gives is_part is. inl (fails_anyway files meant f finds source tells whole gives before);
+    snapped = λ source whole g tells gives is_part is. inl (fails_anyway files meant f finds source tells whole gives before);
   }
 
 some_part : {a b : Changelog} → (let o : Option Changelog = Some a in o) ≡ Some b → a ≡ b
@@ -106,6 +108,7 @@ module _ {D : Type 0} (told : D → Option (List ℕ)) (faults : D → ℕ) (cra
     does = λ g is_part. subst (λ (h : Changelog). is_on_file job ≡ true → OnFile options.dialect (told before) (λ database. DoesJob job (given_at (asked_by options h) stamp) database (told before) done (told after))) (some_part (sym is ∙ is_part)) did.does;
     any_moment = λ g is_part. subst (λ (h : Changelog). CrashesJob job (given_at (asked_by options h) stamp) (told before) (crashes before) (crashes after)) (some_part (sym is ∙ is_part)) did.any_moment;
     undone = λ g is_part undoes. subst (λ (h : Changelog). UndoneOn told faults crashes options h before done after) (some_part (sym is ∙ is_part)) (did.undone undoes);
+    snapped = λ g is_part snaps. did.snapped snaps;
   }
 
   -- there is none
@@ -121,11 +124,12 @@ module _ {D : Type 0} (told : D → Option (List ℕ)) (faults : D → ℕ) (cra
     };
     kind = refl;
     missed = λ missed. (none, refl);
-    in_vain = λ none. (inl refl, refl);
+    in_vain = λ none. (refl, refl);
     loaded = λ g is_part. absurd (none_part (sym none ∙ is_part));
     does = λ g is_part. absurd (none_part (sym none ∙ is_part));
     any_moment = λ g is_part. absurd (none_part (sym none ∙ is_part));
     undone = λ g is_part. absurd (none_part (sym none ∙ is_part));
+    snapped = λ g is_part. absurd (none_part (sym none ∙ is_part));
   }
     where
       target_disk : failing status.NoTarget ≡ Err status.DiskFault → ⊥
@@ -133,8 +137,8 @@ module _ {D : Type 0} (told : D → Option (List ℕ)) (faults : D → ℕ) (cra
 
 -- on each file that holds a database
 pub on_file_crashes : (job : Job) (given : Given) (told : Option (List ℕ)) (before now : DiskCrashes) → IsSound told before → CrashesJob job given told before now → is_on_file job ≡ true
-    → OnFile given.options.dialect told (λ database. CrashesOn given.options.dialect (job_script job given database) database told before now)
-on_file_crashes job given told before now sound moments on database opens = crashes_on given.options.dialect (job_script job given database) database told before sound now (moments on database opens)
+    → OnFile given.options.dialect told (λ database. CrashLeaves given.options.dialect (JobLeaves job given database told) before now)
+on_file_crashes job given told before now sound moments on database opens = leaves_on given.options.dialect (JobLeaves job given database told) told before sound now (moments on database opens)
 
 -- the words are one line
 module _ (words : List (List ℕ)) (files : Files) (line : Line) (is_line : line_of words ≡ Some line) where
@@ -152,4 +156,4 @@ pub unused_crashes : {D : Type 0} (told : D → Option (List ℕ)) (crashes : D 
 unused_crashes told crashes before after same sound asks stamp =
     subst (λ d. Crashes asks stamp (told before) (crashes before) (crashes d)) (sym same)
     (on_file_crashes asks.line.job (given_by asks stamp) (told before) (crashes before) (crashes before) sound
-    (λ on database opens. since_none asks.line.options.dialect (job_script asks.line.job (given_by asks stamp) database) database (told before) (crashes before)))
+    (λ on database opens. none_since asks.line.options.dialect (JobLeaves asks.line.job (given_by asks stamp) database (told before)) (crashes before)))

@@ -9,7 +9,7 @@ use Rattle.lq_base.specs.declared.command.Command.TheVariants as command
 use Rattle.lq_base.specs.declared.tracking.Lock.{Lock}
 use Rattle.lq_base.specs.declared.tracking.Tracked.{Tracked}
 use Rattle.lq_cli.specs.declared.line.Job.{Job}
-use Rattle.lq_cli.specs.declared.line.Job.TheVariants.{Drill, History, RollbackSql, Run, Soak, UpdateCount, UpdateSql, UpdateTestingRollback, UpdateTo, Generate, ClearSums, UndoUnrecorded}
+use Rattle.lq_cli.specs.declared.line.Job.TheVariants.{Drill, History, RollbackSql, Run, Soak, UpdateCount, UpdateSql, UpdateTestingRollback, UpdateTo, Generate, ClearSums, UndoUnrecorded, Snapshot}
 use Rattle.lq_commands.proofs.PlainRefusals.{IsPlain, refusal_plain, rehearsal_plain, held_plain}
 use Rattle.lq_commands.specs.Parts.{counted_in, part_for}
 use Rattle.lq_commands.specs.Refusals.{Answers, IsFault, held, if_halts, if_some, invalid, own_halt, unready}
@@ -61,6 +61,7 @@ own_beside (Generate author) own = refl
 own_beside (Drill path) own = refl
 own_beside (Soak number sets) own = absurd (false_true own)
 own_beside UndoUnrecorded own = refl
+own_beside Snapshot own = refl
 
 pub own_calls : (job : Job) → is_own job ≡ true → (given : Given) (database : Database) → job_calls job given database ≡ job_script job given database
 own_calls (Run c) own given database = refl
@@ -75,6 +76,7 @@ own_calls (Generate author) own given database = refl
 own_calls (Drill path) own given database = refl
 own_calls (Soak number sets) own given database = refl
 own_calls UndoUnrecorded own given database = refl
+own_calls Snapshot own given database = refl
 
 generate_plain : (o : Option (List ℕ)) → IsPlain (option_map status.NotWritable o)
 generate_plain None = tt
@@ -102,6 +104,7 @@ own_plain (Generate author) own given database = generate_plain (fault_at given.
 own_plain (Drill path) own given database = tt
 own_plain (Soak number sets) own given database = tt
 own_plain UndoUnrecorded own given database = tt
+own_plain Snapshot own given database = tt
 
 -- it had its part
 
@@ -171,6 +174,7 @@ has_aim (Generate author) own given database done answers = no_goal (Generate au
 has_aim (Drill path) own given database done answers = no_goal (Drill path) done refl
 has_aim (Soak number sets) own given database done answers = no_goal (Soak number sets) done refl
 has_aim UndoUnrecorded own given database done answers = no_goal UndoUnrecorded done refl
+has_aim Snapshot own given database done answers = no_goal Snapshot done refl
 
 pub memory_aim : (job : Job) (s : Status) → s ≡ status.OutOfMemory → misses job s ≡ false
 memory_aim job s memory = ap (misses job) memory
@@ -196,6 +200,7 @@ in_vain_goes_on (Generate author) g none = absurd (none_part none)
 in_vain_goes_on (Drill path) g none = absurd (none_part none)
 in_vain_goes_on (Soak number sets) g none = absurd (none_part none)
 in_vain_goes_on UndoUnrecorded g none = absurd (none_part none)
+in_vain_goes_on Snapshot g none = absurd (none_part none)
 
 pub in_vain_beside : (job : Job) (g : Changelog) → part_for job g ≡ None → is_apart job ≡ false
 in_vain_beside (Run c) g none = refl
@@ -210,6 +215,7 @@ in_vain_beside (Generate author) g none = refl
 in_vain_beside (Drill path) g none = refl
 in_vain_beside (Soak number sets) g none = absurd (none_part none)
 in_vain_beside UndoUnrecorded g none = refl
+in_vain_beside Snapshot g none = refl
 
 -- the first changesets were read for the dialect that all were
 
@@ -238,6 +244,7 @@ module _ (given : Given) (database : Database) (run : Command × Given) where
   same_dialect (Drill path) is = absurd (none_some is)
   same_dialect (Soak number sets) is = absurd (none_some is)
   same_dialect UndoUnrecorded is = absurd (none_some is)
+  same_dialect Snapshot is = absurd (none_some is)
 
   pub command_on_file : (job : Job) → command_by job given database ≡ Some run → is_on_file job ≡ true
   command_on_file (Run c) is = refl
@@ -252,16 +259,17 @@ module _ (given : Given) (database : Database) (run : Command × Given) where
   command_on_file (Drill path) is = absurd (none_some is)
   command_on_file (Soak number sets) is = absurd (none_some is)
   command_on_file UndoUnrecorded is = absurd (none_some is)
+  command_on_file Snapshot is = absurd (none_some is)
 
   pub runs_command : (job : Job) → command_by job given database ≡ Some run → (before : Option (List ℕ)) (s : Status) (after : Option (List ℕ)) → RunsJob job given database before s after → RunsJob (Run run.0) run.1 database before s after
   runs_command (Run c) is before s after ran = subst (λ (r : Command × Given). RunsJob (Run r.0) r.1 database before s after) (some_same is) ran
   runs_command UpdateSql is before s after ran = absurd (none_some is)
   runs_command (UpdateCount count) is before s after ran =
       subst (λ (r : Command × Given). RunsJob (Run r.0) r.1 database before s after) (some_same is)
-      (record { ends = ran.ends; refused = ran.refused; reads = λ only. absurd (false_true only); works = ran.works; left = ran.left; opens = ran.opens; opens_cut = ran.opens_cut; room = ran.room; full = ran.full })
+      (record { ends = ran.ends; refused = ran.refused; reads = λ only. absurd (false_true only); works = ran.works; left = ran.left; opens = ran.opens; opens_cut = ran.opens_cut; room = ran.room; full = ran.full; rests = ran.rests })
   runs_command (UpdateTo tag) is before s after ran =
       subst (λ (r : Command × Given). RunsJob (Run r.0) r.1 database before s after) (some_same is)
-      (record { ends = ran.ends; refused = ran.refused; reads = λ only. absurd (false_true only); works = ran.works; left = ran.left; opens = ran.opens; opens_cut = ran.opens_cut; room = ran.room; full = ran.full })
+      (record { ends = ran.ends; refused = ran.refused; reads = λ only. absurd (false_true only); works = ran.works; left = ran.left; opens = ran.opens; opens_cut = ran.opens_cut; room = ran.room; full = ran.full; rests = ran.rests })
   runs_command (RollbackSql target) is before s after ran = absurd (none_some is)
   runs_command UpdateTestingRollback is before s after ran = absurd (none_some is)
   runs_command ClearSums is before s after ran = absurd (none_some is)
@@ -270,6 +278,7 @@ module _ (given : Given) (database : Database) (run : Command × Given) where
   runs_command (Drill path) is before s after ran = absurd (none_some is)
   runs_command (Soak number sets) is before s after ran = absurd (none_some is)
   runs_command UndoUnrecorded is before s after ran = absurd (none_some is)
+  runs_command Snapshot is before s after ran = absurd (none_some is)
 
   pub says_command : (job : Job) → command_by job given database ≡ Some run → (s : Status) (before after : Option (List ℕ)) → SaysJob job given database s before after → SaysJob (Run run.0) run.1 database s before after
   says_command (Run c) is s before after said = subst (λ (r : Command × Given). SaysJob (Run r.0) r.1 database s before after) (some_same is) said
@@ -284,6 +293,7 @@ module _ (given : Given) (database : Database) (run : Command × Given) where
   says_command (Drill path) is s before after said = absurd (none_some is)
   says_command (Soak number sets) is s before after said = absurd (none_some is)
   says_command UndoUnrecorded is s before after said = absurd (none_some is)
+  says_command Snapshot is s before after said = absurd (none_some is)
 
   -- whose changelog was loaded
   pub loaded_command : (job : Job) → command_by job given database ≡ Some run → IsLoaded given.options.dialect given.changelog → IsLoaded run.1.options.dialect run.1.changelog
@@ -299,3 +309,4 @@ module _ (given : Given) (database : Database) (run : Command × Given) where
   loaded_command (Drill path) is loaded = absurd (none_some is)
   loaded_command (Soak number sets) is loaded = absurd (none_some is)
   loaded_command UndoUnrecorded is loaded = absurd (none_some is)
+  loaded_command Snapshot is loaded = absurd (none_some is)

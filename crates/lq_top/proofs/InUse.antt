@@ -6,7 +6,7 @@ use Rattle.std.specs.Prelude.{Bool, IfSome, List, Ok, Option, Some, [], false, m
 use Rattle.lq_base.specs.declared.dialect.Dialect.{Dialect}
 use Rattle.lq_entries.proofs.Logs.{size_is}
 use Rattle.lq_db.specs.Db.{IsDb}
-use Rattle.lq_entries.specs.Log.{entries_in, texts_of}
+use Rattle.lq_entries.specs.Log.{entries_in, if_undamaged, unplaced}
 use Rattle.lq_db.specs.declared.db.Db.{Db}
 use Rattle.lq_frames.proofs.Appended.{journal_is}
 use Rattle.lq_journal.proofs.Entries.{short, used_is}
@@ -29,10 +29,10 @@ read_by true dialect limit used bytes least stands = (placed 17 stands.0, journa
 read_by false dialect limit used bytes least stands = ([], short dialect limit bytes (omega (arith, least, stands.1)) stands.1, stands.0)
 
 -- without their places they take as much
-sizes_are : (entries : List Placed) → sum_by (λ (entry : Placed). size_of entry.texts) entries ≡ size_of_all (map (λ (entry : Placed). entry.texts) entries)
+pub sizes_are : (entries : List Placed) → sum_by (λ (entry : Placed). size_of entry.body) entries ≡ size_of_all (map unplaced entries)
 sizes_are [] = refl
 sizes_are (entry ∷ entries) =
-    omega (arith, sum_by-cons (λ (entry : Placed). size_of entry.texts) entry entries, sum_by-cons (λ (texts : Entry). entry_size texts) entry.texts (map (λ (entry : Placed). entry.texts) entries), size_is entry.texts, sizes_are entries)
+    omega (arith, sum_by-cons (λ (entry : Placed). size_of entry.body) entry entries, sum_by-cons (λ (entry : Entry). entry_size entry) (unplaced entry) (map unplaced entries), size_is entry.body, sizes_are entries)
 
 pub used_in : {D P E : Type 0} (p : Dialect) (told : Option (List ℕ)) (crashes : Crashes) (h : Held) (db : Db D P E) → IsDb p told crashes h db → (bytes : List ℕ) → told ≡ Some bytes
     → (there : List Entry) → entries_in (dialect_of db.journal) (limit_of db.journal) told ≡ Some there → used_of db.journal ≡ in_use there
@@ -40,5 +40,5 @@ used_in p told crashes h db is bytes told_is there are =
     let loaded = is.whole.loaded in
     let stands = subst (λ o. IfSome o (Stands (is_prepared db.journal) (dialect_of db.journal) (limit_of db.journal) (used_of db.journal))) told_is loaded.stands in
     let read = read_by (is_prepared db.journal) (dialect_of db.journal) (limit_of db.journal) (used_of db.journal) bytes (omega (arith, loaded.limit_least)) stands in
-    let same : map (λ (entry : Placed). entry.texts) read.0 ≡ there = some_is (sym (ap (entries_in (dialect_of db.journal) (limit_of db.journal)) told_is ∙ ap texts_of read.1) ∙ are) in
+    let same : map unplaced read.0 ≡ there = some_is (sym (ap (entries_in (dialect_of db.journal) (limit_of db.journal)) told_is ∙ ap if_undamaged read.1) ∙ are) in
     read.2 ∙ ap (λ (n : ℕ). 17 + n) (sizes_are read.0) ∙ ap in_use same

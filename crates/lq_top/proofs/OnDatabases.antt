@@ -1,6 +1,6 @@
 -- What a command did on a database that was loaded, and on the disk that it was loaded from.
 use Rattle.std.proofs.Common.{ap, arith, refl, subst, sym, ◌∙◌}
-use Rattle.std.specs.Prelude.{Err, IfSome, List, Ok, Option, Result, false, true, ℕ, ◌≡◌, ◌≤◌}
+use Rattle.std.specs.Prelude.{Err, IfSome, List, None, Ok, Option, Result, Some, false, is_some, true, ℕ, ◌≡◌, ◌≤◌}
 use Rattle.lq_base.specs.declared.dialect.Dialect.{Dialect}
 use Rattle.lq_cli.specs.declared.line.Job.{Job}
 use Rattle.lq_commands.specs.Outputs.{TellsJob}
@@ -22,15 +22,16 @@ use Rattle.lq_tell.specs.declared.status.Status.{Status}
 use Rattle.lq_tell.specs.declared.status.Status.TheVariants as status
 use Rattle.lq_top.proofs.DamagedFiles.{load_spares, memory_spares, no_damage, spares_after}
 use Rattle.lq_top.proofs.InPart.{has_aim, memory_aim, no_goal, own_beside, own_plain}
-use Rattle.lq_top.proofs.LeftOnFile.{since_after, since_none, since_read}
+use Rattle.lq_top.proofs.LeftOnFile.{after_since, none_since, read_since}
 use Rattle.lq_top.proofs.OnFiles.{does_nothing, does_there, fault_kind, fault_rises, fault_tells, load_unfinished, memory_kind, memory_no_disk, memory_tells, memory_unfinished, moments_there, refused_does, rose_later, settled_after}
 use Rattle.lq_top.proofs.OnReady.{ready_kind, ready_tells}
 use Rattle.lq_top.proofs.Ready.{opened}
+use Rattle.lq_top.proofs.SnappedOn.{memory_snapped}
 use Rattle.lq_top.proofs.UndoneOn.{memory_undone}
-use Rattle.lq_top.specs.Bytes.{OnFile, TellsDamage, load_status, most_bytes}
-use Rattle.lq_top.specs.Jobs.{DoesJob, MakesAgain, goes_on, is_apart, is_on_file, is_own, job_reads, job_refusal, job_script, misses}
+use Rattle.lq_top.specs.Bytes.{IsLeftOn, OnFile, TellsDamage, load_status, most_bytes}
+use Rattle.lq_top.specs.Jobs.{DoesJob, JobLeaves, MakesAgain, UnlessRefused, goes_on, is_apart, is_on_file, is_own, job_reads, job_refusal, job_script, misses}
 use Rattle.lq_top.specs.Kinds.{IsOfDatabase}
-use Rattle.lq_top.specs.Worked.{CrashesJob, WorkedOn}
+use Rattle.lq_top.specs.Worked.{CrashesJob, LeavesSince, WorkedOn}
 
 true_false : true ≡ false → ⊥
 true_false h = Prim.cc
@@ -45,6 +46,11 @@ load_aim job load.OutOfMemory = refl
 
 same_count : (a b : ℕ) → a ≡ b → b ≤ a
 same_count a b is = omega arith
+
+-- what a check refuses makes no call of the disk
+unless_refused : (d : Dialect) (leaves : List ℕ → Type 0) (a b : DiskCrashes) (refused : Option Status) → (is_some refused ≡ true → b ≡ a) → LeavesSince d leaves a b → LeavesSince d (λ bytes. UnlessRefused refused (leaves bytes)) a b
+unless_refused d leaves a b None same since = since
+unless_refused d leaves a b (Some status) same since = subst (LeavesSince d (λ bytes. ⊥) a) (sym (same refl)) (none_since d (λ bytes. ⊥) a)
 
 module _ {D : Type 0} (told : D → Option (List ℕ)) (faults : D → ℕ) (crashes : D → DiskCrashes) where
   -- a job that is not on the file
@@ -64,6 +70,7 @@ module _ {D : Type 0} (told : D → Option (List ℕ)) (faults : D → ℕ) (cra
     does = λ on. absurd (true_false (sym on ∙ off));
     any_moment = λ on. absurd (true_false (sym on ∙ off));
     undone = λ is. absurd (true_false (sym apart ∙ ap is_apart is));
+    snapped = λ is. absurd (true_false (sym apart ∙ ap is_apart is));
   }
 
   -- a command on a database that was loaded
@@ -105,9 +112,12 @@ module _ {D : Type 0} (told : D → Option (List ℕ)) (faults : D → ℕ) (cra
           (answers database has) (λ some. ap (λ (db : Db D P E). told (disk_in db)) (refused database has some)) (λ only. ap (λ (db : Db D P E). told (disk_in db)) (reads only)) (works database has) (tells database has) (again database has);
       any_moment = λ on database opens.
           let has = opened d p (told (disk_in db)) (crashes (disk_in db)) h db is new (told (disk_in db)) database refl read opens in
-          moments_there d p (told (disk_in db)) (crashes (disk_in db)) h db is new.limit_is opens.bytes opens.told_is (told (disk_in left)) (crashes (disk_in left)) k left valid database has
-          (job_script job given database) r (works database has) (moments database has);
+          unless_refused d (λ bytes. IsLeftOn d (job_script job given database) database (told (disk_in db)) (Some bytes)) (crashes (disk_in db)) (crashes (disk_in left)) (job_refusal job given database)
+          (λ some. ap (λ (db : Db D P E). crashes (disk_in db)) (refused database has some))
+          (moments_there d p (told (disk_in db)) (crashes (disk_in db)) h db is new.limit_is opens.bytes opens.told_is (told (disk_in left)) (crashes (disk_in left)) k left valid database has
+          (job_script job given database) r (works database has) (moments database has));
       undone = λ is. absurd (true_false (sym own ∙ ap is_own is));
+      snapped = λ is. absurd (true_false (sym own ∙ ap is_own is));
     }
 
   module _ (given : Given) (disk : D) where
@@ -125,8 +135,9 @@ module _ {D : Type 0} (told : D → Option (List ℕ)) (faults : D → ℕ) (cra
       kind = memory_kind s memory;
       has_part = memory_aim job s memory;
       does = λ on database opens. does_nothing job given database (told disk) (told disk) s memory opens refl;
-      any_moment = λ on database opens. since_none given.options.dialect (job_script job given database) database (told disk) (crashes disk);
+      any_moment = λ on database opens. none_since given.options.dialect (JobLeaves job given database (told disk)) (crashes disk);
       undone = λ is. memory_undone told faults crashes given.options given.changelog disk s memory;
+      snapped = λ is. memory_snapped told faults crashes given.options.dialect disk s memory;
     }
 
     module _ (sound : IsSound (told disk) (crashes disk)) (after : D) (same : told after ≡ told disk) (later : faults disk ≤ faults after) (read : LeavesOnly (crashes disk) (crashes after) (crashes disk).leaves) where
@@ -145,9 +156,10 @@ module _ {D : Type 0} (told : D → Option (List ℕ)) (faults : D → ℕ) (cra
         has_part = did.has_part;
         does = subst (λ (before : Option (List ℕ)). is_on_file job ≡ true → OnFile given.options.dialect before (λ database. DoesJob job given database before r (told last))) same did.does;
         any_moment = λ on database opens.
-            since_after given.options.dialect (job_script job given database) database (told disk) (crashes disk) sound (crashes after) (crashes last) read
+            after_since given.options.dialect (JobLeaves job given database (told disk)) (told disk) (crashes disk) sound (crashes after) (crashes last) read
             (subst (λ o. CrashesJob job given o (crashes after) (crashes last)) same did.any_moment on database opens);
         undone = λ is. absurd (true_false (sym own ∙ ap is_own is));
+        snapped = λ is. absurd (true_false (sym own ∙ ap is_own is));
       }
 
       -- it could not be loaded
@@ -164,6 +176,7 @@ module _ {D : Type 0} (told : D → Option (List ℕ)) (faults : D → ℕ) (cra
         kind = subst (λ s. IsOfDatabase (Err s)) (sym is_status) (fault_kind f);
         has_part = ap (misses job) is_status ∙ load_aim job f;
         does = λ on. refused_does (told disk) (told after) (faults disk) (faults after) f s is_status job given is same;
-        any_moment = λ on database opens. since_read given.options.dialect (job_script job given database) database (told disk) (crashes disk) sound (crashes after) read;
+        any_moment = λ on database opens. read_since given.options.dialect (JobLeaves job given database (told disk)) (told disk) (crashes disk) sound (crashes after) read;
         undone = λ is. absurd (true_false (sym own ∙ ap is_own is));
+        snapped = λ is. absurd (true_false (sym own ∙ ap is_own is));
       }

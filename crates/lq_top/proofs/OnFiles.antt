@@ -11,7 +11,7 @@ use Rattle.lq_commands.specs.declared.given.Given.{Given}
 use Rattle.lq_db.specs.Db.{IsDb, IsValid, state}
 use Rattle.lq_db.specs.Load.{IsDbFault}
 use Rattle.lq_entries.specs.Load.{catalogue_of}
-use Rattle.lq_entries.specs.Log.{crashes_in, entries_in, texts_of}
+use Rattle.lq_entries.specs.Log.{crashes_in, entries_in, if_undamaged, unplaced}
 use Rattle.lq_db.specs.declared.db.Db.{Db}
 use Rattle.lq_frames.specs.Journal.{journal_of}
 use Rattle.lq_journal.specs.State.{dialect_of, limit_of, used_of}
@@ -22,8 +22,8 @@ use Rattle.lq_model.specs.Catalogue.{Catalogue}
 use Rattle.lq_outside.specs.Count.{Rose}
 use Rattle.lq_outside.specs.Crash.{Crashes, Settled}
 use Rattle.lq_run.specs.Commands.{HasDatabase, Leaves}
-use Rattle.lq_run.specs.Crashes.{LeftBehind, LeftInCommand, Since}
-use Rattle.lq_run.specs.Left.{IsFullIn}
+use Rattle.lq_run.specs.Crashes.{CrashesLeave, LeftBehind, LeftInCommand, Since}
+use Rattle.lq_run.specs.Left.{IsAtMostFreed, IsFullIn, LeavesLock, RestsIn, StopsIn}
 use Rattle.lq_run.specs.Stands.{HadRoom, entries_of}
 use Rattle.lq_store.specs.Executor.{Held, kept}
 use Rattle.lq_store.specs.Journal.{Entry, database as catalogue_by, end_of, is_full, size_of_all}
@@ -38,10 +38,10 @@ use Rattle.lq_turns.specs.declared.call.Call.{Call}
 use Rattle.lq_top.proofs.InPart.{own_calls}
 use Rattle.lq_top.proofs.InUse.{used_in}
 use Rattle.lq_top.proofs.LeftOnFile.{is_left_on, since_on}
-use Rattle.lq_top.proofs.Ready.{becomes}
+use Rattle.lq_top.proofs.Ready.{becomes, holds_then}
 use Rattle.lq_top.proofs.RefusedKinds.{answers_disk, answers_memory}
 use Rattle.lq_top.proofs.Unchanged.{had_room, left_same, says_full}
-use Rattle.lq_top.specs.Bytes.{Becomes, HadRoomOn, IsFullOn, IsLeftOn, OnFile, Opens, SaysFullOn, TellsDamage, TellsRoomOn, WorksOn, in_use, load_status, most_bytes}
+use Rattle.lq_top.specs.Bytes.{Becomes, HadRoomOn, IsFullOn, IsLeftOn, OnFile, Opens, RestsFullOn, RestsOn, SaysFullOn, TellsDamage, TellsRoomOn, WorksOn, in_use, load_status, most_bytes}
 use Rattle.lq_top.specs.Jobs.{DoesJob, MakesAgain, is_own, job_reads, job_refusal, job_script}
 use Rattle.lq_top.specs.Kinds.{IsOfDatabase}
 use Rattle.lq_top.specs.Worked.{CrashesSince}
@@ -49,8 +49,8 @@ use Rattle.lq_top.specs.Worked.{CrashesSince}
 not_finished : false ≡ true → ⊥
 not_finished h = Prim.cc
 
-some_there : (read : Result (List Placed) ℕ) → is_some (texts_of read) ≡ true → (there : List Entry) × (texts_of read ≡ Some there)
-some_there (Ok entries) some = (map (λ (entry : Placed). entry.texts) entries, refl)
+some_there : (read : Result (List Placed) ℕ) → is_some (if_undamaged read) ≡ true → (there : List Entry) × (if_undamaged read ≡ Some there)
+some_there (Ok entries) some = (map unplaced entries, refl)
 some_there (Err place) some = absurd Prim.cc
 
 pub by_end : {A : Type 0} (b : Bool) → (b ≡ true → A) → (b ≡ false → A) → A
@@ -72,15 +72,15 @@ module _ {D P E : Type 0} (d p : Dialect) (told : Option (List ℕ)) (crashes : 
   pub entries_were : entries_in (dialect_of db.journal) (limit_of db.journal) told ≡ entries_in d most_bytes told
   entries_were = ap (λ e. entries_in e (limit_of db.journal) told) dialect_is ∙ ap (λ n. entries_in d n told) limit
 
-  undamaged : is_some (texts_of (journal_of (dialect_of db.journal) (limit_of db.journal) bytes)) ≡ true
-  undamaged = subst (λ o. IfSome o (λ bytes. is_some (texts_of (journal_of (dialect_of db.journal) (limit_of db.journal) bytes)) ≡ true)) told_is is.whole.undamaged
+  undamaged : is_some (if_undamaged (journal_of (dialect_of db.journal) (limit_of db.journal) bytes)) ≡ true
+  undamaged = subst (λ o. IfSome o (λ bytes. is_some (if_undamaged (journal_of (dialect_of db.journal) (limit_of db.journal) bytes)) ≡ true)) told_is is.whole.undamaged
 
   pub entries_told : (there : List Entry) × (entries_in (dialect_of db.journal) (limit_of db.journal) told ≡ Some there)
   entries_told =
       let there = some_there (journal_of (dialect_of db.journal) (limit_of db.journal) bytes) undamaged in
       (there.0, ap (entries_in (dialect_of db.journal) (limit_of db.journal)) told_is ∙ there.1)
 
-  leads : (there : List Entry) → entries_in (dialect_of db.journal) (limit_of db.journal) told ≡ Some there → catalogue_by d there ≡ Some (kept h)
+  pub leads : (there : List Entry) → entries_in (dialect_of db.journal) (limit_of db.journal) told ≡ Some there → catalogue_by d there ≡ Some (kept h)
   leads there are = subst (λ e. catalogue_by e there ≡ Some (kept h)) has.dialect (subst (λ o. IfSome o (λ entries. catalogue_by db.dialect entries ≡ Some (kept h))) are is.is_held.is_journal)
 
   -- calls keep the journal's dialect and limit
@@ -111,6 +111,12 @@ module _ {D P E : Type 0} (d p : Dialect) (told : Option (List ℕ)) (crashes : 
   works_there calls (Ok done) works = (λ finished. becomes_there calls (works.0 finished), λ unfinished. left_there calls (works.1 unfinished))
   works_there calls (Err s) behind = left_there calls behind
 
+  stops_there : (calls : List Call) (stops : StopsIn d calls database x y) → (it : IsLeftOn d calls database told now) × (it.written ≡ stops.written) × (it.now ≡ stops.now)
+  stops_there calls stops =
+      let there = entries_told in
+      let it = holds_then d p now later k left (valid.lives stops.database_is.live) stops.database_is.dialect (stops.limit ∙ limit) stops.now x stops.written stops.database_is.committed stops.entries told there.0 entries_were (sym entries_were ∙ there.1) in
+      (record { written = stops.written; stops = stops.left; entries = it.1; now = stops.now; led = stops.led; holds = it.0 }, refl, refl)
+
   -- what holds of the limit of the database's journal and of how much of it is in use holds of the file's
   pub on_journal : (holds : ℕ → ℕ → Type 0) → holds x.limit x.used → IfSome (entries_in d most_bytes told) (λ there. holds most_bytes (in_use there))
   on_journal holds it =
@@ -119,32 +125,57 @@ module _ {D P E : Type 0} (d p : Dialect) (told : Option (List ℕ)) (crashes : 
       subst (λ o. IfSome o (λ there. holds most_bytes (in_use there))) (sym (sym entries_were ∙ there.1)) (subst (λ n. holds n (in_use there.0)) limit (subst (λ n. holds x.limit n) begins it))
 
   -- where the journal of the database was full the file's was
-  full_on : (calls : List Call) (used next : ℕ) → IsFullIn d calls database x used next → IsFullOn d calls database told used next
+  full_on : (calls : List Call) (used next : ℕ) (full : IsFullIn d calls database x used next) → (it : IsFullOn d calls database told used next) × (it.written ≡ full.written) × (it.more ≡ full.more)
   full_on calls used next full =
       let there = entries_told in
-      let begins : used_of db.journal ≡ in_use there.0 = used_in p told crashes h db is bytes told_is there.0 there.1 in
+      let begins : used_of db.journal ≡ in_use there.0 = used_in p told crashes h db is bytes told_is there.0 there.1 in (
+        record {
+          written = full.written;
+          more = full.more;
+          stops = full.stops;
+          comes = full.comes;
+          made = full.made;
+          call = full.call;
+          wrote = full.wrote;
+          appends = full.appends;
+          next_call = full.next_call;
+          used_is = subst (λ o. IfSome o (λ there. used ≡ in_use there + size_of_all (entries_of d full.written))) (sym (sym entries_were ∙ there.1)) (full.used_is ∙ ap (λ n. n + size_of_all (entries_of d full.written)) begins);
+          next_is = full.next_is;
+          room = full.room;
+          in_room = full.in_room;
+          which = full.which;
+          full = subst (λ n. is_full (end_of full.room n) used (entries_of d full.more) ≡ true) limit full.full;
+        },
+        refl,
+        refl,
+      )
+
+  -- and the file holds what the database does, its lock left so
+  rests_on : (calls : List Call) (used next : ℕ) → RestsIn d calls database x y used next → RestsOn d calls database told now used next
+  rests_on calls used next it =
+      let stops = stops_there calls it.stops in
+      let full = full_on calls used next it.full in
       record {
-        written = full.written;
-        more = full.more;
-        stops = full.stops;
-        comes = full.comes;
-        used_is = subst (λ o. IfSome o (λ there. used ≡ in_use there + size_of_all (entries_of d full.written))) (sym (sym entries_were ∙ there.1)) (full.used_is ∙ ap (λ n. n + size_of_all (entries_of d full.written)) begins);
-        next_is = full.next_is;
-        room = full.room;
-        which = full.which;
-        full = subst (λ n. is_full (end_of full.room n) used (entries_of d full.more) ≡ true) limit full.full;
+        left = stops.0;
+        full = full.0;
+        behind = subst (λ w. IsAtMostFreed w stops.0.written) (sym full.1) (subst (IsAtMostFreed it.full.written) (sym stops.1) it.behind);
+        lock = subst (λ m. LeavesLock stops.0.now.lock m stops.0.written) (sym full.2) (subst (LeavesLock stops.0.now.lock it.full.more) (sym stops.1) (subst (λ (e : Database). LeavesLock e.lock it.full.more it.stops.written) (sym stops.2) it.lock));
       }
 
   -- and where it had room the file's had
   pub room_on : (calls : List Call) (s : Status) → TellsRoom d calls database x s → TellsRoomOn d calls database told s
   room_on calls s room = (
     λ finished. on_journal (λ n used. HadRoom d n used (all_called d calls (session_on database)).entries) (room.0 finished),
-    λ used next same. full_on calls used next (room.1 used next same),
+    λ used next same. (full_on calls used next (room.1 used next same)).0,
   )
 
   pub room_there : (calls : List Call) (r : Result Done Status) → Works d calls database x r y → IfOk r (λ (ended : Done). TellsRoomOn d calls database told ended.status)
-  room_there calls (Ok done) works = room_on calls done.status (λ finished. (works.0 finished).room, works.2)
+  room_there calls (Ok done) works = room_on calls done.status (λ finished. (works.0 finished).room, λ used next is. (works.2 used next is).full)
   room_there calls (Err s) behind = tt
+
+  pub rests_there : (calls : List Call) (r : Result Done Status) → Works d calls database x r y → IfOk r (λ (ended : Done). RestsFullOn d calls database told ended.status now)
+  rests_there calls (Ok done) works = λ used next is. rests_on calls used next (works.2 used next is)
+  rests_there calls (Err s) behind = tt
 
   -- what a command does on the database it does on the file
   pub does_there : (job : Job) → is_own job ≡ true → (given : Given) (r : Result Done Status) → given.options.dialect ≡ d → Answers (job_refusal job given database) r → (is_some (job_refusal job given database) ≡ true → now ≡ told) → (job_reads job ≡ true → now ≡ told)
@@ -161,20 +192,25 @@ module _ {D P E : Type 0} (d p : Dialect) (told : Option (List ℕ)) (crashes : 
         again = again;
         room = subst (λ calls. IfOk r (λ (ended : Done). is_finished ended.status ≡ true → HadRoomOn given.options.dialect calls database told)) (sym (own_calls job own given database)) (had_room given.options.dialect calls database told r room);
         full = subst (λ calls. IfOk r (λ (ended : Done). SaysFullOn given.options.dialect calls database told ended.status)) (sym (own_calls job own given database)) (says_full given.options.dialect calls database told r room);
+        rests = λ is_its. subst (λ e. IfOk r (λ (ended : Done). RestsFullOn e calls database told ended.status now)) (sym dialect) (rests_there calls r works);
       }
 
   -- and what a crash may leave of the journal it may leave of the file
+  pub moments_on : (Left : List Entry → List Entry → Type 0) → SameJournal → CrashesLeave x.entries Left (crashes_in (dialect_of db.journal) (limit_of db.journal) crashes) (crashes_in (dialect_of left.journal) (limit_of left.journal) later)
+      → Since (Left entries_told.0) (crashes_in d most_bytes crashes) (crashes_in d most_bytes later)
+  moments_on Left same moments =
+      let there = entries_told in
+      subst (λ n. Since (Left there.0) (crashes_in d most_bytes crashes) (crashes_in d n later)) same.1
+      (subst (λ e. Since (Left there.0) (crashes_in d most_bytes crashes) (crashes_in e (limit_of left.journal) later)) same.0
+      (subst (λ n. Since (Left there.0) (crashes_in d n crashes) (crashes_in (dialect_of left.journal) (limit_of left.journal) later)) limit
+      (subst (λ e. Since (Left there.0) (crashes_in e (limit_of db.journal) crashes) (crashes_in (dialect_of left.journal) (limit_of left.journal) later)) dialect_is
+      (subst (λ o. IfSome o (λ there. Since (Left there) (crashes_in (dialect_of db.journal) (limit_of db.journal) crashes) (crashes_in (dialect_of left.journal) (limit_of left.journal) later))) there.1 moments))))
+
   pub moments_there : (calls : List Call) (r : Result Done Status) → Works d calls database x r y → CrashesIn d calls database x (crashes_in (dialect_of db.journal) (limit_of db.journal) crashes) (crashes_in (dialect_of left.journal) (limit_of left.journal) later)
       → CrashesSince d calls database told crashes later
   moments_there calls r works moments =
       let there = entries_told in
-      let same = journal_after calls r works in
-      since_on d calls database told there.0 (sym entries_were ∙ there.1) (kept h) (leads there.0 there.1) has.committed crashes later
-      (subst (λ n. Since (LeftInCommand d calls database there.0) (crashes_in d most_bytes crashes) (crashes_in d n later)) same.1
-      (subst (λ e. Since (LeftInCommand d calls database there.0) (crashes_in d most_bytes crashes) (crashes_in e (limit_of left.journal) later)) same.0
-      (subst (λ n. Since (LeftInCommand d calls database there.0) (crashes_in d n crashes) (crashes_in (dialect_of left.journal) (limit_of left.journal) later)) limit
-      (subst (λ e. Since (LeftInCommand d calls database there.0) (crashes_in e (limit_of db.journal) crashes) (crashes_in (dialect_of left.journal) (limit_of left.journal) later)) dialect_is
-      (subst (λ o. IfSome o (λ there. Since (LeftInCommand d calls database there) (crashes_in (dialect_of db.journal) (limit_of db.journal) crashes) (crashes_in (dialect_of left.journal) (limit_of left.journal) later))) there.1 moments)))))
+      since_on d calls database told there.0 (sym entries_were ∙ there.1) (kept h) (leads there.0 there.1) has.committed crashes later (moments_on (LeftInCommand d calls database) (journal_after calls r works) moments)
 
 -- a command that comes to its end settles what it left; a refusal left what was there
 module _ {D P E : Type 0} (d p : Dialect) (calls : List Call) (database : Database) (x : State) (told : Option (List ℕ)) (crashes : Crashes) (h : Held) (db : Db D P E) (valid : IsValid p told crashes h db) where
@@ -199,7 +235,7 @@ none_again _ given database s = tt
 pub does_nothing : (job : Job) (given : Given) (database : Database) (told now : Option (List ℕ)) (s : Status) → s ≡ status.OutOfMemory → Opens given.options.dialect told database → now ≡ told → DoesJob job given database told (Err s) now
 does_nothing job given database told now s memory opens same =
     subst (λ s. DoesJob job given database told (Err s) now) (sym memory)
-    (record { answers = answers_memory (job_refusal job given database); refused = λ some. same; reads = λ only. same; works = left_same given.options.dialect (job_script job given database) database told now opens same; tells = tt; again = none_again job given database status.OutOfMemory; room = tt; full = tt })
+    (record { answers = answers_memory (job_refusal job given database); refused = λ some. same; reads = λ only. same; works = left_same given.options.dialect (job_script job given database) database told now opens same; tells = tt; again = none_again job given database status.OutOfMemory; room = tt; full = tt; rests = λ own. tt })
 
 pub memory_kind : (s : Status) → s ≡ status.OutOfMemory → IsOfDatabase (Err s)
 memory_kind s memory = subst (λ s. IsOfDatabase (Err s)) (sym memory) refl
@@ -274,4 +310,5 @@ refused_does told now before later fault s is_status job given is same database 
       again = none_again job given database (load_status fault);
       room = tt;
       full = tt;
+      rests = λ own. tt;
     })

@@ -1,19 +1,20 @@
 -- A file that a command leaves is opened again, and finds the database that its calls leave, or a stop of them.
 use Rattle.std.proofs.Common.{ap, refl, subst, sym, ◌∙◌}
-use Rattle.std.specs.Prelude.{Bool, Err, List, None, Ok, Option, Result, Some, [], cond, false, map, option_and_then, true, ℕ, ◌∷◌, ◌≡◌}
+use Rattle.std.specs.Prelude.{Bool, Err, List, None, Ok, Option, Result, Some, cond, false, true, ℕ, ◌≡◌}
 use Rattle.lq_base.specs.declared.command.Command.{Command}
 use Rattle.lq_base.specs.declared.command.Command.TheVariants as command
 use Rattle.lq_base.specs.declared.dialect.Dialect.{Dialect}
 use Rattle.lq_cli.specs.declared.line.Job.{Job}
-use Rattle.lq_cli.specs.declared.line.Job.TheVariants.{Drill, History, RollbackSql, Run, Soak, UpdateCount, UpdateSql, UpdateTestingRollback, UpdateTo, Generate, ClearSums, UndoUnrecorded}
+use Rattle.lq_cli.specs.declared.line.Job.TheVariants.{Drill, History, RollbackSql, Run, Soak, UpdateCount, UpdateSql, UpdateTestingRollback, UpdateTo, Generate, ClearSums, UndoUnrecorded, Snapshot}
 use Rattle.lq_rehearsal.proofs.FirstScripts.{AreFirst, rehearsal_first, rollback_first}
 use Rattle.lq_commands.proofs.Planned.{kept}
 use Rattle.lq_commands.proofs.ViewsRead.{views_are_read}
 use Rattle.lq_commands.specs.Parts.{counted_in}
 use Rattle.lq_commands.specs.Scripts.{log_in, script}
 use Rattle.lq_commands.specs.declared.given.Given.{Given}
-use Rattle.lq_entries.specs.Load.{folded, if_clean, is_clean, is_clean_database, read_entries, then_at}
-use Rattle.lq_entries.specs.Log.{entries_in, texts_of}
+use Rattle.lq_entries.proofs.Folded.{folds}
+use Rattle.lq_entries.specs.Load.{folded, if_clean, is_clean, is_clean_database, read_entries}
+use Rattle.lq_entries.specs.Log.{entries_in, if_undamaged}
 use Rattle.lq_frames.specs.Journal.{journal_of, used_by}
 use Rattle.lq_frames.specs.declared.entry.Entry.{Entry as Placed}
 use Rattle.lq_kinds.specs.Dialects.{AreFor}
@@ -24,7 +25,7 @@ use Rattle.lq_stand.proofs.FirstRows.{clear_is_first, release_is_first, sync_is_
 use Rattle.lq_stand.proofs.StaysClean.{calls_stay_clean, clean_is_found, stops_stay_clean}
 use Rattle.lq_stand.specs.First.{calls_are_first}
 use Rattle.lq_stand.specs.Stays.{IsClean}
-use Rattle.lq_store.specs.Journal.{Entry, database as catalogue_by, run_entries, run_texts}
+use Rattle.lq_store.specs.Journal.{database as catalogue_by}
 use Rattle.lq_track.specs.Database.{Database}
 use Rattle.lq_turns.specs.Session.{left_by, session_on}
 use Rattle.lq_turns.specs.declared.call.Call.{Call}
@@ -47,9 +48,6 @@ ok_same h = Prim.cc
 err_ok : {n : ℕ} {b : Catalogue} → (let r : Result Catalogue ℕ = Err n in r) ≡ Ok b → ⊥
 err_ok h = Prim.cc
 
-abbrev texts : Placed → Entry
-texts entry = entry.texts
-
 abbrev clean_or : Catalogue → ℕ → Bool → Result Catalogue ℕ
 clean_or c at b = cond b (Ok c) (Err at)
 
@@ -70,27 +68,20 @@ module _ (d : Dialect) where
 
   read_clean : (r : Result (List Placed) ℕ) (e : Catalogue) → read_entries d r ≡ Ok e → is_clean d e ≡ true
   read_clean (Err at) e is = absurd (err_ok is)
-  read_clean (Ok entries) e is = if_read (used_by entries) (folded d entries no_objects) e is
+  read_clean (Ok entries) e is = if_read (used_by entries) (folded d entries (Ok no_objects)) e is
 
   pub was_clean : (told : Option (List ℕ)) (database : Database) → Opens d told database → IsClean d database
   was_clean told database opens = ap (is_clean_database d) (sym opens.stands.is) ∙ read_clean (journal_of d most_bytes opens.bytes) opens.catalogue opens.read
 
   -- and what entries lead to is read where it is clean
 
-  folds : (entries : List Placed) (c e : Catalogue) → run_entries d (map texts entries) c ≡ Some e → folded d entries c ≡ Ok e
-  folds [] c e is = ap Ok (some_same is)
-  folds (entry ∷ more) c e is = by (λ f there. folds more f e there) (run_texts d entry.texts c) is where
-    by : ((f : Catalogue) → run_entries d (map texts more) f ≡ Some e → folded d more f ≡ Ok e) → (o : Option Catalogue) → option_and_then (run_entries d (map texts more)) o ≡ Some e → then_at entry.at o (folded d more) ≡ Ok e
-    by rest None is = absurd (none_some is)
-    by rest (Some f) is = rest f is
-
   module _ (told : Option (List ℕ)) (database : Database) (holds : Holds d told database) where
-    leads_to : (entries : List Placed) → texts_of (Ok entries) ≡ Some holds.entries → folded d entries no_objects ≡ Ok holds.catalogue
-    leads_to entries there = folds entries no_objects holds.catalogue (ap (catalogue_by d) (some_same there) ∙ holds.leads)
+    leads_to : (entries : List Placed) → if_undamaged (Ok entries) ≡ Some holds.entries → folded d entries (Ok no_objects) ≡ Ok holds.catalogue
+    leads_to entries there = folds d entries holds.catalogue (ap (catalogue_by d) (some_same there) ∙ holds.leads)
 
     opens_by : is_clean d holds.catalogue ≡ true → Opens d told database
     opens_by clean = by told refl holds.told_are where
-      by_read : (bytes : List ℕ) → told ≡ Some bytes → (r : Result (List Placed) ℕ) → journal_of d most_bytes bytes ≡ r → texts_of r ≡ Some holds.entries → Opens d told database
+      by_read : (bytes : List ℕ) → told ≡ Some bytes → (r : Result (List Placed) ℕ) → journal_of d most_bytes bytes ≡ r → if_undamaged r ≡ Some holds.entries → Opens d told database
       by_read bytes tells (Err at) is there = absurd (none_some there)
       by_read bytes tells (Ok entries) is there = record {
         bytes = bytes;
@@ -110,7 +101,7 @@ module _ (d : Dialect) where
     -- it opens for each database that it holds
     pub still_opens : (other : Database) → Opens d told other → Opens d told database
     still_opens other opens = opens_by (by (journal_of d most_bytes opens.bytes) opens.read (sym (ap (entries_in d most_bytes) opens.told_is) ∙ holds.told_are)) where
-      by : (r : Result (List Placed) ℕ) → read_entries d r ≡ Ok opens.catalogue → texts_of r ≡ Some holds.entries → is_clean d holds.catalogue ≡ true
+      by : (r : Result (List Placed) ℕ) → read_entries d r ≡ Ok opens.catalogue → if_undamaged r ≡ Some holds.entries → is_clean d holds.catalogue ≡ true
       by (Err at) read there = absurd (err_ok read)
       by (Ok entries) read there = clean_is holds.catalogue (used_by entries) opens.catalogue (is_clean d holds.catalogue) (sym (ap (if_clean d (used_by entries)) (leads_to entries there)) ∙ read)
 
@@ -161,6 +152,7 @@ module _ (given : Given) (database : Database) where
     job_first (Drill path) = refl
     job_first (Soak number sets) = refl
     job_first UndoUnrecorded = refl
+    job_first Snapshot = refl
 
     -- after its calls
     pub opens_after : (job : Job) (after : Option (List ℕ)) → Becomes d (job_script job given database) database told after → Opens d after (left_by d (job_script job given database) database)

@@ -22,9 +22,10 @@ use Rattle.lq_store.specs.Journal.{Entry, database as catalogue_by}
 use Rattle.lq_store.specs.State.{State}
 use Rattle.lq_track.specs.Database.{Database}
 use Rattle.lq_turns.specs.Held.{StandsFor}
-use Rattle.lq_turns.specs.Session.{all_called, session_on}
+use Rattle.lq_turns.specs.Session.{all_called, left_by, session_on}
+use Rattle.lq_turns.specs.Stops.{Journal}
 use Rattle.lq_turns.specs.declared.call.Call.{Call}
-use Rattle.lq_top.specs.Bytes.{Becomes, Opens, most_bytes}
+use Rattle.lq_top.specs.Bytes.{Becomes, Holds, Opens, most_bytes}
 
 ok_is : {a b : Catalogue} → (let r : Result Catalogue ℕ = Ok a in r) ≡ Ok b → a ≡ b
 ok_is h = Prim.cc
@@ -53,28 +54,37 @@ module _ {D P E : Type 0} (d p : Dialect) (told : Option (List ℕ)) (crashes : 
   pub still_read : (before : Option (List ℕ)) → told ≡ before → IfSome before (λ bytes. catalogue_of d most_bytes bytes ≡ Ok (kept h)) → IfSome told (λ bytes. catalogue_of d most_bytes bytes ≡ Ok (kept h))
   still_read before same read = subst (λ o. IfSome o (λ bytes. catalogue_of d most_bytes bytes ≡ Ok (kept h))) (sym same) read
 
--- after calls
+-- after entries, with the database to which they lead
 module _ {D P E : Type 0} (d p : Dialect) (told : Option (List ℕ)) (crashes : Crashes) (h : Held) (db : Db D P E) (is : IsDb p told crashes h db) (at : db.dialect ≡ d) (limit : limit_of db.journal ≡ most_bytes)
-    (calls : List Call) (database : Database) (x : State) (leaves : Leaves d calls database x (state told h db)) where
+    (database : Database) (x : State) (written : Journal) (stands : StandsFor d (kept h) database) (adds : (state told h db).entries ≡ option_map (λ entries. entries ++ entries_of d written) x.entries) where
   abbrev more : List Entry
-  more = entries_of d (all_called d calls (session_on database)).entries
+  more = entries_of d written
 
   entries_same : entries_in (dialect_of db.journal) (limit_of db.journal) told ≡ entries_in d most_bytes told
   entries_same = ap (λ e. entries_in e (limit_of db.journal) told) (is.journal_is ∙ at) ∙ ap (λ n. entries_in d n told) limit
 
   now_are : entries_in d most_bytes told ≡ option_map (λ entries. entries ++ more) x.entries
-  now_are = sym entries_same ∙ leaves.entries
+  now_are = sym entries_same ∙ adds
 
-  pub becomes : (before : Option (List ℕ)) (there : List Entry) → x.entries ≡ entries_in d most_bytes before → entries_in d most_bytes before ≡ Some there → Becomes d calls database before told
-  becomes before there were some = record {
-    holds = record {
+  pub holds_then : (before : Option (List ℕ)) (there : List Entry) → x.entries ≡ entries_in d most_bytes before → entries_in d most_bytes before ≡ Some there
+      → Holds d told database × (entries_in d most_bytes told ≡ option_map (λ (entries : List Entry). entries ++ more) (entries_in d most_bytes before))
+  holds_then before there were some = (
+    record {
       entries = there ++ more;
       told_are = all;
       catalogue = kept h;
       leads = subst (λ e. catalogue_by e (there ++ more) ≡ Some (kept h)) at (subst (λ o. IfSome o (λ entries. catalogue_by db.dialect entries ≡ Some (kept h))) (entries_same ∙ all) is.is_held.is_journal);
-      stands = leaves.database_is.committed;
-    };
-    entries = now_are ∙ ap (option_map (λ (entries : List Entry). entries ++ more)) were;
-  } where
+      stands = stands;
+    },
+    now_are ∙ ap (option_map (λ (entries : List Entry). entries ++ more)) were,
+  ) where
     all : entries_in d most_bytes told ≡ Some (there ++ more)
     all = now_are ∙ ap (option_map (λ (entries : List Entry). entries ++ more)) (were ∙ some)
+
+-- after calls
+module _ {D P E : Type 0} (d p : Dialect) (told : Option (List ℕ)) (crashes : Crashes) (h : Held) (db : Db D P E) (is : IsDb p told crashes h db) (at : db.dialect ≡ d) (limit : limit_of db.journal ≡ most_bytes)
+    (calls : List Call) (database : Database) (x : State) (leaves : Leaves d calls database x (state told h db)) where
+  pub becomes : (before : Option (List ℕ)) (there : List Entry) → x.entries ≡ entries_in d most_bytes before → entries_in d most_bytes before ≡ Some there → Becomes d calls database before told
+  becomes before there were some =
+      let it = holds_then d p told crashes h db is at limit (left_by d calls database) x (all_called d calls (session_on database)).entries leaves.database_is.committed leaves.entries before there were some in
+      record { holds = it.0; entries = it.1 }

@@ -17,7 +17,7 @@ use Rattle.lq_base.specs.declared.tracking.Lock.{Lock}
 use Rattle.lq_base.specs.declared.tracking.Tracked.{Tracked}
 use Rattle.lq_changelog.specs.ShortTexts.{HasShortTexts}
 use Rattle.lq_cli.specs.declared.line.Job.{Job}
-use Rattle.lq_cli.specs.declared.line.Job.TheVariants.{Drill, History, RollbackSql, Run, Soak, UpdateCount, UpdateSql, UpdateTestingRollback, UpdateTo, Generate, ClearSums, UndoUnrecorded}
+use Rattle.lq_cli.specs.declared.line.Job.TheVariants.{Drill, History, RollbackSql, Run, Soak, UpdateCount, UpdateSql, UpdateTestingRollback, UpdateTo, Generate, ClearSums, UndoUnrecorded, Snapshot}
 use Rattle.lq_commands.proofs.Planned.{bare, kept, sets_bare}
 use Rattle.lq_commands.proofs.LoadedTexts.{view_has}
 use Rattle.lq_commands.proofs.ViewsRead.{views_are_read}
@@ -513,6 +513,7 @@ module _ (given : Given) (database : Database) (before after : Option (List ℕ)
   stands (Drill path) read left locked = none_held given.options.dialect database left.now left.written left.stops left.led unlocked locked
   stands (Soak number sets) read left locked = none_held given.options.dialect database left.now left.written left.stops left.led unlocked locked
   stands UndoUnrecorded read left locked = none_held given.options.dialect database left.now left.written left.stops left.led unlocked locked
+  stands Snapshot read left locked = none_held given.options.dialect database left.now left.written left.stops left.led unlocked locked
 
 module _ {words : List (List ℕ)} {files : Files} (asks : Asks words files) (stamp : Stamp) (before : Option (List ℕ)) where
   read_or : (database : Database) (done : Result Done Status) (after : Option (List ℕ)) → Does asks.line.job (given_by asks stamp) database before done after → IsReadOr (given_by asks stamp) before after

@@ -1,22 +1,22 @@
 -- What a run says, and that what can be taken back is.
 use Rattle.std.proofs.Common.{ap, inl, inr, refl, subst, sym, ◌∙◌}
 use Rattle.std.proofs.Math.Seq.{drop-append_seam}
+use Rattle.std.proofs.lemmas.List.{append-nil}
 use Rattle.std.specs.List.{find}
 use Rattle.std.specs.Option.{option_map, option_or}
-use Rattle.std.specs.Prelude.{Bool, Err, List, None, Ok, Option, Result, Some, [], cond, drop, false, if◌then◌else◌, is_none, length, option_and_then, reverse, true, ℕ, ◌++◌, ◌∷◌, ◌≡◌}
+use Rattle.std.specs.Prelude.{Bool, Err, IfOk, List, None, Ok, Option, Result, Some, [], cond, drop, false, if◌then◌else◌, is_none, length, option_and_then, reverse, true, ℕ, ◌++◌, ◌∷◌, ◌≡◌, ◌⊎◌}
 use Rattle.lq_base.specs.declared.command.Command.TheVariants as command
 use Rattle.lq_base.specs.declared.command.Target.{Target}
 use Rattle.lq_base.specs.declared.dialect.Dialect.{Dialect}
-use Rattle.lq_base.specs.declared.tracking.Lock.{Lock}
 use Rattle.lq_base.specs.declared.tracking.Tracked.{Tracked}
 use Rattle.lq_cli.specs.declared.line.Job.{Job}
-use Rattle.lq_cli.specs.declared.line.Job.TheVariants.{Drill, History, RollbackSql, Run, Soak, UpdateCount, UpdateSql, UpdateTestingRollback, UpdateTo, Generate, ClearSums, UndoUnrecorded}
+use Rattle.lq_cli.specs.declared.line.Job.TheVariants.{Drill, History, RollbackSql, Run, Soak, UpdateCount, UpdateSql, UpdateTestingRollback, UpdateTo, Generate, ClearSums, UndoUnrecorded, Snapshot}
 use Rattle.lq_commands.proofs.Planned.{kept}
 use Rattle.lq_commands.specs.Generates.{generate_text}
 use Rattle.lq_commands.specs.Inserts.{TellsSync, synced_in}
 use Rattle.lq_commands.specs.Outputs.{TellsJob, TellsText, at_once_text, back_in, released_text}
 use Rattle.lq_commands.specs.Parts.{counted_in}
-use Rattle.lq_commands.specs.Refusals.{Answers, held, if_halts, if_not, if_some, invalid, no_way_back, own_halt, refusal, unreachable_by, unready, untagged}
+use Rattle.lq_commands.specs.Refusals.{Answers, ends, held, if_halts, if_not, if_some, invalid, no_way_back, own_halt, refusal, unreachable_by, unready, untagged}
 use Rattle.lq_commands.specs.Rehearsal.{TellsRun, Told, after_update, rehearsed, told_unless, unrehearsed, updates}
 use Rattle.lq_commands.specs.Scripts.{log_in, nothing_told, rolled_to, sets_in, update_script, updated_in}
 use Rattle.lq_commands.specs.Tells.{TellsRollback, TellsUpdate, status_by, update_told}
@@ -29,12 +29,11 @@ use Rattle.lq_outside.specs.Sink.{IsPart}
 use Rattle.lq_report.specs.Output.{cleared_text, history_text, sync_text, tagged_text, validated_text}
 use Rattle.lq_seen.specs.Printing.{Account, of_turns}
 use Rattle.lq_seen.specs.View.{any_meaning}
-use Rattle.lq_tell.specs.Texts.{EndsAs, has_output, out_text, status_done, text_or_none}
+use Rattle.lq_tell.specs.Texts.{EndsAs, IsSilent, has_output, out_text, status_done, text_or_none}
 use Rattle.lq_tell.specs.declared.done.Done.{Done}
 use Rattle.lq_tell.specs.declared.status.Status.{Status}
 use Rattle.lq_tell.specs.declared.status.Status.TheVariants as status
 use Rattle.lq_track.specs.Database.{Database, has_twin_rows}
-use Rattle.lq_track.specs.Lock.{free}
 use Rattle.lq_track.specs.Log.{identity_of}
 use Rattle.lq_turns.proofs.Made.{with_users}
 use Rattle.lq_turns.proofs.Undone.{Undone, all_back}
@@ -53,6 +52,7 @@ use Rattle.lq_turns.specs.declared.stamp.Stamp.{Stamp}
 use Rattle.lq_turns.specs.declared.stop.Stop.{Stop}
 use Rattle.lq_turns.specs.declared.turn.Turn.{Turn}
 use Rattle.laws_generate.specs.Again.{TextComesAgain}
+use Rattle.lq_top.proofs.RefusedKinds.{answers_ends}
 use Rattle.lq_top.proofs.ShortTag.{IsSigned, signed_line}
 use Rattle.lq_top.proofs.Written.{Does, IsWritten, failed_unfinished, false_true, halted_is, none_some, only_run, own_only, quiet_generate, quiet_held, quiet_invalid, quiet_not, quiet_or, quiet_unready, quiet_untagged, quiet_way, refused_for, some_same, was_over}
 use Rattle.lq_top.specs.Asks.{Asks, Files}
@@ -67,31 +67,74 @@ some_none h = Prim.cc
 
 -- statuses
 
-pub finished_output : (s : Status) → is_finished s ≡ true → has_output s ≡ true
-finished_output status.Done is = is
-finished_output status.Usage is = is
-finished_output status.ReadFault is = is
-finished_output (status.Changelog fault) is = is
-finished_output (status.Invalid faults) is = is
-finished_output (status.Locked lock) is = is
-finished_output (status.Halted place why) is = is
-finished_output (status.Refused identity statement kept reason) is = is
-finished_output status.NoTarget is = is
-finished_output (status.NotReversible identity) is = is
-finished_output status.NothingToUndo is = is
-finished_output (status.NotWritable at) is = is
-finished_output status.DiskFault is = is
-finished_output (status.Damaged at) is = is
-finished_output (status.Full used next) is = is
-finished_output status.WriteFault is = is
-finished_output status.OutOfMemory is = is
-finished_output (status.Busy session) is = is
+-- what came to the end of its run has an output
+pub ran_output : (s : Status) → ends s ≡ true → is_finished s ≡ true → has_output s ≡ true
+ran_output status.Done ran is = is
+ran_output status.Usage ran is = is
+ran_output status.ReadFault ran is = is
+ran_output (status.Changelog fault) ran is = is
+ran_output (status.Invalid faults) ran is = is
+ran_output (status.Locked lock) ran is = is
+ran_output (status.Halted place why) ran is = ran
+ran_output (status.Refused identity statement kept reason) ran is = is
+ran_output status.NoTarget ran is = is
+ran_output (status.NotReversible identity) ran is = is
+ran_output status.NothingToUndo ran is = is
+ran_output (status.NotWritable at) ran is = is
+ran_output status.DiskFault ran is = is
+ran_output (status.Damaged at) ran is = is
+ran_output (status.Full used next) ran is = is
+ran_output status.WriteFault ran is = is
+ran_output status.OutOfMemory ran is = is
+ran_output (status.Busy session) ran is = is
+
+-- what came to its end has one, or writes nothing
+speaks_or_not : (s : Status) → is_finished s ≡ true → (has_output s ≡ true) ⊎ IsSilent s
+speaks_or_not status.Done is = inl refl
+speaks_or_not status.Usage is = inr refl
+speaks_or_not status.ReadFault is = inr refl
+speaks_or_not (status.Changelog fault) is = inr refl
+speaks_or_not (status.Invalid faults) is = inr refl
+speaks_or_not (status.Locked lock) is = inr refl
+speaks_or_not (status.Halted None why) is = inr refl
+speaks_or_not (status.Halted (Some of) why) is = inl refl
+speaks_or_not (status.Refused identity statement kept reason) is = inl refl
+speaks_or_not status.NoTarget is = inr refl
+speaks_or_not (status.NotReversible identity) is = inr refl
+speaks_or_not status.NothingToUndo is = inr refl
+speaks_or_not (status.NotWritable at) is = inr refl
+speaks_or_not status.DiskFault is = inr refl
+speaks_or_not (status.Damaged at) is = inr refl
+speaks_or_not (status.Full used next) is = inr refl
+speaks_or_not status.WriteFault is = absurd (false_true is)
+speaks_or_not status.OutOfMemory is = inr refl
+speaks_or_not (status.Busy session) is = inr refl
 
 -- where it came to its end and its text was written it ended so
 pub ended_so : (x s : Status) → EndsAs x s → is_finished s ≡ true → s ≡ x
 ended_so x s (inl is) finished = is
 ended_so x s (inr (inl is)) finished = absurd (false_true (sym (ap is_finished is) ∙ finished))
 ended_so x s (inr (inr is)) finished = absurd (false_true (sym (ap is_finished is) ∙ finished))
+
+pub nothing_more : (o : Option (List ℕ)) → option_map (λ (out : List ℕ). out ++ []) o ≡ o
+nothing_more None = refl
+nothing_more (Some out) = ap some (append-nil out) where
+  some : List ℕ → Option (List ℕ)
+  some text = Some text
+
+-- no check refused it
+abbrev pub CameOfRun : Result Done Status → Type 0
+CameOfRun done = IfOk done (λ (it : Done). ends it.status ≡ true)
+
+-- so the output got what it told
+wrote : (done : Result Done Status) (s : Status) (before after : Option (List ℕ)) → EndsAs (status_done done) s → (has_output s ≡ true → after ≡ option_map (λ (out : List ℕ). out ++ out_text done) before) → (IsSilent s → after ≡ before)
+    → CameOfRun done → is_finished s ≡ true → after ≡ option_map (λ (out : List ℕ). out ++ out_text done) before
+wrote (Ok it) s before after ended whole silent ran finished = whole (ran_output s (ap ends (ended_so it.status s ended finished) ∙ ran) finished)
+wrote (Err x) s before after ended whole silent ran finished = elim (speaks_or_not s finished) [ inl has ↦ whole has | inr none ↦ silent none ∙ sym (nothing_more before) ]
+
+pub answers_ran : (o : Option Status) (done : Result Done Status) → Answers o done → CameOfRun done
+answers_ran o (Ok done) answers = answers_ends o done answers
+answers_ran o (Err x) answers = tt
 
 pub ok_refusal : (o : Option Status) (done : Done) → Answers o (Ok done) → o ≡ None
 ok_refusal None done answers = refl
@@ -169,31 +212,32 @@ module _ (given : Given) (database : Database) (s : Status) (before after : Opti
 
 says_ok : (job : Job) (given : Given) (database : Database) (s : Status) (before after : Option (List ℕ)) (done : Done) → job_refusal job given database ≡ None → TellsJob job given database (Ok done) → s ≡ done.status
     → is_finished done.status ≡ true → after ≡ option_map (λ (out : List ℕ). out ++ text_or_none done.out) before → SaysJob job given database s before after
-says_ok (Run command.Validate) given database s before after done none tells is finished whole = text_said given database s before after validated_text done is (tells finished) whole
-says_ok (Run command.Status) given database s before after done none tells is finished whole = text_said given database s before after (at_once_text command.Status given database) done is (tells finished) whole
+says_ok (Run command.Validate) given database s before after done none tells is finished whole = text_said given database s before after validated_text done is (tells.0 finished) whole
+says_ok (Run command.Status) given database s before after done none tells is finished whole = text_said given database s before after (at_once_text command.Status given database) done is (tells.0 finished) whole
 says_ok (Run command.Update) given database s before after done none tells is finished whole =
-    update_said given database s before after false done (or_none (unready given database) (own_halt given database) none) is (tells finished) whole
-says_ok (Run (command.Tag name)) given database s before after done none tells is finished whole = text_said given database s before after (tagged_text name) done is (tells finished) whole
-says_ok (Run (command.Rollback target)) given database s before after done none tells is finished whole = rollback_said given database s before after false target done is (tells finished) whole
-says_ok (Run command.Sync) given database s before after done none tells is finished whole = sync_said given database s before after done is (tells finished) whole
-says_ok (Run command.Release) given database s before after done none tells is finished whole = text_said given database s before after (released_text database.lock) done is (tells finished) whole
+    update_said given database s before after false done (or_none (unready given database) (own_halt given database) none) is (tells.0 finished) whole
+says_ok (Run (command.Tag name)) given database s before after done none tells is finished whole = text_said given database s before after (tagged_text name) done is (tells.0 finished) whole
+says_ok (Run (command.Rollback target)) given database s before after done none tells is finished whole = rollback_said given database s before after false target done is (tells.0 finished) whole
+says_ok (Run command.Sync) given database s before after done none tells is finished whole = sync_said given database s before after done is (tells.0 finished) whole
+says_ok (Run command.Release) given database s before after done none tells is finished whole = text_said given database s before after (released_text database.lock) done is (tells.0 finished) whole
 says_ok (UpdateCount count) given database s before after done none tells is finished whole =
     let part = counted_in count given database.rows in
-    update_said part database s before after false done (or_none (unready part database) (own_halt part database) none) is (tells finished) whole
+    update_said part database s before after false done (or_none (unready part database) (own_halt part database) none) is (tells.0 finished) whole
 says_ok (UpdateTo tag) given database s before after done none tells is finished whole =
-    update_said given database s before after false done (or_none (unready given database) (own_halt given database) none) is (tells finished) whole
+    update_said given database s before after false done (or_none (unready given database) (own_halt given database) none) is (tells.0 finished) whole
 says_ok UpdateTestingRollback given database s before after done none tells is finished whole =
     let goes = or_none (unrehearsed given database.rows) (own_halt given database) (or_none (unready given database) (option_or (unrehearsed given database.rows) (own_halt given database)) none) in
-    rehearsal_said given database s before after done goes is (tells finished) whole
-says_ok ClearSums given database s before after done none tells is finished whole = text_said given database s before after (cleared_text (length database.rows)) done is (tells finished) whole
-says_ok History given database s before after done none tells is finished whole = text_said given database s before after (history_text database.rows) done is (tells finished) whole
-says_ok (Generate author) given database s before after done none tells is finished whole = text_said given database s before after (generate_text author given database) done is (tells finished) whole
+    rehearsal_said given database s before after done goes is (tells.0 finished) whole
+says_ok ClearSums given database s before after done none tells is finished whole = text_said given database s before after (cleared_text (length database.rows)) done is (tells.0 finished) whole
+says_ok History given database s before after done none tells is finished whole = text_said given database s before after (history_text database.rows) done is (tells.0 finished) whole
+says_ok (Generate author) given database s before after done none tells is finished whole = text_said given database s before after (generate_text author given database) done is (tells.0 finished) whole
 says_ok UpdateSql given database s before after done none tells is finished whole =
-    update_said given database s before after true done (or_none (invalid given database.rows) (own_halt given database) none) is (tells finished) whole
-says_ok (RollbackSql target) given database s before after done none tells is finished whole = rollback_said given database s before after true target done is (tells finished) whole
+    update_said given database s before after true done (or_none (invalid given database.rows) (own_halt given database) none) is (tells.0 finished) whole
+says_ok (RollbackSql target) given database s before after done none tells is finished whole = rollback_said given database s before after true target done is (tells.0 finished) whole
 says_ok (Drill path) given database s before after done none tells is finished whole = tt
 says_ok (Soak number sets) given database s before after done none tells is finished whole = tt
 says_ok UndoUnrecorded given database s before after done none tells is finished whole = tt
+says_ok Snapshot given database s before after done none tells is finished whole = tt
 
 says_err : (job : Job) (given : Given) (database : Database) (s : Status) (before after : Option (List ℕ)) (x : Status) → job_refusal job given database ≡ Some x → is_finished x ≡ true → s ≡ x
     → after ≡ option_map (λ (out : List ℕ). out ++ []) before → SaysJob job given database s before after
@@ -224,6 +268,7 @@ says_err (RollbackSql target) given database s before after x refused finished i
 says_err (Drill path) given database s before after x refused finished is whole = tt
 says_err (Soak number sets) given database s before after x refused finished is whole = tt
 says_err UndoUnrecorded given database s before after x refused finished is whole = tt
+says_err Snapshot given database s before after x refused finished is whole = tt
 
 says_by : (job : Job) (given : Given) (database : Database) (file left : Option (List ℕ)) (done : Result Done Status) (s : Status) (before after : Option (List ℕ)) → EndsAs (status_done done) s → DoesJob job given database file done left
     → is_finished s ≡ true → after ≡ option_map (λ (out : List ℕ). out ++ out_text done) before → SaysJob job given database s before after
@@ -236,37 +281,39 @@ says_by job given database file left (Err x) s before after ended does finished 
     says_err job given database s before after x (refused_for (job_refusal job given database) x does.answers over) over is whole
 
 says_does : (job : Job) (given : Given) (database : Database) (file left : Option (List ℕ)) (done : Result Done Status) (s : Status) (before after : Option (List ℕ)) → EndsAs (status_done done) s → Does job given database file done left
-    → is_finished s ≡ true → after ≡ option_map (λ (out : List ℕ). out ++ out_text done) before → SaysJob job given database s before after
+    → is_finished s ≡ true → (CameOfRun done → is_finished s ≡ true → after ≡ option_map (λ (out : List ℕ). out ++ out_text done) before) → SaysJob job given database s before after
 says_does job given database file left done s before after ended (inl (failed, same)) finished whole = absurd (failed_unfinished done failed (sym (ap is_finished (ended_so (status_done done) s ended finished)) ∙ finished))
-says_does job given database file left done s before after ended (inr (read, does)) finished whole = says_by job given database file left done s before after ended does finished whole
+says_does job given database file left done s before after ended (inr (read, does)) finished whole = says_by job given database file left done s before after ended does finished (whole (answers_ran (job_refusal job given database) done does.answers) finished)
 
 says_line : (job : Job) (given : Given) (file left : Option (List ℕ)) (done : Result Done Status) (s : Status) (before after : Option (List ℕ)) → EndsAs (status_done done) s → DoesLine job given file done left
-    → (has_output s ≡ true → after ≡ option_map (λ (out : List ℕ). out ++ out_text done) before) → OnFile given.options.dialect file (λ database. is_finished s ≡ true → SaysJob job given database s before after)
+    → (CameOfRun done → is_finished s ≡ true → after ≡ option_map (λ (out : List ℕ). out ++ out_text done) before) → OnFile given.options.dialect file (λ database. is_finished s ≡ true → SaysJob job given database s before after)
 says_line (Run c) given file left done s before after ended does whole = λ database opens finished.
-    says_does (Run c) given database file left done s before after ended (does refl database opens) finished (whole (finished_output s finished))
+    says_does (Run c) given database file left done s before after ended (does refl database opens) finished whole
 says_line (UpdateCount count) given file left done s before after ended does whole = λ database opens finished.
-    says_does (UpdateCount count) given database file left done s before after ended (does refl database opens) finished (whole (finished_output s finished))
+    says_does (UpdateCount count) given database file left done s before after ended (does refl database opens) finished whole
 says_line (UpdateTo tag) given file left done s before after ended does whole = λ database opens finished.
-    says_does (UpdateTo tag) given database file left done s before after ended (does refl database opens) finished (whole (finished_output s finished))
+    says_does (UpdateTo tag) given database file left done s before after ended (does refl database opens) finished whole
 says_line UpdateTestingRollback given file left done s before after ended does whole = λ database opens finished.
-    says_does UpdateTestingRollback given database file left done s before after ended (does refl database opens) finished (whole (finished_output s finished))
+    says_does UpdateTestingRollback given database file left done s before after ended (does refl database opens) finished whole
 says_line ClearSums given file left done s before after ended does whole = λ database opens finished.
-    says_does ClearSums given database file left done s before after ended (does refl database opens) finished (whole (finished_output s finished))
+    says_does ClearSums given database file left done s before after ended (does refl database opens) finished whole
 says_line History given file left done s before after ended does whole = λ database opens finished.
-    says_does History given database file left done s before after ended (does refl database opens) finished (whole (finished_output s finished))
+    says_does History given database file left done s before after ended (does refl database opens) finished whole
 says_line (Generate author) given file left done s before after ended does whole = λ database opens finished.
-    says_does (Generate author) given database file left done s before after ended (does refl database opens) finished (whole (finished_output s finished))
+    says_does (Generate author) given database file left done s before after ended (does refl database opens) finished whole
 says_line UpdateSql given file left done s before after ended does whole = λ database opens finished.
-    says_does UpdateSql given database file left done s before after ended (does refl database opens) finished (whole (finished_output s finished))
+    says_does UpdateSql given database file left done s before after ended (does refl database opens) finished whole
 says_line (RollbackSql target) given file left done s before after ended does whole = λ database opens finished.
-    says_does (RollbackSql target) given database file left done s before after ended (does refl database opens) finished (whole (finished_output s finished))
+    says_does (RollbackSql target) given database file left done s before after ended (does refl database opens) finished whole
 says_line (Drill path) given file left done s before after ended does whole = λ database opens finished. tt
 says_line (Soak number sets) given file left done s before after ended does whole = λ database opens finished. tt
 says_line UndoUnrecorded given file left done s before after ended does whole = λ database opens finished. tt
+says_line Snapshot given file left done s before after ended does whole = λ database opens finished. tt
 
 pub has_said : {words : List (List ℕ)} {files : Files} (asks : Asks words files) (stamp : Stamp) (file left : Option (List ℕ)) (done : Result Done Status) (s : Status) (before after : Option (List ℕ)) → IsWritten done s
-    → DoesLine asks.line.job (given_by asks stamp) file done left → (has_output s ≡ true → after ≡ option_map (λ (out : List ℕ). out ++ out_text done) before) → Said asks stamp file s before after
-has_said asks stamp file left done s before after by does whole = says_line asks.line.job (given_by asks stamp) file left done s before after by.ended does whole
+    → DoesLine asks.line.job (given_by asks stamp) file done left → (has_output s ≡ true → after ≡ option_map (λ (out : List ℕ). out ++ out_text done) before) → (IsSilent s → after ≡ before) → Said asks stamp file s before after
+has_said asks stamp file left done s before after by does whole silent =
+    says_line asks.line.job (given_by asks stamp) file left done s before after by.ended does (wrote done s before after by.ended whole silent)
 
 -- the same of the text that the output would have got
 pub said_in_part : {words : List (List ℕ)} {files : Files} (asks : Asks words files) (stamp : Stamp) (file left : Option (List ℕ)) (done : Result Done Status) (before after : Option (List ℕ)) → DoesLine asks.line.job (given_by asks stamp) file done left
@@ -275,7 +322,7 @@ said_in_part asks stamp file left done before after does finished part = record 
   wanted = status_done done;
   finished = finished;
   text = out_text done;
-  said = says_line asks.line.job (given_by asks stamp) file left done (status_done done) before (option_map (λ (out : List ℕ). out ++ out_text done) before) (inl refl) does (λ has. refl);
+  said = says_line asks.line.job (given_by asks stamp) file left done (status_done done) before (option_map (λ (out : List ℕ). out ++ out_text done) before) (inl refl) does (λ ran finished. refl);
   part = part;
 }
 
@@ -353,10 +400,10 @@ module _ (given : Given) (target : Target) (database : Database) (n : ℕ) (turn
       ∙ unstopped given.options.dialect turns (contents_of database) point undone)
 
   -- nothing refuses them
-  refuses_not : database.lock ≡ free → faults (sets_in given) database.rows ≡ [] → refusal (command.Rollback target) given database ≡ None
+  refuses_not : database.lock.locked ≡ false → faults (sets_in given) database.rows ≡ [] → refusal (command.Rollback target) given database ≡ None
   refuses_not unlocked sound =
       ap (λ (o : Option Status). option_or o (no_way_back given target database.rows))
-      (ap (λ (o : Option Status). option_or o (invalid given database.rows)) (ap (λ (lock : Lock). if lock.locked then Some (status.Locked lock) else None) unlocked) ∙ ap if_some sound)
+      (ap (λ (o : Option Status). option_or o (invalid given database.rows)) (ap (λ (locked : Bool). if locked then Some (status.Locked database.lock) else None) unlocked) ∙ ap if_some sound)
       ∙ (ap (λ (o : Option ℕ). unreachable_by given o database.rows) stays
       ∙ ap if_not (reversible given.options.dialect (sets_in given) (rows_undone n database.rows) turns all))
 
@@ -400,7 +447,7 @@ succeeds back stamp s left before after runs said =
     let made = back_turns d (sets_in given) back.before back.ran back.database back.since back.reversible back.known in
     let ran = runs (ap is_on_file back.is_rollback) back.database back.opens in
     is_taken_by s
-    (subst (λ (o : Option Status). EndsBy o s) (refuses_not given back.target back.database n made.0 back.stays made.1 back.free back.faultless)
+    (subst (λ (o : Option Status). EndsBy o s) (refuses_not given back.target back.database n made.0 back.stays made.1 back.unlocked back.faultless)
     (subst (λ (job : Job). EndsBy (job_refusal job given back.database) s) back.is_rollback ran.ends))
     (λ finished.
     back_status given back.target back.database s before after (subst (λ (job : Job). SaysJob job given back.database s before after) back.is_rollback (said back.database back.opens finished))

@@ -11,7 +11,7 @@ use Rattle.lq_base.specs.declared.dialect.Dialect.{Dialect}
 use Rattle.lq_cli.specs.Line.{line_of}
 use Rattle.lq_cli.specs.Values.{each}
 use Rattle.lq_cli.specs.declared.line.Job.{Job}
-use Rattle.lq_cli.specs.declared.line.Job.TheVariants.{Drill, History, RollbackSql, Run, Soak, UpdateCount, UpdateSql, UpdateTestingRollback, UpdateTo, Generate, ClearSums, UndoUnrecorded}
+use Rattle.lq_cli.specs.declared.line.Job.TheVariants.{Drill, History, RollbackSql, Run, Soak, UpdateCount, UpdateSql, UpdateTestingRollback, UpdateTo, Generate, ClearSums, UndoUnrecorded, Snapshot}
 use Rattle.lq_cli.specs.declared.line.Line.{Line}
 use Rattle.lq_lines.specs.Commands.{command_of, is_empty, is_run, only_run, url_word, with_url, words_in}
 use Rattle.lq_lines.specs.File.{both_of, cut_lines, is_steps, lines_in, lines_of, lines_with}
@@ -81,6 +81,7 @@ tag_short (RollbackSql target) short = tt
 tag_short (Drill runs) short = tt
 tag_short (Soak number sets) short = tt
 tag_short UndoUnrecorded short = tt
+tag_short Snapshot short = tt
 
 pub lines_short : (d : Dialect) (path file : List ℕ) (lines : Lines) → lines_of d path file ≡ Some lines → All (λ (line : Line). HasShortTag (command_in line.job)) lines.lines
 lines_short d path file lines is =

@@ -151,6 +151,7 @@ job_short verb.Tag given = tagging_short given
 job_short verb.ReleaseLocks given = (tt, tt)
 job_short verb.UpdateTestingRollback given = (tt, tt)
 job_short verb.UndoUnrecorded given = (tt, tt)
+job_short verb.Snapshot given = (tt, tt)
 job_short verb.ClearChecksums given = (tt, tt)
 job_short verb.History given = (tt, tt)
 job_short verb.GenerateChangelog given = generating_short given

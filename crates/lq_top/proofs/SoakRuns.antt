@@ -1,10 +1,9 @@
 -- What a soak's commands leave, and the text that tells of it.
 use Rattle.std.proofs.Common.{ap, arith, refl, subst, sym, ◌∙◌}
 use Rattle.std.proofs.lemmas.List.{length-map}
-use Rattle.std.proofs.lemmas.List.Sums.{sum_by-cons}
-use Rattle.std.specs.List.{list_any, sum_by}
+use Rattle.std.specs.List.{list_all, list_any}
 use Rattle.std.specs.Option.{option_map}
-use Rattle.std.specs.Prelude.{IfOk, IfSome, List, None, Ok, OnOk, Err, Option, Result, Some, [], false, length, map, take, true, ℕ, ◌+◌, ◌++◌, ◌∷◌, ◌≡◌}
+use Rattle.std.specs.Prelude.{Bool, IfOk, IfSome, List, None, Ok, OnOk, Err, Option, Result, Some, [], cond, false, length, map, take, true, ℕ, ◌&&◌, ◌||◌, ◌+◌, ◌++◌, ◌∷◌, ◌≡◌}
 use Rattle.hex.specs.Hex.{encode_lower}
 use Rattle.md5.specs.Md5.{md5}
 use Rattle.lq_base.specs.declared.command.Command.{Command}
@@ -17,18 +16,21 @@ use Rattle.lq_commands.specs.Scripts.{script}
 use Rattle.lq_commands.specs.Stamp.{stamp_of}
 use Rattle.lq_commands.specs.Works.{OnIts, Works, is_finished}
 use Rattle.lq_commands.specs.declared.given.Given.{Given}
-use Rattle.lq_db.proofs.Loads.{nothing_sound}
-use Rattle.lq_entries.proofs.Logs.{size_is}
+use Rattle.lq_engine.proofs.Marks.{nothing_sound}
 use Rattle.lq_db.specs.Db.{IsDb, IsNew, IsValid, state}
 use Rattle.lq_session.specs.Session.{begun_in}
-use Rattle.lq_entries.specs.Log.{entries_in, texts_of}
+use Rattle.lq_entries.specs.Log.{as_entry, entries_in, if_undamaged, unplaced}
 use Rattle.lq_db.specs.declared.db.Db.{Db}
 use Rattle.lq_journal.proofs.Entries.{short}
-use Rattle.lq_frames.specs.Body.{size_of}
-use Rattle.lq_frames.specs.Journal.{journal_of, used_by}
+use Rattle.lq_frames.specs.Body.{is_state}
+use Rattle.lq_frames.specs.Journal.{from_last_state, has_state}
 use Rattle.lq_journal.specs.State.{dialect_of, limit_of}
+use Rattle.lq_frames.specs.declared.entry.Body.{Body}
+use Rattle.lq_frames.specs.declared.entry.Body.TheVariants.{State, Texts}
 use Rattle.lq_frames.specs.declared.entry.Entry.{Entry as Placed}
+use Rattle.lq_journal.specs.Reading.{IsRead}
 use Rattle.lq_kinds.specs.declared.change_set.Changelog.{Changelog}
+use Rattle.lq_model.proofs.Lists.{all-append, and_right}
 use Rattle.lq_model.specs.Catalogue.{no_objects}
 use Rattle.lq_model.specs.NameSpaces.{is_taken}
 use Rattle.lq_outside.specs.Crash.{Crashes}
@@ -38,8 +40,9 @@ use Rattle.lq_run.specs.Stands.{entries_of}
 use Rattle.lq_sources.proofs.Sources.{has_source}
 use Rattle.lq_sources.specs.Faults.{Loaded}
 use Rattle.lq_store.specs.Executor.{Held, kept}
-use Rattle.lq_store.specs.Journal.{Entry, database as catalogue_by, entry_size, size_of_all}
-use Rattle.lq_store.specs.State.{State}
+use Rattle.lq_store.specs.Calls.{is_of_texts}
+use Rattle.lq_store.specs.Journal.{Entry, database as catalogue_by}
+use Rattle.lq_store.specs.State.{State as StoreState}
 use Rattle.lq_tell.specs.SoakLog.{soak_changelog, soak_path}
 use Rattle.lq_tell.specs.declared.done.Done.{Done}
 use Rattle.lq_tell.specs.declared.status.Status.{Status}
@@ -47,8 +50,10 @@ use Rattle.lq_tell.specs.declared.status.Status.TheVariants as status
 use Rattle.lq_track.specs.Database.{Database}
 use Rattle.lq_turns.specs.Held.{StandsFor, own_names}
 use Rattle.lq_turns.specs.Session.{left_by}
+use Rattle.lq_turns.specs.Stops.{Journal}
 use Rattle.lq_turns.specs.declared.call.Call.{Call}
 use Rattle.lq_turns.specs.declared.stamp.Stamp.{Stamp}
+use Rattle.lq_top.proofs.InUse.{sizes_are}
 use Rattle.lq_top.proofs.Ready.{becomes}
 use Rattle.lq_top.specs.Bytes.{Holds, in_use, most_bytes}
 use Rattle.lq_top.specs.Soaked.{Did, DidOn, DidOnEach, IsLeft, IsMade, IsMeasured, Soaks, TakenBack, TellsSoak, all_entries, empty, soak_given, take_back, taken_back, update_entries, updated}
@@ -59,6 +64,9 @@ some_same h = Prim.cc
 none_some : {A : Type 0} {a : A} → (let o : Option A = None in o) ≡ Some a → ⊥
 none_some h = Prim.cc
 
+false_true : false ≡ true → ⊥
+false_true h = Prim.cc
+
 ok_same : {a b : Changelog} → (let r : Loaded Changelog = Ok a in r) ≡ Ok b → a ≡ b
 ok_same h = Prim.cc
 
@@ -68,7 +76,7 @@ ok_both (Ok a) P Q R is too so = so a is too
 ok_both (Err e) P Q R is too so = tt
 
 -- a command that was done leaves what its calls do
-pub done_leaves : (d : Dialect) (calls : Database → List Call) (x y : State) (done : Done) (r : Result (Unit {0}) Status) → OnIts d x (λ database. Works d (calls database) database x (Ok done) y) → OnOk r (done.status ≡ status.Done)
+pub done_leaves : (d : Dialect) (calls : Database → List Call) (x y : StoreState) (done : Done) (r : Result (Unit {0}) Status) → OnIts d x (λ database. Works d (calls database) database x (Ok done) y) → OnOk r (done.status ≡ status.Done)
     → OnOk r (OnIts d x (λ database. Leaves d (calls database) database x y))
 done_leaves d calls x y done (Ok u) works is = λ database has. (works database has).0 (subst (λ s. is_finished s ≡ true) (sym is) refl)
 done_leaves d calls x y done (Err s) works is = tt
@@ -79,10 +87,10 @@ module _ {D P E : Type 0} (given : Given) (p : Dialect) (told now : Option (List
   abbrev d : Dialect
   d = given.options.dialect
 
-  abbrev x : State
+  abbrev x : StoreState
   x = state told h db
 
-  abbrev y : State
+  abbrev y : StoreState
   y = state now k left
 
   entries_were : entries_in (dialect_of db.journal) (limit_of db.journal) told ≡ entries_in d most_bytes told
@@ -119,27 +127,41 @@ did_so d number sets stamp c given told before after rows tables given_is made s
 }
 
 -- there is one
-same_made : (d : Dialect) (number sets : ℕ) (one other : Changelog) → IsMade d number sets one → IsMade d number sets other → one ≡ other
+pub same_made : (d : Dialect) (number sets : ℕ) (one other : Changelog) → IsMade d number sets one → IsMade d number sets other → one ≡ other
 same_made d number sets one other is so =
     let source = has_source ((soak_path, soak_changelog number sets) ∷ []) in
     ok_same (sym (is source.0 source.1) ∙ so source.0 source.1)
 
--- the entries with their places take as much as without
-sizes_are : (entries : List Placed) → sum_by (λ (entry : Placed). size_of entry.texts) entries ≡ size_of_all (map (λ (entry : Placed). entry.texts) entries)
-sizes_are [] = refl
-sizes_are (entry ∷ entries) =
-    omega (arith, sum_by-cons (λ (entry : Placed). size_of entry.texts) entry entries, sum_by-cons (λ (texts : Entry). entry_size texts) entry.texts (map (λ (entry : Placed). entry.texts) entries), size_is entry.texts, sizes_are entries)
+-- a journal without a state begins with its first entry
 
-pub measured : (d : Dialect) (told : Option (List ℕ)) (entries : List Placed) (many used : ℕ) → IfSome told (λ bytes. journal_of d most_bytes bytes ≡ Ok entries) → many ≡ length entries → used ≡ used_by entries → IsMeasured d told many used
-measured d None entries many used read many_are used_is there are = absurd (none_some are)
-measured d (Some bytes) entries many used read many_are used_is there are =
-    let same : map (λ (entry : Placed). entry.texts) entries ≡ there = some_same (sym (ap texts_of read) ∙ are) in
-    (many_are ∙ sym (length-map entries (λ (entry : Placed). entry.texts)) ∙ ap length same, used_is ∙ ap (λ (n : ℕ). 17 + n) (sizes_are entries) ∙ ap in_use same)
+no_state : (entries : List Placed) → list_all is_of_texts (map unplaced entries) ≡ true → has_state entries ≡ false
+no_state [] all = refl
+no_state (entry ∷ entries) all = by entry.body refl (no_state entries) all where
+  by : (b : Body) → entry.body ≡ b → (list_all is_of_texts (map unplaced entries) ≡ true → has_state entries ≡ false) → is_of_texts (as_entry b) && list_all is_of_texts (map unplaced entries) ≡ true → is_state entry.body || has_state entries ≡ false
+  by (Texts texts) is more all = ap (λ (b : Body). is_state b || has_state entries) is ∙ more all
+  by (State bytes) is more all = absurd (false_true all)
+
+from_first : (entries : List Placed) → list_all is_of_texts (map unplaced entries) ≡ true → from_last_state entries ≡ entries
+from_first [] all = refl
+from_first (entry ∷ entries) all = ap (λ (b : Bool). cond b (from_last_state entries) (entry ∷ entries)) (no_state entries (and_right (is_of_texts (unplaced entry)) _ all))
+
+pub measured : (d : Dialect) (told : Option (List ℕ)) (entries : List Placed) (many used : ℕ) → IfSome told (λ bytes. IsRead d most_bytes bytes entries used) → many ≡ length entries → IsMeasured d told many used
+measured d None entries many used read many_are there are all = absurd (none_some are)
+measured d (Some bytes) entries many used read many_are there are all =
+    let same : map unplaced read.all ≡ there = some_same (sym (ap if_undamaged read.journal_is) ∙ are) in
+    let first = from_first read.all (ap (list_all is_of_texts) same ∙ all) in
+    (many_are ∙ ap length (read.entries_are ∙ first) ∙ sym (length-map read.all unplaced) ∙ ap length same, read.used_is ∙ ap (λ (n : ℕ). 17 + n) (sizes_are read.all) ∙ ap in_use same)
+
+-- what commands write are transactions
+
+all_texts : (d : Dialect) (entries : Journal) → list_all is_of_texts (entries_of d entries) ≡ true
+all_texts d [] = refl
+all_texts d (deeds ∷ entries) = all_texts d entries
 
 -- a file without bytes holds a database without anything
 
 nothing_in : (d : Dialect) → entries_in d most_bytes (Some []) ≡ Some []
-nothing_in d = ap texts_of (short d most_bytes [] (omega arith) (omega arith))
+nothing_in d = ap if_undamaged (short d most_bytes [] (omega arith) (omega arith))
 
 nothing_named : (d : Dialect) → list_any (λ (n : Name). is_taken d n no_objects) (own_names d) ≡ false
 nothing_named Postgresql = refl
@@ -148,7 +170,7 @@ nothing_named Mysql = refl
 nothing_stands : (d : Dialect) → StandsFor d no_objects empty
 nothing_stands d = record { ordered = (nothing_sound d).ordered; is = refl; sound = nothing_sound d; names = nothing_named d; few = refl }
 
-nothing_holds : (d : Dialect) → Holds d (Some []) empty
+pub nothing_holds : (d : Dialect) → Holds d (Some []) empty
 nothing_holds d = record { entries = []; told_are = nothing_in d; catalogue = no_objects; leads = refl; stands = nothing_stands d }
 
 same_text : (sets : ℕ) (e f b u : ℕ) (s z : List ℕ) (l m r q t v : ℕ) → e ≡ f → b ≡ u → s ≡ z → l ≡ m → r ≡ q → t ≡ v
@@ -183,8 +205,8 @@ module _ (d : Dialect) (number sets : ℕ) (stamp : Stamp) (begins told here : O
 
   pub soaks : Soaks d number sets stamp text
   soaks =
-      let there = measures (update_entries given) entries_are in
-      let later = back.measured (all_entries given sets) all_are in
+      let there = measures (update_entries given) entries_are (all_texts d (updated given).entries) in
+      let later = back.measured (all_entries given sets) all_are (all-append is_of_texts (update_entries given) (entries_of d (taken_back given sets).entries) (all_texts d (updated given).entries) (all_texts d (taken_back given sets).entries)) in
       record {
         changelog = did.changelog;
         made = did.made;

@@ -16,8 +16,8 @@ use Rattle.lq_turns.specs.declared.stamp.Stamp.{Stamp}
 use Rattle.lq_top.proofs.Written.{IsWritten, failed_ends}
 use Rattle.lq_top.specs.Asks.{file_status}
 use Rattle.lq_top.specs.Jobs.{is_apart}
-use Rattle.lq_top.specs.Kinds.{is_unwritten}
-use Rattle.lq_top.specs.Soaked.{SaysSoak, TellsSoak, TellsSoakOf, is_done}
+use Rattle.lq_top.specs.Kinds.{IsOfFiles, is_unwritten}
+use Rattle.lq_top.specs.Soaked.{FailsSoak, SaysSoak, TellsSoak, TellsSoakOf, is_done}
 
 true_false : true ≡ false → ⊥
 true_false h = Prim.cc
@@ -46,12 +46,17 @@ file_undone load.Read = refl
 file_undone load.OutOfMemory = refl
 file_undone fault = refl
 
+file_fails : (d : Dialect) (number sets : ℕ) (stamp : Stamp) (fault : LoadFault) → IsOfFiles (Err (file_status fault)) ⊎ FailsSoak d number sets stamp (file_status fault)
+file_fails d number sets stamp load.Read = inl tt
+file_fails d number sets stamp load.OutOfMemory = inr (inl refl)
+file_fails d number sets stamp fault = inl tt
+
 -- nor does one whose files failed
 pub failed_tells : (job : Job) (d : Dialect) (stamp : Stamp) (fault : LoadFault) (s : Status) → s ≡ file_status fault → TellsSoakOf job d stamp (Err s)
-failed_tells job d stamp fault s is = λ number sets soak. ap is_done is ∙ file_undone fault
+failed_tells job d stamp fault s is = λ number sets soak. (ap is_done is ∙ file_undone fault, subst (λ s. IsOfFiles (Err s) ⊎ FailsSoak d number sets stamp s) (sym is) (file_fails d number sets stamp fault))
 
 pub refused_tells : (job : Job) (d : Dialect) (stamp : Stamp) (done : Result Done Status) → done ≡ Err status.OutOfMemory → TellsSoakOf job d stamp done
-refused_tells job d stamp done is = λ number sets soak. subst (TellsSoak d number sets stamp) (sym is) refl
+refused_tells job d stamp done is = λ number sets soak. subst (TellsSoak d number sets stamp) (sym is) (refl, inr (inl refl))
 
 no_done : (x s : Status) → (s ≡ x) ⊎ (s ≡ status.OutOfMemory) → is_done x ≡ false → s ≡ status.Done → ⊥
 no_done x s (inl same) undone is = true_false (sym (ap is_done (sym same ∙ is)) ∙ undone)
@@ -61,13 +66,24 @@ no_write : (x s : Status) → (s ≡ x) ⊎ (s ≡ status.OutOfMemory) → is_un
 no_write x s (inl same) unwritten is = true_false (sym unwritten ∙ ap is_unwritten (sym same ∙ is))
 no_write x s (inr memory) unwritten is = true_false (sym (ap is_unwritten memory) ∙ ap is_unwritten is)
 
+ends_done : (d : Dialect) (number sets : ℕ) (stamp : Stamp) (x s : Status) → x ≡ status.Done → (s ≡ x) ⊎ (s ≡ status.OutOfMemory) ⊎ (s ≡ status.WriteFault) → (s ≡ status.Done) ⊎ (s ≡ status.WriteFault) ⊎ IsOfFiles (Err s) ⊎ FailsSoak d number sets stamp s
+ends_done d number sets stamp x s done (inl same) = inl (same ∙ done)
+ends_done d number sets stamp x s done (inr (inl memory)) = inr (inr (inr (inl memory)))
+ends_done d number sets stamp x s done (inr (inr write)) = inr (inl write)
+
+ends_failed : (d : Dialect) (number sets : ℕ) (stamp : Stamp) (x s : Status) → IsOfFiles (Err x) ⊎ FailsSoak d number sets stamp x → (s ≡ x) ⊎ (s ≡ status.OutOfMemory) → (s ≡ status.Done) ⊎ (s ≡ status.WriteFault) ⊎ IsOfFiles (Err s) ⊎ FailsSoak d number sets stamp s
+ends_failed d number sets stamp x s fails (inl same) = inr (inr (subst (λ s. IsOfFiles (Err s) ⊎ FailsSoak d number sets stamp s) (sym same) fails))
+ends_failed d number sets stamp x s fails (inr memory) = inr (inr (inr (inl memory)))
+
 pub says_soak : (d : Dialect) (number sets : ℕ) (stamp : Stamp) (done : Result Done Status) (s : Status) (before after : Option (List ℕ)) → IsWritten done s → TellsSoak d number sets stamp done
     → (has_output s ≡ true → after ≡ option_map (λ (out : List ℕ). out ++ out_text done) before) → IsPart (out_text done) before after → SaysSoak d number sets stamp s before after
 says_soak d number sets stamp (Ok ended) s before after by tells whole part = record {
   whole = λ is. (tells.0, tells.2, whole (ap has_output is) ∙ ap (λ (text : List ℕ). option_map (λ (out : List ℕ). out ++ text) before) (ap text_or_none tells.1.out));
   part = λ is. (tells.0, tells.2, subst (λ (text : List ℕ). IsPart text before after) (ap text_or_none tells.1.out) part);
+  ends = ends_done d number sets stamp ended.status s tells.1.status by.ended;
 }
-says_soak d number sets stamp (Err x) s before after by undone whole part = record {
-  whole = λ is. absurd (no_done x s (failed_ends (Err x) x s by refl) undone is);
+says_soak d number sets stamp (Err x) s before after by tells whole part = record {
+  whole = λ is. absurd (no_done x s (failed_ends (Err x) x s by refl) tells.0 is);
   part = λ is. absurd (no_write x s (failed_ends (Err x) x s by refl) by.kind is);
+  ends = ends_failed d number sets stamp x s tells.1 (failed_ends (Err x) x s by refl);
 }

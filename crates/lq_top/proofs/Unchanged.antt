@@ -8,9 +8,9 @@ use Rattle.lq_commands.specs.Outputs.{TellsJob}
 use Rattle.lq_commands.specs.Refusals.{Answers}
 use Rattle.lq_commands.specs.Works.{is_finished}
 use Rattle.lq_commands.specs.declared.given.Given.{Given}
-use Rattle.lq_db.proofs.Loads.{folded_runs}
+use Rattle.lq_entries.proofs.Folded.{folded_runs}
 use Rattle.lq_entries.specs.Load.{folded, if_clean, is_clean, read_entries}
-use Rattle.lq_entries.specs.Log.{entries_in, texts_of}
+use Rattle.lq_entries.specs.Log.{entries_in, if_undamaged, unplaced}
 use Rattle.lq_frames.specs.Journal.{journal_of, used_by}
 use Rattle.lq_frames.specs.declared.entry.Entry.{Entry as Placed}
 use Rattle.lq_model.specs.Catalogue.{Catalogue, no_objects}
@@ -48,18 +48,18 @@ module _ (d : Dialect) where
   was_clean at (Ok c) e is = ap Ok (clean_is c at e (is_clean d c) is)
   was_clean at (Err place) e is = is
 
-  read_is : (r : Result (List Placed) ℕ) (e : Catalogue) → read_entries d r ≡ Ok e → (entries : List Placed) × (r ≡ Ok entries) × (folded d entries no_objects ≡ Ok e)
+  read_is : (r : Result (List Placed) ℕ) (e : Catalogue) → read_entries d r ≡ Ok e → (entries : List Placed) × (r ≡ Ok entries) × (folded d entries (Ok no_objects) ≡ Ok e)
   read_is (Err at) e is = absurd (err_ok is)
-  read_is (Ok entries) e is = (entries, refl, was_clean (used_by entries) (folded d entries no_objects) e is)
+  read_is (Ok entries) e is = (entries, refl, was_clean (used_by entries) (folded d entries (Ok no_objects)) e is)
 
   pub holds_it : (before : Option (List ℕ)) (database : Database) → Opens d before database → Holds d before database
   holds_it before database opens =
       let it = read_is (journal_of d most_bytes opens.bytes) opens.catalogue opens.read in
       record {
-        entries = map (λ (e : Placed). e.texts) it.0;
-        told_are = ap (entries_in d most_bytes) opens.told_is ∙ ap texts_of it.1;
+        entries = map unplaced it.0;
+        told_are = ap (entries_in d most_bytes) opens.told_is ∙ ap if_undamaged it.1;
         catalogue = opens.catalogue;
-        leads = folded_runs d it.0 no_objects opens.catalogue it.2;
+        leads = folded_runs d it.0 opens.catalogue it.2;
         stands = opens.stands;
       }
 
@@ -177,4 +177,5 @@ printed_does printing given database before done after opens answers tells told 
       again = prints_again printing given database done;
       room = had_room given.options.dialect calls database before done room;
       full = says_full given.options.dialect calls database before done room;
+      rests = λ own. prints_no_command printing own;
     }

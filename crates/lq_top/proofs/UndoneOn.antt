@@ -5,7 +5,7 @@ use Rattle.std.specs.Prelude.{Bool, Err, IfOk, IfSome, List, None, Ok, Option, R
 use Rattle.lq_base.specs.declared.dialect.Dialect.{Dialect}
 use Rattle.lq_base.specs.declared.identity.Identity.{Identity}
 use Rattle.lq_base.specs.declared.tracking.Tracked.{Tracked}
-use Rattle.lq_cli.specs.declared.line.Job.TheVariants.{UndoUnrecorded}
+use Rattle.lq_cli.specs.declared.line.Job.TheVariants.{Snapshot, UndoUnrecorded}
 use Rattle.lq_commands.proofs.PlainRefusals.{IsNotFull, IsPlain}
 use Rattle.lq_commands.specs.Kinds.{is_diskless}
 use Rattle.lq_commands.specs.Refusals.{Answers}
@@ -40,10 +40,9 @@ use Rattle.lq_turns.specs.Set.{Set}
 use Rattle.lq_turns.specs.declared.fault.Fault.{Fault}
 use Rattle.lq_undoing.specs.Undid.{TellsUndone, status_of, undo_refusal}
 use Rattle.lq_unrecorded.specs.Part.{part_mark}
-use Rattle.lq_top.proofs.DamagedFiles.{load_spares, no_damage, spares_after}
 use Rattle.lq_top.proofs.InPart.{no_goal}
 use Rattle.lq_top.proofs.LeftOnFile.{since_after, since_none, since_read}
-use Rattle.lq_top.proofs.OnFiles.{entries_told, entries_were, fault_answers, fault_kind, fault_rises, fault_tells, load_unfinished, memory_unfinished, moments_there, room_there, rose_later, settled_after, works_there}
+use Rattle.lq_top.proofs.OnFiles.{entries_told, entries_were, fault_answers, fault_kind, load_unfinished, memory_unfinished, moments_there, rests_there, room_there, settled_after, works_there}
 use Rattle.lq_top.proofs.OnReady.{ready_kind, ready_tells}
 use Rattle.lq_top.proofs.Ready.{opened}
 use Rattle.lq_top.proofs.RefusedKinds.{answers_memory}
@@ -59,7 +58,11 @@ use Rattle.lq_top.specs.declared.copying.Printing.TheVariants as print
 false_true : false ≡ true → ⊥
 false_true h = Prim.cc
 
--- what is printed is another job
+-- a snapshot is another job
+undo_no_snapshot : UndoUnrecorded ≡ Snapshot → ⊥
+undo_no_snapshot h = Prim.cc
+
+-- and so is what is printed
 pub prints_no_undo : {A : Type 0} (printing : Printing) → job_of printing ≡ UndoUnrecorded → A
 prints_no_undo print.Update is = absurd Prim.cc
 prints_no_undo (print.Rollback target) is = absurd Prim.cc
@@ -145,6 +148,7 @@ nothing_undone o g told database after s opens same answers = record {
   tells = tt;
   room = tt;
   full = tt;
+  rests = tt;
 }
 
 module _ {D : Type 0} (told : D → Option (List ℕ)) (faults : D → ℕ) (crashes : D → DiskCrashes) where
@@ -158,6 +162,7 @@ module _ {D : Type 0} (told : D → Option (List ℕ)) (faults : D → ℕ) (cra
     does = λ on. absurd (false_true on);
     any_moment = λ on. absurd (false_true on);
     undone = λ is. undone;
+    snapped = λ is. absurd (undo_no_snapshot is);
   }
 
   -- on a database that was loaded
@@ -202,6 +207,7 @@ module _ {D : Type 0} (told : D → Option (List ℕ)) (faults : D → ℕ) (cra
             tells = subst (λ t. IfOk r (TellsUndone o database (unrecorded o g t database.lock database.rows))) same (tells database has);
             room = had_room d (undo_calls o g file database) database file r room;
             full = says_full d (undo_calls o g file database) database file r room;
+            rests = rests_there d p file (crashes (disk_in db)) h db is new.limit_is opens.bytes opens.told_is (told (disk_in left)) (crashes (disk_in left)) k left valid database has (undo_calls o g file database) r worked;
           };
       any_moment = λ database opens.
           let has = opened d p file (crashes (disk_in db)) h db is new file database refl read opens in
@@ -213,16 +219,8 @@ module _ {D : Type 0} (told : D → Option (List ℕ)) (faults : D → ℕ) (cra
           (λ some. settled_kept (refused ready.database ready.has some)) (works ready.database ready.has);
     }
 
-    pub loaded_used : (r : Result Done Status) → OnIts d x (λ database. Answers (undo_refusal o g database) r) → faults (disk_in db) ≤ faults (disk_in left) → (r ≡ Err status.DiskFault → Rose (faults (disk_in db)) (faults (disk_in left)))
-        → UsedDisk told faults crashes UndoUnrecorded d (disk_in db) r (disk_in left)
-    loaded_used r answers later fault = record {
-      damaged = ready_tells d d refl x ready (undo_refusal o g) (undo_plain o g) r answers file;
-      spares = λ beside place damaged. no_damage d file (kept h) read place damaged;
-      safe = λ own. absurd (false_true own);
-      off = λ off. absurd (false_true off);
-      later = later;
-      fault = fault;
-    }
+    pub loaded_tells : (r : Result Done Status) → OnIts d x (λ database. Answers (undo_refusal o g database) r) → TellsDamage d file r
+    loaded_tells r answers = ready_tells d d refl x ready (undo_refusal o g) (undo_plain o g) r answers file
 
     pub loaded_kind : (r : Result Done Status) → OnIts d x (λ database. Answers (undo_refusal o g database) r) → IsOfDatabase r
     loaded_kind r answers = ready_kind d d refl x ready (undo_refusal o g) (undo_plain o g) r answers
@@ -236,7 +234,7 @@ module _ {D : Type 0} (told : D → Option (List ℕ)) (faults : D → ℕ) (cra
       safe = λ finished. absurd (memory_unfinished s memory finished);
     }
 
-    module _ (sound : IsSound (told disk) (crashes disk)) (after : D) (same : told after ≡ told disk) (later : faults disk ≤ faults after) (read : LeavesOnly (crashes disk) (crashes after) (crashes disk).leaves) where
+    module _ (sound : IsSound (told disk) (crashes disk)) (after : D) (same : told after ≡ told disk) (read : LeavesOnly (crashes disk) (crashes after) (crashes disk).leaves) where
       -- what was done on the disk as it was read is done on the disk
       pub undone_after : (r : Result Done Status) (last : D) → UndoneOn told faults crashes o g after r last → UndoneOn told faults crashes o g disk r last
       undone_after r last did = record {
@@ -245,16 +243,6 @@ module _ {D : Type 0} (told : D → Option (List ℕ)) (faults : D → ℕ) (cra
             since_after o.dialect (undo_calls o g (told disk) database) database (told disk) (crashes disk) sound (crashes after) (crashes last) read
             (subst (λ (t : Option (List ℕ)). OnFile o.dialect t (λ database. CrashesSince o.dialect (undo_calls o g t database) database t (crashes after) (crashes last))) same did.any_moment database opens);
         safe = did.safe;
-      }
-
-      pub used_after : (r : Result Done Status) (last : D) → UsedDisk told faults crashes UndoUnrecorded o.dialect after r last → UsedDisk told faults crashes UndoUnrecorded o.dialect disk r last
-      used_after r last used = record {
-        damaged = subst (λ t. TellsDamage o.dialect t r) same used.damaged;
-        spares = λ beside place damaged. spares_after UndoUnrecorded o.dialect (told disk) (told after) same r (told last) place (used.spares beside place) damaged;
-        safe = used.safe;
-        off = λ off. absurd (false_true off);
-        later = omega (arith, later, used.later);
-        fault = λ is. rose_later (faults disk) (faults after) (faults last) later (used.fault is);
       }
 
       -- it could not be loaded
@@ -266,16 +254,6 @@ module _ {D : Type 0} (told : D → Option (List ℕ)) (faults : D → ℕ) (cra
               (subst (λ s. Answers (undo_refusal o g database) (Err s)) (sym is_status) (fault_answers o.dialect (told disk) (faults disk) (faults after) f (undo_refusal o g database) database is opens));
           any_moment = λ database opens. since_read o.dialect (undo_calls o g (told disk) database) database (told disk) (crashes disk) sound (crashes after) read;
           safe = λ finished. absurd (load_unfinished f (subst (λ s. is_finished s ≡ true) is_status finished));
-        }
-
-        pub fault_used : UsedDisk told faults crashes UndoUnrecorded o.dialect disk (Err s) after
-        fault_used = record {
-          damaged = subst (λ s. TellsDamage o.dialect (told disk) (Err s)) (sym is_status) (fault_tells o.dialect (told disk) (faults disk) (faults after) f is);
-          spares = λ beside place damaged. load_spares UndoUnrecorded o.dialect (told disk) (told after) (faults disk) (faults after) f s is_status is same place damaged;
-          safe = λ own. absurd (false_true own);
-          off = λ off. absurd (false_true off);
-          later = later;
-          fault = fault_rises o.dialect (told disk) (faults disk) (faults after) f s is_status is;
         }
 
         pub fault_kind_is : IsOfDatabase (Err s)

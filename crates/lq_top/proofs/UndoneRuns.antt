@@ -1,10 +1,9 @@
 -- What a run of undo-unrecorded does on a file, and what it says.
-use Rattle.std.proofs.Common.{ap, inl, inr, refl, subst, sym, ◌∙◌}
-use Rattle.std.proofs.lemmas.List.{append-nil}
-use Rattle.std.specs.Prelude.{Err, IfOk, IfSome, List, None, Ok, Option, Result, Some, [], false, option_map, true, ℕ, ◌++◌, ◌≡◌, ◌⊎◌}
+use Rattle.std.proofs.Common.{ap, inl, inr, subst, sym, ◌∙◌}
+use Rattle.std.specs.Prelude.{Err, IfOk, IfSome, List, None, Ok, Option, Result, Some, false, option_map, true, ℕ, ◌++◌, ◌≡◌, ◌⊎◌}
 use Rattle.lq_base.specs.declared.identity.Identity.{Identity}
 use Rattle.lq_cli.specs.declared.line.Job.TheVariants.{Drill, UndoUnrecorded}
-use Rattle.lq_commands.specs.Refusals.{Answers}
+use Rattle.lq_commands.specs.Refusals.{Answers, ends}
 use Rattle.lq_commands.specs.Works.{is_finished}
 use Rattle.lq_expr.specs.declared.options.Options.{Options}
 use Rattle.lq_kinds.specs.declared.change_set.Changelog.{Changelog}
@@ -22,12 +21,12 @@ use Rattle.lq_top.proofs.LeftOnFile.{crashes_on, since_none}
 use Rattle.lq_top.proofs.OnFiles.{by_end}
 use Rattle.lq_top.proofs.OpensAgain.{opens_same}
 use Rattle.lq_top.proofs.UndoneOpens.{undone_cut, undone_opens}
-use Rattle.lq_top.proofs.Said.{ended_so, finished_output}
+use Rattle.lq_top.proofs.Said.{answers_ran, ended_so, nothing_more, ran_output}
 use Rattle.lq_top.proofs.Unchanged.{becomes_left, left_same}
 use Rattle.lq_top.proofs.UndoneOn.{undo_not_full, undo_unfinished}
 use Rattle.lq_top.proofs.Written.{Failed, IsWritten, ends_by, err_not_full, failed_outside, failed_unfinished, memory_full, outside_ends, outside_not_full, quiet_not, refused_for, was_over, write_full}
 use Rattle.lq_top.specs.Asks.{Asks, Files}
-use Rattle.lq_top.specs.Bytes.{Becomes, CrashesOn, HadRoomOn, IsLeftOn, OnFile, Opens, SaysFullOn}
+use Rattle.lq_top.specs.Bytes.{Becomes, CrashesOn, HadRoomOn, IsLeftOn, OnFile, Opens, RestsFullOn, SaysFullOn}
 use Rattle.lq_top.specs.Run.{is_over}
 use Rattle.lq_top.specs.Undone.{CrashesUndone, DoesUndo, IsUndoneSafe, RunsUndo, RunsUndone, SaysPart, SaysUndone, part_on, undo_calls}
 use Rattle.lq_top.specs.Worked.{UndoneBy, UndoneOn}
@@ -35,12 +34,6 @@ use Rattle.lq_top.specs.Worked.{UndoneBy, UndoneOn}
 -- a drill is another job
 pub drill_not_undo : {runs : List ℕ} → Drill runs ≡ UndoUnrecorded → ⊥
 drill_not_undo h = Prim.cc
-
-nothing_more : (o : Option (List ℕ)) → option_map (λ (out : List ℕ). out ++ []) o ≡ o
-nothing_more None = refl
-nothing_more (Some out) = ap some (append-nil out) where
-  some : List ℕ → Option (List ℕ)
-  some text = Some text
 
 -- it ended so with what it told
 says_part : (of : Identity) (many : ℕ) (refused : Option Refusal) (done : Done) (s : Status) (shown now : Option (List ℕ)) → TellsPart of many refused done → s ≡ done.status → now ≡ option_map (λ (out : List ℕ). out ++ text_or_none done.out) shown
@@ -73,6 +66,7 @@ module _ (o : Options) (g : Changelog) (database : Database) (before : Option (L
     says = says_nothing (part_on o g before database) failed;
     room = λ over. absurd (failed_unfinished done failed (was_over done s by over));
     full = λ used next is. absurd (outside_not_full s (failed_outside done s by failed) used next is);
+    rests = λ used next is. absurd (outside_not_full s (failed_outside done s by failed) used next is);
   }
 
   became : (r : Result Done Status) → DoesUndo o g before database r after → is_finished (status_done r) ≡ true → Becomes o.dialect (undo_calls o g before database) database before after
@@ -94,12 +88,18 @@ module _ (o : Options) (g : Changelog) (database : Database) (before : Option (L
   told_full r (inr (inl memory)) does = λ used next is. absurd (memory_full (sym memory ∙ is))
   told_full r (inr (inr write)) does = λ used next is. absurd (write_full (sym write ∙ is))
 
+  rests_so : (r : Result Done Status) → EndsAs (status_done r) s → DoesUndo o g before database r after → RestsFullOn o.dialect (undo_calls o g before database) database before s after
+  rests_so (Ok ended) (inl same) does = λ used next is. does.rests used next (sym same ∙ is)
+  rests_so (Err x) (inl same) does = λ used next is. absurd (err_not_full (undo_refusal o g database) x (undo_not_full o g database) does.answers used next (sym same ∙ is))
+  rests_so r (inr (inl memory)) does = λ used next is. absurd (memory_full (sym memory ∙ is))
+  rests_so r (inr (inr write)) does = λ used next is. absurd (write_full (sym write ∙ is))
+
   says_it : (part : Option Standing) (r : Result Done Status) → EndsAs (status_done r) s → Answers (undo_refusal o g database) r → (has_output s ≡ true → now ≡ option_map (λ (out : List ℕ). out ++ out_text r) shown)
       → IfOk r (TellsUndone o database part) → SaysUndone o database part s shown now
   says_it None r ended answers whole tells = tt
   says_it (Some part) (Ok done) ended answers whole tells = λ finished.
       let is = ended_so done.status s ended finished in
-      says_part part.0.identity part.1 (back_refused o.dialect (first_of o part) database.users) done s shown now (tells (sym (ap is_finished is) ∙ finished)) is (whole (finished_output s finished))
+      says_part part.0.identity part.1 (back_refused o.dialect (first_of o part) database.users) done s shown now (tells (sym (ap is_finished is) ∙ finished)) is (whole (ran_output s (ap ends is ∙ answers_ran (undo_refusal o g database) (Ok done) answers) finished))
   says_it (Some part) (Err x) ended answers whole tells = λ finished. never_over x answers (sym (ap is_finished (ended_so x s ended finished)) ∙ finished)
 
   runs_does : DoesUndo o g before database done after → RunsUndo o g database before s after shown now
@@ -113,6 +113,7 @@ module _ (o : Options) (g : Changelog) (database : Database) (before : Option (L
     says = says_it (part_on o g before database) done by.ended does.answers whole does.tells;
     room = λ over. had_its_room done does (was_over done s by over);
     full = told_full done by.ended does;
+    rests = rests_so done by.ended does;
   }
 
 module _ {D : Type 0} (told : D → Option (List ℕ)) (faults : D → ℕ) (crashes : D → DiskCrashes) {words : List (List ℕ)} {files : Files} (asks : Asks words files) (disk : D) (done : Result Done Status) (after : D)

@@ -11,7 +11,7 @@ use Rattle.lq_base.specs.declared.run.Why.{Why}
 use Rattle.lq_base.specs.declared.tracking.Lock.{Lock}
 use Rattle.lq_base.specs.declared.tracking.Tracked.{Tracked}
 use Rattle.lq_cli.specs.declared.line.Job.{Job}
-use Rattle.lq_cli.specs.declared.line.Job.TheVariants.{Drill, History, RollbackSql, Run, Soak, UpdateCount, UpdateSql, UpdateTestingRollback, UpdateTo, Generate, ClearSums, UndoUnrecorded}
+use Rattle.lq_cli.specs.declared.line.Job.TheVariants.{Drill, History, RollbackSql, Run, Soak, UpdateCount, UpdateSql, UpdateTestingRollback, UpdateTo, Generate, ClearSums, UndoUnrecorded, Snapshot}
 use Rattle.lq_commands.proofs.PlainRefusals.{IsNotFull, refusal_not_full, rehearsal_not_full, held_not_full}
 use Rattle.lq_commands.specs.Parts.{counted_in}
 use Rattle.lq_commands.specs.Refusals.{Answers, IsFault, ends, held, if_halts, if_not, if_some, invalid, own_halt, unreachable_by, unready, untagged}
@@ -52,9 +52,9 @@ use Rattle.lq_top.proofs.OnFiles.{by_end}
 use Rattle.lq_top.proofs.OpensAgain.{opens_after, opens_left, opens_same}
 use Rattle.lq_top.proofs.Unchanged.{becomes_left, becomes_same, left_same}
 use Rattle.lq_top.specs.Asks.{Asks, Files, file_status}
-use Rattle.lq_top.specs.Bytes.{Becomes, HadRoomOn, IsLeftOn, OnFile, Opens, SaysFullOn, TellsDamage}
+use Rattle.lq_top.specs.Bytes.{Becomes, HadRoomOn, IsLeftOn, OnFile, Opens, RestsFullOn, SaysFullOn, TellsDamage}
 use Rattle.lq_top.specs.Headline.{GoesBack, GoneBack, HasSynced, HasUpdated}
-use Rattle.lq_top.specs.Jobs.{DoesJob, DoesLine, IsLoaded, goes_on, is_no_target, is_on_file, job_calls, job_refusal, job_script, misses}
+use Rattle.lq_top.specs.Jobs.{DoesJob, DoesLine, IsLoaded, goes_on, is_no_target, is_on_file, is_own, job_calls, job_refusal, job_script, misses}
 use Rattle.lq_top.specs.Kinds.{IsNotLoaded, IsOfFiles, IsOfWords, is_unwritten}
 use Rattle.lq_top.specs.Run.{EndsBy, EndsInVain, EndsUnread, IsDamage, IsLogged, IsLoggedInPart, IsOutside, IsUnread, MayWarn, Runs, RunsJob, given_by, is_end, is_over}
 use Rattle.lq_top.specs.Worked.{InVain, has_missed}
@@ -119,7 +119,7 @@ output_finished status.ReadFault has = has
 output_finished (status.Changelog fault) has = has
 output_finished (status.Invalid faults) has = has
 output_finished (status.Locked lock) has = has
-output_finished (status.Halted place why) has = has
+output_finished (status.Halted place why) has = refl
 output_finished (status.Refused identity statement kept reason) has = has
 output_finished status.NoTarget has = has
 output_finished (status.NotReversible identity) has = has
@@ -139,7 +139,7 @@ ends_so status.ReadFault is = is
 ends_so (status.Changelog fault) is = is
 ends_so (status.Invalid faults) is = is
 ends_so (status.Locked lock) is = is
-ends_so (status.Halted place why) is = is
+ends_so (status.Halted place why) is = refl
 ends_so (status.Refused identity statement kept reason) is = is
 ends_so status.NoTarget is = is
 ends_so (status.NotReversible identity) is = is
@@ -506,6 +506,7 @@ no_job_script (RollbackSql target) given database s is finished = refl
 no_job_script (Drill path) given database s is finished = refl
 no_job_script (Soak number sets) given database s is finished = refl
 no_job_script UndoUnrecorded given database s is finished = refl
+no_job_script Snapshot given database s is finished = refl
 
 -- what it leaves
 
@@ -576,6 +577,7 @@ job_not_full (RollbackSql target) given database = refusal_not_full given (comma
 job_not_full (Drill path) given database = tt
 job_not_full (Soak number sets) given database = tt
 job_not_full UndoUnrecorded given database = tt
+job_not_full Snapshot given database = tt
 
 -- how full a full journal was is told by the status of the run
 full_by : (job : Job) (given : Given) (database : Database) (before : Option (List ℕ)) (done : Result Done Status) (after : Option (List ℕ)) (s : Status) → EndsAs (status_done done) s → DoesJob job given database before done after
@@ -584,6 +586,14 @@ full_by job given database before (Ok ended) after s (inl same) does = λ used n
 full_by job given database before (Err x) after s (inl same) does = λ used next is. absurd (err_not_full (job_refusal job given database) x (job_not_full job given database) does.answers used next (sym same ∙ is))
 full_by job given database before done after s (inr (inl memory)) does = λ used next is. absurd (memory_full (sym memory ∙ is))
 full_by job given database before done after s (inr (inr write)) does = λ used next is. absurd (write_full (sym write ∙ is))
+
+-- and so it leaves the file
+rests_by : (job : Job) (given : Given) (database : Database) (before : Option (List ℕ)) (done : Result Done Status) (after : Option (List ℕ)) (s : Status) → EndsAs (status_done done) s → DoesJob job given database before done after
+    → is_own job ≡ true → RestsFullOn given.options.dialect (job_script job given database) database before s after
+rests_by job given database before (Ok ended) after s (inl same) does own = λ used next is. does.rests own used next (sym same ∙ is)
+rests_by job given database before (Err x) after s (inl same) does own = λ used next is. absurd (err_not_full (job_refusal job given database) x (job_not_full job given database) does.answers used next (sym same ∙ is))
+rests_by job given database before done after s (inr (inl memory)) does own = λ used next is. absurd (memory_full (sym memory ∙ is))
+rests_by job given database before done after s (inr (inr write)) does own = λ used next is. absurd (write_full (sym write ∙ is))
 
 -- what no check refused had room for each entry where it came to its end
 room_by : (job : Job) (given : Given) (database : Database) (before : Option (List ℕ)) (done : Result Done Status) (after : Option (List ℕ)) → DoesJob job given database before done after → job_refusal job given database ≡ None
@@ -606,6 +616,7 @@ module _ (job : Job) (given : Given) (before : Option (List ℕ)) (done : Result
     opens_cut = λ stopped cut. opens_same given.options.dialect before after database cut.now opens same cut.holds;
     room = λ passes over. absurd (failed_unfinished done failed (was_over done s by over));
     full = λ used next is. absurd (outside_not_full s (failed_outside done s by failed) used next is);
+    rests = λ own used next is. absurd (outside_not_full s (failed_outside done s by failed) used next is);
   }
   runs_by database opens (inr (loaded, does)) = record {
     ends = ends_by (job_refusal job given database) done s by does.answers;
@@ -617,6 +628,7 @@ module _ (job : Job) (given : Given) (before : Option (List ℕ)) (done : Result
     opens_cut = λ stopped cut. opens_left given database before opens loaded.read job after cut;
     room = λ passes over. room_by job given database before done after does passes (was_over done s by over);
     full = full_by job given database before done after s by.ended does;
+    rests = rests_by job given database before done after s by.ended does;
   }
 
   pub runs : DoesLine job given before done after → is_on_file job ≡ true → OnFile given.options.dialect before (λ database. RunsJob job given database before s after)
@@ -659,9 +671,9 @@ module _ {words : List (List ℕ)} {files : Files} (stamp : Stamp) (before : Opt
       syncs (given_by asks stamp) database before after stands made.1
 
   pub gone_back : (back : GoesBack words files before) → DoesAsks back.asks → GoneBack back s after
-  gone_back back does over =
+  gone_back back does stands over =
       let made = over_command back.asks.line.job (given_by back.asks stamp) before done after s by (command.Rollback back.target) back.is_rollback does back.database back.opens over in
-      restores (given_by back.asks stamp) back.database before after back.free back.target back.before back.ran back.since back.reversible back.known back.stays made.1
+      restores (given_by back.asks stamp) back.database before after stands back.target back.before back.ran back.since back.reversible back.known back.stays made.1
 
 -- the log
 

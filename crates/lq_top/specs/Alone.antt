@@ -7,6 +7,7 @@ use Rattle.lq_commands.specs.declared.given.Given.{Given}
 use Rattle.lq_entries.specs.Log.{entries_in}
 use Rattle.lq_drill.specs.Faults.{answer_of, freed}
 use Rattle.lq_kinds.specs.declared.any_change.AnyChange.{AnyChange}
+use Rattle.lq_playing.specs.declared.came.Came.{Came}
 use Rattle.lq_players.specs.Tasks.{task_for}
 use Rattle.lq_run.specs.Stands.{entries_of}
 use Rattle.lq_tell.specs.declared.status.Status.{Status}
@@ -54,10 +55,10 @@ module _ (d : Dialect) (task : Task AnyChange) (database : Database) where
     -- It took its steps until it answered, and the file holds what the machine has committed.
     pub record HasAnswered : Type 0 where
       pub steps : ℕ
-      pub said : Answer
+      pub said : Came
       pub gave : answer_of 1 (after_steps steps).answers ≡ Some said
       pub first : (k : ℕ) → k < steps → answer_of 1 (after_steps k).answers ≡ None
-      pub ends : EndsWith said s
+      pub ends : EndsWith said.answer s
       pub file : HoldsMachine d (after_steps steps) before after
 
     -- It was cut short: behind the entries that were there stand a front of those that the machine has after some of its steps, and then perhaps one that frees the lock.

@@ -13,6 +13,7 @@ use Rattle.lq_model.specs.Catalogue.{Catalogue}
 use Rattle.lq_model.specs.declared.caller.Room.{Room}
 use Rattle.lq_model.specs.declared.caller.Room.TheVariants.{Ordinary}
 use Rattle.lq_outside.specs.Crash.{Crashes as DiskCrashes}
+use Rattle.lq_run.specs.Left.{IsAtMostFreed, IsNextIn, LeavesLock}
 use Rattle.lq_run.specs.Stands.{HadRoom, entries_of}
 use Rattle.lq_store.specs.Journal.{Entry, database as catalogue_by, end_of, is_full, size_of_all}
 use Rattle.lq_tell.specs.declared.done.Done.{Done}
@@ -21,7 +22,7 @@ use Rattle.lq_tell.specs.declared.status.Status.TheVariants as status
 use Rattle.lq_track.specs.Database.{Database}
 use Rattle.lq_turns.specs.Deed.{all_done}
 use Rattle.lq_turns.specs.Held.{StandsFor}
-use Rattle.lq_turns.specs.Session.{all_called, left_by, session_on}
+use Rattle.lq_turns.specs.Session.{all_called, called, left_by, room_of, session_on}
 use Rattle.lq_turns.specs.Stops.{IsLeft, Journal, joined}
 use Rattle.lq_turns.specs.declared.call.Call.{Call}
 use Rattle.lq_turns.specs.declared.deed.Deed.TheVariants.{Locks}
@@ -75,21 +76,39 @@ abbrev pub WorksOn : Dialect → List Call → Database → Option (List ℕ) �
 WorksOn d calls database before (Ok done) after = (is_finished done.status ≡ true → Becomes d calls database before after) × (is_finished done.status ≡ false → IsLeftOn d calls database before after)
 WorksOn d calls database before (Err s) after = IsLeftOn d calls database before after
 
--- Behind what was written of these calls, those that come next have no room in the file's journal; only what frees the lock may use all of it.
+-- Behind what was written of these calls, the entries of the next call have no room in the file's journal; only what frees the lock may use all of it.
 pub record IsFullOn (d : Dialect) (calls : List Call) (database : Database) (before : Option (List ℕ)) (used next : ℕ) : Type 0 where
   pub written : Journal
   pub more : Journal
   pub stops : IsLeft d calls database [] written
   pub comes : IsLeft d calls database [] (written ++ more)
+  -- the calls that were made, and the next one
+  pub made : List Call
+  pub call : Call
+  pub wrote : (all_called d made (session_on database)).entries ≡ written
+  pub appends : (called d call (all_called d made (session_on database))).entries ≡ written ++ more
+  pub next_call : IsNextIn d calls database made call
   pub used_is : IfSome (entries_in d most_bytes before) (λ there. used ≡ in_use there + size_of_all (entries_of d written))
   pub next_is : next ≡ size_of_all (entries_of d more)
   pub room : Room
+  pub in_room : room ≡ room_of call
   pub which : (room ≡ Ordinary) ⊎ (more ≡ (Locks Freed ∷ []) ∷ [])
   pub full : is_full (end_of room most_bytes) used (entries_of d more) ≡ true
 
 -- a status that says that the journal is full says how full it was
 abbrev pub SaysFullOn : Dialect → List Call → Database → Option (List ℕ) → Status → Type 0
 SaysFullOn d calls database before s = (used next : ℕ) → s ≡ status.Full used next → IsFullOn d calls database before used next
+
+-- Where the file's journal had no room for the next call, the file holds what was written by then, and possibly the entry that frees the lock. The lock is let go; or what had no room is that entry; or nothing was written.
+pub record RestsOn (d : Dialect) (calls : List Call) (database : Database) (before after : Option (List ℕ)) (used next : ℕ) : Type 0 where
+  pub left : IsLeftOn d calls database before after
+  pub full : IsFullOn d calls database before used next
+  pub behind : IsAtMostFreed full.written left.written
+  pub lock : LeavesLock left.now.lock full.more left.written
+
+-- so it is where a status says that the journal is full
+abbrev pub RestsFullOn : Dialect → List Call → Database → Option (List ℕ) → Status → Option (List ℕ) → Type 0
+RestsFullOn d calls database before s after = (used next : ℕ) → s ≡ status.Full used next → RestsOn d calls database before after used next
 
 -- each entry of these calls had room in the file's journal
 abbrev pub HadRoomOn : Dialect → List Call → Database → Option (List ℕ) → Type 0
@@ -103,9 +122,13 @@ TellsRoomOn d calls database before s = (is_finished s ≡ true → HadRoomOn d 
 abbrev pub WasLeft : Dialect → (List ℕ → Type 0) → List ℕ → Type 0
 WasLeft d leaves bytes = (those : List ℕ) × leaves those × (entries_in d most_bytes (Some bytes) ≡ entries_in d most_bytes (Some those))
 
--- at each moment of it a crash of the machine leaves the entries that one before it might have left, or what a stop of these calls may leave
+-- at each moment of it a crash of the machine leaves the entries that one before it might have left, or such bytes
+abbrev pub CrashLeaves : Dialect → (List ℕ → Type 0) → DiskCrashes → DiskCrashes → Type 0
+CrashLeaves d leaves before now = IsTrue before.is_honest → (bytes : List ℕ) → now.left_since before.moment bytes → WasLeft d before.leaves bytes ⊎ leaves bytes
+
+-- what a stop of these calls may leave
 abbrev pub CrashesOn : Dialect → List Call → Database → Option (List ℕ) → DiskCrashes → DiskCrashes → Type 0
-CrashesOn d calls database told before now = IsTrue before.is_honest → (bytes : List ℕ) → now.left_since before.moment bytes → WasLeft d before.leaves bytes ⊎ IsLeftOn d calls database told (Some bytes)
+CrashesOn d calls database told before now = CrashLeaves d (λ bytes. IsLeftOn d calls database told (Some bytes)) before now
 
 -- damage is told with its place
 abbrev pub TellsDamage : Dialect → Option (List ℕ) → Result Done Status → Type 0

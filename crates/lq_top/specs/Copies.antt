@@ -1,7 +1,8 @@
 -- Commands whose statements are printed: they run on a copy of the file in memory.
-use Rattle.std.specs.Prelude.{IfSome, List, Option, length, ℕ, ◌<◌, ◌≡◌}
+use Rattle.std.specs.Prelude.{Err, IfSome, List, Ok, Option, Result, length, ℕ, ◌<◌, ◌≡◌}
 use Rattle.lq_cli.specs.declared.line.Job.{Job}
 use Rattle.lq_cli.specs.declared.line.Job.TheVariants.{RollbackSql, UpdateSql}
+use Rattle.lq_tell.specs.declared.done.Done.{Done}
 use Rattle.lq_tell.specs.declared.status.Status.{Status}
 use Rattle.lq_tell.specs.declared.status.Status.TheVariants as status
 use Rattle.lq_top.specs.Bytes.{most_bytes}
@@ -16,6 +17,11 @@ job_of (printing.Rollback target) = RollbackSql target.now
 abbrev pub copy_status : Status → Status
 copy_status status.DiskFault = status.OutOfMemory
 copy_status s = s
+
+-- what a command answers on a disk in memory
+abbrev pub copied : Result Done Status → Result Done Status
+copied (Ok done) = Ok done
+copied (Err s) = Err (copy_status s)
 
 -- there is no copy: the file is too long, or a fault was met
 abbrev pub IsNoCopy : Option (List ℕ) → Status → Type 0

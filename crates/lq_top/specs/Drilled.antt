@@ -21,7 +21,8 @@ use Rattle.lq_kinds.specs.Dialects.{AreFor}
 use Rattle.lq_kinds.specs.declared.any_change.AnyChange.{AnyChange}
 use Rattle.lq_outside.specs.Crash.{Crashes as DiskCrashes, Settled}
 use Rattle.lq_outside.specs.Sink.{IsPart}
-use Rattle.lq_playing.specs.Answers.{failure_of}
+use Rattle.lq_playing.specs.Came.{as_busy, as_failed, as_locked}
+use Rattle.lq_playing.specs.declared.came.Came.{Came}
 use Rattle.lq_players.specs.AtOnce.{HasShortTag}
 use Rattle.lq_players.specs.Drilling.{BeginInTurn, NoneReleases, works}
 use Rattle.lq_players.specs.Tasks.{task_for}
@@ -35,10 +36,12 @@ use Rattle.lq_tell.specs.declared.done.Done.{Done}
 use Rattle.lq_tell.specs.declared.status.Status.{Status}
 use Rattle.lq_tell.specs.declared.status.Status.TheVariants as status
 use Rattle.lq_track.specs.Database.{Database}
+use Rattle.lq_turns.specs.Deed.{all_done}
 use Rattle.lq_turns.specs.Jobs.{Task}
 use Rattle.lq_turns.specs.Schedule.{Machine, all_moved, has_begun, start}
 use Rattle.lq_turns.specs.Script.{closing}
 use Rattle.lq_turns.specs.Serial.{Gave, Stands, order_of}
+use Rattle.lq_turns.specs.Stops.{joined}
 use Rattle.lq_turns.specs.declared.answer.Answer.{Answer}
 use Rattle.lq_turns.specs.declared.answer.Answer.TheVariants as answer
 use Rattle.lq_turns.specs.declared.deed.Deed.{Deed}
@@ -84,21 +87,24 @@ answer_code (answer.Full used next) = 13
 answer_code answer.OutOfMemory = 15
 answer_code (answer.Busy session) = 16
 
+abbrev pub came_code : Came → ℕ
+came_code it = answer_code it.answer
+
 abbrev pub commands_of : List Entrant → List Command
 commands_of entrants = map (λ (e : Entrant). e.command) entrants
 
 -- what the text says of each command: its status, where it has answered
-abbrev pub drilled : List Command → List (Option Answer) → List Drilled
-drilled (command ∷ commands) (a ∷ answers) = record { command = command; status = option_map answer_code a } ∷ drilled commands answers
+abbrev pub drilled : List Command → List (Option Came) → List Drilled
+drilled (command ∷ commands) (a ∷ answers) = record { command = command; status = option_map came_code a } ∷ drilled commands answers
 drilled _ _ = []
 
 -- the machine of the commands
 
 abbrev pub Commands : Type 0
-Commands = Machine Answer answer.Locked answer.Busy
+Commands = Machine Came as_locked as_busy
 
 abbrev pub machine_after : Dialect → (ℕ → Task AnyChange) → Database → List ℕ → Commands
-machine_after d tasks database steps = all_moved Answer answer.Locked answer.Busy d (works d tasks) steps (start Answer answer.Locked answer.Busy database)
+machine_after d tasks database steps = all_moved Came as_locked as_busy d (works d tasks) steps (start Came as_locked as_busy database)
 
 -- the file holds what the machine has committed, and its entries stand behind those before, each of which had room
 pub record HoldsMachine (d : Dialect) (x : Commands) (before after : Option (List ℕ)) : Type 0 where
@@ -107,24 +113,24 @@ pub record HoldsMachine (d : Dialect) (x : Commands) (before after : Option (Lis
   pub room : IfSome (entries_in d most_bytes before) (λ there. HadRoom d most_bytes (in_use there) x.entries)
 
 -- the answers are the machine's
-abbrev pub AnswerAs : Commands → List (Option Answer) → Type 0
-AnswerAs x answers = (place : ℕ) (a : Option Answer) → slice_get answers place ≡ Some a → a ≡ answer_of (suc place) x.answers
+abbrev pub AnswerAs : Commands → List (Option Came) → Type 0
+AnswerAs x answers = (place : ℕ) (a : Option Came) → slice_get answers place ≡ Some a → a ≡ answer_of (suc place) x.answers
 
 -- so they are; but the machine has none of the command whose step is the first of the others
-abbrev pub AnswerBefore : List ℕ → Commands → List (Option Answer) → Type 0
-AnswerBefore others x answers = (place : ℕ) (a : Option Answer) → slice_get answers place ≡ Some a → (a ≡ answer_of (suc place) x.answers) ⊎ ((answer_of (suc place) x.answers ≡ None) × (slice_get others zero ≡ Some (suc place)))
+abbrev pub AnswerBefore : List ℕ → Commands → List (Option Came) → Type 0
+AnswerBefore others x answers = (place : ℕ) (a : Option Came) → slice_get answers place ≡ Some a → (a ≡ answer_of (suc place) x.answers) ⊎ ((answer_of (suc place) x.answers ≡ None) × (slice_get others zero ≡ Some (suc place)))
 
-module _ (d : Dialect) (tasks : ℕ → Task AnyChange) (steps : List ℕ) (database : Database) (answers : List (Option Answer)) (before after : Option (List ℕ)) where
+module _ (d : Dialect) (tasks : ℕ → Task AnyChange) (steps : List ℕ) (database : Database) (answers : List (Option Came)) (before after : Option (List ℕ)) where
   -- The file holds the database that the commands give one after another, and each answer is that of this serial run, or one that was given at once.
   pub record IsSerial : Type 0 where
     -- the commands that made a call, in the order of their first ones
     pub order : List ℕ
-    pub ordered : order ≡ order_of Answer answer.Locked answer.Busy d (works d tasks) steps (start Answer answer.Locked answer.Busy database)
+    pub ordered : order ≡ order_of Came as_locked as_busy d (works d tasks) steps (start Came as_locked as_busy database)
     pub now : Database
     pub holds : Holds d after now
     -- the last may be under way
-    pub serial : Stands Answer answer.Locked answer.Busy d (works d tasks) database order (machine_after d tasks database steps).holder now
-    pub gave : (place : ℕ) (a : Answer) → slice_get answers place ≡ Some (Some a) → Gave Answer answer.Locked answer.Busy d (works d tasks) database order steps (suc place) a
+    pub serial : Stands Came as_locked as_busy d (works d tasks) database order (machine_after d tasks database steps).holder now
+    pub gave : (place : ℕ) (a : Came) → slice_get answers place ≡ Some (Some a) → Gave Came as_locked as_busy d (works d tasks) database order steps (suc place) a
 
   -- Answers and journal are the machine's, and the file opens again; and the order is a serial one, where no step is of a release-locks, or no command makes its first call while another still runs.
   pub record GoesAs : Type 0 where
@@ -144,17 +150,17 @@ abbrev pub HasFaulted : List Bool → ℕ → Type 0
 HasFaulted faulted n = (place : ℕ) × (n ≡ suc place) × (slice_get faulted place ≡ Some true)
 
 -- the first of these steps is that of a command that answered a fault of the store, which ends a drill
-abbrev pub IsEnding : List Bool → List (Option Answer) → List ℕ → Type 0
-IsEnding faulted answers others = (place : ℕ) × (why : DrillFault) × (slice_get others zero ≡ Some (suc place)) × (slice_get answers place ≡ Some (Some (failure_of why))) × (slice_get faulted place ≡ Some true)
+abbrev pub IsEnding : List Bool → List (Option Came) → List ℕ → Type 0
+IsEnding faulted answers others = (place : ℕ) × (why : DrillFault) × (slice_get others zero ≡ Some (suc place)) × (slice_get answers place ≡ Some (Some (as_failed why))) × (slice_get faulted place ≡ Some true)
 
 module _ (d : Dialect) (tasks : ℕ → Task AnyChange) (steps : List ℕ) (database : Database) (faulted : List Bool) (before : Option (List ℕ)) where
   -- The steps that were taken are the machine's, or up to the first fault they are. The answers are those of the machine to which they led; and the file holds it where all were taken, and opens again; and else it has its entries, and then what the step brought that ended the drill.
-  pub record GoesUntil (answers : List (Option Answer)) (after : Option (List ℕ)) : Type 0 where
+  pub record GoesUntil (answers : List (Option Came)) (after : Option (List ℕ)) : Type 0 where
     pub taken : List ℕ
     pub others : List ℕ
     pub is : steps ≡ taken ++ others
     pub now : Commands
-    pub came : (now ≡ machine_after d tasks database taken) ⊎ FallsFirst failure_of d (works d tasks) (HasFaulted faulted) taken (start Answer answer.Locked answer.Busy database) now
+    pub came : (now ≡ machine_after d tasks database taken) ⊎ FallsFirst as_failed d (works d tasks) (HasFaulted faulted) taken (start Came as_locked as_busy database) now
     pub gave : AnswerBefore others now answers
     pub ends : ((others ≡ []) × HoldsMachine d now before after × Opens d after now.committed) ⊎ IsEnding faulted answers others
     pub more : List Entry
@@ -162,11 +168,11 @@ module _ (d : Dialect) (tasks : ℕ → Task AnyChange) (steps : List ℕ) (data
 
   -- these steps lead to a machine, where commands met faults of the store
   abbrev pub CameTo : List ℕ → Commands → Type 0
-  CameTo front now = Comes failure_of d (works d tasks) (HasFaulted faulted) front (start Answer answer.Locked answer.Busy database) now
+  CameTo front now = Comes as_failed d (works d tasks) (HasFaulted faulted) front (start Came as_locked as_busy database) now
 
   -- on the way a release-locks began, and freed the lock of a command that had met a fault
   pub record ReleasesEarly (front : List ℕ) (now : Commands) : Type 0 where
-    pub frees : FreesEarly failure_of d (works d tasks) (HasFaulted faulted) front (start Answer answer.Locked answer.Busy database) now
+    pub frees : FreesEarly as_failed d (works d tasks) (HasFaulted faulted) front (start Came as_locked as_busy database) now
     pub is_release : (tasks frees.next).command ≡ Release
 
   -- What a crash leaves at any moment, and what stands in the end: behind the entries that were there a front of those that some of the steps have brought. Where no release-locks freed the lock of a command that had met a fault, they are a front of those of the machine without faults, and then perhaps one that frees the lock.
@@ -180,7 +186,13 @@ module _ (d : Dialect) (tasks : ℕ → Task AnyChange) (steps : List ℕ) (data
     pub more : List (List Deed)
     pub brought : now.entries ≡ written ++ more
     pub entries : entries_in d most_bytes file ≡ option_map (λ entries. entries ++ entries_of d written) (entries_in d most_bytes before)
-    pub once : ReleasesEarly front now ⊎ FreesAtMostOnce failure_of d (works d tasks) front (start Answer answer.Locked answer.Busy database) now
+    pub once : ReleasesEarly front now ⊎ FreesAtMostOnce as_failed d (works d tasks) front (start Came as_locked as_busy database) now
+
+  -- such a file opens again, with the database to which these entries lead
+  pub record OpensInDrill (file : Option (List ℕ)) (left : IsLeftInDrill file) : Type 0 where
+    pub found : Database
+    pub led : all_done d (joined left.written) database ≡ Ok found
+    pub opens : Opens d file found
 
   -- at one of its steps the entries of this command's next call had no room in the journal
   pub record MetFull (n used next : ℕ) : Type 0 where
@@ -189,7 +201,7 @@ module _ (d : Dialect) (tasks : ℕ → Task AnyChange) (steps : List ℕ) (data
     pub is : steps ≡ front ++ n ∷ rest
     pub now : Commands
     pub came : CameTo front now
-    pub full : IfSome (entries_in d most_bytes before) (λ there. Meets failure_of d (works d tasks) (in_use there) most_bytes n now (fault.Full used next))
+    pub full : IfSome (entries_in d most_bytes before) (λ there. Meets as_failed d (works d tasks) (in_use there) most_bytes n now (fault.Full used next))
 
   -- the file holds this machine, and opens again
   abbrev pub RestsOn : Commands → Option (List ℕ) → Type 0
@@ -198,8 +210,8 @@ module _ (d : Dialect) (tasks : ℕ → Task AnyChange) (steps : List ℕ) (data
   -- How a command of this number rests that answers so in its step from this machine: its last calls are made, and the lock is freed, or has a mark; or its first call, or the one that frees the lock, had no room, and none was made.
   abbrev pub RestsAt : ℕ → ℕ → ℕ → Commands → Option (List ℕ) → Type 0
   RestsAt n used next now after =
-      ((to : Commands) × Steps failure_of d (works d tasks) (HasFaulted faulted n) n now to × RestsOn to after × (answer_of n to.answers ≡ Some (answer.Full used next)) × IsLetGo to.committed.lock)
-      ⊎ (RestsOn now after × IfSome (entries_in d most_bytes before) (λ there. (m : Meets failure_of d (works d tasks) (in_use there) most_bytes n now (fault.Full used next)) × ((has_begun Answer answer.Locked answer.Busy n now ≡ false) ⊎ (m.cause.call ≡ closing))))
+      ((to : Commands) × Steps as_failed d (works d tasks) (HasFaulted faulted n) n now to × RestsOn to after × (answer_of n to.answers ≡ Some (as_failed (fault.Full used next))) × IsLetGo to.committed.lock)
+      ⊎ (RestsOn now after × IfSome (entries_in d most_bytes before) (λ there. (m : Meets as_failed d (works d tasks) (in_use there) most_bytes n now (fault.Full used next)) × ((has_begun Came as_locked as_busy n now ≡ false) ⊎ (m.cause.call ≡ closing))))
 
   -- in the end
   pub record RestsFull (n used next : ℕ) (after : Option (List ℕ)) : Type 0 where
@@ -211,9 +223,9 @@ module _ (d : Dialect) (tasks : ℕ → Task AnyChange) (steps : List ℕ) (data
     pub rests : RestsAt n used next now after
 
   -- a command answered that the journal is full, with these numbers, as it had met it, and rests so
-  pub record EndsFull (answers : List (Option Answer)) (after : Option (List ℕ)) (used next : ℕ) : Type 0 where
+  pub record EndsFull (answers : List (Option Came)) (after : Option (List ℕ)) (used next : ℕ) : Type 0 where
     pub place : ℕ
-    pub answer : slice_get answers place ≡ Some (Some (answer.Full used next))
+    pub answer : slice_get answers place ≡ Some (Some (as_failed (fault.Full used next)))
     pub met : MetFull (suc place) used next
     pub rests : RestsFull (suc place) used next after
 
@@ -227,26 +239,29 @@ pub record CrashesTo (d : Dialect) (Left : Option (List ℕ) → Type 0) (before
 pub record Went (d : Dialect) (who : List ℕ) (drill : Drilling) (readings : List ℕ) (before after : Option (List ℕ)) (c e : DiskCrashes) : Type 0 where
   pub one_each : length readings ≡ length drill.entrants
   -- of each command what it answered, if it did, and whether it met a fault
-  pub answers : List (Option Answer)
+  pub answers : List (Option Came)
   pub faulted : List Bool
   pub as_many : (length answers ≡ length drill.entrants) × (length faulted ≡ length drill.entrants)
   pub goes : All IsFaultless faulted → (tasks : ℕ → Task AnyChange) → AreTasks who drill.entrants readings tasks → OnFile d before (λ database. GoesAs d tasks drill.steps database answers before after)
   pub until : (tasks : ℕ → Task AnyChange) → AreTasks who drill.entrants readings tasks → OnFile d before (λ database. GoesUntil d tasks drill.steps database faulted before answers after)
   -- one that met a fault has not answered, or answers that fault, or that its lock is gone
-  pub met : (place : ℕ) (said : Option Answer) → slice_get faulted place ≡ Some true → slice_get answers place ≡ Some said → MayAnswer answer.Locked failure_of said
+  pub met : (place : ℕ) (said : Option Came) → slice_get faulted place ≡ Some true → slice_get answers place ≡ Some said → MayAnswer as_locked as_failed said
   pub crash : (tasks : ℕ → Task AnyChange) → AreTasks who drill.entrants readings tasks → OnFile d before (λ database. CrashesTo d (IsLeftInDrill d tasks drill.steps database faulted before) c e)
   pub left : (tasks : ℕ → Task AnyChange) → AreTasks who drill.entrants readings tasks → OnFile d before (λ database. IsLeftInDrill d tasks drill.steps database faulted before after)
+  -- what is left so opens again, in the end and after a crash
+  pub opens : (tasks : ℕ → Task AnyChange) → AreTasks who drill.entrants readings tasks
+      → OnFile d before (λ database. (file : Option (List ℕ)) (left : IsLeftInDrill d tasks drill.steps database faulted before file) → OpensInDrill d tasks drill.steps database faulted before file left)
 
 -- no command answered a fault of the store
-abbrev pub NoneFailed : List (Option Answer) → Type 0
-NoneFailed answers = (place : ℕ) (why : DrillFault) → slice_get answers place ≡ Some (Some (failure_of why)) → ⊥
+abbrev pub NoneFailed : List (Option Came) → Type 0
+NoneFailed answers = (place : ℕ) (why : DrillFault) → slice_get answers place ≡ Some (Some (as_failed why)) → ⊥
 
 -- one answered that the disk failed
-abbrev pub DiskFailed : List (Option Answer) → Type 0
-DiskFailed answers = (place : ℕ) × (slice_get answers place ≡ Some (Some answer.Disk))
+abbrev pub DiskFailed : List (Option Came) → Type 0
+DiskFailed answers = (place : ℕ) × (slice_get answers place ≡ Some (Some (as_failed fault.Disk)))
 
 -- so it did in a drill with these readings
-abbrev pub IsFull : Dialect → List ℕ → Drilling → List ℕ → List Bool → Option (List ℕ) → List (Option Answer) → Option (List ℕ) → ℕ → ℕ → Type 0
+abbrev pub IsFull : Dialect → List ℕ → Drilling → List ℕ → List Bool → Option (List ℕ) → List (Option Came) → Option (List ℕ) → ℕ → ℕ → Type 0
 IsFull d who drill readings faulted before answers after used next = (tasks : ℕ → Task AnyChange) → AreTasks who drill.entrants readings tasks → OnFile d before (λ database. EndsFull d tasks drill.steps database faulted before answers after used next)
 
 -- no step was taken, and nothing was written
@@ -254,7 +269,7 @@ pub record IsIdle (d : Dialect) (before after : Option (List ℕ)) (c e : DiskCr
   pub same : after ≡ before
   pub crash : CrashesTo d (λ left. ⊥) c e
 
-abbrev pub told_text : Drilling → List (Option Answer) → List ℕ
+abbrev pub told_text : Drilling → List (Option Came) → List ℕ
 told_text drill answers = drill_text (drilled (commands_of drill.entrants) answers)
 
 -- it came to its end, where no command answered a fault of the store, and tells of each; or it did not: a command answered such a fault, or there was no memory for the text, or no step was taken

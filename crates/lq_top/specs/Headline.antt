@@ -38,7 +38,7 @@ pub record GoesBack (words : List (List ℕ)) (files : Files) (told : Option (Li
   pub is_rollback : asks.line.job ≡ Runs (command.Rollback target)
   pub database : Database
   pub opens : Opens asks.line.options.dialect told database
-  pub free : database.lock ≡ free
+  pub unlocked : database.lock.locked ≡ false
   pub faultless : faults (log_of asks).sets database.rows ≡ []
   -- the point: what stood there, and what ran since
   pub before : Contents
@@ -48,9 +48,9 @@ pub record GoesBack (words : List (List ℕ)) (files : Files) (told : Option (Li
   pub known : AreKnown asks.line.options.dialect any_meaning (log_of asks).sets ran
   pub stays : rows_kept target database.rows ≡ Some (length before.rows)
 
--- the database of that point, with a free lock
+-- the database of that point, with a free lock, where the row of the lock was that of a free one
 abbrev pub GoneBack : {words : List (List ℕ)} {files : Files} {told : Option (List ℕ)} → GoesBack words files told → Status → Option (List ℕ) → Type 0
-GoneBack back s after = is_over s ≡ true → HoldsSame back.asks.line.options.dialect after (at_rest back.database back.before)
+GoneBack back s after = back.database.lock ≡ free → is_over s ≡ true → HoldsSame back.asks.line.options.dialect after (at_rest back.database back.before)
 
 -- it is done, perhaps without its text, or the journal is full
 abbrev pub is_taken : Status → Bool

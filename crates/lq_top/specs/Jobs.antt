@@ -1,11 +1,11 @@
 -- What a job does on a database file.
 use Rattle.std.specs.List.{All}
-use Rattle.std.specs.Prelude.{Bool, Err, IfOk, List, Option, Result, false, true, ℕ, ◌&&◌, ◌≡◌, ◌⊎◌}
+use Rattle.std.specs.Prelude.{Bool, Err, IfOk, List, None, Option, Result, Some, false, true, ℕ, ◌&&◌, ◌≡◌, ◌⊎◌}
 use Rattle.lq_base.specs.declared.command.Command.TheVariants as command
 use Rattle.lq_base.specs.declared.dialect.Dialect.{Dialect}
 use Rattle.lq_changelog.specs.ShortTexts.{HasShortTexts}
 use Rattle.lq_cli.specs.declared.line.Job.{Job}
-use Rattle.lq_cli.specs.declared.line.Job.TheVariants.{Drill, Generate, RollbackSql, Soak, UndoUnrecorded, UpdateSql, UpdateTo}
+use Rattle.lq_cli.specs.declared.line.Job.TheVariants.{Drill, Generate, RollbackSql, Snapshot, Soak, UndoUnrecorded, UpdateSql, UpdateTo}
 use Rattle.lq_commands.specs.Generates.{generate_text}
 use Rattle.lq_commands.specs.Outputs.{TellsJob}
 use Rattle.lq_commands.specs.Refusals.{Answers}
@@ -21,14 +21,15 @@ use Rattle.lq_tell.specs.declared.status.Status.TheVariants as status
 use Rattle.lq_track.specs.Database.{Database}
 use Rattle.lq_turns.specs.declared.call.Call.{Call}
 use Rattle.laws_generate.specs.Again.{TextComesAgain}
-use Rattle.lq_top.specs.Bytes.{HadRoomOn, OnFile, SaysFullOn, WorksOn}
+use Rattle.lq_top.specs.Bytes.{HadRoomOn, IsLeftOn, OnFile, RestsFullOn, SaysFullOn, WorksOn}
 pub use Rattle.lq_commands.specs.Jobs.{command_by, is_on_store, is_own, job_reads, job_refusal, job_script, job_tag}
 
--- Its calls are those of the file's database: a soak has a database of its own, in a drill commands work beside one another, and what undo-unrecorded takes back hangs on the journal's last text too.
+-- Its calls are those of the file's database: a soak has a database of its own, in a drill commands work beside one another, what undo-unrecorded takes back hangs on the journal's last text too, and a snapshot writes what no call does.
 abbrev pub is_on_file : Job → Bool
 is_on_file (Drill path) = false
 is_on_file (Soak number sets) = false
 is_on_file UndoUnrecorded = false
+is_on_file Snapshot = false
 is_on_file _ = true
 
 -- it has a database of its own, and leaves the file as it is
@@ -54,6 +55,15 @@ job_calls UpdateSql given database = printed_script command.Update given databas
 job_calls (RollbackSql target) given database = printed_script (command.Rollback target) given database
 job_calls job given database = job_script job given database
 
+-- what a check refuses leaves nothing
+abbrev pub UnlessRefused : Option Status → Type 0 → Type 0
+UnlessRefused None leaves = leaves
+UnlessRefused (Some refused) leaves = ⊥
+
+-- such bytes a crash of the machine at a moment of it may leave
+abbrev pub JobLeaves : Job → Given → Database → Option (List ℕ) → List ℕ → Type 0
+JobLeaves job given database told bytes = UnlessRefused (job_refusal job given database) (IsLeftOn given.options.dialect (job_script job given database) database told (Some bytes))
+
 -- what is generated makes the users' objects again
 abbrev pub MakesAgain : Job → Given → Database → Result Done Status → Type 0
 MakesAgain (Generate author) given database done = is_label author ≡ true → IfOk done (λ ended. TextComesAgain given.options.dialect database.users (generate_text author given database))
@@ -70,6 +80,8 @@ pub record DoesJob (job : Job) (given : Given) (database : Database) (before : O
   -- where it comes to its end each entry had room; and a full journal is told as full as it was
   pub room : IfOk done (λ ended. is_finished ended.status ≡ true → HadRoomOn given.options.dialect (job_calls job given database) database before)
   pub full : IfOk done (λ ended. SaysFullOn given.options.dialect (job_calls job given database) database before ended.status)
+  -- one that works on the file leaves that journal, and its lock let go
+  pub rests : is_own job ≡ true → IfOk done (λ ended. RestsFullOn given.options.dialect (job_script job given database) database before ended.status after)
 
 -- what holds of a changelog that was loaded for a dialect
 pub record IsLoaded (d : Dialect) (g : Changelog) : Type 0 where

@@ -14,6 +14,7 @@ pub mod Players
 pub mod Resumed
 pub mod Run
 pub mod Says
+pub mod Snapped
 pub mod Soaked
 pub mod TakenBack
 pub mod Undone

@@ -9,7 +9,8 @@ use Rattle.lq_drill.specs.Player.{HasMet}
 use Rattle.lq_drill.specs.declared.fault.DrillFault.{DrillFault}
 use Rattle.lq_drill.specs.declared.fault.DrillFault.TheVariants as fault
 use Rattle.lq_kinds.specs.declared.any_change.AnyChange.{AnyChange}
-use Rattle.lq_playing.specs.Answers.{failure_of}
+use Rattle.lq_playing.specs.Came.{as_failed}
+use Rattle.lq_playing.specs.declared.came.Came.{Came}
 use Rattle.lq_players.specs.AnyCommand.{Starts, command_stands}
 use Rattle.lq_players.specs.Drilling.{BeginInTurn, HaveTasks, NoneReleases, works}
 use Rattle.lq_players.specs.Tasks.{task_for}
@@ -23,7 +24,6 @@ use Rattle.lq_tell.specs.declared.status.Status.TheVariants as status
 use Rattle.lq_track.specs.Database.{Database}
 use Rattle.lq_turns.specs.Held.{StandsFor}
 use Rattle.lq_turns.specs.Jobs.{Task}
-use Rattle.lq_turns.specs.declared.answer.Answer.{Answer}
 use Rattle.lq_top.specs.Clock.{ReadInTurn, ReadUpTo}
 use Rattle.lq_top.specs.Drilled.{commands_of, drilled}
 use Rattle.lq_top.specs.Kinds.{Refuses, is_of_drill}
@@ -43,7 +43,7 @@ is_of_play s = is_of_drill s
 
 -- what players have answered, and which met a fault of the store
 
-abbrev pub answers_in : List AnyCommand → List (Option Answer)
+abbrev pub answers_in : List AnyCommand → List (Option Came)
 answers_in players = map (λ (p : AnyCommand). (command_stands p).answer) players
 
 abbrev pub faults_in : List AnyCommand → List Bool
@@ -58,14 +58,14 @@ pub record ArePlayers (d : Dialect) (name : List ℕ) (entrants : List Entrant) 
   pub as_many : (length readings ≡ length entrants) × (length players ≡ length entrants)
   pub named : commands ≡ commands_of entrants
   pub starts : (place : ℕ) (e : Entrant) (reading : ℕ) (player : AnyCommand) → slice_get entrants place ≡ Some e → slice_get readings place ≡ Some reading → slice_get players place ≡ Some player
-      → Starts d (task_by name (suc place) e reading) player
+      → Starts false d (task_by name (suc place) e reading) player
 
 -- one more command stands behind those that are there
 pub record Joins (d : Dialect) (name : List ℕ) (entrant : Entrant) (reading : ℕ) (before more : Cast) : Type 0 where
   pub player : AnyCommand
   pub players : more.players.items ≡ before.players.items ++ player ∷ []
   pub commands : more.commands ≡ before.commands ++ entrant.command ∷ []
-  pub starts : Starts d (task_by name (suc (length before.players.items)) entrant reading) player
+  pub starts : Starts false d (task_by name (suc (length before.players.items)) entrant reading) player
 
 -- the players of all, each with its own reading; or there was no memory for them
 abbrev pub Begun : Dialect → List ℕ → List Entrant → Option (List ℕ) → Option (List ℕ) → Result Cast NoMemory → Type 0
@@ -85,8 +85,8 @@ PlayIsFull (Err s) by = Unit {0}
 
 -- they answered no fault of the store where they came to their end, and one that the disk failed where that ended them
 abbrev pub PlayAnswers : List AnyCommand → Result Done Status → Type 0
-PlayAnswers last (Ok done) = Each command_stands (HasNotFailed failure_of) last
-PlayAnswers last (Err status.DiskFault) = HasFailed command_stands failure_of last fault.Disk
+PlayAnswers last (Ok done) = Each command_stands (HasNotFailed as_failed) last
+PlayAnswers last (Err status.DiskFault) = HasFailed command_stands as_failed last fault.Disk
 PlayAnswers last (Err s) = Unit {0}
 
 -- players took the steps, and stand so at the end
@@ -94,15 +94,15 @@ pub record Plays (players : List AnyCommand) (commands : List Command) (steps : 
   pub last : List AnyCommand
   pub as_many : length last ≡ length players
   pub kind : Refuses is_of_play result
-  pub met : Each command_stands (HasMet failure_of) last
+  pub met : Each command_stands (HasMet as_failed) last
   pub ends : PlayEnds commands last y result
   pub answered : PlayAnswers last result
   pub clean : (tasks : ℕ → Task AnyChange) (database : Database) → StandsFor x.dialect x.committed database → HaveTasks x.dialect tasks players → Each command_stands IsFaultless last
       → IsDrilled command_stands (works x.dialect tasks) x database steps last y
-  pub until : (tasks : ℕ → Task AnyChange) (database : Database) → StandsFor x.dialect x.committed database → HaveTasks x.dialect tasks players → IsDrilledUntil command_stands (works x.dialect tasks) x database failure_of steps last y
-  pub crash : (tasks : ℕ → Task AnyChange) (database : Database) → StandsFor x.dialect x.committed database → HaveTasks x.dialect tasks players → CrashesLeave x.entries (LeftInDrill command_stands (works x.dialect tasks) x database failure_of steps last) c e
-  pub left : (tasks : ℕ → Task AnyChange) (database : Database) → StandsFor x.dialect x.committed database → HaveTasks x.dialect tasks players → LeftAtEnd command_stands (works x.dialect tasks) x database failure_of steps last y
-  pub cause : (tasks : ℕ → Task AnyChange) (database : Database) → StandsFor x.dialect x.committed database → HaveTasks x.dialect tasks players → PlayIsFull result (FailsBy command_stands (works x.dialect tasks) x database failure_of steps last y)
+  pub until : (tasks : ℕ → Task AnyChange) (database : Database) → StandsFor x.dialect x.committed database → HaveTasks x.dialect tasks players → IsDrilledUntil command_stands (works x.dialect tasks) x database as_failed steps last y
+  pub crash : (tasks : ℕ → Task AnyChange) (database : Database) → StandsFor x.dialect x.committed database → HaveTasks x.dialect tasks players → CrashesLeave x.entries (LeftInDrill command_stands (works x.dialect tasks) x database as_failed steps last) c e
+  pub left : (tasks : ℕ → Task AnyChange) (database : Database) → StandsFor x.dialect x.committed database → HaveTasks x.dialect tasks players → LeftAtEnd command_stands (works x.dialect tasks) x database as_failed steps last y
+  pub cause : (tasks : ℕ → Task AnyChange) (database : Database) → StandsFor x.dialect x.committed database → HaveTasks x.dialect tasks players → PlayIsFull result (FailsBy command_stands (works x.dialect tasks) x database as_failed steps last y)
   pub serial : (tasks : ℕ → Task AnyChange) (database : Database) → StandsFor x.dialect x.committed database → HaveTasks x.dialect tasks players → Each command_stands IsFaultless last → NoneReleases tasks steps
       → IsSerialDrill command_stands (works x.dialect tasks) x database steps last y
   pub in_turn : (tasks : ℕ → Task AnyChange) (database : Database) → StandsFor x.dialect x.committed database → HaveTasks x.dialect tasks players → Each command_stands IsFaultless last → BeginInTurn x.dialect tasks database steps

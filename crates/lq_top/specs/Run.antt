@@ -17,8 +17,8 @@ use Rattle.lq_track.specs.Database.{Database, SameDatabase}
 use Rattle.lq_turns.specs.Session.{left_by}
 use Rattle.lq_turns.specs.declared.stamp.Stamp.{Stamp}
 use Rattle.lq_top.specs.Asks.{Asks, Files, asked_by, file_status}
-use Rattle.lq_top.specs.Bytes.{Becomes, CrashesOn, HadRoomOn, Holds, IsLeftOn, OnFile, Opens, SaysFullOn, given_at, most_bytes}
-use Rattle.lq_top.specs.Jobs.{is_on_file, is_own, job_calls, job_reads, job_refusal, job_script, misses}
+use Rattle.lq_top.specs.Bytes.{Becomes, CrashLeaves, HadRoomOn, Holds, IsLeftOn, OnFile, Opens, RestsFullOn, SaysFullOn, given_at, most_bytes}
+use Rattle.lq_top.specs.Jobs.{JobLeaves, is_on_file, is_own, job_calls, job_reads, job_refusal, job_script, misses}
 
 -- it came to its end, and then perhaps its text could not be written
 abbrev pub is_over : Status → Bool
@@ -52,6 +52,8 @@ pub record RunsJob (job : Job) (given : Given) (database : Database) (before : O
   pub opens_cut : is_over s ≡ false → (cut : IsLeftOn given.options.dialect (job_script job given database) database before after) → Opens given.options.dialect after cut.now
   pub room : job_refusal job given database ≡ None → is_over s ≡ true → HadRoomOn given.options.dialect (job_calls job given database) database before
   pub full : SaysFullOn given.options.dialect (job_calls job given database) database before s
+  -- one that works on the file leaves that journal, and its lock let go
+  pub rests : is_own job ≡ true → RestsFullOn given.options.dialect (job_script job given database) database before s after
 
 -- what the words, the files, who runs it and the clock's reading give to a command
 abbrev pub given_by : {words : List (List ℕ)} {files : Files} → Asks words files → Stamp → Given
@@ -61,9 +63,9 @@ given_by asks stamp = given_at (asked_by asks.line.options asks.changelog) stamp
 abbrev pub Runs : {words : List (List ℕ)} {files : Files} → Asks words files → Stamp → Option (List ℕ) → Status → Option (List ℕ) → Type 0
 Runs asks stamp before s after = is_on_file asks.line.job ≡ true → OnFile asks.line.options.dialect before (λ database. RunsJob asks.line.job (given_by asks stamp) database before s after)
 
--- and a crash of the machine, at each moment of it
+-- and a crash of the machine, at each moment of it; one that a check refuses leaves nothing
 abbrev pub Crashes : {words : List (List ℕ)} {files : Files} → Asks words files → Stamp → Option (List ℕ) → DiskCrashes → DiskCrashes → Type 0
-Crashes asks stamp told before now = is_on_file asks.line.job ≡ true → OnFile asks.line.options.dialect told (λ database. CrashesOn asks.line.options.dialect (job_script asks.line.job (given_by asks stamp) database) database told before now)
+Crashes asks stamp told before now = is_on_file asks.line.job ≡ true → OnFile asks.line.options.dialect told (λ database. CrashLeaves asks.line.options.dialect (JobLeaves asks.line.job (given_by asks stamp) database told) before now)
 
 -- what a crash left of its calls is opened again
 abbrev pub OpensAtCrash : {words : List (List ℕ)} {files : Files} → Asks words files → Stamp → Option (List ℕ) → List ℕ → Type 0

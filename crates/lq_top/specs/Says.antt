@@ -3,6 +3,8 @@ use Rattle.std.specs.List.{flat_map}
 use Rattle.std.specs.Prelude.{Bool, List, None, Option, Some, [], false, length, option_map, true, ℕ, ◌++◌, ◌≡◌}
 use Rattle.lq_base.specs.declared.command.Command.TheVariants as command
 use Rattle.lq_base.specs.declared.command.Target.{Target}
+use Rattle.lq_base.specs.declared.identity.Identity.{Identity}
+use Rattle.lq_base.specs.declared.run.Why.{Why}
 use Rattle.lq_cli.specs.Job.{goal_of}
 use Rattle.lq_cli.specs.declared.line.Job.{Job}
 use Rattle.lq_cli.specs.declared.line.Job.TheVariants.{History, RollbackSql, Run, UpdateCount, UpdateSql, UpdateTestingRollback, UpdateTo, Generate, ClearSums}
@@ -20,6 +22,7 @@ use Rattle.lq_outside.specs.Sink.{IsPart}
 use Rattle.lq_report.specs.Output.{cleared_text, history_text, sync_text}
 use Rattle.lq_tell.specs.Lines.{status_lines, warning_line}
 use Rattle.lq_tell.specs.declared.status.Status.{Status}
+use Rattle.lq_tell.specs.declared.status.Status.TheVariants as status
 use Rattle.lq_track.specs.Database.{Database}
 use Rattle.lq_turns.specs.declared.stamp.Stamp.{Stamp}
 use Rattle.lq_turns.specs.declared.stop.Stop.{Stop}
@@ -84,16 +87,41 @@ pub record SaidInPart {words : List (List ℕ)} {files : Files} (asks : Asks wor
   pub said : Said asks stamp told wanted before (option_map (λ (out : List ℕ). out ++ text) before)
   pub part : IsPart text before after
 
--- the lines of a job's warnings: of an update, and of the runs of a rehearsal, those of its turns in order, the changelog's own first; of another there are none
+-- what a job warns of: an update, and the runs of a rehearsal, of what their turns do in order, the changelog's own first; another of nothing
+abbrev pub job_warned : Job → Given → Database → List (Option Identity × Why)
+job_warned (Run command.Update) given database = (updated_in false given database).settled.warned
+job_warned (UpdateCount count) given database = (updated_in false (counted_in count given database.rows) database).settled.warned
+job_warned (UpdateTo tag) given database = (updated_in false given database).settled.warned
+job_warned UpdateTestingRollback given database = (rehearsed given database).warned
+job_warned UpdateSql given database = (updated_in true given database).settled.warned
+job_warned _ given database = []
+
+-- the lines of its warnings
 abbrev pub job_warnings : Job → Given → Database → List ℕ
-job_warnings (Run command.Update) given database = flat_map warning_line (updated_in false given database).settled.warned
-job_warnings (UpdateCount count) given database = flat_map warning_line (updated_in false (counted_in count given database.rows) database).settled.warned
-job_warnings (UpdateTo tag) given database = flat_map warning_line (updated_in false given database).settled.warned
-job_warnings UpdateTestingRollback given database = flat_map warning_line (rehearsed given database).warned
-job_warnings UpdateSql given database = flat_map warning_line (updated_in true given database).settled.warned
-job_warnings _ given database = []
+job_warnings job given database = flat_map warning_line (job_warned job given database)
 
 -- on each file that holds a database, where the command came to its end: the log got these lines, and behind them those of the status
 abbrev pub Warns : {words : List (List ℕ)} {files : Files} → Asks words files → Stamp → Option (List ℕ) → Status → Option (List ℕ) → Option (List ℕ) → Type 0
 Warns asks stamp told s before after = is_on_file asks.line.job ≡ true → OnFile asks.line.options.dialect told
     (λ database. is_over s ≡ true → after ≡ option_map (λ log. log ++ (job_warnings asks.line.job (given_by asks stamp) database ++ status_lines (goal_of asks.line.job) s)) before)
+
+-- a log that failed got a front of them
+abbrev pub WarnsInPart : {words : List (List ℕ)} {files : Files} → Asks words files → Stamp → Option (List ℕ) → Status → Option (List ℕ) → Option (List ℕ) → Type 0
+WarnsInPart asks stamp told s before after = is_on_file asks.line.job ≡ true → OnFile asks.line.options.dialect told
+    (λ database. is_over s ≡ true → IsPart (job_warnings asks.line.job (given_by asks stamp) database ++ status_lines (goal_of asks.line.job) s) before after)
+
+-- at a full journal the log got the lines of a front of a job's warnings, and behind them those of the status
+pub record WarnedBefore (job : Job) (given : Given) (database : Database) (log : List ℕ → Type 0) : Type 0 where
+  pub front : List (Option Identity × Why)
+  pub rest : List (Option Identity × Why)
+  pub is : front ++ rest ≡ job_warned job given database
+  pub lines : log (flat_map warning_line front)
+
+abbrev pub WarnsAtFull : {words : List (List ℕ)} {files : Files} → Asks words files → Stamp → Option (List ℕ) → Status → Option (List ℕ) → Option (List ℕ) → Type 0
+WarnsAtFull asks stamp told s before after = is_on_file asks.line.job ≡ true → OnFile asks.line.options.dialect told
+    (λ database. (used next : ℕ) → s ≡ status.Full used next → WarnedBefore asks.line.job (given_by asks stamp) database (λ lines. after ≡ option_map (λ log. log ++ (lines ++ status_lines (goal_of asks.line.job) s)) before))
+
+-- a log that failed got a front of them
+abbrev pub WarnsAtFullInPart : {words : List (List ℕ)} {files : Files} → Asks words files → Stamp → Option (List ℕ) → Status → Option (List ℕ) → Option (List ℕ) → Type 0
+WarnsAtFullInPart asks stamp told s before after = is_on_file asks.line.job ≡ true → OnFile asks.line.options.dialect told
+    (λ database. (used next : ℕ) → s ≡ status.Full used next → WarnedBefore asks.line.job (given_by asks stamp) database (λ lines. IsPart (lines ++ status_lines (goal_of asks.line.job) s) before after))

@@ -1,5 +1,6 @@
 -- What a soak prints: its changelog, which is made of a number, runs on a database without anything, and is taken back.
-use Rattle.std.specs.Prelude.{Bool, Err, List, None, Ok, Option, Result, Some, [], false, if◌then◌else◌, is_some, length, min, option_map, suc, take, true, zero, ℕ, ◌+◌, ◌++◌, ◌∷◌, ◌≡◌}
+use Rattle.std.specs.List.{list_all}
+use Rattle.std.specs.Prelude.{Bool, Err, List, None, Ok, Option, Result, Some, [], false, if◌then◌else◌, is_some, length, min, option_map, suc, take, true, zero, ℕ, ◌+◌, ◌++◌, ◌∷◌, ◌≡◌, ◌⊎◌}
 use Rattle.hex.specs.Hex.{encode_lower}
 use Rattle.md5.specs.Md5.{md5}
 use Rattle.lq_base.specs.declared.command.Command.{Command}
@@ -9,8 +10,11 @@ use Rattle.lq_base.specs.declared.dialect.Dialect.{Dialect}
 use Rattle.lq_cli.specs.declared.line.Job.{Job}
 use Rattle.lq_cli.specs.declared.line.Job.TheVariants.{Soak}
 use Rattle.lq_changelog.specs.Changelog.{changelog as changelog_in}
-use Rattle.lq_commands.specs.Outputs.{TellsText}
-use Rattle.lq_commands.specs.Scripts.{script}
+use Rattle.lq_commands.specs.Inserts.{synced_in}
+use Rattle.lq_commands.specs.Outputs.{TellsText, back_in}
+use Rattle.lq_commands.specs.Refusals.{refusal}
+use Rattle.lq_commands.specs.Scripts.{script, updated_in}
+use Rattle.lq_commands.specs.Tells.{status_by}
 use Rattle.lq_commands.specs.declared.given.Given.{Given}
 use Rattle.lq_entries.specs.Log.{entries_in}
 use Rattle.lq_kinds.specs.declared.change_set.Changelog.{Changelog}
@@ -21,6 +25,7 @@ use Rattle.lq_report.specs.Output.{soak_text}
 use Rattle.lq_report.specs.declared.soak.Soaked.{Soaked}
 use Rattle.lq_run.specs.Stands.{entries_of}
 use Rattle.lq_sources.specs.Answers.{IsTold, Source}
+use Rattle.lq_store.specs.Calls.{is_of_texts}
 use Rattle.lq_store.specs.Journal.{Entry}
 use Rattle.lq_tell.specs.SoakLog.{soak_changelog, soak_path, table_name}
 use Rattle.lq_tell.specs.declared.done.Done.{Done}
@@ -30,7 +35,9 @@ use Rattle.lq_track.specs.Database.{Database}
 use Rattle.lq_track.specs.Lock.{free}
 use Rattle.lq_turns.specs.Session.{Session, all_called, left_by, session_on}
 use Rattle.lq_turns.specs.declared.stamp.Stamp.{Stamp}
+use Rattle.lq_turns.specs.declared.stop.Stop.{Stop}
 use Rattle.lq_top.specs.Bytes.{Becomes, Holds, in_use, most_bytes}
+use Rattle.lq_top.specs.Kinds.{IsOfFiles}
 
 -- a database without anything
 abbrev pub empty : Database
@@ -97,21 +104,60 @@ abbrev pub is_done : Status → Bool
 is_done status.Done = true
 is_done s = false
 
--- it is done, with that output; or it ended otherwise
+-- what stops the turns of a command that no check refuses
+abbrev pub stop_in : Command → Given → Database → Option Stop
+stop_in command.Update given database = (updated_in false given database).settled.stop
+stop_in (command.Rollback target) given database = (back_in false given target database).settled.stop
+stop_in command.Sync given database = (synced_in given database).stop
+stop_in c given database = None
+
+-- so a command ends: as its checks refuse it, or else as its turns stop it; or the journal is full
+abbrev pub EndsIn : Option Status → Option Stop → Status → Type 0
+EndsIn (Some refused) stop s = s ≡ refused
+EndsIn None stop s = (s ≡ status_by stop) ⊎ ((used : ℕ) × (next : ℕ) × (s ≡ status.Full used next))
+
+abbrev pub EndsOn : Command → Given → Database → Status → Type 0
+EndsOn c given database s = EndsIn (refusal c given database) (stop_in c given database) s
+
+-- its update, or the rollback of what that left, came to this end
+pub record StopsSoak (d : Dialect) (number sets : ℕ) (stamp : Stamp) (s : Status) : Type 0 where
+  pub changelog : Changelog
+  pub made : IsMade d number sets changelog
+  pub ends : EndsOn command.Update (soak_given d changelog stamp) empty s ⊎ EndsOn (take_back sets) (soak_given d changelog stamp) (updated (soak_given d changelog stamp)).committed s
+
+-- a status has a cause, or there was no memory
+abbrev pub LacksOr : Status → Type 0 → Type 0
+LacksOr s cause = (s ≡ status.OutOfMemory) ⊎ cause
+
+abbrev pub FailsSoak : Dialect → ℕ → ℕ → Stamp → Status → Type 0
+FailsSoak d number sets stamp s = LacksOr s (StopsSoak d number sets stamp s)
+
+-- it is done, with that output; or the files failed, or it was not
 abbrev pub TellsSoak : Dialect → ℕ → ℕ → Stamp → Result Done Status → Type 0
 TellsSoak d number sets stamp (Ok done) = (text : List ℕ) × TellsText text done × Soaks d number sets stamp text
-TellsSoak d number sets stamp (Err s) = is_done s ≡ false
+TellsSoak d number sets stamp (Err s) = (is_done s ≡ false) × (IsOfFiles (Err s) ⊎ FailsSoak d number sets stamp s)
 
 -- of a job that is a soak
 abbrev pub TellsSoakOf : Job → Dialect → Stamp → Result Done Status → Type 0
 TellsSoakOf job d stamp done = (number sets : ℕ) → job ≡ Soak number sets → TellsSoak d number sets stamp done
 
--- what it says: the output has the text of a soak that is done, or a front of it where the output failed
+-- what it says: the output has the text of a soak that is done, or a front of it where the output failed; and any other status has its cause
 pub record SaysSoak (d : Dialect) (number sets : ℕ) (stamp : Stamp) (s : Status) (before after : Option (List ℕ)) : Type 0 where
   pub whole : s ≡ status.Done → (text : List ℕ) × Soaks d number sets stamp text × (after ≡ option_map (λ out. out ++ text) before)
   pub part : s ≡ status.WriteFault → (text : List ℕ) × Soaks d number sets stamp text × IsPart text before after
+  pub ends : (s ≡ status.Done) ⊎ (s ≡ status.WriteFault) ⊎ IsOfFiles (Err s) ⊎ FailsSoak d number sets stamp s
 
 -- On the way there.
+
+-- a command ends so on the database of a file
+abbrev pub EndsOnEach : Given → Command → Option (List ℕ) → Status → Type 0
+EndsOnEach given c told s = (database : Database) → Holds given.options.dialect told database → EndsOn c given database s
+
+-- with the changelog that is made
+pub record Ended (d : Dialect) (number sets : ℕ) (stamp : Stamp) (c : Command) (told : Option (List ℕ)) (s : Status) : Type 0 where
+  pub changelog : Changelog
+  pub made : IsMade d number sets changelog
+  pub ends : EndsOnEach (soak_given d changelog stamp) c told s
 
 -- so many rows, and so many of the tables of the changesets
 pub record IsLeft (sets : ℕ) (database : Database) (rows tables : ℕ) : Type 0 where
@@ -132,9 +178,9 @@ pub record Did (d : Dialect) (number sets : ℕ) (stamp : Stamp) (c : Command) (
   pub made : IsMade d number sets changelog
   pub does : DidOnEach (soak_given d changelog stamp) c sets before after rows tables
 
--- the journal of a file has so many entries, and so many bytes of it are in use
+-- the journal of a file, where it has no state, has so many entries, and so many bytes of it are in use
 abbrev pub IsMeasured : Dialect → Option (List ℕ) → ℕ → ℕ → Type 0
-IsMeasured d told entries used = (there : List Entry) → entries_in d most_bytes told ≡ Some there → (entries ≡ length there) × (used ≡ in_use there)
+IsMeasured d told entries used = (there : List Entry) → entries_in d most_bytes told ≡ Some there → list_all is_of_texts there ≡ true → (entries ≡ length there) × (used ≡ in_use there)
 
 -- the text of what was measured after the update and is left after the rollback
 pub record TakenBack (d : Dialect) (number sets : ℕ) (stamp : Stamp) (told : Option (List ℕ)) (entries bytes : ℕ) (sum text : List ℕ) : Type 0 where

@@ -22,7 +22,7 @@ use Rattle.lq_turns.specs.declared.call.Call.{Call}
 use Rattle.lq_turns.specs.declared.stop.Refusal.{Refusal}
 use Rattle.lq_undoing.specs.Undid.{TellsUndone, undo_refusal}
 use Rattle.lq_top.specs.Asks.{Asks, Files}
-use Rattle.lq_top.specs.Bytes.{Becomes, CrashesOn, HadRoomOn, IsLeftOn, OnFile, Opens, SaysFullOn, WorksOn, most_bytes}
+use Rattle.lq_top.specs.Bytes.{Becomes, CrashesOn, HadRoomOn, IsLeftOn, OnFile, Opens, RestsFullOn, SaysFullOn, WorksOn, most_bytes}
 use Rattle.lq_top.specs.Run.{EndsBy, is_over}
 
 -- the last text of a file's journal
@@ -47,6 +47,7 @@ module _ (o : Options) (g : Changelog) (told : Option (List ℕ)) (database : Da
     pub tells : IfOk done (TellsUndone o database part_on)
     pub room : IfOk done (λ ended. is_finished ended.status ≡ true → HadRoomOn o.dialect undo_calls database told)
     pub full : IfOk done (λ ended. SaysFullOn o.dialect undo_calls database told ended.status)
+    pub rests : IfOk done (λ ended. RestsFullOn o.dialect undo_calls database told ended.status after)
 
 -- the changeset and how many statements that part had, with a line of the output; or which of them was not taken back, and nothing is put out
 abbrev pub SaysPart : Identity → ℕ → Option Refusal → Status → Option (List ℕ) → Option (List ℕ) → Type 0
@@ -70,6 +71,8 @@ pub record RunsUndo (o : Options) (g : Changelog) (database : Database) (before 
   pub says : SaysUndone o database (part_on o g before database) s shown now
   pub room : is_over s ≡ true → HadRoomOn o.dialect (undo_calls o g before database) database before
   pub full : SaysFullOn o.dialect (undo_calls o g before database) database before s
+  -- which the file holds then, with its lock let go
+  pub rests : RestsFullOn o.dialect (undo_calls o g before database) database before s after
 
 module _ {words : List (List ℕ)} {files : Files} (asks : Asks words files) (told : Option (List ℕ)) where
   -- on each file that holds a database

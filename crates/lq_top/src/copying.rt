@@ -1,5 +1,5 @@
 ghost use Rattle.std.specs.List.{All};
-ghost use Rattle.std.specs.Prelude.{◌≡◌, ◌≤◌, Err, IfErr, IfOk, IfSome, List, Ok, Option, Some, false, length, ℕ};
+ghost use Rattle.std.specs.Prelude.{◌≡◌, ◌≤◌, ◌⊎◌, Err, IfErr, IfOk, IfSome, List, Ok, Option, Some, false, length, ℕ};
 ghost use Rattle.lq_changelog.specs.ShortTexts.{HasShortTexts};
 ghost use Rattle.lq_commands.specs.Outputs.{TellsJob};
 ghost use Rattle.lq_commands.specs.Reading.{ReadOnce};
@@ -18,7 +18,7 @@ ghost use Rattle.lq_tell.specs.declared.done.Done.{Done};
 ghost use Rattle.lq_tell.specs.declared.status.Status.{Status};
 ghost use Rattle.lq_track.specs.Database.{Database};
 ghost use Rattle.lq_top.specs.Bytes.{IsDamagedAt, OnFile, TellsDamage, TellsRoomOn, given_at};
-ghost use Rattle.lq_top.specs.Copies.{IsNoCopy, copy_status, job_of};
+ghost use Rattle.lq_top.specs.Copies.{IsNoCopy, copied, copy_status, job_of};
 ghost use Rattle.lq_top.specs.Clock.{ReadAtMostOnce};
 ghost use Rattle.lq_top.specs.Jobs.{job_calls, job_refusal};
 ghost use Rattle.lq_top.specs.Kinds.{IsOfDatabase};
@@ -32,6 +32,7 @@ use lq_db::Db;
 use lq_engine::Engine;
 use lq_model::SqlText;
 use lq_outside::{Clock, Disk, SureDisk};
+use lq_snap::Snap;
 use lq_store::{Executor, Store};
 use lq_tell::{Done, Status};
 use std::alloc::Global;
@@ -122,7 +123,7 @@ fn on_bytes<D: Disk + Drop, C: Clock, P: SqlText + Drop + Copy>(
     ensures sure { result ≡ Err status.DiskFault → ⊥ }
     ensures once { ReadAtMostOnce (C.to_come clock.old) (C.to_come clock.new) (C.last clock.new) }
 {
-    match Db::<D, P, Engine>::load(alloc, copy, asked.options.dialect, sql, LIMIT) {
+    match Db::<D, P, Engine>::load(alloc, copy, asked.options.dialect, sql, LIMIT, &Snap) {
         Ok(db) => on_loaded(alloc, db, sql, printing, asked, who, clock),
         Err(refused) => Err(copy_status(load_status(refused.fault))),
     }
@@ -202,6 +203,7 @@ fn print_on<S: Store, P: SqlText>(
 }
 
 fn in_memory(done: Result<Done, Status>) -> Result<Done, Status>
+    ensures copied { result ≡ copied done }
     ensures refused { (refused : Option Status) → Answers refused done → Answers refused result }
     ensures tells { (job : Job) (given : Given) (database : Database)
         → TellsJob job given database done
@@ -240,6 +242,7 @@ fn copy_of<D: Disk>(alloc: Global, disk: &mut D) -> Result<SureDisk, Status>
         (D.crashes disk.old).leaves }
     ensures later { D.faults disk.old ≤ D.faults disk.new }
     ensures failed { result ≡ Err status.DiskFault → Rose (D.faults disk.old) (D.faults disk.new) }
+    ensures unfailed { (result ≡ Err status.DiskFault) ⊎ (D.faults disk.new ≡ D.faults disk.old) }
 {
     match disk.size() {
         Ok(size) => copy_sized(alloc, disk, size),
@@ -257,6 +260,7 @@ fn copy_sized<D: Disk>(alloc: Global, disk: &mut D, size: u64) -> Result<SureDis
         (D.crashes disk.old).leaves }
     ensures later { D.faults disk.old ≤ D.faults disk.new }
     ensures failed { result ≡ Err status.DiskFault → Rose (D.faults disk.old) (D.faults disk.new) }
+    ensures unfailed { (result ≡ Err status.DiskFault) ⊎ (D.faults disk.new ≡ D.faults disk.old) }
 {
     if size > LIMIT {
         return Err(Status::Damaged { at: LIMIT });
@@ -275,6 +279,7 @@ fn read_whole<D: Disk>(alloc: Global, disk: &mut D, size: u64) -> Result<Vec<u8>
         (D.crashes disk.old).leaves }
     ensures later { D.faults disk.old ≤ D.faults disk.new }
     ensures failed { result ≡ Err status.DiskFault → Rose (D.faults disk.old) (D.faults disk.new) }
+    ensures unfailed { (result ≡ Err status.DiskFault) ⊎ (D.faults disk.new ≡ D.faults disk.old) }
 {
     let mut bytes = match vec![in alloc; 0u8; size as usize] {
         Ok(bytes) => bytes,

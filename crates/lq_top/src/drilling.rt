@@ -18,7 +18,7 @@ ghost use Rattle.lq_sources.specs.declared.fault.LoadFault.TheVariants as load;
 ghost use Rattle.lq_store.specs.Executor.{kept};
 ghost use Rattle.lq_tell.specs.declared.status.Status.TheVariants as status;
 ghost use Rattle.lq_top.specs.Bytes.{most_bytes};
-ghost use Rattle.lq_top.specs.Drilled.{DrilledBy, FindsDrill, IsDrill, IsEntrant, WorkedDrill, answer_code, drilled};
+ghost use Rattle.lq_top.specs.Drilled.{DrilledBy, FindsDrill, IsDrill, IsEntrant, WorkedDrill, answer_code, came_code, drilled};
 ghost use Rattle.lq_top.specs.Drills.{command_in, drill_in, drill_of, entrant_of, entrants_of, options_on, runs_in};
 ghost use Rattle.lq_top.specs.Players.{Begun, Joins, Plays, answers_in, drill_status};
 
@@ -39,7 +39,9 @@ use lq_outside::{Clock, Disk, Files, Found, LoadRefused};
 use lq_pg::Pg;
 use lq_players::{AnyCommand, drill_commands};
 use lq_report::{Drilled, drill_text};
+use lq_snap::Snap;
 use lq_sources::LoadFault;
+use lq_statement::laws::statements_read_back;
 use lq_store::{Executor, Store};
 use lq_tell::{Done, Status};
 use lq_turns::Answer;
@@ -305,7 +307,7 @@ fn on_disk<D: Disk, C: Clock, P: SqlText + Drop + Copy>(
     ensures worked { WorkedDrill D.told D.faults D.crashes dialect who.now drilling
         (C.to_come clock.old) (C.to_come clock.new) disk result.done result.disk }
 {
-    match Db::<D, P, Engine>::load(alloc, disk, dialect, sql, LIMIT) {
+    match Db::<D, P, Engine>::load(alloc, disk, dialect, sql, LIMIT, &Snap) {
         Ok(db) => on_database(alloc, db, dialect, sql, drilling, who, clock),
         Err(refused) => {
             let LoadRefused { disk, fault } = refused;
@@ -338,6 +340,7 @@ fn on_database<D: Disk, C: Clock, P: SqlText + Drop + Copy, E: Executor + Drop>(
         (C.to_come clock.old) (C.to_come clock.new) (disk_in db) result.done result.disk }
 {
     turns_back_are_spelled();
+    statements_read_back();
     let mut db = db;
     let Drilling { entrants, steps } = drilling;
     match cast_of(alloc, dialect, entrants, who, clock) {
@@ -420,7 +423,7 @@ fn joined(
     let number = players.len() as u64 + 1;
     let stamp = numbered_stamp(alloc, name, number, reading)?;
     commands.push(command_again(alloc, &command)?)?;
-    let player = AnyCommand::new(alloc, dialect, stamp, command, changelog, options);
+    let player = AnyCommand::new(alloc, dialect, stamp, command, changelog, options, false);
     players.push(player)?;
     Ok(Cast { players, commands })
 }
@@ -511,7 +514,7 @@ fn drilled_of(
 }
 
 fn code_of(player: &AnyCommand) -> Option<u8>
-    ensures { result ≡ option_map answer_code (command_stands player.now).answer }
+    ensures { result ≡ option_map came_code (command_stands player.now).answer }
 {
     match player.answer() {
         Some(answer) => Some(answer_code(answer)),

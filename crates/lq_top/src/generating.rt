@@ -25,6 +25,7 @@ use lq_generate::{GenerateFault, generate};
 use lq_model::SqlText;
 use lq_named::names_hold;
 use lq_outside::{Disk, LoadRefused};
+use lq_snap::Snap;
 use lq_store::Store;
 use lq_tell::{Done, Status};
 use std::alloc::Global;
@@ -43,7 +44,7 @@ pub fn generate_on<D: Disk, P: SqlText + Drop>(
         → WorkedOn D.told D.faults D.crashes (job.Generate author.now) given
         disk result.done result.disk }
 {
-    match Db::<D, P, Engine>::load(alloc, disk, dialect, sql, LIMIT) {
+    match Db::<D, P, Engine>::load(alloc, disk, dialect, sql, LIMIT, &Snap) {
         Ok(db) => on_loaded(alloc, db, dialect, author),
         Err(refused) => {
             let LoadRefused { disk, fault } = refused;

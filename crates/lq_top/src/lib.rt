@@ -6,6 +6,7 @@ mod copying;
 mod drilling;
 mod generating;
 mod opening;
+mod snapshotting;
 mod soak;
 mod top;
 mod undoing;

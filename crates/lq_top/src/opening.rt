@@ -22,6 +22,7 @@ use lq_journal::LoadFault;
 use lq_model::SqlText;
 use lq_outside::{Clock, Disk, LoadRefused};
 use lq_rehearsal::run_job;
+use lq_snap::Snap;
 use lq_store::Executor;
 use lq_tell::{Done, Status};
 use std::alloc::Global;
@@ -66,7 +67,7 @@ pub fn on_disk<D: Disk, C: Clock, P: SqlText + Drop + Copy>(
         (given_at asked (stamp_of who.now (C.last clock.new))) disk result.done result.disk }
     ensures once { ReadAtMostOnce (C.to_come clock.old) (C.to_come clock.new) (C.last clock.new) }
 {
-    match Db::<D, P, Engine>::load(alloc, disk, asked.options.dialect, sql, LIMIT) {
+    match Db::<D, P, Engine>::load(alloc, disk, asked.options.dialect, sql, LIMIT, &Snap) {
         Ok(db) => on_database(alloc, db, sql, job, asked, who, clock),
         Err(refused) => {
             let LoadRefused { disk, fault } = refused;

@@ -17,7 +17,7 @@ ghost use Rattle.lq_run.specs.Commands.{HasDatabase, Leaves};
 ghost use Rattle.lq_tell.specs.SoakLog.{soak_changelog, soak_path, table_name};
 ghost use Rattle.lq_top.specs.Bytes.{most_bytes};
 ghost use Rattle.lq_top.specs.Kinds.{Refuses};
-ghost use Rattle.lq_top.specs.Soaked.{Did, DidOnEach, IsLeft, IsMade, IsMeasured, Soaks, TakenBack, TellsSoak, is_done, soak_given, tables_there, take_back};
+ghost use Rattle.lq_top.specs.Soaked.{Did, DidOnEach, Ended, EndsOn, EndsOnEach, FailsSoak, IsLeft, IsMade, IsMeasured, LacksOr, Soaks, TakenBack, TellsSoak, is_done, soak_given, tables_there, take_back};
 ghost use Rattle.lq_track.specs.Database.{Database, rows_of};
 ghost use Rattle.lq_base.specs.declared.tracking.Tracked.{Tracked};
 ghost use Rattle.lq_turns.specs.Stops.{is_mark};
@@ -36,6 +36,7 @@ use lq_model::{Look, SqlText};
 use lq_outside::{Clock, Disk, Files, SureDisk, SureFiles};
 use lq_report::{Soaked, soak_text};
 use lq_shared::Shared;
+use lq_snap::Snap;
 use lq_store::{Executor, Store};
 use lq_tell::{Done, SOAK_PATH, Status, soak_changelog, table_name};
 use lq_track::read_rows;
@@ -94,6 +95,9 @@ fn there_and_back<P: SqlText + Drop + Copy>(
     requires { P.dialect ≡ soaker.dialect }
     ensures stops { IfErr result (λ s. is_diskless s ≡ true) }
     ensures undone { IfErr result (λ s. is_done s ≡ false) }
+    ensures ends { IfErr result
+        (FailsSoak soaker.entry.dialect soaker.entry.seed.number soaker.entry.seed.sets
+        (stamp_of soaker.entry.who.now soaker.entry.reading)) }
     ensures soaks { IfOk result (λ text.
         Soaks soaker.entry.dialect soaker.entry.seed.number soaker.entry.seed.sets
         (stamp_of soaker.entry.who.now soaker.entry.reading) text) }
@@ -118,6 +122,11 @@ fn back_text<P: SqlText + Drop + Copy>(
     requires { P.dialect ≡ soaker.dialect }
     ensures stops { IfErr result (λ s. is_diskless s ≡ true) }
     ensures undone { IfErr result (λ s. is_done s ≡ false) }
+    ensures ends { IfErr result (λ s.
+        LacksOr s
+        (Ended soaker.entry.dialect soaker.entry.seed.number soaker.entry.seed.sets
+        (stamp_of soaker.entry.who.now soaker.entry.reading) (take_back soaker.entry.seed.sets)
+        (⟦<SureDisk as Disk>⟧.told there.disk) s)) }
     ensures back { IfOk result (λ text.
         TakenBack soaker.entry.dialect soaker.entry.seed.number soaker.entry.seed.sets
         (stamp_of soaker.entry.who.now soaker.entry.reading) (⟦<SureDisk as Disk>⟧.told there.disk)
@@ -182,6 +191,11 @@ fn disk_after<P: SqlText + Drop + Copy>(
     requires tag { IfSome (tag_in command.now) (λ tag. char_count tag ≤ 255) }
     ensures stops { IfErr result (λ s. is_diskless s ≡ true) }
     ensures undone { IfErr result (λ s. is_done s ≡ false) }
+    ensures ends { IfErr result (λ s.
+        LacksOr s
+        (Ended soaker.entry.dialect soaker.entry.seed.number soaker.entry.seed.sets
+        (stamp_of soaker.entry.who.now soaker.entry.reading) command.now
+        (⟦<SureDisk as Disk>⟧.told disk) s)) }
     ensures did { IfOk result (λ after.
         Did soaker.entry.dialect soaker.entry.seed.number soaker.entry.seed.sets
         (stamp_of soaker.entry.who.now soaker.entry.reading) command.now
@@ -189,7 +203,7 @@ fn disk_after<P: SqlText + Drop + Copy>(
         after.left.tables) }
 {
     let given = given_by(alloc, &sql, soaker)?;
-    match Db::<SureDisk, P, Engine>::load(alloc, disk, given.options.dialect, sql, LIMIT) {
+    match Db::<SureDisk, P, Engine>::load(alloc, disk, given.options.dialect, sql, LIMIT, &Snap) {
         Ok(db) => on_loaded(alloc, db, sql, command, given, soaker.seed.sets),
         Err(_) => Err(Status::OutOfMemory),
     }
@@ -216,6 +230,8 @@ fn on_loaded<D: Disk + Drop, P: SqlText + Drop + Copy, E: Executor + Drop>(
     requires name { is_mark given.stamp.who ≡ false }
     ensures stops { IfErr result (λ s. is_diskless s ≡ true) }
     ensures undone { IfErr result (λ s. is_done s ≡ false) }
+    ensures ends { IfErr result
+        (λ s. LacksOr s (EndsOnEach given command.now (D.told (disk_in db)) s)) }
     ensures did { IfOk result (λ after.
         DidOnEach given command.now sets (D.told (disk_in db)) (D.told after.disk) after.left.rows
         after.left.tables) }
@@ -252,6 +268,10 @@ fn done_on<S: Store, P: SqlText>(
         Leaves given.options.dialect (script command.now given database) database
         (S.state store.old) (S.state store.new))) }
     ensures live { OnOk result (IsTrue (S.state store.new).live) }
+    ensures ends { IfErr result (λ s.
+        LacksOr s
+        (OnIts given.options.dialect (S.state store.old)
+        (λ database. EndsOn command.now given database s))) }
     ensures stops { IfErr result (λ s. is_diskless s ≡ true) }
     ensures undone { IfErr result (λ s. is_done s ≡ false) }
 {

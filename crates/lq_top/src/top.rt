@@ -6,7 +6,6 @@ ghost use Rattle.lq_cli.specs.Line.{line_of};
 ghost use Rattle.lq_cli.specs.declared.line.Job.TheVariants as job;
 ghost use Rattle.lq_cli.specs.declared.line.Line.{Line};
 ghost use Rattle.lq_commands.specs.Stamp.{stamp_of};
-ghost use Rattle.lq_kinds.specs.Dialects.{AreFor};
 ghost use Rattle.lq_outside.specs.Count.{Rose};
 ghost use Rattle.lq_sources.specs.declared.fault.LoadFault.{LoadFault};
 ghost use Rattle.lq_tell.specs.Lines.{status_lines};
@@ -21,7 +20,8 @@ ghost use Rattle.lq_top.specs.Headline.{GoesBack, GoneBack, HasCleared, HasRehea
 ghost use Rattle.lq_top.specs.Jobs.{is_apart, misses};
 ghost use Rattle.lq_top.specs.Resumed.{LeavesMarked, RollbackResumes, UpdateResumes};
 ghost use Rattle.lq_top.specs.Run.{Crashes, EndsInVain, EndsUnread, IsDamage, IsLogged, IsLoggedInPart, IsSafe, IsUnread, OpensAtCrash, Runs, SparesDamage};
-ghost use Rattle.lq_top.specs.Says.{ComesAgain, Said, SaidInPart, Warns};
+ghost use Rattle.lq_top.specs.Says.{ComesAgain, Said, SaidInPart, Warns, WarnsAtFull, WarnsAtFullInPart, WarnsInPart};
+ghost use Rattle.lq_top.specs.Snapped.{CrashesSnapshot, IsSnapshotSafe, RunsSnapshots, SnapshotOpens};
 ghost use Rattle.lq_top.specs.Soaked.{SaysSoak};
 ghost use Rattle.lq_top.specs.TakenBack.{TakesPartBack, UpdateMends};
 ghost use Rattle.lq_top.specs.Undone.{CrashesUndone, IsUndoneSafe, RunsUndone, UndoneOpens};
@@ -29,6 +29,7 @@ ghost use Rattle.lq_top.specs.Undone.{CrashesUndone, IsUndoneSafe, RunsUndone, U
 use crate::work::{Ending, work};
 use laws_undo::laws::{parts_are_taken_back, undo_mends};
 use lq_base::Text;
+use lq_changelog::laws::what_is_given_is_for_the_dialect;
 use lq_outside::{Clock, Disk, Files, Sink};
 use lq_tell::{Status, tell};
 use std::alloc::Global;
@@ -104,7 +105,6 @@ pub fn run<F: Files, D: Disk, C: Clock, O: Sink, L: Sink>(
         (D.crashes result.disk) }
     ensures opens_at_crash { (asks : Asks (map (λ word. string_bytes word) words.now)
         (F.told files.old))
-        → AreFor asks.line.options.dialect asks.changelog
         → (bytes : List ℕ)
         → OpensAtCrash asks (stamp_of who.now (C.last clock.new)) (D.told disk) bytes }
     ensures safe { (asks : Asks (map (λ word. string_bytes word) words.now) (F.told files.old))
@@ -129,7 +129,7 @@ pub fn run<F: Files, D: Disk, C: Clock, O: Sink, L: Sink>(
     ensures again { (asks : Asks (map (λ word. string_bytes word) words.now) (F.told files.old))
         → ComesAgain asks (stamp_of who.now (C.last clock.new)) (D.told disk) result.status }
 
-    // What a soak says: the function of its number, its changesets, who runs it and the reading that its definition states.
+    // What a soak says: the function of its number, its changesets, who runs it and the reading that its definition states; and what any other status of it comes of.
     ensures soaks { (line : Line)
         → line_of (map (λ word. string_bytes word) words.now) ≡ Some line
         → (number sets : ℕ)
@@ -179,7 +179,6 @@ pub fn run<F: Files, D: Disk, C: Clock, O: Sink, L: Sink>(
         (D.told result.disk) }
     ensures marked_at_crash { (asks : Asks (map (λ word. string_bytes word) words.now)
         (F.told files.old))
-        → AreFor asks.line.options.dialect asks.changelog
         → (bytes : List ℕ)
         → LeavesMarked asks (stamp_of who.now (C.last clock.new)) (D.told disk) (Some bytes) }
 
@@ -218,12 +217,28 @@ pub fn run<F: Files, D: Disk, C: Clock, O: Sink, L: Sink>(
         → UpdateMends asks (stamp_of who.now (C.last clock.new)) (D.told disk) result.status
         (D.told result.disk) }
 
+    // What snapshot is refused for, what it leaves and says, and that it is opened again with the same database; and a crash of the machine at any moment of it, and after its end.
+    ensures snapshots { (asks : Asks (map (λ word. string_bytes word) words.now)
+        (F.told files.old))
+        → RunsSnapshots asks (D.told disk) result.status (D.told result.disk) (O.told out.old)
+        (O.told out.new) }
+    ensures snapshot_at_crash { (asks : Asks (map (λ word. string_bytes word) words.now)
+        (F.told files.old))
+        → CrashesSnapshot asks (D.told disk) (D.crashes disk) (D.crashes result.disk) }
+    ensures snapshot_opens { (asks : Asks (map (λ word. string_bytes word) words.now)
+        (F.told files.old))
+        → (bytes : List ℕ)
+        → SnapshotOpens asks (D.told disk) bytes }
+    ensures snapshot_safe { (asks : Asks (map (λ word. string_bytes word) words.now)
+        (F.told files.old))
+        → IsSnapshotSafe asks result.status (D.told result.disk) (D.crashes result.disk) }
+
     // The clock is read at most once, and by a drill for each of its commands.
     ensures once { asks_drill (line_of (map (λ word. string_bytes word) words.now)) ≡ false
         → ReadAtMostOnce (C.to_come clock.old) (C.to_come clock.new) (C.last clock.new) }
     ensures reads { ReadUpTo 64 (C.to_come clock.old) (C.to_come clock.new) }
 
-    // Without an end in the run there is no output. The log gets the lines of the status, behind those of warnings, of which there are none without an end in the run. Of a command that came to its end it is known which: those of an update's turns, the changelog's own first.
+    // Without an end in the run there is no output. The log gets the lines of the status, behind those of warnings, of which there are none without an end in the run. Of a command that came to its end it is known which: those of an update's turns, the changelog's own first; at a full journal a front of those. A log that failed got a front of them all.
     ensures silent { IsSilent result.status → O.told out.new ≡ O.told out.old }
     ensures logged { (Rose (L.faults log.old) (L.faults log.new) → ⊥)
         → IsLogged (asked_tag (line_of (map (λ word. string_bytes word) words.now))) result.status
@@ -232,10 +247,24 @@ pub fn run<F: Files, D: Disk, C: Clock, O: Sink, L: Sink>(
         → (Rose (L.faults log.old) (L.faults log.new) → ⊥)
         → Warns asks (stamp_of who.now (C.last clock.new)) (D.told disk) result.status
         (L.told log.old) (L.told log.new) }
+    ensures warns_part { (asks : Asks (map (λ word. string_bytes word) words.now)
+        (F.told files.old))
+        → WarnsInPart asks (stamp_of who.now (C.last clock.new)) (D.told disk) result.status
+        (L.told log.old) (L.told log.new) }
+    ensures warns_at_full { (asks : Asks (map (λ word. string_bytes word) words.now)
+        (F.told files.old))
+        → (Rose (L.faults log.old) (L.faults log.new) → ⊥)
+        → WarnsAtFull asks (stamp_of who.now (C.last clock.new)) (D.told disk) result.status
+        (L.told log.old) (L.told log.new) }
+    ensures warns_at_full_part { (asks : Asks (map (λ word. string_bytes word) words.now)
+        (F.told files.old))
+        → WarnsAtFullInPart asks (stamp_of who.now (C.last clock.new)) (D.told disk) result.status
+        (L.told log.old) (L.told log.new) }
     ensures log_part { IsLoggedInPart
         (asked_tag (line_of (map (λ word. string_bytes word) words.now))) result.status
         (L.told log.old) (L.told log.new) }
 {
+    what_is_given_is_for_the_dialect();
     parts_are_taken_back();
     undo_mends();
     let Ending { disk, done, tag } = work(alloc, words, who, files, disk, clock);

@@ -18,6 +18,7 @@ use lq_db::Db;
 use lq_engine::Engine;
 use lq_model::SqlText;
 use lq_outside::{Disk, LoadRefused};
+use lq_snap::Snap;
 use lq_store::Executor;
 use lq_tell::Status;
 use lq_undoing::undo;
@@ -37,7 +38,7 @@ pub fn undo_on<D: Disk, P: SqlText + Drop + Copy>(
         → WorkedOn D.told D.faults D.crashes job.UndoUnrecorded (given_at asked stamp)
         disk result.done result.disk }
 {
-    match Db::<D, P, Engine>::load(alloc, disk, asked.options.dialect, sql, LIMIT) {
+    match Db::<D, P, Engine>::load(alloc, disk, asked.options.dialect, sql, LIMIT, &Snap) {
         Ok(db) => undo_in(alloc, db, sql, asked),
         Err(refused) => {
             let LoadRefused { disk, fault } = refused;

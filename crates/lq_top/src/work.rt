@@ -23,13 +23,14 @@ ghost use Rattle.lq_top.specs.Jobs.{DoesLine, is_apart, is_on_store, is_own, job
 ghost use Rattle.lq_top.specs.Kinds.{IsNotLoaded, IsOfFiles, IsOfWords};
 ghost use Rattle.lq_top.specs.Run.{Crashes};
 ghost use Rattle.lq_top.specs.Soaked.{TellsSoakOf};
-ghost use Rattle.lq_top.specs.Worked.{InVain, Spares, UndoneBy, WorkedBy, WorkedOn, WorkedWith, has_missed};
+ghost use Rattle.lq_top.specs.Worked.{InVain, SnappedBy, Spares, UndoneBy, WorkedBy, WorkedOn, WorkedWith, has_missed};
 
 use crate::changelogs::{changelog_of, file_status, part_for};
 use crate::copying::{Printing, on_copy};
 use crate::drilling::drill;
 use crate::generating::generate_on;
 use crate::opening::{Worked, on_disk};
+use crate::snapshotting::snapshot_on;
 use crate::soak::{Seed, soak};
 use crate::undoing::undo_on;
 use lq_base::{Dialect, Text};
@@ -132,6 +133,10 @@ pub fn work<F: Files, D: Disk, C: Clock>(
     ensures undone { (asks : Asks (map (λ word. string_bytes word) words.now) (F.told files.old))
         → asks.line.job ≡ job.UndoUnrecorded
         → UndoneBy D.told D.faults D.crashes asks.line.options asks.changelog disk result.done
+        result.disk }
+    ensures snapped { (asks : Asks (map (λ word. string_bytes word) words.now) (F.told files.old))
+        → asks.line.job ≡ job.Snapshot
+        → SnappedBy D.told D.faults D.crashes asks.line.options.dialect disk result.done
         result.disk }
 {
     match read_words(alloc, words) {
@@ -392,6 +397,7 @@ fn on_job<D: Disk, C: Clock, P: SqlText + Drop + Copy>(
             Worked { disk, done }
         }
         Job::UndoUnrecorded => undo_on(alloc, disk, sql, asked),
+        Job::Snapshot => snapshot_on(alloc, disk, sql, asked.options.dialect),
         _ => unreachable!(),
     }
 }

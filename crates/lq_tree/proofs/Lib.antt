@@ -7,3 +7,6 @@ pub mod BothEnds
 pub mod ItemsRead
 pub mod NamesRead
 pub mod Schemas
+pub mod Says
+pub mod Small
+pub mod SmallJson

@@ -35,11 +35,11 @@ abbrev mutual
   entries_of no_members = Some []
   entries_of (member k d ms) = option_and_then (λ n. option_map (λ es. (k, n) ∷ es) (entries_of ms)) (tree_of d)
 
-abbrev or_float : Option Node → Result Node TreeFault
+abbrev pub or_float : Option Node → Result Node TreeFault
 or_float (Some n) = Ok n
 or_float None = Err FloatNumber
 
-abbrev tree_or_fault : Option Data → Result Node TreeFault
+abbrev pub tree_or_fault : Option Data → Result Node TreeFault
 tree_or_fault (Some d) = or_float (tree_of d)
 tree_or_fault None = Err NotJson
 

@@ -1,10 +1,10 @@
-ghost use Rattle.std.specs.Prelude.{◌≡◌, ◌⊎◌, Some, None, Ok, Err, IfOk, IfErr, true, false};
+ghost use Rattle.std.specs.Prelude.{◌≡◌, ◌⊎◌, [], Some, None, Ok, Err, IfOk, IfErr, true, false};
 ghost use Rattle.serde_json.specs.View.{view, items_view, members_view};
 ghost use Rattle.lq_tree.specs.Json.{json_tree, json_value, holds_float, tree_of, trees_of, entries_of};
 ghost use Rattle.lq_tree.specs.Tree.{IsTree};
 
 use crate::node::{Node, TreeFault};
-use lq_base::{Items, Text};
+use lq_base::{Items, NoMemory, Text};
 use serde_json::{Map, Value};
 use std::alloc::Global;
 
@@ -36,6 +36,14 @@ fn value_of(alloc: Global, bytes: &[u8]) -> Result<Value, TreeFault>
     }
 }
 
+/// An empty list with room for so many, since one that grows takes more.
+fn with_room<T>(alloc: Global, count: usize) -> Result<Items<T>, NoMemory>
+    ensures { IfOk result (λ made. made ≡ []) }
+{
+    let items = Vec::with_capacity(alloc, count)?;
+    Ok(Items::from_vec(items))
+}
+
 #[cycle(node)]
 fn node_of(alloc: Global, value: &Value) -> Result<Node, TreeFault>
     ensures ok { IfOk result (λ n. tree_of (view value.now) ≡ Some n) }
@@ -61,7 +69,7 @@ fn nodes_of(alloc: Global, items: &Vec<Value>) -> Result<Items<Node>, TreeFault>
     ensures err { IfErr result (λ e. (e ≡ TreeFault.OutOfMemory)
         ⊎ ((e ≡ TreeFault.FloatNumber) × (trees_of (items_view items.now.items) ≡ None))) }
 {
-    let mut nodes = Items::new(alloc);
+    let mut nodes = with_room(alloc, items.len())?;
     for item in items {
         let node = node_of(alloc, item)?;
         nodes.push(node)?;
@@ -75,7 +83,7 @@ fn entries_of(alloc: Global, found: &Map<String, Value>) -> Result<Items<(Text, 
     ensures err { IfErr result (λ e. (e ≡ TreeFault.OutOfMemory)
         ⊎ ((e ≡ TreeFault.FloatNumber) × (entries_of (members_view found.now.entries) ≡ None))) }
 {
-    let mut entries = Items::new(alloc);
+    let mut entries = with_room(alloc, found.len())?;
     for (key, value) in found.iter() {
         let name = Text::new(alloc, key.as_str())?;
         let node = node_of(alloc, value)?;

@@ -8,7 +8,7 @@ use Rattle.lq_base.specs.declared.tracking.Tracked.{Tracked}
 use Rattle.lq_commands.specs.Outputs.{TellsText}
 use Rattle.lq_commands.specs.Refusals.{Answers, IsFault, ends}
 use Rattle.lq_commands.specs.Tells.{IfFinished, IsQuiet}
-use Rattle.lq_commands.specs.Works.{IsKept, OnIts, SaysFull, Works, is_finished}
+use Rattle.lq_commands.specs.Works.{IsKept, OnIts, RestsFull, Works, is_finished}
 use Rattle.lq_expr.specs.declared.options.Options.{Options}
 use Rattle.lq_kinds.specs.declared.any_change.AnyChange.{AnyChange}
 use Rattle.lq_kinds.specs.declared.change_set.Changelog.{Changelog}
@@ -21,7 +21,7 @@ use Rattle.lq_report.specs.Mark.{Marked}
 use Rattle.lq_report.specs.Output.{undone_text}
 use Rattle.lq_run.specs.Commands.{Leaves}
 use Rattle.lq_run.specs.Crashes.{LeftBehind}
-use Rattle.lq_run.specs.Left.{IsFullIn}
+use Rattle.lq_run.specs.Left.{RestsIn}
 use Rattle.lq_store.specs.Crashes.{Crashes}
 use Rattle.lq_store.specs.State.{State}
 use Rattle.lq_tell.specs.Texts.{status_done}
@@ -110,14 +110,14 @@ same_next : (u n used next : ℕ) → status.Full u n ≡ status.Full used next 
 same_next u n used next h = Prim.cc
 
 module _ (d : Dialect) (calls : List Call) (database : Database) (x y : State) where
-  says_full : (e : RepairFault) → FullBy d calls database x (Err e) → (used next : ℕ) → status_of e ≡ status.Full used next → IsFullIn d calls database x used next
+  says_full : (e : RepairFault) → FullBy d calls database x (Err e) y → (used next : ℕ) → status_of e ≡ status.Full used next → RestsIn d calls database x y used next
   says_full fault.NothingToUndo full used next is = false_true (ap is_full is)
   says_full (fault.Invalid found) full used next is = false_true (ap is_full is)
   says_full (fault.NotReversible of) full used next is = false_true (ap is_full is)
   says_full (fault.Refused of why) full used next is = false_true (ap is_full is)
   says_full fault.Disk full used next is = false_true (ap is_full is)
   says_full (fault.Full u n) full used next is =
-      subst (λ k. IsFullIn d calls database x k next) (same_used u n used next is) (subst (λ k. IsFullIn d calls database x u k) (same_next u n used next is) full)
+      subst (λ k. RestsIn d calls database x y k next) (same_used u n used next is) (subst (λ k. RestsIn d calls database x y u k) (same_next u n used next is) full)
   says_full fault.OutOfMemory full used next is = false_true (ap is_full is)
 
   leaves_ended : (e : RepairFault) → is_finished (status_of e) ≡ true → LeavesBy d calls database x (Err e) y → Leaves d calls database x y
@@ -129,9 +129,9 @@ module _ (d : Dialect) (calls : List Call) (database : Database) (x y : State) w
   leaves_ended (fault.Full used next) finished leaves = false_true finished
   leaves_ended fault.OutOfMemory finished leaves = false_true finished
 
-  works_by : (e : RepairFault) (r : Result Done Status) → status_done r ≡ status_of e → LeavesBy d calls database x (Err e) y → LeftBehind d calls database x y → FullBy d calls database x (Err e) → Works d calls database x r y
+  works_by : (e : RepairFault) (r : Result Done Status) → status_done r ≡ status_of e → LeavesBy d calls database x (Err e) y → LeftBehind d calls database x y → FullBy d calls database x (Err e) y → Works d calls database x r y
   works_by e (Ok done) is leaves behind full =
-      (λ finished. leaves_ended e (sym (ap is_finished is) ∙ finished) leaves, λ unfinished. behind, subst (SaysFull d calls database x) (sym is) (says_full e full))
+      (λ finished. leaves_ended e (sym (ap is_finished is) ∙ finished) leaves, λ unfinished. behind, subst (λ (t : Status). RestsFull d calls database x t y) (sym is) (says_full e full))
   works_by e (Err s) is leaves behind full = behind
 
   works_done : (of : Repaired) (r : Result Done Status) → IfOk r (λ (done : Done). done.status ≡ status.Done) → LeavesBy d calls database x (Ok of) y → LeftBehind d calls database x y → Works d calls database x r y

@@ -1,1 +1,2 @@
 pub mod OnOk
+pub mod Right

@@ -76,17 +76,17 @@ pub then_reach : (s m n : Place) (k : Token) (a b : List Token) → step k s ≡
 then_reach s m n k a b is more = ap (λ (o : Option Place). reach_by k (λ n. reach (a ++ b) n) o) is ∙ ap (λ (j : ℕ). max (level_at k m) j) (reach_append a b m n more)
 
 -- a head behind an open head
-step_inside : (q : ℕ) (h : Head) (f : Frame) (fs : List Frame) → f.rank < q → step (Begin q h) (place none (f ∷ fs)) ≡ Some (place none (frame q (begun h) ∷ f ∷ fs))
+pub step_inside : (q : ℕ) (h : Head) (f : Frame) (fs : List Frame) → f.rank < q → step (Begin q h) (place none (f ∷ fs)) ≡ Some (place none (frame q (begun h) ∷ f ∷ fs))
 step_inside q h f fs lt =
     let le : f.rank ≤ q = omega arith in
     rw (not_above q f.rank le, above f.rank q lt) refl
 
-step_value : (q : ℕ) (v : Node) (f : Frame) (fs : List Frame) → f.rank < q → step (Value q v) (place none (f ∷ fs)) ≡ Some (place (done v) (f ∷ fs))
+pub step_value : (q : ℕ) (v : Node) (f : Frame) (fs : List Frame) → f.rank < q → step (Value q v) (place none (f ∷ fs)) ≡ Some (place (done v) (f ∷ fs))
 step_value q v f fs lt =
     let le : f.rank ≤ q = omega arith in
     rw (not_above q f.rank le, above f.rank q lt) refl
 
-step_header : (q : ℕ) (chomping : Chomping) (f : Frame) (fs : List Frame) → f.rank < q → step (LiteralHeader q chomping) (place none (f ∷ fs)) ≡ Some (place (block chomping []) (f ∷ fs))
+pub step_header : (q : ℕ) (chomping : Chomping) (f : Frame) (fs : List Frame) → f.rank < q → step (LiteralHeader q chomping) (place none (f ∷ fs)) ≡ Some (place (block chomping []) (f ∷ fs))
 step_header q chomping f fs lt =
     let le : f.rank ≤ q = omega arith in
     rw (not_above q f.rank le, above f.rank q lt) refl

@@ -14,3 +14,6 @@ pub mod Runs
 pub mod Files
 pub mod Trees
 pub mod Worked
+pub mod Small
+pub mod Rising
+pub mod Dashes

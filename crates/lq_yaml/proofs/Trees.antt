@@ -175,19 +175,19 @@ mutual
 
 -- ---- and the tokens of lines are such
 
-map_some : {X Y : Type 0} (P : X → Type 0) (Q : Y → Type 0) (f : X → Y) (o : Option X) → ((x : X) → P x → Q (f x)) → IfSome o P → IfSome (option_map f o) Q
+pub map_some : {X Y : Type 0} (P : X → Type 0) (Q : Y → Type 0) (f : X → Y) (o : Option X) → ((x : X) → P x → Q (f x)) → IfSome o P → IfSome (option_map f o) Q
 map_some P Q f None to h = tt
 map_some P Q f (Some x) to h = to x h
 
-then_some : {X Y : Type 0} (P : X → Type 0) (Q : Y → Type 0) (f : X → Option Y) (o : Option X) → ((x : X) → P x → IfSome (f x) Q) → IfSome o P → IfSome (option_and_then f o) Q
+pub then_some : {X Y : Type 0} (P : X → Type 0) (Q : Y → Type 0) (f : X → Option Y) (o : Option X) → ((x : X) → P x → IfSome (f x) Q) → IfSome o P → IfSome (option_and_then f o) Q
 then_some P Q f None to h = tt
 then_some P Q f (Some x) to h = to x h
 
-any : {X : Type 0} (o : Option X) → IfSome o (λ _. Unit {0})
+pub any : {X : Type 0} (o : Option X) → IfSome o (λ _. Unit {0})
 any None = tt
 any (Some x) = tt
 
-either : {X : Type 0} (P : X → Type 0) (b : Bool) (x y : Option X) → IfSome x P → IfSome y P → IfSome (cond b x y) P
+pub either : {X : Type 0} (P : X → Type 0) (b : Bool) (x y : Option X) → IfSome x P → IfSome y P → IfSome (cond b x y) P
 either P true x y hx hy = hx
 either P false x y hx hy = hy
 
@@ -261,7 +261,7 @@ lines_flat m (l ∷ ls) =
     (λ x hx. map_some AreFlat AreFlat (λ ts. x.0 ++ ts) (tokens_of x.1 ls) (λ ts hts. flat_append x.0 ts hx hts) (lines_flat x.1 ls))
     (either HasFlat (is_nil (without_blanks l)) (Some (blank_tokens m, m)) (line_by m l (base_of m (spaces l))) (blank_flat m) (line_flat m l (base_of m (spaces l))))
 
-some_same : {X : Type 0} {x y : X} → (let o : Option X = Some x in o) ≡ Some y → x ≡ y
+pub some_same : {X : Type 0} {x y : X} → (let o : Option X = Some x in o) ≡ Some y → x ≡ y
 some_same e = Prim.cc
 
 some_from : {X : Type 0} (P : X → Type 0) (o : Option X) (x : X) → o ≡ Some x → IfSome o P → P x

@@ -13,6 +13,7 @@ pub mod Made
 pub mod MadeLaws
 pub mod Scalar
 pub mod Scan
+pub mod Shallow
 pub mod Tree
 pub mod View
 pub mod Written

@@ -1,5 +1,6 @@
 ghost use Rattle.std.specs.Prelude.{◌≡◌, ◌+◌, ◌*◌, ◌<◌, ◌^◌, IfOk, length, option_map, List, [], ◌++◌};
 ghost use Rattle.lq_yaml.specs.Line.{is_end, colon, value_if, scalar_token, behind_pair, header, value_token, value_tokens, key, behind_key, entry_tokens, is_dash, tokens_at};
+ghost use Rattle.lq_yaml.specs.Shallow.{shallow, enough};
 ghost use Rattle.lq_yaml.specs.Follows.{Gives};
 
 use crate::chars::{begins_with, is_blank, is_word_end, text_of, without_blanks};
@@ -169,14 +170,16 @@ fn is_dash(c: char, more: &[char]) -> bool
     c == '-' && is_word_end(more)
 }
 
-/// The tokens of what begins at a column.
+/// The tokens of what begins at a column. Of the dashes at its front 65 are enough: no tree may have
+/// so many levels, whatever else the line has.
 pub fn tokens_at(
     alloc: Global,
     column: usize,
     from: &[char],
 ) -> Result<Option<Vec<Token>>, NoMemory>
     requires { column + length from.now < 2 ^ 62 }
-    ensures { IfOk result (λ o. option_map (λ v. v.items) o ≡ tokens_at column from.now) }
+    ensures { IfOk result (λ o.
+        option_map (λ v. v.items) o ≡ option_map (shallow enough) (tokens_at column from.now)) }
 {
     let mut tokens = Vec::new(alloc);
     let mut column = column;
@@ -189,6 +192,11 @@ pub fn tokens_at(
         }
         if !is_dash(*c, more) {
             return with_entry(alloc, column, rest, tokens);
+        }
+        if tokens.len() > 64 {
+            rest = more;
+            column += 1;
+            continue;
         }
         tokens.push(Token::Begin(2 * column + 2, Head::Dash))?;
         rest = more;

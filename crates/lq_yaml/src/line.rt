@@ -1,6 +1,7 @@
 ghost use Rattle.std.specs.Prelude.{◌≡◌, ◌+◌, ◌<◌, ◌≤◌, ◌^◌, IfOk, IfSome, Some, None, length, option_map};
 ghost use Rattle.lq_yaml.specs.Line.{blank_tokens, base_of, parent_of, without_block, is_marker, mode_after, content_tokens, has_tab, line_by, line_tokens};
 ghost use Rattle.lq_yaml.specs.Follows.{shown_line};
+ghost use Rattle.lq_yaml.specs.Shallow.{Shows};
 
 use crate::chars::{begins_with, spaces, text_of, trimmed, without_blanks, without_spaces};
 use crate::entry::tokens_at;
@@ -17,10 +18,10 @@ pub struct Line {
     pub mode: Mode,
 }
 
-/// The tokens of a line, if some line may be so.
+/// The tokens of a line, if some line may be so. Of too many dashes at its front 65 are kept.
 pub fn line_tokens(alloc: Global, mode: Mode, line: &[char]) -> Result<Option<Line>, NoMemory>
     requires { length line.now < 2 ^ 61 }
-    ensures { IfOk result (λ o. option_map shown_line o ≡ line_tokens mode line.now) }
+    ensures { IfOk result (λ o. Shows o (line_tokens mode line.now)) }
 {
     if without_blanks(line).is_empty() {
         return blank_line(alloc, mode);
@@ -65,7 +66,7 @@ fn block_line(
 
 fn plain_line(alloc: Global, mode: Mode, line: &[char]) -> Result<Option<Line>, NoMemory>
     requires { length line.now < 2 ^ 61 }
-    ensures { IfOk result (λ o. option_map shown_line o ≡ line_by mode line.now None) }
+    ensures { IfOk result (λ o. Shows o (line_by mode line.now None)) }
 {
     let mode = without_block(mode);
     if begins_with('#', without_blanks(line)) {
@@ -87,7 +88,7 @@ fn content(
     from: &[char],
 ) -> Result<Option<Line>, NoMemory>
     requires { column + length from.now < 2 ^ 62 }
-    ensures { IfOk result (λ o. option_map shown_line o ≡ content_tokens mode column from.now) }
+    ensures { IfOk result (λ o. Shows o (content_tokens mode column from.now)) }
 {
     if is_marker(mode, column, from) {
         return Ok(Some(Line {

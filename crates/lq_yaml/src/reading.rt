@@ -7,7 +7,7 @@ ghost use Rattle.lq_yaml.specs.declared.fault.YamlFault.TheVariants.{NotUtf8, Li
 ghost use Rattle.lq_yaml.specs.DeepView.{state_of, shown_lines};
 ghost use Rattle.lq_yaml.specs.File.{lines_of, IsRead, IsWrong, IsTooDeep, Blames};
 ghost use Rattle.lq_yaml.specs.LineMachine.{line_step, file_start};
-ghost use Rattle.lq_yaml.specs.View.{Takes};
+ghost use Rattle.lq_yaml.specs.Shallow.{Enters};
 ghost use Rattle.lq_yaml.specs.Yaml.{text_tree, yaml_tree};
 
 use crate::builder::Builder;
@@ -37,10 +37,10 @@ impl Reader {
         }
     }
 
-    /// Takes a line, if some layout goes on so.
+    /// Takes a line, if some layout goes on so. Of one that is too deep it takes enough to be so.
     fn take_line(&mut self, alloc: Global, line: &str) -> Result<bool, NoMemory>
         ensures { IfOk result
-            (λ b. Takes b (line_step (chars line.now) (state_of self.old)) (state_of self.new)) }
+            (λ b. Enters b (line_step (chars line.now) (state_of self.old)) (state_of self.new)) }
     {
         let chars = chars_of(alloc, line)?;
         match line_tokens(alloc, self.mode, chars.as_slice())? {

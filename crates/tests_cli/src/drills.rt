@@ -138,7 +138,7 @@ fn wrong_lines_are_usage(rt: HostRuntime) -> Result<(), Fail> {
 
 #[test]
 fn other_commands_are_usage(rt: HostRuntime) -> Result<(), Fail> {
-    let files: [&[u8]; 13] = [
+    let files: [&[u8]; 15] = [
         b"update-count --changelog-file=a --count=1\nsteps\n1\n",
         b"update-to-tag --changelog-file=a --tag=t\nsteps\n1\n",
         b"history\nsteps\n1\n",
@@ -152,6 +152,8 @@ fn other_commands_are_usage(rt: HostRuntime) -> Result<(), Fail> {
         b"release-locks\nupdate-sql --changelog-file=a\nsteps\n1\n",
         b"soak --number=1 --sets=1\nsteps\n1\n",
         b"release-locks\nsoak --number=1 --sets=1\nsteps\n1\n",
+        b"snapshot\nsteps\n1\n",
+        b"release-locks\nsnapshot\nsteps\n1\n",
     ];
     refuse(&rt, rt.alloc(), &files);
     Ok(())

@@ -9,7 +9,7 @@ const FILE: &str = "--changelog-file=a.json";
 
 #[test]
 fn commands_are_read(rt: HostRuntime) -> Result<(), Fail> {
-    let cases: [(&[&str], &str); 39] = [
+    let cases: [(&[&str], &str); 40] = [
         (
             &["validate", URL, FILE],
             "Run(Validate) Postgresql db a.json",
@@ -104,6 +104,7 @@ fn commands_are_read(rt: HostRuntime) -> Result<(), Fail> {
             &["undo-unrecorded", "-Dx=1", URL, FILE],
             "UndoUnrecorded Postgresql db a.json x=1",
         ),
+        (&["snapshot", MY], "Snapshot Mysql a/b.db -"),
         (&["history", MY], "History Mysql a/b.db -"),
         (
             &["generate-changelog", "--author", "ann b", MY],
@@ -189,7 +190,7 @@ fn commands_are_read(rt: HostRuntime) -> Result<(), Fail> {
 
 #[test]
 fn other_words_are_usage(rt: HostRuntime) -> Result<(), Fail> {
-    let cases: [&[&str]; 91] = [
+    let cases: [&[&str]; 96] = [
         &[],
         &["updates", URL, FILE],
         &["Update", URL, FILE],
@@ -291,6 +292,11 @@ fn other_words_are_usage(rt: HostRuntime) -> Result<(), Fail> {
         &["undo-unrecorded", URL, FILE, "--context-filter=a"],
         &["undo-unrecorded", URL, FILE, "--label-filter=l"],
         &["undo", URL, FILE],
+        &["snapshot"],
+        &["snapshot", URL, URL],
+        &["snapshot", URL, FILE],
+        &["snapshot", URL, "-Dx=1"],
+        &["snapshots", URL],
         &["history"],
         &["history", URL, URL],
         &["history", URL, FILE],

@@ -70,6 +70,7 @@ fn append_job(job: &Job, to: &mut Text) -> Result<(), NoMemory> {
         Job::RollbackSql(target) => append_back("RollbackSql", target, to),
         Job::ClearSums => to.push_str("ClearSums"),
         Job::UndoUnrecorded => to.push_str("UndoUnrecorded"),
+        Job::Snapshot => to.push_str("Snapshot"),
         Job::History => to.push_str("History"),
         Job::Generate(author) => append_named("Generate", author, to),
         Job::Drill(path) => append_named("Drill", path, to),

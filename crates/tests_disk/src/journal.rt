@@ -2,7 +2,7 @@ ghost use Rattle.std.specs.Prelude.{IfSome};
 ghost use Rattle.lq_journal.specs.State.{IsReady, disk_of};
 
 use lq_base::{Dialect, Items, Text};
-use lq_frames::{EncodedEntry, Entry};
+use lq_frames::{Body, Encoded, EncodedEntry, EncodedState, Entry};
 use lq_journal::{AppendFault, Journal, LoadFault};
 use lq_model::Room;
 use lq_outside::{Disk, Fuse, MemDisk, SureDisk};
@@ -13,14 +13,24 @@ pub const PGSQL: &[u8] = b"LQJOURNAL1 PGSQL";
 
 const ONE: &[u8] = b"\x01\x00\x00\x00\x13T\x00\x00\x00\x0eDROP TABLE \"t\"\x00";
 
-fn push_entry(line: &mut String, entry: &Entry) -> Result<(), AllocError> {
-    let at = entry.at;
-    write!(line, ", {at}")?;
-    for text in entry.texts.as_slice() {
+fn push_texts(line: &mut String, texts: &[Text]) -> Result<(), AllocError> {
+    for text in texts {
         line.push_str(" ")?;
         line.push_str(text.as_str())?;
     }
     Ok(())
+}
+
+fn push_entry(line: &mut String, entry: &Entry) -> Result<(), AllocError> {
+    let at = entry.at;
+    write!(line, ", {at}")?;
+    match &entry.body {
+        Body::Texts(texts) => push_texts(line, texts.as_slice()),
+        Body::State(bytes) => {
+            let size = bytes.len();
+            write!(line, " state of {size}")
+        }
+    }
 }
 
 fn push_entries(line: &mut String, used: u64, entries: &[Entry]) -> Result<(), AllocError> {
@@ -113,6 +123,52 @@ fn texts_are_encoded(rt: HostRuntime) -> Result<(), Fail> {
 }
 
 #[test]
+fn a_state_is_encoded(rt: HostRuntime) -> Result<(), Fail> {
+    let state = EncodedState::new(rt.alloc(), b"xy")?;
+    assert_eq!(rt; state.bytes(), b"\x00\x00\x00\x03Sxy\x00".as_slice());
+    assert_eq!(rt; state.size(), 8);
+    Ok(())
+}
+
+// A state clears what was before it, and any bytes are one; the form of each entry counts.
+#[test]
+fn journals_begin_with_the_last_state(rt: HostRuntime) -> Result<(), Fail> {
+    let rows: [(&[u8], &str); 8] = [
+        (b"\x01\x00\x00\x00\x01S\x00", "23 used, 17 state of 0"),
+        (
+            b"\x01\x00\x00\x00\x06S\x00\x00\x00\x01\xff\x00",
+            "28 used, 17 state of 5",
+        ),
+        (
+            b"\x01\x00\x00\x00\x06T\x00\x00\x00\x01x\x01\x00\x00\x00\x02Sy\x00",
+            "35 used, 28 state of 1",
+        ),
+        (
+            b"\x01\x00\x00\x00\x02Sa\x01\x00\x00\x00\x03Sbc\x01\x00\x00\x00\x06T\x00\x00\x00\x01x\x00",
+            "43 used, 24 state of 2, 32 x",
+        ),
+        (
+            b"\x01\x00\x00\x00\x02Sa\x01\x00\x00\x00\x06T\x00\x00\x00\x01x\x00\x01",
+            "35 used, 17 state of 1, 24 x",
+        ),
+        (
+            b"\x01\x00\x00\x00\x06T\x00\x00\x00\x01\xff\x01\x00\x00\x00\x02Sy\x00",
+            "damaged at 17",
+        ),
+        (
+            b"\x01\x00\x00\x00\x02Sa\x01\x00\x00\x00\x01T\x00",
+            "damaged at 24",
+        ),
+        (b"\x01\x00\x00\x00\x03Sa\x00", "damaged at 17"),
+    ];
+    for (rest, want) in rows {
+        let holds = is_read(rt.alloc(), Dialect::Postgresql, PGSQL, rest, want)?;
+        assert!(rt; holds, "{want}");
+    }
+    Ok(())
+}
+
+#[test]
 fn journals_are_read(rt: HostRuntime) -> Result<(), Fail> {
     let rows: [(&[u8], &str); 14] = [
         (b"\x00", "17 used"),
@@ -145,7 +201,7 @@ fn journals_are_read(rt: HostRuntime) -> Result<(), Fail> {
         (b"\x01\x00\x00\x00\x01T\x00", "damaged at 17"),
         (b"\x01\x00\x00\x00\x00\x00", "damaged at 17"),
         (
-            b"\x01\x00\x00\x00\x06S\x00\x00\x00\x01x\x00",
+            b"\x01\x00\x00\x00\x06U\x00\x00\x00\x01x\x00",
             "damaged at 17",
         ),
         (
@@ -205,7 +261,7 @@ fn headers_are_tested(rt: HostRuntime) -> Result<(), Fail> {
 }
 
 // Appends one entry to what stands on a disk, and gives the disk and whether each call succeeded.
-fn append_one<D: Disk>(alloc: Global, disk: D, entry: &EncodedEntry) -> (D, bool) {
+fn append_one<D: Disk, B: Encoded>(alloc: Global, disk: D, entry: &B) -> (D, bool) {
     match Journal::load(alloc, disk, Dialect::Postgresql, 8192) {
         Ok((mut journal, _)) => match journal.prepare() {
             Ok(()) => {
@@ -220,9 +276,9 @@ fn append_one<D: Disk>(alloc: Global, disk: D, entry: &EncodedEntry) -> (D, bool
 
 // Whether an appending on a disk that fails after so many calls is answered so, and its file is then
 // loaded so.
-fn stops(
+fn stops<B: Encoded>(
     alloc: Global,
-    entry: &EncodedEntry,
+    entry: &B,
     calls: u64,
     done: bool,
     want: &str,
@@ -246,6 +302,21 @@ fn a_stop_leaves_the_entry_or_not(rt: HostRuntime) -> Result<(), Fail> {
             "41 used, 17 DROP TABLE \"t\""
         };
         let holds = stops(rt.alloc(), &entry, calls, calls >= 9, want)?;
+        assert!(rt; holds, "{calls}");
+    }
+    Ok(())
+}
+
+#[test]
+fn a_stop_leaves_the_state_or_not(rt: HostRuntime) -> Result<(), Fail> {
+    let state = EncodedState::new(rt.alloc(), b"xy")?;
+    for calls in 0..11u64 {
+        let want = if calls < 8 {
+            "17 used"
+        } else {
+            "25 used, 17 state of 2"
+        };
+        let holds = stops(rt.alloc(), &state, calls, calls >= 9, want)?;
         assert!(rt; holds, "{calls}");
     }
     Ok(())

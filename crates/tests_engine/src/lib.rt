@@ -5,6 +5,8 @@
 #[cfg(test)]
 mod definitions;
 #[cfg(test)]
+mod full;
+#[cfg(test)]
 mod mysql;
 #[cfg(test)]
 mod rows;

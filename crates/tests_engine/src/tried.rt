@@ -61,6 +61,21 @@ fn describe<E: Executor>(alloc: Global, engine: &E, ran: Ran) -> Result<String, 
     }
 }
 
+/// What a user's text answers: why it does not run, or how many rows it changes.
+pub fn told_by<P: SqlText, E: Executor>(
+    alloc: Global,
+    sql: &P,
+    engine: &mut E,
+    text: &str,
+) -> Result<String, Fail>
+    requires { (E.held engine.old).dialect ≡ P.dialect }
+{
+    match run(alloc, sql, engine, text) {
+        Ran::Changed(count) => Ok(format!(in alloc; "{count} changed")?),
+        ran => describe(alloc, engine, ran),
+    }
+}
+
 fn is_same(a: &String, b: &String) -> bool {
     a.as_str() == b.as_str()
 }

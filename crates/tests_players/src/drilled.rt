@@ -14,7 +14,8 @@ use lq_my::My;
 use lq_outside::{Disk, LoadRefused, MemDisk};
 use lq_pg::Pg;
 use lq_players::drill_commands;
-use lq_store::{Executor, Store};
+use lq_snap::Snap;
+use lq_store::{Executor, States, Store};
 use std::alloc::Global;
 use std::process::Abort;
 
@@ -90,11 +91,12 @@ fn told_by<S: Store, P: SqlText>(
     }
 }
 
-fn loaded<D: Disk + Drop, P: SqlText + Drop + Copy, E: Executor + Drop>(
+fn loaded<D: Disk + Drop, P: SqlText + Drop + Copy, E: Executor + Drop, W: States<Engine = E>>(
     rt: &impl Abort,
     alloc: Global,
     disk: D,
     sql: P,
+    states: &W,
     dialect: Dialect,
     limit: u64,
     lines: &str,
@@ -104,7 +106,7 @@ fn loaded<D: Disk + Drop, P: SqlText + Drop + Copy, E: Executor + Drop>(
     requires limit { (8192 ≤ limit) × (limit ≤ 65536) }
 {
     let loaded: Result<Db<D, P, E>, LoadRefused<D, LoadFault>> = Db::load(
-        alloc, disk, dialect, sql, limit,
+        alloc, disk, dialect, sql, limit, states,
     );
     match loaded {
         Ok(mut db) => {
@@ -131,10 +133,14 @@ fn drilled_on(
 {
     match dialect {
         Dialect::Postgresql => {
-            loaded::<MemDisk, Pg, Engine>(rt, alloc, disk, Pg, dialect, limit, lines, steps)
+            loaded::<MemDisk, Pg, Engine, Snap>(
+                rt, alloc, disk, Pg, &Snap, dialect, limit, lines, steps,
+            )
         },
         Dialect::Mysql => {
-            loaded::<MemDisk, My, Engine>(rt, alloc, disk, My, dialect, limit, lines, steps)
+            loaded::<MemDisk, My, Engine, Snap>(
+                rt, alloc, disk, My, &Snap, dialect, limit, lines, steps,
+            )
         },
     }
 }

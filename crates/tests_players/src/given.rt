@@ -39,6 +39,12 @@ pub const ALL: &str = r#"{"databaseChangeLog":[
  {"createIndex":{"indexName":"ix_player_team","tableName":"player",
   "columns":[{"column":{"name":"team_id"}}]}}]}}]}"#;
 
+/// A changeset that runs although the changelog's own condition fails, which only warns.
+pub const WARNS: &str = r#"{"databaseChangeLog":[
+{"preConditions":[{"onFail":"WARN"},{"tableExists":{"tableName":"team"}}]},
+{"changeSet":{"id":"1","author":"ann","changes":[
+ {"createTable":{"tableName":"player","columns":[{"column":{"name":"id","type":"int"}}]}}]}}]}"#;
+
 /// A changeset whose second statement is refused.
 pub const CLASH: &str = r#"{"databaseChangeLog":[
 {"changeSet":{"id":"1","author":"ann","changes":[

@@ -4,7 +4,7 @@ ghost use Rattle.lq_drill.specs.Faults.{is_barred};
 ghost use Rattle.lq_players.specs.AnyCommand.{IsUnstarted};
 ghost use Rattle.lq_playing.specs.Under.{IsPlain};
 
-use crate::given::{ALL, CLASH, FIRST, changelog, options};
+use crate::given::{ALL, CLASH, FIRST, WARNS, changelog, options};
 use crate::lines::command;
 use lq_base::{Dialect, Text};
 use lq_model::SqlText;
@@ -51,11 +51,12 @@ fn json_of(line: &str) -> &'static str {
     match line {
         "update first" => FIRST,
         "update clash" => CLASH,
+        "update warns" => WARNS,
         _ => ALL,
     }
 }
 
-/// The command of a line, which has this place.
+/// The command of a line, which has this place. It keeps the texts of its statements, or does not.
 pub fn player<P: SqlText>(
     rt: &impl Abort,
     alloc: Global,
@@ -63,6 +64,7 @@ pub fn player<P: SqlText>(
     sql: &P,
     place: usize,
     line: &str,
+    prints: bool,
 ) -> AnyCommand
     requires { P.dialect ≡ dialect }
     ensures { IsUnstarted P.dialect result }
@@ -71,7 +73,7 @@ pub fn player<P: SqlText>(
     let stamp = stamp(rt, alloc, place);
     let command = command(rt, alloc, line);
     let options = options(alloc, dialect);
-    AnyCommand::new(alloc, dialect, stamp, command, changelog, options)
+    AnyCommand::new(alloc, dialect, stamp, command, changelog, options, prints)
 }
 
 /// The commands of lines with `/` between, as `update/tag v1`. The changelog of `update first` is the
@@ -88,7 +90,7 @@ pub fn players<P: SqlText>(
 {
     let mut players = Vec::new(alloc);
     for line in lines.split('/') {
-        let player = player(rt, alloc, dialect, sql, players.len(), line);
+        let player = player(rt, alloc, dialect, sql, players.len(), line, false);
         players.push(player).expect(rt, "memory");
     }
     players

@@ -1,6 +1,7 @@
 use lq_base::Lock;
 use lq_drill::DrillFault;
 use lq_players::AnyCommand;
+use lq_playing::Report;
 use lq_turns::Answer;
 use std::alloc::AllocError;
 
@@ -50,6 +51,21 @@ pub fn show_players(out: &mut String, players: &[AnyCommand]) -> Result<(), Allo
         show_player(out, player)?;
     }
     Ok(())
+}
+
+fn show_count(out: &mut String, count: usize, what: &str) -> Result<(), AllocError> {
+    if count == 0 {
+        return Ok(());
+    }
+    write!(out, ", {count} {what}")
+}
+
+/// How much a command did, as `, 3 happened, 3 printed`.
+pub fn show_report(out: &mut String, report: &Report) -> Result<(), AllocError> {
+    show_count(out, report.happened.len(), "happened")?;
+    show_count(out, report.warned.len(), "warned")?;
+    show_count(out, report.printed.len(), "printed")?;
+    show_count(out, report.pending.len(), "pending")
 }
 
 /// The fault of the store that ended a drill.

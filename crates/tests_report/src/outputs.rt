@@ -1,8 +1,8 @@
 use crate::made::{happened, identities, identity, lock, printed, tracked};
 use lq_base::{Did, Exec, Items, NoMemory, Text};
 use lq_report::{
-    Soaked, cleared_text, history_text, release_text, rollback_text, soak_text, sql_text,
-    status_text, sync_text, tagged_text, undone_text, update_text, validated_text,
+    Soaked, cleared_text, history_text, release_text, rollback_text, snapshot_text, soak_text,
+    sql_text, status_text, sync_text, tagged_text, undone_text, update_text, validated_text,
 };
 use std::alloc::Global;
 use std::test::Fail;
@@ -27,6 +27,8 @@ enum Output {
     ReleaseFree,
     Undone,
     NoneUndone,
+    Snapshot,
+    NoSnapshot,
     Soak,
 }
 
@@ -122,6 +124,8 @@ fn made(alloc: Global, output: Output) -> Result<Text, NoMemory> {
         Output::ReleaseFree => release_text(alloc, None),
         Output::Undone => undone(alloc, 3),
         Output::NoneUndone => undone(alloc, 0),
+        Output::Snapshot => snapshot_text(alloc, 54),
+        Output::NoSnapshot => snapshot_text(alloc, 0),
         Output::Soak => soaked(alloc),
     }
 }
@@ -183,6 +187,8 @@ fn commands_write_their_texts(rt: HostRuntime) -> Result<(), Fail> {
             Output::NoneUndone,
             "undone db/a.json::1::ann, 0 statements\n",
         ),
+        (Output::Snapshot, "snapshot written: 54 bytes\n"),
+        (Output::NoSnapshot, "snapshot not needed\n"),
         (
             Output::Soak,
             "soak: 1 changesets, 3 entries, 812 bytes, md5 d41d8cd98f00b204e9800998ecf8427e\nsoak: 6 entries, 0 rows, 0 tables\n",

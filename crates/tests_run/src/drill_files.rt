@@ -13,7 +13,7 @@ const FORMLESS: Step = Step {
     log: USAGE,
 };
 
-const NO_RUNS: [&str; 19] = [
+const NO_RUNS: [&str; 20] = [
     "",
     "steps\n1\n",
     "release-locks\n",
@@ -27,6 +27,7 @@ const NO_RUNS: [&str; 19] = [
     "clear-checksums\nsteps\n1\n",
     "drill --runs=runs\nsteps\n1\n",
     "soak --number=1 --sets=1\nsteps\n1\n",
+    "snapshot\nsteps\n1\n",
     "release-locks --url=postgresql:db\nsteps\n1\n",
     "update\nsteps\n1\n",
     "release\nsteps\n1\n",

@@ -5,7 +5,7 @@ use std::process::Abort;
 
 const STATEMENT: &[u8] = b"CREATE TABLE \"t\" (\"a\" INT)";
 
-fn append(rt: &impl Abort, part: &[u8], to: &mut Vec<u8>) {
+pub fn append(rt: &impl Abort, part: &[u8], to: &mut Vec<u8>) {
     to.extend_from_slice(part).expect(rt, "memory");
 }
 
@@ -20,8 +20,8 @@ fn append_beginning(rt: &impl Abort, used: usize, to: &mut Vec<u8>) {
     append(rt, &text.to_be_bytes(), to);
 }
 
-// A journal of so many bytes with one entry, whose text has blanks behind its statement.
-fn journal(rt: &impl Abort, alloc: Global, used: usize) -> Vec<u8> {
+/// A journal of so many bytes with one entry, whose text has blanks behind its statement.
+pub fn journal(rt: &impl Abort, alloc: Global, used: usize) -> Vec<u8> {
     let mut bytes = Vec::new(alloc);
     append_beginning(rt, used, &mut bytes);
     append(rt, STATEMENT, &mut bytes);

@@ -40,6 +40,8 @@ mod schemas;
 #[cfg(test)]
 mod shop;
 #[cfg(test)]
+mod snapshots;
+#[cfg(test)]
 mod soak;
 #[cfg(test)]
 mod stops;

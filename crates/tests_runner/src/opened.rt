@@ -9,22 +9,24 @@ use lq_model::SqlText;
 use lq_my::My;
 use lq_outside::{Disk, LoadRefused, MemDisk};
 use lq_pg::Pg;
-use lq_store::Executor;
+use lq_snap::Snap;
+use lq_store::{Executor, States};
 use std::alloc::Global;
 use std::test::Fail;
 
 // The answers to a script, and the disk afterwards.
-fn answers<D: Disk + Drop, P: SqlText + Drop + Copy, E: Executor + Drop>(
+fn answers<D: Disk + Drop, P: SqlText + Drop + Copy, E: Executor + Drop, W: States<Engine = E>>(
     alloc: Global,
     disk: D,
     dialect: Dialect,
     sql: P,
+    states: &W,
     script: &str,
 ) -> Result<(D, String), Fail>
     requires sql { P.dialect ≡ dialect }
 {
     let loaded: Result<Db<D, P, E>, LoadRefused<D, LoadFault>> = Db::load(
-        alloc, disk, dialect, sql, 8192,
+        alloc, disk, dialect, sql, 8192, states,
     );
     match loaded {
         Ok(mut db) => {
@@ -46,7 +48,11 @@ pub fn acted(
     let fail = Vec::from_slice(alloc, &[failing])?;
     let disk = MemDisk::new(Vec::new(alloc), fail);
     match dialect {
-        Dialect::Postgresql => answers::<MemDisk, Pg, Engine>(alloc, disk, dialect, Pg, script),
-        Dialect::Mysql => answers::<MemDisk, My, Engine>(alloc, disk, dialect, My, script),
+        Dialect::Postgresql => answers::<MemDisk, Pg, Engine, Snap>(
+            alloc, disk, dialect, Pg, &Snap, script,
+        ),
+        Dialect::Mysql => answers::<MemDisk, My, Engine, Snap>(
+            alloc, disk, dialect, My, &Snap, script,
+        ),
     }
 }

@@ -20,6 +20,8 @@ mod running;
 #[cfg(test)]
 mod shop;
 #[cfg(test)]
+mod snapshots;
+#[cfg(test)]
 mod stops;
 #[cfg(test)]
 mod undone;

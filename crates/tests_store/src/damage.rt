@@ -25,13 +25,37 @@ fn push_length(out: &mut Vec<u8>, length: usize) -> Result<(), AllocError> {
     out.extend_from_slice(&bytes[4..])
 }
 
-// An entry of texts with `;` between, without its gate.
-fn push_entry(alloc: Global, out: &mut Vec<u8>, texts: &str) -> Result<(), AllocError> {
-    let mut body = Vec::from_slice(alloc, b"T")?;
+// How many bytes of 0 a state has: 48 are that of the database without objects, fewer are none.
+fn zeros(entry: &str) -> Option<usize> {
+    match entry {
+        "empty state" => Some(48),
+        "bad state" => Some(47),
+        _ => None,
+    }
+}
+
+fn push_texts(body: &mut Vec<u8>, texts: &str) -> Result<(), AllocError> {
+    body.push(b'T')?;
     for text in texts.split(';') {
         let text = spelled(text);
-        push_length(&mut body, text.len())?;
+        push_length(body, text.len())?;
         body.extend_from_slice(text.as_bytes())?;
+    }
+    Ok(())
+}
+
+fn push_state(alloc: Global, body: &mut Vec<u8>, size: usize) -> Result<(), AllocError> {
+    body.push(b'S')?;
+    let bytes = vec![in alloc; 0u8; size]?;
+    body.extend_from_slice(&bytes)
+}
+
+// An entry of texts with `;` between, or of a state, without its gate.
+fn push_entry(alloc: Global, out: &mut Vec<u8>, entry: &str) -> Result<(), AllocError> {
+    let mut body = Vec::new(alloc);
+    match zeros(entry) {
+        Some(size) => push_state(alloc, &mut body, size)?,
+        None => push_texts(&mut body, entry)?,
     }
     push_length(out, body.len())?;
     out.extend_from_slice(body.as_slice())
@@ -132,6 +156,53 @@ fn a_wrong_entry_is_damaged(rt: HostRuntime) -> Result<(), Fail> {
         assert_loaded(&rt, rt.alloc(), Dialect::Postgresql, bytes, want)?;
     }
     Ok(())
+}
+
+// What stands before the last state is passed over but for its form, and that state's place is its own.
+const WITH_STATES: [(&str, &str); 13] = [
+    (r#"CREATE TABLE "t" ("id" INTEGER)/empty state"#, "no table"),
+    ("x/empty state", "no table"),
+    ("bad state/empty state", "no table"),
+    ("bad state/empty state/CREATE TABLE t (n INT)", "0 rows"),
+    ("empty state/empty state", "no table"),
+    (
+        "CREATE TABLE t (n INT)/empty state/CREATE TABLE t (n INT)",
+        "0 rows",
+    ),
+    ("CREATE TABLE t (n INT)/bad state", "damaged at 49"),
+    ("empty state/bad state", "damaged at 71"),
+    (
+        "empty state/bad state/CREATE TABLE t (n INT)",
+        "damaged at 71",
+    ),
+    ("empty state/SELEC", "damaged at 71"),
+    ("SELEC/empty state/SELEC", "damaged at 86"),
+    (
+        "empty state/CREATE TABLE databasechangelog (n INT)",
+        "damaged at 119",
+    ),
+    // The bytes before the last state are in use too.
+    (
+        "x/empty state/CREATE TABLE databasechangelog (n INT)",
+        "damaged at 130",
+    ),
+];
+
+#[test]
+fn a_journal_begins_with_its_last_state(rt: HostRuntime) -> Result<(), Fail> {
+    for (entries, want) in WITH_STATES {
+        let bytes = journal(rt.alloc(), b"LQJOURNAL1 PGSQL", entries, b"\x00")?;
+        assert_loaded(&rt, rt.alloc(), Dialect::Postgresql, bytes, want)?;
+    }
+    Ok(())
+}
+
+// The form of an entry counts before a state that is none.
+#[test]
+fn a_wrong_entry_counts_before_a_state(rt: HostRuntime) -> Result<(), Fail> {
+    let end = b"\x01\x00\x00\x00\x01T\x00";
+    let bytes = journal(rt.alloc(), b"LQJOURNAL1 PGSQL", "bad state", end)?;
+    assert_loaded(&rt, rt.alloc(), Dialect::Postgresql, bytes, "damaged at 70")
 }
 
 #[test]

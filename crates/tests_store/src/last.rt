@@ -11,7 +11,8 @@ use lq_model::SqlText;
 use lq_my::My;
 use lq_outside::{Disk, LoadRefused, MemDisk};
 use lq_pg::Pg;
-use lq_store::{Executor, Store};
+use lq_snap::Snap;
+use lq_store::{Executor, States, Store};
 use std::alloc::{AllocError, Global};
 use std::process::Abort;
 use std::test::Fail;
@@ -33,17 +34,18 @@ fn show_last<D: Disk, P: SqlText + Drop, E: Executor + Drop>(
 }
 
 // The last text after a script on a disk, and the disk.
-fn told<D: Disk + Drop, P: SqlText + Drop, E: Executor + Drop>(
+fn told<D: Disk + Drop, P: SqlText + Drop, E: Executor + Drop, W: States<Engine = E>>(
     alloc: Global,
     disk: D,
     dialect: Dialect,
     sql: P,
+    states: &W,
     script: &str,
 ) -> Result<(D, String), Fail>
     requires sql { P.dialect ≡ dialect }
 {
     let loaded: Result<Db<D, P, E>, LoadRefused<D, LoadFault>> = Db::load(
-        alloc, disk, dialect, sql, 8192,
+        alloc, disk, dialect, sql, 8192, states,
     );
     match loaded {
         Ok(mut db) => {
@@ -62,8 +64,8 @@ fn last<D: Disk + Drop>(
     script: &str,
 ) -> Result<(D, String), Fail> {
     match dialect {
-        Dialect::Postgresql => told::<D, Pg, Engine>(alloc, disk, dialect, Pg, script),
-        Dialect::Mysql => told::<D, My, Engine>(alloc, disk, dialect, My, script),
+        Dialect::Postgresql => told::<D, Pg, Engine, Snap>(alloc, disk, dialect, Pg, &Snap, script),
+        Dialect::Mysql => told::<D, My, Engine, Snap>(alloc, disk, dialect, My, &Snap, script),
     }
 }
 
@@ -144,8 +146,15 @@ fn definitions_commit_under_mysql_alone(rt: HostRuntime) -> Result<(), Fail> {
     Ok(())
 }
 
-// Entries with `/` between and the last text of them: a mark is one as any other.
-const JOURNALS: [Row; 4] = [
+// Entries with `/` between and the last text of them: a mark is one as any other, and behind a state
+// there is none until an entry of texts stands there.
+const JOURNALS: [Row; 7] = [
+    ("CREATE TABLE t (n INT)/empty state", "nothing"),
+    (
+        "x/empty state/CREATE TABLE t (n INT)",
+        "CREATE TABLE t (n INT)",
+    ),
+    ("empty state/CREATE TABLE t (n INT)/empty state", "nothing"),
     ("CREATE TABLE t (n INT)", "CREATE TABLE t (n INT)"),
     (
         "log;lock/CREATE TABLE t (n INT)/DROP TABLE t",

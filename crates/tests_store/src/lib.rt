@@ -1,5 +1,5 @@
 //! Tests of a database in a journal, with its engine, on a disk in memory: sessions, commit modes, room,
-//! disk faults and damage.
+//! disk faults, damage and states.
 #![tactic(auto)]
 
 #[cfg(test)]
@@ -18,3 +18,5 @@ mod play;
 mod room;
 #[cfg(test)]
 mod sessions;
+#[cfg(test)]
+mod snapshots;

@@ -1,20 +1,22 @@
 ghost use Rattle.std.specs.Prelude.{◌≡◌, ◌≤◌};
 
 use crate::play::play;
-use lq_base::{Dialect, Items};
+use lq_base::{Dialect, Items, Text};
 use lq_db::Db;
 use lq_engine::Engine;
-use lq_frames::Entry;
+use lq_frames::{Body, Entry};
 use lq_journal::{Journal, LoadFault};
 use lq_model::SqlText;
 use lq_my::My;
 use lq_outside::{Disk, LoadRefused, MemDisk};
 use lq_pg::Pg;
-use lq_store::Executor;
+use lq_snap::Snap;
+use lq_store::{Executor, States};
 use std::alloc::{AllocError, Global};
 use std::test::Fail;
 
-fn show_refusal(alloc: Global, fault: LoadFault) -> Result<String, AllocError> {
+/// Why a database was not loaded.
+pub fn show_refusal(alloc: Global, fault: LoadFault) -> Result<String, AllocError> {
     Ok(match fault {
         LoadFault::Disk => format!(in alloc; "disk fault")?,
         LoadFault::Damaged { at } => format!(in alloc; "damaged at {at}")?,
@@ -23,12 +25,13 @@ fn show_refusal(alloc: Global, fault: LoadFault) -> Result<String, AllocError> {
 }
 
 // The answers to a script, and the disk afterwards.
-fn answers<D: Disk + Drop, P: SqlText + Drop, E: Executor + Drop>(
+fn answers<D: Disk + Drop, P: SqlText + Drop, E: Executor + Drop, W: States<Engine = E>>(
     alloc: Global,
     disk: D,
     dialect: Dialect,
     sql: P,
     limit: u64,
+    states: &W,
     script: &str,
 ) -> Result<(D, String), Fail>
     requires limit_least { 8192 ≤ limit }
@@ -36,7 +39,7 @@ fn answers<D: Disk + Drop, P: SqlText + Drop, E: Executor + Drop>(
     requires sql { P.dialect ≡ dialect }
 {
     let loaded: Result<Db<D, P, E>, LoadRefused<D, LoadFault>> = Db::load(
-        alloc, disk, dialect, sql, limit,
+        alloc, disk, dialect, sql, limit, states,
     );
     match loaded {
         Ok(mut db) => {
@@ -58,8 +61,18 @@ fn show_entries(alloc: Global, entries: &[Entry]) -> Result<String, AllocError> 
 }
 
 fn show_entry(out: &mut String, entry: &Entry) -> Result<(), AllocError> {
+    match &entry.body {
+        Body::Texts(texts) => show_texts(out, texts.as_slice()),
+        Body::State(bytes) => {
+            let size = bytes.len();
+            write!(out, "state of {size}")
+        }
+    }
+}
+
+fn show_texts(out: &mut String, texts: &[Text]) -> Result<(), AllocError> {
     let mut between = "";
-    for text in entry.texts.as_slice() {
+    for text in texts {
         out.push_str(between)?;
         out.push_str(text.as_str())?;
         between = ";";
@@ -99,15 +112,15 @@ pub fn acted(
 {
     match dialect {
         Dialect::Postgresql => {
-            answers::<MemDisk, Pg, Engine>(alloc, disk, dialect, Pg, limit, script)
+            answers::<MemDisk, Pg, Engine, Snap>(alloc, disk, dialect, Pg, limit, &Snap, script)
         },
         Dialect::Mysql => {
-            answers::<MemDisk, My, Engine>(alloc, disk, dialect, My, limit, script)
+            answers::<MemDisk, My, Engine, Snap>(alloc, disk, dialect, My, limit, &Snap, script)
         },
     }
 }
 
-/// The entries that are on a disk.
+/// The entries that are on a disk, from the last state on.
 pub fn entries(alloc: Global, disk: &MemDisk, dialect: Dialect, limit: u64) -> Result<String, Fail>
     requires limit_least { 8192 ≤ limit }
     requires limit_most { limit ≤ 268435456 }

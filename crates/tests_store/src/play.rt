@@ -32,7 +32,8 @@ fn read_text<'a>(word: &str, text: &'a str) -> Call<'a> {
     }
 }
 
-fn show_fault(out: &mut String, fault: StoreFault) -> Result<(), AllocError> {
+/// A fault of a call.
+pub fn show_fault(out: &mut String, fault: StoreFault) -> Result<(), AllocError> {
     match fault {
         StoreFault::Refused(reason) => out.push_str(reason.text()),
         StoreFault::NotSql => out.push_str("not sql"),

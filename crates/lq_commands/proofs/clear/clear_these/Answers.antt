@@ -1,12 +1,11 @@
 use Rattle.std.proofs.Common.{ap, rules, ◌∙◌}
-use Rattle.std.specs.Prelude.{None, Some, length}
+use Rattle.std.specs.Prelude.{None, Ok, Some, length}
 use Rattle.lq_report.specs.Output.{cleared_text}
 use Rattle.lq_tell.specs.declared.status.Status.TheVariants.{OutOfMemory}
 use Rattle.lq_commands.proofs.Commanded.{answers_end, fault_rose, lacking, unfinished_works}
 use Rattle.lq_commands.proofs.Endings.{done_works, untouched_crashes, untouched_works}
-use Rattle.lq_commands.proofs.Telling.{unended_tells}
+use Rattle.lq_commands.proofs.Telling.{text_cut, text_ends}
 use Rattle.lq_commands.proofs.Warned.{quiet_lines}
-use Rattle.lq_commands.specs.Outputs.{TellsText}
 use Rattle.lq_commands.specs.Refusals.{ends}
 use Rattle.lq_turns.specs.Script.{clear_calls}
 use Rattle.lq_commands.proofs.clear.clear_these.Goals as goal
@@ -27,7 +26,7 @@ returns-in_err-text-clause-any_moment g c = λ database has.
 -- the sums are taken
 
 pub returns-in-Ok-clause-tells : goal.returns-in-Ok-clause-tells
-returns-in-Ok-clause-tells g c = λ finished. record { status = c.with.ensures.status; out = c.with.ensures.out ∙ ap Some c.in_ok-text.ensures; warned = quiet_lines c.with.result (c.with.ensures.own, c.with.ensures.warned) }
+returns-in-Ok-clause-tells g c = text_ends (cleared_text (length c.args.rows.now)) (Ok c.with.result) (record { status = c.with.ensures.status; out = c.with.ensures.out ∙ ap Some c.in_ok-text.ensures; warned = quiet_lines c.with.result (c.with.ensures.own, c.with.ensures.warned) })
 
 pub returns-in-Ok-clause-answers : goal.returns-in-Ok-clause-answers
 returns-in-Ok-clause-answers g c = ap ends c.with.ensures.status
@@ -39,7 +38,7 @@ returns-in-Ok-clause-works g c = λ database has.
 -- a fault is met
 
 pub returns-in-Err-clause-tells : goal.returns-in-Err-clause-tells
-returns-in-Err-clause-tells g c = unended_tells c.fault_answer.result (TellsText (cleared_text (length c.args.rows.now))) c.fault_answer.ensures.unfinished
+returns-in-Err-clause-tells g c = text_cut (cleared_text (length c.args.rows.now)) c.fault_answer.result c.fault_answer.ensures.unfinished c.fault_answer.ensures.quiet
 
 pub returns-in-Err-clause-answers : goal.returns-in-Err-clause-answers
 returns-in-Err-clause-answers g c = answers_end c.fault_answer.result c.fault_answer.ensures.fault c.fault_answer.ensures.ends

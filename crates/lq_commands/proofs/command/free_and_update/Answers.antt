@@ -5,10 +5,10 @@ use Rattle.lq_tell.specs.declared.status.Status.{Status}
 use Rattle.lq_commands.proofs.Freed.{freed, freed_ready, update_freed, update_tells}
 use Rattle.lq_commands.proofs.Commanded.{answers_end, answers_so}
 use Rattle.lq_commands.proofs.Printed.{freed_room, ran_room}
-use Rattle.lq_commands.proofs.Telling.{on_its_tells, unfinished_tells}
+use Rattle.lq_commands.proofs.Telling.{on_its_tells, update_cut}
 use Rattle.lq_commands.specs.Refusals.{Answers, print_update}
 use Rattle.lq_commands.specs.Scripts.{update_script, updated_in}
-use Rattle.lq_commands.specs.Tells.{IfFinished, TellsUpdate}
+use Rattle.lq_commands.specs.Tells.{EndsUpdate}
 use Rattle.lq_commands.proofs.command.free_and_update.Goals as goal
 
 pub update-requires-clause-ready : goal.update-requires-clause-ready
@@ -23,7 +23,7 @@ pub returns-in-Ok-clause-tells : goal.returns-in-Ok-clause-tells
 returns-in-Ok-clause-tells g c = λ database has.
     let given = c.args.given in
     update_tells given database c.update.result
-    (on_its_tells given.options.dialect (g.S.Store.state c.free.new.store) c.update.result (λ done e. IfFinished done (TellsUpdate true (updated_in true given e) done)) c.update.ensures.tells
+    (on_its_tells given.options.dialect (g.S.Store.state c.free.new.store) c.update.result (λ done e. EndsUpdate true (updated_in true given e) done) c.update.ensures.tells
     (freed given.options.dialect database) (c.in-Ok.ensures.leaves database has).database_is)
 
 pub returns-in-Err-clause-answers : goal.returns-in-Err-clause-answers
@@ -31,7 +31,7 @@ returns-in-Err-clause-answers g c = λ database has.
     answers_so (print_update c.args.given database) c.fault_answer.result (c.requires.passes database has) (answers_end c.fault_answer.result c.fault_answer.ensures.fault c.fault_answer.ensures.ends)
 
 pub returns-in-Err-clause-tells : goal.returns-in-Err-clause-tells
-returns-in-Err-clause-tells g c = λ database has. unfinished_tells UpdateSql c.args.given database c.fault_answer.result c.fault_answer.ensures.unfinished
+returns-in-Err-clause-tells g c = λ database has. update_cut true (updated_in true c.args.given database) c.fault_answer.result c.fault_answer.ensures.unfinished c.fault_answer.ensures.quiet
 
 -- the room of the calls
 
@@ -41,4 +41,4 @@ returns-in-Ok-clause-room g c =
 
 pub returns-in-Err-clause-room : goal.returns-in-Err-clause-room
 returns-in-Err-clause-room g c =
-    freed_room c.args.given.options.dialect (update_script c.args.given) (g.S.Store.state c.args.store.now) c.in-Err.fault c.fault_answer.result c.fault_answer.ensures.unfinished c.fault_answer.ensures.same c.in-Err.ensures.full
+    freed_room c.args.given.options.dialect (update_script c.args.given) (g.S.Store.state c.args.store.now) (g.S.Store.state c.free.new.store) c.in-Err.fault c.fault_answer.result c.fault_answer.ensures.unfinished c.fault_answer.ensures.same c.in-Err.ensures.full

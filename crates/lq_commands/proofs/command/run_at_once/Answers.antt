@@ -9,10 +9,9 @@ use Rattle.lq_turns.specs.Pending.{pending}
 use Rattle.lq_commands.proofs.Commanded.{answers_as, crashes_as, kept_as, works_as}
 use Rattle.lq_commands.proofs.Endings.{untouched_crashes}
 use Rattle.lq_commands.proofs.MayWrite.{writes}
-use Rattle.lq_commands.proofs.Telling.{finished_tells, on_its_tells, tells_as}
-use Rattle.lq_commands.specs.Outputs.{TellsText, released_text}
+use Rattle.lq_commands.proofs.Telling.{on_its_tells, tells_as, text_ends}
+use Rattle.lq_commands.specs.Outputs.{EndsText, TellsText, released_text}
 use Rattle.lq_commands.specs.Scripts.{script, sets_in, tag_in}
-use Rattle.lq_commands.specs.Tells.{IfFinished}
 use Rattle.lq_commands.proofs.command.run_at_once.Goals as goal
 
 pub tag-requires-clause-short : goal.tag-requires-clause-short
@@ -90,14 +89,14 @@ returns-in-Release-clause-any_moment g c = λ database has.
 
 pub returns-in-Validate-clause-tells : goal.returns-in-Validate-clause-tells
 returns-in-Validate-clause-tells g c = λ database has.
-    tells_as c.args.command.now command.Validate c.in-Validate.is c.args.given.now database c.validate.result (finished_tells c.validate.result (TellsText validated_text) c.validate.ensures.tells)
+    tells_as c.args.command.now command.Validate c.in-Validate.is c.args.given.now database c.validate.result (text_ends validated_text c.validate.result c.validate.ensures.tells)
 
 pub returns-in-Status-clause-tells : goal.returns-in-Status-clause-tells
 returns-in-Status-clause-tells g c = λ database has.
     let given = c.args.given.now in
     let listed = λ (e : Database). status_text (pending (sets_in given) e.rows) in
     tells_as c.args.command.now command.Status c.in-Status.is given database c.status.result
-    (finished_tells c.status.result (TellsText (listed database)) (on_its_tells given.options.dialect (g.S.Store.state c.args.store.now) c.status.result (λ done e. TellsText (listed e) done) c.status.ensures.tells database has))
+    (text_ends (listed database) c.status.result (on_its_tells given.options.dialect (g.S.Store.state c.args.store.now) c.status.result (λ done e. TellsText (listed e) done) c.status.ensures.tells database has))
 
 pub returns-in-Tag-clause-tells : goal.returns-in-Tag-clause-tells
 returns-in-Tag-clause-tells g c = λ database has. tells_as c.args.command.now (command.Tag c.in-Tag.name) c.in-Tag.is c.args.given.now database c.tag.result c.tag.ensures.tells
@@ -106,4 +105,4 @@ pub returns-in-Release-clause-tells : goal.returns-in-Release-clause-tells
 returns-in-Release-clause-tells g c = λ database has.
     let given = c.args.given.now in
     tells_as c.args.command.now command.Release c.in-Release.is given database c.release.result
-    (on_its_tells given.options.dialect (g.S.Store.state c.args.store.now) c.release.result (λ done e. IfFinished done (TellsText (released_text e.lock) done)) c.release.ensures.tells database has)
+    (on_its_tells given.options.dialect (g.S.Store.state c.args.store.now) c.release.result (λ done e. EndsText (released_text e.lock) done) c.release.ensures.tells database has)

@@ -4,10 +4,10 @@ use Rattle.std.specs.Prelude.{false}
 use Rattle.lq_commands.proofs.Commanded.{answers_as, crashes_as, kept_as, works_as}
 use Rattle.lq_commands.proofs.MayWrite.{writes}
 use Rattle.lq_commands.proofs.Telling.{on_its_tells, tells_as}
-use Rattle.lq_commands.specs.Inserts.{TellsSync, synced_in}
+use Rattle.lq_commands.specs.Inserts.{EndsSync, synced_in}
 use Rattle.lq_commands.specs.Outputs.{back_in}
 use Rattle.lq_commands.specs.Scripts.{updated_in}
-use Rattle.lq_commands.specs.Tells.{IfFinished, TellsRollback, TellsUpdate}
+use Rattle.lq_commands.specs.Tells.{EndsRollback, EndsUpdate}
 use Rattle.lq_commands.proofs.command.run_command.Goals as goal
 
 pub returns-in-Update-clause-answers : goal.returns-in-Update-clause-answers
@@ -72,17 +72,17 @@ pub returns-in-Update-clause-tells : goal.returns-in-Update-clause-tells
 returns-in-Update-clause-tells g c = λ database has.
     let given = c.args.given in
     tells_as c.args.command.now command.Update c.in-Update.is given database c.update.result
-    (on_its_tells given.options.dialect (g.S.Store.state c.args.store.now) c.update.result (λ done e. IfFinished done (TellsUpdate false (updated_in false given e) done)) c.update.ensures.tells database has)
+    (on_its_tells given.options.dialect (g.S.Store.state c.args.store.now) c.update.result (λ done e. EndsUpdate false (updated_in false given e) done) c.update.ensures.tells database has)
 
 pub returns-in-Rollback-clause-tells : goal.returns-in-Rollback-clause-tells
 returns-in-Rollback-clause-tells g c = λ database has.
     let given = c.args.given in
     let target = c.in-Rollback.target in
     tells_as c.args.command.now (command.Rollback target) c.in-Rollback.is given database c.rollback.result
-    (on_its_tells given.options.dialect (g.S.Store.state c.args.store.now) c.rollback.result (λ done e. IfFinished done (TellsRollback false (back_in false given target e) done)) c.rollback.ensures.tells database has)
+    (on_its_tells given.options.dialect (g.S.Store.state c.args.store.now) c.rollback.result (λ done e. EndsRollback false (back_in false given target e) done) c.rollback.ensures.tells database has)
 
 pub returns-in-Sync-clause-tells : goal.returns-in-Sync-clause-tells
 returns-in-Sync-clause-tells g c = λ database has.
     let given = c.args.given in
     tells_as c.args.command.now command.Sync c.in-Sync.is given database c.sync.result
-    (on_its_tells given.options.dialect (g.S.Store.state c.args.store.now) c.sync.result (λ done e. IfFinished done (TellsSync (synced_in given e) done)) c.sync.ensures.tells database has)
+    (on_its_tells given.options.dialect (g.S.Store.state c.args.store.now) c.sync.result (λ done e. EndsSync (synced_in given e) done) c.sync.ensures.tells database has)

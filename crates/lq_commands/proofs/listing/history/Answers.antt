@@ -1,6 +1,6 @@
 use Rattle.std.proofs.Common.{rules, sym, ◌∙◌}
-use Rattle.std.specs.Prelude.{None, []}
-use Rattle.lq_commands.proofs.Commanded.{answers_done, lacking_by, no_disk}
+use Rattle.std.specs.Prelude.{[]}
+use Rattle.lq_commands.proofs.Commanded.{answers_done, no_disk}
 use Rattle.lq_commands.proofs.Endings.{untouched_works, works_nothing}
 use Rattle.lq_commands.proofs.Jobbed.{rows_told}
 use Rattle.lq_commands.proofs.listing.history.Goals as goal

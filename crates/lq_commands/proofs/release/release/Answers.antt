@@ -1,12 +1,12 @@
 use Rattle.std.proofs.Common.{ap, refl, rules, ◌∙◌}
-use Rattle.std.specs.Prelude.{None, Some}
+use Rattle.std.specs.Prelude.{None, Ok, Some}
 use Rattle.lq_tell.specs.declared.status.Status.TheVariants.{OutOfMemory}
 use Rattle.lq_commands.proofs.Commanded.{answers_end, fault_rose, kept_none, lacking, unfinished_works}
 use Rattle.lq_commands.proofs.Endings.{done_works, untouched_crashes, untouched_works}
 use Rattle.lq_commands.proofs.Seen.{lock_is}
-use Rattle.lq_commands.proofs.Telling.{unended_on_its}
+use Rattle.lq_commands.proofs.Telling.{text_cut_on_its, text_ends}
 use Rattle.lq_commands.proofs.Warned.{quiet_lines}
-use Rattle.lq_commands.specs.Outputs.{TellsText, released_text}
+use Rattle.lq_commands.specs.Outputs.{released_text}
 use Rattle.lq_commands.specs.Refusals.{ends}
 use Rattle.lq_turns.specs.Script.{release_calls}
 use Rattle.lq_commands.proofs.release.release.Goals as goal
@@ -29,9 +29,9 @@ returns-in_err-text-clause-any_moment g c = λ database has.
 -- the lock is free
 
 pub returns-in-Ok-clause-tells : goal.returns-in-Ok-clause-tells
-returns-in-Ok-clause-tells g c = λ database has finished.
+returns-in-Ok-clause-tells g c = λ database has.
     let same = lock_is c.args.given.now.options.dialect (g.S.Store.state c.args.store.now) database has c.lock.result.now (c.lock.ensures c.requires.ready.has.live) in
-    record { status = c.with.ensures.status; out = c.with.ensures.out ∙ ap Some (c.in_ok-text.ensures ∙ ap released_text same); warned = quiet_lines c.with.result (c.with.ensures.own, c.with.ensures.warned) }
+    text_ends (released_text database.lock) (Ok c.with.result) (record { status = c.with.ensures.status; out = c.with.ensures.out ∙ ap Some (c.in_ok-text.ensures ∙ ap released_text same); warned = quiet_lines c.with.result (c.with.ensures.own, c.with.ensures.warned) })
 
 pub returns-in-Ok-clause-answers : goal.returns-in-Ok-clause-answers
 returns-in-Ok-clause-answers g c = λ database has. ap ends c.with.ensures.status
@@ -47,7 +47,7 @@ returns-in-Ok-clause-works g c = λ database has.
 
 pub returns-in-Err-clause-tells : goal.returns-in-Err-clause-tells
 returns-in-Err-clause-tells g c =
-    unended_on_its c.args.given.now.options.dialect (g.S.Store.state c.args.store.now) c.fault_answer.result (λ done e. TellsText (released_text e.lock) done) c.fault_answer.ensures.unfinished
+    text_cut_on_its c.args.given.now.options.dialect (g.S.Store.state c.args.store.now) (λ e. released_text e.lock) c.fault_answer.result c.fault_answer.ensures.unfinished c.fault_answer.ensures.quiet
 
 pub returns-in-Err-clause-answers : goal.returns-in-Err-clause-answers
 returns-in-Err-clause-answers g c = λ database has. answers_end c.fault_answer.result c.fault_answer.ensures.fault c.fault_answer.ensures.ends

@@ -5,9 +5,9 @@ use Rattle.lq_turns.specs.Contents.{contents_of}
 use Rattle.lq_turns.specs.Rest.{OfRows}
 use Rattle.lq_commands.proofs.Endings.{kept_lock}
 use Rattle.lq_commands.proofs.RolledBack.{back_crashes, back_may, back_works, rows_told}
-use Rattle.lq_commands.proofs.Stopped.{rows_stopped}
+use Rattle.lq_commands.proofs.Stopped.{rows_stopped, turns_named}
 use Rattle.lq_commands.proofs.Updated.{answers_end, ok_on_its}
-use Rattle.lq_commands.specs.Tells.{IfFinished, TellsRollback}
+use Rattle.lq_commands.specs.Tells.{EndsRollback}
 use Rattle.lq_commands.specs.Turns.{turns_script}
 use Rattle.lq_commands.proofs.rollback.run.Goals as goal
 
@@ -35,7 +35,7 @@ ended-requires-clause-stopped g c =
     let ran = c.run_turns-source in
     let told = of_turns c.args.prints d (reverse c.args.source.turns) (contents_of on.database) in
     let may = back_may d stamp c.args.source c.requires.some c.args.prints c.requires.moment c.requires.back c.requires.knows on.database in
-    rows_stopped ran.result.source.outcome d stamp told ran.result.end (rows_told ran.result.source d stamp told ran.result.end (ran.ensures.tells on.database on.has told may)) (ran.ensures.stops on.database on.has told may)
+    rows_stopped ran.result.source.outcome d stamp told (turns_named d (reverse c.args.source.turns) (contents_of on.database)) ran.result.end (rows_told ran.result.source d stamp told ran.result.end (ran.ensures.tells on.database on.has told may)) (ran.ensures.stops on.database on.has told may)
 
 pub returns-clause-tells : goal.returns-clause-tells
 returns-clause-tells g c =
@@ -43,7 +43,7 @@ returns-clause-tells g c =
     let stamp = c.args.given.stamp in
     let turns = reverse c.args.source.turns in
     let ran = c.run_turns-source in
-    ok_on_its d (g.S.Store.state c.args.store.now) c.ended.result (λ done database. IfFinished done (TellsRollback c.args.prints (of_turns c.args.prints d turns (contents_of database)) done))
+    ok_on_its d (g.S.Store.state c.args.store.now) c.ended.result (λ done database. EndsRollback c.args.prints (of_turns c.args.prints d turns (contents_of database)) done)
     (λ database has. c.ended.ensures.tells (of_turns c.args.prints d turns (contents_of database))
     (rows_told ran.result.source d stamp (of_turns c.args.prints d turns (contents_of database)) ran.result.end
     (ran.ensures.tells database has (of_turns c.args.prints d turns (contents_of database)) (back_may d stamp c.args.source c.requires.some c.args.prints c.requires.moment c.requires.back c.requires.knows database))))

@@ -8,7 +8,7 @@ use Rattle.lq_commands.proofs.Endings.{untouched_crashes, untouched_works}
 use Rattle.lq_commands.proofs.RolledBack.{err_answers, has_turns, idle_tells, idle_works, memory_no_disk, no_rows, still_some, taken_so, taken_tells_ok}
 use Rattle.lq_commands.proofs.Updated.{answers_done, no_disk, ok_on_its}
 use Rattle.lq_commands.specs.Scripts.{rolled_back, taking_back}
-use Rattle.lq_commands.specs.Tells.{IfFinished, TellsRollback}
+use Rattle.lq_commands.specs.Tells.{EndsRollback}
 use Rattle.lq_commands.specs.Works.{CrashesIn, Works}
 use Rattle.lq_commands.proofs.rollback.take_back.Goals as goal
 
@@ -18,7 +18,7 @@ pub returns-then-is_empty-clause-tells : goal.returns-then-is_empty-clause-tells
 returns-then-is_empty-clause-tells g c =
     let given = c.args.given in
     let none = no_rows c.args.undone.now c.is_empty.result c.is_empty.ensures c.if-is_empty.true in
-    ok_on_its given.options.dialect (g.S.Store.state c.args.store.now) c.no_turns.result (λ done database. IfFinished done (TellsRollback c.args.prints (rolled_back c.args.prints given (reverse c.args.undone.now) database) done))
+    ok_on_its given.options.dialect (g.S.Store.state c.args.store.now) c.no_turns.result (λ done database. EndsRollback c.args.prints (rolled_back c.args.prints given (reverse c.args.undone.now) database) done)
     (λ database has. idle_tells given database c.args.prints c.no_turns.result c.args.undone.now none c.no_turns.ensures.done c.no_turns.ensures.out c.no_turns.ensures.quiet)
 
 pub returns-then-is_empty-clause-answers : goal.returns-then-is_empty-clause-answers

@@ -45,7 +45,7 @@ pub returns-clause-full : goal.returns-clause-full
 returns-clause-full g c = λ database has.
     let x = g.S.Store.state c.args.store.now in
     turn_so c.args.given c.args.before.now c.args.made c.requires.rows (calls_left c.in_ok-hand.hand) c.in_ok-hand.ensures.calls c.requires.some database (c.requires.before database has)
-    (λ calls. FullAs c.args.given.options.dialect calls database x c.run_hand.result) (c.run_hand.ensures.full database has)
+    (λ calls. FullAs c.args.given.options.dialect calls database x c.run_hand.result (g.S.Store.state c.run_hand.new.store)) (c.run_hand.ensures.full database has)
 
 pub returns-clause-any_moment : goal.returns-clause-any_moment
 returns-clause-any_moment g c = λ database has.

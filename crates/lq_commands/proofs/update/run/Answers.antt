@@ -1,11 +1,13 @@
 use Rattle.std.proofs.Common.{rules}
 use Rattle.std.specs.Prelude.{Err, ◌≡◌}
 use Rattle.lq_tell.specs.declared.status.Status.TheVariants as status
+use Rattle.lq_seen.specs.View.{any_meaning}
+use Rattle.lq_turns.specs.Contents.{contents_of}
 use Rattle.lq_commands.proofs.Endings.{untouched_crashes, untouched_works}
-use Rattle.lq_commands.proofs.Stopped.{sets_stopped}
+use Rattle.lq_commands.proofs.Stopped.{sets_named, sets_stopped}
 use Rattle.lq_commands.proofs.Updated.{ok_on_its, sets_told, turns_crash, turns_may, turns_work}
-use Rattle.lq_commands.specs.Scripts.{settled_in, sets_script}
-use Rattle.lq_commands.specs.Tells.{IfFinished, TellsUpdate}
+use Rattle.lq_commands.specs.Scripts.{sets_in, settled_in, sets_script}
+use Rattle.lq_commands.specs.Tells.{EndsUpdate}
 use Rattle.lq_commands.proofs.update.run.Goals as goal
 
 pub returns-in_err-source-clause-works : goal.returns-in_err-source-clause-works
@@ -29,7 +31,7 @@ ended-requires-clause-stopped g c =
     let ran = c.run_turns-source in
     let told = settled_in c.args.prints given at.database in
     let may = turns_may given (g.S.Store.state c.args.store.now) c.args.rows.now c.in_ok-source.source made.left c.args.prints c.requires.ready c.requires.rows c.requires.moment c.requires.read c.requires.short c.requires.work made.knows at.database at.has in
-    sets_stopped ran.result.source.outcome given.options.dialect given.stamp told ran.result.end
+    sets_stopped ran.result.source.outcome given.options.dialect given.stamp told (sets_named given.options.dialect any_meaning given.stamp.reading (sets_in given) (contents_of at.database)) ran.result.end
     (sets_told ran.result.source given.options.dialect given.stamp told ran.result.end (ran.ensures.tells at.database at.has told may)) (ran.ensures.stops at.database at.has told may)
 
 pub returns-clause-tells : goal.returns-clause-tells
@@ -38,7 +40,7 @@ returns-clause-tells g c =
     let x = g.S.Store.state c.args.store.now in
     let made = c.in_ok-source.ensures in
     let ran = c.run_turns-source in
-    ok_on_its given.options.dialect x c.ended.result (λ done database. IfFinished done (TellsUpdate c.args.prints (settled_in c.args.prints given database) done))
+    ok_on_its given.options.dialect x c.ended.result (λ done database. EndsUpdate c.args.prints (settled_in c.args.prints given database) done)
     (λ database has. c.ended.ensures.tells (settled_in c.args.prints given database)
     (sets_told ran.result.source given.options.dialect given.stamp (settled_in c.args.prints given database) ran.result.end
     (ran.ensures.tells database has (settled_in c.args.prints given database)

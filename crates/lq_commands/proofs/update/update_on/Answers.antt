@@ -8,7 +8,7 @@ use Rattle.lq_commands.proofs.Endings.{untouched_crashes, untouched_works}
 use Rattle.lq_commands.proofs.Planned.{some_work}
 use Rattle.lq_commands.proofs.Updated.{idle_tells, idle_works, not_both, ok_on_its}
 use Rattle.lq_commands.specs.Scripts.{sets_in, settled_in, sets_script}
-use Rattle.lq_commands.specs.Tells.{IfFinished, TellsUpdate}
+use Rattle.lq_commands.specs.Tells.{EndsUpdate}
 use Rattle.lq_commands.proofs.update.update_on.Goals as goal
 
 pub returns-in_err-work-clause-works : goal.returns-in_err-work-clause-works
@@ -22,7 +22,7 @@ returns-in_err-work-clause-any_moment g c = λ database has. untouched_crashes c
 pub returns-then-is_empty-clause-tells : goal.returns-then-is_empty-clause-tells
 returns-then-is_empty-clause-tells g c =
     let given = c.args.given in
-    ok_on_its given.options.dialect (g.S.Store.state c.args.store.now) c.no_turns.result (λ done database. IfFinished done (TellsUpdate c.args.prints (settled_in c.args.prints given database) done))
+    ok_on_its given.options.dialect (g.S.Store.state c.args.store.now) c.no_turns.result (λ done database. EndsUpdate c.args.prints (settled_in c.args.prints given database) done)
     (λ database has. idle_tells given c.args.rows.now database (c.requires.rows database has) c.in_ok-work.work (c.in_ok-work.ensures ∙ ap (λ (x : Changelog). work (views c.args.given.options x.sets) c.args.rows.now) c.get.ensures) (c.is_empty.ensures.0 c.if-is_empty.true)
     c.args.prints c.no_turns.result c.no_turns.ensures.done c.no_turns.ensures.out c.no_turns.ensures.own c.no_turns.ensures.warned)
 

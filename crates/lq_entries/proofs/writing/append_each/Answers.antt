@@ -1,7 +1,7 @@
-use Rattle.std.proofs.Common.{rules, tests, ◌<◌, arith, length, refl, sym}
+use Rattle.std.proofs.Common.{rules, tests, ◌+◌, ◌<◌, arith, length, refl, sym}
 use Rattle.lq_entries.specs.Log.{log_of}
 use Rattle.lq_journal.specs.State.{disk_of}
-use Rattle.lq_entries.proofs.Each.{crash_cut, crash_next, cut_next, gained_next, gained_none, has_room, parts}
+use Rattle.lq_entries.proofs.Each.{crash_cut, crash_next, cut_next, gained_next, gained_none, has_room, parts, whole}
 use Rattle.lq_entries.proofs.Moments.{stood}
 use Rattle.lq_entries.proofs.writing.append_each.Goals as goal
 
@@ -21,7 +21,7 @@ returns-in-Err-Disk-clause-does g c =
     let x = log_of (g.D.Disk.told (disk_of c.args.to.now)) c.args.to.now in
     let m = log_of (g.D.Disk.told (disk_of c.loop-entry.to)) c.loop-entry.to in
     let y = log_of (g.D.Disk.told (disk_of c.append_one.new.to)) c.append_one.new.to in
-    cut_next c.args.entries.now c.loop-entry.entry-index c.entry-item.result next x m y c.loop-entry.invariant.logged (rw c.in-Err-Disk.field-0-is at c.in-Err-Disk.ensures.does)
+    cut_next _ _ _ _ _ next (whole c.args.entries.now (c.loop-entry.entry-index + 1)) x m y c.loop-entry.invariant.logged (rw c.in-Err-Disk.field-0-is at c.in-Err-Disk.ensures.does)
 
 pub returns-in-Err-Disk-clause-crash : goal.returns-in-Err-Disk-clause-crash
 returns-in-Err-Disk-clause-crash g c =
@@ -31,7 +31,7 @@ returns-in-Err-Disk-clause-crash g c =
     let x = log_of (g.D.Disk.told (disk_of c.args.to.now)) c.args.to.now in
     let m = log_of (g.D.Disk.told (disk_of c.loop-entry.to)) c.loop-entry.to in
     let y = log_of (g.D.Disk.told (disk_of c.append_one.new.to)) c.append_one.new.to in
-    crash_cut c.args.entries.now c.loop-entry.entry-index c.entry-item.result next x m y c.loop-entry.invariant.logged _ _ _ c.loop-entry.invariant.crash c.in-Err-Disk.ensures.crash
+    crash_cut _ _ _ _ _ next (whole c.args.entries.now (c.loop-entry.entry-index + 1)) x m y c.loop-entry.invariant.logged _ _ _ c.loop-entry.invariant.crash c.in-Err-Disk.ensures.crash
 
 pub unreachable-requires : goal.unreachable-requires
 unreachable-requires g c =
@@ -41,7 +41,7 @@ unreachable-requires g c =
     let x = log_of (g.D.Disk.told (disk_of c.args.to.now)) c.args.to.now in
     let m = log_of (g.D.Disk.told (disk_of c.loop-entry.to)) c.loop-entry.to in
     let does = rw c.in-Err-Full.field-0-is at c.in-Err-Full.ensures.does in
-    has_room c.args.entries.now c.loop-entry.entry-index c.entry-item.result next x m m c.loop-entry.invariant.logged c.args.room c.requires.room does.0
+    has_room _ _ _ _ _ next (whole c.args.entries.now (c.loop-entry.entry-index + 1)) x m m c.loop-entry.invariant.logged c.args.room c.requires.room does.0
 
 pub loop-entry-preserved : goal.loop-entry-preserved
 loop-entry-preserved g c =
@@ -53,7 +53,7 @@ loop-entry-preserved g c =
     let y = log_of (g.D.Disk.told (disk_of c.append_one.new.to)) c.append_one.new.to in
     record {
       whole = c.in-Ok.ensures.whole;
-      logged = gained_next c.args.entries.now c.loop-entry.entry-index c.entry-item.result next x m y c.loop-entry.invariant.logged c.in-Ok.ensures.does.1;
-      crash = crash_next c.args.entries.now c.loop-entry.entry-index c.entry-item.result next x m y c.loop-entry.invariant.logged _ _ _ c.loop-entry.invariant.crash c.in-Ok.ensures.crash;
+      logged = gained_next _ _ _ _ _ next (whole c.args.entries.now (c.loop-entry.entry-index + 1)) x m y c.loop-entry.invariant.logged c.in-Ok.ensures.does.1;
+      crash = crash_next _ _ _ _ _ next (whole c.args.entries.now (c.loop-entry.entry-index + 1)) x m y c.loop-entry.invariant.logged _ _ _ c.loop-entry.invariant.crash c.in-Ok.ensures.crash;
       later = omega (arith, c.loop-entry.invariant.later, c.in-Ok.ensures.later);
     }

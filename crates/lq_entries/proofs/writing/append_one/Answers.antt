@@ -19,8 +19,8 @@ pub returns-in-Ok-append-clause-does : goal.returns-in-Ok-append-clause-does
 returns-in-Ok-append-clause-does g c =
     let e = c.in-Ok.ensures in
     let f = c.in-Ok-append.ensures in
-    let s = size_is c.args.entry.now in
-    let room = has_room c.args.room _ _ _ _ c.args.entry.now e.opening.limit_is e.used (λ less. cc (f.full.0 less)) in (
+    let s = size_is (g.B.Encoded.says c.args.entry.now) in
+    let room = has_room c.args.room _ _ _ _ (g.B.Encoded.says c.args.entry.now) e.opening.limit_is e.used (λ less. cc (f.full.0 less)) in (
       room,
       log_is _ _ _ _ _ _ _ _ (f.opening.dialect_is ∙ e.opening.dialect_is) (f.opening.limit_is ∙ e.opening.limit_is) (omega (arith, f.used, e.used, s))
           (entries_more _ _ _ _ _ _ _ _ _ _ _ e.opening.dialect_is e.opening.limit_is f.opening.dialect_is f.opening.limit_is e.same f.added),
@@ -48,12 +48,12 @@ pub returns-in-Err-Full-clause-does : goal.returns-in-Err-Full-clause-does
 returns-in-Err-Full-clause-does g c =
     let e = c.in-Ok.ensures in
     let f = c.in-Err-Full.ensures in
-    let s = size_is c.args.entry.now in
+    let s = size_is (g.B.Encoded.says c.args.entry.now) in
     let numbers = rw c.in-Err-Full.field-0-is at f.fault in
     let same = rw c.in-Err-Full.field-0-is at f.unchanged in
     let why = c.in-Err-Full.field-0-is in
     let less = f.full.1 (cc) in (
-      lacks_room c.args.room _ _ _ _ c.args.entry.now e.opening.limit_is e.used less,
+      lacks_room c.args.room _ _ _ _ (g.B.Encoded.says c.args.entry.now) e.opening.limit_is e.used less,
       (
         numbers.0 ∙ e.used,
         (

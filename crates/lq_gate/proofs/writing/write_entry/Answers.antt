@@ -11,14 +11,14 @@ returns-in_err-write_synced-clause-failed g c =
     let ending = c.args.ending in
     let bytes = c.bytes-written.result.now in
     let fits : ending.used + length bytes ≤ ending.limit = omega (arith, c.requires.fits, ap length c.bytes-written.ensures.value) in
-    on_err _ (first_torn ending.dialect ending.limit _ _ ending.used c.args.entry.now bytes c.requires.stands fits c.write_synced.ensures.torn)
+    on_err _ (first_torn ending.dialect ending.limit _ _ ending.used (g.B.Encoded.says c.args.entry.now) bytes c.requires.stands fits c.write_synced.ensures.torn)
 
 pub returns-in_err-write_synced-clause-any_moment : goal.returns-in_err-write_synced-clause-any_moment
 returns-in_err-write_synced-clause-any_moment g c settled =
     let ending = c.args.ending in
     let bytes = c.bytes-written.result.now in
     let fits : ending.used + length bytes ≤ ending.limit = omega (arith, c.requires.fits, ap length c.bytes-written.ensures.value) in
-    first_moment ending.dialect ending.limit _ _ _ ending.used c.args.entry.now bytes c.requires.stands fits settled c.write_synced.ensures.any_moment
+    first_moment ending.dialect ending.limit _ _ _ ending.used (g.B.Encoded.says c.args.entry.now) bytes c.requires.stands fits settled c.write_synced.ensures.any_moment
 
 pub returns-in_err-write_synced-2-clause-failed : goal.returns-in_err-write_synced-2-clause-failed
 returns-in_err-write_synced-2-clause-failed g c =
@@ -26,8 +26,8 @@ returns-in_err-write_synced-2-clause-failed g c =
     let bytes = c.bytes-written.result.now in
     let fits : ending.used + length bytes ≤ ending.limit = omega (arith, c.requires.fits, ap length c.bytes-written.ensures.value) in
     let most = c.requires.limit in
-    let closed = closed_entry c.args.entry.now bytes c.bytes-written.ensures.value c.bytes-written.ensures.are_texts c.bytes-written.ensures.some (omega (arith, fits, most)) in
-    on_err _ (second_torn ending.dialect ending.limit _ _ _ ending.used (ending.used - 1) c.args.entry.now bytes c.requires.stands closed refl fits
+    let closed = closed_entry (g.B.Encoded.says c.args.entry.now) bytes c.bytes-written.ensures.value c.bytes-written.ensures.right (omega (arith, fits, most)) in
+    on_err _ (second_torn ending.dialect ending.limit _ _ _ ending.used (ending.used - 1) (g.B.Encoded.says c.args.entry.now) bytes c.requires.stands closed refl fits
     c.in_ok-write_synced.ensures.written c.write_synced-2.ensures.torn)
 
 pub returns-in_err-write_synced-2-clause-any_moment : goal.returns-in_err-write_synced-2-clause-any_moment
@@ -36,8 +36,8 @@ returns-in_err-write_synced-2-clause-any_moment g c settled =
     let bytes = c.bytes-written.result.now in
     let fits : ending.used + length bytes ≤ ending.limit = omega (arith, c.requires.fits, ap length c.bytes-written.ensures.value) in
     let most = c.requires.limit in
-    let closed = closed_entry c.args.entry.now bytes c.bytes-written.ensures.value c.bytes-written.ensures.are_texts c.bytes-written.ensures.some (omega (arith, fits, most)) in
-    second_moment ending.dialect ending.limit _ _ _ _ _ ending.used (ending.used - 1) c.args.entry.now bytes c.requires.stands closed refl fits settled
+    let closed = closed_entry (g.B.Encoded.says c.args.entry.now) bytes c.bytes-written.ensures.value c.bytes-written.ensures.right (omega (arith, fits, most)) in
+    second_moment ending.dialect ending.limit _ _ _ _ _ ending.used (ending.used - 1) (g.B.Encoded.says c.args.entry.now) bytes c.requires.stands closed refl fits settled
     c.write_synced.ensures.any_moment c.in_ok-write_synced.ensures.written c.in_ok-write_synced.ensures.durable c.write_synced-2.ensures.any_moment
 
 pub returns-clause-any_moment : goal.returns-clause-any_moment
@@ -46,8 +46,8 @@ returns-clause-any_moment g c settled =
     let bytes = c.bytes-written.result.now in
     let fits : ending.used + length bytes ≤ ending.limit = omega (arith, c.requires.fits, ap length c.bytes-written.ensures.value) in
     let most = c.requires.limit in
-    let closed = closed_entry c.args.entry.now bytes c.bytes-written.ensures.value c.bytes-written.ensures.are_texts c.bytes-written.ensures.some (omega (arith, fits, most)) in
-    second_moment ending.dialect ending.limit _ _ _ _ _ ending.used (ending.used - 1) c.args.entry.now bytes c.requires.stands closed refl fits settled
+    let closed = closed_entry (g.B.Encoded.says c.args.entry.now) bytes c.bytes-written.ensures.value c.bytes-written.ensures.right (omega (arith, fits, most)) in
+    second_moment ending.dialect ending.limit _ _ _ _ _ ending.used (ending.used - 1) (g.B.Encoded.says c.args.entry.now) bytes c.requires.stands closed refl fits settled
     c.write_synced.ensures.any_moment c.in_ok-write_synced.ensures.written c.in_ok-write_synced.ensures.durable c.write_synced-2.ensures.any_moment
 
 pub returns-clause-added : goal.returns-clause-added
@@ -56,9 +56,9 @@ returns-clause-added g c =
     let bytes = c.bytes-written.result.now in
     let fits : ending.used + length bytes ≤ ending.limit = omega (arith, c.requires.fits, ap length c.bytes-written.ensures.value) in
     let most = c.requires.limit in
-    let closed = closed_entry c.args.entry.now bytes c.bytes-written.ensures.value c.bytes-written.ensures.are_texts c.bytes-written.ensures.some (omega (arith, fits, most)) in
+    let closed = closed_entry (g.B.Encoded.says c.args.entry.now) bytes c.bytes-written.ensures.value c.bytes-written.ensures.right (omega (arith, fits, most)) in
     let is = in_turn (written ending.used bytes) (written (ending.used - 1) (1 ∷ [])) _ _ _ c.in_ok-write_synced.ensures.written c.in_ok-write_synced-2.ensures.written in
-    journal_after ending.dialect ending.limit _ _ ending.used (ending.used - 1) c.args.entry.now bytes c.requires.stands closed refl fits is
+    journal_after ending.dialect ending.limit _ _ ending.used (ending.used - 1) (g.B.Encoded.says c.args.entry.now) bytes c.requires.stands closed refl fits is
 
 pub returns-clause-stands : goal.returns-clause-stands
 returns-clause-stands g c =
@@ -66,7 +66,7 @@ returns-clause-stands g c =
     let bytes = c.bytes-written.result.now in
     let fits : ending.used + length bytes ≤ ending.limit = omega (arith, c.requires.fits, ap length c.bytes-written.ensures.value) in
     let most = c.requires.limit in
-    let closed = closed_entry c.args.entry.now bytes c.bytes-written.ensures.value c.bytes-written.ensures.are_texts c.bytes-written.ensures.some (omega (arith, fits, most)) in
+    let closed = closed_entry (g.B.Encoded.says c.args.entry.now) bytes c.bytes-written.ensures.value c.bytes-written.ensures.right (omega (arith, fits, most)) in
     let is = in_turn (written ending.used bytes) (written (ending.used - 1) (1 ∷ [])) _ _ _ c.in_ok-write_synced.ensures.written c.in_ok-write_synced-2.ensures.written in
     subst (λ (l : List ℕ). IfSome (g.D.Disk.told c.write_synced-2.new.disk) (Stands true ending.dialect ending.limit (ending.used + length l))) c.bytes-written.ensures.value
-    (ready_after ending.dialect ending.limit _ _ ending.used (ending.used - 1) c.args.entry.now bytes c.requires.stands closed refl fits is)
+    (ready_after ending.dialect ending.limit _ _ ending.used (ending.used - 1) (g.B.Encoded.says c.args.entry.now) bytes c.requires.stands closed refl fits is)

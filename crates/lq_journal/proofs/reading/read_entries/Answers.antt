@@ -1,6 +1,6 @@
 use Rattle.std.proofs.Common.{rules, ◌-◌, length, take, drop, subst, sym, refl, ap, arith, length-append}
 use Rattle.std.proofs.lemmas.List.{take_rest}
-use Rattle.lq_journal.proofs.Entries.{ReadEntries, begins_read, goes_on, holds, read_is, used_read, read_fault}
+use Rattle.lq_journal.proofs.Entries.{ReadEntries, begins_read, goes_on, holds, read_is, read_fault, texts_behind}
 use Rattle.lq_journal.proofs.reading.read_entries.Goals as goal
 
 pub loop-entry-init : goal.loop-entry-init
@@ -22,7 +22,7 @@ loop-entry-smaller c =
 pub loop-entry-preserved : goal.loop-entry-preserved
 loop-entry-preserved c =
     let next = c.in-Ok-Some.ensures.entry _ c.in-Ok-Some.field-0-is in
-    goes_on _ _ _ _ _ _ _ _ c.loop-entry.invariant next c.in_ok-push-in-Ok-Some.ensures.ok refl
+    goes_on _ _ _ _ _ _ _ _ c.loop-entry.invariant next c.in_ok-take_up-in-Ok-Some.ensures refl
 
 pub returns-in-Err-clause-fault : goal.returns-in-Err-clause-fault
 returns-in-Err-clause-fault c =
@@ -34,6 +34,6 @@ returns-clause-found c =
     let end = c.in-Ok-None.ensures.end (search rules) in
     record {
       stands = (read.raw, holds _ _ _ _ _ _ read c.requires.within c.requires.header end);
-      entries_are = read_is _ _ _ _ _ _ read c.requires.within c.requires.header end;
-      used_is = used_read _ _ _ _ read;
+      read = read_is _ _ _ _ _ _ read c.requires.within c.requires.header end;
+      texts_behind = texts_behind _ _ _ _ read;
     }

@@ -24,7 +24,7 @@ returns-in-Ok-clause-crash g c = λ start s rests. freeing_crash c.args.of.now.d
 
 pub returns-in-Err-clause-frees : goal.returns-in-Err-clause-frees
 returns-in-Err-clause-frees g c = λ start s rests.
-    subst (λ e. EndsAt c.args.of.now.dialect c.args.session start (called c.args.of.now.dialect closing s) e (g.S.Store.state c.free_lock.new.store) × IsFreed e) (sym c.end_of.ensures)
+    subst (λ e. EndsAt c.args.of.now.dialect c.args.session start s (called c.args.of.now.dialect closing s) e (g.S.Store.state c.free_lock.new.store) × IsFreed e) (sym c.end_of.ensures)
     (frees_not c.args.of.now.dialect c.args.session start (g.S.Store.state c.args.store.now) (g.S.Store.state c.free_lock.new.store) s rests c.in-Err.fault c.in-Err.ensures.does)
 
 pub returns-in-Err-clause-crash : goal.returns-in-Err-clause-crash

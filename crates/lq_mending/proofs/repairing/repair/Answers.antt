@@ -5,6 +5,7 @@ use Rattle.lq_run.proofs.Counting.{rose_later}
 use Rattle.lq_run.proofs.Since.{leave_none}
 use Rattle.lq_turns.specs.Script.{closing}
 use Rattle.lq_turns.specs.Session.{session_on}
+use Rattle.lq_mending.proofs.Barred.{front_keeps}
 use Rattle.lq_mending.proofs.Behind.{behind, full, leaves, moments}
 use Rattle.lq_mending.proofs.Fitting.{repair_fits}
 use Rattle.lq_mending.proofs.Whole.{begins, database_rests, disk_end, ends_freed, freed_crash, freed_so, goes_on, no_rest, one_crash, spelled_before, stops, stops_so}
@@ -69,14 +70,14 @@ returns-in-Err-clause-behind g c = λ database has row.
     behind c.statements_read_back.ensures d c.args.session (g.S.Store.state c.args.store.now) (g.S.Store.state c.take_back.new.store) database has calls fit c.in-Err.end (stops c.args.of.now.dialect c.args.of.now.who.now c.args.of.now.identity.now c.args.session c.loop-statement.rest.now c.in-Some.before.now c.in-Some.statement.now (length c.loop-statement.rest.now) is refl c.args.statements.now (g.S.Store.state c.args.store.now) (g.S.Store.state c.loop-statement.store) (g.S.Store.state c.take_back.new.store) (session_on database) c.in-Err.end got c.in-Err.ensures.takes)
 
 pub returns-in-Err-clause-full : goal.returns-in-Err-clause-full
-returns-in-Err-clause-full g c = λ database has row.
+returns-in-Err-clause-full g c = λ database has row marked.
     let is : c.loop-statement.rest.now ≡ c.in-Some.before.now ++ c.in-Some.statement.now ∷ [] = search rules in
     let d = c.args.of.now.dialect in
     let calls = repair_calls d c.args.of.now.who.now c.args.of.now.identity.now c.args.statements.now database in
     let fit = repair_fits d c.args.of.now.who.now c.args.of.now.identity.now c.args.statements.now database c.requires.statements row in
     let rests = database_rests d c.args.session (g.S.Store.state c.args.store.now) database has row in
     let got = c.loop-statement.invariant.got (g.S.Store.state c.args.store.now) (session_on database) rests in
-    full c.statements_read_back.ensures d c.args.session (g.S.Store.state c.args.store.now) (g.S.Store.state c.take_back.new.store) database has calls fit c.in-Err.end (stops c.args.of.now.dialect c.args.of.now.who.now c.args.of.now.identity.now c.args.session c.loop-statement.rest.now c.in-Some.before.now c.in-Some.statement.now (length c.loop-statement.rest.now) is refl c.args.statements.now (g.S.Store.state c.args.store.now) (g.S.Store.state c.loop-statement.store) (g.S.Store.state c.take_back.new.store) (session_on database) c.in-Err.end got c.in-Err.ensures.takes)
+    full c.statements_read_back.ensures d c.args.session (g.S.Store.state c.args.store.now) (g.S.Store.state c.take_back.new.store) database has calls fit (λ now front deeds more is led. front_keeps d c.args.of.now.who.now c.args.of.now.identity.now c.args.statements.now database now front deeds more marked is led) c.in-Err.end (stops c.args.of.now.dialect c.args.of.now.who.now c.args.of.now.identity.now c.args.session c.loop-statement.rest.now c.in-Some.before.now c.in-Some.statement.now (length c.loop-statement.rest.now) is refl c.args.statements.now (g.S.Store.state c.args.store.now) (g.S.Store.state c.loop-statement.store) (g.S.Store.state c.take_back.new.store) (session_on database) c.in-Err.end got c.in-Err.ensures.takes)
 
 pub returns-in-Err-clause-any_moment : goal.returns-in-Err-clause-any_moment
 returns-in-Err-clause-any_moment g c = λ database has row.
@@ -120,14 +121,14 @@ returns-clause-behind g c = λ database has row.
     behind c.statements_read_back.ensures d c.args.session (g.S.Store.state c.args.store.now) (g.S.Store.state c.free.new.store) database has calls fit c.free.result (ends_freed c.args.of.now.dialect c.args.of.now.who.now c.args.of.now.identity.now c.args.session c.args.statements.now c.loop-statement.rest.now (g.S.Store.state c.args.store.now) (g.S.Store.state c.loop-statement.store) (g.S.Store.state c.free.new.store) (session_on database) c.free.result none got c.free.ensures.frees)
 
 pub returns-clause-full : goal.returns-clause-full
-returns-clause-full g c = λ database has row.
+returns-clause-full g c = λ database has row marked.
     let none = no_rest c.loop-statement.rest.now (search rules) in
     let d = c.args.of.now.dialect in
     let calls = repair_calls d c.args.of.now.who.now c.args.of.now.identity.now c.args.statements.now database in
     let fit = repair_fits d c.args.of.now.who.now c.args.of.now.identity.now c.args.statements.now database c.requires.statements row in
     let rests = database_rests d c.args.session (g.S.Store.state c.args.store.now) database has row in
     let got = c.loop-statement.invariant.got (g.S.Store.state c.args.store.now) (session_on database) rests in
-    full c.statements_read_back.ensures d c.args.session (g.S.Store.state c.args.store.now) (g.S.Store.state c.free.new.store) database has calls fit c.free.result (ends_freed c.args.of.now.dialect c.args.of.now.who.now c.args.of.now.identity.now c.args.session c.args.statements.now c.loop-statement.rest.now (g.S.Store.state c.args.store.now) (g.S.Store.state c.loop-statement.store) (g.S.Store.state c.free.new.store) (session_on database) c.free.result none got c.free.ensures.frees)
+    full c.statements_read_back.ensures d c.args.session (g.S.Store.state c.args.store.now) (g.S.Store.state c.free.new.store) database has calls fit (λ now front deeds more is led. front_keeps d c.args.of.now.who.now c.args.of.now.identity.now c.args.statements.now database now front deeds more marked is led) c.free.result (ends_freed c.args.of.now.dialect c.args.of.now.who.now c.args.of.now.identity.now c.args.session c.args.statements.now c.loop-statement.rest.now (g.S.Store.state c.args.store.now) (g.S.Store.state c.loop-statement.store) (g.S.Store.state c.free.new.store) (session_on database) c.free.result none got c.free.ensures.frees)
 
 pub returns-clause-any_moment : goal.returns-clause-any_moment
 returns-clause-any_moment g c = λ database has row.

@@ -1,4 +1,5 @@
-use Rattle.std.proofs.Common.{Some, subst, sym, ◌≡◌}
+use Rattle.std.proofs.Common.{Some, refl, subst, sym, ◌≡◌}
+use Rattle.std.specs.Prelude.{[]}
 use Rattle.laws_repair.specs.Repair.{back_calls}
 use Rattle.lq_reverse.specs.Back.{back}
 use Rattle.lq_run.proofs.Since.{leave_none}
@@ -13,7 +14,7 @@ make_all-requires-clause-comes g c =
     record { stamp = nobody; start = k.start; session = k.session; at = comes_at c.args.of.now.dialect c.args.of.now.who.now c.args.of.now.identity.now c.args.number c.args.statement.now c.requires.statement c.args.session c.in-Ok.hand c.in-Ok.ensures.inside c.in-Ok.ensures.calls c.in-Ok.ensures.turns k.start (g.S.Store.state c.args.store.now) k.session k.is }
 
 pub returns-in_default-clause-takes : goal.returns-in_default-clause-takes
-returns-in_default-clause-takes g c = λ start s rests tail. record { session = s; before = end_before c.args.of.now.dialect (back_calls c.args.of.now.who.now c.args.of.now.identity.now c.args.number (back c.args.of.now.dialect c.args.statement.now)) tail s; stands = rests.stands }
+returns-in_default-clause-takes g c = λ start s rests tail. record { session = s; came = record { calls = []; is = refl }; before = end_before c.args.of.now.dialect (back_calls c.args.of.now.who.now c.args.of.now.identity.now c.args.number (back c.args.of.now.dialect c.args.statement.now)) tail s; stands = rests.stands; shut = rests.shut }
 
 pub returns-in_default-clause-crash : goal.returns-in_default-clause-crash
 returns-in_default-clause-crash g c = λ start s tail rests. leave_none start.entries _ (g.S.Store.crashes c.args.store.now)

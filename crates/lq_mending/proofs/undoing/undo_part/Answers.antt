@@ -20,7 +20,7 @@ pub returns-clause-answers : goal.returns-clause-answers
 returns-clause-answers g c = subst (λ (r : Result Repaired RepairFault). Answers None r) (sym c.answer_of.ensures) (answers_by c.args.part.identity c.args.part.count c.repair-end.result)
 
 pub returns-clause-made : goal.returns-clause-made
-returns-clause-made g c = λ database has row.
+returns-clause-made g c = λ database has row marked.
     let d = c.args.dialect in
     let part = c.args.part in
     let x = g.S.Store.state c.args.store.now in
@@ -31,7 +31,7 @@ returns-clause-made g c = λ database has row.
       leaves = subst (λ (r : Result Repaired RepairFault). LeavesBy d calls database x r y) (sym c.answer_of.ensures) (leaves_by part.identity part.count d calls database x y c.repair-end.result (c.repair-end.ensures.leaves database has row));
       behind = c.repair-end.ensures.behind database has row;
       any_moment = c.repair-end.ensures.any_moment database has row;
-      full = subst (λ (r : Result Repaired RepairFault). FullBy d calls database x r) (sym c.answer_of.ensures) (full_by part.identity part.count d calls database x c.repair-end.result (c.repair-end.ensures.full database has row));
+      full = subst (λ (r : Result Repaired RepairFault). FullBy d calls database x r y) (sym c.answer_of.ensures) (full_by part.identity part.count d calls database x y c.repair-end.result (c.repair-end.ensures.full database has row marked));
     })
 
 pub returns-clause-tells : goal.returns-clause-tells

@@ -1,5 +1,6 @@
 use Rattle.std.proofs.Common.{subst, sym}
 use Rattle.std.specs.Prelude.{List, Option}
+use Rattle.lq_mending.proofs.Barred.{part_barred}
 use Rattle.lq_mending.proofs.Undone.{made_none, none_refused, not_disk, passed_kept, refuses, row_there, script_is, told_is, told_none}
 use Rattle.lq_mending.specs.Undoes.{Answers, Made, refusal, undo_script, unrecorded}
 use Rattle.lq_turns.specs.declared.call.Call.{Call}
@@ -27,7 +28,7 @@ returns-in-Ok-clause-made g c = λ database has.
     let part = c.in-Ok.ensures.part database has in
     let row = row_there c.release_fits.ensures c.args.options.now c.args.changelog.now c.args.last.now (g.S.Store.state c.args.store.now) database c.in-Ok.part has part in
     subst (λ (calls : List Call). Made g.S.Store.state g.S.Store.crashes c.args.options.now.dialect calls database c.args.store.now c.undo_part.result c.undo_part.new.store)
-    (sym (script_is c.args.options.now c.args.changelog.now c.args.last.now database c.in-Ok.part part)) (c.undo_part.ensures.made database has row)
+    (sym (script_is c.args.options.now c.args.changelog.now c.args.last.now database c.in-Ok.part part)) (c.undo_part.ensures.made database has row (part_barred c.args.options.now c.args.changelog.now c.args.last.now database.lock database.rows (part.set, c.in-Ok.part.count) part.found_is))
 
 pub returns-in-Ok-clause-tells : goal.returns-in-Ok-clause-tells
 returns-in-Ok-clause-tells g c = λ database has.

@@ -14,10 +14,10 @@ new-requires-clause-reads c =
     subst (λ (log : Changelog AnyChange). All HasTexts log.sets) (sym (same_log c.new-syncing.result c.args.options c.args.changelog c.new-syncing.ensures.options c.new-syncing.ensures.changelog)) c.requires.texts
 
 pub returns : goal.returns
-returns c = record {
+returns c = λ prints. record {
   unstarted = record { new = c.new.ensures.new; ready = c.new.ensures.ready; dialect = c.new.ensures.dialect };
   job = c.new.ensures.job
-      ∙ ap (λ (log : Changelog AnyChange). work_of c.args.dialect (record { command = Sync; changelog = log; stamp = c.args.stamp }))
+      ∙ ap (λ (log : Changelog AnyChange). work_of prints c.args.dialect (record { command = Sync; changelog = log; stamp = c.args.stamp }))
       (same_log c.new-syncing.result c.args.options c.args.changelog c.new-syncing.ensures.options c.new-syncing.ensures.changelog);
   owns = λ lock held. subst (λ stamp. IsHeld stamp lock) c.new.ensures.stamp held;
 }

@@ -1,30 +1,35 @@
 use Rattle.std.proofs.Common.{rules, subst, sym}
-use Rattle.std.specs.Prelude.{Err, ◌≡◌}
-use Rattle.lq_players.specs.UpdateChecks.{Plans}
+use Rattle.std.specs.Prelude.{Err, IfOk, ◌≡◌}
+use Rattle.lq_players.proofs.BackPlanned.{lack_only}
+use Rattle.lq_players.proofs.RowsRead.{err_so}
+use Rattle.lq_players.proofs.UpdateTurns.{plans_here}
+use Rattle.lq_players.specs.RowChecks.{IsRefusal}
+use Rattle.lq_players.specs.UpdateChecks.{IsPlanFor, Plans}
 use Rattle.lq_kinds.specs.Dialects.{AreFor}
-use Rattle.lq_sets.specs.SetTurns.{IsReadFor}
 use Rattle.lq_players.proofs.update_checks.plan_on.Goals as goal
 
-pub returns-in_err-check_turns-clause-plans : goal.returns-in_err-check_turns-clause-plans
-returns-in_err-check_turns-clause-plans g c =
-    let is : c.from_residual.result ≡ Err c.in_err-check_turns.field-0.0 = search rules in
+pub check_changelog-requires : goal.check_changelog-requires
+check_changelog-requires g c = record { dialect = c.requires.asked.dialect }
+
+pub returns-in_err-own-clause-plans : goal.returns-in_err-own-clause-plans
+returns-in_err-own-clause-plans g c =
+    let is : c.from_residual.result ≡ Err c.in_err-own.field-0.0 = search rules in
     subst (λ r. Plans c.args.dialect c.args.asked (g.K.Look.catalogue c.args.look.now) r) (sym is)
-    (λ database stands. c.in_err-check_turns.ensures.comes database stands (c.requires.rows database stands))
+    (λ database stands. c.in_err-own.ensures.refuses database stands (c.requires.rows database stands))
 
-pub new-requires-clause-read : goal.new-requires-clause-read
-new-requires-clause-read g c = subst (λ d. AreFor d c.args.asked.changelog) (sym c.requires.asked.dialect) c.requires.asked.read
+pub returns-in_err-own-clause-refusal : goal.returns-in_err-own-clause-refusal
+returns-in_err-own-clause-refusal g c = err_so c.from_residual.result c.in_err-own.field-0.0 IsRefusal (search rules) c.in_err-own.ensures.refusal
 
-pub new-requires-clause-faultless : goal.new-requires-clause-faultless
-new-requires-clause-faultless g c = c.in_ok-check_turns.ensures.turns.faultless
+pub plan_turns-requires-clause-read : goal.plan_turns-requires-clause-read
+plan_turns-requires-clause-read g c = subst (λ d. AreFor d c.args.asked.changelog) (sym c.requires.asked.dialect) c.requires.asked.read
 
-pub returns-in-Ok-clause-reads : goal.returns-in-Ok-clause-reads
-returns-in-Ok-clause-reads g c = subst (λ d. IsReadFor c.in-Ok.source d) c.requires.asked.dialect c.in-Ok.ensures.reads
+pub returns-clause-reads : goal.returns-clause-reads
+returns-clause-reads g c = subst (λ d. IfOk c.plan_turns.result (IsPlanFor d)) c.requires.asked.dialect c.plan_turns.ensures.reads
 
-pub returns-in-Ok-clause-plans : goal.returns-in-Ok-clause-plans
-returns-in-Ok-clause-plans g c = record {
-  rows = c.args.rows.now;
-  turns = c.in_ok-check_turns.ensures.turns;
-  left = c.in-Ok.ensures.left;
-  knows = c.in-Ok.ensures.knows;
-  on = λ database stands. (c.requires.rows database stands, c.in_ok-check_turns.ensures.comes database stands (c.requires.rows database stands));
-}
+pub returns-clause-plans : goal.returns-clause-plans
+returns-clause-plans g c =
+    plans_here c.args.dialect c.args.asked (g.K.Look.catalogue c.args.look.now) c.args.rows.now c.in_ok-own.own c.plan_turns.result c.in_ok-own.ensures.faultless
+    (λ database stands. (c.requires.rows database stands, c.in_ok-own.ensures.own database stands (c.requires.rows database stands))) c.plan_turns.ensures.plans c.plan_turns.ensures.lack
+
+pub returns-clause-refusal : goal.returns-clause-refusal
+returns-clause-refusal g c = lack_only c.plan_turns.result c.plan_turns.ensures.lack

@@ -3,9 +3,14 @@ use Rattle.lq_run.proofs.Stopped.{left_all}
 use Rattle.lq_run.proofs.Whole.{ends_whole, leaves, not_taken, opens, tells, tells_whole}
 use Rattle.lq_run.specs.Commands.{script}
 use Rattle.lq_run.specs.Ends.{EndsAs}
-use Rattle.lq_run.specs.Steps.{TellsAs, place, standing}
+use Rattle.lq_hand.specs.Hand.{calls_left}
+use Rattle.lq_hand.specs.Way.{IsUnderWay}
+use Rattle.lq_run.proofs.UnderWay.{if_full, known_under}
+use Rattle.lq_run.specs.Commands.{both_on}
+use Rattle.lq_run.specs.Steps.{end_of, place, standing}
+use Rattle.lq_run.specs.UnderWay.{TellsTo}
 use Rattle.lq_turns.specs.Session.{all_called}
-use Rattle.std.proofs.Common.{ap, subst, sym, true, ◌≡◌, ◌∙◌}
+use Rattle.std.proofs.Common.{ap, false, subst, sym, true, ◌≡◌, ◌∙◌}
 use Rattle.std.specs.Prelude.{Err, None}
 use Rattle.lq_run.specs.Faults.{is_disk_end}
 use Rattle.lq_run.proofs.Known.{tells_fault}
@@ -39,7 +44,7 @@ pub returns-in-Err-clause-ends : goal.returns-in-Err-clause-ends
 returns-in-Err-clause-ends g c =
     let r = c.args.runner.now in
     λ start s told is. subst (λ e. EndsAs r.dialect g.T.Source.meaning r.stamp c.args.session start s
-    (all_called r.dialect (script r.dialect g.T.Source.meaning r.stamp (place (standing g.T.Source.left g.T.Source.way r)) s.committed) s) None e (g.S.Store.state c.take_lock.new.store)) (sym c.end_of.ensures)
+    (all_called r.dialect (script r.dialect g.T.Source.meaning r.stamp (place (standing g.T.Source.left g.T.Source.way r)) s.committed) s) false None e (g.S.Store.state c.take_lock.new.store)) (sym c.end_of.ensures)
     (not_taken r.dialect g.T.Source.meaning r.stamp c.args.session (standing g.T.Source.left g.T.Source.way r) start (g.S.Store.state c.args.store.now) (g.S.Store.state c.take_lock.new.store) s told is c.in-Err.fault c.in-Err.ensures.does)
 
 pub returns-in-Ok-clause-rose : goal.returns-in-Ok-clause-rose
@@ -59,7 +64,10 @@ returns-in-Ok-clause-tells g c =
 pub returns-in-Err-clause-tells : goal.returns-in-Err-clause-tells
 returns-in-Err-clause-tells g c =
     let r = c.args.runner.now in
-    λ database told has known fits. subst (TellsAs (g.T.Source.way r.source r.dialect r.stamp told)) (sym c.end_of.ensures) (tells_fault (g.T.Source.way r.source r.dialect r.stamp told) c.in-Err.fault)
+    λ database told has known fits.
+    let way = g.T.Source.way r.source r.dialect r.stamp told in
+    subst (TellsTo way) (sym c.end_of.ensures)
+    (tells_fault way c.in-Err.fault, if_full (IsUnderWay way) (end_of c.in-Err.fault) (known_under r.dialect way r.hand.goes_on (calls_left r.hand) r.progress (both_on database) known))
 
 pub returns-in-Ok-clause-left : goal.returns-in-Ok-clause-left
 returns-in-Ok-clause-left g c =
@@ -73,7 +81,7 @@ returns-in-Err-clause-left g c =
     let r = c.args.runner.now in
     left_all r.dialect g.T.Source.meaning r.stamp c.args.session (standing g.T.Source.left g.T.Source.way r) (g.S.Store.state c.args.store.now) (g.S.Store.state c.take_lock.new.store) c.end_of.result
     (λ start s told is. subst (λ e. EndsAs r.dialect g.T.Source.meaning r.stamp c.args.session start s
-    (all_called r.dialect (script r.dialect g.T.Source.meaning r.stamp (place (standing g.T.Source.left g.T.Source.way r)) s.committed) s) None e (g.S.Store.state c.take_lock.new.store)) (sym c.end_of.ensures)
+    (all_called r.dialect (script r.dialect g.T.Source.meaning r.stamp (place (standing g.T.Source.left g.T.Source.way r)) s.committed) s) false None e (g.S.Store.state c.take_lock.new.store)) (sym c.end_of.ensures)
     (not_taken r.dialect g.T.Source.meaning r.stamp c.args.session (standing g.T.Source.left g.T.Source.way r) start (g.S.Store.state c.args.store.now) (g.S.Store.state c.take_lock.new.store) s told is c.in-Err.fault c.in-Err.ensures.does))
 
 pub returns-in-Ok-clause-any_moment : goal.returns-in-Ok-clause-any_moment
@@ -99,5 +107,5 @@ returns-in-Err-clause-behind g c =
     let r = c.args.runner.now in
     behind_all c.statements_read_back.ensures r.dialect g.T.Source.meaning r.stamp c.args.session (standing g.T.Source.left g.T.Source.way r) (g.S.Store.state c.args.store.now) (g.S.Store.state c.take_lock.new.store) c.end_of.result
     (λ start s told is. subst (λ e. EndsAs r.dialect g.T.Source.meaning r.stamp c.args.session start s
-    (all_called r.dialect (script r.dialect g.T.Source.meaning r.stamp (place (standing g.T.Source.left g.T.Source.way r)) s.committed) s) None e (g.S.Store.state c.take_lock.new.store)) (sym c.end_of.ensures)
+    (all_called r.dialect (script r.dialect g.T.Source.meaning r.stamp (place (standing g.T.Source.left g.T.Source.way r)) s.committed) s) false None e (g.S.Store.state c.take_lock.new.store)) (sym c.end_of.ensures)
     (not_taken r.dialect g.T.Source.meaning r.stamp c.args.session (standing g.T.Source.left g.T.Source.way r) start (g.S.Store.state c.args.store.now) (g.S.Store.state c.take_lock.new.store) s told is c.in-Err.fault c.in-Err.ensures.does))

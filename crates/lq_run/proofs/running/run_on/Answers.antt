@@ -2,26 +2,27 @@ use Rattle.std.proofs.Common.{inl, inr, le_trans, refl, rules, subst, sym, ◌�
 use Rattle.std.specs.Prelude.{[]}
 use Rattle.lq_hand.specs.Hand.{IsReady}
 use Rattle.lq_run.proofs.Counting.{rose_later}
-use Rattle.lq_run.proofs.Ending.{ends, keeps_full, reaches, ready_at, stops, tells}
+use Rattle.lq_run.proofs.Ending.{ends, reaches, ready_at, stops, tells}
 use Rattle.lq_run.proofs.RunCrashes.{step_crash}
 use Rattle.lq_run.proofs.Since.{leave_none, leave_then}
 use Rattle.lq_run.specs.Crashing.{CrashesStep, LeftInRun}
 use Rattle.lq_run.specs.Ends.{at_end}
 use Rattle.lq_run.specs.Steps.{Steps, place, standing}
+use Rattle.lq_run.specs.UnderWay.{Stays}
 use Rattle.lq_run.specs.declared.runner.Step.TheVariants as step
 use Rattle.lq_store.specs.State.{is_open}
 use Rattle.lq_run.proofs.running.run_on.Goals as goal
 
 pub loop-init : goal.loop-init
-loop-init g c = record { valid = c.requires.valid; dialect = refl; stamp = refl; reads = c.requires.reads; begun = c.requires.begun; disk = c.requires.runs.is.disk; later = search rules; reaches = λ start s told is. record { session = s; came = record { calls = []; is = refl }; is = is; way = inl refl }; full = λ start s told is used next same. inr same; crash = λ start s told is. leave_none start.entries _ (g.S.Store.crashes c.args.store.now) }
+loop-init g c = record { valid = c.requires.valid; dialect = refl; stamp = refl; reads = c.requires.reads; begun = c.requires.begun; disk = c.requires.runs.is.disk; later = search rules; reaches = λ start s told is. (record { session = s; came = record { calls = []; is = refl }; is = is; way = inl refl }, λ used next same. inr same); under_way = λ start s told is met. met; crash = λ start s told is. leave_none start.entries _ (g.S.Store.crashes c.args.store.now) }
 
 pub step-requires-clause-live : goal.step-requires-clause-live
-step-requires-clause-live g c = (c.loop.invariant.reaches c.requires.runs.start c.requires.runs.session c.requires.runs.told c.requires.runs.is).is.there.at.stands.live
+step-requires-clause-live g c = (c.loop.invariant.reaches c.requires.runs.start c.requires.runs.session c.requires.runs.told c.requires.runs.is).0.is.there.at.stands.live
 
 pub step-requires-clause-ready : goal.step-requires-clause-ready
 step-requires-clause-ready g c =
     let k = c.loop.invariant in
-    let here = k.reaches c.requires.runs.start c.requires.runs.session c.requires.runs.told c.requires.runs.is in
+    let here = (k.reaches c.requires.runs.start c.requires.runs.session c.requires.runs.told c.requires.runs.is).0 in
     let r = c.args.runner.now in
     subst (λ d. IsReady d (is_open c.args.session (g.S.Store.state c.loop.store).begun) (place (standing g.T.Source.left g.T.Source.way c.loop.runner))) (sym k.dialect)
     (ready_at r.dialect g.T.Source.meaning r.stamp c.args.session (place (standing g.T.Source.left g.T.Source.way c.loop.runner)) c.requires.runs.start (g.S.Store.state c.loop.store) here.session here.is.there.at)
@@ -45,12 +46,15 @@ loop-preserved g c =
       begun = c.in-Going.ensures.going;
       disk = c.in-Going.ensures.disk;
       later = le_trans k.later c.in-Going.ensures.later;
-      reaches = λ start s told is. reaches r.dialect g.T.Source.meaning r.stamp c.args.session now next told start s (at_end r.dialect g.T.Source.meaning r.stamp c.args.session (place (standing g.T.Source.left g.T.Source.way r)) s)
-          (g.S.Store.state c.loop.store) (g.S.Store.state c.step.new.store) c.in-Going.ensures.going (k.reaches start s told is) steps;
-      full = λ start s told is. keeps_full r.dialect g.T.Source.meaning r.stamp c.args.session now told start s (at_end r.dialect g.T.Source.meaning r.stamp c.args.session (place (standing g.T.Source.left g.T.Source.way r)) s)
-          (g.S.Store.state c.loop.store) (g.S.Store.state c.step.new.store) (k.reaches start s told is) r.fault (k.full start s told is) next steps;
+      reaches = λ start s told is. reaches r.dialect g.T.Source.meaning r.stamp c.args.session now told start s (at_end r.dialect g.T.Source.meaning r.stamp c.args.session (place (standing g.T.Source.left g.T.Source.way r)) s)
+          (g.S.Store.state c.loop.store) (g.S.Store.state c.step.new.store) (k.reaches start s told is).0 r.fault (k.reaches start s told is).1 next c.in-Going.ensures.going steps;
+      under_way = λ start s told is met.
+          let here = (k.reaches start s told is).0 in
+          (subst (λ d. Stays d g.T.Source.meaning r.stamp c.args.session now next (g.S.Store.state c.loop.store) step.Going) k.dialect
+          (subst (λ t. Stays c.loop.runner.dialect g.T.Source.meaning t c.args.session now next (g.S.Store.state c.loop.store) step.Going) k.stamp c.in-Going.ensures.under_way))
+          start here.session told here.is.there (λ there. here.is.committed) (k.under_way start s told is met);
       crash = λ start s told is. leave_then start.entries (LeftInRun r.dialect r.stamp s (at_end r.dialect g.T.Source.meaning r.stamp c.args.session (place (standing g.T.Source.left g.T.Source.way r)) s)) (g.S.Store.crashes c.args.store.now) (g.S.Store.crashes c.loop.store) (g.S.Store.crashes c.step.new.store) (k.crash start s told is)
-          (step_crash r.dialect g.T.Source.meaning r.stamp c.args.session now told start s (at_end r.dialect g.T.Source.meaning r.stamp c.args.session (place (standing g.T.Source.left g.T.Source.way r)) s) (g.S.Store.state c.loop.store) (k.reaches start s told is) c.step.new.self.fault (g.S.Store.crashes c.loop.store) (g.S.Store.crashes c.step.new.store)
+          (step_crash r.dialect g.T.Source.meaning r.stamp c.args.session now told start s (at_end r.dialect g.T.Source.meaning r.stamp c.args.session (place (standing g.T.Source.left g.T.Source.way r)) s) (g.S.Store.state c.loop.store) (k.reaches start s told is).0 c.step.new.self.fault (g.S.Store.crashes c.loop.store) (g.S.Store.crashes c.step.new.store)
           (subst (λ d. CrashesStep d g.T.Source.meaning r.stamp c.args.session now c.step.new.self.fault (g.S.Store.state c.loop.store) (g.S.Store.crashes c.loop.store) (g.S.Store.crashes c.step.new.store)) k.dialect
           (subst (λ t. CrashesStep c.loop.runner.dialect g.T.Source.meaning t c.args.session now c.step.new.self.fault (g.S.Store.state c.loop.store) (g.S.Store.crashes c.loop.store) (g.S.Store.crashes c.step.new.store)) k.stamp c.in-Going.ensures.crash)));
     }
@@ -62,7 +66,7 @@ returns-in-Ended-clause-ends g c =
     let now = standing g.T.Source.left g.T.Source.way c.loop.runner in
     let next = standing g.T.Source.left g.T.Source.way c.step.new.self in
     λ start s told is. ends r.dialect g.T.Source.meaning r.stamp c.args.session now told start s (at_end r.dialect g.T.Source.meaning r.stamp c.args.session (place (standing g.T.Source.left g.T.Source.way r)) s)
-    (g.S.Store.state c.loop.store) (g.S.Store.state c.step.new.store) (k.reaches start s told is) r.fault (k.full start s told is) next c.in-Ended.end
+    (g.S.Store.state c.loop.store) (g.S.Store.state c.step.new.store) (k.reaches start s told is).0 r.fault (k.reaches start s told is).1 next c.in-Ended.end
     (subst (λ d. Steps d g.T.Source.meaning r.stamp c.args.session now next (g.S.Store.state c.loop.store) (step.Ended c.in-Ended.end) (g.S.Store.state c.step.new.store)) k.dialect
     (subst (λ t. Steps c.loop.runner.dialect g.T.Source.meaning t c.args.session now next (g.S.Store.state c.loop.store) (step.Ended c.in-Ended.end) (g.S.Store.state c.step.new.store)) k.stamp c.in-Ended.ensures.steps))
 
@@ -72,23 +76,29 @@ returns-in-Ended-clause-tells g c =
     let r = c.args.runner.now in
     let now = standing g.T.Source.left g.T.Source.way c.loop.runner in
     let next = standing g.T.Source.left g.T.Source.way c.step.new.self in
-    λ start s told is. tells r.dialect g.T.Source.meaning r.stamp c.args.session now told start s (at_end r.dialect g.T.Source.meaning r.stamp c.args.session (place (standing g.T.Source.left g.T.Source.way r)) s)
-    (g.S.Store.state c.loop.store) (g.S.Store.state c.step.new.store) (k.reaches start s told is) next c.in-Ended.end
-    (subst (λ d. Steps d g.T.Source.meaning r.stamp c.args.session now next (g.S.Store.state c.loop.store) (step.Ended c.in-Ended.end) (g.S.Store.state c.step.new.store)) k.dialect
-    (subst (λ t. Steps c.loop.runner.dialect g.T.Source.meaning t c.args.session now next (g.S.Store.state c.loop.store) (step.Ended c.in-Ended.end) (g.S.Store.state c.step.new.store)) k.stamp c.in-Ended.ensures.steps))
+    λ start s told is met. (
+      tells r.dialect g.T.Source.meaning r.stamp c.args.session now told start s (at_end r.dialect g.T.Source.meaning r.stamp c.args.session (place (standing g.T.Source.left g.T.Source.way r)) s)
+          (g.S.Store.state c.loop.store) (g.S.Store.state c.step.new.store) (k.reaches start s told is).0 next c.in-Ended.end
+          (subst (λ d. Steps d g.T.Source.meaning r.stamp c.args.session now next (g.S.Store.state c.loop.store) (step.Ended c.in-Ended.end) (g.S.Store.state c.step.new.store)) k.dialect
+          (subst (λ t. Steps c.loop.runner.dialect g.T.Source.meaning t c.args.session now next (g.S.Store.state c.loop.store) (step.Ended c.in-Ended.end) (g.S.Store.state c.step.new.store)) k.stamp c.in-Ended.ensures.steps)),
+      (let here = (k.reaches start s told is).0 in
+          (subst (λ d. Stays d g.T.Source.meaning r.stamp c.args.session now next (g.S.Store.state c.loop.store) (step.Ended c.in-Ended.end)) k.dialect
+          (subst (λ t. Stays c.loop.runner.dialect g.T.Source.meaning t c.args.session now next (g.S.Store.state c.loop.store) (step.Ended c.in-Ended.end)) k.stamp c.in-Ended.ensures.under_way))
+          start here.session told here.is.there (λ there. here.is.committed) (k.under_way start s told is met)),
+    )
 
 pub returns-clause-ends : goal.returns-clause-ends
 returns-clause-ends g c =
     let k = c.loop.invariant in
     let r = c.args.runner.now in
     λ start s told is. stops r.dialect g.T.Source.meaning r.stamp c.args.session (standing g.T.Source.left g.T.Source.way c.loop.runner) told start s (at_end r.dialect g.T.Source.meaning r.stamp c.args.session (place (standing g.T.Source.left g.T.Source.way r)) s)
-    (g.S.Store.state c.loop.store) r.fault (k.reaches start s told is)
+    (g.S.Store.state c.loop.store) r.fault (k.reaches start s told is).0
 
 pub returns-in-Ended-clause-rose : goal.returns-in-Ended-clause-rose
 returns-in-Ended-clause-rose g c = λ is. rose_later (g.S.Store.faults c.args.store.now) (g.S.Store.faults c.loop.store) (g.S.Store.faults c.step.new.store) c.loop.invariant.later (c.in-Ended.ensures.rose is)
 
 pub returns-clause-tells : goal.returns-clause-tells
-returns-clause-tells g c = λ start s told is. tt
+returns-clause-tells g c = λ start s told is met. (tt, tt)
 
 pub returns-in-Ended-clause-crash : goal.returns-in-Ended-clause-crash
 returns-in-Ended-clause-crash g c =
@@ -96,6 +106,6 @@ returns-in-Ended-clause-crash g c =
     let r = c.args.runner.now in
     let now = standing g.T.Source.left g.T.Source.way c.loop.runner in
     λ start s told is. leave_then start.entries (LeftInRun r.dialect r.stamp s (at_end r.dialect g.T.Source.meaning r.stamp c.args.session (place (standing g.T.Source.left g.T.Source.way r)) s)) (g.S.Store.crashes c.args.store.now) (g.S.Store.crashes c.loop.store) (g.S.Store.crashes c.step.new.store) (k.crash start s told is)
-    (step_crash r.dialect g.T.Source.meaning r.stamp c.args.session now told start s (at_end r.dialect g.T.Source.meaning r.stamp c.args.session (place (standing g.T.Source.left g.T.Source.way r)) s) (g.S.Store.state c.loop.store) (k.reaches start s told is) c.step.new.self.fault (g.S.Store.crashes c.loop.store) (g.S.Store.crashes c.step.new.store)
+    (step_crash r.dialect g.T.Source.meaning r.stamp c.args.session now told start s (at_end r.dialect g.T.Source.meaning r.stamp c.args.session (place (standing g.T.Source.left g.T.Source.way r)) s) (g.S.Store.state c.loop.store) (k.reaches start s told is).0 c.step.new.self.fault (g.S.Store.crashes c.loop.store) (g.S.Store.crashes c.step.new.store)
     (subst (λ d. CrashesStep d g.T.Source.meaning r.stamp c.args.session now c.step.new.self.fault (g.S.Store.state c.loop.store) (g.S.Store.crashes c.loop.store) (g.S.Store.crashes c.step.new.store)) k.dialect
     (subst (λ t. CrashesStep c.loop.runner.dialect g.T.Source.meaning t c.args.session now c.step.new.self.fault (g.S.Store.state c.loop.store) (g.S.Store.crashes c.loop.store) (g.S.Store.crashes c.step.new.store)) k.stamp c.in-Ended.ensures.crash)))

@@ -1,5 +1,5 @@
 use Rattle.std.proofs.Common.{ap, arith, subst, sym, ◌∙◌}
-use Rattle.std.specs.Prelude.{[], length, suc, ◌+◌, ◌++◌, ◌∷◌, ◌≡◌}
+use Rattle.std.specs.Prelude.{[], false, length, suc, ◌+◌, ◌++◌, ◌∷◌, ◌≡◌}
 use Rattle.lq_commands.specs.Stamp.{numbered_stamp}
 use Rattle.lq_players.specs.AnyCommand.{Starts}
 use Rattle.lq_players.specs.Tasks.{task_for}
@@ -26,5 +26,5 @@ returns c =
       player = c.new-player.result;
       players = c.in_ok-push-2.ensures.items;
       commands = c.in_ok-push.ensures.ok ∙ ap (λ command. c.args.cast.commands ++ command ∷ []) c.in_ok-command_again.ensures;
-      starts = subst (λ stamp. Starts c.args.dialect (task_for e.command e.asked.options e.asked.changelog stamp) c.new-player.result) same (record { unstarted = made.unstarted; job = made.job; owns = made.owns });
+      starts = subst (λ stamp. Starts false c.args.dialect (task_for e.command e.asked.options e.asked.changelog stamp) c.new-player.result) same (record { unstarted = made.unstarted; job = made.job; owns = made.owns });
     }

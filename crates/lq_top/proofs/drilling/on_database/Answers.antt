@@ -57,7 +57,7 @@ returns-in-Ok g c =
     record {
       worked = subst (λ disk. WorkedDrill g.D.Disk.told g.D.Disk.faults g.D.Disk.crashes d who c.args.drilling coming after (disk_in db) ran.result disk) (sym c.into_disk.ensures)
           (played_drilled g.D.Disk.told g.D.Disk.faults g.D.Disk.crashes d who c.args.drilling g.P.SqlText.dialect (g.E.Executor.held (engine_in db)) (g.E.Executor.held (engine_in left)) db left c.requires.valid ran.ensures.valid c.requires.new c.requires.catalogue
-          c.turns_back_are_spelled.ensures begun.0 cast.players.items cast.commands begun.2 c.requires.is coming after begun.1 ran.result
+          c.turns_back_are_spelled.ensures c.statements_read_back.ensures begun.0 cast.players.items cast.commands begun.2 c.requires.is coming after begun.1 ran.result
           (subst (λ steps. Plays cast.players.items cast.commands steps (state (g.D.Disk.told (disk_in db)) (g.E.Executor.held (engine_in db)) db) (state (g.D.Disk.told (disk_in left)) (g.E.Executor.held (engine_in left)) left) (crashes (g.D.Disk.crashes (disk_in db)) db) (crashes (g.D.Disk.crashes (disk_in left)) left) ran.result) c.as_slice.ensures ran.ensures.plays) ran.ensures.later ran.ensures.rose);
     }
 

@@ -2,7 +2,7 @@ use Rattle.std.proofs.Common.{ap, refl, subst}
 use Rattle.std.specs.Prelude.{Err}
 use Rattle.lq_drill.specs.Drill.{FailsBy}
 use Rattle.lq_players.specs.AnyCommand.{command_stands}
-use Rattle.lq_playing.specs.Answers.{failure_of}
+use Rattle.lq_playing.specs.Came.{as_failed}
 use Rattle.lq_players.specs.Drilling.{works}
 use Rattle.lq_top.proofs.DrillAnswers.{fault_answers, told_answers}
 use Rattle.lq_top.proofs.DrillPlayed.{disk_fault, fault_full, fault_kind, played_ends, played_kind, tells_no_disk, tells_not_full}
@@ -24,7 +24,7 @@ returns-in-Ok-clause-plays g c =
       until = ran.ensures.until;
       crash = ran.ensures.crash;
       left = ran.ensures.left;
-      cause = λ tasks database stands have. tells_not_full c.tell.result c.tell.ensures.no_memory (FailsBy command_stands (works x.dialect tasks) x database failure_of c.args.steps.now ran.new.players.items (g.S.Store.state ran.new.store));
+      cause = λ tasks database stands have. tells_not_full c.tell.result c.tell.ensures.no_memory (FailsBy command_stands (works x.dialect tasks) x database as_failed c.args.steps.now ran.new.players.items (g.S.Store.state ran.new.store));
       serial = ran.ensures.serial;
       in_turn = ran.ensures.in_turn;
     }
@@ -47,7 +47,7 @@ returns-in-Err-clause-plays g c =
       until = ran.ensures.until;
       crash = ran.ensures.crash;
       left = ran.ensures.left;
-      cause = λ tasks database stands have. fault_full c.in-Err.fault c.drill_status.result c.drill_status.ensures (FailsBy command_stands (works x.dialect tasks) x database failure_of c.args.steps.now ran.new.players.items (g.S.Store.state ran.new.store)) (c.in-Err.ensures.cause tasks database stands have);
+      cause = λ tasks database stands have. fault_full c.in-Err.fault c.drill_status.result c.drill_status.ensures (FailsBy command_stands (works x.dialect tasks) x database as_failed c.args.steps.now ran.new.players.items (g.S.Store.state ran.new.store)) (c.in-Err.ensures.cause tasks database stands have);
       serial = ran.ensures.serial;
       in_turn = ran.ensures.in_turn;
     }

@@ -2,6 +2,7 @@ use Rattle.lq_commands.specs.Stamp.{stamp_of}
 use Rattle.lq_top.proofs.Results.{ok_map}
 use Rattle.lq_top.proofs.Ready.{is_ready}
 use Rattle.lq_top.proofs.SoakRuns.{did_so}
+use Rattle.lq_top.proofs.SoakStops.{ended_so, err_map}
 use Rattle.lq_top.proofs.soak.disk_after.Goals as goal
 
 pub on_loaded-requires-clause-ready : goal.on_loaded-requires-clause-ready
@@ -13,3 +14,9 @@ returns-in-Ok-clause-did g c =
     ok_map c.on_loaded.result _ _ c.on_loaded.ensures.did (λ after does.
     did_so soaker.dialect soaker.seed.number soaker.seed.sets (stamp_of soaker.who.now soaker.reading) c.args.command.now c.in_ok-given.given _ _ _ after.left.rows after.left.tables
     c.in_ok-given.ensures.given c.in_ok-given.ensures.made c.in-Ok.ensures.told does)
+
+pub returns-in-Ok-clause-ends : goal.returns-in-Ok-clause-ends
+returns-in-Ok-clause-ends g c =
+    let soaker = c.args.soaker in
+    err_map c.on_loaded.result _ _ c.on_loaded.ensures.ends (λ s ended.
+    ended_so soaker.dialect soaker.seed.number soaker.seed.sets (stamp_of soaker.who.now soaker.reading) c.args.command.now c.in_ok-given.given _ _ s c.in_ok-given.ensures.given c.in_ok-given.ensures.made c.in-Ok.ensures.told ended)

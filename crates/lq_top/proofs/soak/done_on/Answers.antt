@@ -4,6 +4,7 @@ use Rattle.lq_commands.specs.Scripts.{script}
 use Rattle.lq_top.proofs.RefusedKinds.{answers_ends}
 use Rattle.lq_top.proofs.SoakEnds.{fails_undone}
 use Rattle.lq_top.proofs.SoakRuns.{done_leaves}
+use Rattle.lq_top.proofs.SoakStops.{fails_so, run_stops}
 use Rattle.lq_top.proofs.Soaked.{done_lives, end_passes, refusal_passes}
 use Rattle.lq_top.proofs.soak.done_on.Goals as goal
 
@@ -32,3 +33,10 @@ pub returns-in-Err-clause-undone : goal.returns-in-Err-clause-undone
 returns-in-Err-clause-undone g c =
     let on = c.requires.ready in
     fails_undone c.args.command.now c.args.given on.database c.in-Err.status c.copy_status.result (c.in-Err.ensures.answers on.database on.has) c.copy_status.ensures
+
+pub returns-in-Ok-clause-ends : goal.returns-in-Ok-clause-ends
+returns-in-Ok-clause-ends g c =
+    run_stops c.args.given.options.dialect (g.S.Store.state c.args.store.now) c.args.command.now c.args.given c.in-Ok.done c.unless_done.result c.in-Ok.ensures.answers c.in-Ok.ensures.tells c.unless_done.ensures.stops
+
+pub returns-in-Err-clause-ends : goal.returns-in-Err-clause-ends
+returns-in-Err-clause-ends g c = fails_so c.args.given.options.dialect (g.S.Store.state c.args.store.now) c.args.command.now c.args.given c.in-Err.status c.copy_status.result c.in-Err.ensures.answers c.copy_status.ensures

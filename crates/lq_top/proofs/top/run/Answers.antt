@@ -8,13 +8,16 @@ use Rattle.lq_top.proofs.Alone.{takes_steps}
 use Rattle.lq_top.proofs.ClearedFile.{has_cleared}
 use Rattle.lq_top.proofs.DamagedFiles.{spares_damage}
 use Rattle.lq_top.proofs.DrillRuns.{ends_formless, runs_drill, settled_as}
-use Rattle.lq_top.proofs.Logged.{has_warned}
+use Rattle.lq_top.proofs.ForDialect.{asked_for}
+use Rattle.lq_top.proofs.Logged.{has_warned, has_warned_at_full, has_warned_at_full_in_part, has_warned_in_part}
 use Rattle.lq_top.proofs.OpensAgain.{crash_opens}
 use Rattle.lq_top.proofs.RehearsedFile.{has_rehearsed, is_rehearsed}
 use Rattle.lq_top.proofs.Resumed.{crash_marked, has_gone_on_back, has_mended, has_resumed, leaves_marked}
 use Rattle.lq_top.proofs.Said.{comes_again, has_said, said_in_part, succeeds}
 use Rattle.lq_top.proofs.SoakSays.{says_soak}
 use Rattle.lq_top.proofs.TakenBack.{has_taken_back}
+use Rattle.lq_top.proofs.SnapshotOpens.{crash_opens as snapshot_crash_opens}
+use Rattle.lq_top.proofs.SnapshotRuns.{crash_snapped, has_snapped, snapshot_safe}
 use Rattle.lq_top.proofs.UndoneOpens.{undone_crash_opens}
 use Rattle.lq_top.proofs.UndoneRuns.{crash_undone, has_undone, undone_safe}
 use Rattle.lq_top.proofs.Written.{IsWritten, cause, ends_in_vain, ends_unread, gone_back, had_missed, has_run, has_synced, has_updated, is_logged, is_logged_part, no_files_left, no_words, tag_so, tells_damage, was_over, written_fault}
@@ -90,7 +93,7 @@ pub returns-clause-any_moment : goal.returns-clause-any_moment
 returns-clause-any_moment g c = λ asks. c.work-disk.ensures.any_moment asks
 
 pub returns-clause-opens_at_crash : goal.returns-clause-opens_at_crash
-returns-clause-opens_at_crash g c = λ asks read bytes. crash_opens asks (stamp_of c.args.who.now (g.C.Clock.last c.work-disk.new.clock)) (g.D.Disk.told c.args.disk) read bytes
+returns-clause-opens_at_crash g c = λ asks bytes. crash_opens asks (stamp_of c.args.who.now (g.C.Clock.last c.work-disk.new.clock)) (g.D.Disk.told c.args.disk) (asked_for c.what_is_given_is_for_the_dialect.ensures asks) bytes
 
 pub returns-clause-safe : goal.returns-clause-safe
 returns-clause-safe g c =
@@ -129,7 +132,7 @@ pub returns-clause-says : goal.returns-clause-says
 returns-clause-says g c =
     let by : IsWritten c.work-disk.result.done c.tell-status.result = record { kind = c.work-disk.ensures.kind; ended = c.tell-status.ensures.status; cut = c.tell-status.ensures.cut; had = c.tell-status.ensures.had } in
     λ asks. has_said asks (stamp_of c.args.who.now (g.C.Clock.last c.work-disk.new.clock)) (g.D.Disk.told c.args.disk) (g.D.Disk.told c.work-disk.result.disk) c.work-disk.result.done c.tell-status.result
-    (g.O.Sink.told c.args.out.now) (g.O.Sink.told c.tell-status.new.out) by (c.work-disk.ensures.does asks) c.tell-status.ensures.whole
+    (g.O.Sink.told c.args.out.now) (g.O.Sink.told c.tell-status.new.out) by (c.work-disk.ensures.does asks) c.tell-status.ensures.whole c.tell-status.ensures.silent
 
 pub returns-clause-success : goal.returns-clause-success
 returns-clause-success g c =
@@ -139,7 +142,7 @@ returns-clause-success g c =
     let left = g.D.Disk.told c.work-disk.result.disk in
     λ back. succeeds back stamp c.tell-status.result left (g.O.Sink.told c.args.out.now) (g.O.Sink.told c.tell-status.new.out)
     (has_run stamp file c.work-disk.result.done left c.tell-status.result by back.asks (c.work-disk.ensures.does back.asks))
-    (has_said back.asks stamp file left c.work-disk.result.done c.tell-status.result (g.O.Sink.told c.args.out.now) (g.O.Sink.told c.tell-status.new.out) by (c.work-disk.ensures.does back.asks) c.tell-status.ensures.whole)
+    (has_said back.asks stamp file left c.work-disk.result.done c.tell-status.result (g.O.Sink.told c.args.out.now) (g.O.Sink.told c.tell-status.new.out) by (c.work-disk.ensures.does back.asks) c.tell-status.ensures.whole c.tell-status.ensures.silent)
 
 pub returns-clause-alone : goal.returns-clause-alone
 returns-clause-alone g c =
@@ -149,7 +152,7 @@ returns-clause-alone g c =
     let left = g.D.Disk.told c.work-disk.result.disk in
     λ asks. takes_steps asks stamp file c.tell-status.result left (g.O.Sink.told c.args.out.now) (g.O.Sink.told c.tell-status.new.out)
     (has_run stamp file c.work-disk.result.done left c.tell-status.result by asks (c.work-disk.ensures.does asks))
-    (has_said asks stamp file left c.work-disk.result.done c.tell-status.result (g.O.Sink.told c.args.out.now) (g.O.Sink.told c.tell-status.new.out) by (c.work-disk.ensures.does asks) c.tell-status.ensures.whole)
+    (has_said asks stamp file left c.work-disk.result.done c.tell-status.result (g.O.Sink.told c.args.out.now) (g.O.Sink.told c.tell-status.new.out) by (c.work-disk.ensures.does asks) c.tell-status.ensures.whole c.tell-status.ensures.silent)
 
 pub returns-clause-resumed_update : goal.returns-clause-resumed_update
 returns-clause-resumed_update g c =
@@ -159,7 +162,7 @@ returns-clause-resumed_update g c =
     let left = g.D.Disk.told c.work-disk.result.disk in
     λ asks. has_resumed asks stamp file c.work-disk.result.done c.tell-status.result left (g.O.Sink.told c.args.out.now) (g.O.Sink.told c.tell-status.new.out) by (c.work-disk.ensures.does asks)
     (has_run stamp file c.work-disk.result.done left c.tell-status.result by asks (c.work-disk.ensures.does asks))
-    (has_said asks stamp file left c.work-disk.result.done c.tell-status.result (g.O.Sink.told c.args.out.now) (g.O.Sink.told c.tell-status.new.out) by (c.work-disk.ensures.does asks) c.tell-status.ensures.whole)
+    (has_said asks stamp file left c.work-disk.result.done c.tell-status.result (g.O.Sink.told c.args.out.now) (g.O.Sink.told c.tell-status.new.out) by (c.work-disk.ensures.does asks) c.tell-status.ensures.whole c.tell-status.ensures.silent)
 
 pub returns-clause-resumed_rollback : goal.returns-clause-resumed_rollback
 returns-clause-resumed_rollback g c =
@@ -175,7 +178,7 @@ returns-clause-marked g c =
 
 pub returns-clause-marked_at_crash : goal.returns-clause-marked_at_crash
 returns-clause-marked_at_crash g c =
-    λ asks read bytes. crash_marked asks (stamp_of c.args.who.now (g.C.Clock.last c.work-disk.new.clock)) (g.D.Disk.told c.args.disk) read bytes
+    λ asks bytes. crash_marked asks (stamp_of c.args.who.now (g.C.Clock.last c.work-disk.new.clock)) (g.D.Disk.told c.args.disk) (asked_for c.what_is_given_is_for_the_dialect.ensures asks) bytes
 
 pub returns-clause-formless : goal.returns-clause-formless
 returns-clause-formless g c =
@@ -227,7 +230,7 @@ returns-clause-rehearsed g c =
     let left = g.D.Disk.told c.work-disk.result.disk in
     λ it. is_rehearsed stamp file c.work-disk.result.done left c.tell-status.result by it (c.work-disk.ensures.does it.asks) (g.O.Sink.told c.args.out.now) (g.O.Sink.told c.tell-status.new.out)
     (has_run stamp file c.work-disk.result.done left c.tell-status.result by it.asks (c.work-disk.ensures.does it.asks))
-    (has_said it.asks stamp file left c.work-disk.result.done c.tell-status.result (g.O.Sink.told c.args.out.now) (g.O.Sink.told c.tell-status.new.out) by (c.work-disk.ensures.does it.asks) c.tell-status.ensures.whole)
+    (has_said it.asks stamp file left c.work-disk.result.done c.tell-status.result (g.O.Sink.told c.args.out.now) (g.O.Sink.told c.tell-status.new.out) by (c.work-disk.ensures.does it.asks) c.tell-status.ensures.whole c.tell-status.ensures.silent)
 
 pub returns-clause-rehearsal : goal.returns-clause-rehearsal
 returns-clause-rehearsal g c =
@@ -254,6 +257,22 @@ returns-clause-undone_safe g c =
 pub returns-clause-undone_opens : goal.returns-clause-undone_opens
 returns-clause-undone_opens g c = λ asks bytes. undone_crash_opens asks (g.D.Disk.told c.args.disk) bytes
 
+pub returns-clause-snapshots : goal.returns-clause-snapshots
+returns-clause-snapshots g c =
+    let by : IsWritten c.work-disk.result.done c.tell-status.result = record { kind = c.work-disk.ensures.kind; ended = c.tell-status.ensures.status; cut = c.tell-status.ensures.cut; had = c.tell-status.ensures.had } in
+    λ asks. has_snapped g.D.Disk.told g.D.Disk.faults g.D.Disk.crashes asks c.args.disk c.work-disk.result.done c.work-disk.result.disk (c.work-disk.ensures.snapped asks) c.tell-status.result by (g.O.Sink.told c.args.out.now) (g.O.Sink.told c.tell-status.new.out) c.tell-status.ensures.whole c.tell-status.ensures.part
+
+pub returns-clause-snapshot_at_crash : goal.returns-clause-snapshot_at_crash
+returns-clause-snapshot_at_crash g c = λ asks. crash_snapped g.D.Disk.told g.D.Disk.faults g.D.Disk.crashes asks c.args.disk c.work-disk.result.done c.work-disk.result.disk (c.work-disk.ensures.snapped asks) (g.met.D.Disk.sound c.args.disk)
+
+pub returns-clause-snapshot_safe : goal.returns-clause-snapshot_safe
+returns-clause-snapshot_safe g c =
+    let by : IsWritten c.work-disk.result.done c.tell-status.result = record { kind = c.work-disk.ensures.kind; ended = c.tell-status.ensures.status; cut = c.tell-status.ensures.cut; had = c.tell-status.ensures.had } in
+    λ asks. snapshot_safe g.D.Disk.told g.D.Disk.faults g.D.Disk.crashes asks c.args.disk c.work-disk.result.done c.work-disk.result.disk (c.work-disk.ensures.snapped asks) c.tell-status.result by
+
+pub returns-clause-snapshot_opens : goal.returns-clause-snapshot_opens
+returns-clause-snapshot_opens g c = λ asks bytes. snapshot_crash_opens asks (g.D.Disk.told c.args.disk) bytes
+
 pub returns-clause-taken_back : goal.returns-clause-taken_back
 returns-clause-taken_back g c =
     let by : IsWritten c.work-disk.result.done c.tell-status.result = record { kind = c.work-disk.ensures.kind; ended = c.tell-status.ensures.status; cut = c.tell-status.ensures.cut; had = c.tell-status.ensures.had } in
@@ -268,4 +287,25 @@ returns-clause-mended g c =
     let left = g.D.Disk.told c.work-disk.result.disk in
     λ asks. has_mended asks stamp file c.work-disk.result.done c.tell-status.result left c.undo_mends.ensures (g.O.Sink.told c.args.out.now) (g.O.Sink.told c.tell-status.new.out) by (c.work-disk.ensures.does asks)
     (has_run stamp file c.work-disk.result.done left c.tell-status.result by asks (c.work-disk.ensures.does asks))
-    (has_said asks stamp file left c.work-disk.result.done c.tell-status.result (g.O.Sink.told c.args.out.now) (g.O.Sink.told c.tell-status.new.out) by (c.work-disk.ensures.does asks) c.tell-status.ensures.whole)
+    (has_said asks stamp file left c.work-disk.result.done c.tell-status.result (g.O.Sink.told c.args.out.now) (g.O.Sink.told c.tell-status.new.out) by (c.work-disk.ensures.does asks) c.tell-status.ensures.whole c.tell-status.ensures.silent)
+
+pub returns-clause-warns_part : goal.returns-clause-warns_part
+returns-clause-warns_part g c =
+    let by : IsWritten c.work-disk.result.done c.tell-status.result = record { kind = c.work-disk.ensures.kind; ended = c.tell-status.ensures.status; cut = c.tell-status.ensures.cut; had = c.tell-status.ensures.had } in
+    λ asks. has_warned_in_part asks (stamp_of c.args.who.now (g.C.Clock.last c.work-disk.new.clock)) (g.D.Disk.told c.args.disk) (g.D.Disk.told c.work-disk.result.disk) c.work-disk.result.done c.tell-status.result
+    (option_copied c.text_of.result) (g.L.Sink.told c.args.log.now) (g.L.Sink.told c.tell-status.new.log) by (c.work-disk.ensures.does asks)
+    (tag_so (option_copied c.text_of.result) c.work-disk.result.tag _ c.text_of.ensures c.work-disk.ensures.tag) c.tell-status.ensures.log_part
+
+pub returns-clause-warns_at_full : goal.returns-clause-warns_at_full
+returns-clause-warns_at_full g c =
+    let by : IsWritten c.work-disk.result.done c.tell-status.result = record { kind = c.work-disk.ensures.kind; ended = c.tell-status.ensures.status; cut = c.tell-status.ensures.cut; had = c.tell-status.ensures.had } in
+    λ asks sound. has_warned_at_full asks (stamp_of c.args.who.now (g.C.Clock.last c.work-disk.new.clock)) (g.D.Disk.told c.args.disk) (g.D.Disk.told c.work-disk.result.disk) c.work-disk.result.done c.tell-status.result
+    (option_copied c.text_of.result) (g.L.Sink.told c.args.log.now) (g.L.Sink.told c.tell-status.new.log) by (c.work-disk.ensures.does asks)
+    (tag_so (option_copied c.text_of.result) c.work-disk.result.tag _ c.text_of.ensures c.work-disk.ensures.tag) (c.tell-status.ensures.logged sound)
+
+pub returns-clause-warns_at_full_part : goal.returns-clause-warns_at_full_part
+returns-clause-warns_at_full_part g c =
+    let by : IsWritten c.work-disk.result.done c.tell-status.result = record { kind = c.work-disk.ensures.kind; ended = c.tell-status.ensures.status; cut = c.tell-status.ensures.cut; had = c.tell-status.ensures.had } in
+    λ asks. has_warned_at_full_in_part asks (stamp_of c.args.who.now (g.C.Clock.last c.work-disk.new.clock)) (g.D.Disk.told c.args.disk) (g.D.Disk.told c.work-disk.result.disk) c.work-disk.result.done c.tell-status.result
+    (option_copied c.text_of.result) (g.L.Sink.told c.args.log.now) (g.L.Sink.told c.tell-status.new.log) by (c.work-disk.ensures.does asks)
+    (tag_so (option_copied c.text_of.result) c.work-disk.result.tag _ c.text_of.ensures c.work-disk.ensures.tag) c.tell-status.ensures.log_part

@@ -2,9 +2,11 @@ use Rattle.std.proofs.Common.{refl, subst, sym}
 use Rattle.std.specs.Prelude.{Err}
 use Rattle.lq_cli.specs.declared.line.Job.TheVariants.{UndoUnrecorded}
 use Rattle.lq_db.specs.Db.{disk_in, engine_in}
+use Rattle.lq_store.specs.Executor.{kept}
 use Rattle.lq_tell.specs.declared.status.Status.TheVariants as status
 use Rattle.lq_top.proofs.OnDatabases.{memory_worked}
-use Rattle.lq_top.proofs.UndoneOn.{loaded_kind, loaded_undone, loaded_used, undo_worked}
+use Rattle.lq_top.proofs.UndoneOn.{loaded_kind, loaded_tells, loaded_undone, undo_worked}
+use Rattle.lq_top.proofs.UsedDisks.{loaded_used}
 use Rattle.lq_top.proofs.undoing.undo_in.Goals as goal
 use Rattle.lq_top.specs.Bytes.{given_at}
 use Rattle.lq_top.specs.Worked.{WorkedOn}
@@ -25,7 +27,9 @@ returns-in-Ok g c =
           let k = g.E.Executor.held (engine_in left) in
           subst (λ after. WorkedOn g.D.Disk.told g.D.Disk.faults g.D.Disk.crashes UndoUnrecorded (given_at asked stamp) (disk_in db) ran.result after) (sym c.into_disk.ensures)
           (undo_worked g.D.Disk.told g.D.Disk.faults g.D.Disk.crashes (given_at asked stamp) (disk_in db) ran.result (disk_in left)
-          (loaded_used g.D.Disk.told g.D.Disk.faults g.D.Disk.crashes g.P.SqlText.dialect h k db left c.requires.valid ran.ensures.valid asked.options asked.changelog c.requires.new c.requires.ready c.requires.catalogue ran.result did.answers ran.ensures.later ran.ensures.disk)
+          (loaded_used g.D.Disk.told g.D.Disk.faults g.D.Disk.crashes UndoUnrecorded refl asked.options.dialect refl (disk_in db) (disk_in left) (kept h) c.requires.catalogue ran.result
+          (loaded_tells g.D.Disk.told g.D.Disk.faults g.D.Disk.crashes g.P.SqlText.dialect h k db left c.requires.valid ran.ensures.valid asked.options asked.changelog c.requires.new c.requires.ready c.requires.catalogue ran.result did.answers)
+          ran.ensures.later ran.ensures.disk)
           (loaded_kind g.D.Disk.told g.D.Disk.faults g.D.Disk.crashes g.P.SqlText.dialect h k db left c.requires.valid ran.ensures.valid asked.options asked.changelog c.requires.new c.requires.ready c.requires.catalogue ran.result did.answers)
           (loaded_undone g.D.Disk.told g.D.Disk.faults g.D.Disk.crashes g.P.SqlText.dialect h k db left c.requires.valid ran.ensures.valid asked.options asked.changelog c.requires.new c.requires.ready c.requires.catalogue
           c.in-Ok.last c.in-Ok.ensures ran.result did.answers did.refused did.works did.any_moment did.tells));

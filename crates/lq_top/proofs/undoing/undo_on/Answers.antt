@@ -1,6 +1,7 @@
 use Rattle.lq_db.specs.Db.{disk_in}
 use Rattle.lq_top.proofs.Ready.{is_ready, still_read}
-use Rattle.lq_top.proofs.UndoneOn.{fault_kind_is, fault_undone, fault_used, undo_worked, undone_after, used_after}
+use Rattle.lq_top.proofs.UndoneOn.{fault_kind_is, fault_undone, undo_worked, undone_after}
+use Rattle.lq_top.proofs.UsedDisks.{fault_used, used_after}
 use Rattle.lq_top.proofs.undoing.undo_on.Goals as goal
 use Rattle.lq_top.specs.Bytes.{given_at}
 use Rattle.std.proofs.Common.{refl}
@@ -26,9 +27,9 @@ returns-in-Ok g c =
           let asked = c.args.asked in
           let did = ran.ensures.worked stamp in
           undo_worked g.D.Disk.told g.D.Disk.faults g.D.Disk.crashes (given_at asked stamp) c.args.disk ran.result.done ran.result.disk
-          (used_after g.D.Disk.told g.D.Disk.faults g.D.Disk.crashes asked.options asked.changelog c.args.disk (g.met.D.Disk.sound c.args.disk) (disk_in c.in-Ok.db) loaded.told loaded.later loaded.any_moment ran.result.done ran.result.disk did.used)
+          (used_after g.D.Disk.told g.D.Disk.faults g.D.Disk.crashes UndoUnrecorded refl asked.options.dialect c.args.disk (disk_in c.in-Ok.db) loaded.told loaded.later ran.result.done ran.result.disk did.used)
           did.kind
-          (undone_after g.D.Disk.told g.D.Disk.faults g.D.Disk.crashes asked.options asked.changelog c.args.disk (g.met.D.Disk.sound c.args.disk) (disk_in c.in-Ok.db) loaded.told loaded.later loaded.any_moment ran.result.done ran.result.disk (did.undone refl));
+          (undone_after g.D.Disk.told g.D.Disk.faults g.D.Disk.crashes asked.options asked.changelog c.args.disk (g.met.D.Disk.sound c.args.disk) (disk_in c.in-Ok.db) loaded.told loaded.any_moment ran.result.done ran.result.disk (did.undone refl));
     }
 
 pub returns-in-Err : goal.returns-in-Err
@@ -39,7 +40,7 @@ returns-in-Err g c =
           let asked = c.args.asked in
           let sound = g.met.D.Disk.sound c.args.disk in
           undo_worked g.D.Disk.told g.D.Disk.faults g.D.Disk.crashes (given_at asked stamp) c.args.disk _ failed.refused.disk
-          (fault_used g.D.Disk.told g.D.Disk.faults g.D.Disk.crashes asked.options asked.changelog c.args.disk sound failed.refused.disk failed.ensures.told failed.ensures.later failed.ensures.any_moment failed.refused.fault c.load_status.result c.load_status.ensures failed.ensures.fault)
-          (fault_kind_is g.D.Disk.told g.D.Disk.faults g.D.Disk.crashes asked.options asked.changelog c.args.disk sound failed.refused.disk failed.ensures.told failed.ensures.later failed.ensures.any_moment failed.refused.fault c.load_status.result c.load_status.ensures failed.ensures.fault)
-          (fault_undone g.D.Disk.told g.D.Disk.faults g.D.Disk.crashes asked.options asked.changelog c.args.disk sound failed.refused.disk failed.ensures.told failed.ensures.later failed.ensures.any_moment failed.refused.fault c.load_status.result c.load_status.ensures failed.ensures.fault);
+          (fault_used g.D.Disk.told g.D.Disk.faults g.D.Disk.crashes UndoUnrecorded refl asked.options.dialect c.args.disk failed.refused.disk failed.ensures.told failed.ensures.later failed.refused.fault c.load_status.result c.load_status.ensures failed.ensures.fault)
+          (fault_kind_is g.D.Disk.told g.D.Disk.faults g.D.Disk.crashes asked.options asked.changelog c.args.disk sound failed.refused.disk failed.ensures.told failed.ensures.any_moment failed.refused.fault c.load_status.result c.load_status.ensures failed.ensures.fault)
+          (fault_undone g.D.Disk.told g.D.Disk.faults g.D.Disk.crashes asked.options asked.changelog c.args.disk sound failed.refused.disk failed.ensures.told failed.ensures.any_moment failed.refused.fault c.load_status.result c.load_status.ensures failed.ensures.fault);
     }

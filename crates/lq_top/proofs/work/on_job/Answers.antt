@@ -45,6 +45,19 @@ returns-in-UndoUnrecorded-clause-once g c = inl refl
 pub returns-in-UndoUnrecorded-clause-soaks : goal.returns-in-UndoUnrecorded-clause-soaks
 returns-in-UndoUnrecorded-clause-soaks g c = no_soak c.args.job.now c.args.asked.options.dialect (stamp_of c.args.who.now (g.C.Clock.last c.args.clock.now)) c.undo_on.result.done (ap is_apart c.in-UndoUnrecorded.is)
 
+pub returns-in-Snapshot-clause-worked : goal.returns-in-Snapshot-clause-worked
+returns-in-Snapshot-clause-worked g c =
+    let ran = c.snapshot_on in
+    let given = given_at c.args.asked (stamp_of c.args.who.now (g.C.Clock.last c.args.clock.now)) in
+    subst (λ job. WorkedOn g.D.Disk.told g.D.Disk.faults g.D.Disk.crashes job given c.args.disk ran.result.done ran.result.disk)
+    (sym c.in-Snapshot.is) (ran.ensures.worked given refl)
+
+pub returns-in-Snapshot-clause-once : goal.returns-in-Snapshot-clause-once
+returns-in-Snapshot-clause-once g c = inl refl
+
+pub returns-in-Snapshot-clause-soaks : goal.returns-in-Snapshot-clause-soaks
+returns-in-Snapshot-clause-soaks g c = no_soak c.args.job.now c.args.asked.options.dialect (stamp_of c.args.who.now (g.C.Clock.last c.args.clock.now)) c.snapshot_on.result.done (ap is_apart c.in-Snapshot.is)
+
 -- a soak has a database of its own
 
 pub returns-in-Soak-clause-worked : goal.returns-in-Soak-clause-worked

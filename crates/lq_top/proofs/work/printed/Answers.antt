@@ -1,13 +1,14 @@
 use Rattle.lq_commands.specs.Stamp.{stamp_of}
 use Rattle.lq_top.proofs.DamagedFiles.{spares_by}
 use Rattle.lq_top.proofs.InPart.{no_goal}
-use Rattle.lq_top.proofs.LeftOnFile.{since_read}
+use Rattle.lq_top.proofs.LeftOnFile.{read_since}
+use Rattle.lq_top.proofs.SnappedOn.{prints_no_snapshot}
 use Rattle.lq_top.proofs.Unchanged.{printed_does, prints_no_command, prints_no_goal, prints_on_file}
 use Rattle.lq_top.proofs.UndoneOn.{prints_no_undo}
 use Rattle.lq_top.proofs.work.printed.Goals as goal
 use Rattle.lq_top.specs.Bytes.{given_at}
 use Rattle.lq_top.specs.Copies.{job_of}
-use Rattle.lq_top.specs.Jobs.{job_script}
+use Rattle.lq_top.specs.Jobs.{JobLeaves}
 
 pub returns-clause-worked : goal.returns-clause-worked
 returns-clause-worked g c =
@@ -28,6 +29,7 @@ returns-clause-worked g c =
       does = λ on database opens.
           printed_does c.args.printing given database told ran.result (g.D.Disk.told ran.new.disk) opens (ran.ensures.answers database opens) (ran.ensures.tells database opens) ran.ensures.room ran.ensures.told;
       any_moment = λ on database opens.
-          since_read given.options.dialect (job_script (job_of c.args.printing) given database) database told (g.D.Disk.crashes c.args.disk) (g.met.D.Disk.sound c.args.disk) (g.D.Disk.crashes ran.new.disk) ran.ensures.any_moment;
+          read_since given.options.dialect (JobLeaves (job_of c.args.printing) given database told) told (g.D.Disk.crashes c.args.disk) (g.met.D.Disk.sound c.args.disk) (g.D.Disk.crashes ran.new.disk) ran.ensures.any_moment;
       undone = λ is. prints_no_undo c.args.printing is;
+      snapped = λ is. prints_no_snapshot c.args.printing is;
     }

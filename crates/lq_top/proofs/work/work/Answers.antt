@@ -1,6 +1,6 @@
 use Rattle.std.proofs.Common.{ap, inl, inr, refl, subst, sym, ◌∙◌}
 use Rattle.std.specs.Prelude.{Err, List, None, Ok, Result, Some, [], false, map, string_bytes, true, ℕ, ◌≡◌}
-use Rattle.lq_cli.specs.declared.line.Job.TheVariants.{Drill, UndoUnrecorded}
+use Rattle.lq_cli.specs.declared.line.Job.TheVariants.{Drill, Snapshot, UndoUnrecorded}
 use Rattle.lq_cli.specs.declared.line.Line.{Line}
 use Rattle.lq_commands.specs.Parts.{part_for}
 use Rattle.lq_commands.specs.Stamp.{stamp_of}
@@ -21,6 +21,7 @@ use Rattle.lq_top.proofs.Loading.{false_true, is_failed, is_usage, line_does, li
 use Rattle.lq_top.proofs.Readings.{at_most_once, unread}
 use Rattle.lq_top.proofs.ShortTag.{short_tag}
 use Rattle.lq_top.proofs.SoakSays.{refused_tells}
+use Rattle.lq_top.proofs.SnapshotRuns.{drill_no_snapshot}
 use Rattle.lq_top.proofs.UndoneRuns.{drill_not_undo}
 use Rattle.lq_top.proofs.work.work.Goals as goal
 use Rattle.lq_top.specs.Asks.{HasNoPart, asked_tag, asks_drill, given_to}
@@ -28,7 +29,7 @@ use Rattle.lq_top.specs.Bytes.{IsDamagedAt, TellsDamage}
 use Rattle.lq_top.specs.Drilled.{DoesDrill, IsFormless, IsSettled}
 use Rattle.lq_top.specs.Drills.{drill_of}
 use Rattle.lq_top.specs.Jobs.{goes_on, is_apart, is_on_file, is_own}
-use Rattle.lq_top.specs.Worked.{InVain, Spares, UndoneBy, has_missed}
+use Rattle.lq_top.specs.Worked.{InVain, SnappedBy, Spares, UndoneBy, has_missed}
 use Rattle.lq_top.specs.Soaked.{TellsSoakOf}
 use Rattle.lq_top.specs.declared.drilling.Drilling.{Drilling}
 
@@ -111,6 +112,17 @@ returns-in-Err-Usage-clause-undone g c = λ asks. no_line (map (λ word. string_
 
 pub returns-in-Err-OutOfMemory-clause-undone : goal.returns-in-Err-OutOfMemory-clause-undone
 returns-in-Err-OutOfMemory-clause-undone g c = λ asks is. inl (inr c.refused-in-Err-OutOfMemory.ensures.done, c.refused-in-Err-OutOfMemory.ensures.disk)
+
+pub returns-in-Ok-clause-snapped : goal.returns-in-Ok-clause-snapped
+returns-in-Ok-clause-snapped g c = λ asks. of_line_is (map (λ word. string_bytes word) c.args.words.now) (g.F.Files.told c.args.files.now) c.in-Ok.line c.in-Ok.ensures.line
+    (λ (l : Line). (source : Source) (whole part : Changelog) → IsTold (g.F.Files.told c.args.files.now) source → given_to source l ≡ Ok whole → part_for l.job whole ≡ Some part → l.job ≡ Snapshot → SnappedBy g.D.Disk.told g.D.Disk.faults g.D.Disk.crashes l.options.dialect c.args.disk c.on_line.result.done c.on_line.result.disk)
+    (by_job c.in-Ok.line.job (λ no. (c.on_line.ensures.worked no).snapped) (λ runs drill source whole part told gives is_part is. absurd (drill_no_snapshot (sym drill ∙ is)))) asks.line asks.is_line asks.source asks.whole asks.changelog asks.told asks.gives asks.is_part
+
+pub returns-in-Err-Usage-clause-snapped : goal.returns-in-Err-Usage-clause-snapped
+returns-in-Err-Usage-clause-snapped g c = λ asks. no_line (map (λ word. string_bytes word) c.args.words.now) asks.line (c.in-Err-Usage.ensures.usage c.in-Err-Usage.field-0-is) asks.is_line
+
+pub returns-in-Err-OutOfMemory-clause-snapped : goal.returns-in-Err-OutOfMemory-clause-snapped
+returns-in-Err-OutOfMemory-clause-snapped g c = λ asks is. inl (inr c.refused-in-Err-OutOfMemory.ensures.done, c.refused-in-Err-OutOfMemory.ensures.disk)
 
 pub returns-in-Err-Usage-clause-missed : goal.returns-in-Err-Usage-clause-missed
 returns-in-Err-Usage-clause-missed g c = λ line is_line. no_line (map (λ word. string_bytes word) c.args.words.now) line (c.in-Err-Usage.ensures.usage c.in-Err-Usage.field-0-is) is_line

@@ -2,6 +2,7 @@ use Rattle.std.proofs.Common.{rules, arith, sym, ◌≡◌, length, Some, None, 
 use Rattle.lq_yaml.specs.DeepView.{state_of, shown_lines}
 use Rattle.lq_yaml.specs.Machine.{finish}
 use Rattle.lq_yaml.specs.Yaml.{text_tree}
+use Rattle.lq_yaml.proofs.Dashes.{high, low}
 use Rattle.lq_yaml.proofs.Files.{begun_tree, deeper, ended, stepped, stuck}
 use Rattle.lq_yaml.proofs.reading.read_lines.Goals as goal
 
@@ -11,7 +12,7 @@ loop-i-init c = begun_tree c.args.lines.now _ (search rules)
 pub loop-i-preserved : goal.loop-i-preserved
 loop-i-preserved c =
     let took = rw c.if-not-branch.false at c.in_ok-take_line.ensures in
-    stepped c.args.lines.now c.loop-i.i _ _ _ (text_tree (shown_lines c.args.lines.now)) c.loop-i-test.true c.loop-i.invariant took (omega arith)
+    stepped c.args.lines.now c.loop-i.i _ _ _ (text_tree (shown_lines c.args.lines.now)) c.loop-i-test.true c.loop-i.invariant (low _ _ took (omega arith)) (omega arith)
 
 pub returns-then-not-branch : goal.returns-then-not-branch
 returns-then-not-branch c =
@@ -21,7 +22,8 @@ returns-then-not-branch c =
 pub returns-then-reader-gt64 : goal.returns-then-reader-gt64
 returns-then-reader-gt64 c =
     let took = rw c.if-not-branch.false at c.in_ok-take_line.ensures in
-    inr (sym (deeper c.args.lines.now c.loop-i.i _ _ _ (text_tree (shown_lines c.args.lines.now)) c.loop-i-test.true c.loop-i.invariant took c.if-reader-gt64.true))
+    let deep = high _ _ took c.if-reader-gt64.true in
+    inr (sym (deeper c.args.lines.now c.loop-i.i _ _ deep.0 (text_tree (shown_lines c.args.lines.now)) c.loop-i-test.true c.loop-i.invariant deep.1 deep.2))
 
 pub returns-in-Some : goal.returns-in-Some
 returns-in-Some c =

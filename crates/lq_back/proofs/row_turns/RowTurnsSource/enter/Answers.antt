@@ -3,7 +3,7 @@ use Rattle.std.specs.List.{list_all}
 use Rattle.lq_base.specs.declared.dialect.Dialect.{Dialect}
 use Rattle.lq_model.specs.Statement.{is_statement}
 use Rattle.lq_seen.proofs.Leading.{not_grown}
-use Rattle.lq_back.proofs.RowEntered.{none_left, row_entered, row_written, statements_read, turn_read}
+use Rattle.lq_back.proofs.RowEntered.{none_left, row_entered, row_lacks, row_written, statements_read, turn_read}
 use Rattle.lq_back.proofs.row_turns.RowTurnsSource.enter.Goals as goal
 use Rattle.lq_back.specs.RowTurns.{printed}
 
@@ -36,3 +36,11 @@ pub returns-in_default-clause-enters : goal.returns-in_default-clause-enters
 returns-in_default-clause-enters g c =
     let none : c.args.self.now.turns ≡ [] = search rules in
     none_left c.args.dialect c.args.stamp.now (g.K.Look.catalogue c.args._look.now) c.args.self.now (record (c.args.self.now) { turns = c.pop.new.self }) none refl
+
+pub returns-in_default-tell-clause-enters : goal.returns-in_default-tell-clause-enters
+returns-in_default-tell-clause-enters g c =
+    row_lacks c.args.dialect c.args.stamp.now (g.K.Look.catalogue c.args._look.now) c.args.self.now (record (c.args.self.now) { turns = c.pop.new.self; outcome = c.tell.new.outcome }) c.tell.ensures.warned
+
+pub returns-in-Err-clause-enters : goal.returns-in-Err-clause-enters
+returns-in-Err-clause-enters g c =
+    row_lacks c.args.dialect c.args.stamp.now (g.K.Look.catalogue c.args._look.now) c.args.self.now (record (c.args.self.now) { turns = c.pop.new.self; outcome = c.tell.new.outcome }) c.tell.ensures.warned

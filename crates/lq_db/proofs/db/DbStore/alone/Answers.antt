@@ -1,6 +1,7 @@
 use Rattle.std.proofs.Common.{◌∙◌, ap, None}
 use Rattle.lq_db.specs.Alone.{ended_by}
 use Rattle.lq_store.specs.Executor.{kept}
+use Rattle.lq_store.specs.Journal.{of_texts}
 use Rattle.lq_store.specs.Work.{outcome_all, work_in}
 use Rattle.lq_db.proofs.AloneLeft.{done_held}
 use Rattle.lq_db.proofs.Lasts.{renewed_last}
@@ -18,7 +19,7 @@ returns-in-Ran-clause-valid g c =
         whole = c.in-Ok-append_all.ensures.whole;
         sql_is = is.sql_is;
         journal_is = journal;
-        is_held = rw c.forget.ensures (done_held _ (ended_by c.in-Ok.prepared.ended 0) (outcome_all c.args.self.now.dialect c.args.texts.now (work_in None (kept (g.E.Executor.held c.args.self.now.engine)))) (g.E.Executor.held c.args.self.now.engine) (g.E.Executor.held c.prepare.new.engine) c.in-Ok.prepared.entries _ _ _ c.in-Ok.prepared.lock _ c.in_default.is meant.0 meant.2 (rw c.as_slice.ensures at (ap (λ l. l.entries) log)) is.is_held);
+        is_held = rw c.forget.ensures (done_held _ (ended_by c.in-Ok.prepared.ended 0) (outcome_all c.args.self.now.dialect c.args.texts.now (work_in None (kept (g.E.Executor.held c.args.self.now.engine)))) (g.E.Executor.held c.args.self.now.engine) (g.E.Executor.held c.prepare.new.engine) (of_texts c.in-Ok.prepared.entries) _ _ _ c.in-Ok.prepared.lock _ c.in_default.is meant.0 meant.2 (rw c.as_slice.ensures at (ap (λ l. l.entries) log)) is.is_held);
         last_is = renewed_last _ _ c.in-Ok.prepared.entries _ c.in-Ok.prepared.last _ _ c.in_default.is meant.3 (rw c.as_slice.ensures at (ap (λ l. l.entries) log)) c.renew.ensures is.last_is;
       };
     }
@@ -35,7 +36,7 @@ returns-in-Ok-append_all-clause-valid g c =
         whole = c.in-Ok-append_all.ensures.whole;
         sql_is = is.sql_is;
         journal_is = journal;
-        is_held = rw c.forget.ensures (done_held _ (ended_by c.in-Ok.prepared.ended 0) (outcome_all c.args.self.now.dialect c.args.texts.now (work_in None (kept (g.E.Executor.held c.args.self.now.engine)))) (g.E.Executor.held c.args.self.now.engine) (g.E.Executor.held c.prepare.new.engine) c.in-Ok.prepared.entries _ _ _ c.in-Ok.prepared.lock _ c.in_default.is meant.0 meant.2 (rw c.as_slice.ensures at (ap (λ l. l.entries) log)) is.is_held);
+        is_held = rw c.forget.ensures (done_held _ (ended_by c.in-Ok.prepared.ended 0) (outcome_all c.args.self.now.dialect c.args.texts.now (work_in None (kept (g.E.Executor.held c.args.self.now.engine)))) (g.E.Executor.held c.args.self.now.engine) (g.E.Executor.held c.prepare.new.engine) (of_texts c.in-Ok.prepared.entries) _ _ _ c.in-Ok.prepared.lock _ c.in_default.is meant.0 meant.2 (rw c.as_slice.ensures at (ap (λ l. l.entries) log)) is.is_held);
         last_is = renewed_last _ _ c.in-Ok.prepared.entries _ c.in-Ok.prepared.last _ _ c.in_default.is meant.3 (rw c.as_slice.ensures at (ap (λ l. l.entries) log)) c.renew.ensures is.last_is;
       };
     }

@@ -74,3 +74,6 @@ returns-in-Err-NotSql-clause-crash g c = stood _ _ _ _ _ _ _ (g.met.D.Disk.sound
 
 pub returns-in_default-clause-crash : goal.returns-in_default-clause-crash
 returns-in_default-clause-crash g c = stood _ _ _ _ _ _ _ (g.met.D.Disk.sound _) (c.requires.valid.lives c.requires.live).whole.settled refl refl
+
+pub returns-in-Err-OutOfMemory-clause-crash : goal.returns-in-Err-OutOfMemory-clause-crash
+returns-in-Err-OutOfMemory-clause-crash g c = stood _ _ _ _ _ _ _ (g.met.D.Disk.sound _) (c.requires.valid.lives c.requires.live).whole.settled refl refl

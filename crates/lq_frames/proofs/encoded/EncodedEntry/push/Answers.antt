@@ -1,5 +1,6 @@
 use Rattle.std.proofs.Common.{rules, ◌≡◌, ◌∙◌, ap, arith, [], ◌∷◌, ◌++◌, length, drop}
 use Rattle.std.proofs.lemmas.Str.{is_utf8-from_IsUtf8}
+use Rattle.lq_frames.specs.declared.entry.Body.TheVariants.{Texts}
 use Rattle.lq_frames.specs.Body.{entry_of}
 use Rattle.lq_frames.specs.Entry.{texts_by}
 use Rattle.lq_frames.proofs.Texts.{entry_of-length, pushed}
@@ -8,8 +9,8 @@ use Rattle.lq_frames.proofs.encoded.EncodedEntry.push.Goals as goal
 pub put_text-requires-clause-some : goal.put_text-requires-clause-some
 put_text-requires-clause-some c =
     let texts = texts_by c.self.inside.lens.items (drop 5 c.self.inside.bytes.items) in
-    let is : c.reserve.new.self.items ≡ entry_of texts = c.reserve.ensures.items ∙ c.self.invariant.is in
-    omega (arith, ap length is, entry_of-length texts)
+    let is : c.reserve.new.self.items ≡ entry_of (Texts texts) = c.reserve.ensures.items ∙ c.self.invariant.is in
+    omega (arith, ap length is, entry_of-length (Texts texts))
 
 pub invariant_of-self-2 : goal.invariant_of-self-2
 invariant_of-self-2 c =

@@ -1,4 +1,4 @@
-use Rattle.lq_players.proofs.UpdateMakes.{enters_so, turns_for}
+use Rattle.lq_players.proofs.UpdateMakes.{enters_none, enters_so, turns_for}
 use Rattle.lq_players.proofs.updating.UpdatingSource.enter.Goals as goal
 
 pub enter-requires-clause-reads : goal.enter-requires-clause-reads
@@ -9,3 +9,6 @@ returns-in-Some-clause-enters g c = enters_so c.args.dialect c.args.stamp.now c.
 
 pub returns-in-Some-clause-reads : goal.returns-in-Some-clause-reads
 returns-in-Some-clause-reads g c = record { asked = c.requires.reads.asked; turns = c.enter.ensures.reads }
+
+pub returns-in-None-clause-enters : goal.returns-in-None-clause-enters
+returns-in-None-clause-enters g c = enters_none c.args.dialect c.args.stamp.now c.args.self.now.turns c.in-None.is (g.K.Look.catalogue c.args.look.now)

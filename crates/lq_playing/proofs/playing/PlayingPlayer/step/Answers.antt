@@ -1,4 +1,9 @@
+use Rattle.lq_playing.proofs.Told.{none_came}
+use Rattle.lq_playing.specs.Came.{came}
 use Rattle.lq_playing.proofs.playing.PlayingPlayer.step.Goals as goal
+
+pub play-requires-clause-going : goal.play-requires-clause-going
+play-requires-clause-going g c = none_came (came (g.T.Checks.reports c.args.self.now.runner.source)) c.args.self.now.answer c.requires.going
 
 pub returns-clause-live : goal.returns-clause-live
 returns-clause-live g c = c.play.ensures.took.live

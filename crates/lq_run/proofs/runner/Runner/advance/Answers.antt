@@ -1,4 +1,9 @@
-use Rattle.std.proofs.Common.{ap, subst, sym, ◌∙◌}
+use Rattle.lq_hand.specs.Way.{IsUnderWay}
+use Rattle.lq_hand.specs.declared.hand.Hand.{Hand}
+use Rattle.lq_model.specs.declared.fault.StoreFault.TheVariants as fault
+use Rattle.lq_run.proofs.UnderWay.{stays_failed, stays_lacked, stays_on}
+use Rattle.lq_run.specs.UnderWay.{StaysShown}
+use Rattle.std.proofs.Common.{ap, refl, subst, sym, ◌∙◌}
 use Rattle.std.specs.Prelude.{IsTrue, Some, is_some, true, ◌≡◌}
 use Rattle.lq_run.proofs.Stepping.{lack_crash, steps_failed, steps_lacked, steps_on, steps_refused}
 use Rattle.lq_run.specs.Steps.{StepsShown, standing, stopped_by, turns_of}
@@ -89,3 +94,30 @@ returns-in-Lack-clause-stays g c = λ met. ap is_some c.take_back.ensures.fault
 
 pub returns-in-Lack-clause-stops : goal.returns-in-Lack-clause-stops
 returns-in-Lack-clause-stops g c = λ met. subst (StopsAs c.args.self.now.fault) (sym c.take_back.ensures.result) tt
+
+pub returns-in-On-clause-under_way : goal.returns-in-On-clause-under_way
+returns-in-On-clause-under_way g c =
+    let r = c.args.self.now in
+    stays_on r.dialect g.T.Source.meaning r.stamp c.args.session (standing g.T.Source.left g.T.Source.way r)
+    (record { hand = c.take.new.hand; turns = g.T.Source.left c.taken.new.source; way = g.T.Source.way c.taken.new.source; progress = c.with_accepted-self.result; fault = r.fault; refused = r.refused })
+    (g.S.Store.state c.args.store.now) c.requires.inside c.requires.left refl
+
+pub returns-in-Refused-clause-under_way : goal.returns-in-Refused-clause-under_way
+returns-in-Refused-clause-under_way g c =
+    let r = c.args.self.now in
+    stays_on r.dialect g.T.Source.meaning r.stamp c.args.session (standing g.T.Source.left g.T.Source.way r)
+    (record { hand = c.take.new.hand; turns = g.T.Source.left c.refused.new.self; way = g.T.Source.way c.refused.new.self; progress = c.with_refused-self.result; fault = r.fault; refused = c.stopped_by-self.result })
+    (g.S.Store.state c.args.store.now) c.requires.inside c.requires.left refl
+
+pub returns-in-Failed-clause-under_way : goal.returns-in-Failed-clause-under_way
+returns-in-Failed-clause-under_way g c =
+    let r = c.args.self.now in
+    stays_failed r.dialect g.T.Source.meaning r.stamp c.args.session (standing g.T.Source.left g.T.Source.way r) (standing g.T.Source.left g.T.Source.way c.fail.new.self) c.in-Failed.fault (g.S.Store.state c.args.store.now) c.fail.result c.requires.inside c.requires.left
+    (λ told under. subst (λ z. IsUnderWay (g.T.Source.way z r.dialect r.stamp told)) (sym c.fail.ensures.source) under) c.fail.ensures.fails
+
+pub returns-in-Lack-clause-under_way : goal.returns-in-Lack-clause-under_way
+returns-in-Lack-clause-under_way g c =
+    let r = c.args.self.now in
+    subst (λ w. StaysShown r.dialect g.T.Source.meaning r.stamp c.args.session (standing g.T.Source.left g.T.Source.way r) (standing g.T.Source.left g.T.Source.way c.take_back.new.self) (g.S.Store.state c.args.store.now) w) (sym c.take_back.ensures.result)
+    (stays_lacked r.dialect g.T.Source.meaning r.stamp c.args.session (standing g.T.Source.left g.T.Source.way r) (standing g.T.Source.left g.T.Source.way c.take_back.new.self) fault.OutOfMemory (g.S.Store.state c.args.store.now) c.requires.inside c.requires.left
+    (λ told under. subst (λ z. IsUnderWay (g.T.Source.way z r.dialect r.stamp told)) (sym c.take_back.ensures.source) under) (ap (λ (h : Hand). h.calls) c.take_back.ensures.hand) c.take_back.ensures.fault)

@@ -1,3 +1,4 @@
+use Rattle.lq_run.proofs.UnderWay.{lost_stays}
 use Rattle.std.proofs.Common.{inl, inr, refl, sym, ◌∙◌}
 use Rattle.lq_run.proofs.Counting.{not_true}
 use Rattle.lq_run.proofs.Losing.{lost_steps, told_at}
@@ -38,3 +39,7 @@ returns-in-Lost-clause-keeps g c = leave_none (g.S.Store.state c.args.store.now)
 
 pub returns-in-Lost-clause-stops : goal.returns-in-Lost-clause-stops
 returns-in-Lost-clause-stops g c = λ met. c.locked.ensures.stops c.args.self.now.fault met
+
+pub returns-in-Lost-clause-under_way : goal.returns-in-Lost-clause-under_way
+returns-in-Lost-clause-under_way g c = λ start s told is held met.
+    absurd (lost_stays c.args.self.now.dialect g.T.Source.meaning c.args.self.now.stamp c.args.session (g.S.Store.state c.args.store.now) (standing g.T.Source.left g.T.Source.way c.args.self.now) (c.requires.inside, c.requires.none_left) c.in-Lost.ensures start s told is held)

@@ -1,3 +1,7 @@
+use Rattle.std.specs.Prelude.{Some}
+use Rattle.lq_hand.specs.Way.{IsUnderWay}
+use Rattle.lq_model.specs.declared.fault.StoreFault.TheVariants as fault
+use Rattle.lq_run.proofs.UnderWay.{stays_ended, stays_entered, stays_short}
 use Rattle.std.proofs.Common.{refl, subst, sym}
 use Rattle.lq_run.proofs.Stepping.{ended_crash, entered_crash, short_crash, steps_ended, steps_entered, steps_short}
 use Rattle.lq_run.specs.Steps.{standing}
@@ -39,3 +43,21 @@ returns-in-Lack-clause-stays g c = λ met. c.end-in-Lack.ensures.stays refl
 
 pub returns-in-Lack-clause-stops : goal.returns-in-Lack-clause-stops
 returns-in-Lack-clause-stops g c = λ met. c.end-in-Lack.ensures.stops c.args.self.now.fault met
+
+pub returns-in-Turn-clause-under_way : goal.returns-in-Turn-clause-under_way
+returns-in-Turn-clause-under_way g c =
+    let r = c.args.self.now in
+    stays_entered r.dialect g.T.Source.meaning r.stamp c.args.session (standing g.T.Source.left g.T.Source.way r) (g.S.Store.state c.args.store.now) c.requires.inside c.requires.none_left c.requires.closed c.requires.enters c.in-Turn.hand (g.T.Source.left c.next.new.source) (g.T.Source.way c.next.new.source) c.none-self.result
+    (standing g.T.Source.left g.T.Source.way c.inside.new.self) c.inside.result c.none-self.ensures c.in-Turn.ensures.enters c.inside.ensures.under_way
+
+pub returns-in-NoTurn-clause-under_way : goal.returns-in-NoTurn-clause-under_way
+returns-in-NoTurn-clause-under_way g c =
+    let r = c.args.self.now in
+    stays_ended r.dialect g.T.Source.meaning r.stamp c.args.session (standing g.T.Source.left g.T.Source.way r) (g.S.Store.state c.args.store.now) c.requires.inside c.requires.none_left c.requires.closed (standing g.T.Source.left g.T.Source.way c.end.new.self) (g.S.Store.state c.end.new.store) c.end.result c.requires.enters
+    (g.T.Source.left c.next.new.source) (g.T.Source.way c.next.new.source r.dialect r.stamp) c.in-NoTurn.ensures.enters (λ told under. subst (λ z. IsUnderWay (g.T.Source.way z r.dialect r.stamp told)) (sym c.end.ensures.source) under) r.fault r.refused c.end.ensures.ends
+
+pub returns-in-Lack-clause-under_way : goal.returns-in-Lack-clause-under_way
+returns-in-Lack-clause-under_way g c =
+    let r = c.args.self.now in
+    stays_short r.dialect g.T.Source.meaning r.stamp c.args.session (standing g.T.Source.left g.T.Source.way r) (g.S.Store.state c.args.store.now) c.requires.inside c.requires.none_left c.requires.closed (standing g.T.Source.left g.T.Source.way c.end-in-Lack.new.self) (g.S.Store.state c.end-in-Lack.new.store) c.end-in-Lack.result c.requires.enters
+    (g.T.Source.left c.next.new.source) (g.T.Source.way c.next.new.source r.dialect r.stamp) c.in-Lack.ensures.enters (λ told under. subst (λ z. IsUnderWay (g.T.Source.way z r.dialect r.stamp told)) (sym c.end-in-Lack.ensures.source) under) (Some fault.OutOfMemory) r.refused c.end-in-Lack.ensures.ends

@@ -1,3 +1,6 @@
+use Rattle.std.proofs.Common.{ap}
+use Rattle.lq_hand.specs.declared.hand.Hand.{Hand}
+use Rattle.lq_run.proofs.UnderWay.{back_under}
 use Rattle.lq_run.proofs.Stepping.{back_crash, not_between, steps_back}
 use Rattle.lq_run.specs.Steps.{standing}
 use Rattle.lq_run.proofs.Beside.{set_none}
@@ -18,3 +21,8 @@ returns-clause-beside g c = c.abort.ensures.beside
 
 pub returns-clause-asks : goal.returns-clause-asks
 returns-clause-asks g c = λ none live. set_none c.args.self.now.dialect c.no_turn.result (is_open c.args.session (g.S.Store.state c.abort.new.store).begun) c.no_turn.ensures c.abort.ensures.shuts
+
+pub returns-clause-under_way : goal.returns-clause-under_way
+returns-clause-under_way g c =
+    let r = c.args.self.now in
+    λ start s told is held met. back_under r.fault r.hand c.no_turn.result (g.T.Source.way r.source r.dialect r.stamp told) (ap (λ (h : Hand). h.calls) c.no_turn.ensures) met

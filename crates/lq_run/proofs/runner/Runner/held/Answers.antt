@@ -1,3 +1,5 @@
+use Rattle.lq_hand.specs.Way.{IsUnderWay}
+use Rattle.lq_run.proofs.UnderWay.{stays_stopped}
 use Rattle.std.proofs.Common.{subst, sym, ◌∙◌}
 use Rattle.lq_run.proofs.Stepping.{steps_stopped, stopped_crash}
 use Rattle.lq_run.specs.Steps.{standing}
@@ -18,3 +20,9 @@ returns-else-may_enter-clause-crash g c =
 
 pub returns-else-may_enter-clause-stops : goal.returns-else-may_enter-clause-stops
 returns-else-may_enter-clause-stops g c = λ met. c.end.ensures.stops c.args.self.now.fault met
+
+pub returns-else-may_enter-clause-under_way : goal.returns-else-may_enter-clause-under_way
+returns-else-may_enter-clause-under_way g c =
+    let r = c.args.self.now in
+    stays_stopped r.dialect g.T.Source.meaning r.stamp c.args.session (standing g.T.Source.left g.T.Source.way r) (g.S.Store.state c.args.store.now) c.requires.inside c.requires.none_left c.requires.closed (standing g.T.Source.left g.T.Source.way c.end.new.self) (g.S.Store.state c.end.new.store) c.end.result
+    (λ told under. subst (λ z. IsUnderWay (g.T.Source.way z r.dialect r.stamp told)) (sym c.end.ensures.source) under) r.fault r.refused c.end.ensures.ends

@@ -1,7 +1,7 @@
 use Rattle.std.proofs.Common.{ap, length, nat_lt, rules, ◌≡◌, ◌++◌, ◌∷◌, []}
 use Rattle.std.specs.List.{list_all}
 use Rattle.lq_plan.specs.declared.turns.Item.{Item}
-use Rattle.lq_sets.proofs.Reached.{begins, ends, enters_one, goes_on, halts, popped_place, reads_rest}
+use Rattle.lq_sets.proofs.Reached.{begins, ends, enters_one, goes_on, halts, lacks, popped_place, reads_rest}
 use Rattle.lq_sets.proofs.set_turns.SetTurnsSource.enter.Goals as goal
 
 pub loop-item-init : goal.loop-item-init
@@ -44,3 +44,8 @@ returns-clause-reads g c =
     let none : c.pop.new.self ≡ [] = search rules in
     let reads = c.loop-item.invariant.0 in
     record { dialect = reads.dialect; read = reads.read; within = ap (list_all (λ (item : Item). nat_lt item.index (length c.loop-item.self.changelog.sets))) none; room = reads.room }
+
+pub returns-in-Lack-clause-enters : goal.returns-in-Lack-clause-enters
+returns-in-Lack-clause-enters g c =
+    let is : c.loop-item.self.items ≡ c.pop.new.self ++ c.in-Some.item ∷ [] = search rules in
+    lacks c.args.dialect c.args.stamp.now (g.K.Look.catalogue c.args.look.now) c.args.self.now c.loop-item.self c.loop-item.invariant.1 c.in-Some.item c.pop.new.self is c.try_item.new.self c.in-Lack.ensures.came

@@ -1,0 +1,6 @@
+use Rattle.std.proofs.Common.{drop, ◌≡◌}
+use Rattle.lq_model.specs.Names as spaces
+use Rattle.lq_keyops.proofs.targets.same_names.Given as goal
+
+abbrev pub invariant-loop-x : goal.invariant-loop-x
+invariant-loop-x l = spaces.same_names (drop l.x-index l.a) l.left ≡ spaces.same_names l.a l.b

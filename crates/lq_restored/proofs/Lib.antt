@@ -1,0 +1,4 @@
+mod Behind
+mod RowLemmas
+mod SoundLemmas
+mod WholeLemmas

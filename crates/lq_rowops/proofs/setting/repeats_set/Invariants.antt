@@ -1,0 +1,10 @@
+use Rattle.std.proofs.Common.{length, ◌≡◌}
+use Rattle.lq_decide.specs.Faults.{names_set}
+use Rattle.lq_model.specs.Names.{repeats}
+use Rattle.lq_rowops.proofs.setting.repeats_set.Given as goal
+
+abbrev pub invariant-loop-left : goal.invariant-loop-left
+invariant-loop-left l = repeats (names_set l.left) ≡ repeats (names_set l.initial.left)
+
+abbrev pub decreases-loop-left : goal.decreases-loop-left
+decreases-loop-left l = length l.left

@@ -1,5 +1,0 @@
-use Rattle.std.proofs.Common.{length}
-use Rattle.lq_rows.proofs.pick.+has_column.Given as goal
-
-abbrev pub decreases-has_column : goal.decreases-has_column
-decreases-has_column l = length l.columns.now
