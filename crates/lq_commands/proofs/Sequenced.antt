@@ -7,7 +7,7 @@ use Rattle.lq_base.specs.declared.reason.Reason.{Reason}
 use Rattle.lq_model.specs.Script.{if_any}
 use Rattle.lq_run.proofs.Rooms.{both_rooms, sizes}
 use Rattle.lq_run.specs.Commands.{Leaves}
-use Rattle.lq_run.specs.Left.{IsFullIn, IsNextIn}
+use Rattle.lq_run.specs.Left.{ClosesHeld, HasClosing, IsClosedIn, IsFrontIn, IsFullIn, IsNextIn}
 use Rattle.lq_run.specs.Stands.{HadRoom, entries_of, entry_of}
 use Rattle.lq_store.specs.Journal.{end_of, is_full, size_of_all}
 use Rattle.lq_store.specs.State.{State}
@@ -17,6 +17,7 @@ use Rattle.lq_track.specs.Lock.{free}
 use Rattle.lq_turns.proofs.Journal.{done_both, joined_both, journal_leads, next}
 use Rattle.lq_turns.proofs.Made.{calls_both}
 use Rattle.lq_turns.specs.Deed.{all_done, done}
+use Rattle.lq_turns.specs.Script.{closing}
 use Rattle.lq_turns.specs.Session.{Session, aborted, accepted, all_called, all_executed, all_executed_as, called, closed, executed_as, is_own, left_by, session_on, settled_if, settled_up}
 use Rattle.lq_turns.specs.Stops.{IsLeft, Journal, has_mark, joined}
 use Rattle.lq_turns.specs.declared.call.Call.{Call}
@@ -29,15 +30,13 @@ use Rattle.lq_commands.specs.Works.{SaysFull, TellsRoom, is_finished}
 not_true : false ≡ true → ⊥
 not_true h = Prim.cc
 
--- where both together are none, each is
+-- where one of the first frees the lock, or one of the others, one of both does
 
-first_nil : (calls others : List Call) → calls ++ others ≡ [] → calls ≡ []
-first_nil [] others none = refl
-first_nil (call ∷ calls) others none = Prim.cc
+has_first : (calls others : List Call) → HasClosing calls → HasClosing (calls ++ others)
+has_first calls others one = record { before = one.before; after = one.after ++ others; is = ap (λ (cs : List Call). cs ++ others) one.is ∙ append_assoc one.before (closing ∷ one.after) others }
 
-then_nil : (calls others : List Call) → calls ++ others ≡ [] → others ≡ []
-then_nil [] others none = none
-then_nil (call ∷ calls) others none = Prim.cc
+has_then : (calls others : List Call) → HasClosing others → HasClosing (calls ++ others)
+has_then calls others one = record { before = calls ++ one.before; after = one.after; is = ap (λ (cs : List Call). calls ++ cs) one.is ∙ sym (append_assoc calls one.before (closing ∷ one.after)) }
 
 -- what a session had written before is no matter to its calls
 
@@ -127,6 +126,43 @@ module _ (d : Dialect) (calls others : List Call) (database : Database) where
       by (inl same) = inl (ap (λ (es : Journal). there ++ es) same)
       by (inr freed) = inr (ap (λ (es : Journal). there ++ es) freed.0 ∙ sym (append_assoc there left.front ((Locks Freed ∷ []) ∷ [])), freed.1)
 
+    -- and each leaves no more than a front of the entries of both, but for the one that frees the lock behind it
+
+    front_first : (written : Journal) → IsFrontIn d calls database written → IsFrontIn d (calls ++ others) database written
+    front_first written front = (front.0 ++ coming, both_entries ∙ ap (λ (es : Journal). es ++ coming) front.1 ∙ append_assoc written front.0 coming)
+
+    front_then : (written : Journal) → IsFrontIn d others middle written → IsFrontIn d (calls ++ others) database (there ++ written)
+    front_then written front = (front.0, both_entries ∙ ap (λ (es : Journal). there ++ es) front.1 ∙ sym (append_assoc there written front.0))
+
+    led_then : (written : Journal) (now : Database) → all_done d (joined written) middle ≡ Ok now → all_done d (joined (there ++ written)) database ≡ Ok now
+    led_then written now led = ap (λ deeds. all_done d deeds database) (joined_both there written) ∙ done_both d (joined there) (joined written) database ∙ ap (next d (joined written)) (journal_leads d calls database) ∙ led
+
+    pub closes_first : (written : Journal) → ClosesHeld d calls database written → ClosesHeld d (calls ++ others) database written
+    closes_first written (inl front) = inl (front_first written front)
+    closes_first written (inr closed) = inr (record {
+      closes = has_first calls others closed.closes;
+      front = closed.front;
+      is_front = front_first closed.front closed.is_front;
+      now = closed.now;
+      led = closed.led;
+      held = closed.held;
+      unmarked = closed.unmarked;
+      is = closed.is;
+    })
+
+    pub closes_then : (written : Journal) → ClosesHeld d others middle written → ClosesHeld d (calls ++ others) database (there ++ written)
+    closes_then written (inl front) = inl (front_then written front)
+    closes_then written (inr closed) = inr (record {
+      closes = has_then calls others closed.closes;
+      front = there ++ closed.front;
+      is_front = front_then closed.front closed.is_front;
+      now = closed.now;
+      led = led_then closed.front closed.now closed.led;
+      held = closed.held;
+      unmarked = closed.unmarked;
+      is = ap (λ (es : Journal). there ++ es) closed.is ∙ sym (append_assoc there closed.front ((Locks Freed ∷ []) ∷ []));
+    })
+
     module _ (x : State) where
       -- calls that lead on the way to the end of the first lead on the way to the end of all, and so do those of the others
 
@@ -136,7 +172,7 @@ module _ (d : Dialect) (calls others : List Call) (database : Database) where
         ap (λ cs. all_called d cs (session_on database)) (sym (append_assoc made (call ∷ goes.0) others)) ∙ calls_both d (made ++ call ∷ goes.0) others (session_on database) ∙ ap (all_called d others) goes.1
             ∙ sym (calls_both d calls others (session_on database)),
       )
-      next_first made call (inr left) = inr (left.0, λ none. left.1 (first_nil calls others none))
+      next_first made call (inr left) = inr (left.0, has_first calls others left.1)
 
       both_called : (more : List Call) → all_called d (calls ++ more) (session_on database) ≡ behind there (all_called d more (session_on middle))
       both_called more = calls_both d calls more (session_on database) ∙ ap (all_called d more) over.0 ∙ calls_behind d there more (session_on middle)
@@ -146,7 +182,7 @@ module _ (d : Dialect) (calls others : List Call) (database : Database) where
         goes.0,
         ap (λ cs. all_called d cs (session_on database)) (append_assoc calls made (call ∷ goes.0)) ∙ both_called (made ++ call ∷ goes.0) ∙ ap (behind there) goes.1 ∙ sym (both_called others),
       )
-      next_then made call (inr left) = inr (left.0, λ none. left.1 (then_nil calls others none))
+      next_then made call (inr left) = inr (left.0, has_then calls others left.1)
 
       pub full_first : (used size : ℕ) (it : IsFullIn d calls database x used size) → (full : IsFullIn d (calls ++ others) database x used size) × (full.written ≡ it.written) × (full.more ≡ it.more)
       full_first used size it = (

@@ -128,7 +128,7 @@ module _ (read : StatementsReadBack) (d : Dialect) (number : ℕ) (x y : State) 
     rests_in : (used next : ℕ) → EndsAt d number x (session_on database) last (end.Full used next) y → RestsIn d calls database x y used next
     rests_in used next (waits, was, same) =
         let full = full_in used next was in
-        rests_at d number x database has calls y waits.session waits.came (fronts_are_left d calls database [] waits.session.entries waits.before.more waits.before.entries) waits.stands waits.shut used next full.0
+        rests_at d number x database has calls y waits.session waits.came (fronts_are_left d calls database [] waits.session.entries waits.before.more waits.before.entries) (inl (waits.before.more, waits.before.entries)) waits.stands waits.shut used next full.0
         (inl (same ∙ sym full.1)) (by was.which (was.more) refl) where
           led : all_done d (joined waits.session.entries) database ≡ Ok waits.session.committed
           led = (leads d database waits.session waits.came).committed

@@ -28,7 +28,7 @@ use Rattle.lq_turns.specs.Stops.{Journal, joined}
 use Rattle.lq_turns.specs.declared.call.Call.{Call}
 use Rattle.lq_turns.specs.declared.deed.Deed.TheVariants.{Locks}
 use Rattle.lq_turns.specs.declared.deed.OnLock.TheVariants.{Freed}
-use Rattle.lq_commands.proofs.Sequenced.{IsOver, behind, both_entries, both_room, calls_behind, full_first, full_then, left_first, left_then}
+use Rattle.lq_commands.proofs.Sequenced.{IsOver, behind, both_entries, both_room, calls_behind, closes_first, closes_then, full_first, full_then, left_first, left_then}
 use Rattle.lq_commands.specs.Works.{CrashesIn, Works, is_finished}
 
 not_true : false ≡ true → ⊥
@@ -61,6 +61,7 @@ module _ (d : Dialect) (calls : List Call) (database : Database) (x y : State) (
       record {
         written = wrote;
         stops = fronts_are_left d calls database [] wrote [] (sym (append-nil wrote));
+        closes = inl ([], sym (append-nil wrote));
         is = refl;
         now = left_by d calls database;
         led = journal_leads d calls database;
@@ -81,7 +82,7 @@ module _ (d : Dialect) (calls others : List Call) (database : Database) (over : 
   -- a stop of the first
 
   in_first : (there left : List Entry) → LeftInCommand d calls database there left → LeftInCommand d (calls ++ others) database there left
-  in_first there left it = record { written = it.written; stops = left_first d calls others database over it.written it.stops; is = it.is; now = it.now; led = it.led; replays = it.replays }
+  in_first there left it = record { written = it.written; stops = left_first d calls others database over it.written it.stops; closes = closes_first d calls others database over it.written it.closes; is = it.is; now = it.now; led = it.led; replays = it.replays }
 
   pub behind_first : (x y : State) → LeftBehind d calls database x y → LeftBehind d (calls ++ others) database x y
   behind_first x y left = record { dialect = left.dialect; limit = left.limit; entries = by x.entries left.entries } where
@@ -99,7 +100,17 @@ module _ (d : Dialect) (calls others : List Call) (database : Database) (over : 
       let stops = it.stops in
       let full = full_first d calls others database over x used next it.full in
       record {
-        stops = record { written = stops.written; left = left_first d calls others database over stops.written stops.left; now = stops.now; led = stops.led; database_is = stops.database_is; limit = stops.limit; entries = stops.entries; used = stops.used };
+        stops = record {
+          written = stops.written;
+          left = left_first d calls others database over stops.written stops.left;
+          closes = closes_first d calls others database over stops.written stops.closes;
+          now = stops.now;
+          led = stops.led;
+          database_is = stops.database_is;
+          limit = stops.limit;
+          entries = stops.entries;
+          used = stops.used;
+        };
         full = full.0;
         behind = subst (λ w. IsAtMostFreed w stops.written) (sym full.1) it.behind;
         shut = it.shut;
@@ -120,6 +131,7 @@ module _ (d : Dialect) (calls others : List Call) (database : Database) (over : 
     in_then there left is it = record {
       written = first_wrote ++ it.written;
       stops = left_then d calls others database over it.written it.stops;
+      closes = closes_then d calls others database over it.written it.closes;
       is = it.is ∙ append_assoc there (entries_of d first_wrote) (entries_of d it.written) ∙ ap (λ (es : List Entry). there ++ es) (sym (map-append (entry_of d) first_wrote it.written));
       now = it.now;
       led = led_then it.written it.now it.led;
@@ -172,6 +184,7 @@ module _ (d : Dialect) (calls others : List Call) (database : Database) (over : 
           stops = record {
             written = first_wrote ++ stops.written;
             left = left_then d calls others database over stops.written stops.left;
+            closes = closes_then d calls others database over stops.written stops.closes;
             now = stops.now;
             led = led_then stops.written stops.now stops.led;
             database_is = stops.database_is;

@@ -1,6 +1,6 @@
 -- A command that has just taken its lock runs.
 use Rattle.std.proofs.Common.{ap, inl, refl, subst, sym}
-use Rattle.std.specs.Prelude.{Bool, List, [], false, map, pos, true, ℕ, ◌≡◌}
+use Rattle.std.specs.Prelude.{Bool, List, [], false, map, pos, true, ℕ, ◌∷◌, ◌≡◌}
 use Rattle.lq_base.specs.declared.dialect.Dialect.{Dialect}
 use Rattle.lq_base.specs.declared.dialect.Dialect.TheVariants.{Mysql, Postgresql}
 use Rattle.lq_model.specs.declared.caller.Room.TheVariants.{Ordinary}
@@ -13,6 +13,7 @@ use Rattle.lq_turns.specs.Script.{opening}
 use Rattle.lq_turns.specs.Session.{Session, all_called, all_executed, called}
 use Rattle.lq_turns.specs.Set.{Meaning}
 use Rattle.lq_turns.specs.Stepped.{both_of}
+use Rattle.lq_turns.specs.declared.call.Call.{Call}
 use Rattle.lq_turns.specs.declared.call.Call.TheVariants.{Alone}
 use Rattle.lq_turns.specs.declared.deed.Deed.{Deed}
 use Rattle.lq_turns.specs.declared.deed.Deed.TheVariants.{Locks}
@@ -22,6 +23,7 @@ use Rattle.lq_hand.specs.Hand.{AreTurns, IsReady, calls_left, hand_place}
 use Rattle.lq_run.proofs.Keeping.{inside_keeps}
 use Rattle.lq_run.specs.Commands.{IsNew, KnowsContents, both_on, script}
 use Rattle.lq_run.specs.Ends.{IsRunning, KeepsLock, at_end, disk_failed}
+use Rattle.lq_run.specs.Left.{HasClosing}
 use Rattle.lq_run.specs.Stands.{Stands}
 use Rattle.lq_run.specs.Steps.{Known, KnownIn, Standing, place, turns_of}
 
@@ -64,6 +66,13 @@ module _ {Key Told : Type 0} (d : Dialect) (m : Meaning Key) (stamp : Stamp) (r 
 
   pub new_keeps : (b : Both) → KeepsLock stamp.who (rest d m stamp (place r) b)
   new_keeps b = subst (λ p. KeepsLock stamp.who (rest d m stamp p b)) (sym new_at) (inside_keeps d m stamp (calls_left r.hand) r.hand.goes_on (turns_of r) b new.holds)
+
+  -- its last call frees the lock
+  pub script_closes : (database : Database) → HasClosing (script d m stamp (place r) database)
+  script_closes database =
+      let call = Alone (map Locks (opening stamp database)) Ordinary in
+      let keeps = new_keeps (both_on database) in
+      record { before = call ∷ keeps.front; after = []; is = ap (λ (calls : List Call). call ∷ calls) keeps.is }
 
 module _ {Key : Type 0} (d : Dialect) (m : Meaning Key) (stamp : Stamp) (number : ℕ) (database : Database) (entries : List (List Deed)) where
   -- the session after the first call

@@ -24,16 +24,17 @@ use Rattle.lq_turns.specs.declared.call.Call.{Call}
 use Rattle.lq_turns.specs.declared.call.Call.TheVariants.{Alone}
 use Rattle.lq_turns.specs.declared.deed.Deed.TheVariants.{Locks}
 use Rattle.lq_turns.specs.declared.stamp.Stamp.{Stamp}
+use Rattle.lq_run.proofs.Begins.{script_closes}
 use Rattle.lq_run.proofs.Left.{stands_there}
 use Rattle.lq_run.proofs.Opens.{all_opening_fits}
 use Rattle.lq_run.proofs.Replayed.{in_closed, in_closing, in_front, none_in}
 use Rattle.lq_run.proofs.Since.{front_of_map}
 use Rattle.lq_run.proofs.Stopped.{fails}
-use Rattle.lq_run.specs.Commands.{HasDatabase, Leaves, RunsWhole, script}
+use Rattle.lq_run.specs.Commands.{HasDatabase, IsNew, Leaves, RunsWhole, script}
 use Rattle.lq_run.specs.Crashes.{BehindAll, BehindCleared, BehindOpened, BehindReleased, BehindTagged, LeftBehind, LeftInCommand}
 use Rattle.lq_run.specs.Ends.{BreaksBefore, EndsAs, IsBefore, StandsBefore}
 use Rattle.lq_run.specs.Holds.{IsBare}
-use Rattle.lq_run.specs.Left.{LeavesCleared, LeavesOnce, LeavesOpened, LeavesReleased, LeavesTagged}
+use Rattle.lq_run.specs.Left.{HasClosing, LeavesCleared, LeavesOnce, LeavesOpened, LeavesReleased, LeavesTagged}
 use Rattle.lq_run.specs.Stands.{Stands, entries_of, entry_of}
 use Rattle.lq_run.specs.Steps.{Standing, place}
 use Rattle.lq_run.specs.declared.runner.End.{End}
@@ -103,7 +104,7 @@ module _ (read : StatementsReadBack) (d : Dialect) (x y : State) (result : Resul
 
 -- a command
 
-module _ {Key : Type 0} (read : StatementsReadBack) (d : Dialect) (m : Meaning Key) (stamp : Stamp) (number : ℕ) (unmarked : is_mark stamp.who ≡ false) (x y : State) (database : Database) (has : HasDatabase d x database) (calls : List Call) (fit : calls_fit d calls (session_on database) ≡ true) where
+module _ {Key : Type 0} (read : StatementsReadBack) (d : Dialect) (m : Meaning Key) (stamp : Stamp) (number : ℕ) (unmarked : is_mark stamp.who ≡ false) (x y : State) (database : Database) (has : HasDatabase d x database) (calls : List Call) (fit : calls_fit d calls (session_on database) ≡ true) (has_closing : HasClosing calls) where
   abbrev end_session : Session
   end_session = all_called d calls (session_on database)
 
@@ -124,7 +125,7 @@ module _ {Key : Type 0} (read : StatementsReadBack) (d : Dialect) (m : Meaning K
     by : (Stands x number y is.0 ⊎ (IsBare stamp is.0.committed.lock × (is.0.begun ≡ []) × Stands x number y (called d closing is.0))) → LeftBehind d calls database x y
     by (inl stands) = stands_behind is.0 stands (λ there. front_left read d calls database x y fit there is.0.entries is.2.more is.2.entries)
     by (inr early) = stands_behind (called d closing is.0) early.2
-        (λ there. in_closed read d calls database fit is.0 is.1 is.2 (ap (λ (lock : Lock). lock.locked) early.0) (ap has_mark early.0 ∙ unmarked) early.1 there (there ++ entries_of d (called d closing is.0).entries) refl)
+        (λ there. in_closed read d calls database fit is.0 is.1 is.2 (ap (λ (lock : Lock). lock.locked) early.0) (ap has_mark early.0 ∙ unmarked) early.1 has_closing there (there ++ entries_of d (called d closing is.0).entries) refl)
 
   -- or the disk failed on it
 
@@ -132,11 +133,11 @@ module _ {Key : Type 0} (read : StatementsReadBack) (d : Dialect) (m : Meaning K
   EachFront s = (there : List Entry) (front rest : Journal) → s.entries ≡ front ++ rest → LeftInCommand d calls database there (there ++ entries_of d front)
 
   breaks_behind : BreaksBefore d m stamp number x (session_on database) end_session y → LeftBehind d calls database x y
-  breaks_behind is = front_behind read d calls database x y fit (called d is.call is.s).entries (fails d m stamp number unmarked x y database has calls is) (by is.before) where
+  breaks_behind is = front_behind read d calls database x y fit (called d is.call is.s).entries (fails d m stamp number unmarked x y database has calls has_closing is) (by is.before) where
     by : (IsBefore (called d is.call is.s) end_session ⊎ ((is.call ≡ closing) × IsBare stamp is.s.committed.lock × (is.s.begun ≡ []) × IsBefore is.s end_session)) → EachFront (called d is.call is.s)
     by (inl before) = λ there front rest parts. front_left read d calls database x y fit there front (rest ++ before.more) (before.entries ∙ ap (λ es. es ++ before.more) parts ∙ append_assoc front rest before.more)
     by (inr early) = subst (λ call. EachFront (called d call is.s)) (sym early.0)
-        (λ there front rest parts. in_closing read d calls database fit is.s is.came early.3 (ap (λ (lock : Lock). lock.locked) early.1) (ap has_mark early.1 ∙ unmarked) early.2 there (there ++ entries_of d front) front rest parts refl)
+        (λ there front rest parts. in_closing read d calls database fit is.s is.came early.3 (ap (λ (lock : Lock). lock.locked) early.1) (ap has_mark early.1 ∙ unmarked) early.2 has_closing there (there ++ entries_of d front) front rest parts refl)
 
   behind_as : (e : End) → EndsAs d m stamp number x (session_on database) end_session false None e y → LeftBehind d calls database x y
   behind_as end.Done ends = whole_behind ends
@@ -146,7 +147,7 @@ module _ {Key : Type 0} (read : StatementsReadBack) (d : Dialect) (m : Meaning K
   behind_as (end.Full used more) ends = stops_behind ends.0
   behind_as end.OutOfMemory ends = stops_behind ends
 
-pub behind_all : {Key Told : Type 0} (read : StatementsReadBack) (d : Dialect) (m : Meaning Key) (stamp : Stamp) (number : ℕ) (r : Standing Key Told) (x y : State) (e : End) → RunsWhole d m stamp number r x e y → BehindAll d m stamp r x y
-behind_all read d m stamp number r x y e whole unmarked database told has known fit =
-    behind_as read d m stamp number unmarked x y database has (script d m stamp (place r) database) fit e
+pub behind_all : {Key Told : Type 0} (read : StatementsReadBack) (d : Dialect) (m : Meaning Key) (stamp : Stamp) (number : ℕ) (r : Standing Key Told) → IsNew d m stamp r → (x y : State) (e : End) → RunsWhole d m stamp number r x e y → BehindAll d m stamp r x y
+behind_all read d m stamp number r new x y e whole unmarked database told has known fit =
+    behind_as read d m stamp number unmarked x y database has (script d m stamp (place r) database) fit (script_closes d m stamp r new database) e
     (whole x (session_on database) told (record { dialect = has.dialect; stands = stands_there d number x database has; shut = refl; known = known; fits = fit }))

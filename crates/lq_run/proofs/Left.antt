@@ -37,7 +37,7 @@ use Rattle.lq_run.proofs.Rooms.{no_entries}
 use Rattle.lq_run.specs.Commands.{HasDatabase, Leaves}
 use Rattle.lq_run.specs.Does.{AloneFor, Breaks, DoesAlone, HasNoRoom}
 use Rattle.lq_run.specs.Ends.{CameFrom}
-use Rattle.lq_run.specs.Left.{IsAtMostFreed, IsFullIn, LeavesCleared, LeavesLock, LeavesOnce, LeavesOpened, LeavesReleased, LeavesTagged, RestsIn, StopsIn}
+use Rattle.lq_run.specs.Left.{ClosesHeld, IsAtMostFreed, IsFullIn, LeavesCleared, LeavesLock, LeavesOnce, LeavesOpened, LeavesReleased, LeavesTagged, RestsIn, StopsIn}
 use Rattle.lq_run.specs.Opens.{TakesLock}
 use Rattle.lq_run.specs.Stands.{HadRoom, IsBegun, Stands, entries_of}
 
@@ -107,6 +107,7 @@ module _ (d : Dialect) (number : ℕ) (x : State) (database : Database) (has : H
     stops = record {
       written = [];
       left = record { front = []; rest = (all_called d calls (session_on database)).entries; entries = refl; now = database; led = refl; is = inl refl };
+      closes = inl ((all_called d calls (session_on database)).entries, refl);
       now = database;
       led = refl;
       database_is = record { dialect = has.dialect; live = has.live; shut = refl; committed = has.committed };
@@ -121,12 +122,13 @@ module _ (d : Dialect) (number : ℕ) (x : State) (database : Database) (has : H
   }
 
   -- where the store stands for a session that a stop may leave
-  module _ (calls : List Call) (y : State) (s : Session) (came : CameFrom d (session_on database) s) (left : IsLeft d calls database [] s.entries) (stands : Stands x number y s) where
+  module _ (calls : List Call) (y : State) (s : Session) (came : CameFrom d (session_on database) s) (left : IsLeft d calls database [] s.entries) (closes : ClosesHeld d calls database s.entries) (stands : Stands x number y s) where
     pub stands_left : (stops : StopsIn d calls database x y) × (stops.written ≡ s.entries) × (stops.now ≡ s.committed)
     stands_left = (
       record {
         written = s.entries;
         left = left;
+        closes = closes;
         now = s.committed;
         led = (leads d database s came).committed;
         database_is = record { dialect = stands.dialect ∙ has.dialect; live = stands.live; shut = refl; committed = subst (λ e. StandsFor e y.committed s.committed) has.dialect stands.committed };

@@ -39,6 +39,7 @@ use Rattle.lq_run.proofs.Grows.{closing_entry}
 use Rattle.lq_run.proofs.Stated.{stated_again, stated_cleared, stated_deleted, stated_filled, stated_freed, stated_inserted, stated_lock, stated_lock_row, stated_log, stated_marked, stated_tagged, stated_taken}
 use Rattle.lq_run.specs.Crashes.{LeftInCommand}
 use Rattle.lq_run.specs.Ends.{CameFrom, IsBefore}
+use Rattle.lq_run.specs.Left.{ClosesHeld, HasClosing}
 use Rattle.lq_run.specs.Stands.{deed_text, entries_of, entry_of, entry_texts}
 
 err_ok : {A B : Type 0} {reason : Reason} {x : A} → (let r : Result A Reason = Err reason in r) ≡ Ok x → B
@@ -259,6 +260,7 @@ pub none_in : (d : Dialect) (calls : List Call) (database : Database) (there : L
 none_in d calls database there = record {
   written = [];
   stops = fronts_are_left d calls database [] [] (all_called d calls (session_on database)).entries refl;
+  closes = inl ((all_called d calls (session_on database)).entries, refl);
   is = sym (append-nil there);
   now = database;
   led = refl;
@@ -274,10 +276,11 @@ module _ (read : StatementsReadBack) (d : Dialect) (calls : List Call) (database
     led : all_done d (joined written) database ≡ Ok now
     runs : (c : Catalogue) → StandsFor d c database → RunsTo d (run_entries d (entries_of d written) (Some c)) now
 
-  left_so : (written : Journal) (now : Database) → IsLeft d calls database [] written → Replays written now → (there left : List Entry) → left ≡ there ++ entries_of d written → LeftInCommand d calls database there left
-  left_so written now stops it there left left_is = record {
+  left_so : (written : Journal) (now : Database) → IsLeft d calls database [] written → ClosesHeld d calls database written → Replays written now → (there left : List Entry) → left ≡ there ++ entries_of d written → LeftInCommand d calls database there left
+  left_so written now stops closes it there left left_is = record {
     written = written;
     stops = stops;
+    closes = closes;
     is = left_is;
     now = now;
     led = it.led;
@@ -305,7 +308,7 @@ module _ (read : StatementsReadBack) (d : Dialect) (calls : List Call) (database
   pub in_front : (there left : List Entry) (front rest : Journal) → last.entries ≡ front ++ rest → left ≡ there ++ entries_of d front → LeftInCommand d calls database there left
   in_front there left front rest is left_is =
       let it = front_replays front rest is in
-      left_so front it.0 (fronts_are_left d calls database [] front rest is) it.1 there left left_is
+      left_so front it.0 (fronts_are_left d calls database [] front rest is) (inl (rest, is)) it.1 there left left_is
 
   -- the lock that is held is freed behind it
   abbrev freed_on : Database → Database
@@ -325,7 +328,7 @@ module _ (read : StatementsReadBack) (d : Dialect) (calls : List Call) (database
         (more.0, ap (λ es. run_entries d es (Some c)) (map-append (entry_of d) front freed) ∙ run_both d (entries_of d front) (entries_of d freed) (Some c) first.0 first.1 ∙ more.1, more.2);
   }
 
-  module _ (s : Session) (came : CameFrom d (session_on database) s) (before : IsBefore s last) (locked : s.committed.lock.locked ≡ true) (unmarked : has_mark s.committed.lock ≡ false) (none : s.begun ≡ []) where
+  module _ (s : Session) (came : CameFrom d (session_on database) s) (before : IsBefore s last) (locked : s.committed.lock.locked ≡ true) (unmarked : has_mark s.committed.lock ≡ false) (none : s.begun ≡ []) (one : HasClosing calls) where
     led : all_done d (joined s.entries) database ≡ Ok s.committed
     led = subst (λ (t : Session). all_done d (joined t.entries) database ≡ Ok t.committed) (sym came.is) (calls_lead d database came.calls (session_on database) (record { committed = refl; seen = refl })).committed
 
@@ -338,7 +341,8 @@ module _ (read : StatementsReadBack) (d : Dialect) (calls : List Call) (database
         let it = front_replays s.entries before.more before.entries in
         let same : it.0 ≡ s.committed = same_ok d (sym it.1.led ∙ led) in
         let stops : IsLeft d calls database [] (called d closing s).entries = record { front = s.entries; rest = before.more; entries = before.entries; now = s.committed; led = led; is = inr (entries_are, unmarked) } in
-        left_so (called d closing s).entries (freed_on s.committed) stops
+        let closes : ClosesHeld d calls database (called d closing s).entries = inr (record { closes = one; front = s.entries; is_front = (before.more, before.entries); now = s.committed; led = led; held = locked; unmarked = unmarked; is = entries_are }) in
+        left_so (called d closing s).entries (freed_on s.committed) stops closes
         (subst (λ es. Replays es (freed_on s.committed)) (sym entries_are) (freed_replays s.entries s.committed (subst (Replays s.entries) same it.1) locked)) there left left_is
 
     -- and a front of both

@@ -2,8 +2,9 @@
 use Rattle.std.proofs.Common.{ap, inl, inr, refl, subst, sym, ◌∙◌}
 use Rattle.std.proofs.lemmas.List.{append_assoc, append_cancel_left, map-append}
 use Rattle.std.specs.Option.{option_map}
-use Rattle.std.specs.Prelude.{List, None, Option, Some, [], false, ℕ, ◌++◌, ◌∷◌, ◌≡◌, ◌≢◌, ◌⊎◌}
+use Rattle.std.specs.Prelude.{List, None, Option, Some, [], false, ℕ, ◌++◌, ◌∷◌, ◌≡◌, ◌⊎◌}
 use Rattle.lq_base.specs.declared.dialect.Dialect.{Dialect}
+use Rattle.lq_base.specs.declared.tracking.Lock.{Lock}
 use Rattle.lq_drill.specs.Faults.{freed}
 use Rattle.lq_model.specs.declared.caller.Room.TheVariants.{Ordinary, Release}
 use Rattle.lq_model.specs.declared.fault.StoreFault.{StoreFault}
@@ -20,13 +21,14 @@ use Rattle.lq_turns.specs.declared.call.Call.{Call}
 use Rattle.lq_turns.specs.declared.deed.Deed.TheVariants.{Locks}
 use Rattle.lq_turns.specs.declared.deed.OnLock.TheVariants.{Freed}
 use Rattle.lq_turns.specs.declared.stamp.Stamp.{Stamp}
+use Rattle.lq_run.proofs.Begins.{script_closes}
 use Rattle.lq_run.proofs.Grows.{came_on, closing_entry}
 use Rattle.lq_run.proofs.Left.{leads, rests_at, stands_left, stands_there}
 use Rattle.lq_run.proofs.Resting.{closing_frees, closing_shuts, marked_some}
-use Rattle.lq_run.specs.Commands.{HasDatabase, RunsWhole, script}
+use Rattle.lq_run.specs.Commands.{HasDatabase, IsNew, RunsWhole, script}
 use Rattle.lq_run.specs.Ends.{BreaksBefore, CameFrom, EndsAs, IsAtLock, IsBefore, IsFullBefore, IsFullSince, IsToCome, RestsAs, RestsBefore, StandsBefore, StaysFull}
 use Rattle.lq_run.specs.Holds.{IsBare, IsMarked}
-use Rattle.lq_run.specs.Left.{BreaksIn, IsAtMostFreed, IsFullIn, LeavesLock, LeftAll, LeftAs, RestsIn, StopsIn}
+use Rattle.lq_run.specs.Left.{BreaksIn, ClosesHeld, HasClosing, IsAtMostFreed, IsFullIn, LeavesLock, LeftAll, LeftAs, RestsIn, StopsIn}
 use Rattle.lq_run.specs.Stands.{Stands, entries_of, entry_of}
 use Rattle.lq_run.specs.Steps.{Standing, place}
 use Rattle.lq_run.specs.declared.runner.End.{End}
@@ -35,9 +37,6 @@ use Rattle.lq_run.specs.declared.runner.End.TheVariants as end
 rooms_differ : Ordinary ≡ Release → ⊥
 rooms_differ h = Prim.cc
 
-some_calls : {call : Call} {calls : List Call} → call ∷ calls ≢ []
-some_calls h = Prim.cc
-
 none_some : {why : StoreFault} → (let o : Option StoreFault = None in o) ≡ Some why → ⊥
 none_some h = Prim.cc
 
@@ -45,7 +44,7 @@ added_twice : (o : Option (List Entry)) (a b : List Entry) → option_map (λ (e
 added_twice None a b = refl
 added_twice (Some entries) a b = ap Some (append_assoc entries a b)
 
-module _ {Key : Type 0} (d : Dialect) (m : Meaning Key) (stamp : Stamp) (number : ℕ) (unmarked : is_mark stamp.who ≡ false) (x y : State) (database : Database) (has : HasDatabase d x database) (calls : List Call) where
+module _ {Key : Type 0} (d : Dialect) (m : Meaning Key) (stamp : Stamp) (number : ℕ) (unmarked : is_mark stamp.who ≡ false) (x y : State) (database : Database) (has : HasDatabase d x database) (calls : List Call) (has_closing : HasClosing calls) where
   abbrev last : Session
   last = all_called d calls (session_on database)
 
@@ -58,16 +57,36 @@ module _ {Key : Type 0} (d : Dialect) (m : Meaning Key) (stamp : Stamp) (number 
   left_closed s came before bare none =
       record { front = s.entries; rest = before.more; entries = before.entries; now = s.committed; led = (leads d database s came).committed; is = inr (closing_entry d s none, ap has_mark bare ∙ unmarked) }
 
+  -- which is no more than a front of their entries, but for that entry behind it
+  front_before : (s : Session) → IsBefore s last → ClosesHeld d calls database s.entries
+  front_before s before = inl (before.more, before.entries)
+
+  held_closed : (s : Session) → CameFrom d (session_on database) s → IsBefore s last → IsBare stamp s.committed.lock → s.begun ≡ [] → ClosesHeld d calls database (called d closing s).entries
+  held_closed s came before bare none = inr (record {
+    closes = has_closing;
+    front = s.entries;
+    is_front = (before.more, before.entries);
+    now = s.committed;
+    led = (leads d database s came).committed;
+    held = ap (λ (lock : Lock). lock.locked) bare;
+    unmarked = ap has_mark bare ∙ unmarked;
+    is = closing_entry d s none;
+  })
+
   -- with a call to come
   left_called : (s : Session) (call : Call) → CameFrom d (session_on database) s → IsToCome d m stamp number x (session_on database) last call s → IsLeft d calls database [] (called d call s).entries
   left_called s call came (inl before) = left_before (called d call s) (came_on d (session_on database) s call came) before
   left_called s call came (inr early) = subst (λ c. IsLeft d calls database [] (called d c s).entries) (sym early.0) (left_closed s came early.3 early.1 early.2)
 
+  held_called : (s : Session) (call : Call) → CameFrom d (session_on database) s → IsToCome d m stamp number x (session_on database) last call s → ClosesHeld d calls database (called d call s).entries
+  held_called s call came (inl before) = front_before (called d call s) before
+  held_called s call came (inr early) = subst (λ c. ClosesHeld d calls database (called d c s).entries) (sym early.0) (held_closed s came early.3 early.1 early.2)
+
   stops_in : StandsBefore d m stamp number x (session_on database) last y → StopsIn d calls database x y
   stops_in is = by is.3 where
     by : (Stands x number y is.0 ⊎ (IsBare stamp is.0.committed.lock × (is.0.begun ≡ []) × Stands x number y (called d closing is.0))) → StopsIn d calls database x y
-    by (inl stands) = (stands_left d number x database has calls y is.0 is.1 (left_before is.0 is.1 is.2) stands).0
-    by (inr early) = (stands_left d number x database has calls y (called d closing is.0) (came_on d (session_on database) is.0 closing is.1) (left_closed is.0 is.1 is.2 early.0 early.1) early.2).0
+    by (inl stands) = (stands_left d number x database has calls y is.0 is.1 (left_before is.0 is.1 is.2) (front_before is.0 is.2) stands).0
+    by (inr early) = (stands_left d number x database has calls y (called d closing is.0) (came_on d (session_on database) is.0 closing is.1) (left_closed is.0 is.1 is.2 early.0 early.1) (held_closed is.0 is.1 is.2 early.0 early.1) early.2).0
 
   module _ (is : BreaksBefore d m stamp number x (session_on database) last y) where
     abbrev next : Session
@@ -96,11 +115,11 @@ module _ {Key : Type 0} (d : Dialect) (m : Meaning Key) (stamp : Stamp) (number 
         }
 
     breaks_in : BreaksIn d calls database x y
-    breaks_in = record { written = next.entries; left = left_called is.s is.call is.came is.before; fails = fails }
+    breaks_in = record { written = next.entries; left = left_called is.s is.call is.came is.before; closes = held_called is.s is.call is.came is.before; fails = fails }
 
   -- how full it was
-  full_in : calls ≢ [] → (used more : ℕ) → (is : IsFullBefore d m stamp number x (session_on database) last used more) → (full : IsFullIn d calls database x used more) × (full.written ≡ is.s.entries) × (is.call ≡ closing → full.more ≡ freed)
-  full_in some used more is = (
+  full_in : (used more : ℕ) → (is : IsFullBefore d m stamp number x (session_on database) last used more) → (full : IsFullIn d calls database x used more) × (full.written ≡ is.s.entries) × (is.call ≡ closing → full.more ≡ freed)
+  full_in used more is = (
     record {
       written = is.s.entries;
       more = is.more;
@@ -112,7 +131,7 @@ module _ {Key : Type 0} (d : Dialect) (m : Meaning Key) (stamp : Stamp) (number 
       appends = ap (λ (s : Session). (called d is.call s).entries) (sym is.came.is) ∙ is.appends;
       next_call = elim is.next_call [
         | inl goes ↦ inl (goes.0, calls_both d is.came.calls (is.call ∷ goes.0) (session_on database) ∙ ap (all_called d (is.call ∷ goes.0)) (sym is.came.is) ∙ goes.1)
-        | inr left ↦ inr (left, some)
+        | inr left ↦ inr (left, has_closing)
       ];
       used_is = is.used_is;
       next_is = is.next_is;
@@ -137,20 +156,20 @@ module _ {Key : Type 0} (d : Dialect) (m : Meaning Key) (stamp : Stamp) (number 
     frees closes (inr both) = append_cancel_left is.s.entries is.more freed (sym is.appends ∙ ap (λ call. (called d call is.s).entries) closes ∙ closing_entry d is.s both.1)
 
   -- and how its lock rests
-  module _ (some : calls ≢ []) (used more : ℕ) (is : RestsBefore d m stamp number x (session_on database) last false None used more y) where
+  module _ (used more : ℕ) (is : RestsBefore d m stamp number x (session_on database) last false None used more y) where
     module _ (full : StaysFull d m stamp number x (session_on database) last used more is.s) where
       told : (it : IsFullIn d calls database x used more) × (it.written ≡ full.0.s.entries) × (full.0.call ≡ closing → it.more ≡ freed)
-      told = full_in some used more full.0
+      told = full_in used more full.0
 
       behind_so : (t : Session) → IsAtMostFreed is.s.entries t.entries → IsAtMostFreed told.0.written t.entries
       behind_so t behind = subst (λ w. IsAtMostFreed w t.entries) (full.1 ∙ sym told.1) behind
 
       rests_there : Stands x number y is.s → LeavesLock is.s.committed.lock told.0.more is.s.entries → RestsIn d calls database x y used more
-      rests_there stands lock = rests_at d number x database has calls y is.s is.came (left_before is.s is.came is.before) stands is.shut.0 used more told.0 (behind_so is.s (inl refl)) lock
+      rests_there stands lock = rests_at d number x database has calls y is.s is.came (left_before is.s is.came is.before) (front_before is.s is.before) stands is.shut.0 used more told.0 (behind_so is.s (inl refl)) lock
 
       lets_go : ((IsBare stamp is.s.committed.lock × Stands x number y (called d closing is.s)) ⊎ (IsMarked stamp is.s.committed.lock × Stands x number y is.s)) → RestsIn d calls database x y used more
       lets_go (inl bare) =
-          rests_at d number x database has calls y (called d closing is.s) (came_on d (session_on database) is.s closing is.came) (left_closed is.s is.came is.before bare.0 is.shut.1) bare.1 (closing_shuts d is.s)
+          rests_at d number x database has calls y (called d closing is.s) (came_on d (session_on database) is.s closing is.came) (left_closed is.s is.came is.before bare.0 is.shut.1) (held_closed is.s is.came is.before bare.0 is.shut.1) bare.1 (closing_shuts d is.s)
           used more told.0 (behind_so (called d closing is.s) (inr (closing_entry d is.s is.shut.1))) (inl (inl (closing_frees d is.s)))
       lets_go (inr marked) = rests_there marked.1 (inl (inr (marked_some stamp is.s.committed.lock marked.0)))
 
@@ -168,15 +187,15 @@ module _ {Key : Type 0} (d : Dialect) (m : Meaning Key) (stamp : Stamp) (number 
       by (inl gone) = lets_go (since gone.0) gone.1
       by (inr still) = at_lock still.1.0 still.0 still.1.1
 
-  left_as : calls ≢ [] → (e : End) → EndsAs d m stamp number x (session_on database) last false None e y → LeftAs d calls database x e y
-  left_as some end.Done ends = tt
-  left_as some (end.Refused refusal) ends = tt
-  left_as some (end.Locked lock) ends = tt
-  left_as some end.Disk ends = breaks_in ends
-  left_as some (end.Full used more) ends = rests_in some used more ends.1
-  left_as some end.OutOfMemory ends = stops_in ends
+  left_as : (e : End) → EndsAs d m stamp number x (session_on database) last false None e y → LeftAs d calls database x e y
+  left_as end.Done ends = tt
+  left_as (end.Refused refusal) ends = tt
+  left_as (end.Locked lock) ends = tt
+  left_as end.Disk ends = breaks_in ends
+  left_as (end.Full used more) ends = rests_in used more ends.1
+  left_as end.OutOfMemory ends = stops_in ends
 
-pub left_all : {Key Told : Type 0} (d : Dialect) (m : Meaning Key) (stamp : Stamp) (number : ℕ) (r : Standing Key Told) (x y : State) (e : End) → RunsWhole d m stamp number r x e y → LeftAll d m stamp r x e y
-left_all d m stamp number r x y e whole unmarked database told has known fits =
-    left_as d m stamp number unmarked x y database has (script d m stamp (place r) database) some_calls e
+pub left_all : {Key Told : Type 0} (d : Dialect) (m : Meaning Key) (stamp : Stamp) (number : ℕ) (r : Standing Key Told) → IsNew d m stamp r → (x y : State) (e : End) → RunsWhole d m stamp number r x e y → LeftAll d m stamp r x e y
+left_all d m stamp number r new x y e whole unmarked database told has known fits =
+    left_as d m stamp number unmarked x y database has (script d m stamp (place r) database) (script_closes d m stamp r new database) e
     (whole x (session_on database) told (record { dialect = has.dialect; stands = stands_there d number x database has; shut = refl; known = known; fits = fits }))

@@ -27,7 +27,7 @@ use Rattle.lq_turns.specs.declared.deed.OnLock.TheVariants.{Freed}
 use Rattle.lq_turns.specs.declared.deed.OnRows.TheVariants.{Cleared, Tagged}
 use Rattle.lq_turns.specs.declared.stamp.Stamp.{Stamp}
 use Rattle.lq_beside.specs.Replays.{calls_fit}
-use Rattle.lq_run.proofs.Begins.{ends_script, first_session}
+use Rattle.lq_run.proofs.Begins.{ends_script, first_session, script_closes}
 use Rattle.lq_run.proofs.Grows.{calls_grow, came_all}
 use Rattle.lq_run.proofs.Left.{stands_there}
 use Rattle.lq_run.proofs.Opens.{all_opening_fits}
@@ -115,7 +115,7 @@ module _ {Key Told : Type 0} (read : StatementsReadBack) (d : Dialect) (m : Mean
         by (inl front) = in_front read d calls database fits there left is.written front.0 (sym (ap (λ (s : Session). s.entries) last_is) ∙ front.1) is.is
         by (inr freed) =
             let came = came_all d (session_on database) first freed.0 (record { calls = Alone (map Locks (opening stamp database)) Ordinary ∷ []; is = refl }) freed.1 in
-            in_closed read d calls database fits freed.0 came (subst (IsBefore freed.0) last_is freed.2) (ap (λ (lock : Lock). lock.locked) freed.3) (ap has_mark freed.3 ∙ unmarked) freed.4 there left
+            in_closed read d calls database fits freed.0 came (subst (IsBefore freed.0) last_is freed.2) (ap (λ (lock : Lock). lock.locked) freed.3) (ap has_mark freed.3 ∙ unmarked) freed.4 (script_closes d m stamp r new database) there left
             (is.is ∙ ap (λ es. there ++ entries_of d es) freed.5)
 
     pub begun : CrashesAll d m stamp r x a c

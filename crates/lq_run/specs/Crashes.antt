@@ -24,6 +24,7 @@ use Rattle.lq_turns.specs.declared.deed.Deed.TheVariants.{Locks}
 use Rattle.lq_turns.specs.declared.stamp.Stamp.{Stamp}
 use Rattle.lq_beside.specs.Replays.{calls_fit}
 use Rattle.lq_run.specs.Commands.{HasDatabase, OnAll, script}
+use Rattle.lq_run.specs.Left.{ClosesHeld}
 use Rattle.lq_run.specs.Stands.{entries_of}
 use Rattle.lq_run.specs.Steps.{Standing, place}
 
@@ -31,6 +32,7 @@ use Rattle.lq_run.specs.Steps.{Standing, place}
 pub record LeftInCommand (d : Dialect) (calls : List Call) (database : Database) (there left : List Entry) : Type 0 where
   pub written : Journal
   pub stops : IsLeft d calls database [] written
+  pub closes : ClosesHeld d calls database written
   pub is : left ≡ there ++ entries_of d written
   pub now : Database
   pub led : all_done d (joined written) database ≡ Ok now

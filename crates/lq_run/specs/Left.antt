@@ -1,6 +1,6 @@
 -- What is left in words of databases: by a call that is a transaction of its own, and by a command that a fault of the store ended.
 use Rattle.std.specs.Option.{option_map}
-use Rattle.std.specs.Prelude.{Err, List, None, Ok, Result, Some, [], false, map, true, ℕ, ◌+◌, ◌++◌, ◌∷◌, ◌≡◌, ◌≢◌, ◌⊎◌}
+use Rattle.std.specs.Prelude.{Err, List, None, Ok, Result, Some, [], false, map, true, ℕ, ◌+◌, ◌++◌, ◌∷◌, ◌≡◌, ◌⊎◌}
 use Rattle.lq_base.specs.declared.dialect.Dialect.{Dialect}
 use Rattle.lq_base.specs.declared.identity.Identity.{Identity}
 use Rattle.lq_base.specs.declared.tracking.Lock.{Lock}
@@ -17,10 +17,10 @@ use Rattle.lq_store.specs.State.{State}
 use Rattle.lq_track.specs.Database.{Database}
 use Rattle.lq_track.specs.Log.{identity_of}
 use Rattle.lq_turns.specs.Deed.{all_done}
-use Rattle.lq_turns.specs.Script.{clear_calls, last_row, opening, release_calls, tag_calls}
+use Rattle.lq_turns.specs.Script.{clear_calls, closing, last_row, opening, release_calls, tag_calls}
 use Rattle.lq_turns.specs.Session.{all_called, called, room_of, session_on}
 use Rattle.lq_turns.specs.Set.{Meaning}
-use Rattle.lq_turns.specs.Stops.{IsLeft, Journal, is_mark, joined}
+use Rattle.lq_turns.specs.Stops.{IsLeft, Journal, has_mark, is_mark, joined}
 use Rattle.lq_turns.specs.declared.call.Call.{Call}
 use Rattle.lq_turns.specs.declared.call.Call.TheVariants.{Alone}
 use Rattle.lq_turns.specs.declared.deed.Deed.TheVariants.{Locks}
@@ -34,9 +34,34 @@ use Rattle.lq_run.specs.Steps.{Standing, place}
 use Rattle.lq_run.specs.declared.runner.End.{End}
 use Rattle.lq_run.specs.declared.runner.End.TheVariants as end
 
--- after those that were made the call is the next on the way to where these calls lead; or one of those that are left after a fault of one of them
+-- one of these calls frees the lock
+pub record HasClosing (calls : List Call) : Type 0 where
+  pub before : List Call
+  pub after : List Call
+  pub is : calls ≡ before ++ closing ∷ after
+
+-- what was written is a front of the entries of these calls
+abbrev pub IsFrontIn : Dialect → List Call → Database → Journal → Type 0
+IsFrontIn d calls database written = (rest : Journal) × ((all_called d calls (session_on database)).entries ≡ written ++ rest)
+
+-- One of these calls frees the lock, and what was written is a front of their entries, behind which the lock is held without a mark, and then the entry that frees it.
+pub record IsClosedIn (d : Dialect) (calls : List Call) (database : Database) (written : Journal) : Type 0 where
+  pub closes : HasClosing calls
+  pub front : Journal
+  pub is_front : IsFrontIn d calls database front
+  pub now : Database
+  pub led : all_done d (joined front) database ≡ Ok now
+  pub held : now.lock.locked ≡ true
+  pub unmarked : has_mark now.lock ≡ false
+  pub is : written ≡ front ++ freed
+
+-- more than a front of their entries is left only by calls of which one frees the lock, and only behind a front that leaves it held
+abbrev pub ClosesHeld : Dialect → List Call → Database → Journal → Type 0
+ClosesHeld d calls database written = IsFrontIn d calls database written ⊎ IsClosedIn d calls database written
+
+-- after those that were made the call is the next on the way to where these calls lead; or, where one of them frees the lock, one of those that are left after a fault
 abbrev pub IsNextIn : Dialect → List Call → Database → List Call → Call → Type 0
-IsNextIn d calls database made call = ((others : List Call) × (all_called d (made ++ call ∷ others) (session_on database) ≡ all_called d calls (session_on database))) ⊎ (IsLastCall call × (calls ≢ []))
+IsNextIn d calls database made call = ((others : List Call) × (all_called d (made ++ call ∷ others) (session_on database) ≡ all_called d calls (session_on database))) ⊎ (IsLastCall call × HasClosing calls)
 
 -- Behind what was written, a front of the entries of these calls, those of the next call have no room; only what frees the lock may use all of the journal.
 pub record IsFullIn (d : Dialect) (calls : List Call) (database : Database) (x : State) (used next : ℕ) : Type 0 where
@@ -61,6 +86,7 @@ pub record IsFullIn (d : Dialect) (calls : List Call) (database : Database) (x :
 pub record StopsIn (d : Dialect) (calls : List Call) (database : Database) (x y : State) : Type 0 where
   pub written : Journal
   pub left : IsLeft d calls database [] written
+  pub closes : ClosesHeld d calls database written
   pub now : Database
   pub led : all_done d (joined written) database ≡ Ok now
   pub database_is : HasDatabase d (aborted y) now
@@ -117,6 +143,7 @@ LeavesReleased d x result y = (database : Database) → HasDatabase d x database
 pub record BreaksIn (d : Dialect) (calls : List Call) (database : Database) (x y : State) : Type 0 where
   pub written : Journal
   pub left : IsLeft d calls database [] written
+  pub closes : ClosesHeld d calls database written
   pub fails : Fails (entries_of d written) x y
 
 -- so a command ends that met a fault

@@ -73,6 +73,7 @@ module _ (d : Dialect) (calls : List Call) (database : Database) (told : Option 
         record {
           written = it.written;
           stops = it.stops;
+          closes = it.closes;
           entries = are ∙ ap Some it.is ∙ ap (option_map (λ (entries : List Entry). entries ++ entries_of d it.written)) (sym were);
           now = it.now;
           led = it.led;

@@ -115,7 +115,7 @@ module _ {D P E : Type 0} (d p : Dialect) (told : Option (List ℕ)) (crashes : 
   stops_there calls stops =
       let there = entries_told in
       let it = holds_then d p now later k left (valid.lives stops.database_is.live) stops.database_is.dialect (stops.limit ∙ limit) stops.now x stops.written stops.database_is.committed stops.entries told there.0 entries_were (sym entries_were ∙ there.1) in
-      (record { written = stops.written; stops = stops.left; entries = it.1; now = stops.now; led = stops.led; holds = it.0 }, refl, refl)
+      (record { written = stops.written; stops = stops.left; closes = stops.closes; entries = it.1; now = stops.now; led = stops.led; holds = it.0 }, refl, refl)
 
   -- what holds of the limit of the database's journal and of how much of it is in use holds of the file's
   pub on_journal : (holds : ℕ → ℕ → Type 0) → holds x.limit x.used → IfSome (entries_in d most_bytes told) (λ there. holds most_bytes (in_use there))

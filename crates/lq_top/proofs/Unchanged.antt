@@ -94,6 +94,7 @@ left_same d calls database before after opens same =
     subst (λ told. IsLeftOn d calls database before told) (sym same) (record {
       written = [];
       stops = record { front = []; rest = (all_called d calls (session_on database)).entries; entries = refl; now = database; led = refl; is = inl refl };
+      closes = inl ((all_called d calls (session_on database)).entries, refl);
       entries = no_more (entries_in d most_bytes before);
       now = database;
       led = refl;
@@ -107,6 +108,7 @@ becomes_left d calls database before after becomes =
     record {
       written = all;
       stops = record { front = all; rest = []; entries = sym (append-nil all); now = left_by d calls database; led = journal_leads d calls database; is = inl refl };
+      closes = inl ([], sym (append-nil all));
       entries = becomes.entries;
       now = left_by d calls database;
       led = journal_leads d calls database;

@@ -13,7 +13,7 @@ use Rattle.lq_model.specs.Catalogue.{Catalogue}
 use Rattle.lq_model.specs.declared.caller.Room.{Room}
 use Rattle.lq_model.specs.declared.caller.Room.TheVariants.{Ordinary}
 use Rattle.lq_outside.specs.Crash.{Crashes as DiskCrashes}
-use Rattle.lq_run.specs.Left.{IsAtMostFreed, IsNextIn, LeavesLock}
+use Rattle.lq_run.specs.Left.{ClosesHeld, IsAtMostFreed, IsNextIn, LeavesLock}
 use Rattle.lq_run.specs.Stands.{HadRoom, entries_of}
 use Rattle.lq_store.specs.Journal.{Entry, database as catalogue_by, end_of, is_full, size_of_all}
 use Rattle.lq_tell.specs.declared.done.Done.{Done}
@@ -66,6 +66,7 @@ pub record Becomes (d : Dialect) (calls : List Call) (database : Database) (befo
 pub record IsLeftOn (d : Dialect) (calls : List Call) (database : Database) (before after : Option (List ℕ)) : Type 0 where
   pub written : Journal
   pub stops : IsLeft d calls database [] written
+  pub closes : ClosesHeld d calls database written
   pub entries : entries_in d most_bytes after ≡ option_map (λ entries. entries ++ entries_of d written) (entries_in d most_bytes before)
   pub now : Database
   pub led : all_done d (joined written) database ≡ Ok now
