@@ -53,6 +53,7 @@ pub mod SnapshotRuns
 pub mod Soaked
 pub mod TakenBack
 pub mod Unchanged
+mod Unlocked
 pub mod UndoneOn
 pub mod UndoneOpens
 pub mod UndoneRuns

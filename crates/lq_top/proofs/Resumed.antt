@@ -23,8 +23,8 @@ use Rattle.lq_commands.proofs.LoadedTexts.{view_has}
 use Rattle.lq_commands.proofs.ViewsRead.{views_are_read}
 use Rattle.lq_commands.specs.Refusals.{if_halts, if_some, invalid, own_halt, refusal, unready}
 use Rattle.lq_commands.specs.Parts.{counted_in}
-use Rattle.lq_commands.specs.Rehearsal.{came, rehearsal_script, takes_back, updates}
-use Rattle.lq_commands.specs.Scripts.{log_in, rollback_script, rollback_to, sets_in, sets_script, update_script, updated_in}
+use Rattle.lq_commands.specs.Rehearsal.{after_update, came, rehearsal_script, taken_in, takes_back, updates}
+use Rattle.lq_commands.specs.Scripts.{log_in, rollback_script, rollback_to, rolled_to, sets_in, sets_script, update_script, updated_in}
 use Rattle.lq_commands.specs.Tells.{status_by}
 use Rattle.lq_commands.specs.Works.{is_finished}
 use Rattle.lq_commands.specs.declared.given.Given.{Given}
@@ -41,6 +41,7 @@ use Rattle.lq_rehearsal.proofs.FirstScripts.{rollback_sound, update_sound}
 use Rattle.lq_rehearsal.proofs.Shut.{rollback_over, update_over}
 use Rattle.lq_run.specs.Stands.{entries_of}
 use Rattle.lq_seen.proofs.OwnSums.{own_sum}
+use Rattle.lq_seen.specs.Printing.{Account}
 use Rattle.lq_seen.specs.Selection.{is_met}
 use Rattle.lq_seen.specs.View.{any_meaning, views}
 use Rattle.lq_store.specs.Journal.{Entry}
@@ -64,7 +65,7 @@ use Rattle.lq_turns.specs.Faults.{faults}
 use Rattle.lq_turns.specs.Laws.{AreKnown, AreRead, at_rest, rollback_calls}
 use Rattle.lq_turns.specs.Ran.{RanSince, Run as RunOf, are_reversible}
 use Rattle.lq_turns.specs.Rollback.{rollback_of, rows_kept, rows_undone, undo_turns}
-use Rattle.lq_turns.specs.Script.{calls_unless, clearing, closing, last_row, release_calls, tag_of, update_calls}
+use Rattle.lq_turns.specs.Script.{calls_unless, clearing, closing, last_row, release_calls, rows_to_sync, sync_of, tag_of, update_calls}
 use Rattle.lq_turns.specs.Session.{all_called, left_by, session_on}
 use Rattle.lq_turns.specs.Set.{Changelog, Set}
 use Rattle.lq_turns.specs.Settle.{tested, updated}
@@ -84,6 +85,7 @@ use Rattle.lq_turns.specs.declared.stop.Stop.{Stop}
 use Rattle.lq_turns.specs.declared.turn.Turn.{Turn}
 use Rattle.lq_top.proofs.InPart.{command_on_file, counted_read, loaded_command, runs_command, says_command}
 use Rattle.lq_top.proofs.Unchanged.{holds_it}
+use Rattle.lq_top.proofs.Unlocked.{entries_as, led_held, left_as, locked_as}
 use Rattle.lq_top.proofs.Written.{Does, IsWritten, failed_unfinished, false_true, was_over}
 use Rattle.lq_top.specs.Asks.{Asks, Files}
 use Rattle.lq_top.specs.Bytes.{Becomes, IsLeftOn, Opens, most_bytes}
@@ -392,27 +394,17 @@ same_left d calls database before after opens same left =
     let none = no_entry d left.written (nothing_behind held.entries (entries_of d left.written) (sym (some_entries here))) in
     ok_same (subst (λ (written : Journal). all_done d (joined written) database ≡ Ok left.now) none left.led)
 
--- how each job stands
+-- how each job stands that began with a free lock
 
 -- the changelog was read for the dialect, or nothing was written
 abbrev IsReadOr : Given → Option (List ℕ) → Option (List ℕ) → Type 0
 IsReadOr given before after = AreFor given.options.dialect given.changelog ⊎ (after ≡ before)
 
-module _ (given : Given) (database : Database) (before after : Option (List ℕ)) (opens : Opens given.options.dialect before database) (unlocked : database.lock ≡ free) where
-  update_stands : AreFor given.options.dialect given.changelog → (left : IsLeftOn given.options.dialect (update_script given database) database before after) → left.now.lock.locked ≡ true → UpdateHeld given database (last_or None (joined left.written)) left.now
-  update_stands read left locked = λ goes.
-      let it = front_led given.options.dialect database left.now (update_script given database) left.written left.stops left.led locked in
-      update_stops any_meaning kept given.options.dialect given.stamp (log_in given) database left.now left.written it.0 opens.stands.sound (views_are_read given.options.dialect given.options given.changelog read) unlocked goes it.1 left.led locked
-
-  held_stands : IsReadOr given before after → (left : IsLeftOn given.options.dialect (update_script given database) database before after) → left.now.lock.locked ≡ true → UpdateHeld given database (last_or None (joined left.written)) left.now
-  held_stands read left locked = elim read as (λ _. UpdateHeld given database (last_or None (joined left.written)) left.now) [
-    | inl its ↦ update_stands its left locked
-    | inr same ↦ absurd (unlocked_held left.now database (ap (λ (e : Database). e.lock) (sym (same_left given.options.dialect (update_script given database) database before after opens same left))) unlocked locked)
-  ]
-
-counted_or : (count : ℕ) (given : Given) (rows : List Tracked) (before after : Option (List ℕ)) → IsReadOr given before after → IsReadOr (counted_in count given rows) before after
-counted_or count given rows before after (inl read) = inl (counted_read count given rows read)
-counted_or count given rows before after (inr same) = inr same
+module _ (given : Given) (database now : Database) (written : Journal) (sound : IsSound given.options.dialect database.users) (unlocked : database.lock ≡ free) (led : all_done given.options.dialect (joined written) database ≡ Ok now) (locked : now.lock.locked ≡ true) where
+  update_stands : AreFor given.options.dialect given.changelog → IsLeft given.options.dialect (update_script given database) database [] written → UpdateHeld given database (last_or None (joined written)) now
+  update_stands read left = λ goes.
+      let it = front_led given.options.dialect database now (update_script given database) written left led locked in
+      update_stops any_meaning kept given.options.dialect given.stamp (log_in given) database now written it.0 sound (views_are_read given.options.dialect given.options given.changelog read) unlocked goes it.1 led locked
 
 -- a rehearsal stands as the run that was stopped
 
@@ -479,41 +471,129 @@ module _ (given : Given) (database now : Database) (sound : IsSound given.option
       in_one its (update_script given database) (calls_unless o (back ++ calls_unless p (sets_script given two))) database now (update_over given database) one_free locked Stands front left is led (λ more whole. inl (in_update front more whole led))
       (λ behind more so. in_rest o p behind left more so)
 
-module _ (given : Given) (database : Database) (before after : Option (List ℕ)) (opens : Opens given.options.dialect before database) (unlocked : database.lock ≡ free) where
-  rehearsal_stands : IsReadOr given before after → (left : IsLeftOn given.options.dialect (rehearsal_script given database) database before after) → left.now.lock.locked ≡ true → RehearsalHeld given database (last_or None (joined left.written)) left.now
-  rehearsal_stands (inl read) left locked =
-      let it = front_led given.options.dialect database left.now (rehearsal_script given database) left.written left.stops left.led locked in
+module _ (given : Given) (database now : Database) (written : Journal) (sound : IsSound given.options.dialect database.users) (unlocked : database.lock ≡ free) (led : all_done given.options.dialect (joined written) database ≡ Ok now) (locked : now.lock.locked ≡ true) where
+  rehearsal_stands : AreFor given.options.dialect given.changelog → IsLeft given.options.dialect (rehearsal_script given database) database [] written → RehearsalHeld given database (last_or None (joined written)) now
+  rehearsal_stands read left =
+      let it = front_led given.options.dialect database now (rehearsal_script given database) written left led locked in
       let one = left_by given.options.dialect (update_script given database) database in
-      in_runs given database left.now opens.stands.sound unlocked read locked ((updates given).told database).stop ((takes_back given (length database.rows)).told one).stop left.written it.0 it.1 left.led
-  rehearsal_stands (inr same) left locked =
-      absurd (unlocked_held left.now database (ap (λ (e : Database). e.lock) (sym (same_left given.options.dialect (rehearsal_script given database) database before after opens same left))) unlocked locked)
+      in_runs given database now sound unlocked read locked ((updates given).told database).stop ((takes_back given (length database.rows)).told one).stop written it.0 it.1 led
 
-module _ (given : Given) (database : Database) (before after : Option (List ℕ)) (opens : Opens given.options.dialect before database) (unlocked : database.lock ≡ free) where
-  stands : (job : Job) → (is_on_file job ≡ true → IsReadOr given before after) → (left : IsLeftOn given.options.dialect (job_script job given database) database before after) → left.now.lock.locked ≡ true → StandsHeld job given database (last_or None (joined left.written)) left.now
-  stands (Run command.Validate) read left locked = none_held given.options.dialect database left.now left.written left.stops left.led unlocked locked
-  stands (Run command.Status) read left locked = none_held given.options.dialect database left.now left.written left.stops left.led unlocked locked
-  stands (Run command.Update) read left locked = held_stands given database before after opens unlocked (read refl) left locked
-  stands (Run (command.Tag name)) read left locked = tag_held given.options.dialect database left.now name (last_row database.rows) left.written left.stops left.led unlocked locked
-  stands (Run (command.Rollback target)) read left locked =
-      back_stands given target database left.now left.written (turns_to given target database) refl
-      (subst (λ (cs : List Call). IsLeft given.options.dialect cs database [] left.written) (turns_by given target database (rows_kept target database.rows)) left.stops) left.led unlocked locked
-  stands (Run command.Sync) read left locked =
-      let it = front_led given.options.dialect database left.now (job_script (Run command.Sync) given database) left.written left.stops left.led locked in
-      sync_stops AnyChange given.options.dialect given.stamp (log_in given) database left.now left.written it.0 unlocked it.1 left.led locked
-  stands (Run command.Release) read left locked = release_held given.options.dialect database left.now left.written left.stops left.led unlocked locked
-  stands (UpdateCount count) read left locked =
-      held_stands (counted_in count given database.rows) database before after opens unlocked (counted_or count given database.rows before after (read refl)) left locked
-  stands (UpdateTo tag) read left locked = held_stands given database before after opens unlocked (read refl) left locked
-  stands UpdateTestingRollback read left locked = rehearsal_stands given database before after opens unlocked (read refl) left locked
-  stands ClearSums read left locked = clear_held given.options.dialect database left.now (is_empty database.rows) left.written left.stops left.led unlocked locked
-  stands History read left locked = none_held given.options.dialect database left.now left.written left.stops left.led unlocked locked
-  stands (Generate author) read left locked = none_held given.options.dialect database left.now left.written left.stops left.led unlocked locked
-  stands UpdateSql read left locked = none_held given.options.dialect database left.now left.written left.stops left.led unlocked locked
-  stands (RollbackSql target) read left locked = none_held given.options.dialect database left.now left.written left.stops left.led unlocked locked
-  stands (Drill path) read left locked = none_held given.options.dialect database left.now left.written left.stops left.led unlocked locked
-  stands (Soak number sets) read left locked = none_held given.options.dialect database left.now left.written left.stops left.led unlocked locked
-  stands UndoUnrecorded read left locked = none_held given.options.dialect database left.now left.written left.stops left.led unlocked locked
-  stands Snapshot read left locked = none_held given.options.dialect database left.now left.written left.stops left.led unlocked locked
+  stands : (job : Job) → (is_on_file job ≡ true → AreFor given.options.dialect given.changelog) → IsLeft given.options.dialect (job_script job given database) database [] written → StandsHeld job given database (last_or None (joined written)) now
+  stands (Run command.Validate) read left = none_held given.options.dialect database now written left led unlocked locked
+  stands (Run command.Status) read left = none_held given.options.dialect database now written left led unlocked locked
+  stands (Run command.Update) read left = update_stands given database now written sound unlocked led locked (read refl) left
+  stands (Run (command.Tag name)) read left = tag_held given.options.dialect database now name (last_row database.rows) written left led unlocked locked
+  stands (Run (command.Rollback target)) read left =
+      back_stands given target database now written (turns_to given target database) refl
+      (subst (λ (cs : List Call). IsLeft given.options.dialect cs database [] written) (turns_by given target database (rows_kept target database.rows)) left) led unlocked locked
+  stands (Run command.Sync) read left =
+      let it = front_led given.options.dialect database now (job_script (Run command.Sync) given database) written left led locked in
+      sync_stops AnyChange given.options.dialect given.stamp (log_in given) database now written it.0 unlocked it.1 led locked
+  stands (Run command.Release) read left = release_held given.options.dialect database now written left led unlocked locked
+  stands (UpdateCount count) read left = update_stands (counted_in count given database.rows) database now written sound unlocked led locked (counted_read count given database.rows (read refl)) left
+  stands (UpdateTo tag) read left = update_stands given database now written sound unlocked led locked (read refl) left
+  stands UpdateTestingRollback read left = rehearsal_stands (read refl) left
+  stands ClearSums read left = clear_held given.options.dialect database now (is_empty database.rows) written left led unlocked locked
+  stands History read left = none_held given.options.dialect database now written left led unlocked locked
+  stands (Generate author) read left = none_held given.options.dialect database now written left led unlocked locked
+  stands UpdateSql read left = none_held given.options.dialect database now written left led unlocked locked
+  stands (RollbackSql target) read left = none_held given.options.dialect database now written left led unlocked locked
+  stands (Drill path) read left = none_held given.options.dialect database now written left led unlocked locked
+  stands (Soak number sets) read left = none_held given.options.dialect database now written left led unlocked locked
+  stands UndoUnrecorded read left = none_held given.options.dialect database now written left led unlocked locked
+  stands Snapshot read left = none_held given.options.dialect database now written left led unlocked locked
+
+-- and so each that began with a lock that was not held: its calls take the lock before all else
+
+module _ (given : Given) where
+  abbrev of_it : Dialect
+  of_it = given.options.dialect
+
+  abbrev back_from : ℕ → Database → List Call
+  back_from stay database = rollback_script given (Count (came stay database)) database
+
+  turns_as : (lock : Lock) (database : Database) (turns : List Turn) → rollback_of of_it given.stamp turns (locked_as lock database) ≡ rollback_of of_it given.stamp turns database
+  turns_as lock database [] = refl
+  turns_as lock database (turn ∷ turns) = refl
+
+  back_as : (lock : Lock) (database : Database) (target : Target) → rollback_script given target (locked_as lock database) ≡ rollback_script given target database
+  back_as lock database target = by (rows_kept target database.rows) where
+    undone : (o : Option (List Turn)) → of_turns given target (locked_as lock database) o ≡ of_turns given target database o
+    undone None = refl
+    undone (Some turns) = turns_as lock database turns
+
+    by : (o : Option ℕ) → rollback_to given o (locked_as lock database) ≡ rollback_to given o database
+    by None = refl
+    by (Some stay) = undone (undo_turns of_it any_meaning (sets_in given) (rows_undone stay database.rows))
+
+  taken_as : (stay : ℕ) (lock : Lock) (database : Database) → taken_in given stay (locked_as lock database) ≡ taken_in given stay database
+  taken_as stay lock database = by (rows_kept (Count (came stay database)) database.rows) where
+    by : (o : Option ℕ) → rolled_to false given o (locked_as lock database) ≡ rolled_to false given o database
+    by None = refl
+    by (Some stay) = refl
+
+  sync_as : (lock : Lock) (database : Database) (rows : List Tracked) → sync_of of_it given.stamp rows (locked_as lock database) ≡ sync_of of_it given.stamp rows database
+  sync_as lock database [] = refl
+  sync_as lock database (row ∷ rows) = refl
+
+  -- the runs of a rehearsal behind its first
+
+  behind_as : (stay : ℕ) (lock : Lock) (database : Database) → (after_update given stay).calls (locked_as lock database) ≡ (after_update given stay).calls database
+  behind_as stay lock database =
+      let other = locked_as lock database in
+      ap (λ (calls : List Call). calls ++ calls_unless (taken_in given stay other).settled.stop (sets_script given (left_by of_it calls other))) (back_as lock database (Count (came stay database)))
+      ∙ ap (λ (account : Account). back_from stay database ++ calls_unless account.settled.stop (sets_script given (left_by of_it (back_from stay database) other))) (taken_as stay lock database)
+      ∙ ap (λ (two : Database). back_from stay database ++ calls_unless (taken_in given stay database).settled.stop (sets_script given two)) (left_as of_it (back_from stay database) database lock).1
+
+  rehearsal_as : (lock : Lock) (database : Database) → rehearsal_script given (locked_as lock database) ≡ rehearsal_script given database
+  rehearsal_as lock database =
+      let one = left_as of_it (update_script given database) database lock in
+      ap (λ (more : List Call). update_script given database ++ calls_unless ((updates given).told database).stop more)
+      (ap (after_update given (length database.rows)).calls one.1 ∙ behind_as (length database.rows) one.0 (left_by of_it (update_script given database) database))
+
+  script_as : (job : Job) (database : Database) → database.lock.locked ≡ false → job_script job given (locked_as free database) ≡ job_script job given database
+  script_as (Run (command.Rollback target)) database unlocked = back_as free database target
+  script_as (Run command.Sync) database unlocked = sync_as free database (rows_to_sync given.stamp.reading (sets_in given) database.rows)
+  script_as (Run command.Release) database unlocked = sym (ap (λ b. if b then closing ∷ [] else []) unlocked)
+  script_as UpdateTestingRollback database unlocked = rehearsal_as free database
+  script_as job database unlocked = refl
+
+  abbrev HeldIn : Database → Option Deed → Database → Database → Database → Type 0
+  HeldIn database last now one two = UpdateHeld given database last now ⊎ (BackHeld given (Count (came (length database.rows) one)) one last now ⊎ UpdateHeld given two last now)
+
+  rehearsal_held : (lock : Lock) (database : Database) (last : Option Deed) (now : Database) → RehearsalHeld given (locked_as lock database) last now → RehearsalHeld given database last now
+  rehearsal_held lock database last now held =
+      let one = left_by of_it (update_script given database) database in
+      let first = left_as of_it (update_script given database) database lock in
+      let stay = length database.rows in
+      let other = locked_as first.0 one in
+      let at_first : HeldIn database last now other (left_by of_it (back_from stay other) other) = subst (λ (a : Database). HeldIn database last now a (left_by of_it (back_from stay a) a)) first.1 held in
+      let same_back : HeldIn database last now other (left_by of_it (back_from stay one) other) =
+      subst (λ (calls : List Call). HeldIn database last now other (left_by of_it calls other)) (back_as first.0 one (Count (came stay one))) at_first in
+      subst (HeldIn database last now one) (left_as of_it (back_from stay one) one first.0).1 same_back
+
+  held_as : (job : Job) (database : Database) (last : Option Deed) (now : Database) → StandsHeld job given (locked_as free database) last now → StandsHeld job given database last now
+  held_as (Run command.Update) database last now held = held
+  held_as UpdateTestingRollback database last now held = rehearsal_held free database last now held
+  held_as job database last now held = held
+
+module _ (given : Given) (database : Database) (before after : Option (List ℕ)) (opens : Opens given.options.dialect before database) (unlocked : database.lock.locked ≡ false) where
+  -- where nothing was written no lock is held
+  is_read : (calls : List Call) → (left : IsLeftOn given.options.dialect calls database before after) → left.now.lock.locked ≡ true → IsReadOr given before after → AreFor given.options.dialect given.changelog
+  is_read calls left locked (inl read) = read
+  is_read calls left locked (inr same) = absurd (false_true (sym unlocked ∙ (ap (λ (e : Database). e.lock.locked) (same_left given.options.dialect calls database before after opens same left) ∙ locked)))
+
+  stands_on : (job : Job) → (is_on_file job ≡ true → IsReadOr given before after) → (left : IsLeftOn given.options.dialect (job_script job given database) database before after) → left.now.lock.locked ≡ true
+      → StandsHeld job given database (last_or None (joined left.written)) left.now
+  stands_on job read left locked =
+      let d = given.options.dialect in
+      let calls = job_script job given database in
+      let it = front_led d database left.now calls left.written left.stops left.led locked in
+      let led = led_held d (joined left.written) database left.now free left.led unlocked locked in
+      let left_free : IsLeft d calls (locked_as free database) [] left.written = record { front = left.written; rest = it.0; entries = entries_as d calls database free ∙ it.1; now = left.now; led = led; is = inl refl } in
+      held_as given job database (last_or None (joined left.written)) left.now
+      (stands given (locked_as free database) left.now left.written opens.stands.sound refl led locked job (λ on. is_read calls left locked (read on))
+      (subst (λ (cs : List Call). IsLeft d cs (locked_as free database) [] left.written) (sym (script_as given job database unlocked)) left_free))
 
 module _ {words : List (List ℕ)} {files : Files} (asks : Asks words files) (stamp : Stamp) (before : Option (List ℕ)) where
   read_or : (database : Database) (done : Result Done Status) (after : Option (List ℕ)) → Does asks.line.job (given_by asks stamp) database before done after → IsReadOr (given_by asks stamp) before after
@@ -525,9 +605,9 @@ module _ {words : List (List ℕ)} {files : Files} (asks : Asks words files) (st
   -- in the end
   pub leaves_marked : (done : Result Done Status) (after : Option (List ℕ)) → DoesLine asks.line.job (given_by asks stamp) before done after → LeavesMarked asks stamp before after
   leaves_marked done after does = λ database opens unlocked left locked.
-      stands (given_by asks stamp) database before after opens unlocked asks.line.job (λ on. read_or database done after (does on database opens)) left locked
+      stands_on (given_by asks stamp) database before after opens unlocked asks.line.job (λ on. read_or database done after (does on database opens)) left locked
 
   -- and on any bytes
   pub crash_marked : AreFor asks.line.options.dialect asks.changelog → (bytes : List ℕ) → LeavesMarked asks stamp before (Some bytes)
   crash_marked read bytes = λ database opens unlocked left locked.
-      stands (given_by asks stamp) database before (Some bytes) opens unlocked asks.line.job (λ on. inl read) left locked
+      stands_on (given_by asks stamp) database before (Some bytes) opens unlocked asks.line.job (λ on. inl read) left locked

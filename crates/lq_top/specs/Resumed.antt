@@ -118,8 +118,8 @@ StandsHeld (Runs command.Sync) given database last now = IsBetween given.stamp (
 StandsHeld UpdateTestingRollback given database last now = RehearsalHeld given database last now
 StandsHeld job given database last now = ⊥
 
--- where a stop of the job, which began with a free lock, left the lock held
+-- where a stop of the job, which began with a lock that was not held, left it held
 abbrev pub LeavesMarked : {words : List (List ℕ)} {files : Files} → Asks words files → Stamp → Option (List ℕ) → Option (List ℕ) → Type 0
-LeavesMarked asks stamp before after = OnFile asks.line.options.dialect before (λ database. database.lock ≡ free
+LeavesMarked asks stamp before after = OnFile asks.line.options.dialect before (λ database. database.lock.locked ≡ false
     → (left : IsLeftOn asks.line.options.dialect (job_script asks.line.job (given_by asks stamp) database) database before after) → left.now.lock.locked ≡ true
     → StandsHeld asks.line.job (given_by asks stamp) database (last_or None (joined left.written)) left.now)
