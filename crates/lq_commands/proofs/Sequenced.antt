@@ -7,7 +7,7 @@ use Rattle.lq_base.specs.declared.reason.Reason.{Reason}
 use Rattle.lq_model.specs.Script.{if_any}
 use Rattle.lq_run.proofs.Rooms.{both_rooms, sizes}
 use Rattle.lq_run.specs.Commands.{Leaves}
-use Rattle.lq_run.specs.Left.{ClosesHeld, HasClosing, IsClosedIn, IsFrontIn, IsFullIn, IsNextIn}
+use Rattle.lq_run.specs.Left.{ClosesHeld, HasClosing, IsFrontIn, IsFullIn, IsNextIn}
 use Rattle.lq_run.specs.Stands.{HadRoom, entries_of, entry_of}
 use Rattle.lq_store.specs.Journal.{end_of, is_full, size_of_all}
 use Rattle.lq_store.specs.State.{State}

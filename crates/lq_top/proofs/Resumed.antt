@@ -65,7 +65,7 @@ use Rattle.lq_turns.specs.Faults.{faults}
 use Rattle.lq_turns.specs.Laws.{AreKnown, AreRead, at_rest, rollback_calls}
 use Rattle.lq_turns.specs.Ran.{RanSince, Run as RunOf, are_reversible}
 use Rattle.lq_turns.specs.Rollback.{rollback_of, rows_kept, rows_undone, undo_turns}
-use Rattle.lq_turns.specs.Script.{calls_unless, clearing, closing, last_row, release_calls, rows_to_sync, sync_of, tag_of, update_calls}
+use Rattle.lq_turns.specs.Script.{calls_unless, clearing, closing, last_row, release_calls, tag_of, update_calls}
 use Rattle.lq_turns.specs.Session.{all_called, left_by, session_on}
 use Rattle.lq_turns.specs.Set.{Changelog, Set}
 use Rattle.lq_turns.specs.Settle.{tested, updated}
@@ -85,7 +85,7 @@ use Rattle.lq_turns.specs.declared.stop.Stop.{Stop}
 use Rattle.lq_turns.specs.declared.turn.Turn.{Turn}
 use Rattle.lq_top.proofs.InPart.{command_on_file, counted_read, loaded_command, runs_command, says_command}
 use Rattle.lq_top.proofs.Unchanged.{holds_it}
-use Rattle.lq_top.proofs.Unlocked.{entries_as, led_held, left_as, locked_as}
+use Rattle.lq_top.proofs.Unlocked.{back_as, entries_as, led_held, left_as, locked_as, sync_as}
 use Rattle.lq_top.proofs.Written.{Does, IsWritten, failed_unfinished, false_true, was_over}
 use Rattle.lq_top.specs.Asks.{Asks, Files}
 use Rattle.lq_top.specs.Bytes.{Becomes, IsLeftOn, Opens, most_bytes}
@@ -512,36 +512,18 @@ module _ (given : Given) where
   abbrev back_from : ℕ → Database → List Call
   back_from stay database = rollback_script given (Count (came stay database)) database
 
-  turns_as : (lock : Lock) (database : Database) (turns : List Turn) → rollback_of of_it given.stamp turns (locked_as lock database) ≡ rollback_of of_it given.stamp turns database
-  turns_as lock database [] = refl
-  turns_as lock database (turn ∷ turns) = refl
-
-  back_as : (lock : Lock) (database : Database) (target : Target) → rollback_script given target (locked_as lock database) ≡ rollback_script given target database
-  back_as lock database target = by (rows_kept target database.rows) where
-    undone : (o : Option (List Turn)) → of_turns given target (locked_as lock database) o ≡ of_turns given target database o
-    undone None = refl
-    undone (Some turns) = turns_as lock database turns
-
-    by : (o : Option ℕ) → rollback_to given o (locked_as lock database) ≡ rollback_to given o database
-    by None = refl
-    by (Some stay) = undone (undo_turns of_it any_meaning (sets_in given) (rows_undone stay database.rows))
-
   taken_as : (stay : ℕ) (lock : Lock) (database : Database) → taken_in given stay (locked_as lock database) ≡ taken_in given stay database
   taken_as stay lock database = by (rows_kept (Count (came stay database)) database.rows) where
     by : (o : Option ℕ) → rolled_to false given o (locked_as lock database) ≡ rolled_to false given o database
     by None = refl
     by (Some stay) = refl
 
-  sync_as : (lock : Lock) (database : Database) (rows : List Tracked) → sync_of of_it given.stamp rows (locked_as lock database) ≡ sync_of of_it given.stamp rows database
-  sync_as lock database [] = refl
-  sync_as lock database (row ∷ rows) = refl
-
   -- the runs of a rehearsal behind its first
 
   behind_as : (stay : ℕ) (lock : Lock) (database : Database) → (after_update given stay).calls (locked_as lock database) ≡ (after_update given stay).calls database
   behind_as stay lock database =
       let other = locked_as lock database in
-      ap (λ (calls : List Call). calls ++ calls_unless (taken_in given stay other).settled.stop (sets_script given (left_by of_it calls other))) (back_as lock database (Count (came stay database)))
+      ap (λ (calls : List Call). calls ++ calls_unless (taken_in given stay other).settled.stop (sets_script given (left_by of_it calls other))) (back_as given lock database (Count (came stay database)))
       ∙ ap (λ (account : Account). back_from stay database ++ calls_unless account.settled.stop (sets_script given (left_by of_it (back_from stay database) other))) (taken_as stay lock database)
       ∙ ap (λ (two : Database). back_from stay database ++ calls_unless (taken_in given stay database).settled.stop (sets_script given two)) (left_as of_it (back_from stay database) database lock).1
 
@@ -552,8 +534,8 @@ module _ (given : Given) where
       (ap (after_update given (length database.rows)).calls one.1 ∙ behind_as (length database.rows) one.0 (left_by of_it (update_script given database) database))
 
   script_as : (job : Job) (database : Database) → database.lock.locked ≡ false → job_script job given (locked_as free database) ≡ job_script job given database
-  script_as (Run (command.Rollback target)) database unlocked = back_as free database target
-  script_as (Run command.Sync) database unlocked = sync_as free database (rows_to_sync given.stamp.reading (sets_in given) database.rows)
+  script_as (Run (command.Rollback target)) database unlocked = back_as given free database target
+  script_as (Run command.Sync) database unlocked = sync_as given free database
   script_as (Run command.Release) database unlocked = sym (ap (λ b. if b then closing ∷ [] else []) unlocked)
   script_as UpdateTestingRollback database unlocked = rehearsal_as free database
   script_as job database unlocked = refl
@@ -569,7 +551,7 @@ module _ (given : Given) where
       let other = locked_as first.0 one in
       let at_first : HeldIn database last now other (left_by of_it (back_from stay other) other) = subst (λ (a : Database). HeldIn database last now a (left_by of_it (back_from stay a) a)) first.1 held in
       let same_back : HeldIn database last now other (left_by of_it (back_from stay one) other) =
-      subst (λ (calls : List Call). HeldIn database last now other (left_by of_it calls other)) (back_as first.0 one (Count (came stay one))) at_first in
+      subst (λ (calls : List Call). HeldIn database last now other (left_by of_it calls other)) (back_as given first.0 one (Count (came stay one))) at_first in
       subst (HeldIn database last now one) (left_as of_it (back_from stay one) one first.0).1 same_back
 
   held_as : (job : Job) (database : Database) (last : Option Deed) (now : Database) → StandsHeld job given (locked_as free database) last now → StandsHeld job given database last now

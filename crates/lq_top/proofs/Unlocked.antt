@@ -1,19 +1,27 @@
--- Calls on databases that differ in the lock alone.
+-- Calls on databases that differ in the lock alone, and the scripts of commands there.
 use Rattle.std.proofs.Common.{ap, inl, inr, refl, subst, sym, ◌∙◌}
-use Rattle.std.specs.Prelude.{Bool, Err, List, Ok, Result, [], false, if◌then◌else◌, true, ◌++◌, ◌∷◌, ◌≡◌, ◌⊎◌}
+use Rattle.std.specs.Prelude.{Bool, Err, List, None, Ok, Option, Result, Some, [], false, if◌then◌else◌, true, ℕ, ◌++◌, ◌∷◌, ◌≡◌, ◌⊎◌}
+use Rattle.lq_base.specs.declared.command.Target.{Target}
 use Rattle.lq_base.specs.declared.dialect.Dialect.{Dialect}
 use Rattle.lq_base.specs.declared.reason.Reason.{Reason}
 use Rattle.lq_base.specs.declared.tracking.Lock.{Lock}
+use Rattle.lq_base.specs.declared.tracking.Tracked.{Tracked}
+use Rattle.lq_commands.specs.Scripts.{rollback_script, rollback_to, sets_in, sync_script}
+use Rattle.lq_commands.specs.declared.given.Given.{Given}
+use Rattle.lq_seen.specs.View.{any_meaning}
 use Rattle.lq_track.specs.Database.{Database}
 use Rattle.lq_turns.proofs.Journal.{next}
 use Rattle.lq_turns.specs.Contents.{Contents, contents_of, with_contents}
 use Rattle.lq_turns.specs.Deed.{all_done, contents_after, done, if_accepted, lock_after}
+use Rattle.lq_turns.specs.Rollback.{rollback_of, rows_kept, rows_undone, undo_turns}
+use Rattle.lq_turns.specs.Script.{rows_to_sync, sync_of}
 use Rattle.lq_turns.specs.Session.{Session, aborted, accepted, all_called, all_executed, all_executed_as, called, executed, executed_as, is_own, left_by, session_on, settled_if}
 use Rattle.lq_turns.specs.declared.call.Call.{Call}
 use Rattle.lq_turns.specs.declared.call.Call.TheVariants.{Abort, Alone, Begin, Commit, Execute}
 use Rattle.lq_turns.specs.declared.deed.Deed.{Deed}
 use Rattle.lq_turns.specs.declared.deed.Deed.TheVariants.{Locks, Rows, Users}
 use Rattle.lq_turns.specs.declared.deed.OnLock.TheVariants.{Freed, LockMade, LockRowMade, LogMade, Marked, Taken}
+use Rattle.lq_turns.specs.declared.turn.Turn.{Turn}
 
 ok_same : {x y : Database} → (let r : Result Database Reason = Ok x in r) ≡ Ok y → x ≡ y
 ok_same is = Prim.cc
@@ -171,3 +179,31 @@ module _ (d : Dialect) where
     where
       both : {b : Bool} → b ≡ true → b ≡ false → ⊥
       both yes_it no_it = Prim.cc
+
+-- and so the calls of a rollback and of a changelog-sync are made of all but the lock
+module _ (given : Given) (lock : Lock) (database : Database) where
+  turns_as : (turns : List Turn) → rollback_of given.options.dialect given.stamp turns (locked_as lock database) ≡ rollback_of given.options.dialect given.stamp turns database
+  turns_as [] = refl
+  turns_as (turn ∷ turns) = refl
+
+  -- of turns, where there are any
+  abbrev undone_by : Database → Option (List Turn) → List Call
+  undone_by x o = elim o as (λ _. List Call) [ Some turns ↦ rollback_of given.options.dialect given.stamp turns x | None ↦ [] ]
+
+  undone_as : (o : Option (List Turn)) → undone_by (locked_as lock database) o ≡ undone_by database o
+  undone_as None = refl
+  undone_as (Some turns) = turns_as turns
+
+  stay_as : (o : Option ℕ) → rollback_to given o (locked_as lock database) ≡ rollback_to given o database
+  stay_as None = refl
+  stay_as (Some stay) = undone_as (undo_turns given.options.dialect any_meaning (sets_in given) (rows_undone stay database.rows))
+
+  pub back_as : (target : Target) → rollback_script given target (locked_as lock database) ≡ rollback_script given target database
+  back_as target = stay_as (rows_kept target database.rows)
+
+  rows_as : (rows : List Tracked) → sync_of given.options.dialect given.stamp rows (locked_as lock database) ≡ sync_of given.options.dialect given.stamp rows database
+  rows_as [] = refl
+  rows_as (row ∷ rows) = refl
+
+  pub sync_as : sync_script given (locked_as lock database) ≡ sync_script given database
+  sync_as = rows_as (rows_to_sync given.stamp.reading (sets_in given) database.rows)

@@ -655,7 +655,7 @@ module _ {words : List (List ℕ)} {files : Files} (stamp : Stamp) (before : Opt
   has_run asks does = runs asks.line.job (given_by asks stamp) before done after s by does
 
   pub has_updated : (asks : Asks words files) → DoesAsks asks → HasUpdated asks stamp before s after
-  has_updated asks does database opens part is stands over =
+  has_updated asks does database opens part is over =
       let job = asks.line.job in
       let given = given_by asks stamp in
       let run : Command × Given = (command.Update, part) in
@@ -663,17 +663,17 @@ module _ {words : List (List ℕ)} {files : Files} (stamp : Stamp) (before : Opt
       let ran = runs_command given database run job is before s after (runs_by job given before done after s by database opens its) in
       let read = (loaded_command given database run job is (over_does job given before done after s by database opens its over).0).read in
       let sound = subst (λ (d : Dialect). IsSound d database.users) (same_dialect given database run job is) opens.stands.sound in
-      updates part database before after stands sound read (ran.works over)
+      updates part database before after sound read (ran.works over)
 
   pub has_synced : (asks : Asks words files) → DoesAsks asks → HasSynced asks stamp before s after
-  has_synced asks does is database opens stands over =
+  has_synced asks does is database opens over =
       let made = over_command asks.line.job (given_by asks stamp) before done after s by command.Sync is does database opens over in
-      syncs (given_by asks stamp) database before after stands made.1
+      syncs (given_by asks stamp) database before after made.1
 
   pub gone_back : (back : GoesBack words files before) → DoesAsks back.asks → GoneBack back s after
-  gone_back back does stands over =
+  gone_back back does over =
       let made = over_command back.asks.line.job (given_by back.asks stamp) before done after s by (command.Rollback back.target) back.is_rollback does back.database back.opens over in
-      restores (given_by back.asks stamp) back.database before after stands back.target back.before back.ran back.since back.reversible back.known back.stays made.1
+      restores (given_by back.asks stamp) back.database before after back.target back.before back.ran back.since back.reversible back.known back.stays made.1
 
 -- the log
 

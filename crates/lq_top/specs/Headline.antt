@@ -2,6 +2,7 @@
 use Rattle.std.specs.Prelude.{Bool, List, Option, Some, [], false, length, map, true, ℕ, ◌≡◌, ◌⊎◌}
 use Rattle.lq_base.specs.declared.command.Command.TheVariants as command
 use Rattle.lq_base.specs.declared.command.Target.{Target}
+use Rattle.lq_base.specs.declared.dialect.Dialect.{Dialect}
 use Rattle.lq_cli.specs.declared.line.Job.TheVariants.{ClearSums, Run as Runs, UpdateTestingRollback}
 use Rattle.lq_commands.specs.Scripts.{log_in}
 use Rattle.lq_commands.specs.declared.given.Given.{Given}
@@ -48,9 +49,17 @@ pub record GoesBack (words : List (List ℕ)) (files : Files) (told : Option (Li
   pub known : AreKnown asks.line.options.dialect any_meaning (log_of asks).sets ran
   pub stays : rows_kept target database.rows ≡ Some (length before.rows)
 
--- the database of that point, with a free lock, where the row of the lock was that of a free one
+-- A file holds a database with these contents, and its lock is free; or it is the database that was there before.
+pub record HoldsAtRest (d : Dialect) (told : Option (List ℕ)) (before : Database) (contents : Contents) : Type 0 where
+  pub now : Database
+  pub holds : Holds d told now
+  pub users : now.users ≡ contents.users
+  pub rows : now.rows ≡ contents.rows
+  pub lock : (now.lock ≡ free) ⊎ (now ≡ before)
+
+-- the database of that point, its lock free, or as it was where nothing was called
 abbrev pub GoneBack : {words : List (List ℕ)} {files : Files} {told : Option (List ℕ)} → GoesBack words files told → Status → Option (List ℕ) → Type 0
-GoneBack back s after = back.database.lock ≡ free → is_over s ≡ true → HoldsSame back.asks.line.options.dialect after (at_rest back.database back.before)
+GoneBack back s after = is_over s ≡ true → HoldsAtRest back.asks.line.options.dialect after back.database back.before
 
 -- it is done, perhaps without its text, or the journal is full
 abbrev pub is_taken : Status → Bool
@@ -64,15 +73,15 @@ abbrev pub IsTaken : Status → Type 0
 IsTaken s = (is_taken s ≡ true) ⊎ IsOutside s
 
 module _ {words : List (List ℕ)} {files : Files} (asks : Asks words files) (stamp : Stamp) (before : Option (List ℕ)) (s : Status) (after : Option (List ℕ)) where
-  -- what an update that comes to its end leaves is what its changesets do one after another, with a free lock; an update by part is the update of that part
+  -- what an update that comes to its end leaves is what its changesets do one after another, its lock free, or as it was where nothing was called; an update by part is the update of that part
   abbrev pub HasUpdated : Type 0
-  HasUpdated = OnFile asks.line.options.dialect before (λ database. (part : Given) → command_by asks.line.job (given_by asks stamp) database ≡ Some (command.Update, part) → database.lock ≡ free → is_over s ≡ true
-      → HoldsSame part.options.dialect after (at_rest database (updated part.options.dialect any_meaning part.stamp.reading (log_in part) (contents_of database)).contents))
+  HasUpdated = OnFile asks.line.options.dialect before (λ database. (part : Given) → command_by asks.line.job (given_by asks stamp) database ≡ Some (command.Update, part) → is_over s ≡ true
+      → HoldsAtRest part.options.dialect after database (updated part.options.dialect any_meaning part.stamp.reading (log_in part) (contents_of database)).contents)
 
   -- and a changelog-sync: a row for each selected changeset without one
   abbrev pub HasSynced : Type 0
-  HasSynced = asks.line.job ≡ Runs command.Sync → OnFile asks.line.options.dialect before (λ database. database.lock ≡ free → is_over s ≡ true
-      → HoldsSame asks.line.options.dialect after (at_rest database (synced stamp.reading (log_of asks).sets (contents_of database)).contents))
+  HasSynced = asks.line.job ≡ Runs command.Sync → OnFile asks.line.options.dialect before (λ database. is_over s ≡ true
+      → HoldsAtRest asks.line.options.dialect after database (synced stamp.reading (log_of asks).sets (contents_of database)).contents)
 
   -- and a clear-checksums: each row without its checksum, and all else as it was
   abbrev pub HasCleared : Type 0
