@@ -1,6 +1,6 @@
 """Libraries without bodies, kept by what they are made of, and checks over them."""
 import fcntl, functools, hashlib, importlib.machinery, importlib.util, os, re, shutil, subprocess, sys, time
-import stubs
+import proved, stubs
 
 KEPT = os.environ.get("OVER_STATEMENTS", os.path.expanduser("~/.cache/over-statements"))
 HDR = f"{KEPT}/libraries"
@@ -9,6 +9,7 @@ rt = importlib.util.module_from_spec(importlib.util.spec_from_loader("rt", loade
 sys.modules["rt"] = rt
 loader.exec_module(rt)
 rtlib = rt.rtlib
+PROVED = proved.Proved(rt)
 rt.Crate.beyond = lambda self, line, of_tests: None
 rt.Crate.cuts_libraries = True
 rtlib.Crate = rt.Crate
@@ -38,17 +39,22 @@ def stub(folder):
     return stubs.stub_of(folder)
 
 
-_keys = {}
+_keys, _proved = {}, set()
 
 
 def key(crate):
-    """The sum of a stub and of the stubs below it."""
+    """The sum of a library and of those below it: a stub, or what rt ci proved, where no stub came first."""
     if crate.folder not in _keys:
         sum = hashlib.sha256(repr((crate.name, crate.said)).encode())
         for path, text in sorted(stub(crate.folder).items()):
             sum.update(path.encode() + b"\0" + text + b"\0")
         sum.update(repr([key(it) for it in crate.deps]).encode())
-        _keys[crate.folder] = sum.hexdigest()[:24]
+        found = sum.hexdigest()[:24]
+        stub_first = os.path.isdir(f"{HDR}/{crate.name}-{found}/{crate.name}.rlib")
+        if not stub_first and all(it.folder in _proved for it in crate.below()) and PROVED.entry(crate):
+            found = PROVED.entry(crate)[0][:24]
+            _proved.add(crate.folder)
+        _keys[crate.folder] = found
     return _keys[crate.folder]
 
 
@@ -115,6 +121,11 @@ def make_stub(crate, jobs=1, slots=None):
     with open(f"{HDR}/{crate.name}-{key(crate)}.lock", "w") as lock:
         fcntl.flock(lock, fcntl.LOCK_EX)
         if is_there(crate):
+            return None
+        if crate.folder in _proved:
+            os.makedirs(place(crate) + ".part", exist_ok=True)
+            PROVED.link(crate, place(crate) + ".part")
+            os.rename(place(crate) + ".part", place(crate))
             return None
         room = f"{HDR}/{crate.name}-{key(crate)}.src"
         shutil.rmtree(room, ignore_errors=True)
