@@ -144,6 +144,10 @@ impl Draft {
         }
         self.body.push_str(self.gap.as_str())?;
         self.body.push_str(line)?;
+        // Mostly nothing but the end of the line before stood between.
+        if self.gap.as_str() == "\n" {
+            return Ok(self);
+        }
         self.gap = Text::new(alloc, "\n")?;
         Ok(self)
     }
