@@ -5,9 +5,9 @@ ghost use Rattle.lq_tree.specs.Found.{Reads, within};
 ghost use Rattle.lq_tree.specs.Items.{are_some, at_optional_items, at_required_items, item_path, items_from};
 ghost use Rattle.lq_tree.specs.Look.{value_at};
 
-use crate::found::{bad_key, missing};
+use crate::found::{bad_key, missing, placed};
 use crate::node::Node;
-use crate::reader::{Reader, read_at};
+use crate::reader::Reader;
 use lq_base::{Items, KindFault, NoMemory, Text};
 use std::alloc::Global;
 
@@ -31,8 +31,13 @@ fn item<R: Reader>(
     ensures read { Reads (within (item_path key.now place) (R.of reader.now node.now)) result }
     ensures fits { IfOk result (λ given. R.fits reader.now given ≡ true) }
 {
-    let path = item_path(alloc, key, place)?;
-    read_at(alloc, path.as_str(), node, reader)
+    match reader.read(alloc, node) {
+        Ok(given) => Ok(given),
+        Err(fault) => match item_path(alloc, key, place) {
+            Ok(path) => Err(placed(alloc, path.as_str(), fault)),
+            Err(_) => Err(KindFault::OutOfMemory),
+        },
+    }
 }
 
 /// Each node of the list that stands at `key`, in order. The path of a fault begins with the key and
