@@ -21,6 +21,7 @@ pub mod QueryAgain
 pub mod QuotedNames
 pub mod Quotes
 pub mod ReadBack
+mod Short
 pub mod Spoken
 pub mod Steps
 pub mod Turns

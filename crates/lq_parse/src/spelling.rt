@@ -34,6 +34,10 @@ fn kind_in(mut spellings: &[(&[u8], WordKind)], other: WordKind, bytes: &[u8]) -
 pub fn kind_of_word(other: WordKind, bytes: &[u8]) -> WordKind
     ensures { result ≡ spec.kind_of_word other bytes.now }
 {
+    if bytes.len() < 2 {
+        // The marks stand first, and all that stand behind them are longer.
+        return kind_in(&SPELLINGS[..13], other, bytes);
+    }
     kind_in(&SPELLINGS, other, bytes)
 }
 
