@@ -22,7 +22,7 @@ fn is_enclosed(sort: LexemeSort) -> bool
 fn is_delimited(dialect: Dialect, delimiter: &[u8], text: &[u8]) -> bool
     ensures { result ≡ is_delimited dialect delimiter.now text.now }
 {
-    !is_enclosed(sort_at(dialect, text)) && begins(delimiter, text)
+    begins(delimiter, text) && !is_enclosed(sort_at(dialect, text))
 }
 
 fn is_delimited_at(dialect: Dialect, delimiter: &str, text: &str, place: usize) -> bool
