@@ -76,14 +76,14 @@ fn seen_names<'a>(alloc: Global, names: &[&'a Name]) -> Result<BTreeSet<&'a str>
     Ok(seen)
 }
 
-/// Whether one of the names stands there twice.
-#[tactic(auto, using(crate::proofs::ShownLemmas::repeats_first, crate::proofs::ShownLemmas::repeats_found))]
+/// Whether one of the names stands there twice. The last one comes first: where names rise, each that
+/// comes into the set then stands before all others there, where it is found soonest.
 pub fn repeats(alloc: Global, names: &[&Name]) -> Result<bool, NoMemory>
     ensures { IfOk result (λ found. found ≡ repeats (map (λ n. n.now) names.now)) }
 {
     let mut seen = BTreeSet::new(alloc);
-    for name in names {
-        if was_seen(&mut seen, *name)? {
+    for at in (0..names.len()).rev() {
+        if was_seen(&mut seen, names[at])? {
             return Ok(true);
         }
     }
