@@ -6,7 +6,7 @@ use Rattle.std.specs.Prelude.{Bool, Err, List, None, Ok, Option, Some, [], false
 use Rattle.lq_base.specs.declared.dialect.Dialect.TheVariants.{Postgresql}
 use Rattle.lq_base.specs.declared.run.Did.{Did}
 use Rattle.lq_base.specs.declared.run.Why.{Why}
-use Rattle.lq_model.proofs.Lists.{and_left, and_right, or_left, or_right}
+use Rattle.lq_model.proofs.Lists.{all-append, and_left, and_right, or_left, or_right}
 use Rattle.lq_model.specs.Script.{if_any}
 use Rattle.lq_model.specs.Sound.{IsSound}
 use Rattle.lq_model.specs.declared.statement.Statement.{Statement}
@@ -34,6 +34,7 @@ use Rattle.lq_turns.specs.Turn.{Ending, Finished, Refused, ending, is_marked, ma
 use Rattle.lq_turns.specs.Stops.{all_at, runs_whole}
 use Rattle.lq_turns.proofs.FirstRuns.{tested_by}
 use Rattle.lq_turns.proofs.GoesOn.{tests_kept}
+use Rattle.lq_turns.proofs.Locked.{all_any, is_other, no_locks}
 use Rattle.lq_turns.proofs.Made.{At, calls_both}
 use Rattle.lq_turns.proofs.Entered.{accepted_is, is_finished}
 use Rattle.lq_turns.proofs.TurnLeft.{twice}
@@ -73,6 +74,10 @@ module _ (who : List ℕ) (turn : Turn) where
   abbrev pub deeds_of : List Statement → List Deed
   deeds_of ss = map Users ss ++ Rows turn.row ∷ []
 
+  pub others_of : (ss : List Statement) → list_all is_other (deeds_of ss) ≡ true
+  others_of [] = refl
+  others_of (s ∷ ss) = others_of ss
+
   plain_calls : (k : ℕ) (ss : List Statement) → statement_calls Postgresql who (record turn { in_transaction = true }) k ss ++ row_calls Postgresql who (record turn { in_transaction = true }) ≡ map Execute (deeds_of ss) ++ Commit ∷ []
   plain_calls k [] = ap (λ b. Execute (Rows turn.row) ∷ ((if b then Execute (Locks (Marked who)) ∷ [] else []) ++ Commit ∷ [])) (none_marked turn turn.statements)
   plain_calls k (s ∷ ss) = ap (λ calls. Execute (Users s) ∷ calls) (plain_calls (suc k) ss)
@@ -91,9 +96,9 @@ module _ {Key : Type 0} (m : Meaning Key) (keeps : IsKept m) (stamp : Stamp) whe
   abbrev settled_one : Set Key → Contents → Settled
   settled_one x c = settle Postgresql m stamp.reading x c
 
-  -- it wrote one entry or none, and none where it stops the command
+  -- it wrote one entry or none, without a deed on the lock, and none where it stops the command
   abbrev WroteOne : Set Key → Contents → Session → Choice → Type 0
-  WroteOne x c s q = (ds : List Deed) × Wrote s (all_called Postgresql (calls_of_turn Postgresql m stamp (turn_by Postgresql m stamp x c.rows q) c) s) (if_any ds) × (((settled_by Postgresql m stamp.reading x c q).stop ≡ None) ⊎ (ds ≡ []))
+  WroteOne x c s q = (ds : List Deed) × Wrote s (all_called Postgresql (calls_of_turn Postgresql m stamp (turn_by Postgresql m stamp x c.rows q) c) s) (if_any ds) × (((settled_by Postgresql m stamp.reading x c q).stop ≡ None) ⊎ (ds ≡ [])) × (list_all is_other ds ≡ true)
 
   none_wrote : (s : Session) → s.begun ≡ [] → Wrote s s []
   none_wrote s idle = record { entries = sym (append-nil s.entries); begun = idle }
@@ -111,6 +116,13 @@ module _ {Key : Type 0} (m : Meaning Key) (keeps : IsKept m) (stamp : Stamp) whe
   abbrev its_deeds : Turn → Contents → List Deed
   its_deeds turn c = entry_if (is_finished (ending Postgresql turn c)) (deeds_of stamp.who turn turn.statements)
 
+  others_if : (b : Bool) (deeds : List Deed) → list_all is_other deeds ≡ true → list_all is_other (entry_if b deeds) ≡ true
+  others_if true deeds all = all
+  others_if false deeds all = refl
+
+  its_others : (turn : Turn) (c : Contents) → list_all is_other (its_deeds turn c) ≡ true
+  its_others turn c = others_if (is_finished (ending Postgresql turn c)) (deeds_of stamp.who turn turn.statements) (others_of stamp.who turn turn.statements)
+
   -- what runs is one transaction
   abbrev IsWhole : Set Key → Choice → Type 0
   IsWhole x (Runs w why) = x.in_transaction ≡ true
@@ -126,16 +138,17 @@ module _ {Key : Type 0} (m : Meaning Key) (keeps : IsKept m) (stamp : Stamp) whe
   whole_by x c (Some Again) is = tested_whole x c Again is
 
   one_wrote : (x : Set Key) (c : Contents) (s : Session) → IsIdle s c → list_all (m.is_for Postgresql) x.changes ≡ true → IsSound Postgresql c.users → (q : Choice) → IsWhole x q → WroteOne x c s q
-  one_wrote x c s idle read sound Passes whole = ([], none_wrote s idle.begun, inr refl)
-  one_wrote x c s idle read sound Skips whole = ([], none_wrote s idle.begun, inr refl)
-  one_wrote x c s idle read sound (Halts why) whole = ([], none_wrote s idle.begun, inr refl)
-  one_wrote x c s idle read sound Fills whole = (its_deeds (fill_turn x) c, turn_one (fill_turn x) c s idle refl, inl refl)
-  one_wrote x c s idle read sound (Marks w) whole = (its_deeds (mark_turn stamp.reading w x c.rows) c, turn_one (mark_turn stamp.reading w x c.rows) c s idle refl, stop_or_none x _ None 0 (ending Postgresql (mark_turn stamp.reading w x c.rows) c) _)
+  one_wrote x c s idle read sound Passes whole = ([], none_wrote s idle.begun, inr refl, refl)
+  one_wrote x c s idle read sound Skips whole = ([], none_wrote s idle.begun, inr refl, refl)
+  one_wrote x c s idle read sound (Halts why) whole = ([], none_wrote s idle.begun, inr refl, refl)
+  one_wrote x c s idle read sound Fills whole = (its_deeds (fill_turn x) c, turn_one (fill_turn x) c s idle refl, inl refl, its_others (fill_turn x) c)
+  one_wrote x c s idle read sound (Marks w) whole = (its_deeds (mark_turn stamp.reading w x c.rows) c, turn_one (mark_turn stamp.reading w x c.rows) c s idle refl, stop_or_none x _ None 0 (ending Postgresql (mark_turn stamp.reading w x c.rows) c) _, its_others (mark_turn stamp.reading w x c.rows) c)
   one_wrote x c s idle read sound (Runs w why) whole = (
     its_deeds (run_turn Postgresql m stamp.reading w x c.rows) c,
     turn_one (run_turn Postgresql m stamp.reading w x c.rows) c s idle whole,
     subst (λ e. ((settled_as x (did_of w) why (not_fresh Postgresql m x.changes c.users) e).stop ≡ None) ⊎ (its_deeds (run_turn Postgresql m stamp.reading w x c.rows) c ≡ []))
         (sym (run_is Postgresql m keeps stamp x (run_turn Postgresql m stamp.reading w x c.rows) c refl read sound)) (stop_or_none x (did_of w) why _ (ending Postgresql (run_turn Postgresql m stamp.reading w x c.rows) c) _),
+    its_others (run_turn Postgresql m stamp.reading w x c.rows) c,
   )
 
   -- all of them
@@ -150,6 +163,7 @@ module _ {Key : Type 0} (m : Meaning Key) (keeps : IsKept m) (stamp : Stamp) whe
 
   pub record Fronts (xs : List (Set Key)) (c : Contents) (s : Session) : Type 0 where
     pub all : List (List Deed)
+    pub others : no_locks all ≡ true
     pub wrote : (all_called Postgresql (sets_calls Postgresql m stamp xs c) s).entries ≡ s.entries ++ all
     pub idle : (all_called Postgresql (sets_calls Postgresql m stamp xs c) s).begun ≡ []
     pub fronts : (front rest : List (List Deed)) → all ≡ front ++ rest → IsFront m stamp xs c s front
@@ -190,7 +204,7 @@ module _ {Key : Type 0} (m : Meaning Key) (keeps : IsKept m) (stamp : Stamp) whe
   nothing_at o halt ds stop (inr empty) = empty
 
   pub all_fronts : (xs : List (Set Key)) (c : Contents) (s : Session) → IsIdle s c → IsSound Postgresql c.users → list_all (λ (x : Set Key). list_all (m.is_for Postgresql) x.changes) xs ≡ true → are_twins xs ≡ false → all_at runs_whole xs c.rows ≡ true → Fronts xs c s
-  all_fronts [] c s idle sound read apart whole = record { all = []; wrote = sym (append-nil s.entries); idle = idle.begun; fronts = no_front [] c s }
+  all_fronts [] c s idle sound read apart whole = record { all = []; others = refl; wrote = sym (append-nil s.entries); idle = idle.begun; fronts = no_front [] c s }
   all_fronts (x ∷ xs) c s idle sound read apart whole =
       let first = and_left _ (list_all (λ (y : Set Key). list_all (m.is_for Postgresql) y.changes) xs) read in
       let one = one_wrote x c s idle first sound (choice x c) (whole_by x c (what x c.rows) (and_left _ (all_at runs_whole xs c.rows) whole)) in
@@ -203,12 +217,14 @@ module _ {Key : Type 0} (m : Meaning Key) (keeps : IsKept m) (stamp : Stamp) whe
       (elim (settled_one x c).stop as (λ o. (settled_one x c).stop ≡ o → Fronts (x ∷ xs) c s) [
         | None ↦ λ stop. record {
           all = if_any one.0 ++ more.all;
+          others = all-append (list_all is_other) (if_any one.0) more.all (all_any is_other one.0 one.3) more.others;
           wrote = both ∙ ap (λ o. (all_called Postgresql (calls_unless o (sets_calls Postgresql m stamp xs (settled_one x c).contents)) (after_one x c s)).entries) stop ∙ more.wrote ∙ ap (λ es. es ++ more.all) one.1.entries ∙ append_assoc s.entries (if_any one.0) more.all;
           idle = begun ∙ ap (λ o. (all_called Postgresql (calls_unless o (sets_calls Postgresql m stamp xs (settled_one x c).contents)) (after_one x c s)).begun) stop ∙ more.idle;
           fronts = more_fronts x xs c s one.0 more.all stop one.1.entries more.fronts;
         }
         | Some halt ↦ λ stop. record {
           all = [];
+          others = refl;
           wrote = both ∙ ap (λ o. (all_called Postgresql (calls_unless o (sets_calls Postgresql m stamp xs (settled_one x c).contents)) (after_one x c s)).entries) stop ∙ one.1.entries ∙ ap (λ ds. s.entries ++ if_any ds) (nothing_at (settled_one x c).stop halt one.0 stop one.2);
           idle = begun ∙ ap (λ o. (all_called Postgresql (calls_unless o (sets_calls Postgresql m stamp xs (settled_one x c).contents)) (after_one x c s)).begun) stop ∙ one.1.begun;
           fronts = no_front (x ∷ xs) c s;

@@ -6,22 +6,23 @@ use Rattle.std.specs.Prelude.{Bool, Err, List, Ok, Result, [], false, map, refl,
 use Rattle.lq_base.specs.declared.dialect.Dialect.{Dialect}
 use Rattle.lq_base.specs.declared.dialect.Dialect.TheVariants.{Mysql, Postgresql}
 use Rattle.lq_base.specs.declared.reason.Reason.{Reason}
+use Rattle.lq_base.specs.declared.tracking.Lock.{Lock}
 use Rattle.lq_model.proofs.Lists.{all-append, all-append_left, and_left, and_right}
 use Rattle.lq_model.specs.Script.{if_any}
 use Rattle.lq_track.specs.Database.{Database}
 use Rattle.lq_track.specs.Lock.{free}
-use Rattle.lq_turns.specs.Contents.{contents_of, with_contents}
-use Rattle.lq_turns.specs.Deed.{all_done, lock_after}
-use Rattle.lq_turns.specs.Script.{closing, opening, with_lock}
+use Rattle.lq_turns.specs.Contents.{Contents, contents_of, with_contents}
+use Rattle.lq_turns.specs.Deed.{all_done, contents_after, done, if_accepted, lock_after}
+use Rattle.lq_turns.specs.Script.{closing, if_missing, opening, with_lock}
 use Rattle.lq_turns.specs.Session.{Session, all_called, all_executed, is_own, session_on, settled_if, settled_up}
 use Rattle.lq_turns.specs.declared.call.Call.{Call}
 use Rattle.lq_turns.specs.declared.deed.Deed.{Deed}
 use Rattle.lq_turns.specs.declared.deed.Deed.TheVariants.{Locks, Rows, Users}
 use Rattle.lq_turns.specs.declared.deed.OnLock.{OnLock}
-use Rattle.lq_turns.specs.declared.deed.OnLock.TheVariants.{Freed}
+use Rattle.lq_turns.specs.declared.deed.OnLock.TheVariants.{Freed, LockMade, LockRowMade, LogMade}
 use Rattle.lq_turns.specs.declared.stamp.Stamp.{Stamp}
 use Rattle.lq_turns.specs.Stops.{Journal, joined}
-use Rattle.lq_turns.proofs.Journal.{done_both, joined_both, next, same_ok}
+use Rattle.lq_turns.proofs.Journal.{done_both, joined_any, joined_both, next, same_ok}
 use Rattle.lq_turns.proofs.Made.{calls_both}
 
 -- deeds on the lock leave the contents
@@ -40,18 +41,19 @@ locks_leave d (Users s ∷ deeds) database now all is = Prim.cc
 locks_leave d (Rows w ∷ deeds) database now all is = Prim.cc
 locks_leave d (Locks w ∷ deeds) database now all is = locks_leave d deeds (with_contents (lock_after w database) (contents_of database)) now all is
 
-locks_joined : (entries : Journal) → all_locks entries ≡ true → list_all is_lock (joined entries) ≡ true
-locks_joined [] all = refl
-locks_joined (deeds ∷ entries) all = all-append is_lock deeds (joined entries) (and_left _ (all_locks entries) all) (locks_joined entries (and_right (list_all is_lock deeds) _ all))
+-- a test that each deed passes
+all_joined : (test : Deed → Bool) (entries : Journal) → list_all (list_all test) entries ≡ true → list_all test (joined entries) ≡ true
+all_joined test [] all = refl
+all_joined test (deeds ∷ entries) all = all-append test deeds (joined entries) (and_left _ (list_all (list_all test) entries) all) (all_joined test entries (and_right (list_all test deeds) _ all))
+
+pub all_any : (test : Deed → Bool) (deeds : List Deed) → list_all test deeds ≡ true → list_all (list_all test) (if_any deeds) ≡ true
+all_any test [] all = refl
+all_any test (deed ∷ deeds) all = ap (λ b. list_all (λ (x : Bool). x) (b ∷ [])) all
 
 pub entries_leave : (d : Dialect) (entries : Journal) (database now : Database) → all_locks entries ≡ true → all_done d (joined entries) database ≡ Ok now → contents_of now ≡ contents_of database
-entries_leave d entries database now all is = locks_leave d (joined entries) database now (locks_joined entries all) is
+entries_leave d entries database now all is = locks_leave d (joined entries) database now (all_joined is_lock entries all) is
 
 -- a call of deeds on the lock appends entries of them
-
-any_locks : (deeds : List Deed) → list_all is_lock deeds ≡ true → all_locks (if_any deeds) ≡ true
-any_locks [] all = refl
-any_locks (deed ∷ deeds) all = ap (λ b. list_all (λ (x : Bool). x) (b ∷ [])) all
 
 record Ready (s t : Session) : Type 0 where
   more : Journal
@@ -69,7 +71,7 @@ up : (s t : Session) → Ready s t → Ready s (settled_up t)
 up s t is = record {
   more = is.more ++ if_any t.begun;
   entries = ap (λ es. es ++ if_any t.begun) is.entries ∙ append_assoc s.entries is.more (if_any t.begun);
-  locks = all-append (list_all is_lock) is.more (if_any t.begun) is.locks (any_locks t.begun is.begun);
+  locks = all-append (list_all is_lock) is.more (if_any t.begun) is.locks (all_any is_lock t.begun is.begun);
   begun = refl;
 }
 
@@ -124,6 +126,13 @@ cut (e ∷ first) second (x ∷ front) rest is =
 
 -- where a stop falls: before the turns, in them, or after them
 
+pub record InOpening (d : Dialect) (opened : Journal) (database now : Database) : Type 0 where
+  pub front : Journal
+  pub rest : Journal
+  pub is : opened ≡ front ++ rest
+  pub led : all_done d (joined front) database ≡ Ok now
+  pub contents : contents_of now ≡ contents_of database
+
 pub record InTurns (d : Dialect) (opened turns : Journal) (database now : Database) : Type 0 where
   pub front : Journal
   pub rest : Journal
@@ -137,7 +146,7 @@ pub record AfterTurns (d : Dialect) (opened turns : Journal) (database now : Dat
   pub lock : now.lock ≡ free
 
 abbrev pub Falls : Dialect → Journal → Journal → Database → Database → Type 0
-Falls d opened turns database now = (contents_of now ≡ contents_of database) ⊎ (InTurns d opened turns database now ⊎ AfterTurns d opened turns database now)
+Falls d opened turns database now = InOpening d opened database now ⊎ (InTurns d opened turns database now ⊎ AfterTurns d opened turns database now)
 
 next_ok : (d : Dialect) (deeds : List Deed) (r : Result Database Reason) (now : Database) → next d deeds r ≡ Ok now → (before : Database) × (r ≡ Ok before) × (all_done d deeds before ≡ Ok now)
 next_ok d deeds (Ok before) now is = (before, refl, is)
@@ -189,6 +198,89 @@ module _ (d : Dialect) (stamp : Stamp) (database : Database) where
       ∙ ap (λ es. es ++ freed_entry) (sym wrote) ∙ sym (closes d (all_called d calls first_session) idle)
       ∙ sym (ap (λ (s : Session). s.entries) (calls_both d calls (closing ∷ []) first_session)) ∙ is in
       elim (cut first_session.entries (turns ++ freed_entry) front rest all) as (λ _. Falls d first_session.entries turns database now) [
-        | inl q ↦ inl (in_opening front q.0 now q.1 led)
+        | inl q ↦ inl (record { front = front; rest = q.0; is = q.1; led = led; contents = in_opening front q.0 now q.1 led })
         | inr q ↦ after_opening turns q.0 rest now q.2 (subst (λ es. all_done d (joined es) database ≡ Ok now) q.1 led)
       ]
+
+-- what a stop leaves of the lock, in postgresql
+
+-- the database that was there before, or one whose lock is held, or is free
+abbrev pub LockStands : Database → Database → Type 0
+LockStands before now = (now ≡ before) ⊎ ((now.lock.locked ≡ true) ⊎ (now.lock ≡ free))
+
+abbrev pub is_other : Deed → Bool
+is_other (Users s) = true
+is_other (Rows w) = true
+is_other (Locks w) = false
+
+abbrev pub no_locks : Journal → Bool
+no_locks entries = list_all (list_all is_other) entries
+
+-- deeds on all but the lock leave it
+
+kept_lock : (x now : Database) (r : Result Contents Reason) → if_accepted (with_contents x) r ≡ Ok now → now.lock ≡ x.lock
+kept_lock x now (Ok c) is = ap (λ (e : Database). e.lock) (sym (same_ok Postgresql is))
+kept_lock x now (Err reason) is = Prim.cc
+
+others_keep : (d : Dialect) (deeds : List Deed) (x now : Database) → list_all is_other deeds ≡ true → all_done d deeds x ≡ Ok now → now.lock ≡ x.lock
+others_keep d [] x now all is = ap (λ (e : Database). e.lock) (sym (same_ok d is))
+others_keep d (Locks w ∷ deeds) x now all is = Prim.cc
+others_keep d (Users s ∷ deeds) x now all is =
+    let one = next_ok d deeds (done d (Users s) x) now is in
+    others_keep d deeds one.0 now all one.2 ∙ kept_lock x one.0 (contents_after d (Users s) (contents_of x)) one.1
+others_keep d (Rows w ∷ deeds) x now all is =
+    let one = next_ok d deeds (done d (Rows w) x) now is in
+    others_keep d deeds one.0 now all one.2 ∙ kept_lock x one.0 (contents_after d (Rows w) (contents_of x)) one.1
+
+-- the opening takes it
+
+abbrev TakesLock : Dialect → List OnLock → Type 0
+TakesLock d ws = (x now : Database) → all_done d (map Locks ws) x ≡ Ok now → now.lock.locked ≡ true
+
+then_takes : (d : Dialect) (there : Bool) (w : OnLock) (ws : List OnLock) → TakesLock d ws → TakesLock d (if_missing there w ++ ws)
+then_takes d true w ws takes = takes
+then_takes d false w ws takes = λ x now led. takes (with_contents (lock_after w x) (contents_of x)) now led
+
+opening_takes : (d : Dialect) (stamp : Stamp) (database : Database) → TakesLock d (opening stamp database)
+opening_takes d stamp database =
+    then_takes d database.has_log LogMade _ (then_takes d database.has_lock LockMade _ (then_takes d database.has_lock_row LockRowMade _ (λ x now led. ap (λ (e : Database). e.lock.locked) (sym (same_ok d led)))))
+
+-- a front of one entry, if there is any
+any_front : (deeds : List Deed) (front rest : Journal) → if_any deeds ≡ front ++ rest → (front ≡ []) ⊎ (front ≡ if_any deeds)
+any_front deeds [] rest is = inl refl
+any_front [] (e ∷ front) rest is = Prim.cc
+any_front (deed ∷ deeds) (e ∷ x ∷ front) rest is = Prim.cc
+any_front (deed ∷ deeds) (e ∷ []) rest is =
+    let same : (deed ∷ deeds) ≡ e = Prim.cc in
+    inr (ap (λ y. y ∷ []) (sym same))
+
+one_opening : (ws : List OnLock) (s : Session) → (all_executed Postgresql (map Locks ws) s).entries ≡ s.entries ++ if_any (s.begun ++ map Locks ws)
+one_opening [] s = ap (λ b. s.entries ++ if_any b) (sym (append-nil s.begun))
+one_opening (w ∷ ws) s =
+    let now = with_contents (lock_after w s.seen) (contents_of s.seen) in
+    one_opening ws (record s { seen = now; begun = s.begun ++ Locks w ∷ [] }) ∙ ap (λ b. s.entries ++ if_any b) (append_assoc s.begun (Locks w ∷ []) (map Locks ws))
+
+module _ (stamp : Stamp) (database : Database) where
+  abbrev first_deeds : List Deed
+  first_deeds = map Locks (opening stamp database)
+
+  abbrev first_entries : Journal
+  first_entries = (first_session Postgresql stamp database).entries
+
+  is_opened : first_entries ≡ if_any first_deeds
+  is_opened = one_opening (opening stamp database) (session_on database)
+
+  held : (front : Journal) (now : Database) → front ≡ if_any first_deeds → all_done Postgresql (joined front) database ≡ Ok now → now.lock.locked ≡ true
+  held front now is led = opening_takes Postgresql stamp database database now (subst (λ deeds. all_done Postgresql deeds database ≡ Ok now) (ap joined is ∙ joined_any first_deeds) led)
+
+  pub lock_stands : (turns : Journal) (now : Database) → no_locks turns ≡ true → Falls Postgresql first_entries turns database now → LockStands database now
+  lock_stands turns now others (inl opens) = elim (any_front first_deeds opens.front opens.rest (sym is_opened ∙ opens.is)) as (λ _. LockStands database now) [
+    | inl none ↦ inl (sym (same_ok Postgresql (subst (λ es. all_done Postgresql (joined es) database ≡ Ok now) none opens.led)))
+    | inr all ↦ inr (inl (held opens.front now all opens.led))
+  ]
+  lock_stands turns now others (inr (inl within)) =
+      let parts = led_both Postgresql first_entries within.front database now within.led in
+      let theirs = all-append_left (list_all is_other) within.front within.rest (subst (λ es. no_locks es ≡ true) within.is others) in
+      let same = others_keep Postgresql (joined within.front) parts.0 now (all_joined is_other within.front theirs) parts.2 in
+      inr (inl (ap (λ (l : Lock). l.locked) same ∙ held first_entries parts.0 is_opened parts.1))
+  lock_stands turns now others (inr (inr after)) = inr (inr after.lock)

@@ -14,12 +14,12 @@ use Rattle.lq_model.specs.Script.{if_any}
 use Rattle.lq_model.specs.Sound.{IsSound}
 use Rattle.lq_model.specs.declared.caller.Room.TheVariants.{Ordinary}
 use Rattle.lq_model.specs.declared.statement.Statement.{Statement}
-use Rattle.lq_track.specs.Database.{Database, SameDatabase, has_twin_rows, same_identity}
+use Rattle.lq_track.specs.Database.{Database, has_twin_rows, same_identity}
 use Rattle.lq_track.specs.Log.{identity_of}
 use Rattle.lq_turns.specs.Contents.{Contents, contents_of}
 use Rattle.lq_turns.specs.Deed.{all_done}
 use Rattle.lq_turns.specs.Fronts.{IsIdle}
-use Rattle.lq_turns.specs.Laws.{AreKnown, at_rest, rollback_calls}
+use Rattle.lq_turns.specs.Laws.{AreKnown, IsAtRest, rollback_calls}
 use Rattle.lq_turns.specs.Ran.{AreRowsOf, IsRowOf, RanSince, Run, all_effects, are_reversible, effects_of, is_reversible}
 use Rattle.lq_turns.specs.Rollback.{calls_if_finished, has_tag, places_until, rollback_of, rows_kept, rows_undone, tagged_place, turns_made, undo_turns}
 use Rattle.lq_turns.specs.Script.{opening, with_lock}
@@ -38,15 +38,15 @@ use Rattle.lq_turns.specs.declared.turn.Turn.{Turn}
 use Rattle.lq_turns.specs.Turn.{Finished, contents_in, ending, made, turn_calls}
 use Rattle.lq_turns.proofs.Effects.{not_ok, ok_same}
 use Rattle.lq_turns.proofs.Entered.{accepted_is, is_finished}
-use Rattle.lq_turns.proofs.Fronts.{Wrote, deeds_of, entry_if, turn_wrote}
+use Rattle.lq_turns.proofs.Fronts.{Wrote, deeds_of, entry_if, others_of, turn_wrote}
 use Rattle.lq_turns.proofs.GoesOn.{both_true}
 use Rattle.lq_turns.proofs.Journal.{journal_leads, same_ok}
-use Rattle.lq_turns.proofs.Locked.{cut, falls, first_session, opened_by}
+use Rattle.lq_turns.proofs.Locked.{cut, falls, first_session, lock_stands, no_locks, opened_by}
 use Rattle.lq_turns.proofs.Made.{At, calls_both, with_users}
-use Rattle.lq_turns.proofs.Trails.{StopKeeps, nothing_kept, one_ok, trail_keeps}
+use Rattle.lq_turns.proofs.Trails.{StopKeeps, not_held, nothing_kept, one_ok, trail_keeps}
 use Rattle.lq_turns.proofs.TurnLeft.{turn_taken, twice}
-use Rattle.lq_turns.proofs.Undone.{TakenBack, Undone, effects_kept, new_row, rollback_restores, taken_back, turns_both, undone_both, undone_taken}
-use Rattle.lq_turns.proofs.Updates.{opened}
+use Rattle.lq_turns.proofs.Undone.{TakenBack, Undone, effects_kept, new_row, rollback_rests, taken_back, turns_both, undone_both, undone_taken}
+use Rattle.lq_turns.proofs.Updates.{opened, rests_on}
 
 -- a front of a list's images is that of a front
 
@@ -244,6 +244,10 @@ module _ {Key : Type 0} (m : Meaning Key) (who : List ℕ) where
   abbrev entry_of : Turn → List Deed
   entry_of turn = deeds_of who turn turn.statements
 
+  no_locks_in : (turns : List Turn) → no_locks (map entry_of turns) ≡ true
+  no_locks_in [] = refl
+  no_locks_in (turn ∷ turns) = both_true (others_of who turn turn.statements) (no_locks_in turns)
+
   is_entry : (turn : Turn) → if_any (entry_of turn) ≡ entry_of turn ∷ []
   is_entry turn = by turn.statements where
     by : (ss : List Statement) → if_any (deeds_of who turn ss) ≡ deeds_of who turn ss ∷ []
@@ -340,13 +344,15 @@ module _ {Key : Type 0} (m : Meaning Key) (keeps : IsKept m) (stamp : Stamp) (se
     locked_keeps front rest now entries led =
         let undone = subst (λ c. Undone Postgresql back.turns c before) from back.undone in
         let wrote = all_entries m who back.turns (contents_of database) before here idle (back.whole is.whole) undone in
-        elim (falls Postgresql by database (turns_made Postgresql who back.turns (contents_of database)) (map (entry_of m who) back.turns) wrote.entries wrote.begun front rest now entries led) as (λ _. IsOnTheWay (contents_of now)) [
-          | inl same ↦ subst IsOnTheWay (sym same) is
+        let stop = falls Postgresql by database (turns_made Postgresql who back.turns (contents_of database)) (map (entry_of m who) back.turns) wrote.entries wrote.begun front rest now entries led in
+        let contents = elim stop as (λ _. IsOnTheWay (contents_of now)) [
+          | inl opens ↦ subst IsOnTheWay (sym opens.contents) is
           | inr later ↦ elim later as (λ _. IsOnTheWay (contents_of now)) [
             | inl within ↦ within_turns now within.front within.rest within.is within.led
             | inr after ↦ subst IsOnTheWay (sym after.contents) (front_keeps back.turns [] (sym (append-nil back.turns)) after.before after.led)
           ]
-        ] where
+        ] in
+        (contents, lock_stands by database (map (entry_of m who) back.turns) now (no_locks_in m who back.turns) stop) where
           within_turns : (now : Database) (front rest : Journal) → map (entry_of m who) back.turns ≡ front ++ rest → all_done Postgresql (joined (here.entries ++ front)) database ≡ Ok now → IsOnTheWay (contents_of now)
           within_turns now front rest split led =
               let q = front_of (entry_of m who) back.turns front rest split in
@@ -365,12 +371,14 @@ module _ {Key : Type 0} (m : Meaning Key) (keeps : IsKept m) (stamp : Stamp) (se
         (subst (λ o. StopKeeps database (λ w e. []) IsOnTheWay (elim o as (λ _. List Call) [ Some turns ↦ rollback_of Postgresql by turns database | None ↦ [] ]) database) (sym undone_is) (turns_keep back.turns refl))
 
 pub rollback_resumes : {Key : Type 0} (m : Meaning Key) → IsKept m → RollbackResumes m
-rollback_resumes m keeps stamp sets target before xs start database count unlocked ran can known at whole stopped =
+rollback_resumes m keeps stamp sets target before xs start database count ran can known at whole stopped =
     let first : IsOnTheWay m keeps stamp sets target count before (contents_of start) = record { xs = xs; ran = ran; can = can; known = known; at = at; whole = whole } in
     let kept = trail_keeps start (λ who. rollback_to Postgresql m (record stamp { who = who }) sets target) (IsOnTheWay m keeps stamp sets target count before)
     (λ who e is. rollback_keeps m keeps stamp sets target count before who e is)
     [] stopped.stops stopped.last stopped.trail
-    (λ e is. subst (λ (x : Database). IsOnTheWay m keeps stamp sets target count before (contents_of x)) (same_ok Postgresql is) first)
+    (λ e is. (subst (λ (x : Database). IsOnTheWay m keeps stamp sets target count before (contents_of x)) (same_ok Postgresql is) first, inl (sym (same_ok Postgresql is))))
     database stopped.led in
-    subst (λ o. SameDatabase (left_by Postgresql (elim o as (λ _. List Call) [ Some stay ↦ rollback_calls Postgresql m stamp sets stay database | None ↦ [] ]) database) (at_rest database before)) (sym kept.at)
-    (rollback_restores m keeps Postgresql stamp sets before kept.xs database stopped.unlocked kept.ran kept.can kept.known)
+    let way = kept.0 in
+    subst (λ o. IsAtRest start before (left_by Postgresql (elim o as (λ _. List Call) [ Some stay ↦ rollback_calls Postgresql m stamp sets stay database | None ↦ [] ]) database)) (sym way.at)
+    (rests_on start database (left_by Postgresql (rollback_calls Postgresql m stamp sets (length before.rows) database) database) before (not_held start database kept.1 stopped.unlocked)
+    (rollback_rests m keeps Postgresql stamp sets before way.xs database way.ran way.can way.known))

@@ -2,7 +2,7 @@
 use Rattle.std.proofs.Common.{ap, inl, inr, subst, sym, ◌∙◌}
 use Rattle.std.proofs.lemmas.List.{append-nil}
 use Rattle.std.specs.List.{list_all}
-use Rattle.std.specs.Prelude.{List, None, Ok, Result, [], false, if◌then◌else◌, map, not, refl, true, ℕ, ◌&&◌, ◌++◌, ◌∷◌, ◌≡◌}
+use Rattle.std.specs.Prelude.{List, None, Ok, Result, [], false, if◌then◌else◌, length, map, not, refl, true, ℕ, ◌&&◌, ◌++◌, ◌∷◌, ◌≡◌, ◌⊎◌}
 use Rattle.lq_base.specs.declared.dialect.Dialect.TheVariants.{Postgresql}
 use Rattle.lq_base.specs.declared.reason.Reason.{Reason}
 use Rattle.lq_model.proofs.Lists.{all-append_left}
@@ -10,11 +10,12 @@ use Rattle.lq_base.specs.declared.tracking.Tracked.{Tracked}
 use Rattle.lq_model.specs.Catalogue.{Catalogue}
 use Rattle.lq_model.specs.declared.caller.Room.TheVariants.{Ordinary}
 use Rattle.lq_track.specs.Database.{Database}
+use Rattle.lq_track.specs.Lock.{free}
 use Rattle.lq_turns.specs.Again.{are_twins, has_own_sum}
 use Rattle.lq_turns.specs.Contents.{Contents, contents_of}
 use Rattle.lq_turns.specs.Deed.{all_done}
 use Rattle.lq_turns.specs.Fronts.{IsFront}
-use Rattle.lq_turns.specs.Laws.{AreRead}
+use Rattle.lq_turns.specs.Laws.{AreRead, IsAtRest, rollback_calls}
 use Rattle.lq_turns.specs.Ran.{RanSince}
 use Rattle.lq_turns.specs.Script.{closing, has_work, opening, release_calls, sets_calls, update_calls, with_lock}
 use Rattle.lq_turns.specs.Session.{Session, all_called, left_by, session_on}
@@ -32,27 +33,43 @@ use Rattle.lq_turns.specs.Trails.{ResumedReturns, UpdateResumes}
 use Rattle.lq_turns.proofs.Fronts.{all_fronts}
 use Rattle.lq_turns.proofs.GoesOn.{Same, skips}
 use Rattle.lq_turns.proofs.Journal.{journal_leads, same_ok}
-use Rattle.lq_turns.proofs.Locked.{all_locks, entries_leave, falls, first_session, led_both, opened_by}
+use Rattle.lq_turns.proofs.Locked.{LockStands, all_locks, entries_leave, falls, first_session, led_both, lock_stands, opened_by}
 use Rattle.lq_turns.proofs.Stays.{IsCalm, stays_calm}
-use Rattle.lq_turns.proofs.Undone.{rollback_restores}
-use Rattle.lq_turns.proofs.Updates.{opened, sets_taken, update_leaves}
+use Rattle.lq_turns.proofs.Undone.{rollback_rests}
+use Rattle.lq_turns.proofs.Updates.{opened, rests_on, sets_taken, update_rests}
 
--- journals whose entries are those of a trail
+-- the lock on a trail
+
+stands_on : (start before now : Database) → LockStands start before → LockStands before now → LockStands start now
+stands_on start before now first (inl same) = subst (LockStands start) (sym same) first
+stands_on start before now first (inr set) = inr set
+
+-- where it is not held nothing was done, or it is free
+pub not_held : (start now : Database) → LockStands start now → now.lock.locked ≡ false → (now.lock ≡ free) ⊎ (now ≡ start)
+not_held start now (inl same) unlocked = inr same
+not_held start now (inr (inl held)) unlocked = absurd (both (sym held ∙ unlocked)) where
+  both : true ≡ false → ⊥
+  both is = Prim.cc
+not_held start now (inr (inr frees)) unlocked = inl frees
 
 -- a trail keeps what each stop on it keeps
 module _ (start : Database) (command : List ℕ → Database → List Call) (Keeps : Contents → Type 0) where
   abbrev pub KeptBy : Journal → Type 0
-  KeptBy journal = (database : Database) → all_done Postgresql (joined journal) start ≡ Ok database → Keeps (contents_of database)
+  KeptBy journal = (database : Database) → all_done Postgresql (joined journal) start ≡ Ok database → Keeps (contents_of database) × LockStands start database
 
-  -- a stop of the calls leaves contents that are kept
+  -- a stop of the calls leaves contents that are kept, and the lock held or free where it leaves more than was there
   abbrev pub StopKeeps : List Call → Database → Type 0
-  StopKeeps calls database = (front rest : Journal) (now : Database) → (all_called Postgresql calls (session_on database)).entries ≡ front ++ rest → all_done Postgresql (joined front) database ≡ Ok now → Keeps (contents_of now)
+  StopKeeps calls database = (front rest : Journal) (now : Database) → (all_called Postgresql calls (session_on database)).entries ≡ front ++ rest → all_done Postgresql (joined front) database ≡ Ok now → Keeps (contents_of now) × LockStands database now
 
   pub one_ok : {x y : Database} (r : Result Database Reason) → r ≡ Ok x → r ≡ Ok y → x ≡ y
   one_ok r p q = same_ok Postgresql (sym p ∙ q)
 
-  left_keeps : (calls : List Call) (database : Database) (before after : Journal) → all_done Postgresql (joined before) start ≡ Ok database → IsLeft Postgresql calls database before after → StopKeeps calls database → KeptBy after
-  left_keeps calls database before after at left keeps now is = elim left.is as (λ _. Keeps (contents_of now)) [
+  -- the entry that frees the lock
+  frees_lock : (before now : Database) → all_done Postgresql (Locks Freed ∷ []) before ≡ Ok now → now.lock ≡ free
+  frees_lock before now led = ap (λ (e : Database). e.lock) (sym (same_ok Postgresql led))
+
+  left_keeps : (calls : List Call) (database : Database) (before after : Journal) → all_done Postgresql (joined before) start ≡ Ok database → LockStands start database → IsLeft Postgresql calls database before after → StopKeeps calls database → KeptBy after
+  left_keeps calls database before after at stands left keeps now is = elim left.is as (λ _. Keeps (contents_of now) × LockStands start now) [
     | inl same ↦ front_kept now (subst (λ es. all_done Postgresql (joined es) start ≡ Ok now) same is)
     | inr closed ↦ closed_kept now (subst (λ es. all_done Postgresql (joined es) start ≡ Ok now) closed.0 is)
   ] where
@@ -62,24 +79,28 @@ module _ (start : Database) (command : List ℕ → Database → List Call) (Kee
         let same = one_ok (all_done Postgresql (joined before) start) at parts.1 in
         one_ok (all_done Postgresql (joined left.front) database) left.led (subst (λ e. all_done Postgresql (joined left.front) e ≡ Ok now) (sym same) parts.2)
 
-    front_kept : (now : Database) → all_done Postgresql (joined (before ++ left.front)) start ≡ Ok now → Keeps (contents_of now)
-    front_kept now is = subst (λ (e : Database). Keeps (contents_of e)) (front_at now is) (keeps left.front left.rest left.now left.entries left.led)
+    front_kept : (now : Database) → all_done Postgresql (joined (before ++ left.front)) start ≡ Ok now → Keeps (contents_of now) × LockStands start now
+    front_kept now is =
+        let kept = keeps left.front left.rest left.now left.entries left.led in
+        subst (λ (e : Database). Keeps (contents_of e) × LockStands start e) (front_at now is) (kept.0, stands_on start database left.now stands kept.1)
 
-    closed_kept : (now : Database) → all_done Postgresql (joined (before ++ left.front ++ (Locks Freed ∷ []) ∷ [])) start ≡ Ok now → Keeps (contents_of now)
+    closed_kept : (now : Database) → all_done Postgresql (joined (before ++ left.front ++ (Locks Freed ∷ []) ∷ [])) start ≡ Ok now → Keeps (contents_of now) × LockStands start now
     closed_kept now is =
         let parts = led_both Postgresql (before ++ left.front) ((Locks Freed ∷ []) ∷ []) start now is in
-        subst Keeps (sym (entries_leave Postgresql ((Locks Freed ∷ []) ∷ []) parts.0 now refl parts.2)) (front_kept parts.0 parts.1)
+        (subst Keeps (sym (entries_leave Postgresql ((Locks Freed ∷ []) ∷ []) parts.0 now refl parts.2)) (front_kept parts.0 parts.1).0, inr (inr (frees_lock parts.0 now parts.2)))
 
   pub nothing_kept : (database : Database) → Keeps (contents_of database) → StopKeeps [] database
-  nothing_kept database kept [] rest now is led = subst (λ (e : Database). Keeps (contents_of e)) (same_ok Postgresql led) kept
+  nothing_kept database kept [] rest now is led = (subst (λ (e : Database). Keeps (contents_of e)) (same_ok Postgresql led) kept, inl (sym (same_ok Postgresql led)))
   nothing_kept database kept (e ∷ front) rest now is led = Prim.cc
 
   free_kept : (database : Database) → Keeps (contents_of database) → StopKeeps (closing ∷ []) database
   free_kept database kept [] rest now is led = nothing_kept database kept [] [] now refl led
   free_kept database kept (e ∷ x ∷ front) rest now is led = Prim.cc
   free_kept database kept (e ∷ []) rest now is led =
-      let same = one_entry e rest is in
-      subst Keeps (sym (entries_leave Postgresql (e ∷ []) database now (ap (λ x. all_locks (x ∷ [])) same) led)) kept where
+      let same = one_entry e rest is in (
+        subst Keeps (sym (entries_leave Postgresql (e ∷ []) database now (ap (λ x. all_locks (x ∷ [])) same) led)) kept,
+        inr (inr (frees_lock database now (subst (λ deeds. all_done Postgresql (joined (deeds ∷ [])) database ≡ Ok now) same led))),
+      ) where
         one_entry : (e : List Deed) (rest : Journal) → (all_called Postgresql (closing ∷ []) (session_on database)).entries ≡ e ∷ rest → e ≡ Locks Freed ∷ []
         one_entry e rest is = Prim.cc
 
@@ -93,8 +114,8 @@ module _ (start : Database) (command : List ℕ → Database → List Call) (Kee
       let stop = trail.0 in
       let here = kept stop.0 stop.1 in
       trail_keeps keeps after stops to trail.1 (elim stop.2 as (λ _. KeptBy after) [
-        | inl released ↦ left_keeps (release_calls stop.0) stop.0 from after stop.1 released (release_keeps stop.0 here)
-        | inr ran ↦ left_keeps (command ran.1.0 stop.0) stop.0 from after stop.1 ran.1.1 (keeps ran.1.0 stop.0 here)
+        | inl released ↦ left_keeps (release_calls stop.0) stop.0 from after stop.1 here.1 released (release_keeps stop.0 here.0)
+        | inr ran ↦ left_keeps (command ran.1.0 stop.0) stop.0 from after stop.1 here.1 ran.1.1 (keeps ran.1.0 stop.0 here.0)
       ])
 
 -- an update that is stopped stays as it was
@@ -135,13 +156,15 @@ module _ {Key : Type 0} (m : Meaning Key) (keeps : IsKept m) (stamp : Stamp) (se
         let at = opened Postgresql by database in
         let ready = opened_by Postgresql by database in
         let all = all_fronts m keeps by sets (contents_of database) here (record { committed = at.committed; seen = at.seen; begun = ready.begun }) steady.0.sound read apart steady.0.whole in
-        elim (falls Postgresql by database (sets_calls Postgresql m by sets (contents_of database)) all.all all.wrote all.idle front rest now is led) as (λ _. IsSteadyOn (contents_of now)) [
-          | inl same ↦ subst IsSteadyOn (sym same) steady
+        let stop = falls Postgresql by database (sets_calls Postgresql m by sets (contents_of database)) all.all all.wrote all.idle front rest now is led in
+        let contents = elim stop as (λ _. IsSteadyOn (contents_of now)) [
+          | inl opens ↦ subst IsSteadyOn (sym opens.contents) steady
           | inr later ↦ elim later as (λ _. IsSteadyOn (contents_of now)) [
             | inl within ↦ front_keeps within.front now (all.fronts within.front within.rest within.is) within.led
             | inr after ↦ subst IsSteadyOn (sym after.contents) (front_keeps all.all after.before (all.fronts all.all [] (sym (append-nil all.all))) after.led)
           ]
-        ]
+        ] in
+        (contents, lock_stands by database all.all now all.others stop)
 
     update_keeps : (g : Changelog Key) → g.sets ≡ sets → StopKeeps database (λ w e. []) IsSteadyOn (update_calls Postgresql m by g database) database
     update_keeps g same = subst (λ xs. StopKeeps database (λ w e. []) IsSteadyOn (if has_work xs database.rows && not (is_halt (own_choice g (contents_of database))) then with_lock by database (sets_calls Postgresql m by xs (contents_of database)) else []) database) (sym same)
@@ -155,25 +178,29 @@ bare_is : {Key : Type 0} (m : Meaning Key) (stamp : Stamp) (g : Changelog Key) (
 bare_is m stamp g c bare = ap (λ told. by_own (tested New g.condition told) c (all_settled Postgresql m stamp.reading g.sets c)) bare
 
 pub update_resumes : {Key : Type 0} (m : Meaning Key) → IsKept m → UpdateResumes m
-update_resumes m keeps stamp g start database sound unlocked read own apart steady stopped =
+update_resumes m keeps stamp g start database sound read own apart steady stopped =
     let calm : IsCalm Postgresql m keeps stamp g.sets (contents_of start) = record { sound = sound; none_skipped = ap skips (sym (bare_is m stamp g (contents_of start) (steady.bare _))) ∙ steady.none_skipped; once = steady.once; whole = steady.whole } in
     let kept = trail_keeps start (λ who. update_calls Postgresql m (record stamp { who = who }) g) (IsSteadyOn m keeps stamp g.sets (contents_of start) read own apart)
     (λ who e is. update_keeps m keeps stamp g.sets (contents_of start) read own apart who e is g refl)
     [] stopped.stops stopped.last stopped.trail
-    (λ e is. subst (λ (x : Database). IsSteadyOn m keeps stamp g.sets (contents_of start) read own apart (contents_of x)) (same_ok Postgresql is) (calm, (refl, refl)))
+    (λ e is. (subst (λ (x : Database). IsSteadyOn m keeps stamp g.sets (contents_of start) read own apart (contents_of x)) (same_ok Postgresql is) (calm, (refl, refl)), inl (sym (same_ok Postgresql is))))
     database stopped.led in
-    let leaves = update_leaves m keeps Postgresql stamp g database kept.0.sound stopped.unlocked read in
-    let contents = ap (λ (s : Settled). s.contents) (bare_is m stamp g (contents_of database) (steady.bare _)) ∙ kept.1.0 ∙ ap (λ (s : Settled). s.contents) (sym (bare_is m stamp g (contents_of start) (steady.bare _))) in
-    let stop = ap (λ (s : Settled). s.stop) (bare_is m stamp g (contents_of database) (steady.bare _)) ∙ kept.1.1 ∙ ap (λ (s : Settled). s.stop) (sym (bare_is m stamp g (contents_of start) (steady.bare _))) in
-    (record { users = leaves.users ∙ ap (λ (c : Contents). c.users) contents; rows = leaves.rows ∙ ap (λ (c : Contents). c.rows) contents; lock = leaves.lock }, stop)
+    let same = kept.0.1 in
+    let leaves = update_rests m keeps Postgresql stamp g database kept.0.0.sound read in
+    let contents = ap (λ (s : Settled). s.contents) (bare_is m stamp g (contents_of database) (steady.bare _)) ∙ same.0 ∙ ap (λ (s : Settled). s.contents) (sym (bare_is m stamp g (contents_of start) (steady.bare _))) in
+    let stop = ap (λ (s : Settled). s.stop) (bare_is m stamp g (contents_of database) (steady.bare _)) ∙ same.1 ∙ ap (λ (s : Settled). s.stop) (sym (bare_is m stamp g (contents_of start) (steady.bare _))) in (
+      rests_on start database (left_by Postgresql (update_calls Postgresql m stamp g database) database) _ (not_held start database kept.1 stopped.unlocked)
+          (subst (λ c. IsAtRest database c (left_by Postgresql (update_calls Postgresql m stamp g database) database)) contents leaves),
+      stop,
+    )
 
 same_contents : (users : Catalogue) (rows : List Tracked) (c : Contents) → users ≡ c.users → rows ≡ c.rows → (let e : Contents = record { users = users; rows = rows } in e) ≡ c
 same_contents users rows c first second = ap (λ u. record { users = u; rows = rows }) first ∙ ap (λ r. record { users = c.users; rows = r }) second
 
 pub resumed_returns : {Key : Type 0} (m : Meaning Key) → IsKept m → ResumedReturns m
-resumed_returns m keeps stamp later g sets xs start database sound unlocked read own apart steady stopped ran can known =
-    let left = (update_resumes m keeps stamp g start database sound unlocked read own apart steady stopped).0 in
+resumed_returns m keeps stamp later g sets xs start database sound read own apart steady stopped ran can known =
+    let left = (update_resumes m keeps stamp g start database sound read own apart steady stopped).0 in
     let after = left_by Postgresql (update_calls Postgresql m stamp g database) database in
     let same = same_contents after.users after.rows (updated Postgresql m stamp.reading g (contents_of start)).contents left.users left.rows in
-    let back = rollback_restores m keeps Postgresql later sets (contents_of start) xs after left.lock (subst (RanSince Postgresql m (contents_of start) xs) (sym same) ran) can known in
-    record { users = back.users; rows = back.rows; lock = back.lock }
+    let back = rollback_rests m keeps Postgresql later sets (contents_of start) xs after (subst (RanSince Postgresql m (contents_of start) xs) (sym same) ran) can known in
+    rests_on start after (left_by Postgresql (rollback_calls Postgresql m later sets (length start.rows) after) after) (contents_of start) left.lock back

@@ -15,14 +15,13 @@ use Rattle.lq_model.specs.Sound.{IsSound}
 use Rattle.lq_model.specs.Step.{run}
 use Rattle.lq_model.specs.declared.caller.By.TheVariants.{User}
 use Rattle.lq_model.specs.declared.statement.Statement.{Statement}
-use Rattle.lq_track.specs.Database.{Database, SameDatabase, has_twin_rows, same_identity}
-use Rattle.lq_track.specs.Lock.{free}
+use Rattle.lq_track.specs.Database.{Database, has_twin_rows, same_identity}
 use Rattle.lq_track.specs.Log.{identity_of}
 use Rattle.lq_turns.specs.Contents.{Contents, contents_of}
 use Rattle.lq_turns.specs.Deed.{is_of, others}
 use Rattle.lq_turns.specs.Effects.{all_fresh, effects, inverses, statements_of}
-use Rattle.lq_turns.specs.Laws.{AreKnown, RollbackRestores, at_rest}
-use Rattle.lq_turns.specs.Ran.{AreRowsOf, Run, all_effects, are_reversible, effects_of, exec_in, is_reversible}
+use Rattle.lq_turns.specs.Laws.{AreKnown, IsAtRest, RollbackRestores, rollback_calls}
+use Rattle.lq_turns.specs.Ran.{AreRowsOf, RanSince, Run, all_effects, are_reversible, effects_of, exec_in, is_reversible}
 use Rattle.lq_turns.specs.Settle.{row_for}
 use Rattle.lq_turns.specs.Set.{IsKept, Meaning, Set, has_row}
 use Rattle.lq_turns.specs.Session.{Session, all_called, left_by}
@@ -34,7 +33,7 @@ use Rattle.lq_turns.specs.declared.turn.Turn.{Turn}
 use Rattle.lq_turns.specs.Turn.{Ending, Finished, Stuck, Through, contents_in, ending, is_marked, kept, made, refused, row_ending, turn_calls}
 use Rattle.lq_turns.proofs.Effects.{all_spelled, not_ok, run_effects, ok_same, course_through, run_both, run_sound, then_run}
 use Rattle.lq_turns.proofs.Made.{At, calls_both, with_users}
-use Rattle.lq_turns.proofs.Updates.{locked_leaves}
+use Rattle.lq_turns.proofs.Updates.{free_before, freed, locked_leaves, unmoved}
 use Rattle.lq_turns.proofs.TurnLeft.{turn_taken, twice}
 
 -- turns that all finish
@@ -220,16 +219,23 @@ module _ {Key : Type 0} (m : Meaning Key) (keeps : IsKept m) (d : Dialect) where
       ]) refl is (and_right (is_reversible d m x before) _ can)
 
 module _ {Key : Type 0} (m : Meaning Key) (d : Dialect) (stamp : Stamp) where
-  back_by : (turns : List Turn) (database : Database) (before : Contents) → database.lock ≡ free → Undone d turns (contents_of database) before
-      → SameDatabase (left_by d (rollback_of d stamp turns database) database) (at_rest database before)
-  back_by [] database before unlocked undone = subst (λ c. SameDatabase database (at_rest database c)) undone (record { users = refl; rows = refl; lock = unlocked })
-  back_by (turn ∷ turns) database before unlocked undone =
-      locked_leaves d stamp database (turns_made d stamp.who (turn ∷ turns) (contents_of database)) before (λ s at. undone_taken d m stamp.who (turn ∷ turns) (contents_of database) before s undone at)
+  back_by : (turns : List Turn) (database : Database) (before : Contents) → Undone d turns (contents_of database) before
+      → IsAtRest database before (left_by d (rollback_of d stamp turns database) database)
+  back_by [] database before undone = unmoved database before (sym undone)
+  back_by (turn ∷ turns) database before undone =
+      freed database (left_by d (rollback_of d stamp (turn ∷ turns) database) database) before
+      (locked_leaves d stamp database (turns_made d stamp.who (turn ∷ turns) (contents_of database)) before (λ s at. undone_taken d m stamp.who (turn ∷ turns) (contents_of database) before s undone at))
 
-pub rollback_restores : {Key : Type 0} (m : Meaning Key) → IsKept m → RollbackRestores m
-rollback_restores m keeps d stamp sets before xs database unlocked ran can known =
+pub rollback_rests : {Key : Type 0} (m : Meaning Key) → IsKept m → (d : Dialect) (stamp : Stamp) (sets : List (Set Key)) (before : Contents) (xs : List (Run Key)) (database : Database)
+    → RanSince d m before xs (contents_of database) → are_reversible d m xs before.users ≡ true → AreKnown d m sets xs
+    → IsAtRest database before (left_by d (rollback_calls d m stamp sets (length before.rows) database) database)
+rollback_rests m keeps d stamp sets before xs database ran can known =
     let back = all_back m keeps d sets xs ran.added before.rows before.users database.users ran.are_theirs known ran.sound can ran.users (sym (ap has_twin_rows ran.rows) ∙ ran.differ) in
     let undone = ap reverse (ap (drop (length before.rows)) ran.rows ∙ drop-append_seam before.rows ran.added) in
     let turns = ap (undo_turns d m sets) undone ∙ back.1 in
-    subst (λ o. SameDatabase (left_by d (elim o as (λ _. List Call) [ Some turns ↦ rollback_of d stamp turns database | None ↦ [] ]) database) (at_rest database before)) (sym turns)
-    (back_by m d stamp back.0 database before unlocked (subst (λ r. Undone d back.0 (with_users database.users r) before) (sym ran.rows) back.2))
+    subst (λ o. IsAtRest database before (left_by d (elim o as (λ _. List Call) [ Some turns ↦ rollback_of d stamp turns database | None ↦ [] ]) database)) (sym turns)
+    (back_by m d stamp back.0 database before (subst (λ r. Undone d back.0 (with_users database.users r) before) (sym ran.rows) back.2))
+
+pub rollback_restores : {Key : Type 0} (m : Meaning Key) → IsKept m → RollbackRestores m
+rollback_restores m keeps d stamp sets before xs database unlocked ran can known =
+    free_before database (left_by d (rollback_calls d m stamp sets (length before.rows) database) database) before unlocked (rollback_rests m keeps d stamp sets before xs database ran can known)

@@ -1,7 +1,7 @@
 -- What the calls of an update leave.
-use Rattle.std.proofs.Common.{ap, subst, sym, ◌∙◌}
+use Rattle.std.proofs.Common.{ap, inl, inr, subst, sym, ◌∙◌}
 use Rattle.std.specs.List.{list_all}
-use Rattle.std.specs.Prelude.{Bool, Err, List, None, Ok, Option, Some, [], false, if◌then◌else◌, is_some, map, not, refl, true, ℕ, ◌&&◌, ◌∷◌, ◌≡◌}
+use Rattle.std.specs.Prelude.{Bool, Err, List, None, Ok, Option, Some, [], false, if◌then◌else◌, is_some, map, not, refl, true, ℕ, ◌&&◌, ◌∷◌, ◌≡◌, ◌⊎◌}
 use Rattle.lq_base.specs.declared.dialect.Dialect.{Dialect}
 use Rattle.lq_base.specs.declared.run.Did.{Did}
 use Rattle.lq_base.specs.declared.run.Why.{Why}
@@ -12,8 +12,8 @@ use Rattle.lq_track.specs.Lock.{free}
 use Rattle.lq_turns.specs.Contents.{Contents, contents_of, with_contents}
 use Rattle.lq_turns.specs.Deed.{lock_after}
 use Rattle.lq_turns.specs.Effects.{effects, statements_of}
-use Rattle.lq_turns.specs.Laws.{UpdateLeaves, at_rest}
-use Rattle.lq_turns.specs.Script.{calls_of_turn, calls_unless, closing, has_work, opening, set_calls, sets_calls, turn_by, with_lock}
+use Rattle.lq_turns.specs.Laws.{AreRead, IsAtRest, UpdateLeaves, at_rest}
+use Rattle.lq_turns.specs.Script.{calls_of_turn, calls_unless, closing, has_work, opening, set_calls, sets_calls, turn_by, update_calls, with_lock}
 use Rattle.lq_turns.specs.Session.{Session, all_called, all_executed, left_by, session_on}
 use Rattle.lq_turns.specs.Set.{Changelog, IsKept, Meaning, Set}
 use Rattle.lq_turns.specs.Settle.{Settled, all_settled, by_own, choice, choice_of, followed, is_halt, mark_turn, own_choice, run_ending, run_turn, settle, settled_as, settled_by, updated, what}
@@ -57,6 +57,39 @@ module _ (d : Dialect) (stamp : Stamp) (database : Database) where
   locked_leaves calls c go =
       subst (λ (s : Session). SameDatabase s.committed (at_rest database c)) (sym (calls_both d calls (closing ∷ []) (all_executed d (map Locks (opening stamp database)) (session_on database))))
       (closed_on (all_called d calls (all_executed d (map Locks (opening stamp database)) (session_on database))) c (go _ opened))
+
+-- a database at rest
+
+pub freed : (before now : Database) (c : Contents) → SameDatabase now (at_rest before c) → IsAtRest before c now
+freed before now c same = record { users = same.users; rows = same.rows; lock = inl same.lock }
+
+pub unmoved : (database : Database) (c : Contents) → c ≡ contents_of database → IsAtRest database c database
+unmoved database c is = subst (λ e. IsAtRest database e database) (sym is) (record { users = refl; rows = refl; lock = inr refl })
+
+-- where the lock was free before it is
+pub free_before : (before now : Database) (c : Contents) → before.lock ≡ free → IsAtRest before c now → SameDatabase now (at_rest before c)
+free_before before now c unlocked is = record {
+  users = is.users;
+  rows = is.rows;
+  lock = elim is.lock as (λ _. now.lock ≡ free) [
+    | inl frees ↦ frees
+    | inr same ↦ ap (λ (e : Database). e.lock) same ∙ unlocked
+  ];
+}
+
+-- and what stands before may be at rest itself
+pub rests_on : (start before now : Database) (c : Contents) → (before.lock ≡ free) ⊎ (before ≡ start) → IsAtRest before c now → IsAtRest start c now
+rests_on start before now c first is = record {
+  users = is.users;
+  rows = is.rows;
+  lock = elim is.lock as (λ _. (now.lock ≡ free) ⊎ (now ≡ start)) [
+    | inl frees ↦ inl frees
+    | inr same ↦ elim first as (λ _. (now.lock ≡ free) ⊎ (now ≡ start)) [
+      | inl frees ↦ inl (ap (λ (e : Database). e.lock) same ∙ frees)
+      | inr begins ↦ inr (same ∙ begins)
+    ]
+  ];
+}
 
 module _ {Key : Type 0} (d : Dialect) (m : Meaning Key) (keeps : IsKept m) (stamp : Stamp) where
   -- one changeset
@@ -142,23 +175,25 @@ module _ {Key : Type 0} (d : Dialect) (m : Meaning Key) (keeps : IsKept m) (stam
   own_halts (Runs by why) c s is = Prim.cc
   own_halts (Halts why) c s is = refl
 
-  unmoved : (database : Database) (c : Contents) → database.lock ≡ free → c ≡ contents_of database → SameDatabase database (at_rest database c)
-  unmoved database c unlocked is = subst (λ e. SameDatabase database (at_rest database e)) (sym is) (record { users = refl; rows = refl; lock = unlocked })
-
-  update_by : (g : Changelog Key) (database : Database) → IsSound d database.users → database.lock ≡ free → list_all (λ (x : Set Key). list_all (m.is_for d) x.changes) g.sets ≡ true
+  update_by : (g : Changelog Key) (database : Database) → IsSound d database.users → list_all (λ (x : Set Key). list_all (m.is_for d) x.changes) g.sets ≡ true
       → (work halt : Bool) → has_work g.sets database.rows ≡ work → is_halt (own_choice g (contents_of database)) ≡ halt
-      → SameDatabase (left_by d (if work && not halt then with_lock stamp database (sets_calls d m stamp g.sets (contents_of database)) else []) database) (at_rest database (updated d m stamp.reading g (contents_of database)).contents)
-  update_by g database sound unlocked read true false work halt =
+      → IsAtRest database (updated d m stamp.reading g (contents_of database)).contents (left_by d (if work && not halt then with_lock stamp database (sets_calls d m stamp g.sets (contents_of database)) else []) database)
+  update_by g database sound read true false work halt =
       let is = own_is (own_choice g (contents_of database)) (contents_of database) (all_settled d m stamp.reading g.sets (contents_of database)) halt in
-      locked_leaves d stamp database (sets_calls d m stamp g.sets (contents_of database)) (updated d m stamp.reading g (contents_of database)).contents
-      (λ s at. subst (λ (e : Contents). At (all_called d (sets_calls d m stamp g.sets (contents_of database)) s) (twice e)) (sym is) (sets_taken g.sets (contents_of database) s read sound at))
-  update_by g database sound unlocked read true true work halt =
-      unmoved database _ unlocked (own_halts (own_choice g (contents_of database)) (contents_of database) (all_settled d m stamp.reading g.sets (contents_of database)) halt)
-  update_by g database sound unlocked read false true work halt =
-      unmoved database _ unlocked (own_halts (own_choice g (contents_of database)) (contents_of database) (all_settled d m stamp.reading g.sets (contents_of database)) halt)
-  update_by g database sound unlocked read false false work halt =
-      unmoved database _ unlocked (own_is (own_choice g (contents_of database)) (contents_of database) (all_settled d m stamp.reading g.sets (contents_of database)) halt ∙ idle g.sets (contents_of database) work)
+      freed database (left_by d (with_lock stamp database (sets_calls d m stamp g.sets (contents_of database))) database) _
+      (locked_leaves d stamp database (sets_calls d m stamp g.sets (contents_of database)) (updated d m stamp.reading g (contents_of database)).contents
+      (λ s at. subst (λ (e : Contents). At (all_called d (sets_calls d m stamp g.sets (contents_of database)) s) (twice e)) (sym is) (sets_taken g.sets (contents_of database) s read sound at)))
+  update_by g database sound read true true work halt =
+      unmoved database _ (own_halts (own_choice g (contents_of database)) (contents_of database) (all_settled d m stamp.reading g.sets (contents_of database)) halt)
+  update_by g database sound read false true work halt =
+      unmoved database _ (own_halts (own_choice g (contents_of database)) (contents_of database) (all_settled d m stamp.reading g.sets (contents_of database)) halt)
+  update_by g database sound read false false work halt =
+      unmoved database _ (own_is (own_choice g (contents_of database)) (contents_of database) (all_settled d m stamp.reading g.sets (contents_of database)) halt ∙ idle g.sets (contents_of database) work)
+
+pub update_rests : {Key : Type 0} (m : Meaning Key) → IsKept m → (d : Dialect) (stamp : Stamp) (g : Changelog Key) (database : Database) → IsSound d database.users → AreRead d m g.sets
+    → IsAtRest database (updated d m stamp.reading g (contents_of database)).contents (left_by d (update_calls d m stamp g database) database)
+update_rests m keeps d stamp g database sound read =
+    update_by d m keeps stamp g database sound read (has_work g.sets database.rows) (is_halt (own_choice g (contents_of database))) refl refl
 
 pub update_leaves : {Key : Type 0} (m : Meaning Key) → IsKept m → UpdateLeaves m
-update_leaves m keeps d stamp g database sound unlocked read =
-    update_by d m keeps stamp g database sound unlocked read (has_work g.sets database.rows) (is_halt (own_choice g (contents_of database))) refl refl
+update_leaves m keeps d stamp g database sound unlocked read = free_before database (left_by d (update_calls d m stamp g database) database) _ unlocked (update_rests m keeps d stamp g database sound read)

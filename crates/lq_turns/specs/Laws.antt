@@ -1,6 +1,6 @@
 -- The laws of updates and rollbacks.
 use Rattle.std.specs.List.{list_all}
-use Rattle.std.specs.Prelude.{List, None, Some, [], length, true, ℕ, ◌∷◌, ◌≡◌}
+use Rattle.std.specs.Prelude.{List, None, Some, [], length, true, ℕ, ◌∷◌, ◌≡◌, ◌⊎◌}
 use Rattle.lq_base.specs.declared.dialect.Dialect.{Dialect}
 use Rattle.lq_model.specs.Sound.{IsSound}
 use Rattle.lq_track.specs.Database.{Database, SameDatabase}
@@ -19,6 +19,12 @@ use Rattle.lq_turns.specs.declared.turn.Turn.{Turn}
 -- the database with these contents, and its lock free
 abbrev pub at_rest : Database → Contents → Database
 at_rest database contents = record (with_contents database contents) { lock = free }
+
+-- a database with these contents, and its lock free; or the one that was there before
+pub record IsAtRest (before : Database) (contents : Contents) (now : Database) : Type 0 where
+  pub users : now.users ≡ contents.users
+  pub rows : now.rows ≡ contents.rows
+  pub lock : (now.lock ≡ free) ⊎ (now ≡ before)
 
 -- the changes of each changeset were read for the dialect
 abbrev pub AreRead : {Key : Type 0} → Dialect → Meaning Key → List (Set Key) → Type 0

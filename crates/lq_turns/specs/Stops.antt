@@ -9,7 +9,6 @@ use Rattle.lq_base.specs.declared.run.Did.TheVariants as did
 use Rattle.lq_base.specs.declared.tracking.Lock.{Lock}
 use Rattle.lq_base.specs.declared.tracking.Tracked.{Tracked}
 use Rattle.lq_track.specs.Database.{Database}
-use Rattle.lq_track.specs.Lock.{free}
 use Rattle.lq_turns.specs.Contents.{Contents}
 use Rattle.lq_turns.specs.Deed.{all_done}
 use Rattle.lq_turns.specs.Session.{all_called, session_on}
@@ -107,7 +106,7 @@ pub record IsLeft (d : Dialect) (calls : List Call) (database : Database) (befor
 -- what one call of the command, or of release-locks, may leave
 abbrev pub StopsAt : Dialect → Database → (List ℕ → Database → List Call) → Journal → Journal → Type 0
 StopsAt d start command before after = (database : Database) × (all_done d (joined before) start ≡ Ok database)
-    × (IsLeft d (release_calls database) database before after ⊎ ((database.lock ≡ free) × ((who : List ℕ) × IsLeft d (command who database) database before after)))
+    × (IsLeft d (release_calls database) database before after ⊎ ((database.lock.locked ≡ false) × ((who : List ℕ) × IsLeft d (command who database) database before after)))
 
 -- journals, each left by the command or by release-locks on the one before
 abbrev pub IsTrail : Dialect → Database → (List ℕ → Database → List Call) → Journal → List Journal → Journal → Type 0
