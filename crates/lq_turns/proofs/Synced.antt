@@ -4,15 +4,15 @@ use Rattle.std.specs.List.{list_all}
 use Rattle.std.specs.Prelude.{Err, List, Ok, [], map, refl, true, ◌++◌, ◌∷◌, ◌≡◌}
 use Rattle.lq_base.specs.declared.dialect.Dialect.{Dialect}
 use Rattle.lq_base.specs.declared.tracking.Tracked.{Tracked}
-use Rattle.lq_track.specs.Database.{Database, SameDatabase}
-use Rattle.lq_track.specs.Lock.{free}
+use Rattle.lq_track.specs.Database.{Database}
 use Rattle.lq_turns.specs.Contents.{Contents, contents_of}
 use Rattle.lq_turns.specs.Deed.{if_accepted, rows_after}
 use Rattle.lq_turns.specs.Goes.{committed_if, went, went_by}
-use Rattle.lq_turns.specs.Laws.{at_rest}
-use Rattle.lq_turns.specs.Script.{rows_to_sync, sync_of}
+use Rattle.lq_turns.specs.Laws.{IsAtRest}
+use Rattle.lq_turns.specs.Script.{rows_to_sync, sync_calls, sync_of}
 use Rattle.lq_turns.specs.Session.{all_called, left_by}
-use Rattle.lq_turns.specs.Synced.{SyncLeaves, all_inserted, inserted_then, with_rows}
+use Rattle.lq_turns.specs.Set.{Changelog}
+use Rattle.lq_turns.specs.Synced.{SyncLeaves, all_inserted, inserted_then, synced, with_rows}
 use Rattle.lq_turns.specs.declared.call.Call.{Call}
 use Rattle.lq_turns.specs.declared.call.Call.TheVariants.{Begin, Commit, Execute}
 use Rattle.lq_turns.specs.declared.deed.Deed.TheVariants.{Rows}
@@ -21,7 +21,7 @@ use Rattle.lq_turns.specs.declared.stamp.Stamp.{Stamp}
 use Rattle.lq_turns.specs.Turn.{made}
 use Rattle.lq_turns.proofs.Made.{At, is_turns, takes}
 use Rattle.lq_turns.proofs.TurnLeft.{row_not_own, twice}
-use Rattle.lq_turns.proofs.Updates.{locked_leaves}
+use Rattle.lq_turns.proofs.Updates.{free_before, freed, locked_leaves, unmoved}
 
 abbrev inserts : List Tracked → List Call
 inserts rows = map (λ r. Execute (Rows (Inserted r))) rows ++ Commit ∷ []
@@ -39,11 +39,15 @@ goes_in d (row ∷ rows) c now = elim (rows_after (Inserted row) now) as (λ r. 
 ]
 
 module _ (d : Dialect) (stamp : Stamp) where
-  sync_leaves_rows : (rows : List Tracked) (database : Database) → database.lock ≡ free → SameDatabase (left_by d (sync_of d stamp rows database) database) (at_rest database (with_rows (contents_of database) (all_inserted rows database.rows)))
-  sync_leaves_rows [] database unlocked = record { users = refl; rows = refl; lock = unlocked }
-  sync_leaves_rows (row ∷ rows) database unlocked =
-      locked_leaves d stamp database (made d (Begin ∷ inserts (row ∷ rows)) (contents_of database)) (with_rows (contents_of database) (all_inserted (row ∷ rows) database.rows))
-      (λ s at. subst (At (all_called d (made d (Begin ∷ inserts (row ∷ rows)) (contents_of database)) s)) (goes_in d (row ∷ rows) (contents_of database) database.rows) (takes d (Begin ∷ inserts (row ∷ rows)) (twice (contents_of database)) s (are_turns (row ∷ rows)) at))
+  rows_rest : (rows : List Tracked) (database : Database) → IsAtRest database (with_rows (contents_of database) (all_inserted rows database.rows)) (left_by d (sync_of d stamp rows database) database)
+  rows_rest [] database = unmoved database (contents_of database) refl
+  rows_rest (row ∷ rows) database =
+      freed database (left_by d (sync_of d stamp (row ∷ rows) database) database) _
+      (locked_leaves d stamp database (made d (Begin ∷ inserts (row ∷ rows)) (contents_of database)) (with_rows (contents_of database) (all_inserted (row ∷ rows) database.rows))
+      (λ s at. subst (At (all_called d (made d (Begin ∷ inserts (row ∷ rows)) (contents_of database)) s)) (goes_in d (row ∷ rows) (contents_of database) database.rows) (takes d (Begin ∷ inserts (row ∷ rows)) (twice (contents_of database)) s (are_turns (row ∷ rows)) at)))
+
+pub sync_rests : {Key : Type 0} (d : Dialect) (stamp : Stamp) (g : Changelog Key) (database : Database) → IsAtRest database (synced stamp.reading g.sets (contents_of database)).contents (left_by d (sync_calls d stamp g database) database)
+sync_rests d stamp g database = rows_rest d stamp (rows_to_sync stamp.reading g.sets database.rows) database
 
 pub sync_leaves : (Key : Type 0) → SyncLeaves Key
-sync_leaves Key d stamp g database unlocked = sync_leaves_rows d stamp (rows_to_sync stamp.reading g.sets database.rows) database unlocked
+sync_leaves Key d stamp g database unlocked = free_before database (left_by d (sync_calls d stamp g database) database) _ unlocked (sync_rests d stamp g database)
