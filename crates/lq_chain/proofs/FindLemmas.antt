@@ -3,7 +3,7 @@ use Rattle.std.proofs.Common.{◌≡◌, ℕ, zero, suc, ◌+◌, ◌-◌, ◌<�
 use Rattle.lq_links.specs.declared.node.Node.{Node}
 use Rattle.lq_links.specs.declared.node.Spot.{Spot}
 use Rattle.lq_links.specs.declared.node.Finger.{Finger}
-use Rattle.std.specs.Prelude.{slice_set}
+use Rattle.std.specs.Prelude.{slice_get, slice_set}
 use Rattle.std.specs.List.{remove}
 use Rattle.std.specs.Option.{option_map}
 use Rattle.lq_links.specs.Nodes.{Has, node, first_or, last_or, rows, IsThereIf, spot_at, IsOn}
@@ -48,6 +48,10 @@ module _ {X : Type 0} where
   spot_ahead (x ∷ y ∷ xs) ys zero e = absurd (omega (arith, e))
   spot_ahead (x ∷ y ∷ xs) ys (suc i) e = spot_ahead (y ∷ xs) ys i (omega (arith, e))
 
+  row_behind : (xs : List (Spot × X)) (s : Spot × X) (ys : List (Spot × X)) → slice_get (rows (xs ++ s ∷ ys)) (length xs) ≡ Some s.1
+  row_behind [] s ys = refl
+  row_behind (x ∷ xs) s ys = row_behind xs s ys
+
   -- the node at a place, which leads on to the place behind and back to the one before
   pub record At (st : State X) (ss : List (Spot × X)) (i : ℕ) (s : Spot) : Type 0 where
     pub node : Node X
@@ -56,6 +60,7 @@ module _ {X : Type 0} where
     pub next_there : IsThereIf st.slots node.next
     pub next : node.next ≡ spot_at ss (i + 1)
     pub prev : 0 < i → node.prev ≡ spot_at ss (i - 1)
+    pub row : slice_get (rows ss) i ≡ Some node.row
 
   pub node_at : (st : State X) (ss : List (Spot × X)) (i : ℕ) (s : Spot) → IsList st ss → spot_at ss i ≡ Some s → At st ss i s
   node_at st ss i s is e =
@@ -68,7 +73,15 @@ module _ {X : Type 0} where
         next = sym (ap (λ ts. spot_at ts (i + 1)) cut.is ∙ ap (spot_at (cut.front ++ (s, cut.row) ∷ cut.rest)) (sym more) ∙ spot_behind cut.front (s, cut.row) cut.rest);
         prev = λ some. let less : suc (i - 1) ≡ length cut.front = omega (arith, cut.long, some) in
             sym (ap (λ ts. spot_at ts (i - 1)) cut.is ∙ spot_ahead cut.front ((s, cut.row) ∷ cut.rest) (i - 1) less);
+        row = ap (λ ts. slice_get (rows ts) i) cut.is ∙ ap (slice_get (rows (cut.front ++ (s, cut.row) ∷ cut.rest))) (sym cut.long) ∙ row_behind cut.front (s, cut.row) cut.rest;
       }
+
+  -- no row past the end
+  pub no_row : (ss : List (Spot × X)) (i : ℕ) → spot_at ss i ≡ None → slice_get (rows ss) i ≡ None
+  no_row [] zero e = refl
+  no_row [] (suc i) e = refl
+  no_row (x ∷ ss) zero e = absurd (some_not x.0 (sym e))
+  no_row (x ∷ ss) (suc i) e = no_row ss i e
 
   pub spot_first : (ss : List (Spot × X)) → spot_at ss 0 ≡ first_or ss None
   spot_first [] = refl

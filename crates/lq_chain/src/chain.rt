@@ -1,5 +1,6 @@
-ghost use Rattle.std.specs.Prelude.{◌≡◌, ◌<◌, ◌≤◌, ◌+◌, ◌↔◌, [], ◌∷◌, ◌++◌, cond, length, IsTrue, IfErr, IfOk, OnOk, OnErr, slice_set};
+ghost use Rattle.std.specs.Prelude.{◌≡◌, ◌<◌, ◌≤◌, ◌+◌, ◌↔◌, [], ◌∷◌, ◌++◌, cond, length, IsTrue, IfErr, IfOk, OnOk, OnErr, slice_get, slice_set};
 ghost use Rattle.std.specs.List.{remove};
+ghost use Rattle.std.specs.Option.{option_copied};
 ghost use Rattle.lq_chain.specs.Marks.{kept_rows, replaced, with_new};
 ghost use Rattle.lq_chain.specs.History.{history, changed, undone_to, back, marked, forgotten, kept, step_shorter};
 
@@ -108,6 +109,22 @@ impl<T: Drop> Chain<T> {
             prev: None,
             cur: self.links.head,
             left: self.links.len,
+        }
+    }
+
+    /// The row at the place, where the list is as long as that.
+    pub fn get(&self, at: usize) -> Option<&T>
+        ensures { option_copied result ≡ slice_get self.now.now at }
+    {
+        if at >= self.links.len {
+            return None;
+        }
+        match find(&self.links, self.finger, at) {
+            None => None,
+            Some(spot) => {
+                let node = self.links.arena.at(spot.place, spot.id);
+                Some(&node.row)
+            }
         }
     }
 
