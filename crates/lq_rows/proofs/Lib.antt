@@ -1,3 +1,4 @@
 pub mod Continued
+mod PrintLemmas
 pub mod SeenLemmas
 mod WholeLemmas

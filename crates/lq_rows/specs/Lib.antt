@@ -1,5 +1,6 @@
 pub mod Answers
 pub mod Order
+pub mod Print
 pub mod Seen
 pub mod Stored
 pub mod Whole

@@ -1,7 +1,7 @@
 -- A table as it is kept: with the rows before each change since the last `forget`, the newest first.
 use Rattle.std.specs.BTreeSet.{BTreeSet, contains}
-use Rattle.std.specs.List.{list_any}
-use Rattle.std.specs.Prelude.{Bool, List, [], map, ℕ, ◌++◌, ◌∷◌, ◌≡◌}
+use Rattle.std.specs.List.{list_any, remove}
+use Rattle.std.specs.Prelude.{Bool, List, [], map, slice_set, ℕ, ◌++◌, ◌∷◌, ◌≡◌}
 use Rattle.lq_base.specs.declared.name.Name.{Name}
 use Rattle.lq_base.specs.declared.value.Value.{Value}
 use Rattle.lq_chain.specs.History.{History, history}
@@ -66,6 +66,13 @@ has_values_in ns values it = has_values it.columns ns it.rows values
 -- a table with one more row and another next number
 abbrev pub with_row : List Value → ℕ → Table → Table
 with_row row next it = record it { rows = it.rows ++ row ∷ []; next = next }
+
+-- a table without the row at a place, and with another row there
+abbrev pub without_row : ℕ → Table → Table
+without_row at it = record it { rows = remove it.rows at }
+
+abbrev pub with_row_at : ℕ → List Value → Table → Table
+with_row_at at row it = record it { rows = slice_set it.rows at row }
 
 -- a table with its rows changed
 abbrev pub with_all : (List (List Value) → List (List Value)) → Table → Table

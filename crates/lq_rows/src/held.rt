@@ -1,14 +1,16 @@
-ghost use Rattle.std.specs.Prelude.{◌≡◌, ◌≤◌, ◌++◌, ◌∷◌, [], length, IfOk, OnOk, OnErr};
+ghost use Rattle.std.specs.Prelude.{◌≡◌, ◌≤◌, ◌++◌, ◌∷◌, ◌<◌, [], length, IfOk, OnOk, OnErr, slice_get, slice_set};
 ghost use Rattle.std.specs.Option.{option_copied};
-ghost use Rattle.std.specs.List.{list_any};
+ghost use Rattle.std.specs.List.{list_any, remove};
 ghost use Rattle.lq_model.specs.Look.{has_null_in};
 ghost use Rattle.lq_model.specs.Row.{by_name, is_null};
 ghost use Rattle.lq_chain.specs.History.{changed, marked, undone_to, forgotten};
 ghost use Rattle.lq_chain.specs.Marks.{kept_rows, replaced};
+ghost use Rattle.lq_rows.specs.Print.{ArePlaces};
 ghost use Rattle.lq_rows.specs.Stored.{has_values, reshaped, rows_of, shape_of, stored, table_as, with_rows};
 ghost use Rattle.lq_model.specs.Twin.{is_twin};
 
 use crate::pick::{has_column, is_null_at};
+use crate::print;
 use crate::seen::{asked, keep_up};
 use crate::shape::Shape;
 use crate::twin::{index_twin, key_twin, unique_twin};
@@ -39,6 +41,8 @@ pub struct Body {
     numbered: Numbered<Chain<Row>>,
     /// What is known of the rows for looking up; it is dropped where rows go.
     seen: Vec<Seen>,
+    /// The fingerprints of the rows, by which those that begin with a text are found.
+    prints: Option<Items<u32>>,
 }
 
 /// A table, with its rows before each change since the last `forget`. It is small, and can be moved
@@ -61,11 +65,12 @@ impl Model for Held {
     ghost Value = { Stored };
 
     ghost use Rattle.lq_rows.specs.Stored.{table_as};
+    ghost use Rattle.lq_rows.specs.Print.{ArePrints};
     ghost use Rattle.lq_rows.specs.Seen.{AllShow};
 
     ghost view = { λ t. stored (table_as t.body.value.shape t.body.value.numbered.next t.body.value.numbered.rows.now) t.body.value.numbered.rows.past };
 
-    ghost invariant = { λ t. AllShow t.body.value.shape.columns t.body.value.numbered.rows.now t.body.value.seen.items };
+    ghost invariant = { λ t. AllShow t.body.value.shape.columns t.body.value.numbered.rows.now t.body.value.seen.items × ArePrints t.body.value.numbered.rows.now t.body.value.prints };
 }
 
 impl Held {
@@ -80,6 +85,7 @@ impl Held {
                 next: 1,
             },
             seen: Vec::new(alloc),
+            prints: None,
         };
         Ok(Held {
             body: Box::new(alloc, body)?,
@@ -137,6 +143,13 @@ impl Held {
         &self.body.numbered.rows
     }
 
+    /// The row at the place.
+    pub fn row(&self, at: usize) -> Option<&Row>
+        ensures { option_copied result ≡ slice_get self.now.now.rows at }
+    {
+        self.body.numbered.rows.get(at)
+    }
+
     /// The number of its rows.
     pub fn len(&self) -> usize
         ensures { result ≡ length self.now.now.rows }
@@ -178,6 +191,17 @@ impl Held {
             names,
             values,
         )
+    }
+
+    /// Places of rows, rising, among which each row stands that begins with the text. What gets known
+    /// for it stays known.
+    pub fn places(&mut self, alloc: Global, first: &str) -> Result<Vec<usize>, NoMemory>
+        ensures places { IfOk result
+            (λ places. ArePlaces first.now self.old.now.rows places.items) }
+        ensures same { self.new ≡ self.old }
+    {
+        let body = &mut *self.body;
+        print::places(alloc, &mut body.prints, &body.numbered.rows, first)
     }
 
     /// Whether a row is equal to this one in a key, a unique constraint or a unique index.
@@ -232,8 +256,10 @@ impl Held {
             body.shape.columns.as_slice(),
             row.as_slice(),
         );
+        print::add(&mut body.prints, row.as_slice());
         if body.numbered.rows.push_back(row).is_err() {
             body.seen.clear();
+            body.prints = None;
             return Err(NoMemory);
         }
         body.numbered.next = next;
@@ -251,6 +277,7 @@ impl Held {
     {
         let body = &mut *self.body;
         body.seen.clear();
+        body.prints = None;
         body.numbered.rows.replace_some(alloc, by)
     }
 
@@ -265,7 +292,43 @@ impl Held {
     {
         let body = &mut *self.body;
         body.seen.clear();
+        body.prints = None;
         body.numbered.rows.keep(alloc, marks)
+    }
+
+    /// Takes the row at the place out, or changes nothing.
+    pub fn take_out(&mut self, at: usize) -> Result<(), NoMemory>
+        requires { at < length self.old.now.rows }
+        ensures ok { OnOk result
+            (self.new
+            ≡ with_rows (changed (rows_of self.old) (remove self.old.now.rows at))
+            self.old.now.next self.old) }
+        ensures err { OnErr result (self.new ≡ self.old) }
+    {
+        let body = &mut *self.body;
+        body.seen.clear();
+        body.numbered.rows.unlink(at)?;
+        print::remove(&mut body.prints, at);
+        Ok(())
+    }
+
+    /// Puts another row in place of the one at the place, or changes nothing.
+    pub fn replace(&mut self, at: usize, row: Row) -> Result<(), NoMemory>
+        requires { at < length self.old.now.rows }
+        ensures ok { OnOk result
+            (self.new
+            ≡ with_rows (changed (rows_of self.old) (slice_set self.old.now.rows at row))
+            self.old.now.next self.old) }
+        ensures err { OnErr result (self.new ≡ self.old) }
+    {
+        let body = &mut *self.body;
+        body.seen.clear();
+        print::set(&mut body.prints, at, row.as_slice());
+        if body.numbered.rows.replace(at, row).is_err() {
+            body.prints = None;
+            return Err(NoMemory);
+        }
+        Ok(())
     }
 
     /// Gives the rows and the next number as they were.
@@ -275,6 +338,7 @@ impl Held {
     {
         let body = &mut *self.body;
         body.seen.clear();
+        body.prints = None;
         body.numbered.go_back(mark, next);
     }
 

@@ -4,6 +4,7 @@
 mod fault;
 mod held;
 mod pick;
+mod print;
 mod seen;
 mod shape;
 mod twin;
