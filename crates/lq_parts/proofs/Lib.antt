@@ -1,4 +1,5 @@
 mod EntryLemmas
+pub mod OneRow
 mod PartLemmas
 mod SlotLemmas
 mod StepLemmas

@@ -1,7 +1,7 @@
 ghost use Rattle.std.specs.List.{flat_map};
 ghost use Rattle.std.specs.Map.{lookup, set_value};
 ghost use Rattle.std.specs.Option.{option_copied};
-ghost use Rattle.std.specs.Prelude.{◌≡◌, ◌≤◌, None, [], IfOk, IfSome, OnErr, OnOk, is_some, length, option_map, true};
+ghost use Rattle.std.specs.Prelude.{◌≡◌, ◌≤◌, ◌<◌, None, [], IfOk, IfSome, OnErr, OnOk, is_some, length, option_map, true};
 ghost use Rattle.lq_base.specs.Name.{is_named};
 ghost use Rattle.lq_chain.specs.History.{back, changed, history, marked, step_shorter, undone_to};
 ghost use Rattle.lq_chain.specs.Marks.{kept_rows, replaced};
@@ -12,7 +12,8 @@ ghost use Rattle.lq_model.specs.Twin.{is_twin};
 ghost use Rattle.lq_parts.specs.Kept.{with_renamed};
 ghost use Rattle.lq_parts.specs.Steps.{tables_of};
 ghost use Rattle.lq_parts.specs.Taken.{AreKnown};
-ghost use Rattle.lq_rows.specs.Stored.{has_values_in, shape_of, with_all, with_row, with_shape};
+ghost use Rattle.lq_rows.specs.Print.{ArePlaces};
+ghost use Rattle.lq_rows.specs.Stored.{has_values_in, shape_of, with_all, with_row, with_row_at, with_shape, without_row};
 
 use crate::object::{Sequence, View};
 use crate::part::Part;
@@ -29,7 +30,7 @@ use std::marker::Model;
 /// last `forget`. Contracts see the catalogue, and what it was before each changing call since then.
 ///
 /// The changing calls are the `put_`, `take_`, `rename_` and `shape_` calls and those on rows:
-/// `append`, `replace_some` and `keep`. Each changes nothing where memory is wanting, and makes the
+/// `append`, `replace`, `replace_some`, `take_out` and `keep`. Each changes nothing where memory is wanting, and makes the
 /// room that undoing it needs.
 #[derive(Drop)]
 pub struct Parts {
@@ -154,6 +155,22 @@ impl Parts {
         ensures same { self.new ≡ self.old }
     {
         self.tables.has_row(alloc, table, columns, values)
+    }
+
+    /// Places of rows of the table, rising, among which each row stands that begins with the text.
+    /// What gets known for it stays known.
+    pub fn places(
+        &mut self,
+        alloc: Global,
+        table: &Name,
+        first: &str,
+    ) -> Result<Vec<usize>, NoMemory>
+        requires { is_some (table_of self.old.now table.now) ≡ true }
+        ensures places { IfOk result
+            (λ places. ArePlaces first.now (the_table self.old.now table.now).rows places.items) }
+        ensures same { self.new ≡ self.old }
+    {
+        self.tables.places(alloc, table, first)
     }
 
     /// Whether a row of the table is equal to this one in a key, a unique constraint or a unique index.
@@ -364,6 +381,40 @@ impl Parts {
     {
         self.done.reserve(1)?;
         self.tables.keep(alloc, name, marks)?;
+        self.done.push_reserved(Part::Tables);
+        Ok(())
+    }
+
+    /// Takes the row of the table at the place out, or changes nothing.
+    pub fn take_out(&mut self, name: &Name, at: usize) -> Result<(), NoMemory>
+        requires there { is_some (table_of self.old.now name.now) ≡ true }
+        requires within { at < length (the_table self.old.now name.now).rows }
+        ensures ok { OnOk result
+            (self.new
+            ≡ changed self.old
+            (with_table self.old.now name.now
+            (without_row at (the_table self.old.now name.now)))) }
+        ensures err { OnErr result (self.new ≡ self.old) }
+    {
+        self.done.reserve(1)?;
+        self.tables.take_out(name, at)?;
+        self.done.push_reserved(Part::Tables);
+        Ok(())
+    }
+
+    /// Puts another row of the table in place of the one at the place, or changes nothing.
+    pub fn replace(&mut self, name: &Name, at: usize, row: Row) -> Result<(), NoMemory>
+        requires there { is_some (table_of self.old.now name.now) ≡ true }
+        requires within { at < length (the_table self.old.now name.now).rows }
+        ensures ok { OnOk result
+            (self.new
+            ≡ changed self.old
+            (with_table self.old.now name.now
+            (with_row_at at row (the_table self.old.now name.now)))) }
+        ensures err { OnErr result (self.new ≡ self.old) }
+    {
+        self.done.reserve(1)?;
+        self.tables.replace(name, at, row)?;
         self.done.push_reserved(Part::Tables);
         Ok(())
     }

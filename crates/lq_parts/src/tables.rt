@@ -10,7 +10,8 @@ ghost use Rattle.lq_chain.specs.Marks.{kept_rows, replaced};
 ghost use Rattle.lq_model.specs.Catalogue.{no_table};
 ghost use Rattle.lq_parts.specs.Entries.{IsOrdered, position_of};
 ghost use Rattle.lq_parts.specs.Steps.{HasMark, HasPlace, before, edit_at, moved, tables_of};
-ghost use Rattle.lq_rows.specs.Stored.{has_values_in, reshaped, rows_of, with_all, with_row, with_rows, with_shape};
+ghost use Rattle.lq_rows.specs.Print.{ArePlaces};
+ghost use Rattle.lq_rows.specs.Stored.{has_values_in, reshaped, rows_of, with_all, with_row, with_row_at, with_rows, with_shape, without_row};
 ghost use Rattle.lq_model.specs.Twin.{is_twin};
 
 use crate::entries::{find, place, standing};
@@ -91,6 +92,22 @@ impl Tables {
             return Ok(false);
         }
         has_row_in(&mut self.entries, alloc, table, columns, values)
+    }
+
+    /// Places of rows of the table, rising, among which each row stands that begins with the text.
+    pub fn places(
+        &mut self,
+        alloc: Global,
+        table: &Name,
+        first: &str,
+    ) -> Result<Vec<usize>, NoMemory>
+        requires { is_some (lookup (is_named table.now) self.old.now) ≡ true }
+        ensures places { IfOk result (λ places.
+            ArePlaces first.now
+            (unwrap_or (lookup (is_named table.now) self.old.now) no_table).rows places.items) }
+        ensures same { self.new ≡ self.old }
+    {
+        places_in(&mut self.entries, alloc, table, first)
     }
 
     /// Whether a row of the table is equal to this one in a key, a unique constraint or a unique index.
@@ -233,6 +250,46 @@ impl Tables {
     {
         self.done.reserve(1)?;
         let step = keep_in(&mut self.entries, alloc, name, marks)?;
+        self.done.push_reserved(step);
+        Ok(())
+    }
+
+    /// Takes the row of the table at the place out, or changes nothing.
+    #[tactic(auto, using(crate::proofs::StepLemmas::newest_first, crate::proofs::StepLemmas::step_undone, crate::proofs::StepLemmas::step_past, crate::proofs::StepLemmas::undo_with_more))]
+    pub fn take_out(&mut self, name: &Name, at: usize) -> Result<(), NoMemory>
+        requires there { is_some (lookup (is_named name.now) self.old.now) ≡ true }
+        requires within { at
+            < length (unwrap_or (lookup (is_named name.now) self.old.now) no_table).rows }
+        ensures ok { OnOk result
+            (self.new
+            ≡ changed self.old
+            (set_value (is_named name.now) self.old.now
+            (without_row at
+            (unwrap_or (lookup (is_named name.now) self.old.now) no_table)))) }
+        ensures err { OnErr result (self.new ≡ self.old) }
+    {
+        self.done.reserve(1)?;
+        let step = take_row_in(&mut self.entries, name, at)?;
+        self.done.push_reserved(step);
+        Ok(())
+    }
+
+    /// Puts another row of the table in place of the one at the place, or changes nothing.
+    #[tactic(auto, using(crate::proofs::StepLemmas::newest_first, crate::proofs::StepLemmas::step_undone, crate::proofs::StepLemmas::step_past, crate::proofs::StepLemmas::undo_with_more))]
+    pub fn replace(&mut self, name: &Name, at: usize, row: Row) -> Result<(), NoMemory>
+        requires there { is_some (lookup (is_named name.now) self.old.now) ≡ true }
+        requires within { at
+            < length (unwrap_or (lookup (is_named name.now) self.old.now) no_table).rows }
+        ensures ok { OnOk result
+            (self.new
+            ≡ changed self.old
+            (set_value (is_named name.now) self.old.now
+            (with_row_at at row
+            (unwrap_or (lookup (is_named name.now) self.old.now) no_table)))) }
+        ensures err { OnErr result (self.new ≡ self.old) }
+    {
+        self.done.reserve(1)?;
+        let step = put_row_in(&mut self.entries, name, at, row)?;
         self.done.push_reserved(step);
         Ok(())
     }
@@ -436,6 +493,96 @@ fn keep_in(
     let next = held.next();
     held.keep(alloc, marks)?;
     Ok(Step::Rows { at, mark, next })
+}
+
+#[tactic(auto, using(crate::proofs::StepLemmas::table_there, crate::proofs::EntryLemmas::ordered_set))]
+fn take_row_in(entries: &mut Vec<(Name, Held)>, name: &Name, at: usize) -> Result<Step, NoMemory>
+    requires ordered { IsOrdered entries.old.items }
+    requires there { is_some (lookup (is_named name.now) (tables_of entries.old.items)) ≡ true }
+    requires within { at
+        < length
+        (unwrap_or (lookup (is_named name.now) (tables_of entries.old.items)) no_table).rows }
+    ensures back { IfOk result (λ step. before step entries.new.items ≡ entries.old.items) }
+    ensures place { IfOk result (λ step. HasPlace step entries.new.items) }
+    ensures tables { OnOk result
+        (tables_of entries.new.items
+        ≡ set_value (is_named name.now) (tables_of entries.old.items)
+        (without_row at
+        (unwrap_or (lookup (is_named name.now) (tables_of entries.old.items))
+        no_table))) }
+    ensures ordered { OnOk result (IsOrdered entries.new.items) }
+    ensures err { OnErr result (entries.new.items ≡ entries.old.items) }
+    ensures capacity { vec_capacity entries.old ≡ vec_capacity entries.new }
+    ensures room { length entries.old.items ≤ vec_capacity entries.new }
+{
+    let place = standing(entries, name);
+    let held = &mut entries[place].1;
+    let mark = held.mark();
+    let next = held.next();
+    held.take_out(at)?;
+    Ok(Step::Rows {
+        at: place,
+        mark,
+        next,
+    })
+}
+
+#[tactic(auto, using(crate::proofs::StepLemmas::table_there, crate::proofs::EntryLemmas::ordered_set))]
+fn put_row_in(
+    entries: &mut Vec<(Name, Held)>,
+    name: &Name,
+    at: usize,
+    row: Row,
+) -> Result<Step, NoMemory>
+    requires ordered { IsOrdered entries.old.items }
+    requires there { is_some (lookup (is_named name.now) (tables_of entries.old.items)) ≡ true }
+    requires within { at
+        < length
+        (unwrap_or (lookup (is_named name.now) (tables_of entries.old.items)) no_table).rows }
+    ensures back { IfOk result (λ step. before step entries.new.items ≡ entries.old.items) }
+    ensures place { IfOk result (λ step. HasPlace step entries.new.items) }
+    ensures tables { OnOk result
+        (tables_of entries.new.items
+        ≡ set_value (is_named name.now) (tables_of entries.old.items)
+        (with_row_at at row
+        (unwrap_or (lookup (is_named name.now) (tables_of entries.old.items))
+        no_table))) }
+    ensures ordered { OnOk result (IsOrdered entries.new.items) }
+    ensures err { OnErr result (entries.new.items ≡ entries.old.items) }
+    ensures capacity { vec_capacity entries.old ≡ vec_capacity entries.new }
+    ensures room { length entries.old.items ≤ vec_capacity entries.new }
+{
+    let place = standing(entries, name);
+    let held = &mut entries[place].1;
+    let mark = held.mark();
+    let next = held.next();
+    held.replace(at, row)?;
+    Ok(Step::Rows {
+        at: place,
+        mark,
+        next,
+    })
+}
+
+#[tactic(auto, using(crate::proofs::StepLemmas::table_there))]
+fn places_in(
+    entries: &mut Vec<(Name, Held)>,
+    alloc: Global,
+    table: &Name,
+    first: &str,
+) -> Result<Vec<usize>, NoMemory>
+    requires ordered { IsOrdered entries.old.items }
+    requires there { is_some (lookup (is_named table.now) (tables_of entries.old.items)) ≡ true }
+    ensures places { IfOk result (λ places.
+        ArePlaces first.now
+        (unwrap_or (lookup (is_named table.now) (tables_of entries.old.items)) no_table).rows
+        places.items) }
+    ensures items { entries.new.items ≡ entries.old.items }
+    ensures capacity { vec_capacity entries.old ≡ vec_capacity entries.new }
+{
+    let at = standing(entries, table);
+    let held = &mut entries[at].1;
+    held.places(alloc, first)
 }
 
 #[tactic(auto, using(crate::proofs::StepLemmas::table_there))]
