@@ -109,7 +109,7 @@ module _ (of : Identity) where
   abbrev pub test : Option Test
   test = Some (row_test of)
 
-  takes_it : (r : Tracked) → takes test log_columns (log_row r) ≡ is_of of r
+  pub takes_it : (r : Tracked) → takes test log_columns (log_row r) ≡ is_of of r
   unfolding log_column log_order
   takes_it r =
       ap is_true (truth_of_and log_columns (log_row r) (And by_id by_author) by_file ∙ ap (λ o. both_true o (truth log_columns (log_row r) by_file)) (truth_of_and log_columns (log_row r) by_id by_author))

@@ -3,7 +3,7 @@ mod Begun
 mod Chosen
 mod Coming
 mod Kept
-mod NoRows
+mod Gathered
 mod Placed
 mod Planned
 mod Reached

@@ -9,17 +9,16 @@ ghost use Rattle.lq_turns.specs.Held.{StandsFor};
 ghost use Rattle.lq_turns.specs.Settle.{choice_of};
 
 use crate::choosing::choice;
-use crate::rows_asked::asks_rows;
-use lq_base::{Dialect, Items, NoMemory, Tracked};
+use crate::rows_asked::rows_asked;
+use lq_base::{Dialect, NoMemory};
 use lq_cond::Cond;
 use lq_kinds::ChangeSet;
 use lq_model::Look;
-use lq_track::{TrackFault, read_rows};
 use lq_turns::{Choice, What};
 use std::alloc::Global;
 
 /// What a changeset does in the database that is seen, whose turn, by its row, is this. Where it has
-/// no precondition nothing is looked at, and where that asks for no row none is read.
+/// no precondition nothing is looked at, and only the rows that this asks for are read.
 pub fn seen_choice<K: Look>(
     alloc: Global,
     what: What,
@@ -36,11 +35,7 @@ pub fn seen_choice<K: Look>(
     if is_empty(&set.cond) {
         return Ok(unasked(what));
     }
-    if !asks_rows(&set.cond) {
-        let made = choice(alloc, what, set, dialect, look, &[])?;
-        return Ok(made);
-    }
-    let rows = rows_seen(alloc, dialect, look)?;
+    let rows = rows_asked(alloc, look, &set.cond)?;
     let made = choice(alloc, what, set, dialect, look, rows.as_slice())?;
     Ok(made)
 }
@@ -60,19 +55,5 @@ fn unasked(what: What) -> Choice
     match what {
         What::Fill => Choice::Fills,
         What::New | What::Again => Choice::Runs(what, None),
-    }
-}
-
-/// The rows of a database in which the tracking tables, where they are there, are as they are made.
-fn rows_seen<K: Look>(alloc: Global, dialect: Dialect, look: &K) -> Result<Items<Tracked>, NoMemory>
-    ensures { IfOk result (λ rows.
-        (database : Database)
-        → StandsFor dialect (K.catalogue look.now) database
-        → database.rows ≡ rows) }
-{
-    match read_rows(alloc, dialect, look) {
-        Ok(rows) => Ok(rows),
-        Err(TrackFault::NotTables) => Err(NoMemory),
-        Err(TrackFault::OutOfMemory) => Err(NoMemory),
     }
 }

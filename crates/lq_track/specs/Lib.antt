@@ -1,3 +1,4 @@
+pub mod Asked
 pub mod Columns
 pub mod Database
 pub mod Lock

@@ -23,7 +23,7 @@ pub use lock_column::LockColumn;
 pub use lock_reading::read_lock;
 pub use lock_table::{free_lock, mark_lock, take_lock};
 pub use log_column::LogColumn;
-pub use log_reading::read_rows;
+pub use log_reading::{read_rows, read_rows_of};
 pub use log_table::{again_row, clear_sums, delete_row, fill_sum, insert_row, set_tag};
 pub use row::{Ran, row_of};
 pub use tables::{make_lock, make_lock_row, make_log, make_tables};

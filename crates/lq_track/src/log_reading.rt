@@ -1,17 +1,20 @@
 ghost use Rattle.std.specs.Prelude.{◌≡◌, map, IfOk};
 ghost use Rattle.lq_model.specs.Catalogue.{table_of};
+ghost use Rattle.lq_track.specs.Asked.{answered_rows, rows_asked, rows_query};
+ghost use Rattle.lq_model.specs.Query.{answer};
+ghost use Rattle.lq_model.specs.declared.caller.By.TheVariants.{Program};
 ghost use Rattle.lq_track.specs.Database.{is_log, rows_in, rows_of};
 ghost use Rattle.lq_track.specs.Log.{log_column, log_order};
 ghost use Rattle.lq_track.specs.Reading.{Gives, passes};
 
 use crate::fault::TrackFault;
 use crate::log_column::LogColumn;
-use crate::log_table::{log_defs, log_table};
+use crate::log_table::{log_defs, log_table, row_test};
 use crate::row_reading::row_in;
 use crate::run_order::in_run_order;
 use crate::stored::{all_rows, are_made, has_no_more};
-use lq_base::{Dialect, Items, Name, NoMemory, Tracked, Value};
-use lq_model::{ColumnDef, Look};
+use lq_base::{Dialect, Items, Name, NoMemory, Text, Tracked, Value, both};
+use lq_model::{AskFault, By, ColumnDef, Look, Query, Wanted};
 use std::alloc::Global;
 
 /// The rows that the table DATABASECHANGELOG holds, in run order: none where the table is missing.
@@ -37,6 +40,61 @@ pub fn read_rows<K: Look>(
     };
     let ran = in_run_order(alloc, rows)?;
     Ok(ran)
+}
+
+/// The rows of one changeset, which the table DATABASECHANGELOG is asked for: none where the table is
+/// missing. `NotTables` exactly where it cannot be asked, or a row of them cannot be read.
+pub fn read_rows_of<K: Look>(
+    alloc: Global,
+    look: &K,
+    id: &Text,
+    author: &Text,
+    file: &Text,
+) -> Result<Items<Tracked>, TrackFault>
+    ensures { Gives
+        (rows_asked (record { file = file.now; id = id.now; author = author.now })
+        (K.catalogue look.now)) result }
+{
+    let query = rows_query(alloc, id, author, file)?;
+    if !look.is_table(&query.table) {
+        return Ok(Items::new(alloc));
+    }
+    let Some(stored) = answered_rows(alloc, look, &query)? else {
+        return Err(TrackFault::NotTables);
+    };
+    let Some(rows) = rows_in(alloc, stored.as_slice())? else {
+        return Err(TrackFault::NotTables);
+    };
+    let ran = in_run_order(alloc, rows)?;
+    Ok(ran)
+}
+
+fn rows_query(alloc: Global, id: &Text, author: &Text, file: &Text) -> Result<Query, NoMemory>
+    ensures { IfOk result
+        (λ query. query ≡ rows_query (record { file = file.now; id = id.now; author = author.now })) }
+{
+    let (table, test) = both(log_table(alloc), row_test(alloc, id, author, file))?;
+    Ok(Query {
+        wanted: Wanted::All,
+        table,
+        test: Some(test),
+    })
+}
+
+/// The rows that a query is answered, or None where it is refused.
+fn answered_rows<K: Look>(
+    alloc: Global,
+    look: &K,
+    query: &Query,
+) -> Result<Option<Items<Items<Value>>>, NoMemory>
+    ensures { IfOk result
+        (λ rows. rows ≡ answered_rows (answer Program query.now (K.catalogue look.now))) }
+{
+    match look.ask(alloc, By::Program, query) {
+        Ok(answered) => Ok(Some(answered.rows)),
+        Err(AskFault::Refused(_)) => Ok(None),
+        Err(AskFault::OutOfMemory) => Err(NoMemory),
+    }
 }
 
 /// Whether the table is there as it is made.

@@ -106,7 +106,7 @@ fn set_text(
 }
 
 /// That a row is the changeset's.
-fn row_test(alloc: Global, id: &Text, author: &Text, file: &Text) -> Result<Test, NoMemory>
+pub fn row_test(alloc: Global, id: &Text, author: &Text, file: &Text) -> Result<Test, NoMemory>
     ensures { IfOk result
         (λ test. test ≡ row_test (record { file = file.now; id = id.now; author = author.now })) }
 {
