@@ -5,5 +5,5 @@ mod laws;
 
 pub use laws::{
     clear_fits, journal_replays, nothing_stands, queries_see, release_fits, rollback_fits,
-    statements_tell, sync_fits, tag_fits, update_fits, users_beside,
+    rows_answered, statements_tell, sync_fits, tag_fits, update_fits, users_beside,
 };

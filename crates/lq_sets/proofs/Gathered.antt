@@ -45,6 +45,7 @@ wider p q less [] h = h
 wider p q less (r ∷ all) h = either (p r) (list_any p all) _ here (λ more. skip (q r) (wider p q less all more)) h where
   here : p r ≡ true → list_any p (cond (q r) (r ∷ filter q all) (filter q all)) ≡ true
   here is = ap (λ b. list_any p (cond b (r ∷ filter q all) (filter q all))) (less r is) ∙ left_of (p r) (list_any p (filter q all)) is
+
   skip : (b : Bool) → list_any p (filter q all) ≡ true → list_any p (cond b (r ∷ filter q all) (filter q all)) ≡ true
   skip true k = right_of (p r) (list_any p (filter q all)) k
   skip false k = k

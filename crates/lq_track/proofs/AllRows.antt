@@ -28,7 +28,7 @@ stands : (front cs : List Column) (c : Column) → is_in c.name (map (λ (c : Co
 stands [] cs c = ap (λ b. b || is_in c.name (map (λ (c : Column). c.name) cs)) (named_itself c.name)
 stands (f ∷ front) cs c = or_right_true (is_named c.name f.name) _ (stands front cs c)
 
-lacks_none : (front cs : List Column) → lacks_column (front ++ cs) (map (λ (c : Column). c.name) cs) ≡ false
+pub lacks_none : (front cs : List Column) → lacks_column (front ++ cs) (map (λ (c : Column). c.name) cs) ≡ false
 lacks_none front [] = refl
 lacks_none front (c ∷ cs) =
     or_false (not (is_in c.name (map (λ (c : Column). c.name) (front ++ c ∷ cs)))) _ (ap not (stands front cs c))
