@@ -1,5 +1,5 @@
 -- Rows of which two have one identity or one order, found by sets.
-use Rattle.std.proofs.Common.{◌≡◌, ◌∙◌, ◌||◌, ◌&&◌, not, ℕ, Bool, true, false, List, [], ◌∷◌, ◌++◌, Ok, Err, Result, cond, nat_eq, nat_lt, arith, refl, sym, ap, subst, eq-eqb, eqb-true}
+use Rattle.std.proofs.Common.{◌≡◌, ◌∙◌, ◌||◌, ◌&&◌, not, ℕ, Bool, true, false, List, [], ◌∷◌, ◌++◌, Ok, cond, nat_eq, nat_lt, arith, refl, sym, ap, subst, eq-eqb, eqb-true}
 use Rattle.std.proofs.lemmas.List.{append_assoc}
 use Rattle.std.proofs.lemmas.Bool.{ltb-true}
 use Rattle.std.specs.BTreeMap.{is_at}
@@ -12,9 +12,9 @@ use Rattle.lq_base.specs.Name.{is_named}
 use Rattle.lq_base.specs.Text.{text_cmp}
 use Rattle.lq_base.specs.declared.identity.Identity.{Identity}
 use Rattle.lq_base.specs.declared.tracking.Tracked.{Tracked}
-use Rattle.lq_loading.specs.Twins.{IdentityKey, IsSeen, Sees, identity_at, is_twin, key_cmp, key_of}
+use Rattle.lq_loading.specs.Twins.{IdentityKey, IsSeen, Sees, identity_at, is_twin, key_cmp}
 use Rattle.lq_loading.specs.declared.twins.Seen.{Seen}
-use Rattle.lq_model.proofs.Lists.{named_itself, or_right, same_name, true_false}
+use Rattle.lq_model.proofs.Lists.{named_itself, same_name, true_false}
 use Rattle.lq_track.specs.Database.{has_twin_rows, same_identity}
 use Rattle.lq_track.specs.Log.{identity_of}
 
@@ -59,15 +59,27 @@ any_either r [] = refl
 any_either r (s ∷ rows) =
     rw (identity_flip (identity_of r) (identity_of s), order_flip r.order s.order, any_either r rows) (or_split (same_identity (identity_of s) (identity_of r)) (nat_eq s.order r.order) (list_any (λ s. same_identity (identity_of s) (identity_of r)) rows) (list_any (λ s. nat_eq s.order r.order) rows))
 
-all_equal : (o p q : Ordering) → is_eq (ordering_then (ordering_then o p) q) ≡ (is_eq o && (is_eq p && is_eq q))
-all_equal Less p q = refl
-all_equal Greater p q = refl
-all_equal Equal Less q = refl
-all_equal Equal Greater q = refl
-all_equal Equal Equal q = refl
+and_false : (b : Bool) → false ≡ (b && false)
+and_false true = refl
+and_false false = refl
+
+and_true : (b : Bool) → b ≡ (b && true)
+and_true true = refl
+and_true false = refl
+
+-- what is compared last may as well be compared first
+all_equal : (o p q : Ordering) → is_eq (ordering_then (ordering_then o p) q) ≡ (is_eq q && (is_eq o && is_eq p))
+all_equal Less p q = and_false (is_eq q)
+all_equal Greater p q = and_false (is_eq q)
+all_equal Equal Less q = and_false (is_eq q)
+all_equal Equal Greater q = and_false (is_eq q)
+all_equal Equal Equal q = and_true (is_eq q)
 
 at_key : (p q : IdentityKey) → is_at (key_cmp p) q ≡ same_identity (identity_at p) (identity_at q)
-at_key p q = all_equal (text_cmp p.0 q.0) (text_cmp p.1 q.1) (text_cmp p.2 q.2)
+at_key p q = all_equal (text_cmp p.0.now q.0.now) (text_cmp p.1.now q.1.now) (text_cmp p.2.now q.2.now)
+
+pub its_identity : (key : IdentityKey) (row : Tracked) → key.0.now ≡ row.id → key.1.now ≡ row.author → key.2.now ≡ row.filename → identity_at key ≡ identity_of row
+its_identity key row id author file = rw (id, author, file) refl
 
 as_or : (a b : Bool) → cond a true b ≡ (a || b)
 as_or true b = refl
@@ -84,13 +96,13 @@ at_order n m = by (nat_lt n m) refl (nat_eq n m) refl
 
 -- a row goes in
 
-pub identity_in : (row : Tracked) (rows : List Tracked) (key : IdentityKey) (old new : BTreeSet IdentityKey) → key ≡ key_of row → UpdatesBy key_cmp (key_cmp key) old new true
+pub identity_in : (row : Tracked) (rows : List Tracked) (key : IdentityKey) (old new : BTreeSet IdentityKey) → identity_at key ≡ identity_of row → UpdatesBy key_cmp (key_cmp key) old new true
     → ((k : IdentityKey) → contains key_cmp old k ≡ list_any (λ (s : Tracked). same_identity (identity_of s) (identity_at k)) rows) → (k : IdentityKey) → contains key_cmp new k ≡ list_any (λ (s : Tracked). same_identity (identity_of s) (identity_at k)) (row ∷ rows)
 identity_in row rows key old new is up has k =
     up.0 k
     ∙ as_or (is_at (key_cmp key) k) (contains key_cmp old k)
     ∙ ap (λ b. is_at (key_cmp key) k || b) (has k)
-    ∙ ap (λ b. b || list_any (λ (s : Tracked). same_identity (identity_of s) (identity_at k)) rows) (at_key key k ∙ ap (λ p. same_identity (identity_at p) (identity_at k)) is)
+    ∙ ap (λ b. b || list_any (λ (s : Tracked). same_identity (identity_of s) (identity_at k)) rows) (at_key key k ∙ ap (λ (i : Identity). same_identity i (identity_at k)) is)
 
 pub order_in : (row : Tracked) (rows : List Tracked) (old new : BTreeSet ℕ) → UpdatesBy nat_cmp (nat_cmp row.order) old new true
     → ((n : ℕ) → contains nat_cmp old n ≡ list_any (λ (s : Tracked). nat_eq s.order n) rows) → (n : ℕ) → contains nat_cmp new n ≡ list_any (λ (s : Tracked). nat_eq s.order n) (row ∷ rows)
@@ -100,12 +112,12 @@ order_in row rows old new up has n =
     ∙ ap (λ b. is_at (nat_cmp row.order) n || b) (has n)
     ∙ ap (λ b. b || list_any (λ (s : Tracked). nat_eq s.order n) rows) (at_order row.order n)
 
-pub sees : (E : Type 0) (row : Tracked) (rows : List Tracked) (key : IdentityKey) (old new : Seen) (p q : Bool) → key ≡ key_of row → IsSeen rows old → p ≡ not (contains key_cmp old.identities key) → q ≡ not (contains nat_cmp old.orders row.order)
+pub sees : (E : Type 0) (row : Tracked) (rows : List Tracked) (key : IdentityKey) (old new : Seen) (p q : Bool) → identity_at key ≡ identity_of row → IsSeen rows old → p ≡ not (contains key_cmp old.identities key) → q ≡ not (contains nat_cmp old.orders row.order)
     → IsSeen (row ∷ rows) new → Sees {E = E} row rows (Ok (not (p && q))) new
-sees E row rows key old new p q is seen p_is q_is now = rw (p_is, q_is, is) (by (contains key_cmp old.identities (key_of row)) (contains nat_cmp old.orders row.order) twins)
+sees E row rows key old new p q is seen p_is q_is now = rw (p_is, q_is) (by (contains key_cmp old.identities key) (contains nat_cmp old.orders row.order) twins)
   where
-    twins : list_any (is_twin row) rows ≡ (contains key_cmp old.identities (key_of row) || contains nat_cmp old.orders row.order)
-    twins = any_either row rows ∙ sym (ap (λ b. b || contains nat_cmp old.orders row.order) (seen.identities (key_of row)) ∙ ap (λ b. list_any (λ (s : Tracked). same_identity (identity_of s) (identity_of row)) rows || b) (seen.orders row.order))
+    twins : list_any (is_twin row) rows ≡ (contains key_cmp old.identities key || contains nat_cmp old.orders row.order)
+    twins = any_either row rows ∙ sym (ap (λ b. b || contains nat_cmp old.orders row.order) (seen.identities key ∙ ap (λ (i : Identity). list_any (λ (s : Tracked). same_identity (identity_of s) i) rows) is) ∙ ap (λ b. list_any (λ (s : Tracked). same_identity (identity_of s) (identity_of row)) rows || b) (seen.orders row.order))
 
     by : (a b : Bool) → list_any (is_twin row) rows ≡ (a || b) → Sees {E = E} row rows (Ok (not (not a && not b))) new
     by true b twin = twin

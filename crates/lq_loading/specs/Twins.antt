@@ -1,5 +1,5 @@
 -- The identities and orders of rows in sets.
-use Rattle.std.specs.BTreeSet.{BTreeSet, contains}
+use Rattle.std.specs.BTreeSet.{contains}
 use Rattle.std.specs.List.{list_any}
 use Rattle.std.specs.Ordering.{nat_cmp, ordering_then}
 use Rattle.std.specs.Prelude.{Bool, Err, List, Ok, Result, false, nat_eq, true, ℕ, ◌||◌, ◌∷◌, ◌≡◌}
@@ -10,19 +10,17 @@ use Rattle.lq_base.specs.declared.tracking.Tracked.{Tracked}
 use Rattle.lq_loading.specs.declared.twins.Seen.{Seen}
 use Rattle.lq_track.specs.Database.{same_identity}
 use Rattle.lq_track.specs.Log.{identity_of}
+use denote.Ref.{Bor}
 
--- a file, an id and an author
+-- an id, an author and a file
 abbrev pub IdentityKey : Type 0
-IdentityKey = List ℕ × List ℕ × List ℕ
+IdentityKey = Bor (List ℕ) × Bor (List ℕ) × Bor (List ℕ)
 
 abbrev pub key_cmp : IdentityKey → IdentityKey → Ordering
-key_cmp x y = ordering_then (ordering_then (text_cmp x.0 y.0) (text_cmp x.1 y.1)) (text_cmp x.2 y.2)
-
-abbrev pub key_of : Tracked → IdentityKey
-key_of row = (row.filename, row.id, row.author)
+key_cmp x y = ordering_then (ordering_then (text_cmp x.0.now y.0.now) (text_cmp x.1.now y.1.now)) (text_cmp x.2.now y.2.now)
 
 abbrev pub identity_at : IdentityKey → Identity
-identity_at k = record { file = k.0; id = k.1; author = k.2 }
+identity_at k = record { file = k.2.now; id = k.0.now; author = k.1.now }
 
 -- two rows have one identity or one order
 abbrev pub is_twin : Tracked → Tracked → Bool

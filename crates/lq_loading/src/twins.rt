@@ -1,38 +1,29 @@
 ghost use Rattle.std.specs.Prelude.{◌≡◌, IfOk, List};
 ghost use Rattle.lq_base.specs.declared.tracking.Tracked.{Tracked as TrackedValue};
-ghost use Rattle.lq_loading.specs.Twins.{IsSeen, Sees, key_of};
+ghost use Rattle.lq_loading.specs.Twins.{IsSeen, Sees};
 ghost use Rattle.lq_track.specs.Database.{has_twin_rows};
 
-use lq_base::{NoMemory, Text, Tracked};
+use lq_base::{NoMemory, Tracked};
 use std::alloc::Global;
 use std::collections::BTreeSet;
 
-/// A file, an id and an author.
-type IdentityKey = (Text, Text, Text);
+/// An id, an author and a file, which most of them share.
+type IdentityKey<'a> = (&'a str, &'a str, &'a str);
 
 // The identities and the orders of rows.
 #[derive(Drop)]
-struct Seen {
-    identities: BTreeSet<IdentityKey>,
+struct Seen<'a> {
+    identities: BTreeSet<IdentityKey<'a>>,
     orders: BTreeSet<u32>,
 }
 
-fn key_of(alloc: Global, row: &Tracked) -> Result<IdentityKey, NoMemory>
-    ensures { IfOk result (λ key. key ≡ key_of row.now) }
-{
-    let file = row.filename.copy(alloc)?;
-    let id = row.id.copy(alloc)?;
-    let author = row.author.copy(alloc)?;
-    Ok((file, id, author))
-}
-
 // Adds a row, and answers whether one of the rows before has its identity or its order.
-fn see(alloc: Global, seen: &mut Seen, row: &Tracked) -> Result<bool, NoMemory>
+fn see<'a>(seen: &mut Seen<'a>, row: &'a Tracked) -> Result<bool, NoMemory>
     ensures { (rows : List TrackedValue)
         → IsSeen rows seen.old
         → Sees row.now rows result seen.new }
 {
-    let key = key_of(alloc, row)?;
+    let key = (row.id.as_str(), row.author.as_str(), row.filename.as_str());
     let Ok(is_new) = seen.identities.insert(key) else {
         return Err(NoMemory);
     };
@@ -52,7 +43,7 @@ pub fn has_twin_rows(alloc: Global, rows: &[Tracked]) -> Result<bool, NoMemory>
     };
     let mut left = rows;
     while let Some((row, before)) = left.split_last() {
-        if see(alloc, &mut seen, row)? {
+        if see(&mut seen, row)? {
             return Ok(true);
         }
         left = before;
