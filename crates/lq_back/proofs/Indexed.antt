@@ -26,7 +26,7 @@ one_more : (b : Bool) (p : Place) (old : Option Place) → option_map pair (cond
 one_more true p old = refl
 one_more false p old = refl
 
-pub keeps_here : (old new : BTreeMap IdentityKey Place) (k : IdentityKey) (p : Place) → p.set.now.here ≡ true → k.0.now ≡ p.set.now.identity.file → k.1.now ≡ p.set.now.identity.id → k.2.now ≡ p.set.now.identity.author
+pub keeps_here : (old new : BTreeMap IdentityKey Place) (k : IdentityKey) (p : Place) → p.set.now.here ≡ true → k.2.now ≡ p.set.now.identity.file → k.0.now ≡ p.set.now.identity.id → k.1.now ≡ p.set.now.identity.author
     → Updates key_cmp old new k (Some p) → KeepsSet old new p.index p.set.now
 keeps_here old new k p here file id author up = record {
   values = λ key. ap (option_map pair) (up.0 key) ∙ (one_more (is_at (key_cmp k) key) p (get key_cmp old key)
@@ -78,7 +78,7 @@ has_sets xs rest index none so = record { values = λ key. sym (ap (λ r. option
 -- what the index tells of an identity
 
 module _ (xs : List ChangeSet) (of : Identity) (index : BTreeMap IdentityKey Place) (key : IdentityKey) (has : HasSets xs index)
-    (file : key.0.now ≡ of.file) (id : key.1.now ≡ of.id) (author : key.2.now ≡ of.author) (found : Option (Bor Place)) (value : option_copied found ≡ get key_cmp index key) where
+    (file : key.2.now ≡ of.file) (id : key.0.now ≡ of.id) (author : key.1.now ≡ of.author) (found : Option (Bor Place)) (value : option_copied found ≡ get key_cmp index key) where
   told : kept_set index key ≡ found_at of xs
   told = has.values key ∙ ap (λ i. found_at i xs) (its_key of key file id author)
 

@@ -69,7 +69,7 @@ or_other true false = refl
 or_other false true = refl
 or_other false false = refl
 
-at_row : (k key : IdentityKey) (of : Identity) (row : Tracked) → k.0.now ≡ of.file → k.1.now ≡ of.id → k.2.now ≡ of.author → identity_of row ≡ of → is_at (key_cmp k) key ≡ is_of (keyed key) row
+at_row : (k key : IdentityKey) (of : Identity) (row : Tracked) → k.2.now ≡ of.file → k.0.now ≡ of.id → k.1.now ≡ of.author → identity_of row ≡ of → is_at (key_cmp k) key ≡ is_of (keyed key) row
 at_row k key of row file id author is =
     all_equal (text_cmp k.0.now key.0.now) (text_cmp k.1.now key.1.now) (text_cmp k.2.now key.2.now)
     ∙ rw (file, id, author, ← is) refl
@@ -82,7 +82,7 @@ no_one_yet : (b : Bool) → not b ≡ true → b ≡ false
 no_one_yet true is = Prim.cc
 no_one_yet false is = refl
 
-module _ (rows : List Tracked) (of : Identity) (old new : BTreeSet IdentityKey) (k : IdentityKey) (file : k.0.now ≡ of.file) (id : k.1.now ≡ of.id) (author : k.2.now ≡ of.author) (has : HasIdentities rows old) where
+module _ (rows : List Tracked) (of : Identity) (old new : BTreeSet IdentityKey) (k : IdentityKey) (file : k.2.now ≡ of.file) (id : k.0.now ≡ of.id) (author : k.1.now ≡ of.author) (has : HasIdentities rows old) where
   one_more : Updates key_cmp old new k true → (row : Tracked) → identity_of row ≡ of → HasIdentities (rows ++ row ∷ []) new
   one_more up row is = record {
     members = λ key.

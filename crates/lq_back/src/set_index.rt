@@ -8,7 +8,7 @@ use lq_kinds::ChangeSet;
 use std::alloc::Global;
 use std::collections::BTreeMap;
 
-/// An identity as a key: a file, an id and an author.
+/// An identity as a key: an id, an author and a file, which most of them share.
 pub type IdentityKey<'a> = (&'a str, &'a str, &'a str);
 
 /// A changeset with its place in the changelog, from 0.
@@ -29,9 +29,9 @@ fn keep<'a>(index: &mut SetIndex<'a>, place: usize, set: &'a ChangeSet) -> Resul
     }
     let identity = &set.identity;
     let key = (
-        identity.file.as_str(),
         identity.id.as_str(),
         identity.author.as_str(),
+        identity.file.as_str(),
     );
     match index.insert(key, Place { index: place, set }) {
         Ok(_) => Ok(()),
@@ -60,7 +60,7 @@ pub fn place_of<'a>(index: &SetIndex<'a>, row: &'a Tracked) -> Option<Place<'a>>
         → option_map (λ place. (place.index, place.set.now)) result
         ≡ found_at (identity_of row.now) xs }
 {
-    match index.get(&(row.filename.as_str(), row.id.as_str(), row.author.as_str())) {
+    match index.get(&(row.id.as_str(), row.author.as_str(), row.filename.as_str())) {
         Some(place) => Some(*place),
         None => None,
     }

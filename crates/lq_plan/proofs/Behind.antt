@@ -38,16 +38,16 @@ text_same a b = elim (is_text a b) as (λ x. is_text a b ≡ x → x ≡ is_text
   | false ↦ λ other. sym (other_way a b other)
 ] refl
 
-pub at_key : (k key : IdentityKey) (of : Identity) → k.0.now ≡ of.file → k.1.now ≡ of.id → k.2.now ≡ of.author → is_at (key_cmp k) key ≡ same_identity (keyed key) of
+pub at_key : (k key : IdentityKey) (of : Identity) → k.2.now ≡ of.file → k.0.now ≡ of.id → k.1.now ≡ of.author → is_at (key_cmp k) key ≡ same_identity (keyed key) of
 at_key k key of file id author =
     all_equal (text_cmp k.0.now key.0.now) (text_cmp k.1.now key.1.now) (text_cmp k.2.now key.2.now)
-    ∙ rw (file, id, author, text_same of.file key.0.now, text_same of.id key.1.now, text_same of.author key.2.now) refl
+    ∙ rw (file, id, author, text_same of.file key.2.now, text_same of.id key.0.now, text_same of.author key.1.now) refl
 
-pub seen_before : (earlier : List Identity) (seen : BTreeSet IdentityKey) (k : IdentityKey) (of : Identity) (was : Bool) → k.0.now ≡ of.file → k.1.now ≡ of.id → k.2.now ≡ of.author
+pub seen_before : (earlier : List Identity) (seen : BTreeSet IdentityKey) (k : IdentityKey) (of : Identity) (was : Bool) → k.2.now ≡ of.file → k.0.now ≡ of.id → k.1.now ≡ of.author
     → was ≡ contains key_cmp seen k → HasSeen earlier seen → was ≡ list_any (same_identity of) earlier
 seen_before earlier seen k of was file id author is has = is ∙ (has.members k ∙ ap (λ i. list_any (same_identity i) earlier) (its_key of k file id author))
 
-pub seen_after : (earlier : List Identity) (old new : BTreeSet IdentityKey) (k : IdentityKey) (of : Identity) → k.0.now ≡ of.file → k.1.now ≡ of.id → k.2.now ≡ of.author
+pub seen_after : (earlier : List Identity) (old new : BTreeSet IdentityKey) (k : IdentityKey) (of : Identity) → k.2.now ≡ of.file → k.0.now ≡ of.id → k.1.now ≡ of.author
     → HasAlso key_cmp old new k → HasSeen earlier old → HasSeen (of ∷ earlier) new
 seen_after earlier old new k of file id author also has = record {
   members = λ key. also.members key ∙ (ap (λ b. b || contains key_cmp old key) (at_key k key of file id author) ∙ ap (λ b. same_identity (keyed key) of || b) (has.members key));
@@ -77,7 +77,7 @@ module _ (heads : List Head) (rows : List Tracked) (i : ℕ) (d head : Head) (ol
   }
 
   pub behind_here : (new : BTreeSet IdentityKey) (k : IdentityKey) (was : Bool) (row : Option Tracked) (first second : List Fault) → head.here ≡ true
-      → k.0.now ≡ head.identity.now.file → k.1.now ≡ head.identity.now.id → k.2.now ≡ head.identity.now.author → was ≡ contains key_cmp old k → HasAlso key_cmp old new k
+      → k.2.now ≡ head.identity.now.file → k.0.now ≡ head.identity.now.id → k.1.now ≡ head.identity.now.author → was ≡ contains key_cmp old k → HasAlso key_cmp old new k
       → first ≡ found ++ (if was then Twice head.identity.now ∷ [] else []) → row ≡ row_at head.identity.now rows → second ≡ first ++ changed_at (headed head) row → IsBehind heads rows (i + 1) new second
   behind_here new k was row first second here file id author before after one at two =
       let of = head.identity.now in

@@ -19,24 +19,30 @@ use denote.Ref.{Bor}
 pub record IsPartly (rows rest : List Tracked) (index : BTreeMap IdentityKey (Bor Tracked)) : Type 0 where
   pub values : (key : IdentityKey) → option_or (row_at (keyed key) rest) (kept index key) ≡ row_at (keyed key) rows
 
-both_equal : (o p : Ordering) → is_eq (ordering_then o p) ≡ (is_eq o && is_eq p)
-both_equal Less p = refl
-both_equal Equal p = refl
-both_equal Greater p = refl
+and_false : (b : Bool) → false ≡ (b && false)
+and_false true = refl
+and_false false = refl
 
-pub all_equal : (o p q : Ordering) → is_eq (ordering_then (ordering_then o p) q) ≡ (is_eq o && (is_eq p && is_eq q))
-all_equal Less p q = refl
-all_equal Equal p q = both_equal p q
-all_equal Greater p q = refl
+and_true : (b : Bool) → b ≡ (b && true)
+and_true true = refl
+and_true false = refl
 
-at_key : (k key : IdentityKey) (row : Tracked) → k.0.now ≡ row.filename → k.1.now ≡ row.id → k.2.now ≡ row.author → is_at (key_cmp k) key ≡ is_of (keyed key) row
+-- what is compared last may as well be compared first
+pub all_equal : (o p q : Ordering) → is_eq (ordering_then (ordering_then o p) q) ≡ (is_eq q && (is_eq o && is_eq p))
+all_equal Less p q = and_false (is_eq q)
+all_equal Greater p q = and_false (is_eq q)
+all_equal Equal Less q = and_false (is_eq q)
+all_equal Equal Greater q = and_false (is_eq q)
+all_equal Equal Equal q = and_true (is_eq q)
+
+at_key : (k key : IdentityKey) (row : Tracked) → k.2.now ≡ row.filename → k.0.now ≡ row.id → k.1.now ≡ row.author → is_at (key_cmp k) key ≡ is_of (keyed key) row
 at_key k key row file id author = all_equal (text_cmp k.0.now key.0.now) (text_cmp k.1.now key.1.now) (text_cmp k.2.now key.2.now) ∙ rw (file, id, author) refl
 
 one_more : (b : Bool) (row : Bor Tracked) (old : Option (Bor Tracked)) → option_map (λ (r : Bor Tracked). r.now) (cond b (Some row) old) ≡ cond b (Some row.now) (option_map (λ (r : Bor Tracked). r.now) old)
 one_more true row old = refl
 one_more false row old = refl
 
-pub keeps_also : (old new : BTreeMap IdentityKey (Bor Tracked)) (k : IdentityKey) (row : Bor Tracked) → k.0.now ≡ row.now.filename → k.1.now ≡ row.now.id → k.2.now ≡ row.now.author → Updates key_cmp old new k (Some row) → KeepsAlso old new row.now
+pub keeps_also : (old new : BTreeMap IdentityKey (Bor Tracked)) (k : IdentityKey) (row : Bor Tracked) → k.2.now ≡ row.now.filename → k.0.now ≡ row.now.id → k.1.now ≡ row.now.author → Updates key_cmp old new k (Some row) → KeepsAlso old new row.now
 keeps_also old new k row file id author up = record {
   values = λ key. ap (option_map (λ (r : Bor Tracked). r.now)) (up.0 key) ∙ (one_more (is_at (key_cmp k) key) row (get key_cmp old key) ∙ ap (λ b. cond b (Some row.now) (kept old key)) (at_key k key row.now file id author));
 }
@@ -70,11 +76,11 @@ has_rows rows rest index none so = record { values = λ key. sym (ap (λ r. opti
 
 -- what the index tells of an identity
 
-pub its_key : (of : Identity) (key : IdentityKey) → key.0.now ≡ of.file → key.1.now ≡ of.id → key.2.now ≡ of.author → keyed key ≡ of
+pub its_key : (of : Identity) (key : IdentityKey) → key.2.now ≡ of.file → key.0.now ≡ of.id → key.1.now ≡ of.author → keyed key ≡ of
 its_key of key file id author = rw (file, id, author) refl
 
 module _ (rows : List Tracked) (of : Identity) (index : BTreeMap IdentityKey (Bor Tracked)) (key : IdentityKey) (has : HasRows rows index)
-    (file : key.0.now ≡ of.file) (id : key.1.now ≡ of.id) (author : key.2.now ≡ of.author) (found : Option (Bor (Bor Tracked))) (value : option_copied found ≡ get key_cmp index key) where
+    (file : key.2.now ≡ of.file) (id : key.0.now ≡ of.id) (author : key.1.now ≡ of.author) (found : Option (Bor (Bor Tracked))) (value : option_copied found ≡ get key_cmp index key) where
   told : kept index key ≡ row_at of rows
   told = has.values key ∙ ap (λ i. row_at i rows) (its_key of key file id author)
 

@@ -10,7 +10,7 @@ use Rattle.lq_turns.specs.Deed.{is_of}
 use Rattle.lq_turns.specs.Set.{row_at}
 use denote.Ref.{Bor}
 
--- an identity as a key: a file, an id and an author
+-- an identity as a key: an id, an author and a file
 abbrev pub IdentityKey : Type 0
 IdentityKey = Bor (List ℕ) × Bor (List ℕ) × Bor (List ℕ)
 
@@ -18,7 +18,7 @@ abbrev pub key_cmp : IdentityKey → IdentityKey → Ordering
 key_cmp x y = ordering_then (ordering_then (text_cmp x.0.now y.0.now) (text_cmp x.1.now y.1.now)) (text_cmp x.2.now y.2.now)
 
 abbrev pub keyed : IdentityKey → Identity
-keyed key = record { file = key.0.now; id = key.1.now; author = key.2.now }
+keyed key = record { file = key.2.now; id = key.0.now; author = key.1.now }
 
 abbrev pub kept : BTreeMap IdentityKey (Bor Tracked) → IdentityKey → Option Tracked
 kept index key = option_map (λ row. row.now) (get key_cmp index key)

@@ -8,7 +8,7 @@ use lq_base::{Identity, NoMemory, Tracked};
 use std::alloc::Global;
 use std::collections::BTreeMap;
 
-/// An identity as a key: a file, an id and an author.
+/// An identity as a key: an id, an author and a file, which most of them share.
 pub type IdentityKey<'a> = (&'a str, &'a str, &'a str);
 
 /// The rows, for looking up whose they are.
@@ -17,7 +17,7 @@ pub type RowIndex<'a> = BTreeMap<IdentityKey<'a>, &'a Tracked>;
 fn keep<'a>(index: &mut RowIndex<'a>, row: &'a Tracked) -> Result<(), NoMemory>
     ensures { OnOk result (KeepsAlso index.old index.new row.now) }
 {
-    let key = (row.filename.as_str(), row.id.as_str(), row.author.as_str());
+    let key = (row.id.as_str(), row.author.as_str(), row.filename.as_str());
     match index.insert(key, row) {
         Ok(_) => Ok(()),
         Err(_) => Err(NoMemory),
@@ -44,7 +44,7 @@ pub fn row_at<'a>(index: &RowIndex<'a>, of: &'a Identity) -> Option<&'a Tracked>
         → HasRows rows index.now
         → option_map (λ row. row.now) result ≡ row_at of.now rows }
 {
-    match index.get(&(of.file.as_str(), of.id.as_str(), of.author.as_str())) {
+    match index.get(&(of.id.as_str(), of.author.as_str(), of.file.as_str())) {
         Some(row) => Some(*row),
         None => None,
     }

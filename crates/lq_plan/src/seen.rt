@@ -7,11 +7,11 @@ use lq_base::{Identity, NoMemory};
 use std::collections::BTreeSet;
 
 pub fn key_of<'a>(of: &'a Identity) -> IdentityKey<'a>
-    ensures file { result.0.now ≡ of.now.file }
-    ensures id { result.1.now ≡ of.now.id }
-    ensures author { result.2.now ≡ of.now.author }
+    ensures id { result.0.now ≡ of.now.id }
+    ensures author { result.1.now ≡ of.now.author }
+    ensures file { result.2.now ≡ of.now.file }
 {
-    (of.file.as_str(), of.id.as_str(), of.author.as_str())
+    (of.id.as_str(), of.author.as_str(), of.file.as_str())
 }
 
 /// Whether the set had the key, which it has afterwards.

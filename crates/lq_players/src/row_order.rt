@@ -37,7 +37,7 @@ fn follows<'a>(index: &RowIndex<'a>, last: u32, row: &'a Tracked) -> bool
 fn is_first<'a>(index: &RowIndex<'a>, row: &'a Tracked) -> bool
     ensures { (rows : List Row) → HasRows rows index.now → result ≡ is_first row.now rows }
 {
-    match index.get(&(row.filename.as_str(), row.id.as_str(), row.author.as_str())) {
+    match index.get(&(row.id.as_str(), row.author.as_str(), row.filename.as_str())) {
         Some(first) => first.order == row.order,
         None => false,
     }
