@@ -4,3 +4,4 @@ pub mod Sources
 pub mod Steps
 pub mod StillSmall
 pub mod Keeps
+mod Plain

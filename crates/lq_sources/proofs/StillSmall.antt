@@ -28,10 +28,10 @@ module _ (value : List ℕ → Option (List ℕ)) where
   filled_null : filled value Null ≡ Null
   filled_null = search (rules, the_lemmas)
 
-  filled_list : (ns : List Node) → filled value (ListNode ns) ≡ ListNode (map (filled value) ns)
+  pub filled_list : (ns : List Node) → filled value (ListNode ns) ≡ ListNode (map (filled value) ns)
   filled_list ns = search (rules, the_lemmas)
 
-  filled_map : (es : List (List ℕ × Node)) → filled value (MapNode es) ≡ MapNode (map (λ e. (e.0, filled value e.1)) es)
+  pub filled_map : (es : List (List ℕ × Node)) → filled value (MapNode es) ≡ MapNode (map (λ e. (e.0, filled value e.1)) es)
   filled_map es = search (rules, the_lemmas)
 
   abbrev plain : List (List ℕ × Stays) → List (List ℕ × Node)

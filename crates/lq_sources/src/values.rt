@@ -1,4 +1,4 @@
-ghost use Rattle.std.specs.Prelude.{◌≡◌, IfOk, map};
+ghost use Rattle.std.specs.Prelude.{◌≡◌, ℕ, List, Option, IfOk, map, true, unwrap_or};
 ghost use Rattle.lq_props.specs.Props.{own};
 ghost use Rattle.lq_props.specs.Replaced.{replaced};
 ghost use Rattle.lq_sources.specs.Values.{filled, value_in};
@@ -14,6 +14,77 @@ fn text_filled(alloc: Global, props: &Props, file: &str, text: &Text) -> Result<
     ensures { IfOk result (λ made. made ≡ replaced (value_in (own props.now) file.now) text.now) }
 {
     props.replace(alloc, file, text.as_str())
+}
+
+/// The tree with the properties put into each of its texts, or none where it stays as it is.
+pub fn changed(
+    alloc: Global,
+    props: &Props,
+    file: &str,
+    node: &Node,
+) -> Result<Option<Node>, NoMemory>
+    ensures { IfOk result
+        (λ made. unwrap_or made node.now ≡ filled (value_in (own props.now) file.now) node.now) }
+{
+    if is_plain(node) {
+        return Ok(None);
+    }
+    let made = filled(alloc, props, file, node)?;
+    Ok(Some(made))
+}
+
+// Whether no use stands in a text: each ends with a `}`.
+fn is_plain_text(text: &str) -> bool
+    ensures { (value : List ℕ → Option (List ℕ))
+        → result ≡ true
+        → replaced value text.now ≡ text.now }
+{
+    text.split_once('}').is_none()
+}
+
+// Whether no use stands in any text of a tree.
+#[cycle(plain)]
+fn is_plain(node: &Node) -> bool
+    ensures { (value : List ℕ → Option (List ℕ))
+        → result ≡ true
+        → filled value node.now ≡ node.now }
+{
+    match node {
+        Node::Text(text) => is_plain_text(text.as_str()),
+        Node::Whole(_) => true,
+        Node::Truth(_) => true,
+        Node::Null => true,
+        Node::List(nodes) => are_plain(nodes.as_slice()),
+        Node::Map(entries) => have_plain(entries.as_slice()),
+    }
+}
+
+#[cycle(plain)]
+fn are_plain(nodes: &[Node]) -> bool
+    ensures { (value : List ℕ → Option (List ℕ))
+        → result ≡ true
+        → map (filled value) nodes.now ≡ nodes.now }
+{
+    for node in nodes {
+        if !is_plain(node) {
+            return false;
+        }
+    }
+    true
+}
+
+#[cycle(plain)]
+fn have_plain(entries: &[(Text, Node)]) -> bool
+    ensures { (value : List ℕ → Option (List ℕ))
+        → result ≡ true
+        → map (λ e. (e.0, filled value e.1)) entries.now ≡ entries.now }
+{
+    for entry in entries {
+        if !is_plain(&entry.1) {
+            return false;
+        }
+    }
+    true
 }
 
 /// The tree with the properties put into each of its texts.
