@@ -33,6 +33,16 @@ pub fn changed(
     Ok(Some(made))
 }
 
+/// The tree that was made of another, or else the other one.
+pub fn made_or<'a>(made: &'a Option<Node>, node: &'a Node) -> &'a Node
+    ensures { result.now ≡ unwrap_or made.now node.now }
+{
+    match made {
+        Some(made) => made,
+        None => node,
+    }
+}
+
 // Whether no use stands in a text: each ends with a `}`.
 fn is_plain_text(text: &str) -> bool
     ensures { (value : List ℕ → Option (List ℕ))

@@ -12,7 +12,7 @@ use crate::listing::taken_under;
 use crate::opening::{bytes_of, may_open, target_of, test_name};
 use crate::reading::Reading;
 use crate::taking::{entry_in, items_in, read_item, tree_in};
-use crate::values::changed;
+use crate::values::{changed, made_or};
 use lq_base::Text;
 use lq_outside::Files;
 use lq_paths::Format;
@@ -124,7 +124,7 @@ fn take_item<F: Files, G: Gather>(
     ensures failed { IsErrOf result Read → Rose (F.faults files.old) (F.faults files.new) }
 {
     let made = changed(terms.alloc, &reading.props, path, node)?;
-    let node = made.as_ref().unwrap_or(node);
+    let node = made_or(&made, node);
     let entry = entry_in(terms.alloc, path, i, node)?;
     take_entry(terms, gather, files, path, i, entry, reading, gathered)
 }
