@@ -3,3 +3,4 @@ pub mod Arms
 pub mod ClashLemmas
 pub mod CreateLemmas
 pub mod NamingLemmas
+mod TargetLemmas

@@ -1,7 +1,8 @@
-ghost use Rattle.std.specs.Prelude.{◌≡◌};
+ghost use Rattle.std.specs.Prelude.{◌≡◌, false};
 ghost use Rattle.lq_base.specs.declared.dialect.Dialect as kinds;
 ghost use Rattle.lq_model.specs.DropTable as spec;
 ghost use Rattle.lq_model.specs.Plan.{decide};
+ghost use Rattle.lq_model.specs.ResultTests.{is_loose};
 ghost use Rattle.lq_model.specs.Sound.{IsSound};
 ghost use Rattle.lq_decide.specs.Faults.{no_faults};
 ghost use Rattle.lq_arm.specs.Verdict.{tests_of, verdict_of};
@@ -35,6 +36,7 @@ pub fn drop_table(
 }
 
 fn drop_tests(parts: &Parts, by: By, table: &Name) -> Tests
+    requires { is_loose parts.now.now ≡ false }
     ensures { (d : kinds.Dialect)
         → verdict_of result
         ≡ verdict_of (tests_of (spec.drop_table by d table.now parts.now.now) no_faults) }

@@ -25,3 +25,6 @@ returns c =
           (drop_table_judged c.args.by c.args.dialect c.args.table.now db c.requires) (c.drop_tests-tests.ensures c.args.dialect) c.verdict.ensures c.in-Ok.is,
       goes_on c.args.parts.now _,
     )
+
+pub drop_tests-tests-requires : goal.drop_tests-tests-requires
+drop_tests-tests-requires c = c.requires.aimed
