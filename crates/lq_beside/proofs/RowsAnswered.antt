@@ -1,13 +1,12 @@
 -- The table of rows is asked for one changeset's.
-use Rattle.std.proofs.Common.{ap, sym, ◌∙◌}
+use Rattle.std.proofs.Common.{ap, ◌∙◌}
 use Rattle.std.specs.List.{filter, list_all}
 use Rattle.std.specs.Option.{option_and_then, option_map}
-use Rattle.std.specs.Prelude.{Bool, List, None, Ok, Option, Some, [], cond, false, is_none, is_some, map, nat_lt, refl, true, unwrap_or, ℕ, ◌∷◌, ◌≡◌, ◌||◌}
+use Rattle.std.specs.Prelude.{Bool, List, None, Ok, Option, Some, [], cond, false, is_none, map, nat_lt, refl, true, unwrap_or, ℕ, ◌∷◌, ◌≡◌, ◌||◌}
 use Rattle.lq_base.specs.declared.dialect.Dialect.{Dialect}
 use Rattle.lq_base.specs.declared.identity.Identity.{Identity}
 use Rattle.lq_base.specs.declared.reason.Reason.TheVariants.{Missing, Reserved, WrongKind}
 use Rattle.lq_base.specs.declared.tracking.Tracked.{Tracked}
-use Rattle.lq_base.specs.declared.value.Value.{Value}
 use Rattle.lq_model.proofs.Maps.{some_same}
 use Rattle.lq_model.specs.Catalogue.{Catalogue, Table, table_of}
 use Rattle.lq_model.specs.Comparison.{compares_wrongly}

@@ -16,7 +16,7 @@ use Rattle.lq_model.proofs.Lists.{and_left, and_right, and_true, any-append, nam
 use Rattle.lq_model.specs.Catalogue.{Catalogue}
 use Rattle.lq_track.specs.Database.{Database}
 use Rattle.lq_turns.specs.Deed.{is_of, theirs}
-use Rattle.lq_sets.specs.Seen.{Added, AreAmong, Gathered, GatheredEach, Suffice, Tell, TellEach, rows_for}
+use Rattle.lq_sets.specs.Seen.{Added, AreAmong, Gathered, GatheredEach, Suffice, rows_for}
 use Rattle.lq_verdicts.specs.Verdict.{all_hold, each_told, map_told, one_holds}
 
 -- rows among rows
@@ -34,10 +34,10 @@ either false b c one other h = other h
 
 filter_among : (q : Tracked → Bool) (all : List Tracked) → AreAmong (filter q all) all
 filter_among q [] p h = h
-filter_among q (r ∷ all) p h = at (q r) h where
-  at : (b : Bool) → list_any p (cond b (r ∷ filter q all) (filter q all)) ≡ true → (p r || list_any p all) ≡ true
-  at true k = either (p r) (list_any p (filter q all)) _ (left_of (p r) (list_any p all)) (λ more. right_of (p r) (list_any p all) (filter_among q all p more)) k
-  at false k = right_of (p r) (list_any p all) (filter_among q all p k)
+filter_among q (r ∷ all) p h = at (q r) (filter_among q all p) h where
+  at : (b : Bool) → (list_any p (filter q all) ≡ true → list_any p all ≡ true) → list_any p (cond b (r ∷ filter q all) (filter q all)) ≡ true → (p r || list_any p all) ≡ true
+  at true less k = either (p r) (list_any p (filter q all)) _ (left_of (p r) (list_any p all)) (λ more. right_of (p r) (list_any p all) (less more)) k
+  at false less k = right_of (p r) (list_any p all) (less k)
 
 -- a filter keeps what passes a narrower test
 wider : (p q : Tracked → Bool) → ((r : Tracked) → p r ≡ true → q r ≡ true) → (all : List Tracked) → list_any p all ≡ true → list_any p (filter q all) ≡ true
@@ -97,7 +97,7 @@ two_ways true b to from = sym (to refl)
 two_ways false true to from = from refl
 two_ways false false to from = refl
 
-as_told : Bool → Result Bool Reason
+abbrev as_told : Bool → Result Bool Reason
 as_told b = Ok b
 
 tells_as : (all rows : List Tracked) (one : Condition) (d : Dialect) (c : Catalogue) (more : List Tracked) → AreAmong (rows ++ rows_for one all) more → AreAmong more all → tells d c all one ≡ tells d c more one
@@ -119,11 +119,14 @@ tells_as all rows (TableIsEmpty t) d c more has among = refl
 
 -- one of each kind
 
-pub one_gathered : (all rows : List Tracked) (one : Condition) → Gathered all rows (rows ++ rows_for one all) (Is one)
+one_gathered : (all rows : List Tracked) (one : Condition) → Gathered all rows (rows ++ rows_for one all) (Is one)
 one_gathered all rows one = record {
   added = for_added all rows one;
   tell = λ d c more has among. is_told d c all one ∙ tells_as all rows one d c more has among ∙ sym (is_told d c more one);
 }
+
+pub gathered_by : (all rows new : List Tracked) (one : Condition) (asked : Cond) → asked ≡ Is one → new ≡ rows ++ rows_for one all → Gathered all rows new asked
+gathered_by all rows new one asked is added = subst (Gathered all rows new) (sym is) (subst (λ xs. Gathered all rows xs (Is one)) (sym added) (one_gathered all rows one))
 
 module _ {all old new : List Tracked} {conds : List Cond} (each : GatheredEach all old new conds) where
   pub and_gathered : Gathered all old new (And conds)
