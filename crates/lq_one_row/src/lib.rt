@@ -1,0 +1,6 @@
+//! The only row of a table that a test takes, found by its first value.
+#![tactic(auto)]
+
+mod only;
+
+pub use only::only_taken;
