@@ -7,6 +7,7 @@ pub mod Keyed
 pub mod Linked
 pub mod Notes
 pub mod Numbered
+pub mod OnlyLemmas
 pub mod OrphanLemmas
 pub mod PlaceLemmas
 pub mod Rounds

@@ -22,6 +22,7 @@ use lq_arm::Tests;
 use lq_base::{Dialect, Name, NoMemory, Reason};
 use lq_chain::Chain;
 use lq_model::{By, Column, ForeignKey, Test};
+use lq_one_row::only_taken;
 use lq_parts::{Parts, RunFault};
 use lq_query::{is_reserved, is_taken};
 use lq_rows::{Held, Row};
@@ -92,7 +93,7 @@ fn left_in(
 }
 
 /// Takes the rows out that the test takes.
-#[tactic(auto, using(crate::proofs::Thinned::kept_by_marks, crate::proofs::Thinned::as_many))]
+#[tactic(auto, using(crate::proofs::Thinned::kept_by_marks, crate::proofs::Thinned::as_many, crate::proofs::OnlyLemmas::without_only))]
 fn take(parts: &mut Parts, alloc: Global, table: &Name, test: &Option<Test>) -> Result<(), NoMemory>
     requires { is_some (table_of parts.old.now table.now) ≡ true }
     ensures ok { OnOk result
@@ -102,6 +103,9 @@ fn take(parts: &mut Parts, alloc: Global, table: &Name, test: &Option<Test>) -> 
         (spec.without_taken test.now (the_table parts.old.now table.now)))) }
     ensures err { OnErr result (parts.new ≡ parts.old) }
 {
+    if let Some(at) = only_taken(parts, alloc, table, test)? {
+        return parts.take_out(table, at);
+    }
     let marks = left_in(alloc, parts, table, test)?;
     parts.keep(alloc, table, marks)
 }
