@@ -92,3 +92,7 @@ behind_one count all old rest row entries new is put_in b =
 
 pub behind_all : (count : ℕ) (all old : List Tracked) (entries : List ((ℕ × ℕ) × Tracked)) → old ≡ [] → Behind count all old entries → values_of entries ≡ in_run_order all
 behind_all count all old entries none b = b.ordered ∙ ap in_run_order (sym (b.was ∙ ap (λ rs. rs ++ b.last) none))
+
+-- a row that stands before others, which are in order
+pub in_order_on : (rest after : List Tracked) (row : Tracked) → rest ≡ row ∷ after → placed row after ≡ row ∷ after → in_run_order after ≡ after → in_run_order rest ≡ rest
+in_order_on rest after row is stands so = rw is (ap (placed row) so ∙ stands)
